@@ -1,0 +1,5 @@
+pub mod Status
+pub mod Map
+pub mod Stretches
+pub mod Tiled
+pub mod Tiling

@@ -1,0 +1,7 @@
+use Rattle.std.specs.Prelude.{ℕ, List}
+use Rattle.block_list.specs.declared.status.Status.{Status}
+
+-- what a block list stands for: the statuses of its positions, and how many more blocks it has room for
+pub record Tiled : Type 0 where
+  pub statuses : List Status
+  pub spare : ℕ

@@ -1,0 +1,7 @@
+//! The map of a rescue: a status for each position, kept as blocks of equal statuses.
+#![tactic(auto)]
+
+pub mod block;
+pub mod plain_tiles;
+pub mod status;
+pub mod tiles;

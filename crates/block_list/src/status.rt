@@ -1,0 +1,39 @@
+ghost use Rattle.std.specs.Prelude.{◌≡◌, ◌↔◌, IsTrue};
+ghost use Rattle.block_list.specs.Status.{symbol};
+
+/// What is known of a position (GNU ddrescue manual, "Mapfile structure").
+#[derive(Clone, Copy, Debug, PartialEq, Eq)]
+pub enum Status {
+    /// `?`: not read yet.
+    NonTried,
+    /// `*`: a read of it failed, and its block's edges aren't known.
+    NonTrimmed,
+    /// `/`: inside a block that was trimmed, and not read one by one yet.
+    NonScraped,
+    /// `-`: a read of its sector alone failed.
+    BadSector,
+    /// `+`: its byte stands in the output.
+    Finished,
+}
+
+impl Status {
+    /// Whether this is that status.
+    pub fn is(self, other: Status) -> bool
+        ensures { IsTrue result ↔ (self ≡ other) }
+    {
+        self == other
+    }
+
+    /// The character that a mapfile has for it.
+    pub fn symbol(self) -> u8
+        ensures { result ≡ symbol self }
+    {
+        match self {
+            Status::NonTried => b'?',
+            Status::NonTrimmed => b'*',
+            Status::NonScraped => b'/',
+            Status::BadSector => b'-',
+            Status::Finished => b'+',
+        }
+    }
+}

@@ -1,0 +1,61 @@
+ghost use Rattle.std.specs.Prelude.{◌≡◌, ℕ, ◌+◌, ◌<◌, ◌≤◌, ◌^◌, List, length, slice_get, Some, OnOk};
+ghost use Rattle.block_list.specs.declared.status.Status.{Status};
+ghost use Rattle.block_list.specs.Map.{Has, marked, extended};
+ghost use Rattle.block_list.specs.Stretches.{stretches};
+
+use crate::block::Block;
+use crate::status::Status;
+
+/// Memory wasn't there.
+#[derive(Clone, Copy, Debug, PartialEq, Eq)]
+pub struct NoMemory;
+
+/// A map of fewer than 2^63 positions, with spare: how many more blocks it holds without asking for memory.
+pub trait Tiles: Drop {
+    /// The statuses of the positions from 0 on.
+    ghost statuses: { Self → List Status };
+
+    /// The number of blocks that there is room for.
+    ghost spare: { Self → ℕ };
+
+    /// The position behind the last one.
+    fn end(&self) -> u64
+        ensures end { result ≡ length (statuses self.now) }
+        ensures short { result < 2 ^ 63 };
+
+    /// The status of a position.
+    fn at(&self, x: u64) -> Status
+        requires { x < length (statuses self.now) }
+        ensures { Has (statuses self.now) result x };
+
+    /// Makes spare at least n. It alone takes memory.
+    fn reserve(&mut self, n: usize) -> Result<(), NoMemory>
+        ensures spare { OnOk result (n ≤ spare self.new) }
+        ensures kept { spare self.old ≤ spare self.new }
+        ensures statuses { statuses self.new ≡ statuses self.old };
+
+    /// Gives a status to the positions from `pos` up to `pos + size`.
+    fn set(&mut self, pos: u64, size: u64, status: Status)
+        requires some { 0 < size }
+        requires within { pos + size ≤ length (statuses self.old) }
+        requires spare { 2 ≤ spare self.old }
+        ensures marked { statuses self.new ≡ marked (statuses self.old) pos size status }
+        ensures spare { spare self.old ≤ spare self.new + 2 };
+
+    /// Adds non-tried positions up to an end.
+    fn extend_to(&mut self, end: u64)
+        requires later { length (statuses self.old) ≤ end }
+        requires short { end < 2 ^ 63 }
+        requires spare { 1 ≤ spare self.old }
+        ensures extended { statuses self.new ≡ extended (statuses self.old) end }
+        ensures spare { spare self.old ≤ spare self.new + 1 };
+
+    /// How many stretches of equal statuses there are.
+    fn blocks(&self) -> usize
+        ensures { result ≡ length (stretches (statuses self.now)) };
+
+    /// The stretch with a number, counted from 0.
+    fn block(&self, i: usize) -> Block
+        requires { i < length (stretches (statuses self.now)) }
+        ensures { slice_get (stretches (statuses self.now)) i ≡ Some result };
+}

@@ -1,0 +1,14 @@
+use Rattle.std.specs.Prelude.{ℕ, ◌+◌, ◌-◌, ◌^◌, ◌≤◌, min, Result, OnErr}
+
+-- a count after one more, which stands still at the end of its type
+abbrev pub raised : ℕ → ℕ
+raised n = min (n + 1) (2 ^ 64 - 1)
+
+-- the count rose, or it stood at the end of its type
+abbrev pub Rose : ℕ → ℕ → Type 0
+Rose before now = raised before ≤ now
+
+-- a count never falls in a call, and a call that failed has raised it
+pub record HasCause {T E : Type 0} (before now : ℕ) (result : Result T E) : Type 0 where
+  pub later : before ≤ now
+  pub failed : OnErr result (Rose before now)

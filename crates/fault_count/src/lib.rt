@@ -1,0 +1,57 @@
+//! How often calls of an outside object, as a disk or a folder, have failed.
+#![tactic(auto)]
+
+ghost use Rattle.std.specs.Prelude.{◌≡◌, ℕ};
+ghost use Rattle.fault_count.specs.Counts.{raised};
+
+use std::marker::Model;
+
+/// A count of faults. It starts at 0, never falls, and stands still at 2^64 - 1.
+#[derive(Debug, Drop)]
+pub struct FaultCount {
+    count: u64,
+}
+
+impl Model for FaultCount {
+    ghost Value = { ℕ };
+
+    ghost view = { λ c. c.count };
+}
+
+impl FaultCount {
+    /// A count of no fault.
+    #[allow(clippy::new_without_default)]
+    pub fn new() -> FaultCount
+        ensures { result ≡ 0 }
+    {
+        FaultCount { count: 0 }
+    }
+
+    /// Counts one more fault.
+    pub fn raise(&mut self)
+        ensures { self.new ≡ raised self.old }
+    {
+        self.count = self.count.saturating_add(1);
+    }
+
+    /// The faults so far.
+    pub fn get(&self) -> u64
+        ensures { result ≡ self.now }
+    {
+        self.count
+    }
+}
+
+#[cfg(test)]
+mod tests {
+    use super::*;
+
+    #[test]
+    fn counts_from_zero(rt: HostRuntime) {
+        let mut count = FaultCount::new();
+        assert_eq!(rt; count.get(), 0);
+        count.raise();
+        count.raise();
+        assert_eq!(rt; count.get(), 2);
+    }
+}

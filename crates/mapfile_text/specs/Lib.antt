@@ -1,0 +1,2 @@
+pub mod HeadingLines
+pub mod Printed

@@ -1,0 +1,68 @@
+use Rattle.std.specs.Prelude.{ℕ, ◌+◌, ◌-◌, List, [], ◌∷◌, ◌++◌, length, map, replicate, true, nat_lt, nat_eq, if◌then◌else◌, codes}
+use Rattle.std.specs.List.{flat_map}
+use Rattle.std.specs.Fmt.{decimal, digits}
+use Rattle.block_list.specs.declared.status.Status.{Status}
+use Rattle.block_list.specs.declared.block.Block.{Block}
+use Rattle.block_list.specs.Status.{symbol}
+use Rattle.block_list.specs.Stretches.{stretches}
+use Rattle.mapfile_text.specs.declared.heading.Program.{Program}
+use Rattle.mapfile_text.specs.declared.heading.Program.TheVariants.{Ddrescue, Ddrescuelog}
+use Rattle.mapfile_text.specs.declared.state.Current.{Current}
+use Rattle.mapfile_text.specs.declared.state.Current.TheVariants.{Copying, Trimming, Scraping, Retrying, Filling, Generating, Finished}
+use Rattle.mapfile_text.specs.declared.state.MapState.{MapState}
+use Rattle.mapfile_text.specs.HeadingLines.{HeadingLines}
+
+-- a line ends with a newline
+abbrev pub ended : List ℕ → List ℕ
+ended text = text ++ 10 ∷ []
+
+-- digits with zeros in front of them, so that they are at least eight
+abbrev pub at_least_eight : List ℕ → List ℕ
+at_least_eight ds = replicate (8 - length ds) 48 ++ ds
+
+-- a position or a size: `0x` and at least eight upper-case hexadecimal digits
+abbrev pub hexadecimal : ℕ → List ℕ
+hexadecimal n = codes "0x" ++ at_least_eight (digits 16 true n)
+
+-- a byte of a command line as it is printed: a control character becomes a question mark
+abbrev pub shown_byte : ℕ → ℕ
+shown_byte b = if nat_lt b 32 then 63 else if nat_eq b 127 then 63 else b
+
+abbrev pub program_name : Program → List ℕ
+program_name Ddrescue = codes "ddrescue"
+program_name Ddrescuelog = codes "ddrescuelog"
+
+-- the lines on the times, which ddrescue alone prints
+abbrev pub time_lines : Program → ℕ → ℕ → List ℕ
+time_lines Ddrescue start_s now_s = ended (codes "# Start time:   " ++ decimal start_s) ++ ended (codes "# Current time: " ++ decimal now_s)
+time_lines Ddrescuelog start_s now_s = []
+
+abbrev pub heading_text : HeadingLines → List ℕ
+heading_text h =
+    ended (codes "# Mapfile. Created by " ++ program_name h.program)
+    ++ ended (codes "# Command line: " ++ map shown_byte h.line)
+    ++ time_lines h.program h.start_s h.now_s
+
+-- the character that a mapfile has for what a program was doing
+abbrev pub current_symbol : Current → ℕ
+current_symbol Copying = 63
+current_symbol Trimming = 42
+current_symbol Scraping = 47
+current_symbol Retrying = 45
+current_symbol Filling = 70
+current_symbol Generating = 71
+current_symbol Finished = 43
+
+-- the position, five spaces, the current status, fifteen spaces, the pass
+abbrev pub state_text : MapState → List ℕ
+state_text s =
+    ended (codes "# current_pos  current_status  current_pass")
+    ++ ended (hexadecimal s.pos ++ replicate 5 32 ++ current_symbol s.current ∷ [] ++ replicate 15 32 ++ decimal s.pass)
+
+-- one line of a stretch: position, size and status, two spaces apart
+abbrev pub block_line : Block → List ℕ
+block_line b = ended (hexadecimal b.pos ++ codes "  " ++ hexadecimal b.size ++ codes "  " ++ symbol b.status ∷ [])
+
+-- the text of a mapfile: the heading, the state, and a line for each maximal stretch of equal statuses
+abbrev pub printed : HeadingLines → MapState → List Status → List ℕ
+printed h s statuses = heading_text h ++ state_text s ++ ended (codes "#      pos        size  status") ++ flat_map block_line (stretches statuses)

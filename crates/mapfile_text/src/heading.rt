@@ -1,0 +1,55 @@
+ghost use Rattle.std.specs.Prelude.{◌≡◌, IfOk};
+
+use block_list::tiles::NoMemory;
+use std::alloc::Global;
+use std::marker::Model;
+
+/// The program that prints a mapfile.
+#[derive(Clone, Copy, Debug, PartialEq, Eq)]
+pub enum Program {
+    Ddrescue,
+    Ddrescuelog,
+}
+
+/// What the first lines of a mapfile say. The times are in seconds since 1970.
+#[derive(Drop)]
+pub struct Heading {
+    program: Program,
+    line: String,
+    start_s: u64,
+    now_s: u64,
+}
+
+impl Model for Heading {
+    ghost use Rattle.std.specs.String.{string_bytes};
+    ghost use Rattle.mapfile_text.specs.HeadingLines.{HeadingLines};
+
+    ghost Value = { HeadingLines };
+
+    ghost view = { λ h. record { program = h.program; line = string_bytes h.line; start_s = h.start_s; now_s = h.now_s } };
+}
+
+impl Heading {
+    /// A heading with both times 0. The line is the whole command line, the program's name and its words.
+    pub fn new(alloc: Global, program: Program, line: &str) -> Result<Heading, NoMemory>
+        ensures { IfOk result (λ h. h ≡ record { program = program; line = line.now; start_s = 0; now_s = 0 }) }
+    {
+        let Ok(line) = String::from_str(alloc, line) else {
+            return Err(NoMemory);
+        };
+        Ok(Heading {
+            program,
+            line,
+            start_s: 0,
+            now_s: 0,
+        })
+    }
+
+    /// Sets when the run began and when the mapfile is saved.
+    pub fn set_times(&mut self, start_s: u64, now_s: u64)
+        ensures { self.new ≡ record { program = self.old.program; line = self.old.line; start_s = start_s; now_s = now_s } }
+    {
+        self.start_s = start_s;
+        self.now_s = now_s;
+    }
+}

@@ -1,0 +1,6 @@
+//! The text of a mapfile (GNU ddrescue manual, "Mapfile structure").
+#![tactic(auto)]
+
+pub mod heading;
+pub mod print;
+pub mod state;

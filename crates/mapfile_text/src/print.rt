@@ -1,0 +1,14 @@
+ghost use Rattle.std.specs.Prelude.{◌≡◌, IfOk};
+ghost use Rattle.mapfile_text.specs.Printed.{printed};
+
+use crate::heading::Heading;
+use crate::state::MapState;
+use block_list::tiles::{NoMemory, Tiles};
+use std::alloc::Global;
+
+/// The text of a mapfile.
+pub fn print_map<T: Tiles>(alloc: Global, heading: &Heading, state: MapState, tiles: &T) -> Result<Vec<u8>, NoMemory>
+    ensures { IfOk result (λ text. text.items ≡ printed heading.now state (T.statuses tiles.now)) }
+{
+    Err(NoMemory)
+}
