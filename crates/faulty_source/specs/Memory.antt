@@ -1,0 +1,50 @@
+use Rattle.std.specs.Prelude.{◌≡◌, ◌⊎◌, ⊤, ℕ, ◌+◌, ◌-◌, ◌<◌, ◌≤◌, Bool, true, false, IsTrue, ◌&&◌, ◌||◌, not, List, [], ◌∷◌, length, map, slice_range, Option, Some, None, nat_le, nat_lt, nat_eq, if◌then◌else◌}
+use Rattle.std.specs.List.{list_any}
+use Rattle.faulty_source.specs.declared.memory.BadRange.{BadRange}
+use Rattle.faulty_source.specs.declared.memory.ReadEntry.{ReadEntry}
+use Rattle.faulty_source.specs.Journal.{Reading}
+
+-- whether attempts at a bad range will still fail; without a number they fail for ever
+abbrev pub fails_still : Option ℕ → Bool
+fails_still None = true
+fails_still (Some n) = nat_lt 0 n
+
+-- the range has the position x, and reads of it still fail
+abbrev pub is_bad_at : ℕ → BadRange → Bool
+is_bad_at x r = nat_le r.from x && nat_lt x r.to && fails_still r.attempts
+
+-- a read of the position x fails
+abbrev pub is_bad : List BadRange → ℕ → Bool
+is_bad bad x = list_any (is_bad_at x) bad
+
+abbrev pub one_less : Option ℕ → Option ℕ
+one_less None = None
+one_less (Some n) = Some (n - 1)
+
+-- the bad ranges after a read that failed at x: the range that it met has one attempt less
+abbrev pub met : List BadRange → ℕ → List BadRange
+met bad x = map (λ r. if is_bad_at x r then record r { attempts = one_less r.attempts } else r) bad
+
+-- A read of asked bytes at pos gives n of them: up to the first bad position, the end of the bytes, or all.
+pub record IsGiven (bytes : List ℕ) (bad : List BadRange) (pos asked n : ℕ) : Type 0 where
+  pub few : n ≤ asked
+  pub good : (x : ℕ) → pos ≤ x → x < pos + n → is_bad bad x ≡ false
+  pub there : n ≡ 0 ⊎ (pos + n ≤ length bytes)
+  pub stops : n < asked → (is_bad bad (pos + n) ≡ true) ⊎ (length bytes ≤ pos + n)
+
+-- the bad ranges after that read
+abbrev pub bad_after : List ℕ → List BadRange → ℕ → ℕ → ℕ → List BadRange
+bad_after bytes bad pos asked n = if nat_lt n asked && nat_lt (pos + n) (length bytes) then met bad (pos + n) else bad
+
+-- the ranges ascend, none is empty, and no two meet
+abbrev pub AreApart : ℕ → List BadRange → Type 0
+AreApart low [] = ⊤
+AreApart low (r ∷ rs) = (low ≤ r.from) × (r.from < r.to) × AreApart r.to rs
+
+-- what an entry of the list of reads says of a read that gave its bytes
+abbrev pub entry_of : Reading → ReadEntry
+entry_of r = record { pos = r.pos; asked = r.asked; given = length r.given }
+
+-- the read that an entry stands for
+abbrev pub reading_of : List ℕ → ReadEntry → Reading
+reading_of bytes e = record { pos = e.pos; asked = e.asked; given = slice_range bytes e.pos (e.pos + e.given) }
