@@ -1,0 +1,68 @@
+use Rattle.std.specs.Prelude.{ℕ, ◌-◌, Bool, true, false, List, [], ◌∷◌, ◌++◌, length, Option, Some, None, nat_eq, slice_index_or, if◌then◌else◌, codes}
+use Rattle.std.specs.Str.{bytes_eq}
+use Rattle.std.specs.List.{flat_map}
+use Rattle.ddrescue_cli.specs.declared.ending.Ending.{Ending}
+use Rattle.ddrescue_cli.specs.declared.ending.Ending.TheVariants.{WrongNumber, WrongWord, SameName}
+use Rattle.ddrescue_cli.specs.declared.ending.Operand.TheVariants.{Infile, Outfile, Mapfile, Draft}
+
+-- a word, counted from 1, as bytes
+abbrev pub word : List (List ℕ) → ℕ → List ℕ
+word words i = slice_index_or words (i - 1) []
+
+abbrev pub infile : List (List ℕ) → List ℕ
+infile words = word words 1
+
+abbrev pub outfile : List (List ℕ) → List ℕ
+outfile words = word words 2
+
+abbrev pub mapfile : List (List ℕ) → List ℕ
+mapfile words = word words 3
+
+-- the name of the draft, which becomes the mapfile when it is whole
+abbrev pub draft_name : List ℕ → List ℕ
+draft_name name = name ++ codes ".tmp"
+
+abbrev pub draft : List (List ℕ) → List ℕ
+draft words = draft_name (mapfile words)
+
+-- a word that names no file: an empty one, or one that begins with a hyphen and is longer
+abbrev pub is_wrong : List ℕ → Bool
+is_wrong [] = true
+is_wrong (c ∷ []) = false
+is_wrong (c ∷ d ∷ rest) = nat_eq c 45
+
+-- the first word that names no file
+abbrev pub wrong_word : List (List ℕ) → Option Ending
+wrong_word words =
+    if is_wrong (infile words) then Some (WrongWord 1)
+    else if is_wrong (outfile words) then Some (WrongWord 2)
+    else if is_wrong (mapfile words) then Some (WrongWord 3)
+    else None
+
+-- the first two of an infile, an outfile, a mapfile and its draft that have one name; the last two never do
+abbrev pub first_same : (i o m d : List ℕ) → Option Ending
+first_same i o m d =
+    if bytes_eq i o then Some (SameName Infile Outfile)
+    else if bytes_eq i m then Some (SameName Infile Mapfile)
+    else if bytes_eq i d then Some (SameName Infile Draft)
+    else if bytes_eq o m then Some (SameName Outfile Mapfile)
+    else if bytes_eq o d then Some (SameName Outfile Draft)
+    else None
+
+-- the first two files of a rescue that have one name
+abbrev pub same_names : List (List ℕ) → Option Ending
+same_names words = first_same (infile words) (outfile words) (mapfile words) (draft words)
+
+abbrev pub first_of_both : Option Ending → Option Ending → Option Ending
+first_of_both (Some e) o = Some e
+first_of_both None o = o
+
+-- the refusal that the words bring, if they bring one
+abbrev pub refusal_of_words : List (List ℕ) → Option Ending
+refusal_of_words words =
+    if nat_eq (length words) 3 then first_of_both (wrong_word words) (same_names words)
+    else Some (WrongNumber (length words))
+
+-- the command line: the program's name, and a space before each word
+abbrev pub command_line : List (List ℕ) → List ℕ
+command_line words = codes "ddrescue" ++ flat_map (λ w. 32 ∷ w) words

@@ -1,0 +1,20 @@
+use Rattle.std.specs.Prelude.{ℕ, List}
+use Rattle.block_list.specs.declared.status.Status.{Status}
+use Rattle.mapfile_text.specs.declared.heading.Program.TheVariants.{Ddrescue}
+use Rattle.mapfile_text.specs.declared.state.Current.TheVariants.{Finished}
+use Rattle.mapfile_text.specs.declared.state.MapState.{MapState}
+use Rattle.mapfile_text.specs.HeadingLines.{HeadingLines}
+use Rattle.mapfile_text.specs.Printed.{printed}
+use Rattle.ddrescue_cli.specs.Operands.{command_line}
+
+-- the heading of a rescue's mapfile, with both times 0
+abbrev pub heading : List (List ℕ) → HeadingLines
+heading words = record { program = Ddrescue; line = command_line words; start_s = 0; now_s = 0 }
+
+-- where a finished rescue of a length stands
+abbrev pub finished_state : ℕ → MapState
+finished_state end = record { pos = end; current = Finished; pass = 1 }
+
+-- the text of a finished rescue's mapfile
+abbrev pub saved_text : List (List ℕ) → ℕ → List Status → List ℕ
+saved_text words end map = printed (heading words) (finished_state end) map

@@ -1,0 +1,52 @@
+ghost use Rattle.std.specs.Prelude.{◌≡◌};
+ghost use Rattle.ddrescue_cli.specs.Ending.{status_of_ending};
+
+use crash_site::site::SiteCall;
+
+/// A file that a rescue names.
+#[derive(Clone, Copy, Debug, PartialEq, Eq)]
+pub enum Operand {
+    Infile,
+    Outfile,
+    Mapfile,
+    /// The mapfile's name followed by `.tmp`.
+    Draft,
+}
+
+/// How a call of `ddrescue` ended.
+#[derive(Clone, Copy, Debug, PartialEq, Eq)]
+pub enum Ending {
+    /// All sectors were asked for, and the map was saved.
+    Done,
+    /// Another number of words than three.
+    WrongNumber { given: usize },
+    /// A word, counted from 1, that is empty, or that begins with a hyphen and is longer.
+    WrongWord { word: usize },
+    /// Two files have one name.
+    SameName { first: Operand, second: Operand },
+    /// The infile couldn't be opened.
+    SourceFault,
+    /// The outfile is no regular file.
+    NotRegular,
+    /// The mapfile is there already.
+    MapThere,
+    /// The infile was lost during a read.
+    SourceLost,
+    /// A call on the outfile or on the mapfile's folder failed.
+    SiteFault { call: SiteCall },
+    /// Memory wasn't there.
+    NoMemory,
+}
+
+impl Ending {
+    /// The exit status: 0 for a finished rescue, 4 for want of memory, 1 for any other refusal.
+    pub fn code(&self) -> u8
+        ensures { result ≡ status_of_ending self.now }
+    {
+        match self {
+            Ending::Done => 0,
+            Ending::NoMemory => 4,
+            _ => 1,
+        }
+    }
+}

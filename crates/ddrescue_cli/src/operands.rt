@@ -1,0 +1,148 @@
+ghost use Rattle.std.specs.Prelude.{◌≡◌, ◌⊎◌, length, IfOk, IfErr, OnOk};
+ghost use Rattle.std.specs.String.{string_bytes};
+ghost use Rattle.ddrescue_cli.specs.Operands.{is_wrong, wrong_word, first_same, refusal_of_words, infile, outfile, mapfile, draft_name, draft, command_line};
+ghost use Rattle.ddrescue_cli.specs.Saved.{heading};
+ghost use Rattle.ddrescue_cli.specs.declared.ending.Ending.TheVariants.{NoMemory as OutOfMemory};
+
+use crate::ending::{Ending, Operand};
+use crate::words::Words;
+use block_list::tiles::NoMemory;
+use mapfile_text::heading::{Heading, Program};
+use std::alloc::{AllocError, Global};
+
+/// The names of the files of a rescue.
+#[derive(Clone, Copy, Debug)]
+pub struct Names<'a> {
+    pub infile: &'a str,
+    pub outfile: &'a str,
+    pub mapfile: &'a str,
+}
+
+/// Whether a word names no file.
+fn names_no_file(word: &str) -> bool
+    ensures { result ≡ is_wrong word.now }
+{
+    match word.as_bytes() {
+        [] => true,
+        [_] => false,
+        [first, ..] => *first == b'-',
+    }
+}
+
+/// The three names that the words give.
+pub(crate) fn read_names(words: &Words) -> Result<Names<'_>, Ending>
+    ensures three { OnOk result (length words.now ≡ 3) }
+    ensures infile { IfOk result (λ n. n.infile.now ≡ infile words.now) }
+    ensures outfile { IfOk result (λ n. n.outfile.now ≡ outfile words.now) }
+    ensures mapfile { IfOk result (λ n. n.mapfile.now ≡ mapfile words.now) }
+    ensures right { OnOk result (wrong_word words.now ≡ None) }
+    ensures refusal { IfErr result (λ e. refusal_of_words words.now ≡ Some e) }
+{
+    let given = words.len();
+    if given != 3 {
+        return Err(Ending::WrongNumber { given });
+    }
+    let infile = words.get(1);
+    let outfile = words.get(2);
+    let mapfile = words.get(3);
+    if names_no_file(infile) {
+        return Err(Ending::WrongWord { word: 1 });
+    }
+    if names_no_file(outfile) {
+        return Err(Ending::WrongWord { word: 2 });
+    }
+    if names_no_file(mapfile) {
+        return Err(Ending::WrongWord { word: 3 });
+    }
+    Ok(Names {
+        infile,
+        outfile,
+        mapfile,
+    })
+}
+
+/// The first two files that have one name.
+fn find_same(infile: &str, outfile: &str, mapfile: &str, draft: &str) -> Option<Ending>
+    ensures { result ≡ first_same infile.now outfile.now mapfile.now draft.now }
+{
+    let (first, second) = if infile == outfile {
+        (Operand::Infile, Operand::Outfile)
+    } else if infile == mapfile {
+        (Operand::Infile, Operand::Mapfile)
+    } else if infile == draft {
+        (Operand::Infile, Operand::Draft)
+    } else if outfile == mapfile {
+        (Operand::Outfile, Operand::Mapfile)
+    } else if outfile == draft {
+        (Operand::Outfile, Operand::Draft)
+    } else {
+        return None;
+    };
+    Some(Ending::SameName { first, second })
+}
+
+/// The name of a mapfile's draft.
+fn draft_beside(alloc: Global, mapfile: &str) -> Result<String, AllocError>
+    ensures { IfOk result (λ name. string_bytes name ≡ draft_name mapfile.now) }
+{
+    let mut name = String::from_str(alloc, mapfile)?;
+    name.push_str(".tmp")?;
+    Ok(name)
+}
+
+/// The program's name, and a space before each word.
+fn joined(alloc: Global, words: &Words) -> Result<String, AllocError>
+    ensures { IfOk result (λ line. string_bytes line ≡ command_line words.now) }
+{
+    let mut line = String::from_str(alloc, "ddrescue")?;
+    for i in 0..words.len() {
+        line.push(' ')?;
+        line.push_str(words.get(i + 1))?;
+    }
+    Ok(line)
+}
+
+/// The heading of the mapfile, with the command line.
+fn make_heading(alloc: Global, words: &Words) -> Result<Heading, NoMemory>
+    ensures { IfOk result (λ h. h ≡ heading words.now) }
+{
+    let Ok(line) = joined(alloc, words) else {
+        return Err(NoMemory);
+    };
+    Heading::new(alloc, Program::Ddrescue, line.as_str())
+}
+
+/// What a rescue needs before it opens a file.
+#[derive(Drop)]
+pub(crate) struct Plan<'a> {
+    pub names: Names<'a>,
+    pub draft: String,
+    pub heading: Heading,
+}
+
+/// Reads the words, and takes the memory that the save wants for its names.
+pub(crate) fn make_plan(alloc: Global, words: &Words) -> Result<Plan<'_>, Ending>
+    ensures infile { IfOk result (λ p. p.names.infile.now ≡ infile words.now) }
+    ensures outfile { IfOk result (λ p. p.names.outfile.now ≡ outfile words.now) }
+    ensures mapfile { IfOk result (λ p. p.names.mapfile.now ≡ mapfile words.now) }
+    ensures draft { IfOk result (λ p. string_bytes p.draft ≡ draft words.now) }
+    ensures heading { IfOk result (λ p. p.heading ≡ heading words.now) }
+    ensures right { OnOk result (refusal_of_words words.now ≡ None) }
+    ensures refusal { IfErr result (λ e. (e ≡ OutOfMemory) ⊎ (refusal_of_words words.now ≡ Some e)) }
+{
+    let names = read_names(words)?;
+    let Ok(draft) = draft_beside(alloc, names.mapfile) else {
+        return Err(Ending::NoMemory);
+    };
+    if let Some(refusal) = find_same(names.infile, names.outfile, names.mapfile, draft.as_str()) {
+        return Err(refusal);
+    }
+    let Ok(heading) = make_heading(alloc, words) else {
+        return Err(Ending::NoMemory);
+    };
+    Ok(Plan {
+        names,
+        draft,
+        heading,
+    })
+}
