@@ -1,6 +1,7 @@
 //! The rescue: from the words of the command line to the output and its mapfile.
 #![tactic(auto)]
 
+pub mod copy;
 pub mod ending;
 pub mod operands;
 pub mod words;
