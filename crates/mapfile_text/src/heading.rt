@@ -72,8 +72,7 @@ impl Heading {
     {
         append_program(text, self.program)?;
         append_command(text, self.line.as_bytes())?;
-        append_times(text, self.program, self.start_s, self.now_s)?;
-        Ok(())
+        append_times(text, self.program, self.start_s, self.now_s)
     }
 }
 

@@ -37,16 +37,14 @@ fn append_map<T: Tiles>(
     heading.append_to(text)?;
     append_state(text, state)?;
     text.extend_from_slice(b"#      pos        size  status\n")?;
-    append_blocks(text, tiles)?;
-    Ok(())
+    append_blocks(text, tiles)
 }
 
 fn append_state(text: &mut Vec<u8>, state: MapState) -> io::Result<()>
     ensures { OnOk result (text.new.items ≡ text.old.items ++ state_text state) }
 {
     text.extend_from_slice(b"# current_pos  current_status  current_pass\n")?;
-    append_state_line(text, state)?;
-    Ok(())
+    append_state_line(text, state)
 }
 
 fn append_state_line(text: &mut Vec<u8>, state: MapState) -> io::Result<()>
@@ -56,8 +54,7 @@ fn append_state_line(text: &mut Vec<u8>, state: MapState) -> io::Result<()>
     text.extend_from_slice(b"     ")?;
     text.push(state.current.symbol())?;
     let pass = state.pass;
-    writeln!(text, "               {pass}")?;
-    Ok(())
+    writeln!(text, "               {pass}")
 }
 
 fn append_blocks<T: Tiles>(text: &mut Vec<u8>, tiles: &T) -> io::Result<()>
