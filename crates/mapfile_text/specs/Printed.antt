@@ -1,4 +1,4 @@
-use Rattle.std.specs.Prelude.{ℕ, ◌+◌, ◌-◌, List, [], ◌∷◌, ◌++◌, length, map, replicate, true, nat_lt, nat_eq, if◌then◌else◌, codes}
+use Rattle.std.specs.Prelude.{ℕ, ◌-◌, List, [], ◌∷◌, ◌++◌, length, map, replicate, true, nat_lt, nat_eq, if◌then◌else◌, codes}
 use Rattle.std.specs.List.{flat_map}
 use Rattle.std.specs.Fmt.{decimal, digits}
 use Rattle.block_list.specs.declared.status.Status.{Status}
@@ -37,11 +37,16 @@ abbrev pub time_lines : Program → ℕ → ℕ → List ℕ
 time_lines Ddrescue start_s now_s = ended (codes "# Start time:   " ++ decimal start_s) ++ ended (codes "# Current time: " ++ decimal now_s)
 time_lines Ddrescuelog start_s now_s = []
 
+-- the line on the program that printed the mapfile
+abbrev pub program_line : Program → List ℕ
+program_line program = ended (codes "# Mapfile. Created by " ++ program_name program)
+
+-- the line on its command line
+abbrev pub command_line : List ℕ → List ℕ
+command_line line = ended (codes "# Command line: " ++ map shown_byte line)
+
 abbrev pub heading_text : HeadingLines → List ℕ
-heading_text h =
-    ended (codes "# Mapfile. Created by " ++ program_name h.program)
-    ++ ended (codes "# Command line: " ++ map shown_byte h.line)
-    ++ time_lines h.program h.start_s h.now_s
+heading_text h = program_line h.program ++ command_line h.line ++ time_lines h.program h.start_s h.now_s
 
 -- the character that a mapfile has for what a program was doing
 abbrev pub current_symbol : Current → ℕ
@@ -54,10 +59,12 @@ current_symbol Generating = 71
 current_symbol Finished = 43
 
 -- the position, five spaces, the current status, fifteen spaces, the pass
+abbrev pub state_line : MapState → List ℕ
+state_line s = ended (hexadecimal s.pos ++ replicate 5 32 ++ current_symbol s.current ∷ [] ++ replicate 15 32 ++ decimal s.pass)
+
+-- the state's line, below one with the names of its columns
 abbrev pub state_text : MapState → List ℕ
-state_text s =
-    ended (codes "# current_pos  current_status  current_pass")
-    ++ ended (hexadecimal s.pos ++ replicate 5 32 ++ current_symbol s.current ∷ [] ++ replicate 15 32 ++ decimal s.pass)
+state_text s = ended (codes "# current_pos  current_status  current_pass") ++ state_line s
 
 -- one line of a stretch: position, size and status, two spaces apart
 abbrev pub block_line : Block → List ℕ
