@@ -1,5 +1,8 @@
-ghost use Rattle.std.specs.Prelude.{◌≡◌, ◌⊎◌, ◌↔◌, ℕ, ◌+◌, ◌-◌, ◌<◌, ◌≤◌, ◌^◌, Bool, true, false, IsTrue, List, [], ◌∷◌, ◌++◌, length, map, take, slice_range, slice_get, Some, Contains, codes, vec_len, vec_capacity, IfOk, OnOk, OnErr, IsErr};
+ghost use Rattle.std.specs.Prelude.{◌≡◌, ◌↔◌, ℕ, ◌+◌, ◌-◌, ◌<◌, ◌≤◌, ◌^◌, Bool, true, false, IsTrue, if◌then◌else◌, List, [], ◌∷◌, ◌++◌, length, map, take, slice_range, Contains, All, vec_len, vec_capacity, IfOk, OnOk, OnErr};
+ghost use Rattle.fault_count.specs.Counts.{raised};
+ghost use Rattle.faulty_source.specs.Memory.{fails_still, is_bad, is_bad_at, one_less, met, IsGiven, AreApart, entry_of, reading_of};
 
+use crate::raise::raise;
 use crate::source::{Got, Source, SourceFault, SourceLost};
 use block_list::tiles::NoMemory;
 use fault_count::FaultCount;
@@ -11,6 +14,79 @@ pub struct BadRange {
     pub from: u64,
     pub to: u64,
     pub attempts: Option<u32>,
+}
+
+impl BadRange {
+    fn fails_still(&self) -> bool
+        ensures { result ≡ fails_still self.now.attempts }
+    {
+        match self.attempts {
+            None => true,
+            Some(left) => left > 0,
+        }
+    }
+
+    fn is_bad_at(&self, x: u64) -> bool
+        ensures { result ≡ is_bad_at x self.now }
+    {
+        self.from <= x && x < self.to && self.fails_still()
+    }
+
+    /// Takes one attempt, where a read of `x` fails here and the attempts are counted.
+    fn meet(&mut self, x: u64)
+        ensures { self.new ≡ (if is_bad_at x self.old then record self.old { attempts = one_less self.old.attempts } else self.old) }
+    {
+        if self.is_bad_at(x)
+            && let Some(left) = self.attempts
+        {
+            self.attempts = Some(left.saturating_sub(1));
+        }
+    }
+}
+
+/// The first position from `pos` up to `end` at which a read fails, or `end`.
+fn first_bad(bad: &[BadRange], pos: u64, end: u64) -> u64
+    requires { pos ≤ end }
+    ensures low { pos ≤ result }
+    ensures high { result ≤ end }
+    ensures good { (x : ℕ) → pos ≤ x → x < result → is_bad bad.now x ≡ false }
+    ensures stops { result < end → is_bad bad.now result ≡ true }
+{
+    let mut stop = end;
+    for range in bad {
+        let start = range.from.max(pos);
+        if start < stop && range.is_bad_at(start) {
+            stop = start;
+        }
+    }
+    stop
+}
+
+/// How many of the bytes asked for a read at a position gives.
+fn given(bytes: &[u8], bad: &[BadRange], pos: u64, asked: usize) -> usize
+    requires { pos + asked < 2 ^ 63 }
+    ensures { IsGiven bytes.now bad.now pos asked result }
+{
+    let end = (pos + asked as u64).min(bytes.len() as u64).max(pos);
+    (first_bad(bad, pos, end) - pos) as usize
+}
+
+/// Takes one attempt from the ranges that a read met at `x`.
+fn take_attempts(bad: &mut [BadRange], x: u64)
+    ensures { bad.new ≡ met bad.old x }
+{
+    for range in bad.iter_mut() {
+        range.meet(x);
+    }
+}
+
+/// Counts a call, and answers whether its number is one of those that fail.
+fn count_call(calls: &mut u64, failing: &[u64]) -> bool
+    ensures calls { calls.new ≡ raised calls.old }
+    ensures fails { IsTrue result ↔ Contains failing.now (raised calls.old) }
+{
+    *calls = calls.saturating_add(1);
+    failing.contains(calls)
 }
 
 /// One read that was answered: where it began, and how many bytes were asked for and given.
@@ -34,4 +110,6 @@ pub struct MemorySource {
     failing: Vec<u64>,
     faults: FaultCount,
     losses: FaultCount,
+    ghost within: { All (λ e. e.given ≤ vec_len bytes - e.pos) entries.items },
+    ghost roomy: { room ≤ vec_capacity entries },
 }
