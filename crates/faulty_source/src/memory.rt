@@ -71,6 +71,18 @@ fn given(bytes: &[u8], bad: &[BadRange], pos: u64, asked: usize) -> usize
     (first_bad(bad, pos, end) - pos) as usize
 }
 
+/// Copies bytes from a position on to the front of the buffer.
+fn copy_part(bytes: &[u8], pos: u64, count: usize, buf: &mut [u8])
+    requires fits { count ≤ length buf.old }
+    requires there { count ≤ length bytes.now - pos }
+    ensures { take count buf.new ≡ slice_range bytes.now pos (pos + count) }
+{
+    if count > 0 {
+        let start = pos as usize;
+        buf[..count].copy_from_slice(&bytes[start..start + count]);
+    }
+}
+
 /// Takes one attempt from the ranges that a read met at `x`.
 fn take_attempts(bad: &mut [BadRange], x: u64)
     ensures { bad.new ≡ met bad.old x }
@@ -112,4 +124,46 @@ pub struct MemorySource {
     losses: FaultCount,
     ghost within: { All (λ e. e.given ≤ vec_len bytes - e.pos) entries.items },
     ghost roomy: { room ≤ vec_capacity entries },
+}
+
+impl Source for MemorySource {
+    ghost tells = { λ _. true };
+
+    ghost bytes = { λ s. s.bytes.items };
+
+    ghost journal = { λ s. map (reading_of s.bytes.items) s.entries.items };
+
+    ghost is_open = { λ s. s.open };
+
+    ghost faults = { λ s. s.faults };
+
+    ghost losses = { λ s. s.losses };
+
+    fn open_input(&mut self, name: &str) -> Result<u64, SourceFault> {
+        self.open = false;
+        if count_call(&mut self.calls, &self.failing) || name == "missing" {
+            raise(&mut self.faults);
+            return Err(SourceFault);
+        }
+        self.open = true;
+        Ok(self.bytes.len() as u64)
+    }
+
+    fn read_at(&mut self, pos: u64, buf: &mut [u8]) -> Result<Got, SourceLost> {
+        if count_call(&mut self.calls, &self.failing) || self.entries.len() >= self.room {
+            raise(&mut self.losses);
+            return Err(SourceLost);
+        }
+        let asked = buf.len();
+        let given = given(&self.bytes, &self.bad, pos, asked);
+        let Ok(()) = self.entries.push(ReadEntry { pos, asked, given }) else {
+            unreachable!()
+        };
+        copy_part(&self.bytes, pos, given, buf);
+        let stop = pos + given as u64;
+        if given < asked && stop < self.bytes.len() as u64 {
+            take_attempts(&mut self.bad, stop);
+        }
+        Ok(Got(given))
+    }
 }
