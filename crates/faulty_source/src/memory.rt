@@ -122,8 +122,71 @@ pub struct MemorySource {
     failing: Vec<u64>,
     faults: FaultCount,
     losses: FaultCount,
-    ghost within: { All (λ e. e.given ≤ vec_len bytes - e.pos) entries.items },
+    ghost within: { All (λ e. e.given ≤ length bytes.items - e.pos) entries.items },
     ghost roomy: { room ≤ vec_capacity entries },
+}
+
+impl MemorySource {
+    ghost use Rattle.faulty_source.specs.MemoryState.{bad_ranges, room, calls, failing};
+
+    /// A source of these bytes with no input open. Its journal's memory is taken here, so that a read takes none.
+    pub fn new(
+        alloc: Global,
+        bytes: Vec<u8>,
+        bad: Vec<BadRange>,
+        room: usize,
+    ) -> Result<MemorySource, NoMemory>
+        requires { AreApart 0 bad.items }
+        ensures tells { IfOk result (λ s. ⟦<MemorySource as Source>⟧.tells s ≡ true) }
+        ensures bytes { IfOk result (λ s. ⟦<MemorySource as Source>⟧.bytes s ≡ bytes.items) }
+        ensures journal { IfOk result (λ s. ⟦<MemorySource as Source>⟧.journal s ≡ []) }
+        ensures open { IfOk result (λ s. ⟦<MemorySource as Source>⟧.is_open s ≡ false) }
+        ensures faults { IfOk result (λ s. ⟦<MemorySource as Source>⟧.faults s ≡ 0) }
+        ensures losses { IfOk result (λ s. ⟦<MemorySource as Source>⟧.losses s ≡ 0) }
+        ensures bad { IfOk result (λ s. bad_ranges s ≡ bad.items) }
+        ensures room { IfOk result (λ s. Rattle.faulty_source.specs.MemoryState.room s ≡ room) }
+        ensures calls { IfOk result (λ s. calls s ≡ 0) }
+        ensures failing { IfOk result (λ s. failing s ≡ []) }
+    {
+        let Ok(entries) = Vec::with_capacity(alloc, room) else {
+            return Err(NoMemory);
+        };
+        Ok(MemorySource {
+            bytes,
+            bad,
+            room,
+            entries,
+            open: false,
+            calls: 0,
+            failing: Vec::new(alloc),
+            faults: FaultCount::new(),
+            losses: FaultCount::new(),
+        })
+    }
+
+    /// Makes the call with this number fail, counted from 1 over all calls of both kinds.
+    pub fn fail_call(&mut self, number: u64) -> Result<(), NoMemory>
+        ensures added { OnOk result (failing self.new ≡ failing self.old ++ number ∷ []) }
+        ensures kept { OnErr result (failing self.new ≡ failing self.old) }
+        ensures tells { ⟦<MemorySource as Source>⟧.tells self.new ≡ ⟦<MemorySource as Source>⟧.tells self.old }
+        ensures bytes { ⟦<MemorySource as Source>⟧.bytes self.new ≡ ⟦<MemorySource as Source>⟧.bytes self.old }
+        ensures journal { ⟦<MemorySource as Source>⟧.journal self.new ≡ ⟦<MemorySource as Source>⟧.journal self.old }
+        ensures open { ⟦<MemorySource as Source>⟧.is_open self.new ≡ ⟦<MemorySource as Source>⟧.is_open self.old }
+        ensures faults { ⟦<MemorySource as Source>⟧.faults self.new ≡ ⟦<MemorySource as Source>⟧.faults self.old }
+        ensures losses { ⟦<MemorySource as Source>⟧.losses self.new ≡ ⟦<MemorySource as Source>⟧.losses self.old }
+        ensures bad { bad_ranges self.new ≡ bad_ranges self.old }
+        ensures room { room self.new ≡ room self.old }
+        ensures calls { calls self.new ≡ calls self.old }
+    {
+        self.failing.push(number).map_err(|_| NoMemory)
+    }
+
+    /// The reads that were answered, in order.
+    pub fn journal(&self) -> &[ReadEntry]
+        ensures { result.now ≡ map entry_of (⟦<MemorySource as Source>⟧.journal self.now) }
+    {
+        &self.entries
+    }
 }
 
 impl Source for MemorySource {
