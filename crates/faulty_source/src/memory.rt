@@ -190,6 +190,11 @@ impl MemorySource {
 }
 
 impl Source for MemorySource {
+    ghost use Rattle.std.specs.Prelude.{◌⊎◌, codes, IsErr};
+    ghost use Rattle.fault_count.specs.Counts.{HasCause};
+    ghost use Rattle.faulty_source.specs.Memory.{bad_after};
+    ghost use Rattle.faulty_source.specs.MemoryState.{bad_ranges, room, calls, failing, FailsNext};
+
     ghost tells = { λ _. true };
 
     ghost bytes = { λ s. s.bytes.items };
@@ -202,7 +207,22 @@ impl Source for MemorySource {
 
     ghost losses = { λ s. s.losses };
 
-    fn open_input(&mut self, name: &str) -> Result<u64, SourceFault> {
+    fn open_input(&mut self, name: &str) -> Result<u64, SourceFault>
+        ensures short { IfOk result (λ n. n < 2 ^ 63) }
+        ensures all { IfOk result (λ n. IsTrue (⟦<MemorySource as Source>⟧.tells self.old) → n ≡ length (⟦<MemorySource as Source>⟧.bytes self.old)) }
+        ensures open { OnOk result (⟦<MemorySource as Source>⟧.is_open self.new ≡ true) }
+        ensures closed { OnErr result (⟦<MemorySource as Source>⟧.is_open self.new ≡ false) }
+        ensures tells { ⟦<MemorySource as Source>⟧.tells self.new ≡ ⟦<MemorySource as Source>⟧.tells self.old }
+        ensures bytes { IsTrue (⟦<MemorySource as Source>⟧.tells self.old) → ⟦<MemorySource as Source>⟧.bytes self.new ≡ ⟦<MemorySource as Source>⟧.bytes self.old }
+        ensures journal { IsTrue (⟦<MemorySource as Source>⟧.tells self.old) → ⟦<MemorySource as Source>⟧.journal self.new ≡ ⟦<MemorySource as Source>⟧.journal self.old }
+        ensures cause { HasCause (⟦<MemorySource as Source>⟧.faults self.old) (⟦<MemorySource as Source>⟧.faults self.new) result }
+        ensures losses { ⟦<MemorySource as Source>⟧.losses self.new ≡ ⟦<MemorySource as Source>⟧.losses self.old }
+        ensures answers { IsErr result ↔ (FailsNext self.old ⊎ (name.now ≡ codes "missing")) }
+        ensures calls { calls self.new ≡ raised (calls self.old) }
+        ensures bad { bad_ranges self.new ≡ bad_ranges self.old }
+        ensures room { room self.new ≡ room self.old }
+        ensures failing { failing self.new ≡ failing self.old }
+    {
         self.open = false;
         if count_call(&mut self.calls, &self.failing) || name == "missing" {
             raise(&mut self.faults);
@@ -212,7 +232,28 @@ impl Source for MemorySource {
         Ok(self.bytes.len() as u64)
     }
 
-    fn read_at(&mut self, pos: u64, buf: &mut [u8]) -> Result<Got, SourceLost> {
+    fn read_at(&mut self, pos: u64, buf: &mut [u8]) -> Result<Got, SourceLost>
+        requires opened { ⟦<MemorySource as Source>⟧.is_open self.old ≡ true }
+        requires some { 0 < length buf.old }
+        requires place { pos + length buf.old < 2 ^ 63 }
+        ensures count { IfOk result (λ got. got.0 ≤ length buf.old) }
+        ensures read { IfOk result (λ got. IsTrue (⟦<MemorySource as Source>⟧.tells self.old) → take got.0 buf.new ≡ slice_range (⟦<MemorySource as Source>⟧.bytes self.old) pos (pos + got.0)) }
+        ensures told { IfOk result (λ got. IsTrue (⟦<MemorySource as Source>⟧.tells self.old) → ⟦<MemorySource as Source>⟧.journal self.new
+            ≡ ⟦<MemorySource as Source>⟧.journal self.old ++ record { pos = pos; asked = length buf.old; given = take got.0 buf.new } ∷ []) }
+        ensures untold { OnErr result (IsTrue (⟦<MemorySource as Source>⟧.tells self.old) → ⟦<MemorySource as Source>⟧.journal self.new ≡ ⟦<MemorySource as Source>⟧.journal self.old) }
+        ensures open { ⟦<MemorySource as Source>⟧.is_open self.new ≡ true }
+        ensures tells { ⟦<MemorySource as Source>⟧.tells self.new ≡ ⟦<MemorySource as Source>⟧.tells self.old }
+        ensures bytes { IsTrue (⟦<MemorySource as Source>⟧.tells self.old) → ⟦<MemorySource as Source>⟧.bytes self.new ≡ ⟦<MemorySource as Source>⟧.bytes self.old }
+        ensures faults { ⟦<MemorySource as Source>⟧.faults self.new ≡ ⟦<MemorySource as Source>⟧.faults self.old }
+        ensures cause { HasCause (⟦<MemorySource as Source>⟧.losses self.old) (⟦<MemorySource as Source>⟧.losses self.new) result }
+        ensures answers { IsErr result ↔ (FailsNext self.old ⊎ (room self.old ≤ length (⟦<MemorySource as Source>⟧.journal self.old))) }
+        ensures calls { calls self.new ≡ raised (calls self.old) }
+        ensures gives { IfOk result (λ got. IsGiven (⟦<MemorySource as Source>⟧.bytes self.old) (bad_ranges self.old) pos (length buf.old) got.0) }
+        ensures bad { IfOk result (λ got. bad_ranges self.new ≡ bad_after (⟦<MemorySource as Source>⟧.bytes self.old) (bad_ranges self.old) pos (length buf.old) got.0) }
+        ensures unmet { OnErr result (bad_ranges self.new ≡ bad_ranges self.old) }
+        ensures room { room self.new ≡ room self.old }
+        ensures failing { failing self.new ≡ failing self.old }
+    {
         if count_call(&mut self.calls, &self.failing) || self.entries.len() >= self.room {
             raise(&mut self.losses);
             return Err(SourceLost);
