@@ -1,7 +1,7 @@
-use Rattle.std.proofs.Common.{◌≡◌, ℕ, ◌+◌, ◌<◌, List, ◌++◌, length, map, take, drop, get_or, set, if◌then◌else◌, arith}
-use Rattle.std.proofs.lemmas.List.{get_or_default, length-map}
+use Rattle.std.proofs.Common.{◌≡◌, ℕ, ◌+◌, ◌<◌, List, ◌++◌, length, take, drop, get_or, set, if◌then◌else◌, arith}
+use Rattle.std.proofs.lemmas.List.{get_or_default}
 use Rattle.std.proofs.lemmas.List.Edits.{map_over_more}
-use Rattle.std.proofs.Common.{ap, ◌∙◌, length-append, length-take, length-drop}
+use Rattle.std.proofs.Common.{ap, ◌∙◌}
 use Rattle.faulty_source.specs.declared.memory.BadRange.{BadRange}
 use Rattle.faulty_source.specs.Memory.{is_bad_at, one_less, met}
 

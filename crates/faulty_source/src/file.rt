@@ -98,3 +98,46 @@ impl Source for FileSource {
         Ok(Got(read_up_to(file, buf)))
     }
 }
+
+#[cfg(test)]
+mod tests {
+    use super::*;
+    use std::test::Fail;
+    use std::{env, fs, process};
+
+    #[test]
+    fn reads_at_places(rt: HostRuntime) -> Result<(), Fail> {
+        let mut content = Vec::new(rt.alloc());
+        for i in 0..1100u64 {
+            content.push((i % 251) as u8)?;
+        }
+        let id = process::id(rt.process());
+        let name = format!(in rt.alloc(); "faulty_source_{id}")?;
+        let path = env::temp_dir(&rt)?.join(rt.alloc(), name.as_str())?;
+        fs::write(&rt, &path, content.as_slice())?;
+
+        let mut source = FileSource::new(rt.clone()?);
+        for (pos, want) in [(512, 512), (0, 512), (1024, 76), (1100, 0), (5000, 0)] {
+            assert_eq!(rt; source.open_input(path.as_str())?, 1100);
+            let mut buf = [0u8; 512];
+            let Got(got) = source.read_at(pos, &mut buf)?;
+            assert_eq!(rt; got, want, "at {pos}");
+            for (i, byte) in (pos..).zip(buf[..got].iter()) {
+                assert_eq!(rt; u64::from(*byte), i % 251, "at {pos}");
+            }
+        }
+        assert_eq!(rt; source.faults.get(), 0);
+        fs::remove_file(&rt, &path)?;
+        Ok(())
+    }
+
+    #[test]
+    fn refuses_what_cannot_be_read(rt: HostRuntime) -> Result<(), Fail> {
+        let mut source = FileSource::new(rt.clone()?);
+        assert_eq!(rt; source.open_input("no/such/file"), Err(SourceFault));
+        assert_eq!(rt; source.faults.get(), 1);
+        assert_eq!(rt; source.open_input("."), Err(SourceFault));
+        assert_eq!(rt; source.faults.get(), 2);
+        Ok(())
+    }
+}

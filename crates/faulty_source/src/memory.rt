@@ -271,3 +271,85 @@ impl Source for MemorySource {
         Ok(Got(given))
     }
 }
+
+#[cfg(test)]
+mod tests {
+    use super::*;
+    use std::test::Fail;
+
+    const BAD_TWICE: BadRange = BadRange {
+        from: 8,
+        to: 12,
+        attempts: Some(2),
+    };
+
+    const BAD_FOR_EVER: BadRange = BadRange {
+        from: 20,
+        to: 24,
+        attempts: None,
+    };
+
+    fn entry(pos: u64, asked: usize, given: usize) -> ReadEntry {
+        ReadEntry { pos, asked, given }
+    }
+
+    #[test]
+    fn gives_up_to_where_a_read_fails(rt: HostRuntime) -> Result<(), Fail> {
+        let bytes = (0..32u8).collect(rt.alloc())?;
+        let bad = vec![in rt.alloc(); BAD_TWICE, BAD_FOR_EVER]?;
+        let mut source = MemorySource::new(rt.alloc(), bytes, bad, 20)?;
+        let reads = [
+            entry(0, 16, 8),
+            entry(8, 4, 0),
+            entry(8, 4, 4),
+            entry(0, 16, 16),
+            entry(13, 16, 7),
+            entry(20, 2, 0),
+            entry(21, 16, 0),
+            entry(20, 16, 0),
+            entry(24, 8, 8),
+            entry(28, 16, 4),
+            entry(40, 4, 0),
+        ];
+        for read in reads {
+            assert_eq!(rt; source.open_input("disk")?, 32);
+            assert!(rt; read.pos < 64 && 0 < read.asked && read.asked <= 16);
+            let mut buf = [99u8; 16];
+            let Got(given) = source.read_at(read.pos, &mut buf[..read.asked])?;
+            assert_eq!(rt; given, read.given, "{read:?}");
+            for (x, byte) in (read.pos..).zip(buf[..given].iter()) {
+                assert_eq!(rt; u64::from(*byte), x, "{read:?}");
+            }
+        }
+        assert_eq!(rt; source.journal(), reads.as_slice());
+        Ok(())
+    }
+
+    #[test]
+    fn fails_where_it_was_told_to(rt: HostRuntime) -> Result<(), Fail> {
+        let bytes = (0..8u8).collect(rt.alloc())?;
+        let mut source = MemorySource::new(rt.alloc(), bytes, Vec::new(rt.alloc()), 1)?;
+        source.fail_call(1)?;
+        source.fail_call(4)?;
+        assert_eq!(rt; source.open_input("disk"), Err(SourceFault));
+        assert_eq!(rt; source.open_input("missing"), Err(SourceFault));
+        assert_eq!(rt; source.faults.get(), 2);
+        assert_eq!(rt; source.open_input("disk")?, 8);
+        let mut buf = [0u8; 4];
+        assert_eq!(rt;
+            source.read_at(2, &mut buf),
+            Err(SourceLost),
+            "the call of a failing number"
+        );
+        assert_eq!(rt; source.read_at(2, &mut buf), Ok(Got(4)));
+        assert_eq!(rt; buf, [2, 3, 4, 5]);
+        assert_eq!(rt;
+            source.read_at(2, &mut buf),
+            Err(SourceLost),
+            "the journal is full"
+        );
+        assert_eq!(rt; source.losses.get(), 2);
+        assert_eq!(rt; source.journal(), [entry(2, 4, 4)].as_slice());
+        Ok(())
+    }
+}
