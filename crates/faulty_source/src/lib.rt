@@ -3,4 +3,5 @@
 
 pub mod file;
 pub mod memory;
+mod raise;
 pub mod source;
