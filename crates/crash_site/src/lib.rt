@@ -1,4 +1,6 @@
 //! Where a rescue writes: an output image, and a folder with its mapfiles.
 #![tactic(auto)]
 
+mod fault;
+pub mod folder;
 pub mod site;

@@ -1,0 +1,15 @@
+ghost use Rattle.std.specs.Prelude.{◌≤◌, ◌≡◌};
+ghost use Rattle.fault_count.specs.Counts.{raised};
+
+use crate::site::SiteFault;
+use fault_count::FaultCount;
+
+/// Counts a fault.
+pub(crate) fn fault(faults: &mut FaultCount) -> SiteFault
+    ensures raised { faults.new ≡ raised faults.old }
+    ensures later { faults.old ≤ faults.new }
+{
+    let _count = faults.get();
+    faults.raise();
+    SiteFault
+}
