@@ -1,4 +1,6 @@
 use Rattle.std.specs.Prelude.{◌≡◌, ◌⊎◌, ℕ, Bool, List, [], ◌∷◌, ◌++◌, map}
+use Rattle.crash_site.specs.declared.site.SiteCall.{SiteCall}
+use Rattle.crash_site.specs.declared.site.SiteCall.TheVariants.{ImageOpen, ImageWrite, ImageSync, MapRead, DraftBegin, DraftAppend, DraftSync, DraftPublish, MapSettle}
 
 -- one call of a site, with what it was handed; names and pieces are bytes
 pub data Call : Type 0 where
@@ -25,7 +27,19 @@ Lost call old new = (new ≡ old ++ Failed call ∷ []) ⊎ (new ≡ old)
 abbrev pub Made : List Call → List Entry → List Entry → Type 0
 Made calls old new = new ≡ old ++ map Done calls
 
--- the record grew by these calls up to one that failed
-abbrev pub Broke : List Call → List Entry → List Entry → Type 0
-Broke [] old new = ⊥
-Broke (call ∷ calls) old new = Lost call old new ⊎ Broke calls (old ++ Done call ∷ []) new
+-- the name of a call
+abbrev pub call_name : Call → SiteCall
+call_name (image_open name make) = ImageOpen
+call_name (image_write pos piece) = ImageWrite
+call_name image_sync = ImageSync
+call_name (map_read name pos asked) = MapRead
+call_name (draft_begin name) = DraftBegin
+call_name (draft_append piece) = DraftAppend
+call_name draft_sync = DraftSync
+call_name (draft_publish name) = DraftPublish
+call_name (map_settle name) = MapSettle
+
+-- the record grew by these calls up to one that failed, which has this name
+abbrev pub BrokeAt : SiteCall → List Call → List Entry → List Entry → Type 0
+BrokeAt at [] old new = ⊥
+BrokeAt at (call ∷ calls) old new = ((at ≡ call_name call) × Lost call old new) ⊎ BrokeAt at calls (old ++ Done call ∷ []) new

@@ -4,4 +4,5 @@
 pub mod copy;
 pub mod ending;
 pub mod operands;
+pub mod save;
 pub mod words;
