@@ -14,7 +14,7 @@ use Rattle.ddrescue_cli.specs.Sectors.{sector_count, IsSectorRead, AreSectorRead
 use Rattle.ddrescue_cli.specs.Copying.{Turn, Halt, Copied, Halted}
 use Rattle.ddrescue_cli.specs.declared.ending.Ending.{Ending}
 
-flat_map_one : {A B : Type 0} (f : A → List B) (xs : List A) (x : A) → flat_map f (xs ++ x ∷ []) ≡ flat_map f xs ++ f x
+pub flat_map_one : {A B : Type 0} (f : A → List B) (xs : List A) (x : A) → flat_map f (xs ++ x ∷ []) ≡ flat_map f xs ++ f x
 flat_map_one f xs x = grind (arith, common_steps)
 
 pub sector_reads_more : (end k : ℕ) (reads : List Reading) (r : Reading) → AreSectorReads end k reads → IsSectorRead end k r → AreSectorReads end (k + 1) (reads ++ r ∷ [])
@@ -34,7 +34,7 @@ sector_reads_more end k reads r all one = record {
     (cases_lt i (length reads));
 }
 
-made_more : (old mid new : List Entry) (xs ys : List Call) → Made xs old mid → Made ys mid new → Made (xs ++ ys) old new
+pub made_more : (old mid new : List Entry) (xs ys : List Call) → Made xs old mid → Made ys mid new → Made (xs ++ ys) old new
 made_more old mid new xs ys first second = second ∙ ap (λ r. r ++ map Done ys) first ∙ append_assoc old (map Done xs) (map Done ys) ∙ ap (λ r. old ++ r) (sym (map-append Done xs ys))
 
 length-map_of : (reads : List Reading) (r : Reading) → length (map_of (reads ++ r ∷ [])) ≡ length (map_of reads) + r.asked

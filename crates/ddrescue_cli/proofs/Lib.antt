@@ -1,1 +1,3 @@
 pub mod CopyFacts
+pub mod FolderFacts
+pub mod RunFacts

@@ -21,8 +21,8 @@ pub record Turn (pos size : ℕ) (source_tells site_tells : Bool) (journal journ
 
 -- what stands behind a turn that stopped: nothing was read or written, or its read is whole and its write failed
 pub data Halt (pos size : ℕ) (e : Ending) (source_tells site_tells : Bool) (journal journal' : List Reading) (calls calls' : List Entry) : Type 0 where
-  Unread : (told : IsTrue source_tells → journal' ≡ journal) → (written : IsTrue site_tells → calls' ≡ calls) → Halt pos size e source_tells site_tells journal journal' calls calls'
-  Unwritten : (r : Reading) → (e ≡ SiteFault ImageWrite) → (r.pos ≡ pos) → (r.asked ≡ size) → (length r.given ≡ size) → (told : IsTrue source_tells → journal' ≡ journal ++ r ∷ []) → (written : IsTrue site_tells → Lost (image_write r.pos r.given) calls calls') → Halt pos size e source_tells site_tells journal journal' calls calls'
+  Unread : ((e ≡ NoMemory) ⊎ (e ≡ SourceLost)) → (IsTrue source_tells → journal' ≡ journal) → (IsTrue site_tells → calls' ≡ calls) → Halt pos size e source_tells site_tells journal journal' calls calls'
+  Unwritten : (r : Reading) → (e ≡ SiteFault ImageWrite) → (r.pos ≡ pos) → (r.asked ≡ size) → (length r.given ≡ size) → (IsTrue source_tells → journal' ≡ journal ++ r ∷ []) → (IsTrue site_tells → Lost (image_write r.pos r.given) calls calls') → Halt pos size e source_tells site_tells journal journal' calls calls'
 
 -- each way in which copying stops has its cause: memory, or a count that rose
 abbrev pub CopyCause : Ending → (losses losses' faults faults' : ℕ) → Type 0

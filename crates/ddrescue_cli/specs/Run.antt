@@ -1,13 +1,16 @@
-use Rattle.std.specs.Prelude.{ℕ, Bool, true, false, List, [], ◌∷◌, ◌++◌, Option, Some, None, is_some, if◌then◌else◌}
+use Rattle.std.specs.Prelude.{◌≡◌, ◌≢◌, ⊤, ℕ, Bool, true, false, IsTrue, length, List, [], ◌∷◌, ◌++◌, Option, Some, None, is_some, if◌then◌else◌}
 use Rattle.block_list.specs.declared.status.Status.{Status}
 use Rattle.faulty_source.specs.Journal.{Reading}
 use Rattle.crash_site.specs.Files.{File}
-use Rattle.crash_site.specs.Calls.{Call, image_open, map_read, image_sync, draft_begin, draft_append, draft_sync, draft_publish, map_settle}
+use Rattle.crash_site.specs.Calls.{Call, Entry, Made, BrokeAt, image_open, map_read, image_sync, draft_begin, draft_append, draft_sync, draft_publish, map_settle}
 use Rattle.ddrescue_cli.specs.declared.ending.Ending.{Ending}
-use Rattle.ddrescue_cli.specs.declared.ending.Ending.TheVariants.{NotRegular, MapThere}
+use Rattle.ddrescue_cli.specs.declared.ending.Ending.TheVariants.{Done, SourceFault, NotRegular, MapThere, SourceLost, SiteFault, NoMemory}
 use Rattle.ddrescue_cli.specs.Operands.{outfile, mapfile, draft, refusal_of_words, first_of_both}
-use Rattle.ddrescue_cli.specs.Sectors.{map_of, writes_of}
-use Rattle.ddrescue_cli.specs.Saved.{saved_text}
+use Rattle.ddrescue_cli.specs.Sectors.{sector_count, AreSectorReads, map_of, writes_of}
+use Rattle.ddrescue_cli.specs.Saved.{finished_state}
+use Rattle.fault_count.specs.Counts.{Rose}
+use Rattle.mapfile_text.specs.HeadingLines.{HeadingLines}
+use Rattle.mapfile_text.specs.Printed.{printed}
 
 -- something stands there that is no regular file
 abbrev pub is_other : Option File → Bool
@@ -29,8 +32,54 @@ opening_calls out map = image_open out true ∷ map_read map 0 1 ∷ []
 abbrev pub save_calls : List ℕ → List ℕ → List ℕ → List Call
 save_calls map draft text = image_sync ∷ draft_begin draft ∷ draft_append text ∷ draft_sync ∷ draft_publish map ∷ map_settle map ∷ []
 
--- the calls of a whole rescue of a length with these reads
-abbrev pub run_calls : List (List ℕ) → ℕ → List Reading → List Call
-run_calls words end reads =
-    opening_calls (outfile words) (mapfile words)
-    ++ (writes_of reads ++ save_calls (mapfile words) (draft words) (saved_text words end (map_of reads)))
+-- the calls of a whole rescue with these reads, which saves this text
+abbrev pub run_calls : (out map draft : List ℕ) → List Reading → List ℕ → List Call
+run_calls out map draft reads text = opening_calls out map ++ (writes_of reads ++ save_calls map draft text)
+
+-- A rescue that was stopped made a beginning of its calls: which, depends on the answer. Where a call failed, it
+-- is the last one.
+abbrev pub StoppedCalls : Ending → (out map draft : List ℕ) → List Reading → List ℕ → List Entry → List Entry → Type 0
+StoppedCalls (SiteFault call) out map draft reads text calls calls' = BrokeAt call (run_calls out map draft reads text) calls calls'
+StoppedCalls SourceFault out map draft reads text calls calls' = Made [] calls calls'
+StoppedCalls NotRegular out map draft reads text calls calls' = Made (image_open out true ∷ []) calls calls'
+StoppedCalls MapThere out map draft reads text calls calls' = Made (opening_calls out map) calls calls'
+StoppedCalls SourceLost out map draft reads text calls calls' = Made (opening_calls out map ++ writes_of reads) calls calls'
+StoppedCalls NoMemory out map draft reads text calls calls' = Made (opening_calls out map ++ writes_of reads) calls calls'
+StoppedCalls e out map draft reads text calls calls' = ⊥
+
+-- why a rescue stopped once its words were read: memory, a count that rose, or a file that stands in its way
+abbrev pub StopCause : Ending → (faults faults' losses losses' site_faults site_faults' : ℕ) → Type 0
+StopCause NoMemory faults faults' losses losses' site_faults site_faults' = ⊤
+StopCause SourceFault faults faults' losses losses' site_faults site_faults' = Rose faults faults'
+StopCause SourceLost faults faults' losses losses' site_faults site_faults' = Rose losses losses'
+StopCause (SiteFault call) faults faults' losses losses' site_faults site_faults' = Rose site_faults site_faults'
+StopCause NotRegular faults faults' losses losses' site_faults site_faults' = ⊤
+StopCause MapThere faults faults' losses losses' site_faults site_faults' = ⊤
+StopCause e faults faults' losses losses' site_faults site_faults' = ⊥
+
+-- what the files say of an answer: a rescue that reads its input found a regular output or none, and no mapfile
+abbrev pub FilesAllow : Ending → (output map : Option File) → Type 0
+FilesAllow NotRegular output map = is_other output ≡ true
+FilesAllow MapThere output map = (is_other output ≡ false) × (is_some map ≡ true)
+FilesAllow SourceLost output map = (is_other output ≡ false) × (is_some map ≡ false)
+FilesAllow Done output map = (is_other output ≡ false) × (is_some map ≡ false)
+FilesAllow e output map = ⊤
+
+-- what a rescue did up to its end
+pub record Went (out map draft : List ℕ) (heading : HeadingLines) (source_tells site_tells : Bool) (bytes : List ℕ) (journal journal' : List Reading) (calls calls' : List Entry) : Type 0 where
+  pub end : ℕ
+  pub all : IsTrue source_tells → end ≡ length bytes
+  pub reads : List Reading
+  pub sectors : AreSectorReads end (sector_count end) reads
+  pub told : IsTrue source_tells → journal' ≡ journal ++ reads
+  pub made : IsTrue site_tells → Made (run_calls out map draft reads (printed heading (finished_state end) (map_of reads))) calls calls'
+
+-- what a rescue did up to where it stopped
+pub record Stopped (e : Ending) (out map draft : List ℕ) (heading : HeadingLines) (source_tells site_tells : Bool) (bytes : List ℕ) (journal journal' : List Reading) (calls calls' : List Entry) : Type 0 where
+  pub end : ℕ
+  pub all : IsTrue source_tells → e ≢ SourceFault → end ≡ length bytes
+  pub count : ℕ
+  pub reads : List Reading
+  pub sectors : AreSectorReads end count reads
+  pub told : IsTrue source_tells → journal' ≡ journal ++ reads
+  pub made : IsTrue site_tells → StoppedCalls e out map draft reads (printed heading (finished_state end) (map_of reads)) calls calls'

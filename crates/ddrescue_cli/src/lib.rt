@@ -5,5 +5,6 @@ pub mod copy;
 pub mod ending;
 pub mod open;
 pub mod operands;
+pub mod rescue;
 pub mod save;
 pub mod words;

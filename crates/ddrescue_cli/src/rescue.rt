@@ -1,0 +1,68 @@
+ghost use Rattle.std.specs.Prelude.{◌≡◌, ◌<◌, ◌^◌, false, IsTrue, replicate, OnOk, IfOk, IfErr};
+ghost use Rattle.std.specs.Str.{bytes_eq};
+ghost use Rattle.std.specs.String.{string_bytes};
+ghost use Rattle.block_list.specs.declared.status.Status.TheVariants.{NonTried};
+ghost use Rattle.crash_site.specs.Folder.{after};
+ghost use Rattle.ddrescue_cli.specs.declared.ending.Ending.TheVariants.{Done};
+ghost use Rattle.ddrescue_cli.specs.Run.{FilesAllow, Went, Stopped, StopCause};
+
+use crate::copy::copy_all;
+use crate::ending::Ending;
+use crate::open::{open_output, refuse_map};
+use crate::operands::Plan;
+use crate::save::save;
+use block_list::plain_tiles::PlainTiles;
+use block_list::tiles::{NoMemory, Tiles};
+use crash_site::site::Site;
+use faulty_source::source::Source;
+use mapfile_text::print::print_map;
+use mapfile_text::state::{Current, MapState};
+use std::alloc::Global;
+
+/// The map of an input that wasn't read yet.
+fn start_map(alloc: Global, end: u64) -> Result<PlainTiles, NoMemory>
+    requires { end < 2 ^ 63 }
+    ensures { IfOk result (λ tiles. tiles.statuses ≡ replicate end NonTried) }
+{
+    let mut tiles = PlainTiles::new(alloc);
+    tiles.reserve(1)?;
+    tiles.extend_to(end);
+    Ok(tiles)
+}
+
+/// Copies each sector once, and saves the map.
+pub(crate) fn rescue<S: Source, D: Site>(alloc: Global, plan: &Plan<'_>, source: &mut S, site: &mut D) -> Result<(), Ending>
+    requires apart { bytes_eq plan.now.names.outfile.now plan.now.names.mapfile.now ≡ false }
+    ensures went { OnOk result (Went plan.now.names.outfile.now plan.now.names.mapfile.now (string_bytes plan.now.draft) plan.now.heading (S.tells source.old) (D.tells site.old)
+        (S.bytes source.old) (S.journal source.old) (S.journal source.new) (D.record_ site.old) (D.record_ site.new)) }
+    ensures stopped { IfErr result (λ e. Stopped e plan.now.names.outfile.now plan.now.names.mapfile.now (string_bytes plan.now.draft) plan.now.heading (S.tells source.old) (D.tells site.old)
+        (S.bytes source.old) (S.journal source.old) (S.journal source.new) (D.record_ site.old) (D.record_ site.new)) }
+    ensures allowed { OnOk result (IsTrue (D.tells site.old) → FilesAllow Done ((after (D.start site.old) (D.record_ site.old)).files plan.now.names.outfile.now) ((after (D.start site.old) (D.record_ site.old)).files plan.now.names.mapfile.now)) }
+    ensures refused { IfErr result (λ e. IsTrue (D.tells site.old) → FilesAllow e ((after (D.start site.old) (D.record_ site.old)).files plan.now.names.outfile.now) ((after (D.start site.old) (D.record_ site.old)).files plan.now.names.mapfile.now)) }
+    ensures cause { IfErr result (λ e. StopCause e (S.faults source.old) (S.faults source.new) (S.losses source.old) (S.losses source.new) (D.faults site.old) (D.faults site.new)) }
+    ensures source_tells { S.tells source.new ≡ S.tells source.old }
+    ensures site_tells { D.tells site.new ≡ D.tells site.old }
+    ensures start { IsTrue (D.tells site.old) → D.start site.new ≡ D.start site.old }
+{
+    let Ok(end) = source.open_input(plan.names.infile) else {
+        return Err(Ending::SourceFault);
+    };
+    open_output(site, plan.names.outfile)?;
+    refuse_map(site, plan.names.mapfile)?;
+    let Ok(mut tiles) = start_map(alloc, end) else {
+        return Err(Ending::NoMemory);
+    };
+    copy_all(source, site, &mut tiles, end)?;
+    let state = MapState {
+        pos: end,
+        current: Current::Finished,
+        pass: 1,
+    };
+    let Ok(text) = print_map(alloc, &plan.heading, state, &tiles) else {
+        return Err(Ending::NoMemory);
+    };
+    match save(site, plan.names.mapfile, plan.draft.as_str(), &text) {
+        Ok(()) => Ok(()),
+        Err(call) => Err(Ending::SiteFault { call }),
+    }
+}
