@@ -51,6 +51,7 @@ pub fn append(blocks: &mut Vec<Block>, block: Block)
 {
     let (i, wide) = join_before(blocks, blocks.len(), block);
     blocks.truncate(i);
+    // There is room, so this takes no memory and succeeds.
     let _ = blocks.push(wide);
 }
 
@@ -94,6 +95,7 @@ fn divide(blocks: &mut Vec<Block>, i: usize, block: Block, at: u64)
         size: block.pos + block.size - at,
         status: block.status,
     };
+    // There is room, so this takes no memory and succeeds.
     let _ = blocks.insert(i + 1, back);
 }
 

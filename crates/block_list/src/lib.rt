@@ -6,4 +6,6 @@ mod edits;
 pub mod laws;
 pub mod plain_tiles;
 pub mod status;
+#[cfg(test)]
+mod tests;
 pub mod tiles;
