@@ -3,3 +3,4 @@ pub mod Map
 pub mod Stretches
 pub mod Tiled
 pub mod Tiling
+pub mod Edits

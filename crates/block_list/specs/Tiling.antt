@@ -1,7 +1,5 @@
-use Rattle.std.specs.Prelude.{ℕ, ◌≡◌, ◌+◌, ◌<◌, ◌^◌, List, [], ◌∷◌, length, slice_get, Some}
-use Rattle.block_list.specs.declared.status.Status.{Status}
+use Rattle.std.specs.Prelude.{ℕ, ◌≡◌, ◌+◌, ◌<◌, ◌^◌, List, [], ◌∷◌, slice_get, Some}
 use Rattle.block_list.specs.declared.block.Block.{Block}
-use Rattle.block_list.specs.Status.{same}
 use Rattle.block_list.specs.declared.plain_tiles.PlainTiles.TheInside.{Inside}
 
 -- the blocks begin at low, each where the one before ends, up to end; none is empty

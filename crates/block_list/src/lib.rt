@@ -2,6 +2,8 @@
 #![tactic(auto)]
 
 pub mod block;
+mod edits;
+pub mod laws;
 pub mod plain_tiles;
 pub mod status;
 pub mod tiles;

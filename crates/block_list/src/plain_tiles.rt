@@ -1,6 +1,7 @@
 ghost use Rattle.std.specs.Prelude.{◌≡◌, []};
 
 use crate::block::Block;
+use crate::edits;
 use crate::status::Status;
 use crate::tiles::{NoMemory, Tiles};
 use std::alloc::Global;
@@ -37,5 +38,48 @@ impl PlainTiles {
             blocks: Vec::new(alloc),
             end: 0,
         }
+    }
+}
+
+impl Tiles for PlainTiles {
+    ghost statuses = { λ t. t.statuses };
+
+    ghost spare = { λ t. t.spare };
+
+    fn end(&self) -> u64 {
+        self.end
+    }
+
+    fn at(&self, x: u64) -> Status {
+        let behind = edits::begun_before(&self.blocks, x + 1);
+        self.blocks[behind - 1].status
+    }
+
+    fn reserve(&mut self, n: usize) -> Result<(), NoMemory> {
+        self.blocks.reserve(n).map_err(|_| NoMemory)
+    }
+
+    fn set(&mut self, pos: u64, size: u64, status: Status) {
+        edits::mark(&mut self.blocks, Block { pos, size, status });
+    }
+
+    fn extend_to(&mut self, end: u64) {
+        if self.end < end {
+            let added = Block {
+                pos: self.end,
+                size: end - self.end,
+                status: Status::NonTried,
+            };
+            edits::append(&mut self.blocks, added);
+            self.end = end;
+        }
+    }
+
+    fn blocks(&self) -> usize {
+        self.blocks.len()
+    }
+
+    fn block(&self, i: usize) -> Block {
+        self.blocks[i]
     }
 }

@@ -1,0 +1,5 @@
+pub mod Places
+pub mod TileFacts
+pub mod ApartFacts
+pub mod EditFacts
+pub mod StretchFacts

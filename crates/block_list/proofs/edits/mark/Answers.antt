@@ -1,0 +1,11 @@
+use Rattle.std.proofs.Common.{List, ap, length, arith}
+use Rattle.std.specs.List.{flat_map}
+use Rattle.block_list.specs.declared.block.Block.{Block}
+use Rattle.block_list.specs.Stretches.{covered}
+use Rattle.block_list.proofs.TileFacts.{index_before}
+use Rattle.block_list.proofs.edits.mark.Goals as goal
+
+pub replace-requires-clause-order : goal.replace-requires-clause-order
+replace-requires-clause-order c =
+    let kept = ap (λ (r : List Block). length (flat_map covered r)) (c.cut-j.ensures.cut.kept c.cut-i.result (omega (arith, c.cut-i.ensures.cut.place))) in
+    index_before c.cut-j.new.blocks.items _ _ (omega (arith, kept, c.cut-i.ensures.cut.place, c.cut-j.ensures.cut.place))

@@ -1,0 +1,5 @@
+use Rattle.block_list.proofs.StretchFacts.{are_stretches}
+use Rattle.block_list.proofs.laws.stretches_are_the_map.Goals as goal
+
+pub returns : goal.returns
+returns c = are_stretches

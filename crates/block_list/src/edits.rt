@@ -1,0 +1,174 @@
+//! Edits of a list of blocks that tiles a map from 0 on.
+ghost use Rattle.std.specs.Prelude.{◌≡◌, ◌+◌, ◌<◌, ◌≤◌, ◌^◌, ◌++◌, ◌∷◌, length, take, drop, vec_len, vec_capacity};
+ghost use Rattle.std.specs.List.{flat_map};
+ghost use Rattle.block_list.specs.Map.{marked};
+ghost use Rattle.block_list.specs.Stretches.{covered};
+ghost use Rattle.block_list.specs.Tiling.{IsMerged};
+ghost use Rattle.block_list.specs.Edits.{IsTiled, IsPlace, IsCut, IsJoinedBefore, IsJoinedBehind, start_of, front_of, back_of, cut_at};
+
+use crate::block::Block;
+
+/// How many blocks begin before a position.
+pub fn begun_before(blocks: &[Block], at: u64) -> usize
+    requires tiled { IsTiled blocks.now }
+    requires within { at ≤ length (flat_map covered blocks.now) }
+    ensures { IsPlace blocks.now at result }
+{
+    blocks.partition_point(|block| block.pos < at)
+}
+
+/// Gives a status to the positions of a block.
+pub fn mark(blocks: &mut Vec<Block>, block: Block)
+    requires tiled { IsTiled blocks.old.items }
+    requires merged { IsMerged blocks.old.items }
+    requires some { 0 < block.size }
+    requires within { block.pos + block.size ≤ length (flat_map covered blocks.old.items) }
+    requires room { vec_len blocks.old + 2 ≤ vec_capacity blocks.old }
+    ensures tiled { IsTiled blocks.new.items }
+    ensures merged { IsMerged blocks.new.items }
+    ensures marked { flat_map covered blocks.new.items ≡ marked (flat_map covered blocks.old.items) block.pos block.size block.status }
+    ensures len { vec_len blocks.new ≤ vec_len blocks.old + 2 }
+    ensures capacity { vec_capacity blocks.new ≡ vec_capacity blocks.old }
+{
+    let i = cut(blocks, block.pos);
+    let j = cut(blocks, block.pos + block.size);
+    replace(blocks, i, j, block);
+}
+
+/// Adds a block behind the last one.
+pub fn append(blocks: &mut Vec<Block>, block: Block)
+    requires tiled { IsTiled blocks.old.items }
+    requires merged { IsMerged blocks.old.items }
+    requires some { 0 < block.size }
+    requires behind { length (flat_map covered blocks.old.items) ≡ block.pos }
+    requires short { block.pos + block.size < 2 ^ 63 }
+    requires room { vec_len blocks.old < vec_capacity blocks.old }
+    ensures tiled { IsTiled blocks.new.items }
+    ensures merged { IsMerged blocks.new.items }
+    ensures added { flat_map covered blocks.new.items ≡ flat_map covered blocks.old.items ++ covered block }
+    ensures len { vec_len blocks.new ≤ vec_len blocks.old + 1 }
+    ensures capacity { vec_capacity blocks.old ≤ vec_capacity blocks.new }
+{
+    let (i, wide) = join_before(blocks, blocks.len(), block);
+    blocks.truncate(i);
+    let _ = blocks.push(wide);
+}
+
+/// Makes a block begin at a position, unless it is the end, and says which.
+fn cut(blocks: &mut Vec<Block>, at: u64) -> usize
+    requires tiled { IsTiled blocks.old.items }
+    requires within { at ≤ length (flat_map covered blocks.old.items) }
+    requires room { vec_len blocks.old < vec_capacity blocks.old }
+    ensures cut { IsCut blocks.old.items blocks.new.items at result }
+    ensures len { vec_len blocks.new ≤ vec_len blocks.old + 1 }
+    ensures capacity { vec_capacity blocks.new ≡ vec_capacity blocks.old }
+{
+    let i = begun_before(blocks, at);
+    if i > 0 {
+        let block = blocks[i - 1];
+        if at < block.pos + block.size {
+            divide(blocks, i - 1, block, at);
+        }
+    }
+    i
+}
+
+/// Puts two blocks in the place of one that a position divides.
+fn divide(blocks: &mut Vec<Block>, i: usize, block: Block, at: u64)
+    requires index { i < vec_len blocks.old }
+    requires room { vec_len blocks.old < vec_capacity blocks.old }
+    requires inner { block.pos < at }
+    requires reaches { at < block.pos + block.size }
+    requires short { block.pos + block.size < 2 ^ 63 }
+    ensures items { blocks.new.items ≡ cut_at blocks.old.items i (front_of block at) (back_of block at) }
+    ensures len { vec_len blocks.new ≡ vec_len blocks.old + 1 }
+    ensures capacity { vec_capacity blocks.new ≡ vec_capacity blocks.old }
+{
+    blocks[i] = Block {
+        pos: block.pos,
+        size: at - block.pos,
+        status: block.status,
+    };
+    let back = Block {
+        pos: at,
+        size: block.pos + block.size - at,
+        status: block.status,
+    };
+    let _ = blocks.insert(i + 1, back);
+}
+
+/// Puts one block in the place of those from i up to j, joined with neighbors of its status.
+fn replace(blocks: &mut Vec<Block>, i: usize, j: usize, block: Block)
+    requires tiled { IsTiled blocks.old.items }
+    requires front { IsMerged (take i blocks.old.items) }
+    requires back { IsMerged (drop j blocks.old.items) }
+    requires order { i < j }
+    requires index { j ≤ vec_len blocks.old }
+    requires starts { start_of blocks.old.items i ≡ block.pos }
+    requires ends { start_of blocks.old.items j ≡ block.pos + block.size }
+    requires some { 0 < block.size }
+    ensures tiled { IsTiled blocks.new.items }
+    ensures merged { IsMerged blocks.new.items }
+    ensures marked { flat_map covered blocks.new.items ≡ marked (flat_map covered blocks.old.items) block.pos block.size block.status }
+    ensures len { vec_len blocks.new ≤ vec_len blocks.old }
+    ensures capacity { vec_capacity blocks.new ≡ vec_capacity blocks.old }
+{
+    let (low, wide) = join_before(blocks, i, block);
+    let (high, whole) = join_behind(blocks, j, wide);
+    fuse(blocks, low, high, whole);
+}
+
+/// A block, widened over the one in front of it where that has its status, and the index of its first part.
+fn join_before(blocks: &[Block], i: usize, block: Block) -> (usize, Block)
+    requires tiled { IsTiled blocks.now }
+    requires index { i ≤ length blocks.now }
+    requires starts { start_of blocks.now i ≡ block.pos }
+    requires short { block.pos + block.size < 2 ^ 63 }
+    ensures { IsJoinedBefore blocks.now i block result.0 result.1 }
+{
+    if i > 0 {
+        let before = blocks[i - 1];
+        if before.status.is(block.status) {
+            let wide = Block {
+                pos: before.pos,
+                size: before.size + block.size,
+                status: block.status,
+            };
+            return (i - 1, wide);
+        }
+    }
+    (i, block)
+}
+
+/// A block, widened over the one behind it where that has its status, and the index behind its last part.
+fn join_behind(blocks: &[Block], j: usize, block: Block) -> (usize, Block)
+    requires tiled { IsTiled blocks.now }
+    requires index { j ≤ length blocks.now }
+    requires ends { start_of blocks.now j ≡ block.pos + block.size }
+    ensures { IsJoinedBehind blocks.now j block result.0 result.1 }
+{
+    if j < blocks.len() {
+        let behind = blocks[j];
+        if behind.status.is(block.status) {
+            let wide = Block {
+                pos: block.pos,
+                size: block.size + behind.size,
+                status: block.status,
+            };
+            return (j + 1, wide);
+        }
+    }
+    (j, block)
+}
+
+/// Puts one block in the place of those from i up to j.
+fn fuse(blocks: &mut Vec<Block>, i: usize, j: usize, block: Block)
+    requires order { i < j }
+    requires within { j ≤ vec_len blocks.old }
+    ensures items { blocks.new.items ≡ take i blocks.old.items ++ block ∷ drop j blocks.old.items }
+    ensures len { vec_len blocks.new ≤ vec_len blocks.old }
+    ensures capacity { vec_capacity blocks.new ≡ vec_capacity blocks.old }
+{
+    blocks[i] = block;
+    blocks.drain(i + 1..j);
+}
