@@ -4,3 +4,5 @@
 pub mod heading;
 pub mod print;
 pub mod state;
+#[cfg(test)]
+mod tests;
