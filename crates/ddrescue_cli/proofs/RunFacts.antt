@@ -6,7 +6,7 @@ use Rattle.faulty_source.specs.Journal.{Reading, is_whole}
 use Rattle.mapfile_text.specs.HeadingLines.{HeadingLines}
 use Rattle.mapfile_text.specs.Printed.{printed}
 use Rattle.crash_site.specs.declared.site.SiteCall.{SiteCall}
-use Rattle.crash_site.specs.declared.site.SiteCall.TheVariants.{ImageOpen, ImageWrite, MapRead}
+use Rattle.crash_site.specs.declared.site.SiteCall.TheVariants.{ImageOpen, ImageRead, ImageWrite, ImageSync, MapRead, DraftBegin, DraftAppend, DraftSync, DraftPublish, MapSettle, MapRemove}
 use Rattle.crash_site.specs.Files.{File}
 use Rattle.crash_site.specs.Calls.{Call, Entry, Done, image_open, image_write, map_read, Lost, Made, BrokeAt}
 use Rattle.crash_site.specs.Folder.{Folder, opened, after}
@@ -18,7 +18,7 @@ use Rattle.ddrescue_cli.specs.Sectors.{sector_count, IsSectorRead, AreSectorRead
 use Rattle.ddrescue_cli.specs.Copying.{CopyCause, Halt, Unread, Unwritten, Copied, Halted}
 use Rattle.ddrescue_cli.specs.Opening.{OutputStop, MapStop}
 use Rattle.ddrescue_cli.specs.Saved.{finished_state}
-use Rattle.ddrescue_cli.specs.Run.{opening_calls, save_calls, run_calls, StoppedCalls, FilesAllow, is_other, Went, Stopped}
+use Rattle.ddrescue_cli.specs.Run.{opening_calls, save_calls, run_calls, CallsOf, FilesAllow, is_other, Went, Stopped}
 use Rattle.ddrescue_cli.proofs.CopyFacts.{made_more, sector_reads_more, flat_map_one}
 
 -- a call that failed among the first calls failed among all of them
@@ -64,21 +64,21 @@ no_reads end = record { count_is = refl; each = λ k r e. cc }
 -- an input that can't be opened
 pub stopped_source : (out name draft : List ℕ) (h : HeadingLines) (ts td : Bool) (bytes : List ℕ) (j0 j1 : List Reading) (c0 : List Entry) → (IsTrue ts → j1 ≡ j0) → Stopped SourceFault out name draft h ts td bytes j0 j1 c0 c0
 stopped_source out name draft h ts td bytes j0 j1 c0 before = record {
-  end = 0;
-  all = λ t e. absurd (e refl);
+  end = length bytes;
+  all = λ t. refl;
   count = 0;
   reads = [];
-  sectors = no_reads 0;
+  sectors = no_reads (length bytes);
   told = λ t. before t ∙ sym (append-nil j0);
   made = λ t. sym (append-nil c0);
 }
 
 -- a rescue that stopped before its first read
 pub stopped_early : (e : Ending) (out name draft : List ℕ) (h : HeadingLines) (ts td : Bool) (bytes : List ℕ) (end : ℕ) (j0 j1 : List Reading) (c0 c1 : List Entry)
-    → (IsTrue ts → end ≡ length bytes) → (IsTrue ts → j1 ≡ j0) → (IsTrue td → StoppedCalls e out name draft [] (printed h (finished_state end) (map_of [])) c0 c1) → Stopped e out name draft h ts td bytes j0 j1 c0 c1
+    → (IsTrue ts → end ≡ length bytes) → (IsTrue ts → j1 ≡ j0) → (IsTrue td → CallsOf e out name draft [] (printed h (finished_state end) (map_of [])) c0 c1) → Stopped e out name draft h ts td bytes j0 j1 c0 c1
 stopped_early e out name draft h ts td bytes end j0 j1 c0 c1 all before made = record {
   end = end;
-  all = λ t _. all t;
+  all = all;
   count = 0;
   reads = [];
   sectors = no_reads end;
@@ -86,21 +86,21 @@ stopped_early e out name draft h ts td bytes end j0 j1 c0 c1 all before made = r
   made = made;
 }
 
-pub output_calls : (e : Ending) (out name draft : List ℕ) (reads : List Reading) (text : List ℕ) (file : Option File) (c0 c1 : List Entry) → OutputStop e out file c0 c1 → StoppedCalls e out name draft reads text c0 c1
+pub output_calls : (e : Ending) (out name draft : List ℕ) (reads : List Reading) (text : List ℕ) (file : Option File) (c0 c1 : List Entry) → OutputStop e out file c0 c1 → CallsOf e out name draft reads text c0 c1
 output_calls e out name draft reads text file c0 c1 stop =
-    let P : Ending → Type 0 = λ v. StoppedCalls v out name draft reads text c0 c1 in
+    let P : Ending → Type 0 = λ v. CallsOf v out name draft reads text c0 c1 in
     ⊎_elim (λ l. subst P (sym l.0) l.2)
     (λ r. subst P (sym r.0) (broke_front ImageOpen (image_open out true ∷ []) (map_read name 0 1 ∷ [] ++ (writes_of reads ++ save_calls name draft text)) c0 c1 r.1)) stop
 
-pub map_calls : (e : Ending) (out name draft : List ℕ) (reads : List Reading) (text : List ℕ) (file : Option File) (c0 c1 c2 : List Entry) → Made (image_open out true ∷ []) c0 c1 → MapStop e name file c1 c2 → StoppedCalls e out name draft reads text c0 c2
+pub map_calls : (e : Ending) (out name draft : List ℕ) (reads : List Reading) (text : List ℕ) (file : Option File) (c0 c1 c2 : List Entry) → Made (image_open out true ∷ []) c0 c1 → MapStop e name file c1 c2 → CallsOf e out name draft reads text c0 c2
 map_calls e out name draft reads text file c0 c1 c2 opened stop =
-    let P : Ending → Type 0 = λ v. StoppedCalls v out name draft reads text c0 c2 in
+    let P : Ending → Type 0 = λ v. CallsOf v out name draft reads text c0 c2 in
     ⊎_elim (λ l. subst P (sym l.0) (made_opening out name c0 c1 c2 opened l.2))
     (λ r. subst P (sym r.0) (broke_back MapRead (image_open out true ∷ []) (map_read name 0 1 ∷ (writes_of reads ++ save_calls name draft text)) c0 c1 c2 opened
         (broke_front MapRead (map_read name 0 1 ∷ []) (writes_of reads ++ save_calls name draft text) c1 c2 r.1))) stop
 
 -- memory ran out before the first read
-pub no_memory_calls : (out name draft : List ℕ) (reads : List Reading) (text : List ℕ) (c0 c1 c2 c3 : List Entry) → Made (image_open out true ∷ []) c0 c1 → Made (map_read name 0 1 ∷ []) c1 c2 → Made (writes_of reads) c2 c3 → StoppedCalls NoMemory out name draft reads text c0 c3
+pub no_memory_calls : (out name draft : List ℕ) (reads : List Reading) (text : List ℕ) (c0 c1 c2 c3 : List Entry) → Made (image_open out true ∷ []) c0 c1 → Made (map_read name 0 1 ∷ []) c1 c2 → Made (writes_of reads) c2 c3 → Made (opening_calls out name ++ writes_of reads) c0 c3
 no_memory_calls out name draft reads text c0 c1 c2 c3 opened looked wrote = made_more c0 c2 c3 (opening_calls out name) (writes_of reads) (made_opening out name c0 c1 c2 opened looked) wrote
 
 write_test : (r : Reading) (b : Bool) → is_whole r ≡ b → b ≡ true → (if b then image_write r.pos r.given ∷ [] else []) ≡ image_write r.pos r.given ∷ []
@@ -118,27 +118,27 @@ stopped_at : (e : Ending) (out name draft : List ℕ) (h : HeadingLines) (ts td 
     → Stopped e out name draft h ts td bytes j0 j2 c0 c4
 stopped_at e out name draft h ts td bytes end k pos size reads j0 j1 j2 c0 c1 c2 c3 c4 (Unread cause untold unmade) at fits sectors all told opened looked wrote = record {
   end = end;
-  all = λ t _. all t;
+  all = all;
   count = k;
   reads = reads;
   sectors = sectors;
   told = λ t. untold t ∙ told t;
   made = λ t.
     let text : List ℕ = printed h (finished_state end) (map_of reads) in
-    let P : Ending → Type 0 = λ v. StoppedCalls v out name draft reads text c0 c4 in
+    let P : Ending → Type 0 = λ v. CallsOf v out name draft reads text c0 c4 in
     let grew : Made (opening_calls out name ++ writes_of reads) c0 c4 = rw (unmade t) (no_memory_calls out name draft reads text c0 c1 c2 c3 (opened t) (looked t) (wrote t)) in
-    ⊎_elim (λ z. subst P (sym z) grew) (λ z. subst P (sym z) grew) cause;
+    ⊎_elim (λ z. subst P (sym z) (inr grew)) (λ z. subst P (sym z) grew) cause;
 }
 stopped_at e out name draft h ts td bytes end k pos size reads j0 j1 j2 c0 c1 c2 c3 c4 (Unwritten r is pos_is asked_is full new lost) at fits sectors all told opened looked wrote = record {
   end = end;
-  all = λ t _. all t;
+  all = all;
   count = k + 1;
   reads = reads ++ r ∷ [];
   sectors = sector_reads_more end k reads r sectors (record { pos = pos_is ∙ at; asked = asked_is ∙ fits; few = omega (arith, full, asked_is) });
   told = λ t. new t ∙ ap (λ j. j ++ r ∷ []) (told t) ∙ append_assoc j0 reads (r ∷ []);
   made = λ t.
     let text : List ℕ = printed h (finished_state end) (map_of (reads ++ r ∷ [])) in
-    let P : Ending → Type 0 = λ v. StoppedCalls v out name draft (reads ++ r ∷ []) text c0 c4 in
+    let P : Ending → Type 0 = λ v. CallsOf v out name draft (reads ++ r ∷ []) text c0 c4 in
     let last : List Call = image_write r.pos r.given ∷ [] in
     let one : write_of r ≡ last = write_whole r (full ∙ sym asked_is) in
     let writes : writes_of (reads ++ r ∷ []) ≡ writes_of reads ++ last = flat_map_one write_of reads r ∙ ap (λ w. writes_of reads ++ w) one in
@@ -169,7 +169,7 @@ pub stopped_late : (e : Ending) (out name draft : List ℕ) (h : HeadingLines) (
     → Stopped e out name draft h ts td bytes j0 j2 c0 c4
 stopped_late e out name draft h ts ts' td td' bytes end j0 j1 j2 c0 c1 c2 c3 c4 m0 m1 c same_s same_d empty all before opened looked how = record {
   end = end;
-  all = λ t _. all t;
+  all = all;
   count = sector_count end;
   reads = c.reads;
   sectors = c.sectors;
@@ -177,9 +177,11 @@ stopped_late e out name draft h ts ts' td td' bytes end j0 j1 j2 c0 c1 c2 c3 c4 
   made = λ t.
     let whole = whole_map end c.reads m0 m1 empty c.length_is c.map_is in
     let text : List ℕ = printed h (finished_state end) (map_of c.reads) in
-    let P : Ending → Type 0 = λ v. StoppedCalls v out name draft c.reads text c0 c4 in
+    let P : Ending → Type 0 = λ v. CallsOf v out name draft c.reads text c0 c4 in
     ⊎_elim
-    (λ z. subst P (sym z.0) (rw z.1 (no_memory_calls out name draft c.reads text c0 c1 c2 c3 (opened t) (looked t) (c.written (rw same_d t)))))
+    (λ z.
+        let grew : Made (opening_calls out name ++ writes_of c.reads) c0 c4 = rw z.1 (no_memory_calls out name draft c.reads text c0 c1 c2 c3 (opened t) (looked t) (c.written (rw same_d t))) in
+        subst P (sym z.0) (inr grew))
     (λ z.
         let Q : List Status → Type 0 = λ m. BrokeAt z.0 (save_calls name draft (printed h (finished_state end) m)) c3 c4 in
         let saved : BrokeAt z.0 (save_calls name draft text) c3 c4 = subst Q whole (z.2 t) in
@@ -205,13 +207,13 @@ pub stopped_start : (out name draft : List ℕ) (h : HeadingLines) (ts td : Bool
     → Stopped NoMemory out name draft h ts td bytes j0 j1 c0 c2
 stopped_start out name draft h ts td bytes end j0 j1 c0 c1 c2 all before opened looked =
     stopped_early NoMemory out name draft h ts td bytes end j0 j1 c0 c2 all before
-        (λ t. no_memory_calls out name draft [] (printed h (finished_state end) (map_of [])) c0 c1 c2 c2 (opened t) (looked t) (sym (append-nil c2)))
+        (λ t. inr (no_memory_calls out name draft [] (printed h (finished_state end) (map_of [])) c0 c1 c2 c2 (opened t) (looked t) (sym (append-nil c2))))
 
 -- what the files allow, of an answer behind a mapfile that was looked for
 pub allowed_map : (e : Ending) (out name : Option File) (seen : Option File) → is_other out ≡ false → seen ≡ name → ((e ≡ MapThere) × (is_some seen ≡ true)) ⊎ (e ≡ SiteFault MapRead) → FilesAllow e out name
 allowed_map e out name seen regular same how =
     let P : Ending → Type 0 = λ v. FilesAllow v out name in
-    ⊎_elim (λ l. subst P (sym l.0) (regular, rw same at l.1)) (λ r. subst P (sym r) tt) how
+    ⊎_elim (λ l. subst P (sym l.0) (regular, rw same at l.1)) (λ r. subst P (sym r) regular) how
 
 pub map_stop : (e : Ending) (name : List ℕ) (file : Option File) (calls calls' : List Entry) → MapStop e name file calls calls' → ((e ≡ MapThere) × (is_some file ≡ true)) ⊎ (e ≡ SiteFault MapRead)
 map_stop e name file calls calls' s = ⊎_elim (λ l. inl (l.0, l.1)) (λ r. inr r.0) s
@@ -220,4 +222,17 @@ pub allowed_copy : (e : Ending) (out name seen : Option File) (losses losses' fa
 allowed_copy e out name seen losses losses' faults faults' regular same none cause =
     let P : Ending → Type 0 = λ v. FilesAllow v out name in
     let absent : is_some name ≡ false = rw same at none in
-    ⊎_elim (λ l. subst P (sym l) tt) (λ r. ⊎_elim (λ m. subst P (sym m.0) (regular, absent)) (λ f. subst P (sym f.0) tt) r) cause
+    ⊎_elim (λ l. subst P (sym l) tt) (λ r. ⊎_elim (λ m. subst P (sym m.0) (regular, absent)) (λ f. subst P (sym f.0) (regular, absent)) r) cause
+
+pub allowed_save : (call : SiteCall) (out name : Option File) → is_other out ≡ false → is_some name ≡ false → FilesAllow (SiteFault call) out name
+allowed_save ImageOpen out name regular absent = tt
+allowed_save ImageRead out name regular absent = (regular, absent)
+allowed_save ImageWrite out name regular absent = (regular, absent)
+allowed_save ImageSync out name regular absent = (regular, absent)
+allowed_save MapRead out name regular absent = regular
+allowed_save DraftBegin out name regular absent = (regular, absent)
+allowed_save DraftAppend out name regular absent = (regular, absent)
+allowed_save DraftSync out name regular absent = (regular, absent)
+allowed_save DraftPublish out name regular absent = (regular, absent)
+allowed_save MapSettle out name regular absent = (regular, absent)
+allowed_save MapRemove out name regular absent = (regular, absent)

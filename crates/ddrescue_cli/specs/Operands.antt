@@ -1,8 +1,10 @@
-use Rattle.std.specs.Prelude.{ℕ, ◌-◌, Bool, true, false, List, [], ◌∷◌, ◌++◌, length, Option, Some, None, nat_eq, slice_index_or, if◌then◌else◌, codes}
+use Rattle.std.specs.Prelude.{◌≡◌, ⊤, ℕ, ◌-◌, Bool, true, false, List, [], ◌∷◌, ◌++◌, length, Option, Some, None, nat_eq, slice_index_or, if◌then◌else◌, codes}
+use Rattle.std.specs.Option.{option_map}
 use Rattle.std.specs.Str.{bytes_eq}
 use Rattle.std.specs.List.{flat_map}
 use Rattle.ddrescue_cli.specs.declared.ending.Ending.{Ending}
-use Rattle.ddrescue_cli.specs.declared.ending.Ending.TheVariants.{WrongNumber, WrongWord, SameName}
+use Rattle.ddrescue_cli.specs.declared.ending.Ending.TheVariants.{WrongNumber, WrongWord, SameName, NoMemory}
+use Rattle.ddrescue_cli.specs.declared.ending.Operand.{Operand}
 use Rattle.ddrescue_cli.specs.declared.ending.Operand.TheVariants.{Infile, Outfile, Mapfile, Draft}
 
 -- a word, counted from 1, as bytes
@@ -40,18 +42,23 @@ wrong_word words =
     else None
 
 -- the first two of an infile, an outfile, a mapfile and its draft that have one name; the last two never do
-abbrev pub first_same : (i o m d : List ℕ) → Option Ending
+abbrev pub first_same : (i o m d : List ℕ) → Option (Operand × Operand)
 first_same i o m d =
-    if bytes_eq i o then Some (SameName Infile Outfile)
-    else if bytes_eq i m then Some (SameName Infile Mapfile)
-    else if bytes_eq i d then Some (SameName Infile Draft)
-    else if bytes_eq o m then Some (SameName Outfile Mapfile)
-    else if bytes_eq o d then Some (SameName Outfile Draft)
+    if bytes_eq i o then Some (Infile, Outfile)
+    else if bytes_eq i m then Some (Infile, Mapfile)
+    else if bytes_eq i d then Some (Infile, Draft)
+    else if bytes_eq o m then Some (Outfile, Mapfile)
+    else if bytes_eq o d then Some (Outfile, Draft)
     else None
 
--- the first two files of a rescue that have one name
+-- the refusal of two names that are the same
 abbrev pub same_names : List (List ℕ) → Option Ending
-same_names words = first_same (infile words) (outfile words) (mapfile words) (draft words)
+same_names words = option_map (λ p. SameName p.0 p.1) (first_same (infile words) (outfile words) (mapfile words) (draft words))
+
+-- the files that a rescue writes have names of their own
+pub record AreApart (words : List (List ℕ)) : Type 0 where
+  pub output_map : bytes_eq (outfile words) (mapfile words) ≡ false
+  pub output_draft : bytes_eq (outfile words) (draft words) ≡ false
 
 abbrev pub first_of_both : Option Ending → Option Ending → Option Ending
 first_of_both (Some e) o = Some e
@@ -62,6 +69,14 @@ abbrev pub refusal_of_words : List (List ℕ) → Option Ending
 refusal_of_words words =
     if nat_eq (length words) 3 then first_of_both (wrong_word words) (same_names words)
     else Some (WrongNumber (length words))
+
+-- an answer that the words bring, by what they bring; want of memory is free
+abbrev pub OfWords : Ending → Option Ending → Type 0
+OfWords NoMemory refusal = ⊤
+OfWords (WrongNumber given) refusal = refusal ≡ Some (WrongNumber given)
+OfWords (WrongWord word) refusal = refusal ≡ Some (WrongWord word)
+OfWords (SameName first second) refusal = refusal ≡ Some (SameName first second)
+OfWords e refusal = ⊥
 
 -- the command line: the program's name, and a space before each word
 abbrev pub command_line : List (List ℕ) → List ℕ

@@ -1,6 +1,8 @@
-use Rattle.std.specs.Prelude.{◌≡◌, ◌≢◌, ⊤, ℕ, Bool, true, false, IsTrue, length, List, [], ◌∷◌, ◌++◌, Option, Some, None, is_some, if◌then◌else◌}
+use Rattle.std.specs.Prelude.{◌≡◌, ◌⊎◌, ⊤, ℕ, Bool, true, false, IsTrue, length, List, [], ◌∷◌, ◌++◌, Option, Some, None, is_some, if◌then◌else◌}
 use Rattle.block_list.specs.declared.status.Status.{Status}
 use Rattle.faulty_source.specs.Journal.{Reading}
+use Rattle.crash_site.specs.declared.site.SiteCall.{SiteCall}
+use Rattle.crash_site.specs.declared.site.SiteCall.TheVariants.{ImageOpen, MapRead}
 use Rattle.crash_site.specs.Files.{File}
 use Rattle.crash_site.specs.Calls.{Call, Entry, Made, BrokeAt, image_open, map_read, image_sync, draft_begin, draft_append, draft_sync, draft_publish, map_settle}
 use Rattle.ddrescue_cli.specs.declared.ending.Ending.{Ending}
@@ -36,16 +38,16 @@ save_calls map draft text = image_sync ∷ draft_begin draft ∷ draft_append te
 abbrev pub run_calls : (out map draft : List ℕ) → List Reading → List ℕ → List Call
 run_calls out map draft reads text = opening_calls out map ++ (writes_of reads ++ save_calls map draft text)
 
--- A rescue that was stopped made a beginning of its calls: which, depends on the answer. Where a call failed, it
--- is the last one.
-abbrev pub StoppedCalls : Ending → (out map draft : List ℕ) → List Reading → List ℕ → List Entry → List Entry → Type 0
-StoppedCalls (SiteFault call) out map draft reads text calls calls' = BrokeAt call (run_calls out map draft reads text) calls calls'
-StoppedCalls SourceFault out map draft reads text calls calls' = Made [] calls calls'
-StoppedCalls NotRegular out map draft reads text calls calls' = Made (image_open out true ∷ []) calls calls'
-StoppedCalls MapThere out map draft reads text calls calls' = Made (opening_calls out map) calls calls'
-StoppedCalls SourceLost out map draft reads text calls calls' = Made (opening_calls out map ++ writes_of reads) calls calls'
-StoppedCalls NoMemory out map draft reads text calls calls' = Made (opening_calls out map ++ writes_of reads) calls calls'
-StoppedCalls e out map draft reads text calls calls' = ⊥
+-- The calls that a rescue made: all of them where it is done, else a beginning, which depends on the answer. Where
+-- a call failed, it is the last one.
+abbrev pub CallsOf : Ending → (out map draft : List ℕ) → List Reading → List ℕ → List Entry → List Entry → Type 0
+CallsOf Done out map draft reads text calls calls' = Made (run_calls out map draft reads text) calls calls'
+CallsOf (SiteFault call) out map draft reads text calls calls' = BrokeAt call (run_calls out map draft reads text) calls calls'
+CallsOf SourceLost out map draft reads text calls calls' = Made (opening_calls out map ++ writes_of reads) calls calls'
+CallsOf NoMemory out map draft reads text calls calls' = Made [] calls calls' ⊎ Made (opening_calls out map ++ writes_of reads) calls calls'
+CallsOf NotRegular out map draft reads text calls calls' = Made (image_open out true ∷ []) calls calls'
+CallsOf MapThere out map draft reads text calls calls' = Made (opening_calls out map) calls calls'
+CallsOf e out map draft reads text calls calls' = Made [] calls calls'
 
 -- why a rescue stopped once its words were read: memory, a count that rose, or a file that stands in its way
 abbrev pub StopCause : Ending → (faults faults' losses losses' site_faults site_faults' : ℕ) → Type 0
@@ -57,12 +59,19 @@ StopCause NotRegular faults faults' losses losses' site_faults site_faults' = �
 StopCause MapThere faults faults' losses losses' site_faults site_faults' = ⊤
 StopCause e faults faults' losses losses' site_faults site_faults' = ⊥
 
--- what the files say of an answer: a rescue that reads its input found a regular output or none, and no mapfile
+-- what the files say of a failed call: behind the open stands a regular output, and behind the look for a mapfile none
+abbrev pub CallAllowed : SiteCall → (output map : Option File) → Type 0
+CallAllowed ImageOpen output map = ⊤
+CallAllowed MapRead output map = is_other output ≡ false
+CallAllowed call output map = (is_other output ≡ false) × (is_some map ≡ false)
+
+-- what the files say of an answer
 abbrev pub FilesAllow : Ending → (output map : Option File) → Type 0
 FilesAllow NotRegular output map = is_other output ≡ true
 FilesAllow MapThere output map = (is_other output ≡ false) × (is_some map ≡ true)
 FilesAllow SourceLost output map = (is_other output ≡ false) × (is_some map ≡ false)
 FilesAllow Done output map = (is_other output ≡ false) × (is_some map ≡ false)
+FilesAllow (SiteFault call) output map = CallAllowed call output map
 FilesAllow e output map = ⊤
 
 -- what a rescue did up to its end
@@ -77,9 +86,9 @@ pub record Went (out map draft : List ℕ) (heading : HeadingLines) (source_tell
 -- what a rescue did up to where it stopped
 pub record Stopped (e : Ending) (out map draft : List ℕ) (heading : HeadingLines) (source_tells site_tells : Bool) (bytes : List ℕ) (journal journal' : List Reading) (calls calls' : List Entry) : Type 0 where
   pub end : ℕ
-  pub all : IsTrue source_tells → e ≢ SourceFault → end ≡ length bytes
+  pub all : IsTrue source_tells → end ≡ length bytes
   pub count : ℕ
   pub reads : List Reading
   pub sectors : AreSectorReads end count reads
   pub told : IsTrue source_tells → journal' ≡ journal ++ reads
-  pub made : IsTrue site_tells → StoppedCalls e out map draft reads (printed heading (finished_state end) (map_of reads)) calls calls'
+  pub made : IsTrue site_tells → CallsOf e out map draft reads (printed heading (finished_state end) (map_of reads)) calls calls'

@@ -1,8 +1,7 @@
-ghost use Rattle.std.specs.Prelude.{◌≡◌, ◌⊎◌, length, IfOk, IfErr, OnOk};
+ghost use Rattle.std.specs.Prelude.{◌≡◌, length, IfOk, IfErr, OnOk};
 ghost use Rattle.std.specs.String.{string_bytes};
-ghost use Rattle.ddrescue_cli.specs.Operands.{is_wrong, wrong_word, first_same, refusal_of_words, infile, outfile, mapfile, draft_name, draft, command_line};
+ghost use Rattle.ddrescue_cli.specs.Operands.{is_wrong, wrong_word, first_same, refusal_of_words, infile, outfile, mapfile, draft_name, draft, command_line, OfWords, AreApart};
 ghost use Rattle.ddrescue_cli.specs.Saved.{heading};
-ghost use Rattle.ddrescue_cli.specs.declared.ending.Ending.TheVariants.{NoMemory as OutOfMemory};
 
 use crate::ending::{Ending, Operand};
 use crate::words::Words;
@@ -36,7 +35,7 @@ pub(crate) fn read_names(words: &Words) -> Result<Names<'_>, Ending>
     ensures outfile { IfOk result (λ n. n.outfile.now ≡ outfile words.now) }
     ensures mapfile { IfOk result (λ n. n.mapfile.now ≡ mapfile words.now) }
     ensures right { OnOk result (wrong_word words.now ≡ None) }
-    ensures refusal { IfErr result (λ e. refusal_of_words words.now ≡ Some e) }
+    ensures refusal { IfErr result (λ e. OfWords e (refusal_of_words words.now)) }
 {
     let given = words.len();
     if given != 3 {
@@ -62,23 +61,22 @@ pub(crate) fn read_names(words: &Words) -> Result<Names<'_>, Ending>
 }
 
 /// The first two files that have one name.
-fn find_same(infile: &str, outfile: &str, mapfile: &str, draft: &str) -> Option<Ending>
+fn find_same(infile: &str, outfile: &str, mapfile: &str, draft: &str) -> Option<(Operand, Operand)>
     ensures { result ≡ first_same infile.now outfile.now mapfile.now draft.now }
 {
-    let (first, second) = if infile == outfile {
-        (Operand::Infile, Operand::Outfile)
+    if infile == outfile {
+        Some((Operand::Infile, Operand::Outfile))
     } else if infile == mapfile {
-        (Operand::Infile, Operand::Mapfile)
+        Some((Operand::Infile, Operand::Mapfile))
     } else if infile == draft {
-        (Operand::Infile, Operand::Draft)
+        Some((Operand::Infile, Operand::Draft))
     } else if outfile == mapfile {
-        (Operand::Outfile, Operand::Mapfile)
+        Some((Operand::Outfile, Operand::Mapfile))
     } else if outfile == draft {
-        (Operand::Outfile, Operand::Draft)
+        Some((Operand::Outfile, Operand::Draft))
     } else {
-        return None;
-    };
-    Some(Ending::SameName { first, second })
+        None
+    }
 }
 
 /// The name of a mapfile's draft.
@@ -128,14 +126,15 @@ pub(crate) fn make_plan(alloc: Global, words: &Words) -> Result<Plan<'_>, Ending
     ensures draft { IfOk result (λ p. string_bytes p.draft ≡ draft words.now) }
     ensures heading { IfOk result (λ p. p.heading ≡ heading words.now) }
     ensures right { OnOk result (refusal_of_words words.now ≡ None) }
-    ensures refusal { IfErr result (λ e. (e ≡ OutOfMemory) ⊎ (refusal_of_words words.now ≡ Some e)) }
+    ensures refusal { IfErr result (λ e. OfWords e (refusal_of_words words.now)) }
+    ensures apart { OnOk result (AreApart words.now) }
 {
     let names = read_names(words)?;
     let Ok(draft) = draft_beside(alloc, names.mapfile) else {
         return Err(Ending::NoMemory);
     };
-    if let Some(refusal) = find_same(names.infile, names.outfile, names.mapfile, draft.as_str()) {
-        return Err(refusal);
+    if let Some((first, second)) = find_same(names.infile, names.outfile, names.mapfile, draft.as_str()) {
+        return Err(Ending::SameName { first, second });
     }
     let Ok(heading) = make_heading(alloc, words) else {
         return Err(Ending::NoMemory);

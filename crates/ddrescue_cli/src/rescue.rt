@@ -1,16 +1,21 @@
-ghost use Rattle.std.specs.Prelude.{◌≡◌, ◌<◌, ◌^◌, false, IsTrue, replicate, OnOk, IfOk, IfErr};
+ghost use Rattle.std.specs.Prelude.{◌≡◌, ◌<◌, ◌^◌, false, IsTrue, length, replicate, OnOk, IfOk, IfErr, IsSome};
 ghost use Rattle.std.specs.Str.{bytes_eq};
 ghost use Rattle.std.specs.String.{string_bytes};
 ghost use Rattle.block_list.specs.declared.status.Status.TheVariants.{NonTried};
+ghost use Rattle.crash_site.specs.Files.{bytes_of};
 ghost use Rattle.crash_site.specs.Folder.{after};
 ghost use Rattle.ddrescue_cli.specs.declared.ending.Ending.TheVariants.{Done};
+ghost use Rattle.ddrescue_cli.specs.Operands.{outfile, mapfile, refusal_of_words};
+ghost use Rattle.ddrescue_cli.specs.Sectors.{gained};
 ghost use Rattle.ddrescue_cli.specs.Run.{FilesAllow, Went, Stopped, StopCause};
+ghost use Rattle.ddrescue_cli.specs.Rescue.{Caused, IsReadInOrder, IsCalled, AreRescued, MapfileHolds};
 
 use crate::copy::copy_all;
 use crate::ending::Ending;
 use crate::open::{open_output, refuse_map};
-use crate::operands::Plan;
+use crate::operands::{make_plan, Plan};
 use crate::save::save;
+use crate::words::Words;
 use block_list::plain_tiles::PlainTiles;
 use block_list::tiles::{NoMemory, Tiles};
 use crash_site::site::Site;
@@ -64,5 +69,37 @@ pub(crate) fn rescue<S: Source, D: Site>(alloc: Global, plan: &Plan<'_>, source:
     match save(site, plan.names.mapfile, plan.draft.as_str(), &text) {
         Ok(()) => Ok(()),
         Err(call) => Err(Ending::SiteFault { call }),
+    }
+}
+
+/// Rescues an infile into an outfile, and saves the map of what was rescued: `infile outfile mapfile`. The input is
+/// read once, sector by sector from its start; a sector that isn't read whole is bad.
+///
+/// The refusals come in this order: another number of words than three, a word that names no file, two files of one
+/// name, an infile that can't be opened, an outfile that is no regular file, a mapfile that is there.
+pub fn ddrescue<S: Source, D: Site>(alloc: Global, words: &Words, source: &mut S, site: &mut D) -> Ending
+    requires { D.is_drafting site.old ≡ false }
+    ensures cause { Caused result (refusal_of_words words.now) (S.faults source.old) (S.faults source.new) (S.losses source.old) (S.losses source.new) (D.faults site.old) (D.faults site.new) }
+    ensures files { IsTrue (D.tells site.old) → FilesAllow result ((after (D.start site.old) (D.record_ site.old)).files (outfile words.now)) ((after (D.start site.old) (D.record_ site.old)).files (mapfile words.now)) }
+
+    // A refusal of the words touches nothing.
+    ensures untouched { IsSome (refusal_of_words words.now) → (source.new ≡ source.old) × (site.new ≡ site.old) }
+    ensures reads { IsTrue (S.tells source.old) → IsReadInOrder result (length (S.bytes source.old)) (S.journal source.old) (S.journal source.new) }
+    ensures calls { IsTrue (S.tells source.old) → IsTrue (D.tells site.old)
+        → IsCalled result words.now (length (S.bytes source.old)) (gained (S.journal source.old) (S.journal source.new)) (D.record_ site.old) (D.record_ site.new) }
+    ensures rescued { result ≡ Done → IsTrue (S.tells source.old) → IsTrue (D.tells site.old)
+        → AreRescued words.now (length (S.bytes source.old)) (gained (S.journal source.old) (S.journal source.new)) (after (D.start site.old) (D.record_ site.old)).files (after (D.start site.new) (D.record_ site.new)).files }
+
+    // The mapfile never calls a byte finished that the output does not hold.
+    ensures holds { result ≡ Done → IsTrue (S.tells source.old) → IsTrue (D.tells site.old)
+        → MapfileHolds words.now (length (S.bytes source.old)) (gained (S.journal source.old) (S.journal source.new)) (bytes_of ((after (D.start site.old) (D.record_ site.old)).files (outfile words.now))) (after (D.start site.new) (D.record_ site.new)).files }
+{
+    let plan = match make_plan(alloc, words) {
+        Ok(plan) => plan,
+        Err(refusal) => return refusal,
+    };
+    match rescue(alloc, &plan, source, site) {
+        Ok(()) => Ending::Done,
+        Err(refusal) => refusal,
     }
 }
