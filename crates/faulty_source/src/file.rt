@@ -66,6 +66,9 @@ fn read_up_to(file: &mut File, buf: &mut [u8]) -> usize
 }
 
 impl Source for FileSource {
+    ghost use Rattle.std.specs.Prelude.{true, IsTrue, ◌∷◌, ◌++◌, take, slice_range, OnErr, IsOk};
+    ghost use Rattle.fault_count.specs.Counts.{HasCause};
+
     ghost tells = { λ _. false };
 
     ghost bytes = { λ _. [] };
@@ -88,9 +91,25 @@ impl Source for FileSource {
         Ok(length)
     }
 
-    fn read_at(&mut self, pos: u64, buf: &mut [u8]) -> Result<Got, SourceLost> {
+    fn read_at(&mut self, pos: u64, buf: &mut [u8]) -> Result<Got, SourceLost>
+        requires opened { ⟦<FileSource as Source>⟧.is_open self.old ≡ true }
+        requires some { 0 < length buf.old }
+        requires place { pos + length buf.old < 2 ^ 63 }
+        ensures count { IfOk result (λ got. got.0 ≤ length buf.old) }
+        ensures read { IfOk result (λ got. IsTrue (⟦<FileSource as Source>⟧.tells self.old) → take got.0 buf.new ≡ slice_range (⟦<FileSource as Source>⟧.bytes self.old) pos (pos + got.0)) }
+        ensures told { IfOk result (λ got. IsTrue (⟦<FileSource as Source>⟧.tells self.old) → ⟦<FileSource as Source>⟧.journal self.new
+            ≡ ⟦<FileSource as Source>⟧.journal self.old ++ record { pos = pos; asked = length buf.old; given = take got.0 buf.new } ∷ []) }
+        ensures untold { OnErr result (IsTrue (⟦<FileSource as Source>⟧.tells self.old) → ⟦<FileSource as Source>⟧.journal self.new ≡ ⟦<FileSource as Source>⟧.journal self.old) }
+        ensures open { ⟦<FileSource as Source>⟧.is_open self.new ≡ true }
+        ensures tells { ⟦<FileSource as Source>⟧.tells self.new ≡ ⟦<FileSource as Source>⟧.tells self.old }
+        ensures bytes { IsTrue (⟦<FileSource as Source>⟧.tells self.old) → ⟦<FileSource as Source>⟧.bytes self.new ≡ ⟦<FileSource as Source>⟧.bytes self.old }
+        ensures faults { ⟦<FileSource as Source>⟧.faults self.new ≡ ⟦<FileSource as Source>⟧.faults self.old }
+        ensures cause { HasCause (⟦<FileSource as Source>⟧.losses self.old) (⟦<FileSource as Source>⟧.losses self.new) result }
+        ensures kept { ⟦<FileSource as Source>⟧.losses self.new ≡ ⟦<FileSource as Source>⟧.losses self.old }
+        ensures answers { IsOk result }
+    {
         let Some(file) = &mut self.file else {
-            return Ok(Got(0));
+            unreachable!()
         };
         if file.seek(SeekFrom::Start(pos)).is_err() {
             return Ok(Got(0));

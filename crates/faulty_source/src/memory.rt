@@ -1,4 +1,4 @@
-ghost use Rattle.std.specs.Prelude.{◌≡◌, ◌↔◌, ℕ, ◌+◌, ◌-◌, ◌<◌, ◌≤◌, ◌^◌, Bool, true, false, IsTrue, if◌then◌else◌, List, [], ◌∷◌, ◌++◌, length, map, take, slice_range, Contains, All, vec_len, vec_capacity, IfOk, OnOk, OnErr};
+ghost use Rattle.std.specs.Prelude.{◌≡◌, ◌↔◌, ℕ, ◌+◌, ◌-◌, ◌<◌, ◌≤◌, ◌^◌, true, false, IsTrue, if◌then◌else◌, [], ◌∷◌, ◌++◌, length, map, take, slice_range, Contains, All, vec_capacity, IfOk, OnOk, OnErr};
 ghost use Rattle.fault_count.specs.Counts.{raised};
 ghost use Rattle.faulty_source.specs.Memory.{fails_still, is_bad, is_bad_at, one_less, met, IsGiven, AreApart, entry_of, reading_of};
 
@@ -34,7 +34,8 @@ impl BadRange {
 
     /// Takes one attempt, where a read of `x` fails here and the attempts are counted.
     fn meet(&mut self, x: u64)
-        ensures { self.new ≡ (if is_bad_at x self.old then record self.old { attempts = one_less self.old.attempts } else self.old) }
+        ensures { self.new ≡ (if is_bad_at x self.old
+            then record self.old { attempts = one_less self.old.attempts } else self.old) }
     {
         if self.is_bad_at(x)
             && let Some(left) = self.attempts
