@@ -1,4 +1,4 @@
-use Rattle.std.proofs.Common.{◌≡◌, ◌≢◌, ℕ, Bool, true, false, if◌then◌else◌, List, [], ◌∷◌, ◌++◌, map, Option, Some, None, is_some, refl, sym, ap, ◌∙◌, subst}
+use Rattle.std.proofs.Common.{◌≡◌, ◌≢◌, ℕ, Bool, true, false, if◌then◌else◌, List, [], ◌∷◌, ◌++◌, map, Option, Some, None, is_some, refl, sym, ap, ◌∙◌, subst, arith, length, length-append}
 use Rattle.std.specs.Str.{bytes_eq}
 use Rattle.std.proofs.lemmas.Bool.{false_from_ne_true}
 use Rattle.std.proofs.lemmas.List.{map-append}
@@ -8,6 +8,8 @@ use Rattle.crash_site.specs.Files.{File, bytes_of, empty_file, put, written, wri
 use Rattle.crash_site.specs.Calls.{Entry, Done, Made, image_open, image_write}
 use Rattle.crash_site.specs.Folder.{Folder, opened, with_piece, after, after_entry, after_done}
 use Rattle.ddrescue_cli.specs.Sectors.{landed, write_of, writes_of}
+use Rattle.std.specs.Prelude.{codes}
+use Rattle.ddrescue_cli.specs.Operands.{draft_name}
 use Rattle.ddrescue_cli.specs.Run.{is_other, opening_calls, save_calls, run_calls}
 
 pub after-append : (d : Folder) (xs ys : List Entry) → after d (xs ++ ys) ≡ after (after d xs) ys
@@ -112,3 +114,7 @@ run_files start old new out name draft text reads a b e regular made =
         ∙ after-append (after_done d (image_open out true)) (map Done (writes_of reads)) (map Done (save_calls name draft text)) in
     let P : Folder → Type 0 = λ f. IsSaved out name draft (landed (bytes_of (d.files out)) reads) text d.files f.files in
     subst P (sym ends) saved
+
+-- a mapfile and its draft have two names
+pub draft_apart : (name : List ℕ) → bytes_eq (draft_name name) name ≡ false
+draft_apart name = apart_of (draft_name name) name (λ e. omega (arith, ap length e, length-append name (codes ".tmp")))

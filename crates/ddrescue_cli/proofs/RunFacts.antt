@@ -11,14 +11,17 @@ use Rattle.crash_site.specs.Files.{File}
 use Rattle.crash_site.specs.Calls.{Call, Entry, Done, image_open, image_write, map_read, Lost, Made, BrokeAt}
 use Rattle.crash_site.specs.Folder.{Folder, opened, after}
 use Rattle.std.specs.Str.{bytes_eq}
-use Rattle.ddrescue_cli.proofs.FolderFacts.{after-append, bytes_eq-flip}
+use Rattle.ddrescue_cli.proofs.FolderFacts.{after-append, bytes_eq-flip, run_files, draft_apart}
 use Rattle.ddrescue_cli.specs.declared.ending.Ending.{Ending}
-use Rattle.ddrescue_cli.specs.declared.ending.Ending.TheVariants.{SourceFault, NotRegular, MapThere, SourceLost, SiteFault, NoMemory}
-use Rattle.ddrescue_cli.specs.Sectors.{sector_count, IsSectorRead, AreSectorReads, map_of, write_of, writes_of}
+use Rattle.ddrescue_cli.specs.declared.ending.Ending.TheVariants.{Done as Finished, SourceFault, NotRegular, MapThere, SourceLost, SiteFault, NoMemory}
+use Rattle.ddrescue_cli.specs.Sectors.{sector_count, IsSectorRead, AreSectorReads, map_of, write_of, writes_of, gained}
 use Rattle.ddrescue_cli.specs.Copying.{CopyCause, Halt, Unread, Unwritten, Copied, Halted}
 use Rattle.ddrescue_cli.specs.Opening.{OutputStop, MapStop}
-use Rattle.ddrescue_cli.specs.Saved.{finished_state}
-use Rattle.ddrescue_cli.specs.Run.{opening_calls, save_calls, run_calls, CallsOf, FilesAllow, is_other, Went, Stopped}
+use Rattle.ddrescue_cli.specs.Saved.{finished_state, heading, saved_text}
+use Rattle.ddrescue_cli.specs.Operands.{outfile, mapfile, draft, AreApart}
+use Rattle.ddrescue_cli.specs.Rescue.{IsReadInOrder, IsCalled, AreRescued}
+use Rattle.std.proofs.Math.Seq.{drop-append_seam}
+use Rattle.ddrescue_cli.specs.Run.{opening_calls, save_calls, run_calls, CallsOf, FilesAllow, is_other, StopCause, Went, Stopped}
 use Rattle.ddrescue_cli.proofs.CopyFacts.{made_more, sector_reads_more, flat_map_one}
 
 -- a call that failed among the first calls failed among all of them
@@ -44,7 +47,7 @@ pub went : (out name draft : List ℕ) (h : HeadingLines) (ts ts' td td' : Bool)
     → Copied end (sector_count end) ts' td' j1 j2 c2 c3 m0 m1 → ts' ≡ ts → td' ≡ td → m0 ≡ replicate end NonTried
     → (IsTrue ts → end ≡ length bytes) → (IsTrue ts → j1 ≡ j0)
     → (IsTrue td → Made (image_open out true ∷ []) c0 c1) → (IsTrue td → Made (map_read name 0 1 ∷ []) c1 c2) → (IsTrue td → Made (save_calls name draft text) c3 c4)
-    → text ≡ printed h (finished_state end) m1 → Went out name draft h ts td bytes j0 j2 c0 c4
+    → text ≡ saved_text h end m1 → Went out name draft h ts td bytes j0 j2 c0 c4
 went out name draft h ts ts' td td' bytes end j0 j1 j2 c0 c1 c2 c3 c4 m0 m1 text c same_s same_d empty all before opened looked saved is = record {
   end = end;
   all = all;
@@ -52,7 +55,7 @@ went out name draft h ts ts' td td' bytes end j0 j1 j2 c0 c1 c2 c3 c4 m0 m1 text
   sectors = c.sectors;
   told = λ t. c.told (rw same_s t) ∙ ap (λ j. j ++ c.reads) (before t);
   made = λ t.
-    let printed_is : text ≡ printed h (finished_state end) (map_of c.reads) = is ∙ ap (λ m. printed h (finished_state end) m) (whole_map end c.reads m0 m1 empty c.length_is c.map_is) in
+    let printed_is : text ≡ saved_text h end (map_of c.reads) = is ∙ ap (λ m. saved_text h end m) (whole_map end c.reads m0 m1 empty c.length_is c.map_is) in
     let P : List ℕ → Type 0 = λ w. Made (run_calls out name draft c.reads w) c0 c4 in
     subst P printed_is (made_more c0 c2 c4 (opening_calls out name) (writes_of c.reads ++ save_calls name draft text) (made_opening out name c0 c1 c2 (opened t) (looked t))
         (made_more c2 c3 c4 (writes_of c.reads) (save_calls name draft text) (c.written (rw same_d t)) (saved t)));
@@ -75,7 +78,7 @@ stopped_source out name draft h ts td bytes j0 j1 c0 before = record {
 
 -- a rescue that stopped before its first read
 pub stopped_early : (e : Ending) (out name draft : List ℕ) (h : HeadingLines) (ts td : Bool) (bytes : List ℕ) (end : ℕ) (j0 j1 : List Reading) (c0 c1 : List Entry)
-    → (IsTrue ts → end ≡ length bytes) → (IsTrue ts → j1 ≡ j0) → (IsTrue td → CallsOf e out name draft [] (printed h (finished_state end) (map_of [])) c0 c1) → Stopped e out name draft h ts td bytes j0 j1 c0 c1
+    → (IsTrue ts → end ≡ length bytes) → (IsTrue ts → j1 ≡ j0) → (IsTrue td → CallsOf e out name draft [] (saved_text h end (map_of [])) c0 c1) → Stopped e out name draft h ts td bytes j0 j1 c0 c1
 stopped_early e out name draft h ts td bytes end j0 j1 c0 c1 all before made = record {
   end = end;
   all = all;
@@ -124,7 +127,7 @@ stopped_at e out name draft h ts td bytes end k pos size reads j0 j1 j2 c0 c1 c2
   sectors = sectors;
   told = λ t. untold t ∙ told t;
   made = λ t.
-    let text : List ℕ = printed h (finished_state end) (map_of reads) in
+    let text : List ℕ = saved_text h end (map_of reads) in
     let P : Ending → Type 0 = λ v. CallsOf v out name draft reads text c0 c4 in
     let grew : Made (opening_calls out name ++ writes_of reads) c0 c4 = rw (unmade t) (no_memory_calls out name draft reads text c0 c1 c2 c3 (opened t) (looked t) (wrote t)) in
     ⊎_elim (λ z. subst P (sym z) (inr grew)) (λ z. subst P (sym z) grew) cause;
@@ -137,7 +140,7 @@ stopped_at e out name draft h ts td bytes end k pos size reads j0 j1 j2 c0 c1 c2
   sectors = sector_reads_more end k reads r sectors (record { pos = pos_is ∙ at; asked = asked_is ∙ fits; few = omega (arith, full, asked_is) });
   told = λ t. new t ∙ ap (λ j. j ++ r ∷ []) (told t) ∙ append_assoc j0 reads (r ∷ []);
   made = λ t.
-    let text : List ℕ = printed h (finished_state end) (map_of (reads ++ r ∷ [])) in
+    let text : List ℕ = saved_text h end (map_of (reads ++ r ∷ [])) in
     let P : Ending → Type 0 = λ v. CallsOf v out name draft (reads ++ r ∷ []) text c0 c4 in
     let last : List Call = image_write r.pos r.given ∷ [] in
     let one : write_of r ≡ last = write_whole r (full ∙ sym asked_is) in
@@ -165,7 +168,7 @@ pub stopped_late : (e : Ending) (out name draft : List ℕ) (h : HeadingLines) (
     → Copied end (sector_count end) ts' td' j1 j2 c2 c3 m0 m1 → ts' ≡ ts → td' ≡ td → m0 ≡ replicate end NonTried
     → (IsTrue ts → end ≡ length bytes) → (IsTrue ts → j1 ≡ j0)
     → (IsTrue td → Made (image_open out true ∷ []) c0 c1) → (IsTrue td → Made (map_read name 0 1 ∷ []) c1 c2)
-    → ((e ≡ NoMemory) × (c4 ≡ c3)) ⊎ ((at : SiteCall) × (e ≡ SiteFault at) × (IsTrue td → BrokeAt at (save_calls name draft (printed h (finished_state end) m1)) c3 c4))
+    → ((e ≡ NoMemory) × (c4 ≡ c3)) ⊎ ((at : SiteCall) × (e ≡ SiteFault at) × (IsTrue td → BrokeAt at (save_calls name draft (saved_text h end m1)) c3 c4))
     → Stopped e out name draft h ts td bytes j0 j2 c0 c4
 stopped_late e out name draft h ts ts' td td' bytes end j0 j1 j2 c0 c1 c2 c3 c4 m0 m1 c same_s same_d empty all before opened looked how = record {
   end = end;
@@ -176,14 +179,14 @@ stopped_late e out name draft h ts ts' td td' bytes end j0 j1 j2 c0 c1 c2 c3 c4 
   told = λ t. c.told (rw same_s t) ∙ ap (λ j. j ++ c.reads) (before t);
   made = λ t.
     let whole = whole_map end c.reads m0 m1 empty c.length_is c.map_is in
-    let text : List ℕ = printed h (finished_state end) (map_of c.reads) in
+    let text : List ℕ = saved_text h end (map_of c.reads) in
     let P : Ending → Type 0 = λ v. CallsOf v out name draft c.reads text c0 c4 in
     ⊎_elim
     (λ z.
         let grew : Made (opening_calls out name ++ writes_of c.reads) c0 c4 = rw z.1 (no_memory_calls out name draft c.reads text c0 c1 c2 c3 (opened t) (looked t) (c.written (rw same_d t))) in
         subst P (sym z.0) (inr grew))
     (λ z.
-        let Q : List Status → Type 0 = λ m. BrokeAt z.0 (save_calls name draft (printed h (finished_state end) m)) c3 c4 in
+        let Q : List Status → Type 0 = λ m. BrokeAt z.0 (save_calls name draft (saved_text h end m)) c3 c4 in
         let saved : BrokeAt z.0 (save_calls name draft text) c3 c4 = subst Q whole (z.2 t) in
         subst P (sym z.1) (broke_back z.0 (opening_calls out name) (writes_of c.reads ++ save_calls name draft text) c0 c2 c4 (made_opening out name c0 c1 c2 (opened t) (looked t))
             (broke_back z.0 (writes_of c.reads) (save_calls name draft text) c2 c3 c4 (c.written (rw same_d t)) saved)))
@@ -207,7 +210,7 @@ pub stopped_start : (out name draft : List ℕ) (h : HeadingLines) (ts td : Bool
     → Stopped NoMemory out name draft h ts td bytes j0 j1 c0 c2
 stopped_start out name draft h ts td bytes end j0 j1 c0 c1 c2 all before opened looked =
     stopped_early NoMemory out name draft h ts td bytes end j0 j1 c0 c2 all before
-        (λ t. inr (no_memory_calls out name draft [] (printed h (finished_state end) (map_of [])) c0 c1 c2 c2 (opened t) (looked t) (sym (append-nil c2))))
+        (λ t. inr (no_memory_calls out name draft [] (saved_text h end (map_of [])) c0 c1 c2 c2 (opened t) (looked t) (sym (append-nil c2))))
 
 -- what the files allow, of an answer behind a mapfile that was looked for
 pub allowed_map : (e : Ending) (out name : Option File) (seen : Option File) → is_other out ≡ false → seen ≡ name → ((e ≡ MapThere) × (is_some seen ≡ true)) ⊎ (e ≡ SiteFault MapRead) → FilesAllow e out name
@@ -236,3 +239,66 @@ allowed_save DraftSync out name regular absent = (regular, absent)
 allowed_save DraftPublish out name regular absent = (regular, absent)
 allowed_save MapSettle out name regular absent = (regular, absent)
 allowed_save MapRemove out name regular absent = (regular, absent)
+
+gained_is : {A : Type 0} (before now more : List A) → now ≡ before ++ more → gained before now ≡ more
+gained_is before now more e = ap (drop (length before)) e ∙ drop-append_seam before more
+
+read_in_order : (e : Ending) (end count : ℕ) (journal journal' reads : List Reading) → journal' ≡ journal ++ reads → AreSectorReads end count reads → (e ≡ Finished → count ≡ sector_count end) → IsReadInOrder e end journal journal'
+read_in_order e end count journal journal' reads told sectors all =
+    let g : gained journal journal' ≡ reads = gained_is journal journal' reads told in
+    let n : length reads ≡ count = sectors.count_is in
+    let P : List Reading → Type 0 = λ r. (journal' ≡ journal ++ r) × AreSectorReads end (length r) r × (e ≡ Finished → length r ≡ sector_count end) in
+    let whole = subst P (sym g) (told, rw n sectors, (λ d. n ∙ all d)) in
+    record { added = whole.0; sectors = whole.1; all = whole.2; }
+
+-- what a rescue that stopped says of its reads
+pub stopped_reads : (e : Ending) (out name draft : List ℕ) (h : HeadingLines) (ts td : Bool) (bytes : List ℕ) (j0 j1 : List Reading) (c0 c1 : List Entry)
+    → Stopped e out name draft h ts td bytes j0 j1 c0 c1 → (e ≡ Finished → ⊥) → IsTrue ts → IsReadInOrder e (length bytes) j0 j1
+stopped_reads e out name draft h ts td bytes j0 j1 c0 c1 s other t =
+    let P : ℕ → Type 0 = λ n. AreSectorReads n s.count s.reads in
+    read_in_order e (length bytes) s.count j0 j1 s.reads (s.told t) (subst P (s.all t) s.sectors) (λ d. absurd (other d))
+
+pub stopped_calls : (e : Ending) (words : List (List ℕ)) (out name draft' : List ℕ) (h : HeadingLines) (ts td : Bool) (bytes : List ℕ) (j0 j1 : List Reading) (c0 c1 : List Entry)
+    → Stopped e out name draft' h ts td bytes j0 j1 c0 c1 → out ≡ outfile words → name ≡ mapfile words → draft' ≡ draft words → h ≡ heading words → IsTrue ts → IsTrue td
+    → IsCalled e words (length bytes) (gained j0 j1) c0 c1
+stopped_calls e words out name draft' h ts td bytes j0 j1 c0 c1 s x y z w t u =
+    let g : gained j0 j1 ≡ s.reads = gained_is j0 j1 s.reads (s.told t) in
+    let calls : CallsOf e (outfile words) (mapfile words) (draft words) s.reads (saved_text (heading words) (length bytes) (map_of s.reads)) c0 c1 = rw (x, y, z, w, s.all t) at (s.made u) in
+    let P : List Reading → Type 0 = λ r. IsCalled e words (length bytes) r c0 c1 in
+    subst P (sym g) calls
+
+pub went_reads : (out name draft : List ℕ) (h : HeadingLines) (ts td : Bool) (bytes : List ℕ) (j0 j1 : List Reading) (c0 c1 : List Entry)
+    → Went out name draft h ts td bytes j0 j1 c0 c1 → IsTrue ts → IsReadInOrder Finished (length bytes) j0 j1
+went_reads out name draft h ts td bytes j0 j1 c0 c1 s t =
+    let P : ℕ → Type 0 = λ n. AreSectorReads n (sector_count n) s.reads in
+    read_in_order Finished (length bytes) (sector_count (length bytes)) j0 j1 s.reads (s.told t) (subst P (s.all t) s.sectors) (λ d. refl)
+
+pub went_calls : (words : List (List ℕ)) (out name draft' : List ℕ) (h : HeadingLines) (ts td : Bool) (bytes : List ℕ) (j0 j1 : List Reading) (c0 c1 : List Entry)
+    → Went out name draft' h ts td bytes j0 j1 c0 c1 → out ≡ outfile words → name ≡ mapfile words → draft' ≡ draft words → h ≡ heading words → IsTrue ts → IsTrue td
+    → IsCalled Finished words (length bytes) (gained j0 j1) c0 c1
+went_calls words out name draft' h ts td bytes j0 j1 c0 c1 s x y z w t u =
+    let g : gained j0 j1 ≡ s.reads = gained_is j0 j1 s.reads (s.told t) in
+    let calls : CallsOf Finished (outfile words) (mapfile words) (draft words) s.reads (saved_text (heading words) (length bytes) (map_of s.reads)) c0 c1 = rw (x, y, z, w, s.all t) at (s.made u) in
+    let P : List Reading → Type 0 = λ r. IsCalled Finished words (length bytes) r c0 c1 in
+    subst P (sym g) calls
+
+-- the files after a finished rescue
+pub rescued_files : (words : List (List ℕ)) (end : ℕ) (reads : List Reading) (start start' : Folder) (old new : List Entry) → AreApart words → start' ≡ start → is_other ((after start old).files (outfile words)) ≡ false
+    → IsCalled Finished words end reads old new → AreRescued words end reads (after start old).files (after start' new).files
+rescued_files words end reads start start' old new apart same regular made =
+    let s = run_files start old new (outfile words) (mapfile words) (draft words) (saved_text (heading words) end (map_of reads)) reads apart.output_map apart.output_draft (draft_apart (mapfile words)) regular made in
+    let P : Folder → Type 0 = λ z. AreRescued words end reads (after start old).files (after z new).files in
+    subst P (sym same) (record {
+      output = s.output;
+      saved = s.saved;
+      no_draft = s.no_draft;
+      others = λ n o. s.others n o.no_output o.no_map o.no_draft;
+    })
+
+pub printed_is : (h : HeadingLines) (end : ℕ) (m : List Status) → printed h (finished_state end) m ≡ saved_text h end m
+unfolding saved_text
+printed_is h end m = refl
+
+-- a rescue that stopped isn't done
+pub not_done : (e : Ending) (a b c d f g : ℕ) → StopCause e a b c d f g → e ≡ Finished → ⊥
+not_done e a b c d f g cause is = let P : Ending → Type 0 = λ v. StopCause v a b c d f g in subst P is cause

@@ -8,7 +8,7 @@ use Rattle.ddrescue_cli.specs.declared.ending.Ending.{Ending}
 use Rattle.ddrescue_cli.specs.declared.ending.Ending.TheVariants.{Done, SourceFault, NotRegular, MapThere, SourceLost, SiteFault, NoMemory}
 use Rattle.ddrescue_cli.specs.Operands.{outfile, mapfile, draft}
 use Rattle.ddrescue_cli.specs.Sectors.{sector_count, AreSectorReads, map_of, landed, gained}
-use Rattle.ddrescue_cli.specs.Saved.{saved_text}
+use Rattle.ddrescue_cli.specs.Saved.{heading, saved_text}
 use Rattle.ddrescue_cli.specs.Held.{Held}
 use Rattle.ddrescue_cli.specs.Run.{CallsOf}
 
@@ -34,7 +34,7 @@ pub record IsReadInOrder (answer : Ending) (end : ℕ) (journal journal' : List 
 
 -- the calls that it made
 abbrev pub IsCalled : Ending → List (List ℕ) → ℕ → List Reading → List Entry → List Entry → Type 0
-IsCalled answer words end reads calls calls' = CallsOf answer (outfile words) (mapfile words) (draft words) reads (saved_text words end (map_of reads)) calls calls'
+IsCalled answer words end reads calls calls' = CallsOf answer (outfile words) (mapfile words) (draft words) reads (saved_text (heading words) end (map_of reads)) calls calls'
 
 -- a name of neither of the files that a rescue writes
 pub record IsOther (words : List (List ℕ)) (name : List ℕ) : Type 0 where
@@ -47,7 +47,7 @@ pub record AreRescued (words : List (List ℕ)) (end : ℕ) (reads : List Readin
   -- the output is what it was, with each whole sector at its own position
   pub output : files' (outfile words) ≡ Some (record { bytes = landed (bytes_of (files (outfile words))) reads; regular = true })
   -- the mapfile is the printed map
-  pub saved : files' (mapfile words) ≡ Some (record { bytes = saved_text words end (map_of reads); regular = true })
+  pub saved : files' (mapfile words) ≡ Some (record { bytes = saved_text (heading words) end (map_of reads); regular = true })
   -- no draft is left, and every other file stands
   pub no_draft : files' (draft words) ≡ None
   pub others : (name : List ℕ) → IsOther words name → files' name ≡ files name
@@ -57,5 +57,5 @@ pub record AreRescued (words : List (List ℕ)) (end : ℕ) (reads : List Readin
 -- was opened.
 pub record MapfileHolds (words : List (List ℕ)) (end : ℕ) (reads : List Reading) (start : List ℕ) (files : List ℕ → Option File) : Type 0 where
   pub map : List Status
-  pub found : files (mapfile words) ≡ Some (record { bytes = saved_text words end map; regular = true })
+  pub found : files (mapfile words) ≡ Some (record { bytes = saved_text (heading words) end map; regular = true })
   pub held : Held (λ x. nat_lt x end) (λ x. x) 512 reads start map (bytes_of (files (outfile words)))

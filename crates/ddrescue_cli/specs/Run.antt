@@ -9,7 +9,7 @@ use Rattle.ddrescue_cli.specs.declared.ending.Ending.{Ending}
 use Rattle.ddrescue_cli.specs.declared.ending.Ending.TheVariants.{Done, SourceFault, NotRegular, MapThere, SourceLost, SiteFault, NoMemory}
 use Rattle.ddrescue_cli.specs.Operands.{outfile, mapfile, draft, refusal_of_words, first_of_both}
 use Rattle.ddrescue_cli.specs.Sectors.{sector_count, AreSectorReads, map_of, writes_of}
-use Rattle.ddrescue_cli.specs.Saved.{finished_state}
+use Rattle.ddrescue_cli.specs.Saved.{saved_text}
 use Rattle.fault_count.specs.Counts.{Rose}
 use Rattle.mapfile_text.specs.HeadingLines.{HeadingLines}
 use Rattle.mapfile_text.specs.Printed.{printed}
@@ -81,7 +81,7 @@ pub record Went (out map draft : List ℕ) (heading : HeadingLines) (source_tell
   pub reads : List Reading
   pub sectors : AreSectorReads end (sector_count end) reads
   pub told : IsTrue source_tells → journal' ≡ journal ++ reads
-  pub made : IsTrue site_tells → Made (run_calls out map draft reads (printed heading (finished_state end) (map_of reads))) calls calls'
+  pub made : IsTrue site_tells → Made (run_calls out map draft reads (saved_text heading end (map_of reads))) calls calls'
 
 -- what a rescue did up to where it stopped
 pub record Stopped (e : Ending) (out map draft : List ℕ) (heading : HeadingLines) (source_tells site_tells : Bool) (bytes : List ℕ) (journal journal' : List Reading) (calls calls' : List Entry) : Type 0 where
@@ -91,4 +91,4 @@ pub record Stopped (e : Ending) (out map draft : List ℕ) (heading : HeadingLin
   pub reads : List Reading
   pub sectors : AreSectorReads end count reads
   pub told : IsTrue source_tells → journal' ≡ journal ++ reads
-  pub made : IsTrue site_tells → CallsOf e out map draft reads (printed heading (finished_state end) (map_of reads)) calls calls'
+  pub made : IsTrue site_tells → CallsOf e out map draft reads (saved_text heading end (map_of reads)) calls calls'

@@ -15,6 +15,6 @@ heading words = record { program = Ddrescue; line = command_line words; start_s 
 abbrev pub finished_state : ℕ → MapState
 finished_state end = record { pos = end; current = Finished; pass = 1 }
 
--- the text of a finished rescue's mapfile
-abbrev pub saved_text : List (List ℕ) → ℕ → List Status → List ℕ
-saved_text words end map = printed (heading words) (finished_state end) map
+-- the text of a finished rescue's mapfile: the printed map, with the heading and where the rescue stands
+unfoldable pub saved_text : HeadingLines → ℕ → List Status → List ℕ
+saved_text h end map = printed h (finished_state end) map

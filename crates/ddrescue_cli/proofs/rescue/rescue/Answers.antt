@@ -3,7 +3,7 @@ use Rattle.std.proofs.lemmas.Grind.{common_steps}
 use Rattle.std.proofs.lemmas.Result.{err_from_is_err_and}
 use Rattle.crash_site.specs.Folder.{after}
 use Rattle.mapfile_text.specs.Printed.{printed}
-use Rattle.ddrescue_cli.proofs.RunFacts.{went, stopped_source, stopped_early, output_calls, map_calls, stopped_start, stopped_copy, stopped_late, open_apart, allowed_map, map_stop, allowed_copy, allowed_save}
+use Rattle.ddrescue_cli.proofs.RunFacts.{went, stopped_source, stopped_early, output_calls, map_calls, stopped_start, stopped_copy, stopped_late, open_apart, allowed_map, map_stop, allowed_copy, allowed_save, printed_is}
 use Rattle.ddrescue_cli.proofs.rescue.rescue.Goals as goal
 
 pub returns-in_default-clause-stopped : goal.returns-in_default-clause-stopped
@@ -54,7 +54,7 @@ returns-in-Ok-save-clause-went g c =
         c.open_input.ensures.tells (c.refuse_map.ensures.tells ∙ c.open_output.ensures.tells) c.in-Ok-start_map.ensures c.in-Ok.ensures.all c.open_input.ensures.journal
         c.in_ok-open_output.ensures.made (λ t. c.in_ok-refuse_map.ensures.made (rw c.open_output.ensures.tells t))
         (λ t. rw (← c.as_str.ensures.value, ← c.deref.ensures.value) (c.in-Ok-save.ensures.made (rw (c.copy_all.ensures.site_tells, c.refuse_map.ensures.tells, c.open_output.ensures.tells) t)))
-        c.in-Ok-print_map.ensures
+        (c.in-Ok-print_map.ensures ∙ printed_is _ _ _)
 
 pub returns-in-Ok-save-clause-allowed : goal.returns-in-Ok-save-clause-allowed
 returns-in-Ok-save-clause-allowed g c = λ t.
@@ -67,7 +67,7 @@ returns-clause-stopped g c =
     stopped_late _ _ _ _ _ _ _ _ _ _ _ _ _ _ _ _ _ _ _ _ _ c.in_ok-copy_all.ensures.copied
         c.open_input.ensures.tells (c.refuse_map.ensures.tells ∙ c.open_output.ensures.tells) c.in-Ok-start_map.ensures c.in-Ok.ensures.all c.open_input.ensures.journal
         c.in_ok-open_output.ensures.made (λ t. c.in_ok-refuse_map.ensures.made (rw c.open_output.ensures.tells t))
-        (inr (c.in-Err.call, refl, (λ t. rw (← c.as_str.ensures.value, ← c.in-Ok-print_map.ensures, ← c.deref.ensures.value) (c.in-Err.ensures.broke (rw (c.copy_all.ensures.site_tells, c.refuse_map.ensures.tells, c.open_output.ensures.tells) t)))))
+        (inr (c.in-Err.call, refl, (λ t. rw (← c.as_str.ensures.value, ← printed_is _ _ _, ← c.in-Ok-print_map.ensures, ← c.deref.ensures.value) (c.in-Err.ensures.broke (rw (c.copy_all.ensures.site_tells, c.refuse_map.ensures.tells, c.open_output.ensures.tells) t)))))
 
 pub returns-clause-refused : goal.returns-clause-refused
 returns-clause-refused g c = λ t. allowed_save c.in-Err.call _ _ (c.in_ok-open_output.ensures.regular t)
