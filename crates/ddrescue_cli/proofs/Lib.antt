@@ -1,3 +1,4 @@
 pub mod CopyFacts
 pub mod FolderFacts
+pub mod HeldFacts
 pub mod RunFacts

@@ -1,4 +1,4 @@
-use Rattle.std.proofs.Common.{◌≡◌, ◌≢◌, ◌⊎◌, ℕ, ◌+◌, ◌-◌, ◌*◌, ◌<◌, ◌≤◌, min, Bool, true, false, IsTrue, List, [], ◌∷◌, ◌++◌, length, drop, map, replicate, Option, Some, None, is_some, refl, sym, ap, ◌∙◌, arith, ⊎_elim, inl, inr, subst, append_assoc, append-nil, length-append, if◌then◌else◌, eq-eqb}
+use Rattle.std.proofs.Common.{◌≡◌, ◌≢◌, ◌⊎◌, ℕ, ◌+◌, ◌-◌, ◌*◌, ◌<◌, ◌≤◌, min, Bool, true, false, IsTrue, List, [], ◌∷◌, ◌++◌, length, drop, map, replicate, Option, Some, None, is_some, refl, sym, ap, ◌∙◌, arith, ⊎_elim, inl, inr, subst, append_assoc, append-nil, length-append, if◌then◌else◌, eq-eqb, nat_lt}
 use Rattle.std.proofs.lemmas.List.{drop_all, length-replicate}
 use Rattle.block_list.specs.declared.status.Status.{Status}
 use Rattle.block_list.specs.declared.status.Status.TheVariants.{NonTried}
@@ -7,19 +7,21 @@ use Rattle.mapfile_text.specs.HeadingLines.{HeadingLines}
 use Rattle.mapfile_text.specs.Printed.{printed}
 use Rattle.crash_site.specs.declared.site.SiteCall.{SiteCall}
 use Rattle.crash_site.specs.declared.site.SiteCall.TheVariants.{ImageOpen, ImageRead, ImageWrite, ImageSync, MapRead, DraftBegin, DraftAppend, DraftSync, DraftPublish, MapSettle, MapRemove}
-use Rattle.crash_site.specs.Files.{File}
+use Rattle.crash_site.specs.Files.{File, bytes_of}
 use Rattle.crash_site.specs.Calls.{Call, Entry, Done, image_open, image_write, map_read, Lost, Made, BrokeAt}
 use Rattle.crash_site.specs.Folder.{Folder, opened, after}
 use Rattle.std.specs.Str.{bytes_eq}
 use Rattle.ddrescue_cli.proofs.FolderFacts.{after-append, bytes_eq-flip, run_files, draft_apart}
 use Rattle.ddrescue_cli.specs.declared.ending.Ending.{Ending}
 use Rattle.ddrescue_cli.specs.declared.ending.Ending.TheVariants.{Done as Finished, SourceFault, NotRegular, MapThere, SourceLost, SiteFault, NoMemory}
-use Rattle.ddrescue_cli.specs.Sectors.{sector_count, IsSectorRead, AreSectorReads, map_of, write_of, writes_of, gained}
+use Rattle.ddrescue_cli.specs.Sectors.{sector_count, IsSectorRead, AreSectorReads, map_of, write_of, writes_of, landed, gained}
 use Rattle.ddrescue_cli.specs.Copying.{CopyCause, Halt, Unread, Unwritten, Copied, Halted}
 use Rattle.ddrescue_cli.specs.Opening.{OutputStop, MapStop}
 use Rattle.ddrescue_cli.specs.Saved.{finished_state, heading, saved_text}
 use Rattle.ddrescue_cli.specs.Operands.{outfile, mapfile, draft, AreApart}
-use Rattle.ddrescue_cli.specs.Rescue.{IsReadInOrder, IsCalled, AreRescued}
+use Rattle.ddrescue_cli.specs.Rescue.{IsReadInOrder, IsCalled, AreRescued, MapfileHolds}
+use Rattle.ddrescue_cli.specs.Held.{Held}
+use Rattle.ddrescue_cli.proofs.HeldFacts.{held}
 use Rattle.std.proofs.Math.Seq.{drop-append_seam}
 use Rattle.ddrescue_cli.specs.Run.{opening_calls, save_calls, run_calls, CallsOf, FilesAllow, is_other, StopCause, Went, Stopped}
 use Rattle.ddrescue_cli.proofs.CopyFacts.{made_more, sector_reads_more, flat_map_one}
@@ -302,3 +304,13 @@ printed_is h end m = refl
 -- a rescue that stopped isn't done
 pub not_done : (e : Ending) (a b c d f g : ℕ) → StopCause e a b c d f g → e ≡ Finished → ⊥
 not_done e a b c d f g cause is = let P : Ending → Type 0 = λ v. StopCause v a b c d f g in subst P is cause
+
+-- the mapfile of a finished rescue holds
+pub map_holds : (words : List (List ℕ)) (bytes : List ℕ) (j0 j1 : List Reading) (files files' : List ℕ → Option File) → AreRescued words (length bytes) (gained j0 j1) files files' → IsReadInOrder Finished (length bytes) j0 j1
+    → MapfileHolds words (length bytes) (gained j0 j1) (bytes_of (files (outfile words))) files'
+map_holds words bytes j0 j1 files files' r o =
+    let reads : List Reading = gained j0 j1 in
+    let all : AreSectorReads (length bytes) (sector_count (length bytes)) reads = rw (o.all refl) at o.sectors in
+    let image : landed (bytes_of (files (outfile words))) reads ≡ bytes_of (files' (outfile words)) = sym (ap bytes_of r.output) in
+    let P : List ℕ → Type 0 = λ i. Held (λ x. nat_lt x (length bytes)) (λ x. x) 512 reads (bytes_of (files (outfile words))) (map_of reads) i in
+    record { map = map_of reads; found = r.saved; held = subst P image (held (length bytes) reads (bytes_of (files (outfile words))) all); }

@@ -3,6 +3,7 @@
 
 pub mod copy;
 pub mod ending;
+pub mod laws;
 pub mod open;
 pub mod operands;
 pub mod rescue;
