@@ -3,4 +3,5 @@
 
 mod fault;
 pub mod folder;
+mod places;
 pub mod site;
