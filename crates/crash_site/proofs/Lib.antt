@@ -1,2 +1,3 @@
+pub mod FolderFacts
 pub mod PlaceFacts
 pub mod Written

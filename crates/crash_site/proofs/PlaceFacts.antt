@@ -133,4 +133,28 @@ file_taken ps name i p o h is none =
     files_of-set ps name i (record { name = p.name; file = o }) h (ap (λ (q : Place). q.name.items) is ∙ h.here p)
     ∙ ap (λ (f : Option MemoryFile). put (files_of ps) name (file_of f)) none
 
+-- what stood under a name, once its place was found or made
+pub stood : (was ps : List Place) (name : List ℕ) (i : ℕ) (q : Place) → IsPlaceOf ps name i → files_of ps ≡ files_of was → q ≡ get_or ps i q → files_of was name ≡ file_of q.file
+stood was ps name i q h same is = ap (λ (f : List ℕ → Option File). f name) (sym same) ∙ files_of-at ps name i q h ∙ ap (λ (p : Place). file_of p.file) (sym is)
+
+-- the files once the place of a name has another file
+pub changed : (was ps : List Place) (name : List ℕ) (i : ℕ) (q p : Place) (file : Option File) → IsPlaceOf ps name i → files_of ps ≡ files_of was → q ≡ get_or ps i q → p.name.items ≡ q.name.items → file_of p.file ≡ file → files_of (set ps i p) ≡ put (files_of was) name file
+changed was ps name i q p file h same is named e =
+    files_of-set ps name i p h (named ∙ ap (λ (r : Place). r.name.items) is ∙ h.here q)
+    ∙ ap (λ (f : List ℕ → Option File). put f name (file_of p.file)) same
+    ∙ ap (put (files_of was) name) e
+
+-- the files once the place of a name has the same file again
+pub unchanged : (was ps : List Place) (name : List ℕ) (i : ℕ) (q p : Place) → IsPlaceOf ps name i → files_of ps ≡ files_of was → q ≡ get_or ps i q → p.name.items ≡ q.name.items → file_of p.file ≡ file_of q.file → files_of (set ps i p) ≡ files_of was
+unchanged was ps name i q p h same is named e =
+    changed was ps name i q p (file_of q.file) h same is named e
+    ∙ put-same (files_of was) name (file_of q.file) (stood was ps name i q h same is)
+
+-- the files once what stood under one name was put under another
+pub moved : (was made ps : List Place) (draft name : List ℕ) (i : ℕ) (q p : Place) → IsPlaceOf ps name i → files_of made ≡ files_of was → files_of ps ≡ put (files_of made) draft None → q ≡ get_or ps i q → p.name.items ≡ q.name.items → file_of p.file ≡ files_of made draft → files_of (set ps i p) ≡ put (put (files_of was) draft None) name (files_of was draft)
+moved was made ps draft name i q p h same taken is named e =
+    changed ps ps name i q p (files_of made draft) h refl is named e
+    ∙ ap (λ (f : List ℕ → Option File). put f name (files_of made draft)) taken
+    ∙ ap (λ (f : List ℕ → Option File). put (put f draft None) name (f draft)) same
+
 pub ruleset place_facts = (files_of-set, files_of-at, files_of-none, files_of-push, place_pushed, place_kept, put-same)

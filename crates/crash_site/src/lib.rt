@@ -1,7 +1,9 @@
 //! Where a rescue writes: an output image, and a folder with its mapfiles.
 #![tactic(auto)]
 
+mod call_log;
 mod fault;
 pub mod folder;
+mod memory_folder;
 mod places;
 pub mod site;

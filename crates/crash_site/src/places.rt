@@ -116,7 +116,7 @@ impl Place {
                 file.regular = true;
             }
             None => {
-                let bytes = piece.to_vec(alloc)?;
+                let bytes = Vec::from_slice(alloc, piece)?;
                 self.file = Some(MemoryFile {
                     bytes,
                     regular: true,
@@ -129,11 +129,11 @@ impl Place {
     fn copy(&self, alloc: Global) -> Result<Place, AllocError>
         ensures { IfOk result (λ copied. told copied ≡ told self.now) }
     {
-        let name = self.name.as_slice().to_vec(alloc)?;
+        let name = Vec::from_slice(alloc, self.name.as_slice())?;
         let file = match &self.file {
             None => None,
             Some(file) => Some(MemoryFile {
-                bytes: file.bytes.as_slice().to_vec(alloc)?,
+                bytes: Vec::from_slice(alloc, file.bytes.as_slice())?,
                 regular: file.regular,
             }),
         };
@@ -176,7 +176,7 @@ pub(crate) fn place_of(
         return Ok(i);
     }
     let made = places.len();
-    let name = name.to_vec(alloc)?;
+    let name = Vec::from_slice(alloc, name)?;
     places.push(Place { name, file: None })?;
     Ok(made)
 }
