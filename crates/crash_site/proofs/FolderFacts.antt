@@ -29,9 +29,6 @@ written_is d g image name pos piece is files same_image draft = same_folder g (w
 pub appended_is : (d g : Folder) (begun : Option (List ℕ)) (name piece : List ℕ) → begun ≡ Some name → g.files ≡ put d.files name (Some (record { bytes = bytes_of (d.files name) ++ piece; regular = true })) → g.image ≡ d.image → g.draft ≡ d.draft → g ≡ appended d begun piece
 appended_is d g begun name piece is files image draft = same_folder g (appended d (Some name) piece) files image draft ∙ ap (λ (o : Option (List ℕ)). appended d o piece) (sym is)
 
-pub published_is : (d g : Folder) (begun : Option (List ℕ)) (draft name : List ℕ) → begun ≡ Some draft → g.files ≡ put (put d.files draft None) name (d.files draft) → g.image ≡ d.image → g.draft ≡ None → g ≡ published d begun name
-published_is d g begun draft name is files image none = same_folder g (published d (Some draft) name) files image none ∙ ap (λ (o : Option (List ℕ)). published d o name) (sym is)
-
 pub on_err : {T E P : Type 0} (r : Result T E) → P → OnErr r P
 on_err (Ok x) p = tt
 on_err (Err e) p = p

@@ -4,6 +4,7 @@
 mod call_log;
 mod fault;
 pub mod folder;
+pub mod memory;
 mod memory_folder;
 mod places;
 pub mod site;

@@ -2,8 +2,8 @@
 
 ghost use Rattle.std.specs.Prelude.{◌≡◌, ℕ, ◌+◌, ◌<◌, ◌≤◌, ◌^◌, true, false, List, length, take, slice_range, Some, None, IsSome, IfOk, OnOk, OnErr, MatchOption, if◌then◌else◌};
 ghost use Rattle.crash_site.specs.Files.{File, kind_of, is_absent, put, IsRead, IsWithin};
-ghost use Rattle.crash_site.specs.Calls.{image_open, image_write, draft_begin, draft_append, draft_publish};
-ghost use Rattle.crash_site.specs.Folder.{Folder, after_done, after_failed};
+ghost use Rattle.crash_site.specs.Calls.{image_open, image_write, draft_begin, draft_append};
+ghost use Rattle.crash_site.specs.Folder.{Folder, after_done};
 ghost use Rattle.crash_site.specs.Places.{files_of};
 ghost use Rattle.crash_site.specs.MemoryFolder.{name_of, folder_of};
 
@@ -166,17 +166,15 @@ impl MemoryFolder {
         Ok(())
     }
 
-    /// Renames the begun draft. None is begun afterwards.
-    pub(crate) fn publish(&mut self, name: &[u8]) -> Result<(), AllocError>
-        requires { IsSome self.old.draft }
-        ensures published { OnOk result (folder_of self.new ≡ after_done (folder_of self.old) (draft_publish name.now)) }
-        ensures ended { OnErr result (folder_of self.new ≡ after_failed (folder_of self.old) (draft_publish name.now)) }
+    /// Moves what stands under one name to another.
+    pub(crate) fn rename(&mut self, from: &[u8], to: &[u8]) -> Result<(), AllocError>
+        ensures files { OnOk result ((folder_of self.new).files ≡ put (put (folder_of self.old).files from.now None) to.now ((folder_of self.old).files from.now)) }
+        ensures same { OnErr result ((folder_of self.new).files ≡ (folder_of self.old).files) }
+        ensures image { (folder_of self.new).image ≡ (folder_of self.old).image }
+        ensures draft { (folder_of self.new).draft ≡ (folder_of self.old).draft }
     {
-        let Some(draft) = self.draft.take() else {
-            unreachable!();
-        };
-        let i = place_of(self.alloc, &mut self.places, name)?;
-        let moved = take_file(&mut self.places, draft.as_slice());
+        let i = place_of(self.alloc, &mut self.places, to)?;
+        let moved = take_file(&mut self.places, from);
         self.places[i].file = moved;
         Ok(())
     }
