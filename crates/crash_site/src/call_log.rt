@@ -56,6 +56,29 @@ impl CallLog {
         }
     }
 
+    pub(crate) fn fail_call(&mut self, number: u64) -> Result<(), AllocError>
+        ensures to_fail { OnOk result (self.new.to_fail.items ≡ self.old.to_fail.items ++ number ∷ []) }
+        ensures same { OnErr result (self.new.to_fail.items ≡ self.old.to_fail.items) }
+        ensures made { self.new.made ≡ self.old.made }
+        ensures entries { entries_of self.new ≡ entries_of self.old }
+        ensures faults { self.new.faults ≡ self.old.faults }
+        ensures starving { self.new.starving ≡ self.old.starving }
+    {
+        self.to_fail.push(number)?;
+        Ok(())
+    }
+
+    /// Forgets the calls, and keeps their number.
+    pub(crate) fn forget(&mut self)
+        ensures entries { entries_of self.new ≡ [] }
+        ensures made { self.new.made ≡ self.old.made }
+        ensures to_fail { self.new.to_fail.items ≡ self.old.to_fail.items }
+        ensures faults { self.new.faults ≡ self.old.faults }
+        ensures starving { self.new.starving ≡ self.old.starving }
+    {
+        self.listed.clear();
+    }
+
     /// Counts a call, and says whether it is to fail.
     fn count(&mut self) -> bool
         ensures fails { IsTrue result ↔ IsNextToFail self.old }

@@ -7,8 +7,10 @@ ghost use Rattle.crash_site.specs.CallLog.{entries_of};
 
 use crate::call_log::{Act, CallLog};
 use crate::memory_folder::MemoryFolder;
+use crate::places::MemoryFile;
 use crate::site::{ImageKind, MapRead, Site, SiteFault};
-use std::alloc::Global;
+use block_list::tiles::NoMemory;
+use std::alloc::{AllocError, Global};
 
 /// Files in memory. It tells its beginning and its calls; a call whose number was handed to `fail_call` fails.
 #[derive(Drop)]
@@ -18,6 +20,103 @@ pub struct MemorySite {
     folder: MemoryFolder,
     log: CallLog,
     ghost follows: { Follows (folder_of folder) (after (folder_of start) (entries_of log)) } by { Follows-prop (folder_of folder) (after (folder_of start) (entries_of log)) },
+}
+
+impl MemorySite {
+    ghost use Rattle.crash_site.specs.MemoryState.{began, recorded, files_now, calls, failing, starved};
+
+    /// No files, nothing open or begun, and no calls.
+    pub fn new(alloc: Global) -> MemorySite
+        ensures tells { ⟦<MemorySite as Site>⟧.tells result ≡ true }
+        ensures record_ { ⟦<MemorySite as Site>⟧.record_ result ≡ [] }
+        ensures is_open { ⟦<MemorySite as Site>⟧.is_open result ≡ false }
+        ensures is_drafting { ⟦<MemorySite as Site>⟧.is_drafting result ≡ false }
+        ensures faults { ⟦<MemorySite as Site>⟧.faults result ≡ 0 }
+        ensures starved { starved result ≡ 0 }
+        ensures calls { calls result ≡ 0 }
+        ensures failing { failing result ≡ [] }
+        ensures files { (n : List ℕ) → files_now result n ≡ None }
+    {
+        MemorySite {
+            alloc,
+            start: MemoryFolder::new(alloc),
+            folder: MemoryFolder::new(alloc),
+            log: CallLog::new(alloc),
+        }
+    }
+
+    /// Puts a file there, as another program would. The site begins anew from the files as they then read; the open
+    /// image and the begun draft stay so, and the numbers of calls go on.
+    pub fn put_file(&mut self, name: &str, bytes: &[u8], regular: bool) -> Result<(), NoMemory>
+        ensures files { OnOk result ((n : List ℕ) → files_now self.new n ≡ put (files_now self.old) name.now (Some (record { bytes = bytes.now; regular = regular })) n) }
+        ensures record_ { OnOk result (⟦<MemorySite as Site>⟧.record_ self.new ≡ []) }
+        ensures start_same { OnErr result (⟦<MemorySite as Site>⟧.start self.new ≡ ⟦<MemorySite as Site>⟧.start self.old) }
+        ensures record_same { OnErr result (⟦<MemorySite as Site>⟧.record_ self.new ≡ ⟦<MemorySite as Site>⟧.record_ self.old) }
+        ensures is_open { ⟦<MemorySite as Site>⟧.is_open self.new ≡ ⟦<MemorySite as Site>⟧.is_open self.old }
+        ensures is_drafting { ⟦<MemorySite as Site>⟧.is_drafting self.new ≡ ⟦<MemorySite as Site>⟧.is_drafting self.old }
+        ensures faults { ⟦<MemorySite as Site>⟧.faults self.new ≡ ⟦<MemorySite as Site>⟧.faults self.old }
+        ensures starved { starved self.new ≡ starved self.old }
+        ensures calls { calls self.new ≡ calls self.old }
+        ensures failing { failing self.new ≡ failing self.old }
+    {
+        let Ok((start, folder)) = self.with_file(name.as_bytes(), bytes, regular) else {
+            return Err(NoMemory);
+        };
+        self.start = start;
+        self.folder = folder;
+        self.log.forget();
+        Ok(())
+    }
+
+    /// The folder as it reads with one more file, twice.
+    fn with_file(
+        &self,
+        name: &[u8],
+        bytes: &[u8],
+        regular: bool,
+    ) -> Result<(MemoryFolder, MemoryFolder), AllocError>
+        ensures same { IfOk result (λ pair. folder_of pair.0 ≡ folder_of pair.1) }
+        ensures files { IfOk result (λ pair. (folder_of pair.1).files ≡ put (folder_of self.now.folder).files name.now (Some (record { bytes = bytes.now; regular = regular }))) }
+        ensures image { IfOk result (λ pair. (folder_of pair.1).image ≡ (folder_of self.now.folder).image) }
+        ensures draft { IfOk result (λ pair. (folder_of pair.1).draft ≡ (folder_of self.now.folder).draft) }
+    {
+        let file = MemoryFile {
+            bytes: Vec::from_slice(self.alloc, bytes)?,
+            regular,
+        };
+        let mut folder = self.folder.copy()?;
+        folder.put(name, file)?;
+        Ok((folder.copy()?, folder))
+    }
+
+    /// Has the call with this number fail, counted from 1 over all calls.
+    pub fn fail_call(&mut self, number: u64) -> Result<(), NoMemory>
+        ensures failing { OnOk result (failing self.new ≡ failing self.old ++ number ∷ []) }
+        ensures failing_same { OnErr result (failing self.new ≡ failing self.old) }
+        ensures start { ⟦<MemorySite as Site>⟧.start self.new ≡ ⟦<MemorySite as Site>⟧.start self.old }
+        ensures record_ { ⟦<MemorySite as Site>⟧.record_ self.new ≡ ⟦<MemorySite as Site>⟧.record_ self.old }
+        ensures is_open { ⟦<MemorySite as Site>⟧.is_open self.new ≡ ⟦<MemorySite as Site>⟧.is_open self.old }
+        ensures is_drafting { ⟦<MemorySite as Site>⟧.is_drafting self.new ≡ ⟦<MemorySite as Site>⟧.is_drafting self.old }
+        ensures faults { ⟦<MemorySite as Site>⟧.faults self.new ≡ ⟦<MemorySite as Site>⟧.faults self.old }
+        ensures starved { starved self.new ≡ starved self.old }
+        ensures calls { calls self.new ≡ calls self.old }
+    {
+        self.log.fail_call(number).map_err(|_| NoMemory)
+    }
+
+    /// The bytes of a file as it reads.
+    pub fn file(&self, name: &str) -> Option<&[u8]>
+        ensures { MatchOption result (files_now self.now name.now ≡ None) (λ bytes. (f : File) × (files_now self.now name.now ≡ Some f) × (bytes.now ≡ f.bytes)) }
+    {
+        self.folder.file(name.as_bytes())
+    }
+
+    /// How many calls found no memory.
+    pub fn starved(&self) -> u64
+        ensures { result ≡ starved self.now }
+    {
+        self.log.starving.get()
+    }
 }
 
 impl Site for MemorySite {
