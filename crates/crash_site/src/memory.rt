@@ -1,5 +1,7 @@
-ghost use Rattle.std.specs.Prelude.{◌≡◌, ◌⊎◌, ℕ, ◌+◌, ◌<◌, ◌≤◌, ◌^◌, true, false, IsTrue, List, [], ◌∷◌, ◌++◌, length, Some, None, is_some, IfOk, OnOk, OnErr, IsErr, MatchOption};
-ghost use Rattle.crash_site.specs.Files.{File, put};
+ghost use Rattle.fault_count.specs.Counts.{raised, HasCause};
+ghost use Rattle.std.specs.Prelude.{not, ◌≡◌, ◌⊎◌, ℕ, ◌+◌, ◌<◌, ◌≤◌, ◌^◌, true, false, IsTrue, List, [], ◌∷◌, ◌++◌, length, Some, None, is_some, IfOk, OnOk, OnErr, IsErr, MatchOption};
+ghost use Rattle.crash_site.specs.Files.{File, put, kind_of, is_absent, IsRead, IsWithin};
+ghost use Rattle.crash_site.specs.Calls.{Entry, Done, Lost, image_open, image_write, image_sync, map_read, draft_begin, draft_append, draft_sync, draft_publish, map_settle};
 ghost use Rattle.crash_site.specs.Folder.{Folder, after};
 ghost use Rattle.crash_site.specs.Follows.{Follows, Follows-prop};
 ghost use Rattle.crash_site.specs.MemoryFolder.{name_of, folder_of};
@@ -120,6 +122,8 @@ impl MemorySite {
 }
 
 impl Site for MemorySite {
+    ghost use Rattle.crash_site.specs.MemoryState.{calls, failing, starved, FailsNext};
+
     ghost tells = { λ _. true };
 
     ghost start = { λ s. folder_of s.start };
@@ -132,7 +136,24 @@ impl Site for MemorySite {
 
     ghost faults = { λ s. s.log.faults };
 
-    fn image_open(&mut self, name: &str, make: bool) -> Result<ImageKind, SiteFault> {
+    fn image_open(&mut self, name: &str, make: bool) -> Result<ImageKind, SiteFault>
+        ensures kind { IfOk result (λ kind. IsTrue (⟦<MemorySite as Site>⟧.tells self.old) → kind ≡ kind_of ((after (⟦<MemorySite as Site>⟧.start self.old) (⟦<MemorySite as Site>⟧.record_ self.old)).files name.now) make) }
+        ensures made { IfOk result (λ kind. make ≡ true → is_absent kind ≡ false) }
+        ensures open { IfOk result (λ kind. ⟦<MemorySite as Site>⟧.is_open self.new ≡ not (is_absent kind)) }
+        ensures closed { OnErr result (⟦<MemorySite as Site>⟧.is_open self.new ≡ false) }
+        ensures done { OnOk result (IsTrue (⟦<MemorySite as Site>⟧.tells self.old) → ⟦<MemorySite as Site>⟧.record_ self.new ≡ ⟦<MemorySite as Site>⟧.record_ self.old ++ Done (image_open name.now make) ∷ []) }
+        ensures lost { OnErr result (IsTrue (⟦<MemorySite as Site>⟧.tells self.old) → Lost (image_open name.now make) (⟦<MemorySite as Site>⟧.record_ self.old) (⟦<MemorySite as Site>⟧.record_ self.new)) }
+        ensures draft { ⟦<MemorySite as Site>⟧.is_drafting self.new ≡ ⟦<MemorySite as Site>⟧.is_drafting self.old }
+        ensures tells { ⟦<MemorySite as Site>⟧.tells self.new ≡ ⟦<MemorySite as Site>⟧.tells self.old }
+        ensures start { IsTrue (⟦<MemorySite as Site>⟧.tells self.old) → ⟦<MemorySite as Site>⟧.start self.new ≡ ⟦<MemorySite as Site>⟧.start self.old }
+        ensures cause { HasCause (⟦<MemorySite as Site>⟧.faults self.old) (⟦<MemorySite as Site>⟧.faults self.new) result }
+
+        ensures calls { calls self.new ≡ raised (calls self.old) }
+        ensures failing { failing self.new ≡ failing self.old }
+        ensures fails { FailsNext self.old → IsErr result }
+        ensures why { OnErr result (FailsNext self.old ⊎ (starved self.new ≡ raised (starved self.old))) }
+        ensures fed { OnOk result (starved self.new ≡ starved self.old) }
+    {
         self.folder.image = None;
         let name = name.as_bytes();
         let Ok(copied) = Vec::from_slice(self.alloc, name) else {
@@ -143,7 +164,23 @@ impl Site for MemorySite {
         self.log.settle(outcome)
     }
 
-    fn image_write(&mut self, pos: u64, piece: &[u8]) -> Result<(), SiteFault> {
+    fn image_write(&mut self, pos: u64, piece: &[u8]) -> Result<(), SiteFault>
+        requires opened { ⟦<MemorySite as Site>⟧.is_open self.old ≡ true }
+        requires place { pos + length piece.now < 2 ^ 63 }
+        ensures done { OnOk result (IsTrue (⟦<MemorySite as Site>⟧.tells self.old) → ⟦<MemorySite as Site>⟧.record_ self.new ≡ ⟦<MemorySite as Site>⟧.record_ self.old ++ Done (image_write pos piece.now) ∷ []) }
+        ensures lost { OnErr result (IsTrue (⟦<MemorySite as Site>⟧.tells self.old) → Lost (image_write pos piece.now) (⟦<MemorySite as Site>⟧.record_ self.old) (⟦<MemorySite as Site>⟧.record_ self.new)) }
+        ensures open { ⟦<MemorySite as Site>⟧.is_open self.new ≡ true }
+        ensures draft { ⟦<MemorySite as Site>⟧.is_drafting self.new ≡ ⟦<MemorySite as Site>⟧.is_drafting self.old }
+        ensures tells { ⟦<MemorySite as Site>⟧.tells self.new ≡ ⟦<MemorySite as Site>⟧.tells self.old }
+        ensures start { IsTrue (⟦<MemorySite as Site>⟧.tells self.old) → ⟦<MemorySite as Site>⟧.start self.new ≡ ⟦<MemorySite as Site>⟧.start self.old }
+        ensures cause { HasCause (⟦<MemorySite as Site>⟧.faults self.old) (⟦<MemorySite as Site>⟧.faults self.new) result }
+
+        ensures calls { calls self.new ≡ raised (calls self.old) }
+        ensures failing { failing self.new ≡ failing self.old }
+        ensures fails { FailsNext self.old → IsErr result }
+        ensures why { OnErr result (FailsNext self.old ⊎ (starved self.new ≡ raised (starved self.old))) }
+        ensures fed { OnOk result (starved self.new ≡ starved self.old) }
+    {
         let Ok(copied) = Vec::from_slice(self.alloc, piece) else {
             return Err(self.log.miss());
         };
@@ -152,11 +189,42 @@ impl Site for MemorySite {
         self.log.settle(outcome)
     }
 
-    fn image_sync(&mut self) -> Result<(), SiteFault> {
+    fn image_sync(&mut self) -> Result<(), SiteFault>
+        ensures done { OnOk result (IsTrue (⟦<MemorySite as Site>⟧.tells self.old) → ⟦<MemorySite as Site>⟧.record_ self.new ≡ ⟦<MemorySite as Site>⟧.record_ self.old ++ Done image_sync ∷ []) }
+        ensures lost { OnErr result (IsTrue (⟦<MemorySite as Site>⟧.tells self.old) → Lost image_sync (⟦<MemorySite as Site>⟧.record_ self.old) (⟦<MemorySite as Site>⟧.record_ self.new)) }
+        ensures open { ⟦<MemorySite as Site>⟧.is_open self.new ≡ ⟦<MemorySite as Site>⟧.is_open self.old }
+        ensures draft { ⟦<MemorySite as Site>⟧.is_drafting self.new ≡ ⟦<MemorySite as Site>⟧.is_drafting self.old }
+        ensures tells { ⟦<MemorySite as Site>⟧.tells self.new ≡ ⟦<MemorySite as Site>⟧.tells self.old }
+        ensures start { IsTrue (⟦<MemorySite as Site>⟧.tells self.old) → ⟦<MemorySite as Site>⟧.start self.new ≡ ⟦<MemorySite as Site>⟧.start self.old }
+        ensures cause { HasCause (⟦<MemorySite as Site>⟧.faults self.old) (⟦<MemorySite as Site>⟧.faults self.new) result }
+
+        ensures calls { calls self.new ≡ raised (calls self.old) }
+        ensures failing { failing self.new ≡ failing self.old }
+        ensures fails { FailsNext self.old → IsErr result }
+        ensures why { OnErr result (FailsNext self.old ⊎ (starved self.new ≡ raised (starved self.old))) }
+        ensures fed { OnOk result (starved self.new ≡ starved self.old) }
+    {
         self.log.enter(Act::ImageSync)
     }
 
-    fn map_read(&mut self, name: &str, pos: u64, buf: &mut [u8]) -> Result<MapRead, SiteFault> {
+    fn map_read(&mut self, name: &str, pos: u64, buf: &mut [u8]) -> Result<MapRead, SiteFault>
+        requires { 0 < length buf.old }
+        ensures count { IfOk result (λ read. IsWithin read (length buf.old)) }
+        ensures read { IfOk result (λ read. IsTrue (⟦<MemorySite as Site>⟧.tells self.old) → IsRead ((after (⟦<MemorySite as Site>⟧.start self.old) (⟦<MemorySite as Site>⟧.record_ self.old)).files name.now) pos buf.new read) }
+        ensures done { OnOk result (IsTrue (⟦<MemorySite as Site>⟧.tells self.old) → ⟦<MemorySite as Site>⟧.record_ self.new ≡ ⟦<MemorySite as Site>⟧.record_ self.old ++ Done (map_read name.now pos (length buf.old)) ∷ []) }
+        ensures lost { OnErr result (IsTrue (⟦<MemorySite as Site>⟧.tells self.old) → Lost (map_read name.now pos (length buf.old)) (⟦<MemorySite as Site>⟧.record_ self.old) (⟦<MemorySite as Site>⟧.record_ self.new)) }
+        ensures open { ⟦<MemorySite as Site>⟧.is_open self.new ≡ ⟦<MemorySite as Site>⟧.is_open self.old }
+        ensures draft { ⟦<MemorySite as Site>⟧.is_drafting self.new ≡ ⟦<MemorySite as Site>⟧.is_drafting self.old }
+        ensures tells { ⟦<MemorySite as Site>⟧.tells self.new ≡ ⟦<MemorySite as Site>⟧.tells self.old }
+        ensures start { IsTrue (⟦<MemorySite as Site>⟧.tells self.old) → ⟦<MemorySite as Site>⟧.start self.new ≡ ⟦<MemorySite as Site>⟧.start self.old }
+        ensures cause { HasCause (⟦<MemorySite as Site>⟧.faults self.old) (⟦<MemorySite as Site>⟧.faults self.new) result }
+
+        ensures calls { calls self.new ≡ raised (calls self.old) }
+        ensures failing { failing self.new ≡ failing self.old }
+        ensures fails { FailsNext self.old → IsErr result }
+        ensures why { OnErr result (FailsNext self.old ⊎ (starved self.new ≡ raised (starved self.old))) }
+        ensures fed { OnOk result (starved self.new ≡ starved self.old) }
+    {
         let Ok(copied) = Vec::from_slice(self.alloc, name.as_bytes()) else {
             return Err(self.log.miss());
         };
@@ -164,7 +232,22 @@ impl Site for MemorySite {
         Ok(self.folder.read(name.as_bytes(), pos, buf))
     }
 
-    fn draft_begin(&mut self, name: &str) -> Result<(), SiteFault> {
+    fn draft_begin(&mut self, name: &str) -> Result<(), SiteFault>
+        ensures done { OnOk result (IsTrue (⟦<MemorySite as Site>⟧.tells self.old) → ⟦<MemorySite as Site>⟧.record_ self.new ≡ ⟦<MemorySite as Site>⟧.record_ self.old ++ Done (draft_begin name.now) ∷ []) }
+        ensures lost { OnErr result (IsTrue (⟦<MemorySite as Site>⟧.tells self.old) → Lost (draft_begin name.now) (⟦<MemorySite as Site>⟧.record_ self.old) (⟦<MemorySite as Site>⟧.record_ self.new)) }
+        ensures draft { OnOk result (⟦<MemorySite as Site>⟧.is_drafting self.new ≡ true) }
+        ensures no_draft { OnErr result (⟦<MemorySite as Site>⟧.is_drafting self.new ≡ false) }
+        ensures open { ⟦<MemorySite as Site>⟧.is_open self.new ≡ ⟦<MemorySite as Site>⟧.is_open self.old }
+        ensures tells { ⟦<MemorySite as Site>⟧.tells self.new ≡ ⟦<MemorySite as Site>⟧.tells self.old }
+        ensures start { IsTrue (⟦<MemorySite as Site>⟧.tells self.old) → ⟦<MemorySite as Site>⟧.start self.new ≡ ⟦<MemorySite as Site>⟧.start self.old }
+        ensures cause { HasCause (⟦<MemorySite as Site>⟧.faults self.old) (⟦<MemorySite as Site>⟧.faults self.new) result }
+
+        ensures calls { calls self.new ≡ raised (calls self.old) }
+        ensures failing { failing self.new ≡ failing self.old }
+        ensures fails { FailsNext self.old → IsErr result }
+        ensures why { OnErr result (FailsNext self.old ⊎ (starved self.new ≡ raised (starved self.old))) }
+        ensures fed { OnOk result (starved self.new ≡ starved self.old) }
+    {
         self.folder.draft = None;
         let name = name.as_bytes();
         let Ok(copied) = Vec::from_slice(self.alloc, name) else {
@@ -175,7 +258,22 @@ impl Site for MemorySite {
         self.log.settle(outcome)
     }
 
-    fn draft_append(&mut self, piece: &[u8]) -> Result<(), SiteFault> {
+    fn draft_append(&mut self, piece: &[u8]) -> Result<(), SiteFault>
+        requires { ⟦<MemorySite as Site>⟧.is_drafting self.old ≡ true }
+        ensures done { OnOk result (IsTrue (⟦<MemorySite as Site>⟧.tells self.old) → ⟦<MemorySite as Site>⟧.record_ self.new ≡ ⟦<MemorySite as Site>⟧.record_ self.old ++ Done (draft_append piece.now) ∷ []) }
+        ensures lost { OnErr result (IsTrue (⟦<MemorySite as Site>⟧.tells self.old) → Lost (draft_append piece.now) (⟦<MemorySite as Site>⟧.record_ self.old) (⟦<MemorySite as Site>⟧.record_ self.new)) }
+        ensures draft { ⟦<MemorySite as Site>⟧.is_drafting self.new ≡ true }
+        ensures open { ⟦<MemorySite as Site>⟧.is_open self.new ≡ ⟦<MemorySite as Site>⟧.is_open self.old }
+        ensures tells { ⟦<MemorySite as Site>⟧.tells self.new ≡ ⟦<MemorySite as Site>⟧.tells self.old }
+        ensures start { IsTrue (⟦<MemorySite as Site>⟧.tells self.old) → ⟦<MemorySite as Site>⟧.start self.new ≡ ⟦<MemorySite as Site>⟧.start self.old }
+        ensures cause { HasCause (⟦<MemorySite as Site>⟧.faults self.old) (⟦<MemorySite as Site>⟧.faults self.new) result }
+
+        ensures calls { calls self.new ≡ raised (calls self.old) }
+        ensures failing { failing self.new ≡ failing self.old }
+        ensures fails { FailsNext self.old → IsErr result }
+        ensures why { OnErr result (FailsNext self.old ⊎ (starved self.new ≡ raised (starved self.old))) }
+        ensures fed { OnOk result (starved self.new ≡ starved self.old) }
+    {
         let Ok(copied) = Vec::from_slice(self.alloc, piece) else {
             return Err(self.log.miss());
         };
@@ -184,11 +282,41 @@ impl Site for MemorySite {
         self.log.settle(outcome)
     }
 
-    fn draft_sync(&mut self) -> Result<(), SiteFault> {
+    fn draft_sync(&mut self) -> Result<(), SiteFault>
+        requires { ⟦<MemorySite as Site>⟧.is_drafting self.old ≡ true }
+        ensures done { OnOk result (IsTrue (⟦<MemorySite as Site>⟧.tells self.old) → ⟦<MemorySite as Site>⟧.record_ self.new ≡ ⟦<MemorySite as Site>⟧.record_ self.old ++ Done draft_sync ∷ []) }
+        ensures lost { OnErr result (IsTrue (⟦<MemorySite as Site>⟧.tells self.old) → Lost draft_sync (⟦<MemorySite as Site>⟧.record_ self.old) (⟦<MemorySite as Site>⟧.record_ self.new)) }
+        ensures draft { ⟦<MemorySite as Site>⟧.is_drafting self.new ≡ true }
+        ensures open { ⟦<MemorySite as Site>⟧.is_open self.new ≡ ⟦<MemorySite as Site>⟧.is_open self.old }
+        ensures tells { ⟦<MemorySite as Site>⟧.tells self.new ≡ ⟦<MemorySite as Site>⟧.tells self.old }
+        ensures start { IsTrue (⟦<MemorySite as Site>⟧.tells self.old) → ⟦<MemorySite as Site>⟧.start self.new ≡ ⟦<MemorySite as Site>⟧.start self.old }
+        ensures cause { HasCause (⟦<MemorySite as Site>⟧.faults self.old) (⟦<MemorySite as Site>⟧.faults self.new) result }
+
+        ensures calls { calls self.new ≡ raised (calls self.old) }
+        ensures failing { failing self.new ≡ failing self.old }
+        ensures fails { FailsNext self.old → IsErr result }
+        ensures why { OnErr result (FailsNext self.old ⊎ (starved self.new ≡ raised (starved self.old))) }
+        ensures fed { OnOk result (starved self.new ≡ starved self.old) }
+    {
         self.log.enter(Act::DraftSync)
     }
 
-    fn draft_publish(&mut self, name: &str) -> Result<(), SiteFault> {
+    fn draft_publish(&mut self, name: &str) -> Result<(), SiteFault>
+        requires { ⟦<MemorySite as Site>⟧.is_drafting self.old ≡ true }
+        ensures done { OnOk result (IsTrue (⟦<MemorySite as Site>⟧.tells self.old) → ⟦<MemorySite as Site>⟧.record_ self.new ≡ ⟦<MemorySite as Site>⟧.record_ self.old ++ Done (draft_publish name.now) ∷ []) }
+        ensures lost { OnErr result (IsTrue (⟦<MemorySite as Site>⟧.tells self.old) → Lost (draft_publish name.now) (⟦<MemorySite as Site>⟧.record_ self.old) (⟦<MemorySite as Site>⟧.record_ self.new)) }
+        ensures draft { ⟦<MemorySite as Site>⟧.is_drafting self.new ≡ false }
+        ensures open { ⟦<MemorySite as Site>⟧.is_open self.new ≡ ⟦<MemorySite as Site>⟧.is_open self.old }
+        ensures tells { ⟦<MemorySite as Site>⟧.tells self.new ≡ ⟦<MemorySite as Site>⟧.tells self.old }
+        ensures start { IsTrue (⟦<MemorySite as Site>⟧.tells self.old) → ⟦<MemorySite as Site>⟧.start self.new ≡ ⟦<MemorySite as Site>⟧.start self.old }
+        ensures cause { HasCause (⟦<MemorySite as Site>⟧.faults self.old) (⟦<MemorySite as Site>⟧.faults self.new) result }
+
+        ensures calls { calls self.new ≡ raised (calls self.old) }
+        ensures failing { failing self.new ≡ failing self.old }
+        ensures fails { FailsNext self.old → IsErr result }
+        ensures why { OnErr result (FailsNext self.old ⊎ (starved self.new ≡ raised (starved self.old))) }
+        ensures fed { OnOk result (starved self.new ≡ starved self.old) }
+    {
         let Some(draft) = self.folder.draft.take() else {
             unreachable!();
         };
@@ -201,7 +329,21 @@ impl Site for MemorySite {
         self.log.settle(outcome)
     }
 
-    fn map_settle(&mut self, name: &str) -> Result<(), SiteFault> {
+    fn map_settle(&mut self, name: &str) -> Result<(), SiteFault>
+        ensures done { OnOk result (IsTrue (⟦<MemorySite as Site>⟧.tells self.old) → ⟦<MemorySite as Site>⟧.record_ self.new ≡ ⟦<MemorySite as Site>⟧.record_ self.old ++ Done (map_settle name.now) ∷ []) }
+        ensures lost { OnErr result (IsTrue (⟦<MemorySite as Site>⟧.tells self.old) → Lost (map_settle name.now) (⟦<MemorySite as Site>⟧.record_ self.old) (⟦<MemorySite as Site>⟧.record_ self.new)) }
+        ensures open { ⟦<MemorySite as Site>⟧.is_open self.new ≡ ⟦<MemorySite as Site>⟧.is_open self.old }
+        ensures draft { ⟦<MemorySite as Site>⟧.is_drafting self.new ≡ ⟦<MemorySite as Site>⟧.is_drafting self.old }
+        ensures tells { ⟦<MemorySite as Site>⟧.tells self.new ≡ ⟦<MemorySite as Site>⟧.tells self.old }
+        ensures start { IsTrue (⟦<MemorySite as Site>⟧.tells self.old) → ⟦<MemorySite as Site>⟧.start self.new ≡ ⟦<MemorySite as Site>⟧.start self.old }
+        ensures cause { HasCause (⟦<MemorySite as Site>⟧.faults self.old) (⟦<MemorySite as Site>⟧.faults self.new) result }
+
+        ensures calls { calls self.new ≡ raised (calls self.old) }
+        ensures failing { failing self.new ≡ failing self.old }
+        ensures fails { FailsNext self.old → IsErr result }
+        ensures why { OnErr result (FailsNext self.old ⊎ (starved self.new ≡ raised (starved self.old))) }
+        ensures fed { OnOk result (starved self.new ≡ starved self.old) }
+    {
         let Ok(copied) = Vec::from_slice(self.alloc, name.as_bytes()) else {
             return Err(self.log.miss());
         };
