@@ -1,10 +1,10 @@
-use Rattle.std.specs.Prelude.{ℕ, List, Contains, Option}
+use Rattle.std.specs.Prelude.{ℕ, Bool, List, Contains, Option, is_some}
 use Rattle.fault_count.specs.Counts.{raised}
 use Rattle.crash_site.specs.declared.memory.MemorySite.{MemorySite}
 use Rattle.crash_site.specs.Files.{File}
 use Rattle.crash_site.specs.Calls.{Entry}
 use Rattle.crash_site.specs.Folder.{Folder, after}
-use Rattle.crash_site.specs.MemoryFolder.{folder_of}
+use Rattle.crash_site.specs.MemoryFolder.{name_of, folder_of}
 use Rattle.crash_site.specs.CallLog.{entries_of}
 
 -- the folder that a site in memory began with
@@ -18,6 +18,18 @@ recorded s = entries_of s.log
 -- its files as they read
 abbrev pub files_now : MemorySite → List ℕ → Option File
 files_now s = (after (began s) (recorded s)).files
+
+-- whether an image is open
+abbrev pub has_image : MemorySite → Bool
+has_image s = is_some (name_of s.folder.image)
+
+-- whether a draft is begun
+abbrev pub has_draft : MemorySite → Bool
+has_draft s = is_some (name_of s.folder.draft)
+
+-- how often a call failed
+abbrev pub faults_counted : MemorySite → ℕ
+faults_counted s = s.log.faults
 
 -- how many calls were made
 abbrev pub calls : MemorySite → ℕ

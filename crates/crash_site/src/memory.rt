@@ -25,15 +25,15 @@ pub struct MemorySite {
 }
 
 impl MemorySite {
-    ghost use Rattle.crash_site.specs.MemoryState.{began, recorded, files_now, calls, failing, starved};
+    ghost use Rattle.crash_site.specs.MemoryState.{began, recorded, files_now, has_image, has_draft, faults_counted, calls, failing, starved};
 
     /// No files, nothing open or begun, and no calls.
     pub fn new(alloc: Global) -> MemorySite
         ensures tells { ⟦<MemorySite as Site>⟧.tells result ≡ true }
-        ensures record_ { ⟦<MemorySite as Site>⟧.record_ result ≡ [] }
-        ensures is_open { ⟦<MemorySite as Site>⟧.is_open result ≡ false }
-        ensures is_drafting { ⟦<MemorySite as Site>⟧.is_drafting result ≡ false }
-        ensures faults { ⟦<MemorySite as Site>⟧.faults result ≡ 0 }
+        ensures record_ { recorded result ≡ [] }
+        ensures is_open { has_image result ≡ false }
+        ensures is_drafting { has_draft result ≡ false }
+        ensures faults { faults_counted result ≡ 0 }
         ensures starved { starved result ≡ 0 }
         ensures calls { calls result ≡ 0 }
         ensures failing { failing result ≡ [] }
@@ -51,12 +51,12 @@ impl MemorySite {
     /// image and the begun draft stay so, and the numbers of calls go on.
     pub fn put_file(&mut self, name: &str, bytes: &[u8], regular: bool) -> Result<(), NoMemory>
         ensures files { OnOk result ((n : List ℕ) → files_now self.new n ≡ put (files_now self.old) name.now (Some (record { bytes = bytes.now; regular = regular })) n) }
-        ensures record_ { OnOk result (⟦<MemorySite as Site>⟧.record_ self.new ≡ []) }
-        ensures start_same { OnErr result (⟦<MemorySite as Site>⟧.start self.new ≡ ⟦<MemorySite as Site>⟧.start self.old) }
-        ensures record_same { OnErr result (⟦<MemorySite as Site>⟧.record_ self.new ≡ ⟦<MemorySite as Site>⟧.record_ self.old) }
-        ensures is_open { ⟦<MemorySite as Site>⟧.is_open self.new ≡ ⟦<MemorySite as Site>⟧.is_open self.old }
-        ensures is_drafting { ⟦<MemorySite as Site>⟧.is_drafting self.new ≡ ⟦<MemorySite as Site>⟧.is_drafting self.old }
-        ensures faults { ⟦<MemorySite as Site>⟧.faults self.new ≡ ⟦<MemorySite as Site>⟧.faults self.old }
+        ensures record_ { OnOk result (recorded self.new ≡ []) }
+        ensures start_same { OnErr result (began self.new ≡ began self.old) }
+        ensures record_same { OnErr result (recorded self.new ≡ recorded self.old) }
+        ensures is_open { has_image self.new ≡ has_image self.old }
+        ensures is_drafting { has_draft self.new ≡ has_draft self.old }
+        ensures faults { faults_counted self.new ≡ faults_counted self.old }
         ensures starved { starved self.new ≡ starved self.old }
         ensures calls { calls self.new ≡ calls self.old }
         ensures failing { failing self.new ≡ failing self.old }
@@ -95,11 +95,11 @@ impl MemorySite {
     pub fn fail_call(&mut self, number: u64) -> Result<(), NoMemory>
         ensures failing { OnOk result (failing self.new ≡ failing self.old ++ number ∷ []) }
         ensures failing_same { OnErr result (failing self.new ≡ failing self.old) }
-        ensures start { ⟦<MemorySite as Site>⟧.start self.new ≡ ⟦<MemorySite as Site>⟧.start self.old }
-        ensures record_ { ⟦<MemorySite as Site>⟧.record_ self.new ≡ ⟦<MemorySite as Site>⟧.record_ self.old }
-        ensures is_open { ⟦<MemorySite as Site>⟧.is_open self.new ≡ ⟦<MemorySite as Site>⟧.is_open self.old }
-        ensures is_drafting { ⟦<MemorySite as Site>⟧.is_drafting self.new ≡ ⟦<MemorySite as Site>⟧.is_drafting self.old }
-        ensures faults { ⟦<MemorySite as Site>⟧.faults self.new ≡ ⟦<MemorySite as Site>⟧.faults self.old }
+        ensures start { began self.new ≡ began self.old }
+        ensures record_ { recorded self.new ≡ recorded self.old }
+        ensures is_open { has_image self.new ≡ has_image self.old }
+        ensures is_drafting { has_draft self.new ≡ has_draft self.old }
+        ensures faults { faults_counted self.new ≡ faults_counted self.old }
         ensures starved { starved self.new ≡ starved self.old }
         ensures calls { calls self.new ≡ calls self.old }
     {
@@ -122,31 +122,30 @@ impl MemorySite {
 }
 
 impl Site for MemorySite {
-    ghost use Rattle.crash_site.specs.MemoryState.{calls, failing, starved, FailsNext};
+    ghost use Rattle.crash_site.specs.MemoryState.{began, recorded, files_now, has_image, has_draft, faults_counted, calls, failing, starved, FailsNext};
 
     ghost tells = { λ _. true };
 
-    ghost start = { λ s. folder_of s.start };
+    ghost start = { began };
 
-    ghost record_ = { λ s. entries_of s.log };
+    ghost record_ = { recorded };
 
-    ghost is_open = { λ s. is_some (name_of s.folder.image) };
+    ghost is_open = { has_image };
 
-    ghost is_drafting = { λ s. is_some (name_of s.folder.draft) };
+    ghost is_drafting = { has_draft };
 
-    ghost faults = { λ s. s.log.faults };
+    ghost faults = { faults_counted };
 
     fn image_open(&mut self, name: &str, make: bool) -> Result<ImageKind, SiteFault>
-        ensures kind { IfOk result (λ kind. IsTrue (⟦<MemorySite as Site>⟧.tells self.old) → kind ≡ kind_of ((after (⟦<MemorySite as Site>⟧.start self.old) (⟦<MemorySite as Site>⟧.record_ self.old)).files name.now) make) }
+        ensures kind { IfOk result (λ kind. kind ≡ kind_of (files_now self.old name.now) make) }
         ensures made { IfOk result (λ kind. make ≡ true → is_absent kind ≡ false) }
-        ensures open { IfOk result (λ kind. ⟦<MemorySite as Site>⟧.is_open self.new ≡ not (is_absent kind)) }
-        ensures closed { OnErr result (⟦<MemorySite as Site>⟧.is_open self.new ≡ false) }
-        ensures done { OnOk result (IsTrue (⟦<MemorySite as Site>⟧.tells self.old) → ⟦<MemorySite as Site>⟧.record_ self.new ≡ ⟦<MemorySite as Site>⟧.record_ self.old ++ Done (image_open name.now make) ∷ []) }
-        ensures lost { OnErr result (IsTrue (⟦<MemorySite as Site>⟧.tells self.old) → Lost (image_open name.now make) (⟦<MemorySite as Site>⟧.record_ self.old) (⟦<MemorySite as Site>⟧.record_ self.new)) }
-        ensures draft { ⟦<MemorySite as Site>⟧.is_drafting self.new ≡ ⟦<MemorySite as Site>⟧.is_drafting self.old }
-        ensures tells { ⟦<MemorySite as Site>⟧.tells self.new ≡ ⟦<MemorySite as Site>⟧.tells self.old }
-        ensures start { IsTrue (⟦<MemorySite as Site>⟧.tells self.old) → ⟦<MemorySite as Site>⟧.start self.new ≡ ⟦<MemorySite as Site>⟧.start self.old }
-        ensures cause { HasCause (⟦<MemorySite as Site>⟧.faults self.old) (⟦<MemorySite as Site>⟧.faults self.new) result }
+        ensures open { IfOk result (λ kind. has_image self.new ≡ not (is_absent kind)) }
+        ensures closed { OnErr result (has_image self.new ≡ false) }
+        ensures done { OnOk result (recorded self.new ≡ recorded self.old ++ Done (image_open name.now make) ∷ []) }
+        ensures lost { OnErr result (Lost (image_open name.now make) (recorded self.old) (recorded self.new)) }
+        ensures draft { has_draft self.new ≡ has_draft self.old }
+        ensures start { began self.new ≡ began self.old }
+        ensures cause { HasCause (faults_counted self.old) (faults_counted self.new) result }
 
         ensures calls { calls self.new ≡ raised (calls self.old) }
         ensures failing { failing self.new ≡ failing self.old }
@@ -165,15 +164,14 @@ impl Site for MemorySite {
     }
 
     fn image_write(&mut self, pos: u64, piece: &[u8]) -> Result<(), SiteFault>
-        requires opened { ⟦<MemorySite as Site>⟧.is_open self.old ≡ true }
+        requires opened { has_image self.old ≡ true }
         requires place { pos + length piece.now < 2 ^ 63 }
-        ensures done { OnOk result (IsTrue (⟦<MemorySite as Site>⟧.tells self.old) → ⟦<MemorySite as Site>⟧.record_ self.new ≡ ⟦<MemorySite as Site>⟧.record_ self.old ++ Done (image_write pos piece.now) ∷ []) }
-        ensures lost { OnErr result (IsTrue (⟦<MemorySite as Site>⟧.tells self.old) → Lost (image_write pos piece.now) (⟦<MemorySite as Site>⟧.record_ self.old) (⟦<MemorySite as Site>⟧.record_ self.new)) }
-        ensures open { ⟦<MemorySite as Site>⟧.is_open self.new ≡ true }
-        ensures draft { ⟦<MemorySite as Site>⟧.is_drafting self.new ≡ ⟦<MemorySite as Site>⟧.is_drafting self.old }
-        ensures tells { ⟦<MemorySite as Site>⟧.tells self.new ≡ ⟦<MemorySite as Site>⟧.tells self.old }
-        ensures start { IsTrue (⟦<MemorySite as Site>⟧.tells self.old) → ⟦<MemorySite as Site>⟧.start self.new ≡ ⟦<MemorySite as Site>⟧.start self.old }
-        ensures cause { HasCause (⟦<MemorySite as Site>⟧.faults self.old) (⟦<MemorySite as Site>⟧.faults self.new) result }
+        ensures done { OnOk result (recorded self.new ≡ recorded self.old ++ Done (image_write pos piece.now) ∷ []) }
+        ensures lost { OnErr result (Lost (image_write pos piece.now) (recorded self.old) (recorded self.new)) }
+        ensures open { has_image self.new ≡ true }
+        ensures draft { has_draft self.new ≡ has_draft self.old }
+        ensures start { began self.new ≡ began self.old }
+        ensures cause { HasCause (faults_counted self.old) (faults_counted self.new) result }
 
         ensures calls { calls self.new ≡ raised (calls self.old) }
         ensures failing { failing self.new ≡ failing self.old }
@@ -190,13 +188,12 @@ impl Site for MemorySite {
     }
 
     fn image_sync(&mut self) -> Result<(), SiteFault>
-        ensures done { OnOk result (IsTrue (⟦<MemorySite as Site>⟧.tells self.old) → ⟦<MemorySite as Site>⟧.record_ self.new ≡ ⟦<MemorySite as Site>⟧.record_ self.old ++ Done image_sync ∷ []) }
-        ensures lost { OnErr result (IsTrue (⟦<MemorySite as Site>⟧.tells self.old) → Lost image_sync (⟦<MemorySite as Site>⟧.record_ self.old) (⟦<MemorySite as Site>⟧.record_ self.new)) }
-        ensures open { ⟦<MemorySite as Site>⟧.is_open self.new ≡ ⟦<MemorySite as Site>⟧.is_open self.old }
-        ensures draft { ⟦<MemorySite as Site>⟧.is_drafting self.new ≡ ⟦<MemorySite as Site>⟧.is_drafting self.old }
-        ensures tells { ⟦<MemorySite as Site>⟧.tells self.new ≡ ⟦<MemorySite as Site>⟧.tells self.old }
-        ensures start { IsTrue (⟦<MemorySite as Site>⟧.tells self.old) → ⟦<MemorySite as Site>⟧.start self.new ≡ ⟦<MemorySite as Site>⟧.start self.old }
-        ensures cause { HasCause (⟦<MemorySite as Site>⟧.faults self.old) (⟦<MemorySite as Site>⟧.faults self.new) result }
+        ensures done { OnOk result (recorded self.new ≡ recorded self.old ++ Done image_sync ∷ []) }
+        ensures lost { OnErr result (Lost image_sync (recorded self.old) (recorded self.new)) }
+        ensures open { has_image self.new ≡ has_image self.old }
+        ensures draft { has_draft self.new ≡ has_draft self.old }
+        ensures start { began self.new ≡ began self.old }
+        ensures cause { HasCause (faults_counted self.old) (faults_counted self.new) result }
 
         ensures calls { calls self.new ≡ raised (calls self.old) }
         ensures failing { failing self.new ≡ failing self.old }
@@ -210,14 +207,13 @@ impl Site for MemorySite {
     fn map_read(&mut self, name: &str, pos: u64, buf: &mut [u8]) -> Result<MapRead, SiteFault>
         requires { 0 < length buf.old }
         ensures count { IfOk result (λ read. IsWithin read (length buf.old)) }
-        ensures read { IfOk result (λ read. IsTrue (⟦<MemorySite as Site>⟧.tells self.old) → IsRead ((after (⟦<MemorySite as Site>⟧.start self.old) (⟦<MemorySite as Site>⟧.record_ self.old)).files name.now) pos buf.new read) }
-        ensures done { OnOk result (IsTrue (⟦<MemorySite as Site>⟧.tells self.old) → ⟦<MemorySite as Site>⟧.record_ self.new ≡ ⟦<MemorySite as Site>⟧.record_ self.old ++ Done (map_read name.now pos (length buf.old)) ∷ []) }
-        ensures lost { OnErr result (IsTrue (⟦<MemorySite as Site>⟧.tells self.old) → Lost (map_read name.now pos (length buf.old)) (⟦<MemorySite as Site>⟧.record_ self.old) (⟦<MemorySite as Site>⟧.record_ self.new)) }
-        ensures open { ⟦<MemorySite as Site>⟧.is_open self.new ≡ ⟦<MemorySite as Site>⟧.is_open self.old }
-        ensures draft { ⟦<MemorySite as Site>⟧.is_drafting self.new ≡ ⟦<MemorySite as Site>⟧.is_drafting self.old }
-        ensures tells { ⟦<MemorySite as Site>⟧.tells self.new ≡ ⟦<MemorySite as Site>⟧.tells self.old }
-        ensures start { IsTrue (⟦<MemorySite as Site>⟧.tells self.old) → ⟦<MemorySite as Site>⟧.start self.new ≡ ⟦<MemorySite as Site>⟧.start self.old }
-        ensures cause { HasCause (⟦<MemorySite as Site>⟧.faults self.old) (⟦<MemorySite as Site>⟧.faults self.new) result }
+        ensures read { IfOk result (λ read. IsRead (files_now self.old name.now) pos buf.new read) }
+        ensures done { OnOk result (recorded self.new ≡ recorded self.old ++ Done (map_read name.now pos (length buf.old)) ∷ []) }
+        ensures lost { OnErr result (Lost (map_read name.now pos (length buf.old)) (recorded self.old) (recorded self.new)) }
+        ensures open { has_image self.new ≡ has_image self.old }
+        ensures draft { has_draft self.new ≡ has_draft self.old }
+        ensures start { began self.new ≡ began self.old }
+        ensures cause { HasCause (faults_counted self.old) (faults_counted self.new) result }
 
         ensures calls { calls self.new ≡ raised (calls self.old) }
         ensures failing { failing self.new ≡ failing self.old }
@@ -233,14 +229,13 @@ impl Site for MemorySite {
     }
 
     fn draft_begin(&mut self, name: &str) -> Result<(), SiteFault>
-        ensures done { OnOk result (IsTrue (⟦<MemorySite as Site>⟧.tells self.old) → ⟦<MemorySite as Site>⟧.record_ self.new ≡ ⟦<MemorySite as Site>⟧.record_ self.old ++ Done (draft_begin name.now) ∷ []) }
-        ensures lost { OnErr result (IsTrue (⟦<MemorySite as Site>⟧.tells self.old) → Lost (draft_begin name.now) (⟦<MemorySite as Site>⟧.record_ self.old) (⟦<MemorySite as Site>⟧.record_ self.new)) }
-        ensures draft { OnOk result (⟦<MemorySite as Site>⟧.is_drafting self.new ≡ true) }
-        ensures no_draft { OnErr result (⟦<MemorySite as Site>⟧.is_drafting self.new ≡ false) }
-        ensures open { ⟦<MemorySite as Site>⟧.is_open self.new ≡ ⟦<MemorySite as Site>⟧.is_open self.old }
-        ensures tells { ⟦<MemorySite as Site>⟧.tells self.new ≡ ⟦<MemorySite as Site>⟧.tells self.old }
-        ensures start { IsTrue (⟦<MemorySite as Site>⟧.tells self.old) → ⟦<MemorySite as Site>⟧.start self.new ≡ ⟦<MemorySite as Site>⟧.start self.old }
-        ensures cause { HasCause (⟦<MemorySite as Site>⟧.faults self.old) (⟦<MemorySite as Site>⟧.faults self.new) result }
+        ensures done { OnOk result (recorded self.new ≡ recorded self.old ++ Done (draft_begin name.now) ∷ []) }
+        ensures lost { OnErr result (Lost (draft_begin name.now) (recorded self.old) (recorded self.new)) }
+        ensures draft { OnOk result (has_draft self.new ≡ true) }
+        ensures no_draft { OnErr result (has_draft self.new ≡ false) }
+        ensures open { has_image self.new ≡ has_image self.old }
+        ensures start { began self.new ≡ began self.old }
+        ensures cause { HasCause (faults_counted self.old) (faults_counted self.new) result }
 
         ensures calls { calls self.new ≡ raised (calls self.old) }
         ensures failing { failing self.new ≡ failing self.old }
@@ -259,14 +254,13 @@ impl Site for MemorySite {
     }
 
     fn draft_append(&mut self, piece: &[u8]) -> Result<(), SiteFault>
-        requires { ⟦<MemorySite as Site>⟧.is_drafting self.old ≡ true }
-        ensures done { OnOk result (IsTrue (⟦<MemorySite as Site>⟧.tells self.old) → ⟦<MemorySite as Site>⟧.record_ self.new ≡ ⟦<MemorySite as Site>⟧.record_ self.old ++ Done (draft_append piece.now) ∷ []) }
-        ensures lost { OnErr result (IsTrue (⟦<MemorySite as Site>⟧.tells self.old) → Lost (draft_append piece.now) (⟦<MemorySite as Site>⟧.record_ self.old) (⟦<MemorySite as Site>⟧.record_ self.new)) }
-        ensures draft { ⟦<MemorySite as Site>⟧.is_drafting self.new ≡ true }
-        ensures open { ⟦<MemorySite as Site>⟧.is_open self.new ≡ ⟦<MemorySite as Site>⟧.is_open self.old }
-        ensures tells { ⟦<MemorySite as Site>⟧.tells self.new ≡ ⟦<MemorySite as Site>⟧.tells self.old }
-        ensures start { IsTrue (⟦<MemorySite as Site>⟧.tells self.old) → ⟦<MemorySite as Site>⟧.start self.new ≡ ⟦<MemorySite as Site>⟧.start self.old }
-        ensures cause { HasCause (⟦<MemorySite as Site>⟧.faults self.old) (⟦<MemorySite as Site>⟧.faults self.new) result }
+        requires { has_draft self.old ≡ true }
+        ensures done { OnOk result (recorded self.new ≡ recorded self.old ++ Done (draft_append piece.now) ∷ []) }
+        ensures lost { OnErr result (Lost (draft_append piece.now) (recorded self.old) (recorded self.new)) }
+        ensures draft { has_draft self.new ≡ true }
+        ensures open { has_image self.new ≡ has_image self.old }
+        ensures start { began self.new ≡ began self.old }
+        ensures cause { HasCause (faults_counted self.old) (faults_counted self.new) result }
 
         ensures calls { calls self.new ≡ raised (calls self.old) }
         ensures failing { failing self.new ≡ failing self.old }
@@ -283,14 +277,13 @@ impl Site for MemorySite {
     }
 
     fn draft_sync(&mut self) -> Result<(), SiteFault>
-        requires { ⟦<MemorySite as Site>⟧.is_drafting self.old ≡ true }
-        ensures done { OnOk result (IsTrue (⟦<MemorySite as Site>⟧.tells self.old) → ⟦<MemorySite as Site>⟧.record_ self.new ≡ ⟦<MemorySite as Site>⟧.record_ self.old ++ Done draft_sync ∷ []) }
-        ensures lost { OnErr result (IsTrue (⟦<MemorySite as Site>⟧.tells self.old) → Lost draft_sync (⟦<MemorySite as Site>⟧.record_ self.old) (⟦<MemorySite as Site>⟧.record_ self.new)) }
-        ensures draft { ⟦<MemorySite as Site>⟧.is_drafting self.new ≡ true }
-        ensures open { ⟦<MemorySite as Site>⟧.is_open self.new ≡ ⟦<MemorySite as Site>⟧.is_open self.old }
-        ensures tells { ⟦<MemorySite as Site>⟧.tells self.new ≡ ⟦<MemorySite as Site>⟧.tells self.old }
-        ensures start { IsTrue (⟦<MemorySite as Site>⟧.tells self.old) → ⟦<MemorySite as Site>⟧.start self.new ≡ ⟦<MemorySite as Site>⟧.start self.old }
-        ensures cause { HasCause (⟦<MemorySite as Site>⟧.faults self.old) (⟦<MemorySite as Site>⟧.faults self.new) result }
+        requires { has_draft self.old ≡ true }
+        ensures done { OnOk result (recorded self.new ≡ recorded self.old ++ Done draft_sync ∷ []) }
+        ensures lost { OnErr result (Lost draft_sync (recorded self.old) (recorded self.new)) }
+        ensures draft { has_draft self.new ≡ true }
+        ensures open { has_image self.new ≡ has_image self.old }
+        ensures start { began self.new ≡ began self.old }
+        ensures cause { HasCause (faults_counted self.old) (faults_counted self.new) result }
 
         ensures calls { calls self.new ≡ raised (calls self.old) }
         ensures failing { failing self.new ≡ failing self.old }
@@ -302,14 +295,13 @@ impl Site for MemorySite {
     }
 
     fn draft_publish(&mut self, name: &str) -> Result<(), SiteFault>
-        requires { ⟦<MemorySite as Site>⟧.is_drafting self.old ≡ true }
-        ensures done { OnOk result (IsTrue (⟦<MemorySite as Site>⟧.tells self.old) → ⟦<MemorySite as Site>⟧.record_ self.new ≡ ⟦<MemorySite as Site>⟧.record_ self.old ++ Done (draft_publish name.now) ∷ []) }
-        ensures lost { OnErr result (IsTrue (⟦<MemorySite as Site>⟧.tells self.old) → Lost (draft_publish name.now) (⟦<MemorySite as Site>⟧.record_ self.old) (⟦<MemorySite as Site>⟧.record_ self.new)) }
-        ensures draft { ⟦<MemorySite as Site>⟧.is_drafting self.new ≡ false }
-        ensures open { ⟦<MemorySite as Site>⟧.is_open self.new ≡ ⟦<MemorySite as Site>⟧.is_open self.old }
-        ensures tells { ⟦<MemorySite as Site>⟧.tells self.new ≡ ⟦<MemorySite as Site>⟧.tells self.old }
-        ensures start { IsTrue (⟦<MemorySite as Site>⟧.tells self.old) → ⟦<MemorySite as Site>⟧.start self.new ≡ ⟦<MemorySite as Site>⟧.start self.old }
-        ensures cause { HasCause (⟦<MemorySite as Site>⟧.faults self.old) (⟦<MemorySite as Site>⟧.faults self.new) result }
+        requires { has_draft self.old ≡ true }
+        ensures done { OnOk result (recorded self.new ≡ recorded self.old ++ Done (draft_publish name.now) ∷ []) }
+        ensures lost { OnErr result (Lost (draft_publish name.now) (recorded self.old) (recorded self.new)) }
+        ensures draft { has_draft self.new ≡ false }
+        ensures open { has_image self.new ≡ has_image self.old }
+        ensures start { began self.new ≡ began self.old }
+        ensures cause { HasCause (faults_counted self.old) (faults_counted self.new) result }
 
         ensures calls { calls self.new ≡ raised (calls self.old) }
         ensures failing { failing self.new ≡ failing self.old }
@@ -330,13 +322,12 @@ impl Site for MemorySite {
     }
 
     fn map_settle(&mut self, name: &str) -> Result<(), SiteFault>
-        ensures done { OnOk result (IsTrue (⟦<MemorySite as Site>⟧.tells self.old) → ⟦<MemorySite as Site>⟧.record_ self.new ≡ ⟦<MemorySite as Site>⟧.record_ self.old ++ Done (map_settle name.now) ∷ []) }
-        ensures lost { OnErr result (IsTrue (⟦<MemorySite as Site>⟧.tells self.old) → Lost (map_settle name.now) (⟦<MemorySite as Site>⟧.record_ self.old) (⟦<MemorySite as Site>⟧.record_ self.new)) }
-        ensures open { ⟦<MemorySite as Site>⟧.is_open self.new ≡ ⟦<MemorySite as Site>⟧.is_open self.old }
-        ensures draft { ⟦<MemorySite as Site>⟧.is_drafting self.new ≡ ⟦<MemorySite as Site>⟧.is_drafting self.old }
-        ensures tells { ⟦<MemorySite as Site>⟧.tells self.new ≡ ⟦<MemorySite as Site>⟧.tells self.old }
-        ensures start { IsTrue (⟦<MemorySite as Site>⟧.tells self.old) → ⟦<MemorySite as Site>⟧.start self.new ≡ ⟦<MemorySite as Site>⟧.start self.old }
-        ensures cause { HasCause (⟦<MemorySite as Site>⟧.faults self.old) (⟦<MemorySite as Site>⟧.faults self.new) result }
+        ensures done { OnOk result (recorded self.new ≡ recorded self.old ++ Done (map_settle name.now) ∷ []) }
+        ensures lost { OnErr result (Lost (map_settle name.now) (recorded self.old) (recorded self.new)) }
+        ensures open { has_image self.new ≡ has_image self.old }
+        ensures draft { has_draft self.new ≡ has_draft self.old }
+        ensures start { began self.new ≡ began self.old }
+        ensures cause { HasCause (faults_counted self.old) (faults_counted self.new) result }
 
         ensures calls { calls self.new ≡ raised (calls self.old) }
         ensures failing { failing self.new ≡ failing self.old }
