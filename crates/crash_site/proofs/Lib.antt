@@ -1,0 +1,4 @@
+pub mod FolderFacts
+pub mod FollowFacts
+pub mod PlaceFacts
+pub mod Written

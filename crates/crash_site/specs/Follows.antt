@@ -1,0 +1,14 @@
+use Rattle.std.specs.Prelude.{◌≡◌, ℕ, List, Option, Some}
+use Rattle.std.proofs.Props.{props}
+use Rattle.crash_site.specs.Files.{File}
+use Rattle.crash_site.specs.Folder.{Folder}
+
+-- Files read as they were told. An image that is open was told to be, and so was a draft that is begun; either may
+-- have been closed since for want of memory.
+pub record Follows (current told : Folder) : Type 0 where
+  pub files : current.files ≡ told.files
+  pub image : (n : List ℕ) → current.image ≡ Some n → told.image ≡ Some n
+  pub draft : (n : List ℕ) → current.draft ≡ Some n → told.draft ≡ Some n
+
+pub Follows-prop : (a b : Folder) → IsProp (Follows a b)
+Follows-prop a b = hlevel props
