@@ -1,7 +1,7 @@
 //! How often calls of an outside object, as a disk or a folder, have failed.
 #![tactic(auto)]
 
-ghost use Rattle.std.specs.Prelude.{◌≡◌, ℕ};
+ghost use Rattle.std.specs.Prelude.{◌≡◌, ◌≤◌, ℕ};
 ghost use Rattle.fault_count.specs.Counts.{raised};
 
 use std::marker::Model;
@@ -20,7 +20,6 @@ impl Model for FaultCount {
 
 impl FaultCount {
     /// A count of no fault.
-    #[allow(clippy::new_without_default)]
     pub fn new() -> FaultCount
         ensures { result ≡ 0 }
     {
@@ -29,7 +28,8 @@ impl FaultCount {
 
     /// Counts one more fault.
     pub fn raise(&mut self)
-        ensures { self.new ≡ raised self.old }
+        ensures raised { self.new ≡ raised self.old }
+        ensures later { self.old ≤ self.new }
     {
         self.count = self.count.saturating_add(1);
     }

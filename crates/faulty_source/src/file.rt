@@ -1,6 +1,5 @@
 ghost use Rattle.std.specs.Prelude.{◌≡◌, ◌+◌, ◌<◌, ◌≤◌, ◌^◌, false, [], length, is_some, IfOk};
 
-use crate::raise::raise;
 use crate::source::{Got, Source, SourceFault, SourceLost};
 use fault_count::FaultCount;
 use std::fs::File;
@@ -84,7 +83,7 @@ impl Source for FileSource {
     fn open_input(&mut self, name: &str) -> Result<u64, SourceFault> {
         self.file = None;
         let Ok((file, length)) = open_to_read(&self.rt, name) else {
-            raise(&mut self.faults);
+            self.faults.raise();
             return Err(SourceFault);
         };
         self.file = Some(file);

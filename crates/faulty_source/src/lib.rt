@@ -3,5 +3,4 @@
 
 pub mod file;
 pub mod memory;
-mod raise;
 pub mod source;

@@ -2,7 +2,6 @@ ghost use Rattle.std.specs.Prelude.{◌≡◌, ◌↔◌, ℕ, ◌+◌, ◌-◌,
 ghost use Rattle.fault_count.specs.Counts.{raised};
 ghost use Rattle.faulty_source.specs.Memory.{fails_still, is_bad, is_bad_at, one_less, met, IsGiven, AreApart, entry_of, reading_of};
 
-use crate::raise::raise;
 use crate::source::{Got, Source, SourceFault, SourceLost};
 use block_list::tiles::NoMemory;
 use fault_count::FaultCount;
@@ -226,7 +225,7 @@ impl Source for MemorySource {
     {
         self.open = false;
         if count_call(&mut self.calls, &self.failing) || name == "missing" {
-            raise(&mut self.faults);
+            self.faults.raise();
             return Err(SourceFault);
         }
         self.open = true;
@@ -256,7 +255,7 @@ impl Source for MemorySource {
         ensures failing { failing self.new ≡ failing self.old }
     {
         if count_call(&mut self.calls, &self.failing) || self.entries.len() >= self.room {
-            raise(&mut self.losses);
+            self.losses.raise();
             return Err(SourceLost);
         }
         let asked = buf.len();
