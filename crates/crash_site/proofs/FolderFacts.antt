@@ -1,9 +1,8 @@
 use Rattle.std.proofs.Common.{◌≡◌, ℕ, Bool, true, false, cond, List, ◌++◌, Option, Some, None, Result, Ok, Err, OnErr, refl, sym, ◌∙◌, ap}
-use Rattle.crash_site.specs.declared.site.ImageKind.{ImageKind}
-use Rattle.crash_site.specs.declared.site.ImageKind.TheVariants.{Regular, Other, Absent}
-use Rattle.crash_site.specs.Files.{File, bytes_of, empty_file, kind_of, is_absent, put, written_file}
-use Rattle.crash_site.specs.Calls.{image_open, image_write, draft_begin, draft_append, draft_publish}
-use Rattle.crash_site.specs.Folder.{Folder, opened, with_piece, appended, published, after_done}
+use Rattle.crash_site.specs.declared.site.ImageKind.TheVariants.{Regular, Other}
+use Rattle.crash_site.specs.Files.{File, bytes_of, kind_of, is_absent, put, written_file}
+use Rattle.crash_site.specs.Calls.{image_open}
+use Rattle.crash_site.specs.Folder.{Folder, opened, with_piece, appended, after_done}
 use Rattle.crash_site.specs.Places.{opened_file}
 use Rattle.crash_site.proofs.PlaceFacts.{put-same}
 

@@ -1,4 +1,4 @@
-use Rattle.std.specs.Prelude.{ℕ, Bool, true, false, List, map, Contains, if◌then◌else◌}
+use Rattle.std.specs.Prelude.{List, map, Contains, if◌then◌else◌}
 use Rattle.fault_count.specs.Counts.{raised}
 use Rattle.crash_site.specs.declared.call_log.Act.{Act}
 use Rattle.crash_site.specs.declared.call_log.Act.TheVariants.{ImageOpen, ImageWrite, ImageSync, MapRead, DraftBegin, DraftAppend, DraftSync, DraftPublish, MapSettle}

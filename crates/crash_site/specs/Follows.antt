@@ -1,6 +1,5 @@
-use Rattle.std.specs.Prelude.{◌≡◌, ℕ, List, Option, Some}
+use Rattle.std.specs.Prelude.{◌≡◌, ℕ, List, Some}
 use Rattle.std.proofs.Props.{props}
-use Rattle.crash_site.specs.Files.{File}
 use Rattle.crash_site.specs.Folder.{Folder}
 
 -- Files read as they were told. An image that is open was told to be, and so was a draft that is begun; either may

@@ -4,7 +4,7 @@ ghost use Rattle.crash_site.specs.Files.{File, put, kind_of, is_absent, IsRead, 
 ghost use Rattle.crash_site.specs.Calls.{Entry, Done, Lost, image_open, image_write, image_sync, map_read, draft_begin, draft_append, draft_sync, draft_publish, map_settle};
 ghost use Rattle.crash_site.specs.Folder.{Folder, after};
 ghost use Rattle.crash_site.specs.Follows.{Follows, Follows-prop};
-ghost use Rattle.crash_site.specs.MemoryFolder.{name_of, folder_of};
+ghost use Rattle.crash_site.specs.MemoryFolder.{name_of, folder_of, IsFull};
 ghost use Rattle.crash_site.specs.CallLog.{entries_of};
 
 use crate::call_log::{Act, CallLog};
@@ -208,6 +208,7 @@ impl Site for MemorySite {
         requires { 0 < length buf.old }
         ensures count { IfOk result (λ read. IsWithin read (length buf.old)) }
         ensures read { IfOk result (λ read. IsRead (files_now self.old name.now) pos buf.new read) }
+        ensures full { IfOk result (λ read. IsFull (files_now self.old name.now) pos (length buf.old) read) }
         ensures done { OnOk result (recorded self.new ≡ recorded self.old ++ Done (map_read name.now pos (length buf.old)) ∷ []) }
         ensures lost { OnErr result (Lost (map_read name.now pos (length buf.old)) (recorded self.old) (recorded self.new)) }
         ensures open { has_image self.new ≡ has_image self.old }
@@ -339,5 +340,80 @@ impl Site for MemorySite {
             return Err(self.log.miss());
         };
         self.log.enter(Act::MapSettle(copied))
+    }
+}
+
+#[cfg(test)]
+mod tests {
+    use super::*;
+    use std::test::Fail;
+
+    fn stands(site: &MemorySite, name: &str, bytes: &[u8]) -> bool {
+        site.file(name).is_some_and(|found| found == bytes)
+    }
+
+    #[test]
+    fn writes_and_publishes(rt: HostRuntime) -> Result<(), Fail> {
+        let mut site = MemorySite::new(rt.alloc());
+        site.put_file("map", b"old", true)?;
+        assert_eq!(rt; site.image_open("image", true)?, ImageKind::Regular);
+        site.image_write(3, b"abc")?;
+        site.image_write(1, b"de")?;
+        assert!(rt; stands(&site, "image", b"\0deabc"));
+        site.image_sync()?;
+        site.draft_begin("map.tmp")?;
+        assert!(rt; stands(&site, "map.tmp", b""));
+        site.draft_append(b"ne")?;
+        site.draft_append(b"w")?;
+        assert!(rt; stands(&site, "map.tmp", b"new"));
+        assert!(rt; stands(&site, "map", b"old"));
+        site.draft_sync()?;
+        site.draft_publish("map")?;
+        assert!(rt; site.file("map.tmp").is_none());
+        assert!(rt; stands(&site, "map", b"new"));
+        site.map_settle("map")?;
+        assert_eq!(rt; site.starved(), 0);
+        Ok(())
+    }
+
+    #[test]
+    fn tells_kinds_and_reads(rt: HostRuntime) -> Result<(), Fail> {
+        let mut site = MemorySite::new(rt.alloc());
+        assert_eq!(rt; site.image_open("image", false)?, ImageKind::Absent);
+        site.put_file("image", b"", true)?;
+        assert_eq!(rt; site.image_open("image", false)?, ImageKind::Regular);
+        site.put_file("disk", b"", false)?;
+        assert_eq!(rt; site.image_open("disk", true)?, ImageKind::Other);
+        let mut buf = [0; 4];
+        assert_eq!(rt; site.map_read("map", 0, &mut buf)?, MapRead::Absent);
+        site.put_file("map", b"abcdef", true)?;
+        assert_eq!(rt; site.map_read("map", 1, &mut buf)?, MapRead::Bytes(4));
+        assert_eq!(rt; buf, *b"bcde");
+        assert_eq!(rt; site.map_read("map", 5, &mut buf)?, MapRead::Bytes(1));
+        assert_eq!(rt; buf, *b"fcde");
+        assert_eq!(rt; site.map_read("map", 6, &mut buf)?, MapRead::Bytes(0));
+        Ok(())
+    }
+
+    #[test]
+    fn fails_where_it_is_told_to(rt: HostRuntime) -> Result<(), Fail> {
+        let mut site = MemorySite::new(rt.alloc());
+        for number in [3, 4, 8] {
+            site.fail_call(number)?;
+        }
+        site.image_open("image", true)?;
+        site.image_write(0, b"ab")?;
+        assert!(rt; site.image_write(1, b"cd").is_err());
+        assert!(rt; stands(&site, "image", b"ab"));
+        assert!(rt; site.draft_begin("map.tmp").is_err());
+        assert!(rt; site.file("map.tmp").is_none());
+        site.draft_begin("map.tmp")?;
+        site.draft_append(b"text")?;
+        site.draft_sync()?;
+        assert!(rt; site.draft_publish("map").is_err());
+        assert!(rt; stands(&site, "map.tmp", b"text"));
+        assert!(rt; site.file("map").is_none());
+        assert_eq!(rt; site.starved(), 0);
+        Ok(())
     }
 }

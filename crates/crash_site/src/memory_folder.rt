@@ -1,11 +1,11 @@
 #![tactic(auto, using(crate::proofs::FolderFacts::folder_facts))]
 
-ghost use Rattle.std.specs.Prelude.{◌≡◌, ℕ, ◌+◌, ◌<◌, ◌≤◌, ◌^◌, true, false, List, length, take, slice_range, Some, None, IsSome, IfOk, OnOk, OnErr, MatchOption, if◌then◌else◌};
+ghost use Rattle.std.specs.Prelude.{◌≡◌, ℕ, ◌+◌, ◌-◌, min, ◌<◌, ◌≤◌, ◌^◌, true, false, List, length, take, slice_range, Some, None, IsSome, IfOk, OnOk, OnErr, MatchOption, if◌then◌else◌};
 ghost use Rattle.crash_site.specs.Files.{File, kind_of, is_absent, put, IsRead, IsWithin};
 ghost use Rattle.crash_site.specs.Calls.{image_open, image_write, draft_begin, draft_append};
 ghost use Rattle.crash_site.specs.Folder.{Folder, after_done};
 ghost use Rattle.crash_site.specs.Places.{files_of};
-ghost use Rattle.crash_site.specs.MemoryFolder.{name_of, folder_of};
+ghost use Rattle.crash_site.specs.MemoryFolder.{name_of, folder_of, IsFull};
 
 use crate::places::{MemoryFile, Place, copy_places, file_at, place_of, take_file};
 use crate::site::{ImageKind, MapRead};
@@ -23,7 +23,7 @@ pub(crate) struct MemoryFolder {
 /// Copies the bytes from a place on, as many as there are and as the buffer takes.
 fn copy_part(bytes: &[u8], pos: u64, buf: &mut [u8]) -> usize
     requires { 0 < length buf.old }
-    ensures count { result ≤ length buf.old }
+    ensures count { result ≡ min (length buf.old) (length bytes.now - pos) }
     ensures part { take result buf.new ≡ slice_range bytes.now pos (pos + result) }
     ensures end { result ≡ 0 → length bytes.now ≤ pos }
 {
@@ -97,6 +97,7 @@ impl MemoryFolder {
         requires { 0 < length buf.old }
         ensures count { IsWithin result (length buf.old) }
         ensures read { IsRead ((folder_of self.now).files name.now) pos buf.new result }
+        ensures full { IsFull ((folder_of self.now).files name.now) pos (length buf.old) result }
     {
         match self.file(name) {
             None => MapRead::Absent,

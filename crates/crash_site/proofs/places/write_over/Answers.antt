@@ -1,4 +1,4 @@
-use Rattle.std.proofs.Common.{◌∙◌, ap, length, arith}
+use Rattle.std.proofs.Common.{◌∙◌, arith}
 use Rattle.std.proofs.lemmas.List.{take_at}
 use Rattle.crash_site.proofs.Written.{written_over}
 use Rattle.crash_site.proofs.places.write_over.Goals as goal

@@ -1,4 +1,4 @@
-use Rattle.std.proofs.Common.{sym, ap, ◌∙◌, List, ℕ, Option, Some}
+use Rattle.std.proofs.Common.{ap, ◌∙◌, List, ℕ, Option, Some}
 use Rattle.crash_site.specs.Files.{File, put}
 use Rattle.crash_site.specs.Calls.{Entry}
 use Rattle.crash_site.specs.Folder.{Folder, after}

@@ -1,10 +1,10 @@
-use Rattle.std.proofs.Common.{refl, sym, ap, ◌∙◌, length, List, ℕ, None}
-use Rattle.crash_site.specs.Calls.{image_open, image_write, draft_begin, draft_append, draft_publish}
+use Rattle.std.proofs.Common.{refl, List, ℕ, None}
+use Rattle.crash_site.specs.Calls.{image_open}
 use Rattle.crash_site.specs.Folder.{Folder, after}
 use Rattle.crash_site.specs.Follows.{Follows}
-use Rattle.crash_site.specs.MemoryFolder.{name_of, folder_of}
+use Rattle.crash_site.specs.MemoryFolder.{folder_of}
 use Rattle.crash_site.specs.CallLog.{entries_of}
-use Rattle.crash_site.proofs.FollowFacts.{follows_lost, follows_settled, follows_step, follows_kept, publish_step, publish_kept, follows_opened, follows_written, follows_appended, follows_begun, follows_no_image, follows_no_draft}
+use Rattle.crash_site.proofs.FollowFacts.{follows_lost, follows_settled, follows_step, follows_kept, follows_opened, follows_no_image}
 use Rattle.crash_site.proofs.memory.MemorySiteSite.image_open.Goals as goal
 
 pub invariant_of-self-in-Break-1 : goal.invariant_of-self-in-Break-1

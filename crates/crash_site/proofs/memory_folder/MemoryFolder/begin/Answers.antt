@@ -1,4 +1,4 @@
-use Rattle.std.proofs.Common.{refl, ap, List, ℕ, Option, Some}
+use Rattle.std.proofs.Common.{refl, ap, List, ℕ, Some}
 use Rattle.crash_site.proofs.PlaceFacts.{changed}
 use Rattle.crash_site.proofs.FolderFacts.{same_folder}
 use Rattle.crash_site.proofs.memory_folder.MemoryFolder.begin.Goals as goal

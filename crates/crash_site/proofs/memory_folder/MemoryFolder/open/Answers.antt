@@ -1,4 +1,4 @@
-use Rattle.std.proofs.Common.{refl, sym, ap, ap₂, ◌∙◌, cond, List, ℕ, Option, Some, None}
+use Rattle.std.proofs.Common.{refl, sym, ap, ◌∙◌, cond, List, ℕ, Option, Some, None}
 use Rattle.crash_site.specs.declared.site.ImageKind.{ImageKind}
 use Rattle.crash_site.specs.Files.{File, kind_of, is_absent}
 use Rattle.crash_site.specs.Places.{opened_file}

@@ -1,4 +1,4 @@
-use Rattle.std.proofs.Common.{refl, sym, ap, ◌∙◌, ◌++◌, true, Option, Some}
+use Rattle.std.proofs.Common.{refl, sym, ap, ◌∙◌, Option, Some}
 use Rattle.crash_site.specs.Files.{File, written_file}
 use Rattle.crash_site.specs.MemoryFolder.{name_of, folder_of}
 use Rattle.crash_site.proofs.PlaceFacts.{stood, changed, unchanged}
