@@ -1,11 +1,14 @@
 //! The rescue: from the words of the command line to the output and its mapfile.
 #![tactic(auto)]
 
-pub mod copy;
+mod copy;
 pub mod ending;
 pub mod laws;
-pub mod open;
-pub mod operands;
+mod open;
+mod operands;
 pub mod rescue;
-pub mod save;
+mod save;
 pub mod words;
+
+#[cfg(test)]
+mod tests;

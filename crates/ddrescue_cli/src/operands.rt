@@ -11,7 +11,7 @@ use std::alloc::{AllocError, Global};
 
 /// The names of the files of a rescue.
 #[derive(Clone, Copy, Debug)]
-pub struct Names<'a> {
+pub(crate) struct Names<'a> {
     pub infile: &'a str,
     pub outfile: &'a str,
     pub mapfile: &'a str,
