@@ -8,7 +8,7 @@ use Rattle.mapfile_text.specs.Printed.{printed}
 use Rattle.crash_site.specs.declared.site.SiteCall.{SiteCall}
 use Rattle.crash_site.specs.declared.site.SiteCall.TheVariants.{ImageOpen, ImageRead, ImageWrite, ImageSync, MapRead, DraftBegin, DraftAppend, DraftSync, DraftPublish, MapSettle, MapRemove}
 use Rattle.crash_site.specs.Files.{File, bytes_of}
-use Rattle.crash_site.specs.Calls.{Call, Entry, Done, image_open, image_write, map_read, Lost, Made, BrokeAt}
+use Rattle.crash_site.specs.Calls.{Call, Entry, Done, image_open, image_write, image_sync, map_read, Lost, Made, BrokeAt}
 use Rattle.crash_site.specs.Folder.{Folder, opened, after}
 use Rattle.std.specs.Str.{bytes_eq}
 use Rattle.ddrescue_cli.proofs.FolderFacts.{after-append, bytes_eq-flip, run_files, draft_apart}
@@ -16,7 +16,7 @@ use Rattle.ddrescue_cli.specs.declared.ending.Ending.{Ending}
 use Rattle.ddrescue_cli.specs.declared.ending.Ending.TheVariants.{Done as Finished, SourceFault, NotRegular, MapThere, SourceLost, SiteFault, NoMemory}
 use Rattle.ddrescue_cli.specs.Sectors.{sector_count, IsSectorRead, AreSectorReads, map_of, write_of, writes_of, landed, gained}
 use Rattle.ddrescue_cli.specs.Copying.{CopyCause, Halt, Unread, Unwritten, Copied, Halted}
-use Rattle.ddrescue_cli.specs.Opening.{OutputStop, MapStop}
+use Rattle.ddrescue_cli.specs.Opening.{OutputCause, OutputStop, MapCause, MapStop}
 use Rattle.ddrescue_cli.specs.Saved.{finished_state, heading, saved_text}
 use Rattle.ddrescue_cli.specs.Operands.{outfile, mapfile, draft, AreApart}
 use Rattle.ddrescue_cli.specs.Rescue.{IsReadInOrder, IsCalled, AreRescued, MapfileHolds}
@@ -76,12 +76,13 @@ stopped_source out name draft h ts td bytes j0 j1 c0 before = record {
   sectors = no_reads (length bytes);
   told = λ t. before t ∙ sym (append-nil j0);
   made = λ t. sym (append-nil c0);
+  unwritten = λ q. cc;
 }
 
 -- a rescue that stopped before its first read
 pub stopped_early : (e : Ending) (out name draft : List ℕ) (h : HeadingLines) (ts td : Bool) (bytes : List ℕ) (end : ℕ) (j0 j1 : List Reading) (c0 c1 : List Entry)
-    → (IsTrue ts → end ≡ length bytes) → (IsTrue ts → j1 ≡ j0) → (IsTrue td → CallsOf e out name draft [] (saved_text h end (map_of [])) c0 c1) → Stopped e out name draft h ts td bytes j0 j1 c0 c1
-stopped_early e out name draft h ts td bytes end j0 j1 c0 c1 all before made = record {
+    → (IsTrue ts → end ≡ length bytes) → (IsTrue ts → j1 ≡ j0) → (IsTrue td → CallsOf e out name draft [] (saved_text h end (map_of [])) c0 c1) → (e ≡ SiteFault ImageWrite → ⊥) → Stopped e out name draft h ts td bytes j0 j1 c0 c1
+stopped_early e out name draft h ts td bytes end j0 j1 c0 c1 all before made other = record {
   end = end;
   all = all;
   count = 0;
@@ -89,7 +90,14 @@ stopped_early e out name draft h ts td bytes end j0 j1 c0 c1 all before made = r
   sectors = no_reads end;
   told = λ t. before t ∙ sym (append-nil j0);
   made = made;
+  unwritten = λ q t. absurd (other q);
 }
+
+pub output_other : (e : Ending) (faults faults' : ℕ) → OutputCause e faults faults' → e ≡ SiteFault ImageWrite → ⊥
+output_other e faults faults' cause q = ⊎_elim (λ x. cc) (λ x. let r = x.0 in cc) cause
+
+pub map_other : (e : Ending) (faults faults' : ℕ) → MapCause e faults faults' → e ≡ SiteFault ImageWrite → ⊥
+map_other e faults faults' cause q = ⊎_elim (λ x. cc) (λ x. let r = x.0 in cc) cause
 
 pub output_calls : (e : Ending) (out name draft : List ℕ) (reads : List Reading) (text : List ℕ) (file : Option File) (c0 c1 : List Entry) → OutputStop e out file c0 c1 → CallsOf e out name draft reads text c0 c1
 output_calls e out name draft reads text file c0 c1 stop =
@@ -133,6 +141,7 @@ stopped_at e out name draft h ts td bytes end k pos size reads j0 j1 j2 c0 c1 c2
     let P : Ending → Type 0 = λ v. CallsOf v out name draft reads text c0 c4 in
     let grew : Made (opening_calls out name ++ writes_of reads) c0 c4 = rw (unmade t) (no_memory_calls out name draft reads text c0 c1 c2 c3 (opened t) (looked t) (wrote t)) in
     ⊎_elim (λ z. subst P (sym z) (inr grew)) (λ z. subst P (sym z) grew) cause;
+  unwritten = λ q t. ⊎_elim (λ z. cc) (λ z. cc) cause;
 }
 stopped_at e out name draft h ts td bytes end k pos size reads j0 j1 j2 c0 c1 c2 c3 c4 (Unwritten r is pos_is asked_is full new lost) at fits sectors all told opened looked wrote = record {
   end = end;
@@ -153,6 +162,15 @@ stopped_at e out name draft h ts td bytes end k pos size reads j0 j1 j2 c0 c1 c2
     let all_writes : BrokeAt ImageWrite (writes_of (reads ++ r ∷ [])) c2 c4 = subst Q (sym writes) within in
     subst P (sym is) (broke_back ImageWrite (opening_calls out name) (writes_of (reads ++ r ∷ []) ++ save_calls name draft text) c0 c2 c4 (made_opening out name c0 c1 c2 (opened t) (looked t))
         (broke_front ImageWrite (writes_of (reads ++ r ∷ [])) (save_calls name draft text) c2 c4 all_writes));
+  unwritten = λ q t. record {
+    before = reads;
+    last = r;
+    split = refl;
+    whole = eq-eqb (length r.given) r.asked (full ∙ sym asked_is);
+    broke =
+      let grew : Made (opening_calls out name ++ writes_of reads) c0 c3 = no_memory_calls out name draft reads [] c0 c1 c2 c3 (opened t) (looked t) (wrote t) in
+      inl (refl, rw (← grew) (lost t));
+  };
 }
 
 pub stopped_copy : (e : Ending) (out name draft : List ℕ) (h : HeadingLines) (ts ts' td td' : Bool) (bytes : List ℕ) (end : ℕ) (j0 j1 j2 : List Reading) (c0 c1 c2 c3 : List Entry)
@@ -164,6 +182,16 @@ stopped_copy e out name draft h ts ts' td td' bytes end j0 j1 j2 c0 c1 c2 c3 s s
     let h2 = rw (same_s, same_d) at s.halt in
     stopped_at e out name draft h ts td bytes end s.count (s.count * 512) (min 512 (end - s.count * 512)) s.reads j0 s.journal_between j2 c0 c1 c2 s.calls_between c3 h2 refl refl s.sectors all
         (λ t. s.told (rw same_s t) ∙ ap (λ j. j ++ s.reads) (before t)) opened looked (λ t. s.written (rw same_d t))
+
+write_is : (at : SiteCall) → SiteFault at ≡ SiteFault ImageWrite → at ≡ ImageWrite
+write_is at q = cc
+
+-- a save writes no image
+no_write_in_save : (name draft text : List ℕ) (old new : List Entry) (at : SiteCall) → at ≡ ImageWrite → BrokeAt at (save_calls name draft text) old new → ⊥
+no_write_in_save name draft text old new at is b =
+    ⊎_elim (λ (x : (at ≡ ImageSync) × Lost image_sync old new). let q = x.0 in cc)
+    (λ y. ⊎_elim (λ x. let q = x.0 in cc) (λ y. ⊎_elim (λ x. let q = x.0 in cc) (λ y. ⊎_elim (λ x. let q = x.0 in cc) (λ y. ⊎_elim (λ x. let q = x.0 in cc)
+        (λ y. ⊎_elim (λ x. let q = x.0 in cc) (λ y. y) y) y) y) y) y) b
 
 -- memory ran out, or a call failed, behind the last sector
 pub stopped_late : (e : Ending) (out name draft : List ℕ) (h : HeadingLines) (ts ts' td td' : Bool) (bytes : List ℕ) (end : ℕ) (j0 j1 j2 : List Reading) (c0 c1 c2 c3 c4 : List Entry) (m0 m1 : List Status)
@@ -193,6 +221,7 @@ stopped_late e out name draft h ts ts' td td' bytes end j0 j1 j2 c0 c1 c2 c3 c4 
         subst P (sym z.1) (broke_back z.0 (opening_calls out name) (writes_of c.reads ++ save_calls name draft text) c0 c2 c4 (made_opening out name c0 c1 c2 (opened t) (looked t))
             (broke_back z.0 (writes_of c.reads) (save_calls name draft text) c2 c3 c4 (c.written (rw same_d t)) saved)))
     how;
+  unwritten = λ q t. ⊎_elim (λ z. cc) (λ z. absurd (no_write_in_save name draft (saved_text h end m1) c3 c4 z.0 (write_is z.0 (sym z.1 ∙ q)) (z.2 t))) how;
 }
 
 opened_apart : (d : Folder) (out name : List ℕ) → bytes_eq out name ≡ false → (file : Option File) → (opened d out true file).files name ≡ d.files name
@@ -212,7 +241,7 @@ pub stopped_start : (out name draft : List ℕ) (h : HeadingLines) (ts td : Bool
     → Stopped NoMemory out name draft h ts td bytes j0 j1 c0 c2
 stopped_start out name draft h ts td bytes end j0 j1 c0 c1 c2 all before opened looked =
     stopped_early NoMemory out name draft h ts td bytes end j0 j1 c0 c2 all before
-        (λ t. inr (no_memory_calls out name draft [] (saved_text h end (map_of [])) c0 c1 c2 c2 (opened t) (looked t) (sym (append-nil c2))))
+        (λ t. inr (no_memory_calls out name draft [] (saved_text h end (map_of [])) c0 c1 c2 c2 (opened t) (looked t) (sym (append-nil c2)))) (λ q. cc)
 
 -- what the files allow, of an answer behind a mapfile that was looked for
 pub allowed_map : (e : Ending) (out name : Option File) (seen : Option File) → is_other out ≡ false → seen ≡ name → ((e ≡ MapThere) × (is_some seen ≡ true)) ⊎ (e ≡ SiteFault MapRead) → FilesAllow e out name

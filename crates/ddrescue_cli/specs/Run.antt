@@ -1,10 +1,10 @@
-use Rattle.std.specs.Prelude.{◌≡◌, ◌⊎◌, ⊤, ℕ, Bool, true, false, IsTrue, length, List, [], ◌∷◌, ◌++◌, Option, Some, None, is_some, if◌then◌else◌}
+use Rattle.std.specs.Prelude.{◌≡◌, ◌⊎◌, ⊤, ℕ, Bool, true, false, IsTrue, length, map as list_map, List, [], ◌∷◌, ◌++◌, Option, Some, None, is_some, if◌then◌else◌}
 use Rattle.block_list.specs.declared.status.Status.{Status}
-use Rattle.faulty_source.specs.Journal.{Reading}
+use Rattle.faulty_source.specs.Journal.{Reading, is_whole}
 use Rattle.crash_site.specs.declared.site.SiteCall.{SiteCall}
-use Rattle.crash_site.specs.declared.site.SiteCall.TheVariants.{ImageOpen, MapRead}
+use Rattle.crash_site.specs.declared.site.SiteCall.TheVariants.{ImageOpen, ImageWrite, MapRead}
 use Rattle.crash_site.specs.Files.{File}
-use Rattle.crash_site.specs.Calls.{Call, Entry, Made, BrokeAt, image_open, map_read, image_sync, draft_begin, draft_append, draft_sync, draft_publish, map_settle}
+use Rattle.crash_site.specs.Calls.{Call, Entry, Done as Listed, Made, BrokeAt, image_open, image_write, map_read, image_sync, draft_begin, draft_append, draft_sync, draft_publish, map_settle}
 use Rattle.ddrescue_cli.specs.declared.ending.Ending.{Ending}
 use Rattle.ddrescue_cli.specs.declared.ending.Ending.TheVariants.{Done, SourceFault, NotRegular, MapThere, SourceLost, SiteFault, NoMemory}
 use Rattle.ddrescue_cli.specs.Operands.{outfile, mapfile, draft, refusal_of_words, first_of_both}
@@ -83,6 +83,14 @@ pub record Went (out map draft : List ℕ) (heading : HeadingLines) (source_tell
   pub told : IsTrue source_tells → journal' ≡ journal ++ reads
   pub made : IsTrue site_tells → Made (run_calls out map draft reads (saved_text heading end (map_of reads))) calls calls'
 
+-- the write of the last read failed: the reads before it, and that write behind the calls for them
+pub record LastUnwritten (out map : List ℕ) (reads : List Reading) (calls calls' : List Entry) : Type 0 where
+  pub before : List Reading
+  pub last : Reading
+  pub split : reads ≡ before ++ last ∷ []
+  pub whole : is_whole last ≡ true
+  pub broke : BrokeAt ImageWrite (image_write last.pos last.given ∷ []) (calls ++ list_map Listed (opening_calls out map ++ writes_of before)) calls'
+
 -- what a rescue did up to where it stopped
 pub record Stopped (e : Ending) (out map draft : List ℕ) (heading : HeadingLines) (source_tells site_tells : Bool) (bytes : List ℕ) (journal journal' : List Reading) (calls calls' : List Entry) : Type 0 where
   pub end : ℕ
@@ -92,3 +100,4 @@ pub record Stopped (e : Ending) (out map draft : List ℕ) (heading : HeadingLin
   pub sectors : AreSectorReads end count reads
   pub told : IsTrue source_tells → journal' ≡ journal ++ reads
   pub made : IsTrue site_tells → CallsOf e out map draft reads (saved_text heading end (map_of reads)) calls calls'
+  pub unwritten : e ≡ SiteFault ImageWrite → IsTrue site_tells → LastUnwritten out map reads calls calls'

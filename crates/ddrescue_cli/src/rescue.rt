@@ -4,10 +4,10 @@ ghost use Rattle.std.specs.String.{string_bytes};
 ghost use Rattle.block_list.specs.declared.status.Status.TheVariants.{NonTried};
 ghost use Rattle.crash_site.specs.Files.{bytes_of};
 ghost use Rattle.crash_site.specs.Folder.{after};
-ghost use Rattle.ddrescue_cli.specs.declared.ending.Ending.TheVariants.{Done};
+ghost use Rattle.ddrescue_cli.specs.declared.ending.Ending.TheVariants.{Done, NoMemory as OutOfMemory};
 ghost use Rattle.ddrescue_cli.specs.Operands.{outfile, mapfile, refusal_of_words};
 ghost use Rattle.ddrescue_cli.specs.Sectors.{gained};
-ghost use Rattle.ddrescue_cli.specs.Run.{FilesAllow, Went, Stopped, StopCause};
+ghost use Rattle.ddrescue_cli.specs.Run.{is_other, FilesAllow, Went, Stopped, StopCause};
 ghost use Rattle.ddrescue_cli.specs.Rescue.{Caused, IsReadInOrder, IsCalled, AreRescued, MapfileHolds};
 
 use crate::copy::copy_all;
@@ -44,6 +44,7 @@ pub(crate) fn rescue<S: Source, D: Site>(alloc: Global, plan: &Plan<'_>, source:
         (S.bytes source.old) (S.journal source.old) (S.journal source.new) (D.record_ site.old) (D.record_ site.new)) }
     ensures allowed { OnOk result (IsTrue (D.tells site.old) → FilesAllow Done ((after (D.start site.old) (D.record_ site.old)).files plan.now.names.outfile.now) ((after (D.start site.old) (D.record_ site.old)).files plan.now.names.mapfile.now)) }
     ensures refused { IfErr result (λ e. IsTrue (D.tells site.old) → FilesAllow e ((after (D.start site.old) (D.record_ site.old)).files plan.now.names.outfile.now) ((after (D.start site.old) (D.record_ site.old)).files plan.now.names.mapfile.now)) }
+    ensures regular { IfErr result (λ e. e ≡ OutOfMemory → IsTrue (D.tells site.old) → is_other ((after (D.start site.old) (D.record_ site.old)).files plan.now.names.outfile.now) ≡ false) }
     ensures cause { IfErr result (λ e. StopCause e (S.faults source.old) (S.faults source.new) (S.losses source.old) (S.losses source.new) (D.faults site.old) (D.faults site.new)) }
     ensures source_tells { S.tells source.new ≡ S.tells source.old }
     ensures site_tells { D.tells site.new ≡ D.tells site.old }

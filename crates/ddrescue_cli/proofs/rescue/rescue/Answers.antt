@@ -3,7 +3,7 @@ use Rattle.std.proofs.lemmas.Grind.{common_steps}
 use Rattle.std.proofs.lemmas.Result.{err_from_is_err_and}
 use Rattle.crash_site.specs.Folder.{after}
 use Rattle.mapfile_text.specs.Printed.{printed}
-use Rattle.ddrescue_cli.proofs.RunFacts.{went, stopped_source, stopped_early, output_calls, map_calls, stopped_start, stopped_copy, stopped_late, open_apart, allowed_map, map_stop, allowed_copy, allowed_save, printed_is}
+use Rattle.ddrescue_cli.proofs.RunFacts.{went, stopped_source, stopped_early, output_calls, output_other, map_calls, map_other, stopped_start, stopped_copy, stopped_late, open_apart, allowed_map, map_stop, allowed_copy, allowed_save, printed_is}
 use Rattle.ddrescue_cli.proofs.rescue.rescue.Goals as goal
 
 pub returns-in_default-clause-stopped : goal.returns-in_default-clause-stopped
@@ -13,13 +13,13 @@ pub returns-in_err-open_output-clause-stopped : goal.returns-in_err-open_output-
 returns-in_err-open_output-clause-stopped g c =
     let p = err_from_is_err_and c.from_residual.result c.from_residual.ensures.1 in
     rw (p.1, p.2) (stopped_early _ _ _ _ _ _ _ _ c.in-Ok.end _ _ _ _ c.in-Ok.ensures.all c.open_input.ensures.journal
-        (λ t. output_calls _ _ _ _ _ _ _ _ _ (c.in_err-open_output.ensures.stop t)))
+        (λ t. output_calls _ _ _ _ _ _ _ _ _ (c.in_err-open_output.ensures.stop t)) (output_other _ _ _ c.in_err-open_output.ensures.cause))
 
 pub returns-in_err-refuse_map-clause-stopped : goal.returns-in_err-refuse_map-clause-stopped
 returns-in_err-refuse_map-clause-stopped g c =
     let p = err_from_is_err_and c.from_residual-in_err-refuse_map.result c.from_residual-in_err-refuse_map.ensures.1 in
     rw (p.1, p.2) (stopped_early _ _ _ _ _ _ _ _ c.in-Ok.end _ _ _ _ c.in-Ok.ensures.all c.open_input.ensures.journal
-        (λ t. map_calls _ _ _ _ _ _ _ _ _ _ (c.in_ok-open_output.ensures.made t) (c.in_err-refuse_map.ensures.stop (rw c.open_output.ensures.tells t))))
+        (λ t. map_calls _ _ _ _ _ _ _ _ _ _ (c.in_ok-open_output.ensures.made t) (c.in_err-refuse_map.ensures.stop (rw c.open_output.ensures.tells t))) (map_other _ _ _ c.in_err-refuse_map.ensures.cause))
 
 pub returns-in_err-refuse_map-clause-refused : goal.returns-in_err-refuse_map-clause-refused
 returns-in_err-refuse_map-clause-refused g c =
