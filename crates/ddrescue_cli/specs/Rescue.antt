@@ -1,4 +1,4 @@
-use Rattle.std.specs.Prelude.{◌≡◌, ◌≢◌, ⊤, ℕ, ◌≤◌, true, List, ◌++◌, length, Option, Some, None, nat_lt}
+use Rattle.std.specs.Prelude.{◌≡◌, ◌≢◌, ◌⊎◌, ⊤, ℕ, ◌≤◌, true, List, ◌++◌, length, Option, Some, None, unwrap_or, nat_lt}
 use Rattle.block_list.specs.declared.status.Status.{Status}
 use Rattle.fault_count.specs.Counts.{Rose}
 use Rattle.faulty_source.specs.Journal.{Reading}
@@ -24,6 +24,11 @@ Caused (SiteFault call) of_words faults faults' losses losses' site_faults site_
 Caused NotRegular of_words faults faults' losses losses' site_faults site_faults' = of_words ≡ None
 Caused MapThere of_words faults faults' losses losses' site_faults site_faults' = of_words ≡ None
 Caused e of_words faults faults' losses losses' site_faults site_faults' = of_words ≡ Some e
+
+-- The answer is the verdict, or Done where there is none; else memory wasn't there, or a count rose.
+abbrev pub IsVerdict : Ending → Option Ending → (faults faults' losses losses' site_faults site_faults' : ℕ) → Type 0
+IsVerdict answer refusal faults faults' losses losses' site_faults site_faults' =
+    (answer ≡ unwrap_or refusal Done) ⊎ (answer ≡ NoMemory) ⊎ Rose faults faults' ⊎ Rose losses losses' ⊎ Rose site_faults site_faults'
 
 -- the reads that a rescue of an input with this length added to the journal: one for each of the first sectors in
 -- order, and for all of them where it is done

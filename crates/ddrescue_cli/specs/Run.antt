@@ -26,6 +26,10 @@ refusal_of_files words files =
     else if is_some (files (mapfile words)) then Some MapThere
     else None
 
+-- the verdict: the first refusal, in the order of work, whose condition holds
+abbrev pub verdict : List (List ℕ) → (List ℕ → Option File) → Option Ending
+verdict words files = first_of_both (refusal_of_words words) (refusal_of_files words files)
+
 -- a rescue opens the outfile and looks for a mapfile
 abbrev pub opening_calls : List ℕ → List ℕ → List Call
 opening_calls out map = image_open out true ∷ map_read map 0 1 ∷ []

@@ -7,8 +7,8 @@ ghost use Rattle.crash_site.specs.Folder.{after};
 ghost use Rattle.ddrescue_cli.specs.declared.ending.Ending.TheVariants.{Done, NoMemory as OutOfMemory};
 ghost use Rattle.ddrescue_cli.specs.Operands.{outfile, mapfile, refusal_of_words};
 ghost use Rattle.ddrescue_cli.specs.Sectors.{gained};
-ghost use Rattle.ddrescue_cli.specs.Run.{is_other, FilesAllow, Went, Stopped, StopCause};
-ghost use Rattle.ddrescue_cli.specs.Rescue.{Caused, IsReadInOrder, IsCalled, AreRescued, MapfileHolds};
+ghost use Rattle.ddrescue_cli.specs.Run.{is_other, verdict, FilesAllow, Went, Stopped, StopCause};
+ghost use Rattle.ddrescue_cli.specs.Rescue.{Caused, IsVerdict, IsReadInOrder, IsCalled, AreRescued, MapfileHolds};
 
 use crate::copy::copy_all;
 use crate::ending::Ending;
@@ -82,6 +82,9 @@ pub fn ddrescue<S: Source, D: Site>(alloc: Global, words: &Words, source: &mut S
     requires { D.is_drafting site.old ≡ false }
     ensures cause { Caused result (refusal_of_words words.now) (S.faults source.old) (S.faults source.new) (S.losses source.old) (S.losses source.new) (D.faults site.old) (D.faults site.new) }
     ensures files { IsTrue (D.tells site.old) → FilesAllow result ((after (D.start site.old) (D.record_ site.old)).files (outfile words.now)) ((after (D.start site.old) (D.record_ site.old)).files (mapfile words.now)) }
+
+    ensures verdict { IsTrue (D.tells site.old)
+        → IsVerdict result (verdict words.now (after (D.start site.old) (D.record_ site.old)).files) (S.faults source.old) (S.faults source.new) (S.losses source.old) (S.losses source.new) (D.faults site.old) (D.faults site.new) }
 
     // A refusal of the words touches nothing.
     ensures untouched { IsSome (refusal_of_words words.now) → (source.new ≡ source.old) × (site.new ≡ site.old) }
