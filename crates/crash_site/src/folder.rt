@@ -125,7 +125,11 @@ fn append(mut file: &File, piece: &[u8]) -> io::Result<()> {
 
 impl FolderSite {
     /// Nothing is open or begun.
-    pub fn new(rt: HostRuntime) -> FolderSite {
+    pub fn new(rt: HostRuntime) -> FolderSite
+        ensures open { ⟦<FolderSite as Site>⟧.is_open result ≡ false }
+        ensures draft { ⟦<FolderSite as Site>⟧.is_drafting result ≡ false }
+        ensures faults { ⟦<FolderSite as Site>⟧.faults result ≡ 0 }
+    {
         FolderSite {
             rt,
             image: None,
