@@ -126,8 +126,8 @@ fn append(mut file: &File, piece: &[u8]) -> io::Result<()> {
 impl FolderSite {
     /// Nothing is open or begun.
     pub fn new(rt: HostRuntime) -> FolderSite
-        ensures closed { ⟦<FolderSite as Site>⟧.is_open result ≡ false }
-        ensures no_draft { ⟦<FolderSite as Site>⟧.is_drafting result ≡ false }
+        ensures open { ⟦<FolderSite as Site>⟧.is_open result ≡ false }
+        ensures draft { ⟦<FolderSite as Site>⟧.is_drafting result ≡ false }
         ensures faults { ⟦<FolderSite as Site>⟧.faults result ≡ 0 }
     {
         FolderSite {

@@ -1,4 +1,4 @@
-use Rattle.std.specs.Prelude.{ℕ, ◌+◌, ◌-◌, ◌^◌, ◌≤◌, min, Result, OnErr}
+use Rattle.std.specs.Prelude.{◌≡◌, ℕ, ◌+◌, ◌-◌, ◌^◌, ◌≤◌, min, Result, OnOk, OnErr}
 
 -- a count after one more, which stands still at the end of its type
 abbrev pub raised : ℕ → ℕ
@@ -8,7 +8,8 @@ raised n = min (n + 1) (2 ^ 64 - 1)
 abbrev pub Rose : ℕ → ℕ → Type 0
 Rose before now = raised before ≤ now
 
--- a count never falls in a call, and a call that failed has raised it
+-- a count stays in a call that returned Ok, never falls, and a call that failed has raised it
 pub record HasCause {T E : Type 0} (before now : ℕ) (result : Result T E) : Type 0 where
+  pub kept : OnOk result (now ≡ before)
   pub later : before ≤ now
   pub failed : OnErr result (Rose before now)

@@ -6,11 +6,11 @@ ghost use Rattle.faulty_source.specs.Journal.{Reading};
 #[derive(Clone, Copy, Debug, PartialEq, Eq)]
 pub struct SourceFault;
 
-/// The input is gone: no later read can be trusted.
+/// A read wasn't answered: what the input holds there isn't known.
 #[derive(Clone, Copy, Debug, PartialEq, Eq)]
 pub struct SourceLost;
 
-/// How many bytes a read gave. Fewer than were asked for means that the read failed at the next one.
+/// How many bytes a read gave. Fewer than were asked for means that the read failed at the next byte.
 #[derive(Clone, Copy, Debug, PartialEq, Eq)]
 pub struct Got(pub usize);
 
