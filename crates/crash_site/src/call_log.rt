@@ -1,6 +1,6 @@
 ghost use Rattle.std.specs.Prelude.{◌≡◌, ◌⊎◌, ℕ, ◌+◌, ◌<◌, ◌≤◌, ◌↔◌, true, false, IsTrue, List, [], ◌∷◌, ◌++◌, Some, None, Ok, IfOk, OnOk, OnErr, IsErr, Contains};
 ghost use Rattle.fault_count.specs.Counts.{raised, HasCause};
-ghost use Rattle.crash_site.specs.Calls.{Entry, Done, Lost};
+ghost use Rattle.crash_site.specs.Calls.{Entry, Done, Failed, Lost};
 ghost use Rattle.crash_site.specs.CallLog.{call_of, entries_of, IsNextToFail};
 
 use crate::fault::fault;
@@ -126,7 +126,8 @@ impl CallLog {
         ensures made { self.new.made ≡ raised self.old.made }
         ensures to_fail { self.new.to_fail.items ≡ self.old.to_fail.items }
         ensures fails { IsNextToFail self.old → IsErr result }
-        ensures why { OnErr result (IsNextToFail self.old ⊎ (self.new.starving ≡ raised self.old.starving)) }
+        ensures told { OnErr result ((IsNextToFail self.old × (self.new.starving ≡ self.old.starving) × (entries_of self.new ≡ entries_of self.old ++ Failed (call_of act) ∷ []))
+            ⊎ ((self.new.starving ≡ raised self.old.starving) × (entries_of self.new ≡ entries_of self.old))) }
         ensures fed { OnOk result (self.new.starving ≡ self.old.starving) }
     {
         let failed = self.count();

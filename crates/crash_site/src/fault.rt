@@ -9,7 +9,6 @@ pub(crate) fn fault(faults: &mut FaultCount) -> SiteFault
     ensures raised { faults.new ≡ raised faults.old }
     ensures later { faults.old ≤ faults.new }
 {
-    let _count = faults.get();
     faults.raise();
     SiteFault
 }

@@ -25,7 +25,7 @@ pub struct MemorySite {
 }
 
 impl MemorySite {
-    ghost use Rattle.crash_site.specs.MemoryState.{began, recorded, files_now, has_image, has_draft, faults_counted, calls, failing, starved};
+    ghost use Rattle.crash_site.specs.MemoryState.{began, recorded, files_now, open_image, begun_draft, has_image, has_draft, faults_counted, calls, failing, starved};
 
     /// No files, nothing open or begun, and no calls.
     pub fn new(alloc: Global) -> MemorySite
@@ -54,6 +54,8 @@ impl MemorySite {
         ensures record_ { OnOk result (recorded self.new ≡ []) }
         ensures start_same { OnErr result (began self.new ≡ began self.old) }
         ensures record_same { OnErr result (recorded self.new ≡ recorded self.old) }
+        ensures image { OnOk result ((began self.new).image ≡ open_image self.old) }
+        ensures draft { OnOk result ((began self.new).draft ≡ begun_draft self.old) }
         ensures is_open { has_image self.new ≡ has_image self.old }
         ensures is_drafting { has_draft self.new ≡ has_draft self.old }
         ensures faults { faults_counted self.new ≡ faults_counted self.old }
@@ -122,7 +124,7 @@ impl MemorySite {
 }
 
 impl Site for MemorySite {
-    ghost use Rattle.crash_site.specs.MemoryState.{began, recorded, files_now, has_image, has_draft, faults_counted, calls, failing, starved, FailsNext};
+    ghost use Rattle.crash_site.specs.MemoryState.{began, recorded, files_now, has_image, has_draft, faults_counted, calls, failing, starved, FailsNext, WhyFailed};
 
     ghost tells = { λ _. true };
 
@@ -150,7 +152,7 @@ impl Site for MemorySite {
         ensures calls { calls self.new ≡ raised (calls self.old) }
         ensures failing { failing self.new ≡ failing self.old }
         ensures fails { FailsNext self.old → IsErr result }
-        ensures why { OnErr result (FailsNext self.old ⊎ (starved self.new ≡ raised (starved self.old))) }
+        ensures why { OnErr result (WhyFailed (image_open name.now make) self.old self.new) }
         ensures fed { OnOk result (starved self.new ≡ starved self.old) }
     {
         self.folder.image = None;
@@ -176,7 +178,7 @@ impl Site for MemorySite {
         ensures calls { calls self.new ≡ raised (calls self.old) }
         ensures failing { failing self.new ≡ failing self.old }
         ensures fails { FailsNext self.old → IsErr result }
-        ensures why { OnErr result (FailsNext self.old ⊎ (starved self.new ≡ raised (starved self.old))) }
+        ensures why { OnErr result (WhyFailed (image_write pos piece.now) self.old self.new) }
         ensures fed { OnOk result (starved self.new ≡ starved self.old) }
     {
         let Ok(copied) = Vec::from_slice(self.alloc, piece) else {
@@ -198,7 +200,7 @@ impl Site for MemorySite {
         ensures calls { calls self.new ≡ raised (calls self.old) }
         ensures failing { failing self.new ≡ failing self.old }
         ensures fails { FailsNext self.old → IsErr result }
-        ensures why { OnErr result (FailsNext self.old ⊎ (starved self.new ≡ raised (starved self.old))) }
+        ensures why { OnErr result (WhyFailed image_sync self.old self.new) }
         ensures fed { OnOk result (starved self.new ≡ starved self.old) }
     {
         self.log.enter(Act::ImageSync)
@@ -219,7 +221,7 @@ impl Site for MemorySite {
         ensures calls { calls self.new ≡ raised (calls self.old) }
         ensures failing { failing self.new ≡ failing self.old }
         ensures fails { FailsNext self.old → IsErr result }
-        ensures why { OnErr result (FailsNext self.old ⊎ (starved self.new ≡ raised (starved self.old))) }
+        ensures why { OnErr result (WhyFailed (map_read name.now pos (length buf.old)) self.old self.new) }
         ensures fed { OnOk result (starved self.new ≡ starved self.old) }
     {
         let Ok(copied) = Vec::from_slice(self.alloc, name.as_bytes()) else {
@@ -241,7 +243,7 @@ impl Site for MemorySite {
         ensures calls { calls self.new ≡ raised (calls self.old) }
         ensures failing { failing self.new ≡ failing self.old }
         ensures fails { FailsNext self.old → IsErr result }
-        ensures why { OnErr result (FailsNext self.old ⊎ (starved self.new ≡ raised (starved self.old))) }
+        ensures why { OnErr result (WhyFailed (draft_begin name.now) self.old self.new) }
         ensures fed { OnOk result (starved self.new ≡ starved self.old) }
     {
         self.folder.draft = None;
@@ -266,7 +268,7 @@ impl Site for MemorySite {
         ensures calls { calls self.new ≡ raised (calls self.old) }
         ensures failing { failing self.new ≡ failing self.old }
         ensures fails { FailsNext self.old → IsErr result }
-        ensures why { OnErr result (FailsNext self.old ⊎ (starved self.new ≡ raised (starved self.old))) }
+        ensures why { OnErr result (WhyFailed (draft_append piece.now) self.old self.new) }
         ensures fed { OnOk result (starved self.new ≡ starved self.old) }
     {
         let Ok(copied) = Vec::from_slice(self.alloc, piece) else {
@@ -289,7 +291,7 @@ impl Site for MemorySite {
         ensures calls { calls self.new ≡ raised (calls self.old) }
         ensures failing { failing self.new ≡ failing self.old }
         ensures fails { FailsNext self.old → IsErr result }
-        ensures why { OnErr result (FailsNext self.old ⊎ (starved self.new ≡ raised (starved self.old))) }
+        ensures why { OnErr result (WhyFailed draft_sync self.old self.new) }
         ensures fed { OnOk result (starved self.new ≡ starved self.old) }
     {
         self.log.enter(Act::DraftSync)
@@ -307,7 +309,7 @@ impl Site for MemorySite {
         ensures calls { calls self.new ≡ raised (calls self.old) }
         ensures failing { failing self.new ≡ failing self.old }
         ensures fails { FailsNext self.old → IsErr result }
-        ensures why { OnErr result (FailsNext self.old ⊎ (starved self.new ≡ raised (starved self.old))) }
+        ensures why { OnErr result (WhyFailed (draft_publish name.now) self.old self.new) }
         ensures fed { OnOk result (starved self.new ≡ starved self.old) }
     {
         let Some(draft) = self.folder.draft.take() else {
@@ -333,7 +335,7 @@ impl Site for MemorySite {
         ensures calls { calls self.new ≡ raised (calls self.old) }
         ensures failing { failing self.new ≡ failing self.old }
         ensures fails { FailsNext self.old → IsErr result }
-        ensures why { OnErr result (FailsNext self.old ⊎ (starved self.new ≡ raised (starved self.old))) }
+        ensures why { OnErr result (WhyFailed (map_settle name.now) self.old self.new) }
         ensures fed { OnOk result (starved self.new ≡ starved self.old) }
     {
         let Ok(copied) = Vec::from_slice(self.alloc, name.as_bytes()) else {
