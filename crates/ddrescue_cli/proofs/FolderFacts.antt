@@ -22,7 +22,7 @@ bytes_eq-refl xs = (bytes_eq-Decides xs xs).1 refl
 pub bytes_eq-flip : (xs ys : List ℕ) → bytes_eq xs ys ≡ false → bytes_eq ys xs ≡ false
 bytes_eq-flip xs ys e = false_from_ne_true (bytes_eq ys xs) (λ t. let same : ys ≡ xs = (bytes_eq-Decides ys xs).0 t in let h : bytes_eq xs ys ≡ true = (bytes_eq-Decides xs ys).1 (sym same) in cc)
 
-apart_of : (xs ys : List ℕ) → xs ≢ ys → bytes_eq xs ys ≡ false
+pub apart_of : (xs ys : List ℕ) → xs ≢ ys → bytes_eq xs ys ≡ false
 apart_of xs ys e = false_from_ne_true (bytes_eq xs ys) (λ t. e ((bytes_eq-Decides xs ys).0 t))
 
 -- an open image: its bytes, and that every other file stands
@@ -31,17 +31,17 @@ pub record IsOpenImage (out bytes : List ℕ) (files : List ℕ → Option File)
   pub here : d.files out ≡ Some (record { bytes = bytes; regular = true })
   pub others : (n : List ℕ) → bytes_eq n out ≡ false → d.files n ≡ files n
 
-put_same : (files : List ℕ → Option File) (name : List ℕ) (file : Option File) → put files name file name ≡ file
+pub put_same : (files : List ℕ → Option File) (name : List ℕ) (file : Option File) → put files name file name ≡ file
 put_same files name file = let e = bytes_eq-refl name in rw e refl
 
-put_other : (files : List ℕ → Option File) (name n : List ℕ) (file : Option File) → bytes_eq n name ≡ false → put files name file n ≡ files n
+pub put_other : (files : List ℕ → Option File) (name n : List ℕ) (file : Option File) → bytes_eq n name ≡ false → put files name file n ≡ files n
 put_other files name n file e = rw e refl
 
 regular_file : (f : File) (b : Bool) → f.regular ≡ b → (if b then false else true) ≡ false → f ≡ record { bytes = f.bytes; regular = true }
 regular_file f true e h = ap (λ (r : Bool). record f { regular = r }) e
 regular_file f false e h = cc
 
-open_image : (d : Folder) (out : List ℕ) (file : Option File) → d.files out ≡ file → is_other file ≡ false → IsOpenImage out (bytes_of file) d.files (opened d out true file)
+pub open_image : (d : Folder) (out : List ℕ) (file : Option File) → d.files out ≡ file → is_other file ≡ false → IsOpenImage out (bytes_of file) d.files (opened d out true file)
 open_image d out None is regular = record {
   image = refl;
   here = put_same d.files out (Some empty_file);
@@ -83,7 +83,7 @@ pub record IsSaved (out name draft bytes text : List ℕ) (files : List ℕ → 
   pub no_draft : files' draft ≡ None
   pub others : (n : List ℕ) → n ≢ out → n ≢ name → n ≢ draft → files' n ≡ files n
 
-save_image : (out name draft bytes text : List ℕ) (files : List ℕ → Option File) (d : Folder) → bytes_eq out name ≡ false → bytes_eq out draft ≡ false → bytes_eq draft name ≡ false
+pub save_image : (out name draft bytes text : List ℕ) (files : List ℕ → Option File) (d : Folder) → bytes_eq out name ≡ false → bytes_eq out draft ≡ false → bytes_eq draft name ≡ false
     → IsOpenImage out bytes files d → IsSaved out name draft bytes text files (after d (map Done (save_calls name draft text))).files
 save_image out name draft bytes text files d a b e o =
     let same : bytes_eq draft draft ≡ true = bytes_eq-refl draft in

@@ -1,4 +1,5 @@
 pub mod CopyFacts
 pub mod FolderFacts
 pub mod HeldFacts
+pub mod LeftFacts
 pub mod RunFacts
