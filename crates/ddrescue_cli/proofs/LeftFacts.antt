@@ -8,12 +8,12 @@ use Rattle.crash_site.specs.Calls.{Call, image_open, image_write, image_sync, ma
 use Rattle.crash_site.specs.Folder.{Folder, opened, after, after_done, after_failed}
 use Rattle.ddrescue_cli.specs.declared.ending.Ending.{Ending}
 use Rattle.ddrescue_cli.specs.declared.ending.Ending.TheVariants.{Done as Finished, WrongNumber, WrongWord, SameName, SourceFault, NotRegular, MapThere, SourceLost, SiteFault, NoMemory}
-use Rattle.ddrescue_cli.specs.Operands.{outfile, mapfile, draft, AreApart}
+use Rattle.ddrescue_cli.specs.Operands.{outfile, mapfile, draft, AreNamedApart}
 use Rattle.ddrescue_cli.specs.Sectors.{map_of, landed, write_of, writes_of}
 use Rattle.ddrescue_cli.specs.Saved.{heading, saved_text}
 use Rattle.ddrescue_cli.specs.Run.{is_other, opening_calls, save_calls, run_calls, CallAllowed, FilesAllow}
 use Rattle.ddrescue_cli.specs.Rescue.{IsCalled, AreRescued}
-use Rattle.ddrescue_cli.specs.Left.{AllStand, made, OutputMade, Unpublished, Unwritten, LeftAt, FilesLeft}
+use Rattle.ddrescue_cli.specs.Left.{AllStand, made, OutputMade, Unpublished, LastWriteFailed, LeftAt, FilesLeft}
 use Rattle.ddrescue_cli.proofs.FolderFacts.{after-append, apart_of, bytes_eq-flip, draft_apart, put_same, put_other, IsOpenImage, open_image, writes_image, IsSaved, save_image}
 use Rattle.ddrescue_cli.proofs.RunFacts.{rescued_files}
 
@@ -157,7 +157,7 @@ copied words reads d regular =
     writes_image reads (outfile words) (bytes_of (d.files (outfile words))) d.files (after_done d (image_open (outfile words) true))
     (open_image d (outfile words) (d.files (outfile words)) refl regular)
 
-copied_left : (words : List (List ℕ)) (reads : List Reading) (start : Folder) (old new : List Entry) → AreApart words → is_other ((after start old).files (outfile words)) ≡ false
+copied_left : (words : List (List ℕ)) (reads : List Reading) (start : Folder) (old new : List Entry) → AreNamedApart words → is_other ((after start old).files (outfile words)) ≡ false
     → Made (opening_calls (outfile words) (mapfile words) ++ writes_of reads) old new → Unpublished words reads (after start old).files (after start new).files
 copied_left words reads start old new apart regular grew =
     let d : Folder = after start old in
@@ -172,8 +172,8 @@ abbrev pub WriteFailed : List (List ℕ) → List Reading → List Entry → Lis
 WriteFailed words reads old new = (written : List Reading) × (failed : Reading) × (reads ≡ written ++ failed ∷ []) × (is_whole failed ≡ true)
     × BrokeAt ImageWrite (image_write failed.pos failed.given ∷ []) (old ++ map Done (opening_calls (outfile words) (mapfile words) ++ writes_of written)) new
 
-unwritten : (words : List (List ℕ)) (reads : List Reading) (start : Folder) (old new : List Entry) → AreApart words → is_other ((after start old).files (outfile words)) ≡ false
-    → WriteFailed words reads old new → Unwritten words reads (after start old).files (after start new).files
+unwritten : (words : List (List ℕ)) (reads : List Reading) (start : Folder) (old new : List Entry) → AreNamedApart words → is_other ((after start old).files (outfile words)) ≡ false
+    → WriteFailed words reads old new → LastWriteFailed words reads (after start old).files (after start new).files
 unwritten words reads start old new apart regular w =
     let mid : List Entry = old ++ map Done (opening_calls (outfile words) (mapfile words) ++ writes_of w.0) in
     let stands : (after start new).files ≡ (after start mid).files = ⊎_elim (λ l. lost_files start (image_write w.1.pos w.1.given) mid new l.1) (λ n. absurd n) w.4 in
@@ -205,7 +205,7 @@ save_regular at name draft' text d files output map broke allowed =
     ⊎_elim (λ l. settle l.0) (λ r5. absurd r5)
     r4) r3) r2) r1) r0) broke
 
-broke_save : (at : SiteCall) (words : List (List ℕ)) (end : ℕ) (reads : List Reading) (d : Folder) (files : List ℕ → Option File) (text : List ℕ) → AreApart words
+broke_save : (at : SiteCall) (words : List (List ℕ)) (end : ℕ) (reads : List Reading) (d : Folder) (files : List ℕ → Option File) (text : List ℕ) → AreNamedApart words
     → CallAllowed at (d.files (outfile words)) (d.files (mapfile words)) → text ≡ saved_text (heading words) end (map_of reads)
     → FilesAtBreak at (save_calls (mapfile words) (draft words) text) (after d (map Done (opening_calls (outfile words) (mapfile words) ++ writes_of reads))) files
     → LeftAt at words end reads d.files files
@@ -223,7 +223,7 @@ broke_save at words end reads d files text apart allowed is broke =
     (copied words reads d regular) broke
 
 -- a rescue that a failed call ended
-broke_left : (at : SiteCall) (words : List (List ℕ)) (end : ℕ) (reads : List Reading) (d : Folder) (files : List ℕ → Option File) → AreApart words
+broke_left : (at : SiteCall) (words : List (List ℕ)) (end : ℕ) (reads : List Reading) (d : Folder) (files : List ℕ → Option File) → AreNamedApart words
     → CallAllowed at (d.files (outfile words)) (d.files (mapfile words)) → (at ≡ ImageWrite → LeftAt at words end reads d.files files)
     → FilesAtBreak at (run_calls (outfile words) (mapfile words) (draft words) reads (saved_text (heading words) end (map_of reads))) d files
     → LeftAt at words end reads d.files files
@@ -266,7 +266,7 @@ map_left words start old new grew =
     subst P (sym (after_made start (opening_calls (outfile words) (mapfile words)) old new grew)) (output_made words (after start old))
 
 -- what each answer leaves of the files, of one start
-left_of : (e : Ending) (words : List (List ℕ)) (end : ℕ) (reads : List Reading) (start : Folder) (old new : List Entry) → AreApart words
+left_of : (e : Ending) (words : List (List ℕ)) (end : ℕ) (reads : List Reading) (start : Folder) (old new : List Entry) → AreNamedApart words
     → FilesAllow e ((after start old).files (outfile words)) ((after start old).files (mapfile words))
     → (e ≡ NoMemory → is_other ((after start old).files (outfile words)) ≡ false)
     → IsCalled e words end reads old new → (e ≡ SiteFault ImageWrite → WriteFailed words reads old new)
@@ -280,7 +280,7 @@ left_of NotRegular words end reads start old new apart allowed memory called wri
 left_of MapThere words end reads start old new apart allowed memory called write = map_left words start old new called
 left_of SourceLost words end reads start old new apart allowed memory called write = copied_left words reads start old new apart allowed.0 called
 left_of NoMemory words end reads start old new apart allowed memory called write =
-    ⊎_elim (λ l. inl (none_left start old new l)) (λ r. inr (copied_left words reads start old new apart (memory refl) r)) called
+    ⊎_elim (λ l. inl (none_left start old new l.0)) (λ r. inr (copied_left words reads start old new apart (memory refl) r)) called
 left_of (SiteFault call) words end reads start old new apart allowed memory called write =
     let d : Folder = after start old in
     let calls : List Call = run_calls (outfile words) (mapfile words) (draft words) reads (saved_text (heading words) end (map_of reads)) in
@@ -291,7 +291,7 @@ left_of (SiteFault call) words end reads start old new apart allowed memory call
     broke_left call words end reads d (after start new).files apart allowed failed (broke_files start call calls old new called)
 
 -- what each answer leaves of the files
-pub files_left : (e : Ending) (words : List (List ℕ)) (end : ℕ) (reads : List Reading) (start start' : Folder) (old new : List Entry) → AreApart words → start' ≡ start
+pub files_left : (e : Ending) (words : List (List ℕ)) (end : ℕ) (reads : List Reading) (start start' : Folder) (old new : List Entry) → AreNamedApart words → start' ≡ start
     → FilesAllow e ((after start old).files (outfile words)) ((after start old).files (mapfile words))
     → (e ≡ NoMemory → is_other ((after start old).files (outfile words)) ≡ false)
     → IsCalled e words end reads old new

@@ -13,17 +13,18 @@ use Rattle.crash_site.specs.Folder.{Folder, opened, after}
 use Rattle.std.specs.Str.{bytes_eq}
 use Rattle.ddrescue_cli.proofs.FolderFacts.{after-append, bytes_eq-flip, run_files, draft_apart}
 use Rattle.ddrescue_cli.specs.declared.ending.Ending.{Ending}
-use Rattle.ddrescue_cli.specs.declared.ending.Ending.TheVariants.{Done as Finished, SourceFault, NotRegular, MapThere, SourceLost, SiteFault, NoMemory}
+use Rattle.ddrescue_cli.specs.declared.ending.Ending.TheVariants.{Done as Finished, WrongNumber, WrongWord, SameName, SourceFault, NotRegular, MapThere, SourceLost, SiteFault, NoMemory}
 use Rattle.ddrescue_cli.specs.Sectors.{sector_count, IsSectorRead, AreSectorReads, map_of, write_of, writes_of, landed, gained}
 use Rattle.ddrescue_cli.specs.Copying.{CopyCause, Halt, Unread, Unwritten, Copied, Halted}
 use Rattle.ddrescue_cli.specs.Opening.{OutputCause, OutputStop, MapCause, MapStop}
 use Rattle.ddrescue_cli.specs.Saved.{finished_state, heading, saved_text}
-use Rattle.ddrescue_cli.specs.Operands.{outfile, mapfile, draft, AreApart}
+use Rattle.ddrescue_cli.specs.Operands.{outfile, mapfile, draft, AreNamedApart}
 use Rattle.ddrescue_cli.specs.Rescue.{IsReadInOrder, IsCalled, AreRescued, MapfileHolds}
+use Rattle.ddrescue_cli.specs.Left.{FilesLeft}
 use Rattle.ddrescue_cli.specs.Held.{Held}
 use Rattle.ddrescue_cli.proofs.HeldFacts.{held}
 use Rattle.std.proofs.Math.Seq.{drop-append_seam}
-use Rattle.ddrescue_cli.specs.Run.{opening_calls, save_calls, run_calls, CallsOf, FilesAllow, is_other, StopCause, Went, Stopped}
+use Rattle.ddrescue_cli.specs.Run.{opening_calls, save_calls, run_calls, CallsOf, IsOpening, IsSaving, IsBeforeReads, IsAfterReads, IsPublished, FilesAllow, is_other, Went, Stopped}
 use Rattle.ddrescue_cli.proofs.CopyFacts.{made_more, sector_reads_more, flat_map_one}
 
 -- a call that failed among the first calls failed among all of them
@@ -76,13 +77,15 @@ stopped_source out name draft h ts td bytes j0 j1 c0 before = record {
   sectors = no_reads (length bytes);
   told = λ t. before t ∙ sym (append-nil j0);
   made = λ t. sym (append-nil c0);
+  none = λ _. refl;
+  every = λ x. absurd x;
   unwritten = λ q. cc;
 }
 
 -- a rescue that stopped before its first read
 pub stopped_early : (e : Ending) (out name draft : List ℕ) (h : HeadingLines) (ts td : Bool) (bytes : List ℕ) (end : ℕ) (j0 j1 : List Reading) (c0 c1 : List Entry)
-    → (IsTrue ts → end ≡ length bytes) → (IsTrue ts → j1 ≡ j0) → (IsTrue td → CallsOf e out name draft [] (saved_text h end (map_of [])) c0 c1) → (e ≡ SiteFault ImageWrite → ⊥) → Stopped e out name draft h ts td bytes j0 j1 c0 c1
-stopped_early e out name draft h ts td bytes end j0 j1 c0 c1 all before made other = record {
+    → (IsTrue ts → end ≡ length bytes) → (IsTrue ts → j1 ≡ j0) → (IsTrue td → CallsOf e out name draft [] (saved_text h end (map_of [])) c0 c1) → (IsAfterReads e → ⊥) → (e ≡ SiteFault ImageWrite → ⊥) → Stopped e out name draft h ts td bytes j0 j1 c0 c1
+stopped_early e out name draft h ts td bytes end j0 j1 c0 c1 all before made early other = record {
   end = end;
   all = all;
   count = 0;
@@ -90,6 +93,8 @@ stopped_early e out name draft h ts td bytes end j0 j1 c0 c1 all before made oth
   sectors = no_reads end;
   told = λ t. before t ∙ sym (append-nil j0);
   made = made;
+  none = λ _. refl;
+  every = λ x. absurd (early x);
   unwritten = λ q t. absurd (other q);
 }
 
@@ -98,6 +103,12 @@ output_other e faults faults' cause q = ⊎_elim (λ x. cc) (λ x. let r = x.0 i
 
 pub map_other : (e : Ending) (faults faults' : ℕ) → MapCause e faults faults' → e ≡ SiteFault ImageWrite → ⊥
 map_other e faults faults' cause q = ⊎_elim (λ x. cc) (λ x. let r = x.0 in cc) cause
+
+pub output_early : (e : Ending) (faults faults' : ℕ) → OutputCause e faults faults' → IsAfterReads e → ⊥
+output_early e faults faults' cause x = let P : Ending → Type 0 = λ v. IsAfterReads v → ⊥ in ⊎_elim (λ z. subst P (sym z) (λ y. y) x) (λ z. subst P (sym z.0) (λ y. y) x) cause
+
+pub map_early : (e : Ending) (faults faults' : ℕ) → MapCause e faults faults' → IsAfterReads e → ⊥
+map_early e faults faults' cause x = let P : Ending → Type 0 = λ v. IsAfterReads v → ⊥ in ⊎_elim (λ z. subst P (sym z) (λ y. y) x) (λ z. subst P (sym z.0) (λ y. y) x) cause
 
 pub output_calls : (e : Ending) (out name draft : List ℕ) (reads : List Reading) (text : List ℕ) (file : Option File) (c0 c1 : List Entry) → OutputStop e out file c0 c1 → CallsOf e out name draft reads text c0 c1
 output_calls e out name draft reads text file c0 c1 stop =
@@ -141,6 +152,8 @@ stopped_at e out name draft h ts td bytes end k pos size reads j0 j1 j2 c0 c1 c2
     let P : Ending → Type 0 = λ v. CallsOf v out name draft reads text c0 c4 in
     let grew : Made (opening_calls out name ++ writes_of reads) c0 c4 = rw (unmade t) (no_memory_calls out name draft reads text c0 c1 c2 c3 (opened t) (looked t) (wrote t)) in
     ⊎_elim (λ z. subst P (sym z) (inr grew)) (λ z. subst P (sym z) grew) cause;
+  none = λ x. let P : Ending → Type 0 = λ v. IsBeforeReads v → ⊥ in absurd (⊎_elim (λ z. subst P (sym z) (λ y. y) x) (λ z. subst P (sym z) (λ y. y) x) cause);
+  every = λ x. let P : Ending → Type 0 = λ v. IsAfterReads v → ⊥ in absurd (⊎_elim (λ z. subst P (sym z) (λ y. y) x) (λ z. subst P (sym z) (λ y. y) x) cause);
   unwritten = λ q t. ⊎_elim (λ z. cc) (λ z. cc) cause;
 }
 stopped_at e out name draft h ts td bytes end k pos size reads j0 j1 j2 c0 c1 c2 c3 c4 (Unwritten r is pos_is asked_is full new lost) at fits sectors all told opened looked wrote = record {
@@ -162,6 +175,8 @@ stopped_at e out name draft h ts td bytes end k pos size reads j0 j1 j2 c0 c1 c2
     let all_writes : BrokeAt ImageWrite (writes_of (reads ++ r ∷ [])) c2 c4 = subst Q (sym writes) within in
     subst P (sym is) (broke_back ImageWrite (opening_calls out name) (writes_of (reads ++ r ∷ []) ++ save_calls name draft text) c0 c2 c4 (made_opening out name c0 c1 c2 (opened t) (looked t))
         (broke_front ImageWrite (writes_of (reads ++ r ∷ [])) (save_calls name draft text) c2 c4 all_writes));
+  none = λ x. let P : Ending → Type 0 = λ v. IsBeforeReads v → ⊥ in absurd (subst P (sym is) (λ y. y) x);
+  every = λ x. let P : Ending → Type 0 = λ v. IsAfterReads v → ⊥ in absurd (subst P (sym is) (λ y. y) x);
   unwritten = λ q t. record {
     before = reads;
     last = r;
@@ -186,6 +201,20 @@ stopped_copy e out name draft h ts ts' td td' bytes end j0 j1 j2 c0 c1 c2 c3 s s
 write_is : (at : SiteCall) → SiteFault at ≡ SiteFault ImageWrite → at ≡ ImageWrite
 write_is at q = cc
 
+-- no call is both
+saving_or_opening : (at : SiteCall) → IsSaving at → IsOpening at → ⊥
+saving_or_opening ImageSync a b = b
+saving_or_opening DraftBegin a b = b
+saving_or_opening DraftAppend a b = b
+saving_or_opening DraftSync a b = b
+saving_or_opening DraftPublish a b = b
+saving_or_opening MapSettle a b = b
+saving_or_opening ImageOpen a b = a
+saving_or_opening ImageRead a b = a
+saving_or_opening ImageWrite a b = a
+saving_or_opening MapRead a b = a
+saving_or_opening MapRemove a b = a
+
 -- a save writes no image
 no_write_in_save : (name draft text : List ℕ) (old new : List Entry) (at : SiteCall) → at ≡ ImageWrite → BrokeAt at (save_calls name draft text) old new → ⊥
 no_write_in_save name draft text old new at is b =
@@ -198,7 +227,7 @@ pub stopped_late : (e : Ending) (out name draft : List ℕ) (h : HeadingLines) (
     → Copied end (sector_count end) ts' td' j1 j2 c2 c3 m0 m1 → ts' ≡ ts → td' ≡ td → m0 ≡ replicate end NonTried
     → (IsTrue ts → end ≡ length bytes) → (IsTrue ts → j1 ≡ j0)
     → (IsTrue td → Made (image_open out true ∷ []) c0 c1) → (IsTrue td → Made (map_read name 0 1 ∷ []) c1 c2)
-    → ((e ≡ NoMemory) × (c4 ≡ c3)) ⊎ ((at : SiteCall) × (e ≡ SiteFault at) × (IsTrue td → BrokeAt at (save_calls name draft (saved_text h end m1)) c3 c4))
+    → ((e ≡ NoMemory) × (c4 ≡ c3)) ⊎ ((at : SiteCall) × (e ≡ SiteFault at) × IsSaving at × (IsTrue td → BrokeAt at (save_calls name draft (saved_text h end m1)) c3 c4))
     → Stopped e out name draft h ts td bytes j0 j2 c0 c4
 stopped_late e out name draft h ts ts' td td' bytes end j0 j1 j2 c0 c1 c2 c3 c4 m0 m1 c same_s same_d empty all before opened looked how = record {
   end = end;
@@ -217,11 +246,13 @@ stopped_late e out name draft h ts ts' td td' bytes end j0 j1 j2 c0 c1 c2 c3 c4 
         subst P (sym z.0) (inr grew))
     (λ z.
         let Q : List Status → Type 0 = λ m. BrokeAt z.0 (save_calls name draft (saved_text h end m)) c3 c4 in
-        let saved : BrokeAt z.0 (save_calls name draft text) c3 c4 = subst Q whole (z.2 t) in
+        let saved : BrokeAt z.0 (save_calls name draft text) c3 c4 = subst Q whole (z.3 t) in
         subst P (sym z.1) (broke_back z.0 (opening_calls out name) (writes_of c.reads ++ save_calls name draft text) c0 c2 c4 (made_opening out name c0 c1 c2 (opened t) (looked t))
             (broke_back z.0 (writes_of c.reads) (save_calls name draft text) c2 c3 c4 (c.written (rw same_d t)) saved)))
     how;
-  unwritten = λ q t. ⊎_elim (λ z. cc) (λ z. absurd (no_write_in_save name draft (saved_text h end m1) c3 c4 z.0 (write_is z.0 (sym z.1 ∙ q)) (z.2 t))) how;
+  none = λ x. let P : Ending → Type 0 = λ v. IsBeforeReads v → ⊥ in absurd (⊎_elim (λ z. subst P (sym z.0) (λ y. y) x) (λ z. subst P (sym z.1) (saving_or_opening z.0 z.2) x) how);
+  every = λ _. refl;
+  unwritten = λ q t. ⊎_elim (λ z. cc) (λ z. absurd (no_write_in_save name draft (saved_text h end m1) c3 c4 z.0 (write_is z.0 (sym z.1 ∙ q)) (z.3 t))) how;
 }
 
 opened_apart : (d : Folder) (out name : List ℕ) → bytes_eq out name ≡ false → (file : Option File) → (opened d out true file).files name ≡ d.files name
@@ -241,7 +272,7 @@ pub stopped_start : (out name draft : List ℕ) (h : HeadingLines) (ts td : Bool
     → Stopped NoMemory out name draft h ts td bytes j0 j1 c0 c2
 stopped_start out name draft h ts td bytes end j0 j1 c0 c1 c2 all before opened looked =
     stopped_early NoMemory out name draft h ts td bytes end j0 j1 c0 c2 all before
-        (λ t. inr (no_memory_calls out name draft [] (saved_text h end (map_of [])) c0 c1 c2 c2 (opened t) (looked t) (sym (append-nil c2)))) (λ q. cc)
+        (λ t. inr (no_memory_calls out name draft [] (saved_text h end (map_of [])) c0 c1 c2 c2 (opened t) (looked t) (sym (append-nil c2)))) (λ x. x) (λ q. cc)
 
 -- what the files allow, of an answer behind a mapfile that was looked for
 pub allowed_map : (e : Ending) (out name : Option File) (seen : Option File) → is_other out ≡ false → seen ≡ name → ((e ≡ MapThere) × (is_some seen ≡ true)) ⊎ (e ≡ SiteFault MapRead) → FilesAllow e out name
@@ -271,23 +302,24 @@ allowed_save DraftPublish out name regular absent = (regular, absent)
 allowed_save MapSettle out name regular absent = (regular, absent)
 allowed_save MapRemove out name regular absent = (regular, absent)
 
-gained_is : {A : Type 0} (before now more : List A) → now ≡ before ++ more → gained before now ≡ more
+pub gained_is : {A : Type 0} (before now more : List A) → now ≡ before ++ more → gained before now ≡ more
 gained_is before now more e = ap (drop (length before)) e ∙ drop-append_seam before more
 
-read_in_order : (e : Ending) (end count : ℕ) (journal journal' reads : List Reading) → journal' ≡ journal ++ reads → AreSectorReads end count reads → (e ≡ Finished → count ≡ sector_count end) → IsReadInOrder e end journal journal'
-read_in_order e end count journal journal' reads told sectors all =
+read_in_order : (e : Ending) (end count : ℕ) (journal journal' reads : List Reading) → journal' ≡ journal ++ reads → AreSectorReads end count reads → (IsBeforeReads e → reads ≡ []) → (IsAfterReads e → count ≡ sector_count end) → IsReadInOrder e end journal journal'
+read_in_order e end count journal journal' reads told sectors none all =
     let g : gained journal journal' ≡ reads = gained_is journal journal' reads told in
     let n : length reads ≡ count = sectors.count_is in
-    let P : List Reading → Type 0 = λ r. (journal' ≡ journal ++ r) × AreSectorReads end (length r) r × (e ≡ Finished → length r ≡ sector_count end) in
-    let whole = subst P (sym g) (told, rw n sectors, (λ d. n ∙ all d)) in
-    record { added = whole.0; sectors = whole.1; all = whole.2; }
+    let P : List Reading → Type 0 = λ r. (journal' ≡ journal ++ r) × AreSectorReads end (length r) r × (IsBeforeReads e → r ≡ []) × (IsAfterReads e → length r ≡ sector_count end) in
+    let whole = subst P (sym g) (told, rw n sectors, none, (λ d. n ∙ all d)) in
+    record { added = whole.0; sectors = whole.1; none = whole.2; all = whole.3; }
 
 -- what a rescue that stopped says of its reads
 pub stopped_reads : (e : Ending) (out name draft : List ℕ) (h : HeadingLines) (ts td : Bool) (bytes : List ℕ) (j0 j1 : List Reading) (c0 c1 : List Entry)
-    → Stopped e out name draft h ts td bytes j0 j1 c0 c1 → (e ≡ Finished → ⊥) → IsTrue ts → IsReadInOrder e (length bytes) j0 j1
-stopped_reads e out name draft h ts td bytes j0 j1 c0 c1 s other t =
-    let P : ℕ → Type 0 = λ n. AreSectorReads n s.count s.reads in
-    read_in_order e (length bytes) s.count j0 j1 s.reads (s.told t) (subst P (s.all t) s.sectors) (λ d. absurd (other d))
+    → Stopped e out name draft h ts td bytes j0 j1 c0 c1 → IsTrue ts → IsReadInOrder e (length bytes) j0 j1
+stopped_reads e out name draft h ts td bytes j0 j1 c0 c1 s t =
+    let P : ℕ → Type 0 = λ n. AreSectorReads n s.count s.reads × (IsAfterReads e → s.count ≡ sector_count n) in
+    let parts = subst P (s.all t) (s.sectors, s.every) in
+    read_in_order e (length bytes) s.count j0 j1 s.reads (s.told t) parts.0 s.none parts.1
 
 pub stopped_calls : (e : Ending) (words : List (List ℕ)) (out name draft' : List ℕ) (h : HeadingLines) (ts td : Bool) (bytes : List ℕ) (j0 j1 : List Reading) (c0 c1 : List Entry)
     → Stopped e out name draft' h ts td bytes j0 j1 c0 c1 → out ≡ outfile words → name ≡ mapfile words → draft' ≡ draft words → h ≡ heading words → IsTrue ts → IsTrue td
@@ -302,7 +334,7 @@ pub went_reads : (out name draft : List ℕ) (h : HeadingLines) (ts td : Bool) (
     → Went out name draft h ts td bytes j0 j1 c0 c1 → IsTrue ts → IsReadInOrder Finished (length bytes) j0 j1
 went_reads out name draft h ts td bytes j0 j1 c0 c1 s t =
     let P : ℕ → Type 0 = λ n. AreSectorReads n (sector_count n) s.reads in
-    read_in_order Finished (length bytes) (sector_count (length bytes)) j0 j1 s.reads (s.told t) (subst P (s.all t) s.sectors) (λ d. refl)
+    read_in_order Finished (length bytes) (sector_count (length bytes)) j0 j1 s.reads (s.told t) (subst P (s.all t) s.sectors) (λ x. absurd x) (λ d. refl)
 
 pub went_calls : (words : List (List ℕ)) (out name draft' : List ℕ) (h : HeadingLines) (ts td : Bool) (bytes : List ℕ) (j0 j1 : List Reading) (c0 c1 : List Entry)
     → Went out name draft' h ts td bytes j0 j1 c0 c1 → out ≡ outfile words → name ≡ mapfile words → draft' ≡ draft words → h ≡ heading words → IsTrue ts → IsTrue td
@@ -314,7 +346,7 @@ went_calls words out name draft' h ts td bytes j0 j1 c0 c1 s x y z w t u =
     subst P (sym g) calls
 
 -- the files after a finished rescue
-pub rescued_files : (words : List (List ℕ)) (end : ℕ) (reads : List Reading) (start start' : Folder) (old new : List Entry) → AreApart words → start' ≡ start → is_other ((after start old).files (outfile words)) ≡ false
+pub rescued_files : (words : List (List ℕ)) (end : ℕ) (reads : List Reading) (start start' : Folder) (old new : List Entry) → AreNamedApart words → start' ≡ start → is_other ((after start old).files (outfile words)) ≡ false
     → IsCalled Finished words end reads old new → AreRescued words end reads (after start old).files (after start' new).files
 rescued_files words end reads start start' old new apart same regular made =
     let s = run_files start old new (outfile words) (mapfile words) (draft words) (saved_text (heading words) end (map_of reads)) reads apart.output_map apart.output_draft (draft_apart (mapfile words)) regular made in
@@ -326,20 +358,46 @@ rescued_files words end reads start start' old new apart same regular made =
       others = λ n o. s.others n o.no_output o.no_map o.no_draft;
     })
 
+
+-- the mapfile of a rescue that published it holds
+pub map_holds : (e : Ending) (words : List (List ℕ)) (bytes : List ℕ) (j0 j1 : List Reading) (files files' : List ℕ → Option File) → AreRescued words (length bytes) (gained j0 j1) files files' → IsReadInOrder e (length bytes) j0 j1 → IsAfterReads e
+    → MapfileHolds words (length bytes) (gained j0 j1) (bytes_of (files (outfile words))) files'
+map_holds e words bytes j0 j1 files files' r o after =
+    let reads : List Reading = gained j0 j1 in
+    let all : AreSectorReads (length bytes) (sector_count (length bytes)) reads = rw (o.all after) at o.sectors in
+    let image : landed (bytes_of (files (outfile words))) reads ≡ bytes_of (files' (outfile words)) = sym (ap bytes_of r.output) in
+    let P : List ℕ → Type 0 = λ i. Held (λ x. nat_lt x (length bytes)) (λ x. x) 512 reads (bytes_of (files (outfile words))) (map_of reads) i in
+    record { found = r.saved; held = subst P image (held (length bytes) reads (bytes_of (files (outfile words))) all); }
+
+-- an answer that published leaves the files of a finished rescue
+published_left : (e : Ending) (words : List (List ℕ)) (end : ℕ) (reads : List Reading) (files files' : List ℕ → Option File) → IsPublished e → FilesLeft e words end reads files files' → AreRescued words end reads files files' × IsAfterReads e
+published_left Finished words end reads files files' p l = (l, tt)
+published_left (SiteFault MapSettle) words end reads files files' p l = (l, tt)
+published_left (SiteFault ImageOpen) words end reads files files' p l = absurd p
+published_left (SiteFault ImageRead) words end reads files files' p l = absurd p
+published_left (SiteFault ImageWrite) words end reads files files' p l = absurd p
+published_left (SiteFault ImageSync) words end reads files files' p l = absurd p
+published_left (SiteFault MapRead) words end reads files files' p l = absurd p
+published_left (SiteFault DraftBegin) words end reads files files' p l = absurd p
+published_left (SiteFault DraftAppend) words end reads files files' p l = absurd p
+published_left (SiteFault DraftSync) words end reads files files' p l = absurd p
+published_left (SiteFault DraftPublish) words end reads files files' p l = absurd p
+published_left (SiteFault MapRemove) words end reads files files' p l = absurd p
+published_left (WrongNumber n) words end reads files files' p l = absurd p
+published_left (WrongWord n) words end reads files files' p l = absurd p
+published_left (SameName a b) words end reads files files' p l = absurd p
+published_left SourceFault words end reads files files' p l = absurd p
+published_left NotRegular words end reads files files' p l = absurd p
+published_left MapThere words end reads files files' p l = absurd p
+published_left SourceLost words end reads files files' p l = absurd p
+published_left NoMemory words end reads files files' p l = absurd p
+
+pub published_holds : (e : Ending) (words : List (List ℕ)) (bytes : List ℕ) (j0 j1 : List Reading) (files files' : List ℕ → Option File) → FilesLeft e words (length bytes) (gained j0 j1) files files' → IsReadInOrder e (length bytes) j0 j1 → IsPublished e
+    → MapfileHolds words (length bytes) (gained j0 j1) (bytes_of (files (outfile words))) files'
+published_holds e words bytes j0 j1 files files' l o p =
+    let parts = published_left e words (length bytes) (gained j0 j1) files files' p l in
+    map_holds e words bytes j0 j1 files files' parts.0 o parts.1
+
 pub printed_is : (h : HeadingLines) (end : ℕ) (m : List Status) → printed h (finished_state end) m ≡ saved_text h end m
 unfolding saved_text
 printed_is h end m = refl
-
--- a rescue that stopped isn't done
-pub not_done : (e : Ending) (a b c d f g : ℕ) → StopCause e a b c d f g → e ≡ Finished → ⊥
-not_done e a b c d f g cause is = let P : Ending → Type 0 = λ v. StopCause v a b c d f g in subst P is cause
-
--- the mapfile of a finished rescue holds
-pub map_holds : (words : List (List ℕ)) (bytes : List ℕ) (j0 j1 : List Reading) (files files' : List ℕ → Option File) → AreRescued words (length bytes) (gained j0 j1) files files' → IsReadInOrder Finished (length bytes) j0 j1
-    → MapfileHolds words (length bytes) (gained j0 j1) (bytes_of (files (outfile words))) files'
-map_holds words bytes j0 j1 files files' r o =
-    let reads : List Reading = gained j0 j1 in
-    let all : AreSectorReads (length bytes) (sector_count (length bytes)) reads = rw (o.all refl) at o.sectors in
-    let image : landed (bytes_of (files (outfile words))) reads ≡ bytes_of (files' (outfile words)) = sym (ap bytes_of r.output) in
-    let P : List ℕ → Type 0 = λ i. Held (λ x. nat_lt x (length bytes)) (λ x. x) 512 reads (bytes_of (files (outfile words))) (map_of reads) i in
-    record { map = map_of reads; found = r.saved; held = subst P image (held (length bytes) reads (bytes_of (files (outfile words))) all); }

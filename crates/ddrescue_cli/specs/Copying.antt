@@ -19,7 +19,7 @@ pub record Turn (pos size : ℕ) (source_tells site_tells : Bool) (journal journ
   pub written : IsTrue site_tells → Made (write_of reading) calls calls'
   pub marked_is : map' ≡ marked map pos size (status_of reading)
 
--- what stands behind a turn that stopped: nothing was read or written, or its read is whole and its write failed
+-- what a turn that stopped leaves: nothing was read or written, or its read is whole and its write failed
 pub data Halt (pos size : ℕ) (e : Ending) (source_tells site_tells : Bool) (journal journal' : List Reading) (calls calls' : List Entry) : Type 0 where
   Unread : ((e ≡ NoMemory) ⊎ (e ≡ SourceLost)) → (IsTrue source_tells → journal' ≡ journal) → (IsTrue site_tells → calls' ≡ calls) → Halt pos size e source_tells site_tells journal journal' calls calls'
   Unwritten : (r : Reading) → (e ≡ SiteFault ImageWrite) → (r.pos ≡ pos) → (r.asked ≡ size) → (length r.given ≡ size) → (IsTrue source_tells → journal' ≡ journal ++ r ∷ []) → (IsTrue site_tells → Lost (image_write r.pos r.given) calls calls') → Halt pos size e source_tells site_tells journal journal' calls calls'
@@ -37,7 +37,7 @@ pub record Copied (end count : ℕ) (source_tells site_tells : Bool) (journal jo
   pub length_is : length (map_of reads) ≡ min end (count * 512)
   pub map_is : map' ≡ map_of reads ++ drop (length (map_of reads)) map
 
--- what stands behind a copy that stopped: turns of the first sectors, and the turn that stopped
+-- what a copy that stopped leaves: turns of the first sectors, and the turn that stopped
 pub record Halted (end : ℕ) (e : Ending) (source_tells site_tells : Bool) (journal journal' : List Reading) (calls calls' : List Entry) : Type 0 where
   pub count : ℕ
   pub reads : List Reading

@@ -30,7 +30,7 @@ pub record Unpublished (words : List (List ℕ)) (reads : List Reading) (files f
   pub others : (name : List ℕ) → IsOther words name → files' name ≡ files name
 
 -- a write failed: the sector of the last read isn't in the output
-pub record Unwritten (words : List (List ℕ)) (reads : List Reading) (files files' : List ℕ → Option File) : Type 0 where
+pub record LastWriteFailed (words : List (List ℕ)) (reads : List Reading) (files files' : List ℕ → Option File) : Type 0 where
   pub written : List Reading
   pub failed : Reading
   pub split : reads ≡ written ++ failed ∷ []
@@ -40,7 +40,7 @@ pub record Unwritten (words : List (List ℕ)) (reads : List Reading) (files fil
 abbrev pub LeftAt : SiteCall → List (List ℕ) → ℕ → List Reading → (files files' : List ℕ → Option File) → Type 0
 LeftAt ImageOpen words end reads files files' = AllStand files files'
 LeftAt MapRead words end reads files files' = OutputMade words files files'
-LeftAt ImageWrite words end reads files files' = Unwritten words reads files files'
+LeftAt ImageWrite words end reads files files' = LastWriteFailed words reads files files'
 LeftAt ImageSync words end reads files files' = Unpublished words reads files files'
 LeftAt DraftBegin words end reads files files' = Unpublished words reads files files'
 LeftAt DraftAppend words end reads files files' = Unpublished words reads files files'

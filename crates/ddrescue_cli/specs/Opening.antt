@@ -7,11 +7,11 @@ use Rattle.ddrescue_cli.specs.declared.ending.Ending.{Ending}
 use Rattle.ddrescue_cli.specs.declared.ending.Ending.TheVariants.{NotRegular, MapThere, SiteFault}
 use Rattle.ddrescue_cli.specs.Run.{is_other}
 
--- why the outfile wasn't opened
+-- why the outfile was refused
 abbrev pub OutputCause : Ending → (faults faults' : ℕ) → Type 0
 OutputCause e faults faults' = (e ≡ NotRegular) ⊎ ((e ≡ SiteFault ImageOpen) × Rose faults faults')
 
--- what that leaves: what stands there is no regular file, or the call failed
+-- the same with what is known of the file, and the calls made: no regular file stands there, or the open failed
 abbrev pub OutputStop : Ending → List ℕ → Option File → List Entry → List Entry → Type 0
 OutputStop e out file calls calls' =
     ((e ≡ NotRegular) × (is_other file ≡ true) × Made (image_open out true ∷ []) calls calls')
@@ -21,7 +21,7 @@ OutputStop e out file calls calls' =
 abbrev pub MapCause : Ending → (faults faults' : ℕ) → Type 0
 MapCause e faults faults' = (e ≡ MapThere) ⊎ ((e ≡ SiteFault MapRead) × Rose faults faults')
 
--- what that leaves: a file stands under its name, or the call failed
+-- the same with what is known of the file, and the calls made: a file stands under its name, or the read failed
 abbrev pub MapStop : Ending → List ℕ → Option File → List Entry → List Entry → Type 0
 MapStop e map file calls calls' =
     ((e ≡ MapThere) × (is_some file ≡ true) × Made (map_read map 0 1 ∷ []) calls calls')

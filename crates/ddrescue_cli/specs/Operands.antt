@@ -56,7 +56,7 @@ abbrev pub same_names : List (List ℕ) → Option Ending
 same_names words = option_map (λ p. SameName p.0 p.1) (first_same (infile words) (outfile words) (mapfile words) (draft words))
 
 -- the files that a rescue writes have names of their own
-pub record AreApart (words : List (List ℕ)) : Type 0 where
+pub record AreNamedApart (words : List (List ℕ)) : Type 0 where
   pub output_map : bytes_eq (outfile words) (mapfile words) ≡ false
   pub output_draft : bytes_eq (outfile words) (draft words) ≡ false
 

@@ -1,4 +1,4 @@
-use Rattle.std.specs.Prelude.{◌≡◌, ◌≢◌, ◌⊎◌, ⊤, ℕ, ◌≤◌, true, List, ◌++◌, length, Option, Some, None, unwrap_or, nat_lt}
+use Rattle.std.specs.Prelude.{◌≡◌, ◌≢◌, ◌⊎◌, ⊤, ℕ, ◌≤◌, true, List, [], ◌++◌, length, Option, Some, None, unwrap_or, nat_lt}
 use Rattle.block_list.specs.declared.status.Status.{Status}
 use Rattle.fault_count.specs.Counts.{Rose}
 use Rattle.faulty_source.specs.Journal.{Reading}
@@ -10,7 +10,7 @@ use Rattle.ddrescue_cli.specs.Operands.{outfile, mapfile, draft}
 use Rattle.ddrescue_cli.specs.Sectors.{sector_count, AreSectorReads, map_of, landed, gained}
 use Rattle.ddrescue_cli.specs.Saved.{heading, saved_text}
 use Rattle.ddrescue_cli.specs.Held.{Held}
-use Rattle.ddrescue_cli.specs.Run.{CallsOf}
+use Rattle.ddrescue_cli.specs.Run.{CallsOf, IsBeforeReads, IsAfterReads}
 
 -- Each answer has its cause. The words' own refusal is given exactly where the words bring it, but for want of
 -- memory; a fault or a loss only where the count of the object rose. The counts stand before and after the call:
@@ -31,17 +31,18 @@ IsVerdict answer refusal faults faults' losses losses' site_faults site_faults' 
     (answer ≡ unwrap_or refusal Done) ⊎ (answer ≡ NoMemory) ⊎ Rose faults faults' ⊎ Rose losses losses' ⊎ Rose site_faults site_faults'
 
 -- the reads that a rescue of an input with this length added to the journal: one for each of the first sectors in
--- order, and for all of them where it is done
+-- order; none where the answer comes before them, and all where it comes after them
 pub record IsReadInOrder (answer : Ending) (end : ℕ) (journal journal' : List Reading) : Type 0 where
   pub added : journal' ≡ journal ++ gained journal journal'
   pub sectors : AreSectorReads end (length (gained journal journal')) (gained journal journal')
-  pub all : answer ≡ Done → length (gained journal journal') ≡ sector_count end
+  pub none : IsBeforeReads answer → gained journal journal' ≡ []
+  pub all : IsAfterReads answer → length (gained journal journal') ≡ sector_count end
 
 -- the calls that it made
 abbrev pub IsCalled : Ending → List (List ℕ) → ℕ → List Reading → List Entry → List Entry → Type 0
 IsCalled answer words end reads calls calls' = CallsOf answer (outfile words) (mapfile words) (draft words) reads (saved_text (heading words) end (map_of reads)) calls calls'
 
--- a name of neither of the files that a rescue writes
+-- a name of none of the files that a rescue writes
 pub record IsOther (words : List (List ℕ)) (name : List ℕ) : Type 0 where
   pub no_output : name ≢ outfile words
   pub no_map : name ≢ mapfile words
@@ -57,10 +58,9 @@ pub record AreRescued (words : List (List ℕ)) (end : ℕ) (reads : List Readin
   pub no_draft : files' (draft words) ≡ None
   pub others : (name : List ℕ) → IsOther words name → files' name ≡ files name
 
--- The mapfile found is the printed text of a map, and what that map marks finished is held by the output: the
+-- The mapfile found is the printed map of the reads, and what that map marks finished is held by the output: the
 -- domain is the input's length, each position stands at its own place, and start is the output as it read when it
 -- was opened.
 pub record MapfileHolds (words : List (List ℕ)) (end : ℕ) (reads : List Reading) (start : List ℕ) (files : List ℕ → Option File) : Type 0 where
-  pub map : List Status
-  pub found : files (mapfile words) ≡ Some (record { bytes = saved_text (heading words) end map; regular = true })
-  pub held : Held (λ x. nat_lt x end) (λ x. x) 512 reads start map (bytes_of (files (outfile words)))
+  pub found : files (mapfile words) ≡ Some (record { bytes = saved_text (heading words) end (map_of reads); regular = true })
+  pub held : Held (λ x. nat_lt x end) (λ x. x) 512 reads start (map_of reads) (bytes_of (files (outfile words)))

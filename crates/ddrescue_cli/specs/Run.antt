@@ -2,7 +2,7 @@ use Rattle.std.specs.Prelude.{◌≡◌, ◌⊎◌, ⊤, ℕ, Bool, true, false,
 use Rattle.block_list.specs.declared.status.Status.{Status}
 use Rattle.faulty_source.specs.Journal.{Reading, is_whole}
 use Rattle.crash_site.specs.declared.site.SiteCall.{SiteCall}
-use Rattle.crash_site.specs.declared.site.SiteCall.TheVariants.{ImageOpen, ImageWrite, MapRead}
+use Rattle.crash_site.specs.declared.site.SiteCall.TheVariants.{ImageOpen, ImageWrite, ImageSync, MapRead, DraftBegin, DraftAppend, DraftSync, DraftPublish, MapSettle}
 use Rattle.crash_site.specs.Files.{File}
 use Rattle.crash_site.specs.Calls.{Call, Entry, Done as Listed, Made, BrokeAt, image_open, image_write, map_read, image_sync, draft_begin, draft_append, draft_sync, draft_publish, map_settle}
 use Rattle.ddrescue_cli.specs.declared.ending.Ending.{Ending}
@@ -48,10 +48,57 @@ abbrev pub CallsOf : Ending → (out map draft : List ℕ) → List Reading → 
 CallsOf Done out map draft reads text calls calls' = Made (run_calls out map draft reads text) calls calls'
 CallsOf (SiteFault call) out map draft reads text calls calls' = BrokeAt call (run_calls out map draft reads text) calls calls'
 CallsOf SourceLost out map draft reads text calls calls' = Made (opening_calls out map ++ writes_of reads) calls calls'
-CallsOf NoMemory out map draft reads text calls calls' = Made [] calls calls' ⊎ Made (opening_calls out map ++ writes_of reads) calls calls'
+CallsOf NoMemory out map draft reads text calls calls' = (Made [] calls calls' × (reads ≡ [])) ⊎ Made (opening_calls out map ++ writes_of reads) calls calls'
 CallsOf NotRegular out map draft reads text calls calls' = Made (image_open out true ∷ []) calls calls'
 CallsOf MapThere out map draft reads text calls calls' = Made (opening_calls out map) calls calls'
 CallsOf e out map draft reads text calls calls' = Made [] calls calls'
+
+-- the calls before the first read
+abbrev pub IsOpening : SiteCall → Type 0
+IsOpening ImageOpen = ⊤
+IsOpening MapRead = ⊤
+IsOpening call = ⊥
+
+-- the calls after the last sector
+abbrev pub IsSaving : SiteCall → Type 0
+IsSaving ImageSync = ⊤
+IsSaving DraftBegin = ⊤
+IsSaving DraftAppend = ⊤
+IsSaving DraftSync = ⊤
+IsSaving DraftPublish = ⊤
+IsSaving MapSettle = ⊤
+IsSaving call = ⊥
+
+-- whether a draft is begun after a call that failed: one that was begun is left so by a failed append or sync
+abbrev pub LeavesDraft : SiteCall → (drafting drafting' : Bool) → Type 0
+LeavesDraft DraftAppend drafting drafting' = ⊤
+LeavesDraft DraftSync drafting drafting' = ⊤
+LeavesDraft call drafting drafting' = drafting ≡ false → drafting' ≡ false
+
+-- the same of an answer
+abbrev pub DraftLeft : Ending → (drafting' : Bool) → Type 0
+DraftLeft (SiteFault call) drafting' = LeavesDraft call false drafting'
+DraftLeft e drafting' = drafting' ≡ false
+
+-- an answer that comes before the first read
+abbrev pub IsBeforeReads : Ending → Type 0
+IsBeforeReads Done = ⊥
+IsBeforeReads SourceLost = ⊥
+IsBeforeReads NoMemory = ⊥
+IsBeforeReads (SiteFault call) = IsOpening call
+IsBeforeReads e = ⊤
+
+-- an answer that comes after the last sector
+abbrev pub IsAfterReads : Ending → Type 0
+IsAfterReads Done = ⊤
+IsAfterReads (SiteFault call) = IsSaving call
+IsAfterReads e = ⊥
+
+-- an answer after which the new mapfile stands
+abbrev pub IsPublished : Ending → Type 0
+IsPublished Done = ⊤
+IsPublished (SiteFault MapSettle) = ⊤
+IsPublished e = ⊥
 
 -- why a rescue stopped once its words were read: memory, a count that rose, or a file that stands in its way
 abbrev pub StopCause : Ending → (faults faults' losses losses' site_faults site_faults' : ℕ) → Type 0
@@ -63,7 +110,7 @@ StopCause NotRegular faults faults' losses losses' site_faults site_faults' = �
 StopCause MapThere faults faults' losses losses' site_faults site_faults' = ⊤
 StopCause e faults faults' losses losses' site_faults site_faults' = ⊥
 
--- what the files say of a failed call: behind the open stands a regular output, and behind the look for a mapfile none
+-- what the files say of a failed call: once the output is open it is regular, and once a mapfile was looked for there is none
 abbrev pub CallAllowed : SiteCall → (output map : Option File) → Type 0
 CallAllowed ImageOpen output map = ⊤
 CallAllowed MapRead output map = is_other output ≡ false
@@ -87,7 +134,7 @@ pub record Went (out map draft : List ℕ) (heading : HeadingLines) (source_tell
   pub told : IsTrue source_tells → journal' ≡ journal ++ reads
   pub made : IsTrue site_tells → Made (run_calls out map draft reads (saved_text heading end (map_of reads))) calls calls'
 
--- the write of the last read failed: the reads before it, and that write behind the calls for them
+-- the write of the last read failed: the reads before it, and that write after the calls for them
 pub record LastUnwritten (out map : List ℕ) (reads : List Reading) (calls calls' : List Entry) : Type 0 where
   pub before : List Reading
   pub last : Reading
@@ -104,4 +151,6 @@ pub record Stopped (e : Ending) (out map draft : List ℕ) (heading : HeadingLin
   pub sectors : AreSectorReads end count reads
   pub told : IsTrue source_tells → journal' ≡ journal ++ reads
   pub made : IsTrue site_tells → CallsOf e out map draft reads (saved_text heading end (map_of reads)) calls calls'
+  pub none : IsBeforeReads e → reads ≡ []
+  pub every : IsAfterReads e → count ≡ sector_count end
   pub unwritten : e ≡ SiteFault ImageWrite → IsTrue site_tells → LastUnwritten out map reads calls calls'

@@ -1,6 +1,6 @@
 ghost use Rattle.std.specs.Prelude.{◌≡◌, length, IfOk, IfErr, OnOk};
 ghost use Rattle.std.specs.String.{string_bytes};
-ghost use Rattle.ddrescue_cli.specs.Operands.{is_wrong, wrong_word, first_same, refusal_of_words, infile, outfile, mapfile, draft_name, draft, command_line, OfWords, AreApart};
+ghost use Rattle.ddrescue_cli.specs.Operands.{is_wrong, wrong_word, first_same, refusal_of_words, infile, outfile, mapfile, draft_name, draft, command_line, OfWords, AreNamedApart};
 ghost use Rattle.ddrescue_cli.specs.Saved.{heading};
 
 use crate::ending::{Ending, Operand};
@@ -127,7 +127,7 @@ pub(crate) fn make_plan(alloc: Global, words: &Words) -> Result<Plan<'_>, Ending
     ensures heading { IfOk result (λ p. p.heading ≡ heading words.now) }
     ensures right { OnOk result (refusal_of_words words.now ≡ None) }
     ensures refusal { IfErr result (λ e. OfWords e (refusal_of_words words.now)) }
-    ensures apart { OnOk result (AreApart words.now) }
+    ensures apart { OnOk result (AreNamedApart words.now) }
 {
     let names = read_names(words)?;
     let Ok(draft) = draft_beside(alloc, names.mapfile) else {

@@ -7,8 +7,9 @@ ghost use Rattle.crash_site.specs.Folder.{after};
 ghost use Rattle.ddrescue_cli.specs.declared.ending.Ending.TheVariants.{Done, NoMemory as OutOfMemory};
 ghost use Rattle.ddrescue_cli.specs.Operands.{outfile, mapfile, refusal_of_words};
 ghost use Rattle.ddrescue_cli.specs.Sectors.{gained};
-ghost use Rattle.ddrescue_cli.specs.Run.{is_other, verdict, FilesAllow, Went, Stopped, StopCause};
-ghost use Rattle.ddrescue_cli.specs.Rescue.{Caused, IsVerdict, IsReadInOrder, IsCalled, AreRescued, MapfileHolds};
+ghost use Rattle.ddrescue_cli.specs.Run.{is_other, verdict, FilesAllow, IsPublished, DraftLeft, Went, Stopped, StopCause};
+ghost use Rattle.ddrescue_cli.specs.Rescue.{Caused, IsVerdict, IsReadInOrder, IsCalled, MapfileHolds};
+ghost use Rattle.ddrescue_cli.specs.Left.{FilesLeft};
 
 use crate::copy::copy_all;
 use crate::ending::Ending;
@@ -37,6 +38,7 @@ fn start_map(alloc: Global, end: u64) -> Result<PlainTiles, NoMemory>
 
 /// Copies each sector once, and saves the map.
 pub(crate) fn rescue<S: Source, D: Site>(alloc: Global, plan: &Plan<'_>, source: &mut S, site: &mut D) -> Result<(), Ending>
+    requires no_draft { D.is_drafting site.old ≡ false }
     requires apart { bytes_eq plan.now.names.outfile.now plan.now.names.mapfile.now ≡ false }
     ensures went { OnOk result (Went plan.now.names.outfile.now plan.now.names.mapfile.now (string_bytes plan.now.draft) plan.now.heading (S.tells source.old) (D.tells site.old)
         (S.bytes source.old) (S.journal source.old) (S.journal source.new) (D.record_ site.old) (D.record_ site.new)) }
@@ -46,8 +48,11 @@ pub(crate) fn rescue<S: Source, D: Site>(alloc: Global, plan: &Plan<'_>, source:
     ensures refused { IfErr result (λ e. IsTrue (D.tells site.old) → FilesAllow e ((after (D.start site.old) (D.record_ site.old)).files plan.now.names.outfile.now) ((after (D.start site.old) (D.record_ site.old)).files plan.now.names.mapfile.now)) }
     ensures regular { IfErr result (λ e. e ≡ OutOfMemory → IsTrue (D.tells site.old) → is_other ((after (D.start site.old) (D.record_ site.old)).files plan.now.names.outfile.now) ≡ false) }
     ensures cause { IfErr result (λ e. StopCause e (S.faults source.old) (S.faults source.new) (S.losses source.old) (S.losses source.new) (D.faults site.old) (D.faults site.new)) }
+    ensures draft { OnOk result (D.is_drafting site.new ≡ false) }
+    ensures draft_left { IfErr result (λ e. DraftLeft e (D.is_drafting site.new)) }
     ensures source_tells { S.tells source.new ≡ S.tells source.old }
     ensures site_tells { D.tells site.new ≡ D.tells site.old }
+    ensures bytes { IsTrue (S.tells source.old) → S.bytes source.new ≡ S.bytes source.old }
     ensures start { IsTrue (D.tells site.old) → D.start site.new ≡ D.start site.old }
 {
     let Ok(end) = source.open_input(plan.names.infile) else {
@@ -91,12 +96,19 @@ pub fn ddrescue<S: Source, D: Site>(alloc: Global, words: &Words, source: &mut S
     ensures reads { IsTrue (S.tells source.old) → IsReadInOrder result (length (S.bytes source.old)) (S.journal source.old) (S.journal source.new) }
     ensures calls { IsTrue (S.tells source.old) → IsTrue (D.tells site.old)
         → IsCalled result words.now (length (S.bytes source.old)) (gained (S.journal source.old) (S.journal source.new)) (D.record_ site.old) (D.record_ site.new) }
-    ensures rescued { result ≡ Done → IsTrue (S.tells source.old) → IsTrue (D.tells site.old)
-        → AreRescued words.now (length (S.bytes source.old)) (gained (S.journal source.old) (S.journal source.new)) (after (D.start site.old) (D.record_ site.old)).files (after (D.start site.new) (D.record_ site.new)).files }
+    ensures left { IsTrue (S.tells source.old) → IsTrue (D.tells site.old)
+        → FilesLeft result words.now (length (S.bytes source.old)) (gained (S.journal source.old) (S.journal source.new))
+            (after (D.start site.old) (D.record_ site.old)).files (after (D.start site.new) (D.record_ site.new)).files }
 
     // The mapfile never calls a byte finished that the output does not hold.
-    ensures holds { result ≡ Done → IsTrue (S.tells source.old) → IsTrue (D.tells site.old)
-        → MapfileHolds words.now (length (S.bytes source.old)) (gained (S.journal source.old) (S.journal source.new)) (bytes_of ((after (D.start site.old) (D.record_ site.old)).files (outfile words.now))) (after (D.start site.new) (D.record_ site.new)).files }
+    ensures holds { IsPublished result → IsTrue (S.tells source.old) → IsTrue (D.tells site.old)
+        → MapfileHolds words.now (length (S.bytes source.old)) (gained (S.journal source.old) (S.journal source.new))
+            (bytes_of ((after (D.start site.old) (D.record_ site.old)).files (outfile words.now))) (after (D.start site.new) (D.record_ site.new)).files }
+    ensures draft { DraftLeft result (D.is_drafting site.new) }
+    ensures source_tells { S.tells source.new ≡ S.tells source.old }
+    ensures site_tells { D.tells site.new ≡ D.tells site.old }
+    ensures bytes { IsTrue (S.tells source.old) → S.bytes source.new ≡ S.bytes source.old }
+    ensures start { IsTrue (D.tells site.old) → D.start site.new ≡ D.start site.old }
 {
     let plan = match make_plan(alloc, words) {
         Ok(plan) => plan,

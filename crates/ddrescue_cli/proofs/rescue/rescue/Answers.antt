@@ -3,7 +3,7 @@ use Rattle.std.proofs.lemmas.Grind.{common_steps}
 use Rattle.std.proofs.lemmas.Result.{err_from_is_err_and}
 use Rattle.crash_site.specs.Folder.{after}
 use Rattle.mapfile_text.specs.Printed.{printed}
-use Rattle.ddrescue_cli.proofs.RunFacts.{went, stopped_source, stopped_early, output_calls, output_other, map_calls, map_other, stopped_start, stopped_copy, stopped_late, open_apart, allowed_map, map_stop, allowed_copy, allowed_save, printed_is}
+use Rattle.ddrescue_cli.proofs.RunFacts.{went, stopped_source, stopped_early, output_calls, output_other, output_early, map_calls, map_other, map_early, stopped_start, stopped_copy, stopped_late, open_apart, allowed_map, map_stop, allowed_copy, allowed_save, printed_is}
 use Rattle.ddrescue_cli.proofs.rescue.rescue.Goals as goal
 
 pub returns-in_default-clause-stopped : goal.returns-in_default-clause-stopped
@@ -13,13 +13,13 @@ pub returns-in_err-open_output-clause-stopped : goal.returns-in_err-open_output-
 returns-in_err-open_output-clause-stopped g c =
     let p = err_from_is_err_and c.from_residual.result c.from_residual.ensures.1 in
     rw (p.1, p.2) (stopped_early _ _ _ _ _ _ _ _ c.in-Ok.end _ _ _ _ c.in-Ok.ensures.all c.open_input.ensures.journal
-        (λ t. output_calls _ _ _ _ _ _ _ _ _ (c.in_err-open_output.ensures.stop t)) (output_other _ _ _ c.in_err-open_output.ensures.cause))
+        (λ t. output_calls _ _ _ _ _ _ _ _ _ (c.in_err-open_output.ensures.stop t)) (output_early _ _ _ c.in_err-open_output.ensures.cause) (output_other _ _ _ c.in_err-open_output.ensures.cause))
 
 pub returns-in_err-refuse_map-clause-stopped : goal.returns-in_err-refuse_map-clause-stopped
 returns-in_err-refuse_map-clause-stopped g c =
     let p = err_from_is_err_and c.from_residual-in_err-refuse_map.result c.from_residual-in_err-refuse_map.ensures.1 in
     rw (p.1, p.2) (stopped_early _ _ _ _ _ _ _ _ c.in-Ok.end _ _ _ _ c.in-Ok.ensures.all c.open_input.ensures.journal
-        (λ t. map_calls _ _ _ _ _ _ _ _ _ _ (c.in_ok-open_output.ensures.made t) (c.in_err-refuse_map.ensures.stop (rw c.open_output.ensures.tells t))) (map_other _ _ _ c.in_err-refuse_map.ensures.cause))
+        (λ t. map_calls _ _ _ _ _ _ _ _ _ _ (c.in_ok-open_output.ensures.made t) (c.in_err-refuse_map.ensures.stop (rw c.open_output.ensures.tells t))) (map_early _ _ _ c.in_err-refuse_map.ensures.cause) (map_other _ _ _ c.in_err-refuse_map.ensures.cause))
 
 pub returns-in_err-refuse_map-clause-refused : goal.returns-in_err-refuse_map-clause-refused
 returns-in_err-refuse_map-clause-refused g c =
@@ -67,7 +67,7 @@ returns-clause-stopped g c =
     stopped_late _ _ _ _ _ _ _ _ _ _ _ _ _ _ _ _ _ _ _ _ _ c.in_ok-copy_all.ensures.copied
         c.open_input.ensures.tells (c.refuse_map.ensures.tells ∙ c.open_output.ensures.tells) c.in-Ok-start_map.ensures c.in-Ok.ensures.all c.open_input.ensures.journal
         c.in_ok-open_output.ensures.made (λ t. c.in_ok-refuse_map.ensures.made (rw c.open_output.ensures.tells t))
-        (inr (c.in-Err.call, refl, (λ t. rw (← c.as_str.ensures.value, ← printed_is _ _ _, ← c.in-Ok-print_map.ensures, ← c.deref.ensures.value) (c.in-Err.ensures.broke (rw (c.copy_all.ensures.site_tells, c.refuse_map.ensures.tells, c.open_output.ensures.tells) t)))))
+        (inr (c.in-Err.call, refl, c.in-Err.ensures.named, (λ t. rw (← c.as_str.ensures.value, ← printed_is _ _ _, ← c.in-Ok-print_map.ensures, ← c.deref.ensures.value) (c.in-Err.ensures.broke (rw (c.copy_all.ensures.site_tells, c.refuse_map.ensures.tells, c.open_output.ensures.tells) t)))))
 
 pub returns-clause-refused : goal.returns-clause-refused
 returns-clause-refused g c = λ t. allowed_save c.in-Err.call _ _ (c.in_ok-open_output.ensures.regular t)
