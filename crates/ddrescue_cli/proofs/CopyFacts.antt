@@ -1,10 +1,10 @@
-use Rattle.std.proofs.Common.{◌≡◌, ℕ, ◌+◌, ◌-◌, ◌*◌, ◌<◌, ◌≤◌, min, Bool, IsTrue, List, [], ◌∷◌, ◌++◌, length, take, drop, map, replicate, Some, refl, sym, ap, ◌∙◌, arith, ⊎_elim, subst, append_assoc, length-append}
+use Rattle.std.proofs.Common.{◌≡◌, ℕ, ◌+◌, ◌-◌, ◌*◌, ◌<◌, ◌≤◌, min, Bool, List, [], ◌∷◌, ◌++◌, length, take, drop, map, replicate, Some, refl, sym, ap, ◌∙◌, arith, ⊎_elim, subst, append_assoc, length-append}
 use Rattle.std.proofs.lemmas.Bool.{cases_lt}
-use Rattle.std.proofs.lemmas.Grind.{flat_map-append, common_steps}
+use Rattle.std.proofs.lemmas.Grind.{common_steps}
 use Rattle.std.proofs.lemmas.List.{map-append, take_at, length-replicate}
 use Rattle.std.proofs.lemmas.Option.{slice_get_within}
 use Rattle.std.proofs.lemmas.Slice.{drop-append-drop}
-use Rattle.std.specs.List.{flat_map, slice_get}
+use Rattle.std.specs.List.{flat_map}
 use Rattle.block_list.specs.declared.status.Status.{Status}
 use Rattle.block_list.specs.Map.{marked}
 use Rattle.block_list.proofs.Places.{slice_get-append_left, slice_get-append_right, length-marked}
@@ -21,17 +21,17 @@ pub sector_reads_more : (end k : ℕ) (reads : List Reading) (r : Reading) → A
 sector_reads_more end k reads r all one = record {
   count_is = omega (arith, length-append reads (r ∷ []), all.count_is);
   each = λ i q e. ⊎_elim
-    (λ (lt : i < length reads). all.each i q (sym (slice_get-append_left reads (r ∷ []) i lt) ∙ e))
-    (λ (le : length reads ≤ i).
-        let within : i < length (reads ++ r ∷ []) = slice_get_within (reads ++ r ∷ []) i q e in
-        let is : i ≡ k = omega (arith, length-append reads (r ∷ []), all.count_is) in
-        let none : i - length reads ≡ 0 = omega (arith, all.count_is) in
-        let f = sym (slice_get-append_right reads (r ∷ []) i le) ∙ e in
-        let same : Some r ≡ Some q = rw none at f in
-        let P : Reading → Type 0 = λ z. IsSectorRead end i z in
-        let here : r ≡ q = cc in
-        subst P here (rw is one))
-    (cases_lt i (length reads));
+      (λ (lt : i < length reads). all.each i q (sym (slice_get-append_left reads (r ∷ []) i lt) ∙ e))
+      (λ (le : length reads ≤ i).
+      let within : i < length (reads ++ r ∷ []) = slice_get_within (reads ++ r ∷ []) i q e in
+      let is : i ≡ k = omega (arith, length-append reads (r ∷ []), all.count_is) in
+      let none : i - length reads ≡ 0 = omega (arith, all.count_is) in
+      let f = sym (slice_get-append_right reads (r ∷ []) i le) ∙ e in
+      let same : Some r ≡ Some q = rw none at f in
+      let P : Reading → Type 0 = λ z. IsSectorRead end i z in
+      let here : r ≡ q = cc in
+      subst P here (rw is one))
+      (cases_lt i (length reads));
 }
 
 pub made_more : (old mid new : List Entry) (xs ys : List Call) → Made xs old mid → Made ys mid new → Made (xs ++ ys) old new

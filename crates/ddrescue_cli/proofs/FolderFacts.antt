@@ -1,4 +1,4 @@
-use Rattle.std.proofs.Common.{◌≡◌, ◌≢◌, ℕ, Bool, true, false, if◌then◌else◌, List, [], ◌∷◌, ◌++◌, map, Option, Some, None, is_some, refl, sym, ap, ◌∙◌, subst, arith, length, length-append}
+use Rattle.std.proofs.Common.{◌≡◌, ◌≢◌, ℕ, Bool, true, false, if◌then◌else◌, List, [], ◌∷◌, ◌++◌, map, Option, Some, None, refl, sym, ap, ◌∙◌, subst, arith, length, length-append}
 use Rattle.std.specs.Str.{bytes_eq}
 use Rattle.std.proofs.lemmas.Bool.{false_from_ne_true}
 use Rattle.std.proofs.lemmas.List.{map-append}
@@ -10,7 +10,7 @@ use Rattle.crash_site.specs.Folder.{Folder, opened, with_piece, after, after_ent
 use Rattle.ddrescue_cli.specs.Sectors.{landed, write_of, writes_of}
 use Rattle.std.specs.Prelude.{codes}
 use Rattle.ddrescue_cli.specs.Operands.{draft_name}
-use Rattle.ddrescue_cli.specs.Run.{is_other, opening_calls, save_calls, run_calls}
+use Rattle.ddrescue_cli.specs.Run.{is_other, save_calls, run_calls}
 
 pub after-append : (d : Folder) (xs ys : List Entry) → after d (xs ++ ys) ≡ after (after d xs) ys
 after-append d [] ys = refl
@@ -93,10 +93,10 @@ save_image out name draft bytes text files d a b e o =
       saved = rw (same_name, same) refl;
       no_draft = rw (e, same) refl;
       others = λ n x y z.
-        let u : bytes_eq n out ≡ false = apart_of n out x in
-        let v : bytes_eq n name ≡ false = apart_of n name y in
-        let w : bytes_eq n draft ≡ false = apart_of n draft z in
-        rw (v, w) (o.others n u);
+          let u : bytes_eq n out ≡ false = apart_of n out x in
+          let v : bytes_eq n name ≡ false = apart_of n name y in
+          let w : bytes_eq n draft ≡ false = apart_of n draft z in
+          rw (v, w) (o.others n u);
     }
 
 -- the files after all calls of a rescue
@@ -110,8 +110,8 @@ run_files start old new out name draft text reads a b e regular made =
     let saved = save_image out name draft (landed (bytes_of (d.files out)) reads) text d.files (after (after_done d (image_open out true)) (map Done (writes_of reads))) a b e wrote in
     let rest : map Done (writes_of reads ++ save_calls name draft text) ≡ map Done (writes_of reads) ++ map Done (save_calls name draft text) = map-append Done (writes_of reads) (save_calls name draft text) in
     let ends : after start new ≡ after (after (after_done d (image_open out true)) (map Done (writes_of reads))) (map Done (save_calls name draft text))
-        = ap (after start) made ∙ after-append start old (map Done (run_calls out name draft reads text)) ∙ ap (after (after_done d (image_open out true))) rest
-        ∙ after-append (after_done d (image_open out true)) (map Done (writes_of reads)) (map Done (save_calls name draft text)) in
+    = ap (after start) made ∙ after-append start old (map Done (run_calls out name draft reads text)) ∙ ap (after (after_done d (image_open out true))) rest
+    ∙ after-append (after_done d (image_open out true)) (map Done (writes_of reads)) (map Done (save_calls name draft text)) in
     let P : Folder → Type 0 = λ f. IsSaved out name draft (landed (bytes_of (d.files out)) reads) text d.files f.files in
     subst P (sym ends) saved
 

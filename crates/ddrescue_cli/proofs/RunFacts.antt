@@ -1,4 +1,4 @@
-use Rattle.std.proofs.Common.{◌≡◌, ◌≢◌, ◌⊎◌, ℕ, ◌+◌, ◌-◌, ◌*◌, ◌<◌, ◌≤◌, min, Bool, true, false, IsTrue, List, [], ◌∷◌, ◌++◌, length, drop, map, replicate, Option, Some, None, is_some, refl, sym, ap, ◌∙◌, arith, ⊎_elim, inl, inr, subst, append_assoc, append-nil, length-append, if◌then◌else◌, eq-eqb, nat_lt}
+use Rattle.std.proofs.Common.{◌≡◌, ◌⊎◌, ℕ, ◌+◌, ◌-◌, ◌*◌, min, Bool, true, false, IsTrue, List, [], ◌∷◌, ◌++◌, length, drop, map, replicate, Option, Some, None, is_some, refl, sym, ap, ◌∙◌, arith, ⊎_elim, inl, inr, subst, append_assoc, append-nil, if◌then◌else◌, eq-eqb, nat_lt}
 use Rattle.std.proofs.lemmas.List.{drop_all, length-replicate}
 use Rattle.block_list.specs.declared.status.Status.{Status}
 use Rattle.block_list.specs.declared.status.Status.TheVariants.{NonTried}
@@ -14,7 +14,7 @@ use Rattle.std.specs.Str.{bytes_eq}
 use Rattle.ddrescue_cli.proofs.FolderFacts.{after-append, bytes_eq-flip, run_files, draft_apart}
 use Rattle.ddrescue_cli.specs.declared.ending.Ending.{Ending}
 use Rattle.ddrescue_cli.specs.declared.ending.Ending.TheVariants.{Done as Finished, WrongNumber, WrongWord, SameName, SourceFault, NotRegular, MapThere, SourceLost, SiteFault, NoMemory}
-use Rattle.ddrescue_cli.specs.Sectors.{sector_count, IsSectorRead, AreSectorReads, map_of, write_of, writes_of, landed, gained}
+use Rattle.ddrescue_cli.specs.Sectors.{sector_count, AreSectorReads, map_of, write_of, writes_of, landed, gained}
 use Rattle.ddrescue_cli.specs.Copying.{CopyCause, Halt, Unread, Unwritten, Copied, Halted}
 use Rattle.ddrescue_cli.specs.Opening.{OutputCause, OutputStop, MapCause, MapStop}
 use Rattle.ddrescue_cli.specs.Saved.{finished_state, heading, saved_text}
@@ -58,10 +58,10 @@ went out name draft h ts ts' td td' bytes end j0 j1 j2 c0 c1 c2 c3 c4 m0 m1 text
   sectors = c.sectors;
   told = λ t. c.told (rw same_s t) ∙ ap (λ j. j ++ c.reads) (before t);
   made = λ t.
-    let printed_is : text ≡ saved_text h end (map_of c.reads) = is ∙ ap (λ m. saved_text h end m) (whole_map end c.reads m0 m1 empty c.length_is c.map_is) in
-    let P : List ℕ → Type 0 = λ w. Made (run_calls out name draft c.reads w) c0 c4 in
-    subst P printed_is (made_more c0 c2 c4 (opening_calls out name) (writes_of c.reads ++ save_calls name draft text) (made_opening out name c0 c1 c2 (opened t) (looked t))
-        (made_more c2 c3 c4 (writes_of c.reads) (save_calls name draft text) (c.written (rw same_d t)) (saved t)));
+      let printed_is : text ≡ saved_text h end (map_of c.reads) = is ∙ ap (λ m. saved_text h end m) (whole_map end c.reads m0 m1 empty c.length_is c.map_is) in
+      let P : List ℕ → Type 0 = λ w. Made (run_calls out name draft c.reads w) c0 c4 in
+      subst P printed_is (made_more c0 c2 c4 (opening_calls out name) (writes_of c.reads ++ save_calls name draft text) (made_opening out name c0 c1 c2 (opened t) (looked t))
+      (made_more c2 c3 c4 (writes_of c.reads) (save_calls name draft text) (c.written (rw same_d t)) (saved t)));
 }
 
 no_reads : (end : ℕ) → AreSectorReads end 0 []
@@ -121,7 +121,7 @@ map_calls e out name draft reads text file c0 c1 c2 opened stop =
     let P : Ending → Type 0 = λ v. CallsOf v out name draft reads text c0 c2 in
     ⊎_elim (λ l. subst P (sym l.0) (made_opening out name c0 c1 c2 opened l.2))
     (λ r. subst P (sym r.0) (broke_back MapRead (image_open out true ∷ []) (map_read name 0 1 ∷ (writes_of reads ++ save_calls name draft text)) c0 c1 c2 opened
-        (broke_front MapRead (map_read name 0 1 ∷ []) (writes_of reads ++ save_calls name draft text) c1 c2 r.1))) stop
+    (broke_front MapRead (map_read name 0 1 ∷ []) (writes_of reads ++ save_calls name draft text) c1 c2 r.1))) stop
 
 -- memory ran out before the first read
 pub no_memory_calls : (out name draft : List ℕ) (reads : List Reading) (text : List ℕ) (c0 c1 c2 c3 : List Entry) → Made (image_open out true ∷ []) c0 c1 → Made (map_read name 0 1 ∷ []) c1 c2 → Made (writes_of reads) c2 c3 → Made (opening_calls out name ++ writes_of reads) c0 c3
@@ -148,10 +148,10 @@ stopped_at e out name draft h ts td bytes end k pos size reads j0 j1 j2 c0 c1 c2
   sectors = sectors;
   told = λ t. untold t ∙ told t;
   made = λ t.
-    let text : List ℕ = saved_text h end (map_of reads) in
-    let P : Ending → Type 0 = λ v. CallsOf v out name draft reads text c0 c4 in
-    let grew : Made (opening_calls out name ++ writes_of reads) c0 c4 = rw (unmade t) (no_memory_calls out name draft reads text c0 c1 c2 c3 (opened t) (looked t) (wrote t)) in
-    ⊎_elim (λ z. subst P (sym z) (inr grew)) (λ z. subst P (sym z) grew) cause;
+      let text : List ℕ = saved_text h end (map_of reads) in
+      let P : Ending → Type 0 = λ v. CallsOf v out name draft reads text c0 c4 in
+      let grew : Made (opening_calls out name ++ writes_of reads) c0 c4 = rw (unmade t) (no_memory_calls out name draft reads text c0 c1 c2 c3 (opened t) (looked t) (wrote t)) in
+      ⊎_elim (λ z. subst P (sym z) (inr grew)) (λ z. subst P (sym z) grew) cause;
   none = λ x. let P : Ending → Type 0 = λ v. IsBeforeReads v → ⊥ in absurd (⊎_elim (λ z. subst P (sym z) (λ y. y) x) (λ z. subst P (sym z) (λ y. y) x) cause);
   every = λ x. let P : Ending → Type 0 = λ v. IsAfterReads v → ⊥ in absurd (⊎_elim (λ z. subst P (sym z) (λ y. y) x) (λ z. subst P (sym z) (λ y. y) x) cause);
   unwritten = λ q t. ⊎_elim (λ z. cc) (λ z. cc) cause;
@@ -164,17 +164,17 @@ stopped_at e out name draft h ts td bytes end k pos size reads j0 j1 j2 c0 c1 c2
   sectors = sector_reads_more end k reads r sectors (record { pos = pos_is ∙ at; asked = asked_is ∙ fits; few = omega (arith, full, asked_is) });
   told = λ t. new t ∙ ap (λ j. j ++ r ∷ []) (told t) ∙ append_assoc j0 reads (r ∷ []);
   made = λ t.
-    let text : List ℕ = saved_text h end (map_of (reads ++ r ∷ [])) in
-    let P : Ending → Type 0 = λ v. CallsOf v out name draft (reads ++ r ∷ []) text c0 c4 in
-    let last : List Call = image_write r.pos r.given ∷ [] in
-    let one : write_of r ≡ last = write_whole r (full ∙ sym asked_is) in
-    let writes : writes_of (reads ++ r ∷ []) ≡ writes_of reads ++ last = flat_map_one write_of reads r ∙ ap (λ w. writes_of reads ++ w) one in
-    let failed : BrokeAt ImageWrite last c3 c4 = inl (refl, lost t) in
-    let within : BrokeAt ImageWrite (writes_of reads ++ last) c2 c4 = broke_back ImageWrite (writes_of reads) last c2 c3 c4 (wrote t) failed in
-    let Q : List Call → Type 0 = λ w. BrokeAt ImageWrite w c2 c4 in
-    let all_writes : BrokeAt ImageWrite (writes_of (reads ++ r ∷ [])) c2 c4 = subst Q (sym writes) within in
-    subst P (sym is) (broke_back ImageWrite (opening_calls out name) (writes_of (reads ++ r ∷ []) ++ save_calls name draft text) c0 c2 c4 (made_opening out name c0 c1 c2 (opened t) (looked t))
-        (broke_front ImageWrite (writes_of (reads ++ r ∷ [])) (save_calls name draft text) c2 c4 all_writes));
+      let text : List ℕ = saved_text h end (map_of (reads ++ r ∷ [])) in
+      let P : Ending → Type 0 = λ v. CallsOf v out name draft (reads ++ r ∷ []) text c0 c4 in
+      let last : List Call = image_write r.pos r.given ∷ [] in
+      let one : write_of r ≡ last = write_whole r (full ∙ sym asked_is) in
+      let writes : writes_of (reads ++ r ∷ []) ≡ writes_of reads ++ last = flat_map_one write_of reads r ∙ ap (λ w. writes_of reads ++ w) one in
+      let failed : BrokeAt ImageWrite last c3 c4 = inl (refl, lost t) in
+      let within : BrokeAt ImageWrite (writes_of reads ++ last) c2 c4 = broke_back ImageWrite (writes_of reads) last c2 c3 c4 (wrote t) failed in
+      let Q : List Call → Type 0 = λ w. BrokeAt ImageWrite w c2 c4 in
+      let all_writes : BrokeAt ImageWrite (writes_of (reads ++ r ∷ [])) c2 c4 = subst Q (sym writes) within in
+      subst P (sym is) (broke_back ImageWrite (opening_calls out name) (writes_of (reads ++ r ∷ []) ++ save_calls name draft text) c0 c2 c4 (made_opening out name c0 c1 c2 (opened t) (looked t))
+      (broke_front ImageWrite (writes_of (reads ++ r ∷ [])) (save_calls name draft text) c2 c4 all_writes));
   none = λ x. let P : Ending → Type 0 = λ v. IsBeforeReads v → ⊥ in absurd (subst P (sym is) (λ y. y) x);
   every = λ x. let P : Ending → Type 0 = λ v. IsAfterReads v → ⊥ in absurd (subst P (sym is) (λ y. y) x);
   unwritten = λ q t. record {
@@ -183,8 +183,8 @@ stopped_at e out name draft h ts td bytes end k pos size reads j0 j1 j2 c0 c1 c2
     split = refl;
     whole = eq-eqb (length r.given) r.asked (full ∙ sym asked_is);
     broke =
-      let grew : Made (opening_calls out name ++ writes_of reads) c0 c3 = no_memory_calls out name draft reads [] c0 c1 c2 c3 (opened t) (looked t) (wrote t) in
-      inl (refl, rw (← grew) (lost t));
+        let grew : Made (opening_calls out name ++ writes_of reads) c0 c3 = no_memory_calls out name draft reads [] c0 c1 c2 c3 (opened t) (looked t) (wrote t) in
+        inl (refl, rw (← grew) (lost t));
   };
 }
 
@@ -196,7 +196,7 @@ pub stopped_copy : (e : Ending) (out name draft : List ℕ) (h : HeadingLines) (
 stopped_copy e out name draft h ts ts' td td' bytes end j0 j1 j2 c0 c1 c2 c3 s same_s same_d all before opened looked =
     let h2 = rw (same_s, same_d) at s.halt in
     stopped_at e out name draft h ts td bytes end s.count (s.count * 512) (min 512 (end - s.count * 512)) s.reads j0 s.journal_between j2 c0 c1 c2 s.calls_between c3 h2 refl refl s.sectors all
-        (λ t. s.told (rw same_s t) ∙ ap (λ j. j ++ s.reads) (before t)) opened looked (λ t. s.written (rw same_d t))
+    (λ t. s.told (rw same_s t) ∙ ap (λ j. j ++ s.reads) (before t)) opened looked (λ t. s.written (rw same_d t))
 
 write_is : (at : SiteCall) → SiteFault at ≡ SiteFault ImageWrite → at ≡ ImageWrite
 write_is at q = cc
@@ -220,7 +220,7 @@ no_write_in_save : (name draft text : List ℕ) (old new : List Entry) (at : Sit
 no_write_in_save name draft text old new at is b =
     ⊎_elim (λ (x : (at ≡ ImageSync) × Lost image_sync old new). let q = x.0 in cc)
     (λ y. ⊎_elim (λ x. let q = x.0 in cc) (λ y. ⊎_elim (λ x. let q = x.0 in cc) (λ y. ⊎_elim (λ x. let q = x.0 in cc) (λ y. ⊎_elim (λ x. let q = x.0 in cc)
-        (λ y. ⊎_elim (λ x. let q = x.0 in cc) (λ y. y) y) y) y) y) y) b
+    (λ y. ⊎_elim (λ x. let q = x.0 in cc) (λ y. y) y) y) y) y) y) b
 
 -- memory ran out, or a call failed, behind the last sector
 pub stopped_late : (e : Ending) (out name draft : List ℕ) (h : HeadingLines) (ts ts' td td' : Bool) (bytes : List ℕ) (end : ℕ) (j0 j1 j2 : List Reading) (c0 c1 c2 c3 c4 : List Entry) (m0 m1 : List Status)
@@ -237,19 +237,19 @@ stopped_late e out name draft h ts ts' td td' bytes end j0 j1 j2 c0 c1 c2 c3 c4 
   sectors = c.sectors;
   told = λ t. c.told (rw same_s t) ∙ ap (λ j. j ++ c.reads) (before t);
   made = λ t.
-    let whole = whole_map end c.reads m0 m1 empty c.length_is c.map_is in
-    let text : List ℕ = saved_text h end (map_of c.reads) in
-    let P : Ending → Type 0 = λ v. CallsOf v out name draft c.reads text c0 c4 in
-    ⊎_elim
-    (λ z.
-        let grew : Made (opening_calls out name ++ writes_of c.reads) c0 c4 = rw z.1 (no_memory_calls out name draft c.reads text c0 c1 c2 c3 (opened t) (looked t) (c.written (rw same_d t))) in
-        subst P (sym z.0) (inr grew))
-    (λ z.
-        let Q : List Status → Type 0 = λ m. BrokeAt z.0 (save_calls name draft (saved_text h end m)) c3 c4 in
-        let saved : BrokeAt z.0 (save_calls name draft text) c3 c4 = subst Q whole (z.3 t) in
-        subst P (sym z.1) (broke_back z.0 (opening_calls out name) (writes_of c.reads ++ save_calls name draft text) c0 c2 c4 (made_opening out name c0 c1 c2 (opened t) (looked t))
-            (broke_back z.0 (writes_of c.reads) (save_calls name draft text) c2 c3 c4 (c.written (rw same_d t)) saved)))
-    how;
+      let whole = whole_map end c.reads m0 m1 empty c.length_is c.map_is in
+      let text : List ℕ = saved_text h end (map_of c.reads) in
+      let P : Ending → Type 0 = λ v. CallsOf v out name draft c.reads text c0 c4 in
+      ⊎_elim
+      (λ z.
+      let grew : Made (opening_calls out name ++ writes_of c.reads) c0 c4 = rw z.1 (no_memory_calls out name draft c.reads text c0 c1 c2 c3 (opened t) (looked t) (c.written (rw same_d t))) in
+      subst P (sym z.0) (inr grew))
+      (λ z.
+      let Q : List Status → Type 0 = λ m. BrokeAt z.0 (save_calls name draft (saved_text h end m)) c3 c4 in
+      let saved : BrokeAt z.0 (save_calls name draft text) c3 c4 = subst Q whole (z.3 t) in
+      subst P (sym z.1) (broke_back z.0 (opening_calls out name) (writes_of c.reads ++ save_calls name draft text) c0 c2 c4 (made_opening out name c0 c1 c2 (opened t) (looked t))
+      (broke_back z.0 (writes_of c.reads) (save_calls name draft text) c2 c3 c4 (c.written (rw same_d t)) saved)))
+      how;
   none = λ x. let P : Ending → Type 0 = λ v. IsBeforeReads v → ⊥ in absurd (⊎_elim (λ z. subst P (sym z.0) (λ y. y) x) (λ z. subst P (sym z.1) (saving_or_opening z.0 z.2) x) how);
   every = λ _. refl;
   unwritten = λ q t. ⊎_elim (λ z. cc) (λ z. absurd (no_write_in_save name draft (saved_text h end m1) c3 c4 z.0 (write_is z.0 (sym z.1 ∙ q)) (z.3 t))) how;
@@ -272,7 +272,7 @@ pub stopped_start : (out name draft : List ℕ) (h : HeadingLines) (ts td : Bool
     → Stopped NoMemory out name draft h ts td bytes j0 j1 c0 c2
 stopped_start out name draft h ts td bytes end j0 j1 c0 c1 c2 all before opened looked =
     stopped_early NoMemory out name draft h ts td bytes end j0 j1 c0 c2 all before
-        (λ t. inr (no_memory_calls out name draft [] (saved_text h end (map_of [])) c0 c1 c2 c2 (opened t) (looked t) (sym (append-nil c2)))) (λ x. x) (λ q. cc)
+    (λ t. inr (no_memory_calls out name draft [] (saved_text h end (map_of [])) c0 c1 c2 c2 (opened t) (looked t) (sym (append-nil c2)))) (λ x. x) (λ q. cc)
 
 -- what the files allow, of an answer behind a mapfile that was looked for
 pub allowed_map : (e : Ending) (out name : Option File) (seen : Option File) → is_other out ≡ false → seen ≡ name → ((e ≡ MapThere) × (is_some seen ≡ true)) ⊎ (e ≡ SiteFault MapRead) → FilesAllow e out name
@@ -311,7 +311,7 @@ read_in_order e end count journal journal' reads told sectors none all =
     let n : length reads ≡ count = sectors.count_is in
     let P : List Reading → Type 0 = λ r. (journal' ≡ journal ++ r) × AreSectorReads end (length r) r × (IsBeforeReads e → r ≡ []) × (IsAfterReads e → length r ≡ sector_count end) in
     let whole = subst P (sym g) (told, rw n sectors, none, (λ d. n ∙ all d)) in
-    record { added = whole.0; sectors = whole.1; none = whole.2; all = whole.3; }
+    record { added = whole.0; sectors = whole.1; none = whole.2; all = whole.3 }
 
 -- what a rescue that stopped says of its reads
 pub stopped_reads : (e : Ending) (out name draft : List ℕ) (h : HeadingLines) (ts td : Bool) (bytes : List ℕ) (j0 j1 : List Reading) (c0 c1 : List Entry)
@@ -358,7 +358,6 @@ rescued_files words end reads start start' old new apart same regular made =
       others = λ n o. s.others n o.no_output o.no_map o.no_draft;
     })
 
-
 -- the mapfile of a rescue that published it holds
 pub map_holds : (e : Ending) (words : List (List ℕ)) (bytes : List ℕ) (j0 j1 : List Reading) (files files' : List ℕ → Option File) → AreRescued words (length bytes) (gained j0 j1) files files' → IsReadInOrder e (length bytes) j0 j1 → IsAfterReads e
     → MapfileHolds words (length bytes) (gained j0 j1) (bytes_of (files (outfile words))) files'
@@ -367,7 +366,7 @@ map_holds e words bytes j0 j1 files files' r o after =
     let all : AreSectorReads (length bytes) (sector_count (length bytes)) reads = rw (o.all after) at o.sectors in
     let image : landed (bytes_of (files (outfile words))) reads ≡ bytes_of (files' (outfile words)) = sym (ap bytes_of r.output) in
     let P : List ℕ → Type 0 = λ i. Held (λ x. nat_lt x (length bytes)) (λ x. x) 512 reads (bytes_of (files (outfile words))) (map_of reads) i in
-    record { found = r.saved; held = subst P image (held (length bytes) reads (bytes_of (files (outfile words))) all); }
+    record { found = r.saved; held = subst P image (held (length bytes) reads (bytes_of (files (outfile words))) all) }
 
 -- an answer that published leaves the files of a finished rescue
 published_left : (e : Ending) (words : List (List ℕ)) (end : ℕ) (reads : List Reading) (files files' : List ℕ → Option File) → IsPublished e → FilesLeft e words end reads files files' → AreRescued words end reads files files' × IsAfterReads e

@@ -1,4 +1,4 @@
-use Rattle.std.specs.Prelude.{◌≡◌, ◌⊎◌, ℕ, ◌+◌, ◌-◌, ◌*◌, ◌<◌, ◌≤◌, min, Bool, IsTrue, List, [], ◌∷◌, ◌++◌, length, drop}
+use Rattle.std.specs.Prelude.{◌≡◌, ◌⊎◌, ℕ, ◌-◌, ◌*◌, ◌<◌, ◌≤◌, min, Bool, IsTrue, List, [], ◌∷◌, ◌++◌, length, drop}
 use Rattle.block_list.specs.declared.status.Status.{Status}
 use Rattle.block_list.specs.Map.{marked}
 use Rattle.fault_count.specs.Counts.{Rose}
@@ -7,7 +7,7 @@ use Rattle.crash_site.specs.declared.site.SiteCall.TheVariants.{ImageWrite}
 use Rattle.crash_site.specs.Calls.{Entry, image_write, Made, Lost}
 use Rattle.ddrescue_cli.specs.declared.ending.Ending.{Ending}
 use Rattle.ddrescue_cli.specs.declared.ending.Ending.TheVariants.{SiteFault, SourceLost, NoMemory}
-use Rattle.ddrescue_cli.specs.Sectors.{sector_count, AreSectorReads, IsSectorRead, status_of, map_of, write_of, writes_of}
+use Rattle.ddrescue_cli.specs.Sectors.{sector_count, AreSectorReads, status_of, map_of, write_of, writes_of}
 
 -- what one sector's turn did: a read of its positions, a write of what was read whole, and the sector's mark
 pub record Turn (pos size : ℕ) (source_tells site_tells : Bool) (journal journal' : List Reading) (calls calls' : List Entry) (map map' : List Status) : Type 0 where

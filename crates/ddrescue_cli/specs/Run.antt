@@ -1,5 +1,4 @@
 use Rattle.std.specs.Prelude.{◌≡◌, ◌⊎◌, ⊤, ℕ, Bool, true, false, IsTrue, length, map as list_map, List, [], ◌∷◌, ◌++◌, Option, Some, None, is_some, if◌then◌else◌}
-use Rattle.block_list.specs.declared.status.Status.{Status}
 use Rattle.faulty_source.specs.Journal.{Reading, is_whole}
 use Rattle.crash_site.specs.declared.site.SiteCall.{SiteCall}
 use Rattle.crash_site.specs.declared.site.SiteCall.TheVariants.{ImageOpen, ImageWrite, ImageSync, MapRead, DraftBegin, DraftAppend, DraftSync, DraftPublish, MapSettle}
@@ -12,7 +11,6 @@ use Rattle.ddrescue_cli.specs.Sectors.{sector_count, AreSectorReads, map_of, wri
 use Rattle.ddrescue_cli.specs.Saved.{saved_text}
 use Rattle.fault_count.specs.Counts.{Rose}
 use Rattle.mapfile_text.specs.HeadingLines.{HeadingLines}
-use Rattle.mapfile_text.specs.Printed.{printed}
 
 -- something stands there that is no regular file
 abbrev pub is_other : Option File → Bool

@@ -10,7 +10,13 @@ use crash_site::site::{Site, SiteCall};
 use faulty_source::source::Source;
 
 /// One sector: reads it into a buffer of its size, writes it if it was read whole, and marks it.
-fn copy_sector<S: Source, D: Site, T: Tiles>(source: &mut S, site: &mut D, tiles: &mut T, buf: &mut [u8], pos: u64) -> Result<(), Ending>
+fn copy_sector<S: Source, D: Site, T: Tiles>(
+    source: &mut S,
+    site: &mut D,
+    tiles: &mut T,
+    buf: &mut [u8],
+    pos: u64,
+) -> Result<(), Ending>
     requires input { S.is_open source.old ≡ true }
     requires image { D.is_open site.old ≡ true }
     requires some { 0 < length buf.old }
@@ -51,7 +57,12 @@ fn copy_sector<S: Source, D: Site, T: Tiles>(source: &mut S, site: &mut D, tiles
 }
 
 /// All sectors of an input with this length, in order.
-pub(crate) fn copy_all<S: Source, D: Site, T: Tiles>(source: &mut S, site: &mut D, tiles: &mut T, end: u64) -> Result<(), Ending>
+pub(crate) fn copy_all<S: Source, D: Site, T: Tiles>(
+    source: &mut S,
+    site: &mut D,
+    tiles: &mut T,
+    end: u64,
+) -> Result<(), Ending>
     requires input { S.is_open source.old ≡ true }
     requires image { D.is_open site.old ≡ true }
     requires end { length (T.statuses tiles.old) ≡ end }

@@ -8,7 +8,6 @@ mod open;
 mod operands;
 pub mod rescue;
 mod save;
-pub mod words;
-
 #[cfg(test)]
 mod tests;
+pub mod words;

@@ -133,7 +133,12 @@ pub(crate) fn make_plan(alloc: Global, words: &Words) -> Result<Plan<'_>, Ending
     let Ok(draft) = draft_beside(alloc, names.mapfile) else {
         return Err(Ending::NoMemory);
     };
-    if let Some((first, second)) = find_same(names.infile, names.outfile, names.mapfile, draft.as_str()) {
+    if let Some((first, second)) = find_same(
+        names.infile,
+        names.outfile,
+        names.mapfile,
+        draft.as_str(),
+    ) {
         return Err(Ending::SameName { first, second });
     }
     let Ok(heading) = make_heading(alloc, words) else {

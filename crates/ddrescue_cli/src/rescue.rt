@@ -14,7 +14,7 @@ ghost use Rattle.ddrescue_cli.specs.Left.{FilesLeft};
 use crate::copy::copy_all;
 use crate::ending::Ending;
 use crate::open::{open_output, refuse_map};
-use crate::operands::{make_plan, Plan};
+use crate::operands::{Plan, make_plan};
 use crate::save::save;
 use crate::words::Words;
 use block_list::plain_tiles::PlainTiles;
@@ -37,7 +37,12 @@ fn start_map(alloc: Global, end: u64) -> Result<PlainTiles, NoMemory>
 }
 
 /// Copies each sector once, and saves the map.
-pub(crate) fn rescue<S: Source, D: Site>(alloc: Global, plan: &Plan<'_>, source: &mut S, site: &mut D) -> Result<(), Ending>
+pub(crate) fn rescue<S: Source, D: Site>(
+    alloc: Global,
+    plan: &Plan<'_>,
+    source: &mut S,
+    site: &mut D,
+) -> Result<(), Ending>
     requires no_draft { D.is_drafting site.old ≡ false }
     requires apart { bytes_eq plan.now.names.outfile.now plan.now.names.mapfile.now ≡ false }
     ensures went { OnOk result (Went plan.now.names.outfile.now plan.now.names.mapfile.now (string_bytes plan.now.draft) plan.now.heading (S.tells source.old) (D.tells site.old)
@@ -83,7 +88,12 @@ pub(crate) fn rescue<S: Source, D: Site>(alloc: Global, plan: &Plan<'_>, source:
 ///
 /// The refusals come in this order: another number of words than three, a word that names no file, two files of one
 /// name, an infile that can't be opened, an outfile that is no regular file, a mapfile that is there.
-pub fn ddrescue<S: Source, D: Site>(alloc: Global, words: &Words, source: &mut S, site: &mut D) -> Ending
+pub fn ddrescue<S: Source, D: Site>(
+    alloc: Global,
+    words: &Words,
+    source: &mut S,
+    site: &mut D,
+) -> Ending
     requires { D.is_drafting site.old ≡ false }
     ensures cause { Caused result (refusal_of_words words.now) (S.faults source.old) (S.faults source.new) (S.losses source.old) (S.losses source.new) (D.faults site.old) (D.faults site.new) }
     ensures files { IsTrue (D.tells site.old) → FilesAllow result ((after (D.start site.old) (D.record_ site.old)).files (outfile words.now)) ((after (D.start site.old) (D.record_ site.old)).files (mapfile words.now)) }
@@ -98,12 +108,12 @@ pub fn ddrescue<S: Source, D: Site>(alloc: Global, words: &Words, source: &mut S
         → IsCalled result words.now (length (S.bytes source.old)) (gained (S.journal source.old) (S.journal source.new)) (D.record_ site.old) (D.record_ site.new) }
     ensures left { IsTrue (S.tells source.old) → IsTrue (D.tells site.old)
         → FilesLeft result words.now (length (S.bytes source.old)) (gained (S.journal source.old) (S.journal source.new))
-            (after (D.start site.old) (D.record_ site.old)).files (after (D.start site.new) (D.record_ site.new)).files }
+        (after (D.start site.old) (D.record_ site.old)).files (after (D.start site.new) (D.record_ site.new)).files }
 
     // The mapfile never calls a byte finished that the output does not hold.
     ensures holds { IsPublished result → IsTrue (S.tells source.old) → IsTrue (D.tells site.old)
         → MapfileHolds words.now (length (S.bytes source.old)) (gained (S.journal source.old) (S.journal source.new))
-            (bytes_of ((after (D.start site.old) (D.record_ site.old)).files (outfile words.now))) (after (D.start site.new) (D.record_ site.new)).files }
+        (bytes_of ((after (D.start site.old) (D.record_ site.old)).files (outfile words.now))) (after (D.start site.new) (D.record_ site.new)).files }
     ensures draft { DraftLeft result (D.is_drafting site.new) }
     ensures source_tells { S.tells source.new ≡ S.tells source.old }
     ensures site_tells { D.tells site.new ≡ D.tells site.old }

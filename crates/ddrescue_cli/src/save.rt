@@ -7,7 +7,12 @@ use crash_site::site::{Site, SiteCall};
 
 /// Syncs the image, then writes the text to a draft, syncs it, puts it in the mapfile's place and settles that.
 /// An error is the call that failed.
-pub(crate) fn save<D: Site>(site: &mut D, mapfile: &str, draft: &str, text: &[u8]) -> Result<(), SiteCall>
+pub(crate) fn save<D: Site>(
+    site: &mut D,
+    mapfile: &str,
+    draft: &str,
+    text: &[u8],
+) -> Result<(), SiteCall>
     ensures made { OnOk result (IsTrue (D.tells site.old) → Made (save_calls mapfile.now draft.now text.now) (D.record_ site.old) (D.record_ site.new)) }
     ensures broke { IfErr result (λ call. IsTrue (D.tells site.old) → BrokeAt call (save_calls mapfile.now draft.now text.now) (D.record_ site.old) (D.record_ site.new)) }
     ensures named { IfErr result IsSaving }

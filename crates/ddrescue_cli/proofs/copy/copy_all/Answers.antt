@@ -8,7 +8,7 @@ pub returns-in_err-copy_sector-clause-halted : goal.returns-in_err-copy_sector-c
 returns-in_err-copy_sector-clause-halted g c =
     let p = err_from_is_err_and c.from_residual.result c.from_residual.ensures.1 in
     rw (p.1, p.2) (halted _ _ _ _ _ _ _ _ _ _ _ _ _ _ _ _ _ c.loop-k.invariant.copied c.in_err-copy_sector.ensures.halt
-        (grind (arith, common_steps)) (grind (arith, common_steps)) (grind (arith, common_steps)) c.loop-k.invariant.source_tells c.loop-k.invariant.site_tells)
+    (grind (arith, common_steps)) (grind (arith, common_steps)) (grind (arith, common_steps)) c.loop-k.invariant.source_tells c.loop-k.invariant.site_tells)
 
 pub loop-k-preserved : goal.loop-k-preserved
 loop-k-preserved g c = record {

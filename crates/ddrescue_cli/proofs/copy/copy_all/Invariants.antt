@@ -1,4 +1,4 @@
-use Rattle.std.proofs.Common.{◌≡◌, ◌≤◌, ◌<◌, ◌^◌, true, IsTrue, length}
+use Rattle.std.proofs.Common.{◌≡◌, ◌≤◌, true, IsTrue, length}
 use Rattle.ddrescue_cli.specs.Copying.{Copied}
 use Rattle.ddrescue_cli.proofs.copy.copy_all.Given as goal
 
