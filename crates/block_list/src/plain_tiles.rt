@@ -7,6 +7,19 @@ use crate::tiles::{NoMemory, Tiles};
 use std::alloc::Global;
 use std::marker::Model;
 
+/// Why a block can't be put behind a map. `at` is the map's end.
+#[derive(Clone, Copy, Debug, PartialEq, Eq)]
+pub enum PushError {
+    /// The block's end is 2^63 or more.
+    TooLarge,
+    /// The block begins before the map's end.
+    Overlap { at: u64 },
+    /// The block begins behind the map's end.
+    Gap { at: u64 },
+    /// Memory wasn't there.
+    NoMemory,
+}
+
 /// A map as one vector of merged blocks, 24 bytes each.
 #[derive(Drop)]
 pub struct PlainTiles {
