@@ -1,4 +1,4 @@
-use Rattle.std.proofs.Common.{◌≡◌, ℕ, ◌+◌, ◌-◌, ◌<◌, ◌≤◌, ◌^◌, List, [], ◌∷◌, ◌++◌, length, take, drop, get_or, replicate, Some, true, false, ltb, refl, arith, ap, sym, ◌∙◌, subst, append_assoc, append-nil, length-append, ⊎_elim, ltb-true, ltb-false}
+use Rattle.std.proofs.Common.{◌≡◌, ℕ, ◌+◌, ◌-◌, ◌<◌, ◌≤◌, ◌^◌, List, [], ◌∷◌, ◌++◌, length, take, drop, get_or, replicate, Some, Bool, true, false, if◌then◌else◌, ltb, refl, arith, ap, sym, ◌∙◌, subst, append_assoc, append-nil, length-append, ⊎_elim, ltb-true, ltb-false}
 use Rattle.std.specs.List.{flat_map, slice_get}
 use Rattle.std.specs.List.Sorted.{IsPartitionPoint, IsNonDecreasingBy}
 use Rattle.std.proofs.lemmas.List.{take-append-drop, take_more, drop_more, replicate-append-replicate, take_more_set, drop-set-lt, take_at, drop_at, length_push, length-take-le, drop_all, drop-drop, take-append-le, drop-append-le, get_or_default}
@@ -10,7 +10,7 @@ use Rattle.block_list.specs.Map.{marked}
 use Rattle.block_list.specs.Stretches.{covered}
 use Rattle.block_list.specs.Tiling.{AreTiles, IsMerged}
 use Rattle.block_list.specs.Edits.{IsTiled, IsPlace, IsCut, IsJoinedBefore, IsJoinedBehind, start_of, front_of, back_of, cut_at}
-use Rattle.block_list.proofs.TileFacts.{covered-append, length_first, tiles_join, tiles_split, tiled_from_tiles, parts_of, start_mono, index_before, start_more, start_all, tile_at, tile_read, front_statuses, back_statuses}
+use Rattle.block_list.proofs.TileFacts.{covered-append, length_first, tiles_join, tiles_split, tiled_from_tiles, parts_of, start_le_end, start_mono, index_before, start_more, start_all, tile_at, tile_read, front_statuses, back_statuses}
 use Rattle.block_list.proofs.StretchFacts.{block_has}
 use Rattle.block_list.proofs.ApartFacts.{AreApart, apart_from_merged, merged_from_apart, apart_left, apart_right, apart_meet, apart_last, apart_first, apart_push, merged_front, merged_back}
 
@@ -233,6 +233,11 @@ pub appended_tiled : (bs : List Block) (low : ℕ) (block wide : Block) → IsTi
 appended_tiled bs low block wide t s u f =
     let x : AreTiles 0 (take low bs) wide.pos = rw f.place at (parts_of bs low t).front in
     tiled_from_tiles (take low bs ++ wide ∷ []) (wide.pos + wide.size) (tiles_join 0 (take low bs) (wide ∷ []) wide.pos (wide.pos + wide.size) x (refl, omega (arith, s, f.sized), refl)) (omega (arith, f.ends))
+
+-- the same, or what was in front of it where there was no memory
+pub appended_either : (bs new : List Block) (low : ℕ) (block wide : Block) (v : Bool) → IsTiled bs → 0 < block.size → block.pos + block.size < 2 ^ 63 → IsJoinedBefore bs (length bs) block low wide → new ≡ (if v then take low bs ++ wide ∷ [] else take low bs) → IsTiled new
+appended_either bs new low block wide true t s u f e = rw e (appended_tiled bs low block wide t s u f)
+appended_either bs new low block wide false t s u f e = rw e (tiled_from_tiles (take low bs) (start_of bs low) (parts_of bs low t).front (omega (arith, start_le_end bs low, t.short)))
 
 -- the block in front of the first that begins behind a position holds it
 pub place_has : (bs : List Block) (x i : ℕ) (b : Block) → IsTiled bs → IsPlace bs (x + 1) i → b ≡ get_or bs (i - 1) b → slice_get (flat_map covered bs) x ≡ Some b.status

@@ -3,3 +3,5 @@ pub mod TileFacts
 pub mod ApartFacts
 pub mod EditFacts
 pub mod StretchFacts
+pub mod LookupFacts
+pub mod PushFacts

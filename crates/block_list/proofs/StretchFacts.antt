@@ -14,7 +14,7 @@ use Rattle.block_list.proofs.Places.{slice_get-append_left, slice_get-append_rig
 use Rattle.block_list.proofs.TileFacts.{covered-append, length_first, tiles_split}
 use Rattle.block_list.proofs.ApartFacts.{IsOther, AreApart, apart_from_merged, apart_left, apart_right}
 
-same_self : (s : Status) → same s s ≡ true
+pub same_self : (s : Status) → same s s ≡ true
 same_self NonTried = refl
 same_self NonTrimmed = refl
 same_self NonScraped = refl
@@ -154,7 +154,7 @@ stretch_between xs b ys end t a =
           ∙ ap (λ k. slice_get (flat_map covered ys) k) (omega (arith, length-replicate b.size b.status))) ∙ h);
     }
 
-stretch_at : (bs : List Block) (end i : ℕ) (b : Block) → AreTiles 0 bs end → AreApart bs → slice_get bs i ≡ Some b → IsStretch (flat_map covered bs) b
+pub stretch_at : (bs : List Block) (end i : ℕ) (b : Block) → AreTiles 0 bs end → AreApart bs → slice_get bs i ≡ Some b → IsStretch (flat_map covered bs) b
 stretch_at bs end i b t a e =
     let h = slice_get_within bs i b e in
     let s : take i bs ++ b ∷ drop (i + 1) bs ≡ bs = ap (λ r. take i bs ++ r) (ap (λ z. z ∷ drop (i + 1) bs) (sym (get_or_from_slice_get bs i b b e)) ∙ sym (drop_more bs i b h)) ∙ take-append-drop i bs in

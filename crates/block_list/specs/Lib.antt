@@ -4,3 +4,5 @@ pub mod Stretches
 pub mod Tiled
 pub mod Tiling
 pub mod Edits
+pub mod Places
+pub mod Push

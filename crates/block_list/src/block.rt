@@ -7,3 +7,10 @@ pub struct Block {
     pub size: u64,
     pub status: Status,
 }
+
+/// Positions from `from` up to `to`, in bytes.
+#[derive(Clone, Copy, Debug, PartialEq, Eq)]
+pub struct Run {
+    pub from: u64,
+    pub to: u64,
+}

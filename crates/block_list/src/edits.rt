@@ -1,5 +1,5 @@
 //! Edits of a list of blocks that tiles a map from 0 on.
-ghost use Rattle.std.specs.Prelude.{◌≡◌, ◌+◌, ◌<◌, ◌≤◌, ◌^◌, ◌++◌, ◌∷◌, length, take, drop, vec_len, vec_capacity};
+ghost use Rattle.std.specs.Prelude.{◌≡◌, ◌+◌, ◌<◌, ◌≤◌, ◌^◌, ◌++◌, ◌∷◌, length, take, drop, vec_len, vec_capacity, OnOk, OnErr, IsOk};
 ghost use Rattle.std.specs.List.{flat_map};
 ghost use Rattle.block_list.specs.Map.{marked};
 ghost use Rattle.block_list.specs.Stretches.{covered};
@@ -7,6 +7,7 @@ ghost use Rattle.block_list.specs.Tiling.{IsMerged};
 ghost use Rattle.block_list.specs.Edits.{IsTiled, IsPlace, IsCut, IsJoinedBefore, IsJoinedBehind, start_of, front_of, back_of, cut_at};
 
 use crate::block::Block;
+use crate::tiles::NoMemory;
 
 /// How many blocks begin before a position.
 pub fn begun_before(blocks: &[Block], at: u64) -> usize
@@ -35,24 +36,24 @@ pub fn mark(blocks: &mut Vec<Block>, block: Block)
     replace(blocks, i, j, block);
 }
 
-/// Adds a block behind the last one.
-pub fn append(blocks: &mut Vec<Block>, block: Block)
+/// Adds a block behind the last one. It takes memory only where the two don't join.
+pub fn append(blocks: &mut Vec<Block>, block: Block) -> Result<(), NoMemory>
     requires tiled { IsTiled blocks.old.items }
     requires merged { IsMerged blocks.old.items }
     requires some { 0 < block.size }
     requires behind { length (flat_map covered blocks.old.items) ≡ block.pos }
     requires short { block.pos + block.size < 2 ^ 63 }
-    requires room { vec_len blocks.old < vec_capacity blocks.old }
     ensures tiled { IsTiled blocks.new.items }
     ensures merged { IsMerged blocks.new.items }
-    ensures added { flat_map covered blocks.new.items ≡ flat_map covered blocks.old.items ++ covered block }
+    ensures added { OnOk result (flat_map covered blocks.new.items ≡ flat_map covered blocks.old.items ++ covered block) }
+    ensures kept { OnErr result (blocks.new.items ≡ blocks.old.items) }
+    ensures full { vec_len blocks.old < vec_capacity blocks.old → IsOk result }
     ensures len { vec_len blocks.new ≤ vec_len blocks.old + 1 }
     ensures capacity { vec_capacity blocks.old ≤ vec_capacity blocks.new }
 {
     let (i, wide) = join_before(blocks, blocks.len(), block);
     blocks.truncate(i);
-    // There is room, so this takes no memory and succeeds.
-    let _ = blocks.push(wide);
+    blocks.push(wide).map_err(|_| NoMemory)
 }
 
 /// Makes a block begin at a position, unless it is the end, and says which.

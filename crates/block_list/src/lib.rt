@@ -4,6 +4,7 @@
 pub mod block;
 mod edits;
 pub mod laws;
+mod lookups;
 pub mod plain_tiles;
 pub mod status;
 #[cfg(test)]

@@ -1,11 +1,25 @@
-ghost use Rattle.std.specs.Prelude.{◌≡◌, []};
+ghost use Rattle.std.specs.Prelude.{◌≡◌, ◌+◌, ◌<◌, ◌^◌, ◌++◌, ◌⊎◌, [], length, replicate, OnOk, OnErr, IsOk, IfOk, MatchOption};
+ghost use Rattle.block_list.specs.Push.{push_fault};
 
-use crate::block::Block;
-use crate::edits;
+use crate::block::{Block, Run};
 use crate::status::Status;
 use crate::tiles::{NoMemory, Tiles};
+use crate::{edits, lookups};
 use std::alloc::Global;
 use std::marker::Model;
+
+/// Why a block can't be put behind a map. `at` is the map's end.
+#[derive(Clone, Copy, Debug, PartialEq, Eq)]
+pub enum PushError {
+    /// The block's end is 2^63 or more.
+    TooLarge,
+    /// The block begins before the map's end.
+    Overlap { at: u64 },
+    /// The block begins behind the map's end.
+    Gap { at: u64 },
+    /// Memory wasn't there.
+    NoMemory,
+}
 
 /// A map as one vector of merged blocks, 24 bytes each.
 #[derive(Drop)]
@@ -39,6 +53,42 @@ impl PlainTiles {
             end: 0,
         }
     }
+
+    /// Puts a block behind the last position. It takes memory only where it doesn't join the last block.
+    pub fn push(&mut self, block: Block) -> Result<(), PushError>
+        ensures ok { OnOk result (self.new.statuses ≡ self.old.statuses ++ replicate block.size block.status) }
+        ensures err { OnErr result (self.new.statuses ≡ self.old.statuses) }
+        ensures answer { MatchOption (push_fault block.pos block.size (length self.old.statuses)) (IsOk result ⊎ (result ≡ Err PushError.NoMemory)) (λ e. result ≡ Err e) }
+    {
+        let end = end_behind(self.end, block)?;
+        if block.size > 0 {
+            edits::append(&mut self.blocks, block).map_err(|_| PushError::NoMemory)?;
+            self.end = end;
+        }
+        Ok(())
+    }
+}
+
+/// The end of a map that ends at `end`, with a block behind it.
+fn end_behind(end: u64, block: Block) -> Result<u64, PushError>
+    ensures answer { MatchOption (push_fault block.pos block.size end) (IsOk result) (λ e. result ≡ Err e) }
+    ensures begins { OnOk result (block.pos ≡ end) }
+    ensures ends { IfOk result (λ behind. behind ≡ block.pos + block.size) }
+    ensures short { IfOk result (λ behind. behind < 2 ^ 63) }
+{
+    let behind = block
+        .pos
+        .checked_add(block.size)
+        .ok_or(PushError::TooLarge)?;
+    if behind >= 1 << 63 {
+        Err(PushError::TooLarge)
+    } else if block.pos < end {
+        Err(PushError::Overlap { at: end })
+    } else if end < block.pos {
+        Err(PushError::Gap { at: end })
+    } else {
+        Ok(behind)
+    }
 }
 
 impl Tiles for PlainTiles {
@@ -53,6 +103,22 @@ impl Tiles for PlainTiles {
     fn at(&self, x: u64) -> Status {
         let behind = edits::begun_before(&self.blocks, x + 1);
         self.blocks[behind - 1].status
+    }
+
+    fn find_forward(&self, from: u64, status: Status) -> Option<Run> {
+        if from < self.end {
+            lookups::first_with(&self.blocks, from, status)
+        } else {
+            None
+        }
+    }
+
+    fn find_backward(&self, before: u64, status: Status) -> Option<Run> {
+        lookups::last_with(&self.blocks, before.min(self.end), status)
+    }
+
+    fn count(&self, status: Status) -> u64 {
+        lookups::count(&self.blocks, status)
     }
 
     fn reserve(&mut self, n: usize) -> Result<(), NoMemory> {
@@ -70,7 +136,8 @@ impl Tiles for PlainTiles {
                 size: end - self.end,
                 status: Status::NonTried,
             };
-            edits::append(&mut self.blocks, added);
+            // There is room, so this takes no memory and succeeds.
+            let _ = edits::append(&mut self.blocks, added);
             self.end = end;
         }
     }

@@ -1,5 +1,5 @@
-use crate::block::Block;
-use crate::plain_tiles::PlainTiles;
+use crate::block::{Block, Run};
+use crate::plain_tiles::{PlainTiles, PushError};
 use crate::status::Status;
 use crate::tiles::{NoMemory, Tiles};
 use std::process::Abort;
@@ -24,6 +24,21 @@ fn set(rt: &impl Abort, map: &mut PlainTiles, block: Block) -> Result<(), NoMemo
     map.reserve(2)?;
     map.set(block.pos, block.size, block.status);
     Ok(())
+}
+
+/// 0 to 4 non-tried, to 8 finished, to 12 non-trimmed, to 14 finished, to 16 non-tried.
+fn map_of_five(rt: &HostRuntime) -> Result<PlainTiles, PushError> {
+    let mut map = PlainTiles::new(rt.alloc());
+    map.push(block(0, 4, Status::NonTried))?;
+    map.push(block(4, 4, Status::Finished))?;
+    map.push(block(8, 4, Status::NonTrimmed))?;
+    map.push(block(12, 2, Status::Finished))?;
+    map.push(block(14, 2, Status::NonTried))?;
+    Ok(map)
+}
+
+fn run(from: u64, to: u64) -> Option<Run> {
+    Some(Run { from, to })
 }
 
 fn assert_blocks(rt: &impl Abort, map: &PlainTiles, want: &[Block]) {
@@ -172,6 +187,182 @@ fn positions_have_their_status(rt: HostRuntime) -> Result<(), Fail> {
         assert!(rt; x < map.end());
         assert_eq!(rt; map.at(x).symbol(), symbol, "at {x}");
     }
+    Ok(())
+}
+
+#[test]
+fn a_status_is_found_forwards(rt: HostRuntime) -> Result<(), Fail> {
+    let map = map_of_five(&rt)?;
+    let cases = [
+        ("from 0, there", 0, Status::NonTried, run(0, 4)),
+        ("from 0, further on", 0, Status::NonTrimmed, run(8, 12)),
+        (
+            "in the middle of its stretch",
+            6,
+            Status::Finished,
+            run(6, 8),
+        ),
+        (
+            "at the start of its stretch",
+            8,
+            Status::NonTrimmed,
+            run(8, 12),
+        ),
+        ("at its last position", 11, Status::NonTrimmed, run(11, 12)),
+        (
+            "at the end of its stretch",
+            8,
+            Status::Finished,
+            run(12, 14),
+        ),
+        ("over other stretches", 5, Status::NonTried, run(14, 16)),
+        ("at the last position", 15, Status::NonTried, run(15, 16)),
+        ("behind its last stretch", 12, Status::NonTrimmed, None),
+        ("from the end", 16, Status::NonTried, None),
+        ("from beyond the end", u64::MAX, Status::NonTried, None),
+        ("nowhere", 0, Status::BadSector, None),
+    ];
+    for (name, from, status, want) in cases {
+        assert_eq!(rt; map.find_forward(from, status), want, "{name}");
+    }
+    Ok(())
+}
+
+#[test]
+fn a_status_is_found_backwards(rt: HostRuntime) -> Result<(), Fail> {
+    let map = map_of_five(&rt)?;
+    let cases = [
+        ("from the end, there", 16, Status::NonTried, run(14, 16)),
+        (
+            "from the end, further on",
+            16,
+            Status::NonTrimmed,
+            run(8, 12),
+        ),
+        (
+            "from beyond the end",
+            u64::MAX,
+            Status::NonTried,
+            run(14, 16),
+        ),
+        (
+            "in the middle of its stretch",
+            6,
+            Status::Finished,
+            run(4, 6),
+        ),
+        (
+            "at the end of its stretch",
+            12,
+            Status::NonTrimmed,
+            run(8, 12),
+        ),
+        (
+            "right behind its first position",
+            9,
+            Status::NonTrimmed,
+            run(8, 9),
+        ),
+        (
+            "at the start of its stretch",
+            12,
+            Status::Finished,
+            run(4, 8),
+        ),
+        ("over other stretches", 14, Status::NonTried, run(0, 4)),
+        ("right behind 0", 1, Status::NonTried, run(0, 1)),
+        ("in front of its first stretch", 8, Status::NonTrimmed, None),
+        ("from 0", 0, Status::NonTried, None),
+        ("nowhere", 16, Status::BadSector, None),
+    ];
+    for (name, before, status, want) in cases {
+        assert_eq!(rt; map.find_backward(before, status), want, "{name}");
+    }
+    Ok(())
+}
+
+#[test]
+fn nothing_is_found_in_a_new_map(rt: HostRuntime) {
+    let map = PlainTiles::new(rt.alloc());
+    assert_eq!(rt; map.find_forward(0, Status::NonTried), None);
+    assert_eq!(rt; map.find_backward(0, Status::NonTried), None);
+    assert_eq!(rt; map.count(Status::NonTried), 0);
+}
+
+#[test]
+fn positions_of_a_status_are_counted(rt: HostRuntime) -> Result<(), Fail> {
+    let map = map_of_five(&rt)?;
+    let cases = [
+        (Status::NonTried, 6),
+        (Status::NonTrimmed, 4),
+        (Status::NonScraped, 0),
+        (Status::BadSector, 0),
+        (Status::Finished, 6),
+    ];
+    for (status, want) in cases {
+        assert_eq!(rt; map.count(status), want, "{status:?}");
+    }
+    Ok(())
+}
+
+#[test]
+fn blocks_are_pushed_in_order(rt: HostRuntime) {
+    let mut map = PlainTiles::new(rt.alloc());
+    let first = block(0, 0x200, Status::Finished);
+    let cases = [
+        (first, Ok(()), 0x200),
+        (
+            block(0x300, 1, Status::NonTried),
+            Err(PushError::Gap { at: 0x200 }),
+            0x200,
+        ),
+        (
+            block(0x100, 1, Status::NonTried),
+            Err(PushError::Overlap { at: 0x200 }),
+            0x200,
+        ),
+        (block(0x200, 0, Status::NonTried), Ok(()), 0x200),
+        (
+            block(0x300, 0, Status::NonTried),
+            Err(PushError::Gap { at: 0x200 }),
+            0x200,
+        ),
+        (
+            block(0x200, (1 << 63) - 0x200, Status::NonTried),
+            Err(PushError::TooLarge),
+            0x200,
+        ),
+        (
+            block(0x100, 1 << 63, Status::NonTried),
+            Err(PushError::TooLarge),
+            0x200,
+        ),
+        (
+            block(0x300, u64::MAX, Status::NonTried),
+            Err(PushError::TooLarge),
+            0x200,
+        ),
+        (block(0x200, 0x10, Status::Finished), Ok(()), 0x210),
+        (block(0x210, 0x10, Status::NonTried), Ok(()), 0x220),
+    ];
+    for (pushed, want, end) in cases {
+        assert_eq!(rt; map.push(pushed), want, "{pushed:?}");
+        assert_eq!(rt; map.end(), end, "{pushed:?}");
+    }
+    let want = [
+        block(0, 0x210, Status::Finished),
+        block(0x210, 0x10, Status::NonTried),
+    ];
+    assert_blocks(&rt, &map, &want);
+}
+
+#[test]
+fn a_map_may_end_below_2_to_the_63(rt: HostRuntime) -> Result<(), Fail> {
+    let mut map = PlainTiles::new(rt.alloc());
+    let most = block(0, (1 << 63) - 1, Status::NonTried);
+    map.push(most)?;
+    assert_blocks(&rt, &map, &[most]);
+    assert_eq!(rt; map.count(Status::NonTried), (1 << 63) - 1);
     Ok(())
 }
 

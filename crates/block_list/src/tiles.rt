@@ -1,9 +1,11 @@
-ghost use Rattle.std.specs.Prelude.{◌≡◌, ℕ, ◌+◌, ◌<◌, ◌≤◌, ◌^◌, List, length, slice_get, Some, OnOk};
+ghost use Rattle.std.specs.Prelude.{◌≡◌, ℕ, ◌+◌, ◌<◌, ◌≤◌, ◌^◌, List, length, slice_get, Some, OnOk, IfSome, IfNone, count_by};
 ghost use Rattle.block_list.specs.declared.status.Status.{Status};
+ghost use Rattle.block_list.specs.Status.{same};
+ghost use Rattle.block_list.specs.Places.{IsFirst, IsLast, IsRunUp, IsRunDown};
 ghost use Rattle.block_list.specs.Map.{Has, marked, extended};
 ghost use Rattle.block_list.specs.Stretches.{stretches};
 
-use crate::block::Block;
+use crate::block::{Block, Run};
 use crate::status::Status;
 
 /// Memory wasn't there.
@@ -27,6 +29,22 @@ pub trait Tiles: Drop {
     fn at(&self, x: u64) -> Status
         requires { x < length (statuses self.now) }
         ensures { Has (statuses self.now) result x };
+
+    /// The first position at or after `from` that has a status, and the end of its stretch of equal statuses.
+    fn find_forward(&self, from: u64, status: Status) -> Option<Run>
+        ensures first { IfSome result (λ run. IsFirst (Has (statuses self.now) status) from run.from) }
+        ensures run { IfSome result (λ run. IsRunUp (Has (statuses self.now) status) run.from run.to) }
+        ensures none { IfNone result ((x : ℕ) → from ≤ x → Has (statuses self.now) status x → ⊥) };
+
+    /// The greatest end at or before `before` below which a position has a status, and the start of its stretch.
+    fn find_backward(&self, before: u64, status: Status) -> Option<Run>
+        ensures last { IfSome result (λ run. IsLast (Has (statuses self.now) status) before run.to) }
+        ensures run { IfSome result (λ run. IsRunDown (Has (statuses self.now) status) run.from run.to) }
+        ensures none { IfNone result ((x : ℕ) → x < before → Has (statuses self.now) status x → ⊥) };
+
+    /// How many positions have a status.
+    fn count(&self, status: Status) -> u64
+        ensures { result ≡ count_by (λ s. same s status) (statuses self.now) };
 
     /// Makes spare at least n. It alone takes memory.
     fn reserve(&mut self, n: usize) -> Result<(), NoMemory>

@@ -1,4 +1,6 @@
-use Rattle.std.proofs.Common.{◌≡◌, ◌-◌, ◌++◌, ap, sym, ◌∙◌, length, replicate, length-append, append-nil, arith}
+use Rattle.std.specs.Vec.{vec_capacity}
+use Rattle.block_list.proofs.PushFacts.{on_success}
+use Rattle.std.proofs.Common.{◌≡◌, ◌-◌, ◌++◌, ap, sym, ◌∙◌, length, replicate, ◌<◌, vec_len, length-append, append-nil, arith}
 use Rattle.std.specs.List.{flat_map}
 use Rattle.std.proofs.lemmas.List.{length-replicate}
 use Rattle.block_list.specs.declared.status.Status.TheVariants.{NonTried}
@@ -15,7 +17,9 @@ append-requires-clause-behind c = omega (arith, tiling_end _ c.self.invariant)
 pub invariant_of-self : goal.invariant_of-self
 invariant_of-self c =
     let n = c.args.end - c.self.inside.end in
-    let e : length (flat_map covered c.append.new.blocks.items) ≡ c.args.end = ap length c.append.ensures.added ∙ omega (arith, length-append (flat_map covered c.self.inside.blocks.items) (replicate n NonTried), length-replicate n NonTried, tiling_end _ c.self.invariant) in
+    let room : vec_len c.self.inside.blocks < vec_capacity c.self.inside.blocks = omega (arith, rw (← c.self.view_is) at c.requires.spare) in
+    let added = on_success c.append.result _ (c.append.ensures.full room) c.append.ensures.added in
+    let e : length (flat_map covered c.append.new.blocks.items) ≡ c.args.end = ap length added ∙ omega (arith, length-append (flat_map covered c.self.inside.blocks.items) (replicate n NonTried), length-replicate n NonTried, tiling_end _ c.self.invariant) in
     record {
       tiled = tiles_up_to _ _ c.append.ensures.tiled e;
       merged = c.append.ensures.merged;
@@ -23,7 +27,10 @@ invariant_of-self c =
     }
 
 pub returns-then-self-end-clause-extended : goal.returns-then-self-end-clause-extended
-returns-then-self-end-clause-extended c = rw (← c.self.view_is) (c.append.ensures.added ∙ ap (λ n. flat_map covered c.self.inside.blocks.items ++ replicate (c.args.end - n) NonTried) (tiling_end _ c.self.invariant))
+returns-then-self-end-clause-extended c =
+    let room : vec_len c.self.inside.blocks < vec_capacity c.self.inside.blocks = omega (arith, rw (← c.self.view_is) at c.requires.spare) in
+    let added = on_success c.append.result _ (c.append.ensures.full room) c.append.ensures.added in
+    rw (← c.self.view_is) (added ∙ ap (λ n. flat_map covered c.self.inside.blocks.items ++ replicate (c.args.end - n) NonTried) (tiling_end _ c.self.invariant))
 
 pub returns-else-self-end-clause-extended : goal.returns-else-self-end-clause-extended
 returns-else-self-end-clause-extended c =

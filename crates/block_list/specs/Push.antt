@@ -1,0 +1,11 @@
+use Rattle.std.specs.Prelude.{ℕ, ◌+◌, ◌^◌, Option, Some, None, nat_lt, nat_le, if◌then◌else◌}
+use Rattle.block_list.specs.declared.plain_tiles.PushError.{PushError}
+use Rattle.block_list.specs.declared.plain_tiles.PushError.TheVariants.{TooLarge, Overlap, Gap}
+
+-- why a block can't be put behind a map with this end, in the order in which it is looked at
+abbrev pub push_fault : (pos size end : ℕ) → Option PushError
+push_fault pos size end =
+    if nat_le (2 ^ 63) (pos + size) then Some TooLarge
+    else if nat_lt pos end then Some (Overlap end)
+    else if nat_lt end pos then Some (Gap end)
+    else None

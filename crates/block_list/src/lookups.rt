@@ -1,0 +1,70 @@
+//! Where a list of blocks that tiles a map from 0 on has a status.
+ghost use Rattle.std.specs.Prelude.{◌≡◌, ℕ, ◌+◌, ◌<◌, ◌≤◌, length, IfSome, IfNone, count_by};
+ghost use Rattle.std.specs.List.{flat_map};
+ghost use Rattle.block_list.specs.Status.{same};
+ghost use Rattle.block_list.specs.Map.{Has};
+ghost use Rattle.block_list.specs.Places.{IsFirst, IsLast, IsRunUp, IsRunDown};
+ghost use Rattle.block_list.specs.Stretches.{covered};
+ghost use Rattle.block_list.specs.Tiling.{IsMerged};
+ghost use Rattle.block_list.specs.Edits.{IsTiled};
+
+use crate::block::{Block, Run};
+use crate::edits::begun_before;
+use crate::status::Status;
+
+/// The first position at or after `from` that has a status, and the end of its block.
+pub fn first_with(blocks: &[Block], from: u64, status: Status) -> Option<Run>
+    requires tiled { IsTiled blocks.now }
+    requires merged { IsMerged blocks.now }
+    requires within { from < length (flat_map covered blocks.now) }
+    ensures first { IfSome result (λ run. IsFirst (Has (flat_map covered blocks.now) status) from run.from) }
+    ensures run { IfSome result (λ run. IsRunUp (Has (flat_map covered blocks.now) status) run.from run.to) }
+    ensures none { IfNone result ((x : ℕ) → from ≤ x → Has (flat_map covered blocks.now) status x → ⊥) }
+{
+    let holding = begun_before(blocks, from + 1) - 1;
+    for block in &blocks[holding..] {
+        if block.status.is(status) {
+            return Some(Run {
+                from: from.max(block.pos),
+                to: block.pos + block.size,
+            });
+        }
+    }
+    None
+}
+
+/// The greatest end at or before `before` below which a position has a status, and the start of its block.
+pub fn last_with(blocks: &[Block], before: u64, status: Status) -> Option<Run>
+    requires tiled { IsTiled blocks.now }
+    requires merged { IsMerged blocks.now }
+    requires within { before ≤ length (flat_map covered blocks.now) }
+    ensures last { IfSome result (λ run. IsLast (Has (flat_map covered blocks.now) status) before run.to) }
+    ensures run { IfSome result (λ run. IsRunDown (Has (flat_map covered blocks.now) status) run.from run.to) }
+    ensures none { IfNone result ((x : ℕ) → x < before → Has (flat_map covered blocks.now) status x → ⊥) }
+{
+    let begun = begun_before(blocks, before);
+    for i in (0..begun).rev() {
+        let block = blocks[i];
+        if block.status.is(status) {
+            return Some(Run {
+                from: block.pos,
+                to: before.min(block.pos + block.size),
+            });
+        }
+    }
+    None
+}
+
+/// How many positions have a status.
+pub fn count(blocks: &[Block], status: Status) -> u64
+    requires { IsTiled blocks.now }
+    ensures { result ≡ count_by (λ s. same s status) (flat_map covered blocks.now) }
+{
+    let mut counted = 0;
+    for block in blocks {
+        if block.status.is(status) {
+            counted += block.size;
+        }
+    }
+    counted
+}

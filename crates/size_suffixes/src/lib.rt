@@ -1,0 +1,5 @@
+//! Numbers, sizes and intervals as users write them.
+#![tactic(auto)]
+
+pub mod error;
+pub mod number;
