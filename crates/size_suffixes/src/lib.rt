@@ -3,3 +3,5 @@
 
 pub mod error;
 pub mod number;
+#[cfg(test)]
+mod tests;

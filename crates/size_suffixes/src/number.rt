@@ -1,14 +1,90 @@
-ghost use Rattle.std.specs.Prelude.{◌≡◌};
-ghost use Rattle.size_suffixes.specs.Number.{number};
+ghost use Rattle.std.specs.Prelude.{◌≡◌, ◌-◌, ◌^◌, ◌<◌, ◌≤◌, length, min, position, IfSome};
+ghost use Rattle.std.specs.Char.{digit_value};
+ghost use Rattle.std.specs.Str.Parse.{digits_value};
+ghost use Rattle.size_suffixes.specs.Number.{number, base_of, digits_at, is_no_digit};
 
 use crate::error::SizeError;
+
+/// The least value that is too large.
+const LIMIT: u64 = 1 << 63;
+
+/// The base of a number by how it begins.
+fn base_of_text(bytes: &[u8]) -> u64
+    ensures { result ≡ base_of bytes.now }
+{
+    match bytes {
+        [b'0', b'x' | b'X', ..] => 16,
+        [b'0', ..] => 8,
+        _ => 10,
+    }
+}
+
+/// Where the digits of a number begin.
+fn start_of_digits(bytes: &[u8]) -> usize
+    ensures value { result ≡ digits_at bytes.now }
+    ensures within { result ≤ length bytes.now }
+{
+    match bytes {
+        [b'0', b'x' | b'X', ..] => 2,
+        _ => 0,
+    }
+}
+
+/// The value of a digit or a letter, and 36 for any other byte.
+fn value_of_digit(byte: u8) -> u64
+    ensures { result ≡ digit_value byte }
+{
+    match char::from(byte).to_digit(36) {
+        Some(digit) => u64::from(digit),
+        None => 36,
+    }
+}
+
+/// The place of the first byte that is no digit in a base.
+fn first_no_digit(base: u64, bytes: &[u8]) -> Option<usize>
+    ensures place { result ≡ position (is_no_digit base) bytes.now }
+    ensures within { IfSome result (λ k. k < length bytes.now) }
+{
+    bytes.iter().position(|byte| value_of_digit(*byte) >= base)
+}
+
+/// The value of digits in a base, or the largest `u64` where it is larger still.
+fn saturated_value(base: u64, digits: &[u8]) -> u64
+    requires { 0 < base }
+    ensures { result ≡ min (digits_value base digits.now) (2 ^ 64 - 1) }
+{
+    let mut value: u64 = 0;
+    for digit in digits {
+        value = value
+            .saturating_mul(base)
+            .saturating_add(value_of_digit(*digit));
+    }
+    value
+}
 
 /// Reads a number that stands in bytes, as a field of a line, and nothing else: decimal, or octal behind `0`, or
 /// hexadecimal behind `0x`. A number of any length is read; one of 2^63 or more is `TooLarge`.
 pub fn parse_number(bytes: &[u8]) -> Result<u64, SizeError>
     ensures { result ≡ number bytes.now }
 {
-    Err(SizeError::Empty)
+    if bytes.is_empty() {
+        return Err(SizeError::Empty);
+    }
+    let base = base_of_text(bytes);
+    let start = start_of_digits(bytes);
+    let digits = &bytes[start..];
+    if let Some(place) = first_no_digit(base, digits) {
+        return Err(SizeError::BadDigit { at: start + place });
+    }
+    if digits.is_empty() {
+        return Err(SizeError::BadDigit { at: start });
+    }
+    let value = saturated_value(base, digits);
+    if value < LIMIT {
+        Ok(value)
+    } else {
+        Err(SizeError::TooLarge)
+    }
 }
 
 /// Reads a number and nothing else, as `parse_number` does.
