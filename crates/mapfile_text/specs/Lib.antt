@@ -1,2 +1,5 @@
 pub mod HeadingLines
 pub mod Printed
+pub mod Lines
+pub mod Fields
+pub mod MapText

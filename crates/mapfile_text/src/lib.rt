@@ -3,6 +3,7 @@
 
 pub mod heading;
 pub mod print;
+pub mod read;
 pub mod state;
 #[cfg(test)]
 mod tests;
