@@ -44,7 +44,7 @@ impl Model for PlainTiles {
 }
 
 impl PlainTiles {
-    /// A map of no position. It takes memory with `reserve` alone.
+    /// A map of no position. It takes memory with `reserve` and `push` alone.
     pub fn new(alloc: Global) -> PlainTiles
         ensures { result.statuses ≡ [] }
     {
