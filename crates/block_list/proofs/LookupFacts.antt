@@ -115,6 +115,7 @@ last_within map s before end k = record {
   greatest = λ y l v. k.greatest y (omega (arith, slice_get_within map y s v)) v;
 }
 
+-- a place behind the map's end, whatever was found
 pub last_of : (map : List Status) (s : Status) (before : ℕ) (r : Option Run) → IfSome r (λ run. IsLast (Has map s) (min before (length map)) run.to) → IfSome r (λ run. IsLast (Has map s) before run.to)
 last_of map s before None h = h
 last_of map s before (Some run) h = last_within map s before run.to h
@@ -123,6 +124,7 @@ pub none_of : (map : List Status) (s : Status) (before : ℕ) (r : Option Run) �
 none_of map s before None h = λ x l v. h x (omega (arith, slice_get_within map x s v)) v
 none_of map s before (Some run) h = h
 
+-- counts of a list's parts
 count-append : (p : Status → Bool) (xs ys : List Status) → count_by p (xs ++ ys) ≡ count_by p xs + count_by p ys
 count-append p xs ys = sum_by-append (λ x. cond (p x) 1 0) xs ys
 

@@ -27,7 +27,8 @@ pub fn mark(blocks: &mut Vec<Block>, block: Block)
     requires room { vec_len blocks.old + 2 ≤ vec_capacity blocks.old }
     ensures tiled { IsTiled blocks.new.items }
     ensures merged { IsMerged blocks.new.items }
-    ensures marked { flat_map covered blocks.new.items ≡ marked (flat_map covered blocks.old.items) block.pos block.size block.status }
+    ensures marked { flat_map covered blocks.new.items
+        ≡ marked (flat_map covered blocks.old.items) block.pos block.size block.status }
     ensures len { vec_len blocks.new ≤ vec_len blocks.old + 2 }
     ensures capacity { vec_capacity blocks.new ≡ vec_capacity blocks.old }
 {
@@ -45,7 +46,8 @@ pub fn append(blocks: &mut Vec<Block>, block: Block) -> Result<(), NoMemory>
     requires short { block.pos + block.size < 2 ^ 63 }
     ensures tiled { IsTiled blocks.new.items }
     ensures merged { IsMerged blocks.new.items }
-    ensures added { OnOk result (flat_map covered blocks.new.items ≡ flat_map covered blocks.old.items ++ covered block) }
+    ensures added { OnOk result (flat_map covered blocks.new.items
+        ≡ flat_map covered blocks.old.items ++ covered block) }
     ensures kept { OnErr result (blocks.new.items ≡ blocks.old.items) }
     ensures full { vec_len blocks.old < vec_capacity blocks.old → IsOk result }
     ensures len { vec_len blocks.new ≤ vec_len blocks.old + 1 }
@@ -112,7 +114,8 @@ fn replace(blocks: &mut Vec<Block>, i: usize, j: usize, block: Block)
     requires some { 0 < block.size }
     ensures tiled { IsTiled blocks.new.items }
     ensures merged { IsMerged blocks.new.items }
-    ensures marked { flat_map covered blocks.new.items ≡ marked (flat_map covered blocks.old.items) block.pos block.size block.status }
+    ensures marked { flat_map covered blocks.new.items
+        ≡ marked (flat_map covered blocks.old.items) block.pos block.size block.status }
     ensures len { vec_len blocks.new ≤ vec_len blocks.old }
     ensures capacity { vec_capacity blocks.new ≡ vec_capacity blocks.old }
 {

@@ -44,7 +44,7 @@ impl Model for PlainTiles {
 }
 
 impl PlainTiles {
-    /// A map of no position. It takes memory with `reserve` alone.
+    /// A map of no position. It takes memory with `reserve` and `push` alone.
     pub fn new(alloc: Global) -> PlainTiles
         ensures { result.statuses ≡ [] }
     {
@@ -58,7 +58,8 @@ impl PlainTiles {
     pub fn push(&mut self, block: Block) -> Result<(), PushError>
         ensures ok { OnOk result (self.new.statuses ≡ self.old.statuses ++ replicate block.size block.status) }
         ensures err { OnErr result (self.new.statuses ≡ self.old.statuses) }
-        ensures answer { MatchOption (push_fault block.pos block.size (length self.old.statuses)) (IsOk result ⊎ (result ≡ Err PushError.NoMemory)) (λ e. result ≡ Err e) }
+        ensures answer { MatchOption (push_fault block.pos block.size (length self.old.statuses))
+            (IsOk result ⊎ (result ≡ Err PushError.NoMemory)) (λ e. result ≡ Err e) }
     {
         let end = end_behind(self.end, block)?;
         if block.size > 0 {

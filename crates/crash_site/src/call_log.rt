@@ -126,7 +126,9 @@ impl CallLog {
         ensures made { self.new.made ≡ raised self.old.made }
         ensures to_fail { self.new.to_fail.items ≡ self.old.to_fail.items }
         ensures fails { IsNextToFail self.old → IsErr result }
-        ensures told { OnErr result ((IsNextToFail self.old × (self.new.starving ≡ self.old.starving) × (entries_of self.new ≡ entries_of self.old ++ Failed (call_of act) ∷ []))
+        ensures told { OnErr result ((IsNextToFail self.old
+            × (self.new.starving ≡ self.old.starving)
+            × (entries_of self.new ≡ entries_of self.old ++ Failed (call_of act) ∷ []))
             ⊎ ((self.new.starving ≡ raised self.old.starving) × (entries_of self.new ≡ entries_of self.old))) }
         ensures fed { OnOk result (self.new.starving ≡ self.old.starving) }
     {
@@ -144,7 +146,8 @@ impl CallLog {
     pub(crate) fn settle<T>(&mut self, outcome: Result<T, AllocError>) -> Result<T, SiteFault>
         ensures value { IfOk result (λ value. outcome ≡ Ok value) }
         ensures kept { OnOk result (entries_of self.new ≡ entries_of self.old) }
-        ensures withdrawn { OnErr result ((es : List Entry) (e : Entry) → entries_of self.old ≡ es ++ e ∷ [] → entries_of self.new ≡ es) }
+        ensures withdrawn { OnErr result ((es : List Entry) (e : Entry) → entries_of self.old
+            ≡ es ++ e ∷ [] → entries_of self.new ≡ es) }
         ensures error { OnErr result (IsErr outcome) }
         ensures cause { HasCause self.old.faults self.new.faults result }
         ensures made { self.new.made ≡ self.old.made }

@@ -50,7 +50,9 @@ impl MemorySite {
     /// Puts a file there, as another program would. The site begins anew from the files as they then read; the open
     /// image and the begun draft stay so, and the numbers of calls go on.
     pub fn put_file(&mut self, name: &str, bytes: &[u8], regular: bool) -> Result<(), NoMemory>
-        ensures files { OnOk result ((n : List ℕ) → files_now self.new n ≡ put (files_now self.old) name.now (Some (record { bytes = bytes.now; regular = regular })) n) }
+        ensures files { OnOk result ((n : List ℕ) → files_now self.new n
+            ≡ put (files_now self.old) name.now (Some
+            (record { bytes = bytes.now; regular = regular })) n) }
         ensures record_ { OnOk result (recorded self.new ≡ []) }
         ensures start_same { OnErr result (began self.new ≡ began self.old) }
         ensures record_same { OnErr result (recorded self.new ≡ recorded self.old) }
@@ -80,7 +82,9 @@ impl MemorySite {
         regular: bool,
     ) -> Result<(MemoryFolder, MemoryFolder), AllocError>
         ensures same { IfOk result (λ pair. folder_of pair.0 ≡ folder_of pair.1) }
-        ensures files { IfOk result (λ pair. (folder_of pair.1).files ≡ put (folder_of self.now.folder).files name.now (Some (record { bytes = bytes.now; regular = regular }))) }
+        ensures files { IfOk result (λ pair. (folder_of pair.1).files
+            ≡ put (folder_of self.now.folder).files name.now
+            (Some (record { bytes = bytes.now; regular = regular }))) }
         ensures image { IfOk result (λ pair. (folder_of pair.1).image ≡ (folder_of self.now.folder).image) }
         ensures draft { IfOk result (λ pair. (folder_of pair.1).draft ≡ (folder_of self.now.folder).draft) }
     {
@@ -110,7 +114,8 @@ impl MemorySite {
 
     /// The bytes of a file as it reads.
     pub fn file(&self, name: &str) -> Option<&[u8]>
-        ensures { MatchOption result (files_now self.now name.now ≡ None) (λ bytes. (f : File) × (files_now self.now name.now ≡ Some f) × (bytes.now ≡ f.bytes)) }
+        ensures { MatchOption result (files_now self.now name.now ≡ None)
+            (λ bytes. (f : File) × (files_now self.now name.now ≡ Some f) × (bytes.now ≡ f.bytes)) }
     {
         self.folder.file(name.as_bytes())
     }
@@ -143,7 +148,8 @@ impl Site for MemorySite {
         ensures made { IfOk result (λ kind. make ≡ true → is_absent kind ≡ false) }
         ensures open { IfOk result (λ kind. has_image self.new ≡ not (is_absent kind)) }
         ensures closed { OnErr result (has_image self.new ≡ false) }
-        ensures done { OnOk result (recorded self.new ≡ recorded self.old ++ Done (image_open name.now make) ∷ []) }
+        ensures done { OnOk result (recorded self.new
+            ≡ recorded self.old ++ Done (image_open name.now make) ∷ []) }
         ensures lost { OnErr result (Lost (image_open name.now make) (recorded self.old) (recorded self.new)) }
         ensures draft { has_draft self.new ≡ has_draft self.old }
         ensures start { began self.new ≡ began self.old }
@@ -168,7 +174,8 @@ impl Site for MemorySite {
     fn image_write(&mut self, pos: u64, piece: &[u8]) -> Result<(), SiteFault>
         requires opened { has_image self.old ≡ true }
         requires place { pos + length piece.now < 2 ^ 63 }
-        ensures done { OnOk result (recorded self.new ≡ recorded self.old ++ Done (image_write pos piece.now) ∷ []) }
+        ensures done { OnOk result (recorded self.new
+            ≡ recorded self.old ++ Done (image_write pos piece.now) ∷ []) }
         ensures lost { OnErr result (Lost (image_write pos piece.now) (recorded self.old) (recorded self.new)) }
         ensures open { has_image self.new ≡ true }
         ensures draft { has_draft self.new ≡ has_draft self.old }
@@ -211,8 +218,10 @@ impl Site for MemorySite {
         ensures count { IfOk result (λ read. IsWithin read (length buf.old)) }
         ensures read { IfOk result (λ read. IsRead (files_now self.old name.now) pos buf.new read) }
         ensures full { IfOk result (λ read. IsFull (files_now self.old name.now) pos (length buf.old) read) }
-        ensures done { OnOk result (recorded self.new ≡ recorded self.old ++ Done (map_read name.now pos (length buf.old)) ∷ []) }
-        ensures lost { OnErr result (Lost (map_read name.now pos (length buf.old)) (recorded self.old) (recorded self.new)) }
+        ensures done { OnOk result (recorded self.new
+            ≡ recorded self.old ++ Done (map_read name.now pos (length buf.old)) ∷ []) }
+        ensures lost { OnErr result (Lost (map_read name.now pos (length buf.old))
+            (recorded self.old) (recorded self.new)) }
         ensures open { has_image self.new ≡ has_image self.old }
         ensures draft { has_draft self.new ≡ has_draft self.old }
         ensures start { began self.new ≡ began self.old }

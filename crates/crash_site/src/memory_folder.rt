@@ -85,7 +85,9 @@ impl MemoryFolder {
 
     /// The bytes of a file.
     pub(crate) fn file(&self, name: &[u8]) -> Option<&[u8]>
-        ensures { MatchOption result ((folder_of self.now).files name.now ≡ None) (λ bytes. (f : File) × ((folder_of self.now).files name.now ≡ Some f) × (bytes.now ≡ f.bytes)) }
+        ensures { MatchOption result ((folder_of self.now).files name.now ≡ None)
+            (λ bytes. (f : File) × ((folder_of self.now).files name.now ≡ Some f)
+            × (bytes.now ≡ f.bytes)) }
     {
         match file_at(self.places.as_slice(), name) {
             None => None,
@@ -107,7 +109,9 @@ impl MemoryFolder {
 
     /// Puts a file under a name.
     pub(crate) fn put(&mut self, name: &[u8], file: MemoryFile) -> Result<(), AllocError>
-        ensures files { OnOk result ((folder_of self.new).files ≡ put (folder_of self.old).files name.now (Some (record { bytes = file.bytes.items; regular = file.regular }))) }
+        ensures files { OnOk result ((folder_of self.new).files
+            ≡ put (folder_of self.old).files name.now
+            (Some (record { bytes = file.bytes.items; regular = file.regular }))) }
         ensures image { (folder_of self.new).image ≡ (folder_of self.old).image }
         ensures draft { (folder_of self.new).draft ≡ (folder_of self.old).draft }
     {
@@ -118,7 +122,8 @@ impl MemoryFolder {
 
     pub(crate) fn open(&mut self, name: &[u8], make: bool) -> Result<ImageKind, AllocError>
         ensures kind { IfOk result (λ kind. kind ≡ kind_of ((folder_of self.old).files name.now) make) }
-        ensures opened { OnOk result (folder_of self.new ≡ after_done (folder_of self.old) (image_open name.now make)) }
+        ensures opened { OnOk result (folder_of self.new
+            ≡ after_done (folder_of self.old) (image_open name.now make)) }
         ensures same { OnErr result (folder_of self.new ≡ folder_of self.old) }
     {
         let opened = Vec::from_slice(self.alloc, name)?;
@@ -132,7 +137,8 @@ impl MemoryFolder {
     pub(crate) fn write(&mut self, pos: u64, piece: &[u8]) -> Result<(), AllocError>
         requires open { IsSome self.old.image }
         requires place { pos + length piece.now < 2 ^ 63 }
-        ensures written { OnOk result (folder_of self.new ≡ after_done (folder_of self.old) (image_write pos piece.now)) }
+        ensures written { OnOk result (folder_of self.new
+            ≡ after_done (folder_of self.old) (image_write pos piece.now)) }
         ensures same { OnErr result (folder_of self.new ≡ folder_of self.old) }
     {
         let Some(name) = &self.image else {
@@ -156,7 +162,8 @@ impl MemoryFolder {
 
     pub(crate) fn append(&mut self, piece: &[u8]) -> Result<(), AllocError>
         requires { IsSome self.old.draft }
-        ensures appended { OnOk result (folder_of self.new ≡ after_done (folder_of self.old) (draft_append piece.now)) }
+        ensures appended { OnOk result (folder_of self.new
+            ≡ after_done (folder_of self.old) (draft_append piece.now)) }
         ensures same { OnErr result (folder_of self.new ≡ folder_of self.old) }
     {
         let Some(name) = &self.draft else {
@@ -169,7 +176,9 @@ impl MemoryFolder {
 
     /// Moves what stands under one name to another.
     pub(crate) fn rename(&mut self, from: &[u8], to: &[u8]) -> Result<(), AllocError>
-        ensures files { OnOk result ((folder_of self.new).files ≡ put (put (folder_of self.old).files from.now None) to.now ((folder_of self.old).files from.now)) }
+        ensures files { OnOk result ((folder_of self.new).files
+            ≡ put (put (folder_of self.old).files from.now None) to.now
+            ((folder_of self.old).files from.now)) }
         ensures same { OnErr result ((folder_of self.new).files ≡ (folder_of self.old).files) }
         ensures image { (folder_of self.new).image ≡ (folder_of self.old).image }
         ensures draft { (folder_of self.new).draft ≡ (folder_of self.old).draft }

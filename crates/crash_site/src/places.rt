@@ -86,7 +86,8 @@ impl Place {
         piece: &[u8],
     ) -> Result<(), AllocError>
         requires { pos + length piece.now < 2 ^ 63 }
-        ensures written { OnOk result (file_of self.new.file ≡ Some (written_file (file_of self.old.file) pos piece.now)) }
+        ensures written { OnOk result (file_of self.new.file
+            ≡ Some (written_file (file_of self.old.file) pos piece.now)) }
         ensures same { OnErr result (file_of self.new.file ≡ file_of self.old.file) }
         ensures name { self.new.name.items ≡ self.old.name.items }
     {
@@ -106,7 +107,12 @@ impl Place {
 
     /// Adds a piece at the end. The file is a regular one afterwards.
     pub(crate) fn append(&mut self, alloc: Global, piece: &[u8]) -> Result<(), AllocError>
-        ensures appended { OnOk result (file_of self.new.file ≡ Some (record { bytes = bytes_of (file_of self.old.file) ++ piece.now; regular = true })) }
+        ensures appended { OnOk result (file_of self.new.file
+            ≡ Some (record {
+              bytes = bytes_of (file_of self.old.file)
+                  ++ piece.now;
+              regular = true;
+            })) }
         ensures same { OnErr result (file_of self.new.file ≡ file_of self.old.file) }
         ensures name { self.new.name.items ≡ self.old.name.items }
     {
@@ -143,7 +149,9 @@ impl Place {
 
 /// The first place with a name.
 fn find(places: &[Place], name: &[u8]) -> Option<usize>
-    ensures { MatchOption result ((k : ℕ) (d : Place) → k < length places.now → bytes_eq name.now (slice_index_or places.now k d).name.items ≡ false) (λ i. IsPlaceOf places.now name.now i) }
+    ensures { MatchOption result ((k : ℕ) (d : Place) → k < length places.now
+        → bytes_eq name.now (slice_index_or places.now k d).name.items ≡ false)
+        (λ i. IsPlaceOf places.now name.now i) }
 {
     for (i, place) in places.iter().enumerate() {
         if name == place.name.as_slice() {
@@ -156,7 +164,9 @@ fn find(places: &[Place], name: &[u8]) -> Option<usize>
 #[tactic(auto, using(crate::proofs::PlaceFacts::place_facts))]
 /// What stands under a name.
 pub(crate) fn file_at<'a>(places: &'a [Place], name: &[u8]) -> Option<&'a MemoryFile>
-    ensures { MatchOption result (files_of places.now name.now ≡ None) (λ file. files_of places.now name.now ≡ Some (record { bytes = file.now.bytes.items; regular = file.now.regular })) }
+    ensures { MatchOption result (files_of places.now name.now ≡ None)
+        (λ file. files_of places.now name.now ≡ Some
+        (record { bytes = file.now.bytes.items; regular = file.now.regular })) }
 {
     let i = find(places, name)?;
     places[i].file.as_ref()

@@ -67,12 +67,15 @@ pub trait Site {
 
     /// Selects a file as the image, without cutting it. An absent file is made, empty, if `make` is set.
     fn image_open(&mut self, name: &str, make: bool) -> Result<ImageKind, SiteFault>
-        ensures kind { IfOk result (λ kind. IsTrue (tells self.old) → kind ≡ kind_of ((after (start self.old) (record_ self.old)).files name.now) make) }
+        ensures kind { IfOk result (λ kind. IsTrue (tells self.old) → kind
+            ≡ kind_of ((after (start self.old) (record_ self.old)).files name.now) make) }
         ensures made { IfOk result (λ kind. make ≡ true → is_absent kind ≡ false) }
         ensures open { IfOk result (λ kind. is_open self.new ≡ not (is_absent kind)) }
         ensures closed { OnErr result (is_open self.new ≡ false) }
-        ensures done { OnOk result (IsTrue (tells self.old) → record_ self.new ≡ record_ self.old ++ Done (image_open name.now make) ∷ []) }
-        ensures lost { OnErr result (IsTrue (tells self.old) → Lost (image_open name.now make) (record_ self.old) (record_ self.new)) }
+        ensures done { OnOk result (IsTrue (tells self.old) → record_ self.new
+            ≡ record_ self.old ++ Done (image_open name.now make) ∷ []) }
+        ensures lost { OnErr result (IsTrue (tells self.old)
+            → Lost (image_open name.now make) (record_ self.old) (record_ self.new)) }
         ensures draft { is_drafting self.new ≡ is_drafting self.old }
         ensures tells { tells self.new ≡ tells self.old }
         ensures start { IsTrue (tells self.old) → start self.new ≡ start self.old }
@@ -82,8 +85,10 @@ pub trait Site {
     fn image_write(&mut self, pos: u64, piece: &[u8]) -> Result<(), SiteFault>
         requires opened { is_open self.old ≡ true }
         requires place { pos + length piece.now < 2 ^ 63 }
-        ensures done { OnOk result (IsTrue (tells self.old) → record_ self.new ≡ record_ self.old ++ Done (image_write pos piece.now) ∷ []) }
-        ensures lost { OnErr result (IsTrue (tells self.old) → Lost (image_write pos piece.now) (record_ self.old) (record_ self.new)) }
+        ensures done { OnOk result (IsTrue (tells self.old) → record_ self.new
+            ≡ record_ self.old ++ Done (image_write pos piece.now) ∷ []) }
+        ensures lost { OnErr result (IsTrue (tells self.old)
+            → Lost (image_write pos piece.now) (record_ self.old) (record_ self.new)) }
         ensures open { is_open self.new ≡ true }
         ensures draft { is_drafting self.new ≡ is_drafting self.old }
         ensures tells { tells self.new ≡ tells self.old }
@@ -92,8 +97,10 @@ pub trait Site {
 
     /// Makes the image durable as it reads, with its entry in its folder. Without an open image it changes nothing.
     fn image_sync(&mut self) -> Result<(), SiteFault>
-        ensures done { OnOk result (IsTrue (tells self.old) → record_ self.new ≡ record_ self.old ++ Done image_sync ∷ []) }
-        ensures lost { OnErr result (IsTrue (tells self.old) → Lost image_sync (record_ self.old) (record_ self.new)) }
+        ensures done { OnOk result (IsTrue (tells self.old) → record_ self.new
+            ≡ record_ self.old ++ Done image_sync ∷ []) }
+        ensures lost { OnErr result (IsTrue (tells self.old)
+            → Lost image_sync (record_ self.old) (record_ self.new)) }
         ensures open { is_open self.new ≡ is_open self.old }
         ensures draft { is_drafting self.new ≡ is_drafting self.old }
         ensures tells { tells self.new ≡ tells self.old }
@@ -104,9 +111,12 @@ pub trait Site {
     fn map_read(&mut self, name: &str, pos: u64, buf: &mut [u8]) -> Result<MapRead, SiteFault>
         requires { 0 < length buf.old }
         ensures count { IfOk result (λ read. IsWithin read (length buf.old)) }
-        ensures read { IfOk result (λ read. IsTrue (tells self.old) → IsRead ((after (start self.old) (record_ self.old)).files name.now) pos buf.new read) }
-        ensures done { OnOk result (IsTrue (tells self.old) → record_ self.new ≡ record_ self.old ++ Done (map_read name.now pos (length buf.old)) ∷ []) }
-        ensures lost { OnErr result (IsTrue (tells self.old) → Lost (map_read name.now pos (length buf.old)) (record_ self.old) (record_ self.new)) }
+        ensures read { IfOk result (λ read. IsTrue (tells self.old)
+            → IsRead ((after (start self.old) (record_ self.old)).files name.now) pos buf.new read) }
+        ensures done { OnOk result (IsTrue (tells self.old) → record_ self.new
+            ≡ record_ self.old ++ Done (map_read name.now pos (length buf.old)) ∷ []) }
+        ensures lost { OnErr result (IsTrue (tells self.old)
+            → Lost (map_read name.now pos (length buf.old)) (record_ self.old) (record_ self.new)) }
         ensures open { is_open self.new ≡ is_open self.old }
         ensures draft { is_drafting self.new ≡ is_drafting self.old }
         ensures tells { tells self.new ≡ tells self.old }
@@ -115,8 +125,10 @@ pub trait Site {
 
     /// Begins an empty draft under its own name. What stood there is lost.
     fn draft_begin(&mut self, name: &str) -> Result<(), SiteFault>
-        ensures done { OnOk result (IsTrue (tells self.old) → record_ self.new ≡ record_ self.old ++ Done (draft_begin name.now) ∷ []) }
-        ensures lost { OnErr result (IsTrue (tells self.old) → Lost (draft_begin name.now) (record_ self.old) (record_ self.new)) }
+        ensures done { OnOk result (IsTrue (tells self.old) → record_ self.new
+            ≡ record_ self.old ++ Done (draft_begin name.now) ∷ []) }
+        ensures lost { OnErr result (IsTrue (tells self.old)
+            → Lost (draft_begin name.now) (record_ self.old) (record_ self.new)) }
         ensures draft { OnOk result (is_drafting self.new ≡ true) }
         ensures no_draft { OnErr result (is_drafting self.new ≡ false) }
         ensures open { is_open self.new ≡ is_open self.old }
@@ -127,8 +139,10 @@ pub trait Site {
     /// Adds a piece at the draft's end.
     fn draft_append(&mut self, piece: &[u8]) -> Result<(), SiteFault>
         requires { is_drafting self.old ≡ true }
-        ensures done { OnOk result (IsTrue (tells self.old) → record_ self.new ≡ record_ self.old ++ Done (draft_append piece.now) ∷ []) }
-        ensures lost { OnErr result (IsTrue (tells self.old) → Lost (draft_append piece.now) (record_ self.old) (record_ self.new)) }
+        ensures done { OnOk result (IsTrue (tells self.old) → record_ self.new
+            ≡ record_ self.old ++ Done (draft_append piece.now) ∷ []) }
+        ensures lost { OnErr result (IsTrue (tells self.old)
+            → Lost (draft_append piece.now) (record_ self.old) (record_ self.new)) }
         ensures draft { is_drafting self.new ≡ true }
         ensures open { is_open self.new ≡ is_open self.old }
         ensures tells { tells self.new ≡ tells self.old }
@@ -138,8 +152,10 @@ pub trait Site {
     /// Makes the draft's bytes durable.
     fn draft_sync(&mut self) -> Result<(), SiteFault>
         requires { is_drafting self.old ≡ true }
-        ensures done { OnOk result (IsTrue (tells self.old) → record_ self.new ≡ record_ self.old ++ Done draft_sync ∷ []) }
-        ensures lost { OnErr result (IsTrue (tells self.old) → Lost draft_sync (record_ self.old) (record_ self.new)) }
+        ensures done { OnOk result (IsTrue (tells self.old) → record_ self.new
+            ≡ record_ self.old ++ Done draft_sync ∷ []) }
+        ensures lost { OnErr result (IsTrue (tells self.old)
+            → Lost draft_sync (record_ self.old) (record_ self.new)) }
         ensures draft { is_drafting self.new ≡ true }
         ensures open { is_open self.new ≡ is_open self.old }
         ensures tells { tells self.new ≡ tells self.old }
@@ -149,8 +165,10 @@ pub trait Site {
     /// Renames the draft to a mapfile's name. No draft is begun afterwards.
     fn draft_publish(&mut self, name: &str) -> Result<(), SiteFault>
         requires { is_drafting self.old ≡ true }
-        ensures done { OnOk result (IsTrue (tells self.old) → record_ self.new ≡ record_ self.old ++ Done (draft_publish name.now) ∷ []) }
-        ensures lost { OnErr result (IsTrue (tells self.old) → Lost (draft_publish name.now) (record_ self.old) (record_ self.new)) }
+        ensures done { OnOk result (IsTrue (tells self.old) → record_ self.new
+            ≡ record_ self.old ++ Done (draft_publish name.now) ∷ []) }
+        ensures lost { OnErr result (IsTrue (tells self.old)
+            → Lost (draft_publish name.now) (record_ self.old) (record_ self.new)) }
         ensures draft { is_drafting self.new ≡ false }
         ensures open { is_open self.new ≡ is_open self.old }
         ensures tells { tells self.new ≡ tells self.old }
@@ -159,8 +177,10 @@ pub trait Site {
 
     /// Makes earlier renames in the folder of a mapfile durable.
     fn map_settle(&mut self, name: &str) -> Result<(), SiteFault>
-        ensures done { OnOk result (IsTrue (tells self.old) → record_ self.new ≡ record_ self.old ++ Done (map_settle name.now) ∷ []) }
-        ensures lost { OnErr result (IsTrue (tells self.old) → Lost (map_settle name.now) (record_ self.old) (record_ self.new)) }
+        ensures done { OnOk result (IsTrue (tells self.old) → record_ self.new
+            ≡ record_ self.old ++ Done (map_settle name.now) ∷ []) }
+        ensures lost { OnErr result (IsTrue (tells self.old)
+            → Lost (map_settle name.now) (record_ self.old) (record_ self.new)) }
         ensures open { is_open self.new ≡ is_open self.old }
         ensures draft { is_drafting self.new ≡ is_drafting self.old }
         ensures tells { tells self.new ≡ tells self.old }

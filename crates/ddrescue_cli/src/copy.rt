@@ -22,9 +22,14 @@ fn copy_sector<S: Source, D: Site, T: Tiles>(
     requires some { 0 < length buf.old }
     requires within { pos + length buf.old ≤ length (T.statuses tiles.old) }
     requires short { length (T.statuses tiles.old) < 2 ^ 63 }
-    ensures turn { OnOk result (Turn pos (length buf.old) (S.tells source.old) (D.tells site.old) (S.journal source.old) (S.journal source.new) (D.record_ site.old) (D.record_ site.new) (T.statuses tiles.old) (T.statuses tiles.new)) }
-    ensures halt { IfErr result (λ e. Halt pos (length buf.old) e (S.tells source.old) (D.tells site.old) (S.journal source.old) (S.journal source.new) (D.record_ site.old) (D.record_ site.new)) }
-    ensures cause { IfErr result (λ e. CopyCause e (S.losses source.old) (S.losses source.new) (D.faults site.old) (D.faults site.new)) }
+    ensures turn { OnOk result (Turn pos (length buf.old) (S.tells source.old) (D.tells site.old)
+        (S.journal source.old) (S.journal source.new) (D.record_ site.old) (D.record_ site.new)
+        (T.statuses tiles.old) (T.statuses tiles.new)) }
+    ensures halt { IfErr result (λ e. Halt pos (length buf.old) e (S.tells source.old)
+        (D.tells site.old) (S.journal source.old) (S.journal source.new) (D.record_ site.old)
+        (D.record_ site.new)) }
+    ensures cause { IfErr result (λ e. CopyCause e (S.losses source.old) (S.losses source.new)
+        (D.faults site.old) (D.faults site.new)) }
     ensures losses { S.losses source.old ≤ S.losses source.new }
     ensures faults { D.faults site.old ≤ D.faults site.new }
     ensures source_faults { S.faults source.new ≡ S.faults source.old }
@@ -67,7 +72,9 @@ pub(crate) fn copy_all<S: Source, D: Site, T: Tiles>(
     requires image { D.is_open site.old ≡ true }
     requires end { length (T.statuses tiles.old) ≡ end }
     requires short { end < 2 ^ 63 }
-    ensures copied { OnOk result (Copied end (sector_count end) (S.tells source.old) (D.tells site.old) (S.journal source.old) (S.journal source.new) (D.record_ site.old) (D.record_ site.new) (T.statuses tiles.old) (T.statuses tiles.new)) }
+    ensures copied { OnOk result (Copied end (sector_count end) (S.tells source.old)
+        (D.tells site.old) (S.journal source.old) (S.journal source.new) (D.record_ site.old)
+        (D.record_ site.new) (T.statuses tiles.old) (T.statuses tiles.new)) }
     ensures input { S.is_open source.new ≡ true }
     ensures image { D.is_open site.new ≡ true }
     ensures source_tells { S.tells source.new ≡ S.tells source.old }
@@ -78,8 +85,10 @@ pub(crate) fn copy_all<S: Source, D: Site, T: Tiles>(
     ensures losses { S.losses source.old ≤ S.losses source.new }
     ensures faults { D.faults site.old ≤ D.faults site.new }
     ensures source_faults { S.faults source.new ≡ S.faults source.old }
-    ensures cause { IfErr result (λ e. CopyCause e (S.losses source.old) (S.losses source.new) (D.faults site.old) (D.faults site.new)) }
-    ensures halted { IfErr result (λ e. Halted end e (S.tells source.old) (D.tells site.old) (S.journal source.old) (S.journal source.new) (D.record_ site.old) (D.record_ site.new)) }
+    ensures cause { IfErr result (λ e. CopyCause e (S.losses source.old) (S.losses source.new)
+        (D.faults site.old) (D.faults site.new)) }
+    ensures halted { IfErr result (λ e. Halted end e (S.tells source.old) (D.tells site.old)
+        (S.journal source.old) (S.journal source.new) (D.record_ site.old) (D.record_ site.new)) }
 {
     let mut buf = [0u8; 512];
     for k in 0..end.div_ceil(512) {

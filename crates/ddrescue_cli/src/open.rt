@@ -11,10 +11,14 @@ use crash_site::site::{ImageKind, MapRead, Site, SiteCall};
 /// Opens the outfile, which is made if it is absent, and refuses one that is no regular file.
 pub(crate) fn open_output<D: Site>(site: &mut D, outfile: &str) -> Result<(), Ending>
     ensures open { OnOk result (D.is_open site.new ≡ true) }
-    ensures regular { OnOk result (IsTrue (D.tells site.old) → is_other ((after (D.start site.old) (D.record_ site.old)).files outfile.now) ≡ false) }
-    ensures made { OnOk result (IsTrue (D.tells site.old) → Made (image_open outfile.now true ∷ []) (D.record_ site.old) (D.record_ site.new)) }
+    ensures regular { OnOk result (IsTrue (D.tells site.old)
+        → is_other ((after (D.start site.old) (D.record_ site.old)).files outfile.now) ≡ false) }
+    ensures made { OnOk result (IsTrue (D.tells site.old)
+        → Made (image_open outfile.now true ∷ []) (D.record_ site.old) (D.record_ site.new)) }
     ensures cause { IfErr result (λ e. OutputCause e (D.faults site.old) (D.faults site.new)) }
-    ensures stop { IfErr result (λ e. IsTrue (D.tells site.old) → OutputStop e outfile.now ((after (D.start site.old) (D.record_ site.old)).files outfile.now) (D.record_ site.old) (D.record_ site.new)) }
+    ensures stop { IfErr result (λ e. IsTrue (D.tells site.old)
+        → OutputStop e outfile.now ((after (D.start site.old)
+        (D.record_ site.old)).files outfile.now) (D.record_ site.old) (D.record_ site.new)) }
     ensures draft { D.is_drafting site.new ≡ D.is_drafting site.old }
     ensures tells { D.tells site.new ≡ D.tells site.old }
     ensures start { IsTrue (D.tells site.old) → D.start site.new ≡ D.start site.old }
@@ -31,10 +35,14 @@ pub(crate) fn open_output<D: Site>(site: &mut D, outfile: &str) -> Result<(), En
 
 /// Looks for a mapfile, and refuses one that is there.
 pub(crate) fn refuse_map<D: Site>(site: &mut D, mapfile: &str) -> Result<(), Ending>
-    ensures absent { OnOk result (IsTrue (D.tells site.old) → is_some ((after (D.start site.old) (D.record_ site.old)).files mapfile.now) ≡ false) }
-    ensures made { OnOk result (IsTrue (D.tells site.old) → Made (map_read mapfile.now 0 1 ∷ []) (D.record_ site.old) (D.record_ site.new)) }
+    ensures absent { OnOk result (IsTrue (D.tells site.old)
+        → is_some ((after (D.start site.old) (D.record_ site.old)).files mapfile.now) ≡ false) }
+    ensures made { OnOk result (IsTrue (D.tells site.old)
+        → Made (map_read mapfile.now 0 1 ∷ []) (D.record_ site.old) (D.record_ site.new)) }
     ensures cause { IfErr result (λ e. MapCause e (D.faults site.old) (D.faults site.new)) }
-    ensures stop { IfErr result (λ e. IsTrue (D.tells site.old) → MapStop e mapfile.now ((after (D.start site.old) (D.record_ site.old)).files mapfile.now) (D.record_ site.old) (D.record_ site.new)) }
+    ensures stop { IfErr result (λ e. IsTrue (D.tells site.old)
+        → MapStop e mapfile.now ((after (D.start site.old) (D.record_ site.old)).files mapfile.now)
+        (D.record_ site.old) (D.record_ site.new)) }
     ensures open { D.is_open site.new ≡ D.is_open site.old }
     ensures draft { D.is_drafting site.new ≡ D.is_drafting site.old }
     ensures tells { D.tells site.new ≡ D.tells site.old }

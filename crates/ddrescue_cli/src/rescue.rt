@@ -45,14 +45,28 @@ pub(crate) fn rescue<S: Source, D: Site>(
 ) -> Result<(), Ending>
     requires no_draft { D.is_drafting site.old ≡ false }
     requires apart { bytes_eq plan.now.names.outfile.now plan.now.names.mapfile.now ≡ false }
-    ensures went { OnOk result (Went plan.now.names.outfile.now plan.now.names.mapfile.now (string_bytes plan.now.draft) plan.now.heading (S.tells source.old) (D.tells site.old)
-        (S.bytes source.old) (S.journal source.old) (S.journal source.new) (D.record_ site.old) (D.record_ site.new)) }
-    ensures stopped { IfErr result (λ e. Stopped e plan.now.names.outfile.now plan.now.names.mapfile.now (string_bytes plan.now.draft) plan.now.heading (S.tells source.old) (D.tells site.old)
-        (S.bytes source.old) (S.journal source.old) (S.journal source.new) (D.record_ site.old) (D.record_ site.new)) }
-    ensures allowed { OnOk result (IsTrue (D.tells site.old) → FilesAllow Done ((after (D.start site.old) (D.record_ site.old)).files plan.now.names.outfile.now) ((after (D.start site.old) (D.record_ site.old)).files plan.now.names.mapfile.now)) }
-    ensures refused { IfErr result (λ e. IsTrue (D.tells site.old) → FilesAllow e ((after (D.start site.old) (D.record_ site.old)).files plan.now.names.outfile.now) ((after (D.start site.old) (D.record_ site.old)).files plan.now.names.mapfile.now)) }
-    ensures regular { IfErr result (λ e. e ≡ OutOfMemory → IsTrue (D.tells site.old) → is_other ((after (D.start site.old) (D.record_ site.old)).files plan.now.names.outfile.now) ≡ false) }
-    ensures cause { IfErr result (λ e. StopCause e (S.faults source.old) (S.faults source.new) (S.losses source.old) (S.losses source.new) (D.faults site.old) (D.faults site.new)) }
+    ensures went { OnOk result (Went plan.now.names.outfile.now plan.now.names.mapfile.now
+        (string_bytes plan.now.draft) plan.now.heading (S.tells source.old) (D.tells site.old)
+        (S.bytes source.old) (S.journal source.old) (S.journal source.new) (D.record_ site.old)
+        (D.record_ site.new)) }
+    ensures stopped { IfErr result
+        (λ e. Stopped e plan.now.names.outfile.now plan.now.names.mapfile.now
+        (string_bytes plan.now.draft) plan.now.heading (S.tells source.old) (D.tells site.old)
+        (S.bytes source.old) (S.journal source.old) (S.journal source.new) (D.record_ site.old)
+        (D.record_ site.new)) }
+    ensures allowed { OnOk result (IsTrue (D.tells site.old)
+        → FilesAllow Done ((after (D.start site.old)
+        (D.record_ site.old)).files plan.now.names.outfile.now)
+        ((after (D.start site.old) (D.record_ site.old)).files plan.now.names.mapfile.now)) }
+    ensures refused { IfErr result (λ e. IsTrue (D.tells site.old)
+        → FilesAllow e ((after (D.start site.old)
+        (D.record_ site.old)).files plan.now.names.outfile.now)
+        ((after (D.start site.old) (D.record_ site.old)).files plan.now.names.mapfile.now)) }
+    ensures regular { IfErr result (λ e. e ≡ OutOfMemory → IsTrue (D.tells site.old)
+        → is_other ((after (D.start site.old)
+        (D.record_ site.old)).files plan.now.names.outfile.now) ≡ false) }
+    ensures cause { IfErr result (λ e. StopCause e (S.faults source.old) (S.faults source.new)
+        (S.losses source.old) (S.losses source.new) (D.faults site.old) (D.faults site.new)) }
     ensures draft { OnOk result (D.is_drafting site.new ≡ false) }
     ensures draft_left { IfErr result (λ e. DraftLeft e (D.is_drafting site.new)) }
     ensures source_tells { S.tells source.new ≡ S.tells source.old }
@@ -95,25 +109,38 @@ pub fn ddrescue<S: Source, D: Site>(
     site: &mut D,
 ) -> Ending
     requires { D.is_drafting site.old ≡ false }
-    ensures cause { Caused result (refusal_of_words words.now) (S.faults source.old) (S.faults source.new) (S.losses source.old) (S.losses source.new) (D.faults site.old) (D.faults site.new) }
-    ensures files { IsTrue (D.tells site.old) → FilesAllow result ((after (D.start site.old) (D.record_ site.old)).files (outfile words.now)) ((after (D.start site.old) (D.record_ site.old)).files (mapfile words.now)) }
+    ensures cause { Caused result (refusal_of_words words.now) (S.faults source.old)
+        (S.faults source.new) (S.losses source.old) (S.losses source.new) (D.faults site.old)
+        (D.faults site.new) }
+    ensures files { IsTrue (D.tells site.old) → FilesAllow result
+        ((after (D.start site.old) (D.record_ site.old)).files (outfile words.now))
+        ((after (D.start site.old) (D.record_ site.old)).files (mapfile words.now)) }
 
     ensures verdict { IsTrue (D.tells site.old)
-        → IsVerdict result (verdict words.now (after (D.start site.old) (D.record_ site.old)).files) (S.faults source.old) (S.faults source.new) (S.losses source.old) (S.losses source.new) (D.faults site.old) (D.faults site.new) }
+        → IsVerdict result (verdict words.now (after (D.start site.old) (D.record_ site.old)).files)
+        (S.faults source.old) (S.faults source.new) (S.losses source.old) (S.losses source.new)
+        (D.faults site.old) (D.faults site.new) }
 
     // A refusal of the words touches nothing.
     ensures untouched { IsSome (refusal_of_words words.now) → (source.new ≡ source.old) × (site.new ≡ site.old) }
-    ensures reads { IsTrue (S.tells source.old) → IsReadInOrder result (length (S.bytes source.old)) (S.journal source.old) (S.journal source.new) }
+    ensures reads { IsTrue (S.tells source.old) → IsReadInOrder result (length (S.bytes source.old))
+        (S.journal source.old) (S.journal source.new) }
     ensures calls { IsTrue (S.tells source.old) → IsTrue (D.tells site.old)
-        → IsCalled result words.now (length (S.bytes source.old)) (gained (S.journal source.old) (S.journal source.new)) (D.record_ site.old) (D.record_ site.new) }
+        → IsCalled result words.now (length (S.bytes source.old))
+        (gained (S.journal source.old) (S.journal source.new)) (D.record_ site.old)
+        (D.record_ site.new) }
     ensures left { IsTrue (S.tells source.old) → IsTrue (D.tells site.old)
-        → FilesLeft result words.now (length (S.bytes source.old)) (gained (S.journal source.old) (S.journal source.new))
-        (after (D.start site.old) (D.record_ site.old)).files (after (D.start site.new) (D.record_ site.new)).files }
+        → FilesLeft result words.now (length (S.bytes source.old))
+        (gained (S.journal source.old) (S.journal source.new))
+        (after (D.start site.old) (D.record_ site.old)).files
+        (after (D.start site.new) (D.record_ site.new)).files }
 
     // The mapfile never calls a byte finished that the output does not hold.
     ensures holds { IsPublished result → IsTrue (S.tells source.old) → IsTrue (D.tells site.old)
-        → MapfileHolds words.now (length (S.bytes source.old)) (gained (S.journal source.old) (S.journal source.new))
-        (bytes_of ((after (D.start site.old) (D.record_ site.old)).files (outfile words.now))) (after (D.start site.new) (D.record_ site.new)).files }
+        → MapfileHolds words.now (length (S.bytes source.old))
+        (gained (S.journal source.old) (S.journal source.new))
+        (bytes_of ((after (D.start site.old) (D.record_ site.old)).files (outfile words.now)))
+        (after (D.start site.new) (D.record_ site.new)).files }
     ensures draft { DraftLeft result (D.is_drafting site.new) }
     ensures source_tells { S.tells source.new ≡ S.tells source.old }
     ensures site_tells { D.tells site.new ≡ D.tells site.old }

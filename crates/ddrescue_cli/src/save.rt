@@ -13,11 +13,16 @@ pub(crate) fn save<D: Site>(
     draft: &str,
     text: &[u8],
 ) -> Result<(), SiteCall>
-    ensures made { OnOk result (IsTrue (D.tells site.old) → Made (save_calls mapfile.now draft.now text.now) (D.record_ site.old) (D.record_ site.new)) }
-    ensures broke { IfErr result (λ call. IsTrue (D.tells site.old) → BrokeAt call (save_calls mapfile.now draft.now text.now) (D.record_ site.old) (D.record_ site.new)) }
+    ensures made { OnOk result (IsTrue (D.tells site.old)
+        → Made (save_calls mapfile.now draft.now text.now) (D.record_ site.old)
+        (D.record_ site.new)) }
+    ensures broke { IfErr result (λ call. IsTrue (D.tells site.old)
+        → BrokeAt call (save_calls mapfile.now draft.now text.now) (D.record_ site.old)
+        (D.record_ site.new)) }
     ensures named { IfErr result IsSaving }
     ensures draft { OnOk result (D.is_drafting site.new ≡ false) }
-    ensures draft_left { IfErr result (λ call. LeavesDraft call (D.is_drafting site.old) (D.is_drafting site.new)) }
+    ensures draft_left { IfErr result (λ call. LeavesDraft call (D.is_drafting site.old)
+        (D.is_drafting site.new)) }
     ensures tells { D.tells site.new ≡ D.tells site.old }
     ensures start { IsTrue (D.tells site.old) → D.start site.new ≡ D.start site.old }
     ensures cause { HasCause (D.faults site.old) (D.faults site.new) result }

@@ -95,15 +95,21 @@ impl Source for FileSource {
         requires some { 0 < length buf.old }
         requires place { pos + length buf.old < 2 ^ 63 }
         ensures count { IfOk result (λ got. got.0 ≤ length buf.old) }
-        ensures read { IfOk result (λ got. IsTrue (⟦<FileSource as Source>⟧.tells self.old) → take got.0 buf.new ≡ slice_range (⟦<FileSource as Source>⟧.bytes self.old) pos (pos + got.0)) }
-        ensures told { IfOk result (λ got. IsTrue (⟦<FileSource as Source>⟧.tells self.old) → ⟦<FileSource as Source>⟧.journal self.new
+        ensures read { IfOk result (λ got. IsTrue (⟦<FileSource as Source>⟧.tells self.old)
+            → take got.0 buf.new ≡ slice_range (⟦<FileSource as Source>⟧.bytes self.old) pos
+            (pos + got.0)) }
+        ensures told { IfOk result (λ got. IsTrue (⟦<FileSource as Source>⟧.tells self.old)
+            → ⟦<FileSource as Source>⟧.journal self.new
             ≡ ⟦<FileSource as Source>⟧.journal self.old ++ record { pos = pos; asked = length buf.old; given = take got.0 buf.new } ∷ []) }
-        ensures untold { OnErr result (IsTrue (⟦<FileSource as Source>⟧.tells self.old) → ⟦<FileSource as Source>⟧.journal self.new ≡ ⟦<FileSource as Source>⟧.journal self.old) }
+        ensures untold { OnErr result (IsTrue (⟦<FileSource as Source>⟧.tells self.old)
+            → ⟦<FileSource as Source>⟧.journal self.new ≡ ⟦<FileSource as Source>⟧.journal self.old) }
         ensures open { ⟦<FileSource as Source>⟧.is_open self.new ≡ true }
         ensures tells { ⟦<FileSource as Source>⟧.tells self.new ≡ ⟦<FileSource as Source>⟧.tells self.old }
-        ensures bytes { IsTrue (⟦<FileSource as Source>⟧.tells self.old) → ⟦<FileSource as Source>⟧.bytes self.new ≡ ⟦<FileSource as Source>⟧.bytes self.old }
+        ensures bytes { IsTrue (⟦<FileSource as Source>⟧.tells self.old)
+            → ⟦<FileSource as Source>⟧.bytes self.new ≡ ⟦<FileSource as Source>⟧.bytes self.old }
         ensures faults { ⟦<FileSource as Source>⟧.faults self.new ≡ ⟦<FileSource as Source>⟧.faults self.old }
-        ensures cause { HasCause (⟦<FileSource as Source>⟧.losses self.old) (⟦<FileSource as Source>⟧.losses self.new) result }
+        ensures cause { HasCause (⟦<FileSource as Source>⟧.losses self.old)
+            (⟦<FileSource as Source>⟧.losses self.new) result }
         ensures kept { ⟦<FileSource as Source>⟧.losses self.new ≡ ⟦<FileSource as Source>⟧.losses self.old }
         ensures answers { IsOk result }
     {

@@ -170,7 +170,8 @@ impl MemorySource {
         ensures kept { OnErr result (failing self.new ≡ failing self.old) }
         ensures tells { ⟦<MemorySource as Source>⟧.tells self.new ≡ ⟦<MemorySource as Source>⟧.tells self.old }
         ensures bytes { ⟦<MemorySource as Source>⟧.bytes self.new ≡ ⟦<MemorySource as Source>⟧.bytes self.old }
-        ensures journal { ⟦<MemorySource as Source>⟧.journal self.new ≡ ⟦<MemorySource as Source>⟧.journal self.old }
+        ensures journal { ⟦<MemorySource as Source>⟧.journal self.new
+            ≡ ⟦<MemorySource as Source>⟧.journal self.old }
         ensures open { ⟦<MemorySource as Source>⟧.is_open self.new ≡ ⟦<MemorySource as Source>⟧.is_open self.old }
         ensures faults { ⟦<MemorySource as Source>⟧.faults self.new ≡ ⟦<MemorySource as Source>⟧.faults self.old }
         ensures losses { ⟦<MemorySource as Source>⟧.losses self.new ≡ ⟦<MemorySource as Source>⟧.losses self.old }
@@ -209,13 +210,19 @@ impl Source for MemorySource {
 
     fn open_input(&mut self, name: &str) -> Result<u64, SourceFault>
         ensures short { IfOk result (λ n. n < 2 ^ 63) }
-        ensures all { IfOk result (λ n. IsTrue (⟦<MemorySource as Source>⟧.tells self.old) → n ≡ length (⟦<MemorySource as Source>⟧.bytes self.old)) }
+        ensures all { IfOk result (λ n. IsTrue (⟦<MemorySource as Source>⟧.tells self.old) → n
+            ≡ length (⟦<MemorySource as Source>⟧.bytes self.old)) }
         ensures open { OnOk result (⟦<MemorySource as Source>⟧.is_open self.new ≡ true) }
         ensures closed { OnErr result (⟦<MemorySource as Source>⟧.is_open self.new ≡ false) }
         ensures tells { ⟦<MemorySource as Source>⟧.tells self.new ≡ ⟦<MemorySource as Source>⟧.tells self.old }
-        ensures bytes { IsTrue (⟦<MemorySource as Source>⟧.tells self.old) → ⟦<MemorySource as Source>⟧.bytes self.new ≡ ⟦<MemorySource as Source>⟧.bytes self.old }
-        ensures journal { IsTrue (⟦<MemorySource as Source>⟧.tells self.old) → ⟦<MemorySource as Source>⟧.journal self.new ≡ ⟦<MemorySource as Source>⟧.journal self.old }
-        ensures cause { HasCause (⟦<MemorySource as Source>⟧.faults self.old) (⟦<MemorySource as Source>⟧.faults self.new) result }
+        ensures bytes { IsTrue (⟦<MemorySource as Source>⟧.tells self.old)
+            → ⟦<MemorySource as Source>⟧.bytes self.new
+            ≡ ⟦<MemorySource as Source>⟧.bytes self.old }
+        ensures journal { IsTrue (⟦<MemorySource as Source>⟧.tells self.old)
+            → ⟦<MemorySource as Source>⟧.journal self.new
+            ≡ ⟦<MemorySource as Source>⟧.journal self.old }
+        ensures cause { HasCause (⟦<MemorySource as Source>⟧.faults self.old)
+            (⟦<MemorySource as Source>⟧.faults self.new) result }
         ensures losses { ⟦<MemorySource as Source>⟧.losses self.new ≡ ⟦<MemorySource as Source>⟧.losses self.old }
         ensures answers { IsErr result ↔ (FailsNext self.old ⊎ (name.now ≡ codes "missing")) }
         ensures calls { calls self.new ≡ raised (calls self.old) }
@@ -237,19 +244,31 @@ impl Source for MemorySource {
         requires some { 0 < length buf.old }
         requires place { pos + length buf.old < 2 ^ 63 }
         ensures count { IfOk result (λ got. got.0 ≤ length buf.old) }
-        ensures read { IfOk result (λ got. IsTrue (⟦<MemorySource as Source>⟧.tells self.old) → take got.0 buf.new ≡ slice_range (⟦<MemorySource as Source>⟧.bytes self.old) pos (pos + got.0)) }
-        ensures told { IfOk result (λ got. IsTrue (⟦<MemorySource as Source>⟧.tells self.old) → ⟦<MemorySource as Source>⟧.journal self.new
+        ensures read { IfOk result (λ got. IsTrue (⟦<MemorySource as Source>⟧.tells self.old)
+            → take got.0 buf.new ≡ slice_range (⟦<MemorySource as Source>⟧.bytes self.old) pos
+            (pos + got.0)) }
+        ensures told { IfOk result (λ got. IsTrue (⟦<MemorySource as Source>⟧.tells self.old)
+            → ⟦<MemorySource as Source>⟧.journal self.new
             ≡ ⟦<MemorySource as Source>⟧.journal self.old ++ record { pos = pos; asked = length buf.old; given = take got.0 buf.new } ∷ []) }
-        ensures untold { OnErr result (IsTrue (⟦<MemorySource as Source>⟧.tells self.old) → ⟦<MemorySource as Source>⟧.journal self.new ≡ ⟦<MemorySource as Source>⟧.journal self.old) }
+        ensures untold { OnErr result (IsTrue (⟦<MemorySource as Source>⟧.tells self.old)
+            → ⟦<MemorySource as Source>⟧.journal self.new
+            ≡ ⟦<MemorySource as Source>⟧.journal self.old) }
         ensures open { ⟦<MemorySource as Source>⟧.is_open self.new ≡ true }
         ensures tells { ⟦<MemorySource as Source>⟧.tells self.new ≡ ⟦<MemorySource as Source>⟧.tells self.old }
-        ensures bytes { IsTrue (⟦<MemorySource as Source>⟧.tells self.old) → ⟦<MemorySource as Source>⟧.bytes self.new ≡ ⟦<MemorySource as Source>⟧.bytes self.old }
+        ensures bytes { IsTrue (⟦<MemorySource as Source>⟧.tells self.old)
+            → ⟦<MemorySource as Source>⟧.bytes self.new
+            ≡ ⟦<MemorySource as Source>⟧.bytes self.old }
         ensures faults { ⟦<MemorySource as Source>⟧.faults self.new ≡ ⟦<MemorySource as Source>⟧.faults self.old }
-        ensures cause { HasCause (⟦<MemorySource as Source>⟧.losses self.old) (⟦<MemorySource as Source>⟧.losses self.new) result }
-        ensures answers { IsErr result ↔ (FailsNext self.old ⊎ (room self.old ≤ length (⟦<MemorySource as Source>⟧.journal self.old))) }
+        ensures cause { HasCause (⟦<MemorySource as Source>⟧.losses self.old)
+            (⟦<MemorySource as Source>⟧.losses self.new) result }
+        ensures answers { IsErr result ↔ (FailsNext self.old
+            ⊎ (room self.old ≤ length (⟦<MemorySource as Source>⟧.journal self.old))) }
         ensures calls { calls self.new ≡ raised (calls self.old) }
-        ensures gives { IfOk result (λ got. IsGiven (⟦<MemorySource as Source>⟧.bytes self.old) (bad_ranges self.old) pos (length buf.old) got.0) }
-        ensures bad { IfOk result (λ got. bad_ranges self.new ≡ bad_after (⟦<MemorySource as Source>⟧.bytes self.old) (bad_ranges self.old) pos (length buf.old) got.0) }
+        ensures gives { IfOk result (λ got. IsGiven (⟦<MemorySource as Source>⟧.bytes self.old)
+            (bad_ranges self.old) pos (length buf.old) got.0) }
+        ensures bad { IfOk result (λ got. bad_ranges self.new
+            ≡ bad_after (⟦<MemorySource as Source>⟧.bytes self.old) (bad_ranges self.old) pos
+            (length buf.old) got.0) }
         ensures unmet { OnErr result (bad_ranges self.new ≡ bad_ranges self.old) }
         ensures room { room self.new ≡ room self.old }
         ensures failing { failing self.new ≡ failing self.old }

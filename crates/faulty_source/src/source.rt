@@ -52,7 +52,8 @@ pub trait Source {
         requires some { 0 < length buf.old }
         requires place { pos + length buf.old < 2 ^ 63 }
         ensures count { IfOk result (λ got. got.0 ≤ length buf.old) }
-        ensures read { IfOk result (λ got. IsTrue (tells self.old) → take got.0 buf.new ≡ slice_range (bytes self.old) pos (pos + got.0)) }
+        ensures read { IfOk result (λ got. IsTrue (tells self.old) → take got.0 buf.new
+            ≡ slice_range (bytes self.old) pos (pos + got.0)) }
         ensures told { IfOk result (λ got. IsTrue (tells self.old) → journal self.new
             ≡ journal self.old ++ record { pos = pos; asked = length buf.old; given = take got.0 buf.new } ∷ []) }
         ensures untold { OnErr result (IsTrue (tells self.old) → journal self.new ≡ journal self.old) }

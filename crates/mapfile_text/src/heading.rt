@@ -61,7 +61,13 @@ impl Heading {
 
     /// Sets when the run began and when the mapfile is saved.
     pub fn set_times(&mut self, start_s: u64, now_s: u64)
-        ensures { self.new ≡ record { program = self.old.program; line = self.old.line; start_s = start_s; now_s = now_s } }
+        ensures { self.new ≡ record {
+          program = self.old.program;
+          line = self.old.line;
+          start_s =
+              start_s;
+          now_s = now_s;
+        } }
     {
         self.start_s = start_s;
         self.now_s = now_s;

@@ -58,7 +58,8 @@ fn append_state_line(text: &mut Vec<u8>, state: MapState) -> io::Result<()>
 }
 
 fn append_blocks<T: Tiles>(text: &mut Vec<u8>, tiles: &T) -> io::Result<()>
-    ensures { OnOk result (text.new.items ≡ text.old.items ++ flat_map block_line (stretches (T.statuses tiles.now))) }
+    ensures { OnOk result (text.new.items ≡ text.old.items ++ flat_map block_line
+        (stretches (T.statuses tiles.now))) }
 {
     for i in 0..tiles.blocks() {
         append_block(text, tiles.block(i))?;

@@ -1,11 +1,11 @@
-use Rattle.std.specs.Vec.{vec_capacity}
-use Rattle.block_list.proofs.PushFacts.{on_success}
 use Rattle.std.proofs.Common.{◌≡◌, ◌-◌, ◌++◌, ap, sym, ◌∙◌, length, replicate, ◌<◌, vec_len, length-append, append-nil, arith}
 use Rattle.std.specs.List.{flat_map}
+use Rattle.std.specs.Vec.{vec_capacity}
 use Rattle.std.proofs.lemmas.List.{length-replicate}
 use Rattle.block_list.specs.declared.status.Status.TheVariants.{NonTried}
 use Rattle.block_list.specs.Stretches.{covered}
 use Rattle.block_list.proofs.TileFacts.{tiled_from_tiling, tiling_end, tiles_up_to}
+use Rattle.block_list.proofs.PushFacts.{on_success}
 use Rattle.block_list.proofs.plain_tiles.PlainTilesTiles.extend_to.Goals as goal
 
 pub append-requires-clause-tiled : goal.append-requires-clause-tiled
