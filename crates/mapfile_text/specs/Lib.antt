@@ -3,3 +3,4 @@ pub mod Printed
 pub mod Lines
 pub mod Fields
 pub mod MapText
+pub mod Laws

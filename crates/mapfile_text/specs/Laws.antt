@@ -1,0 +1,35 @@
+use Rattle.std.specs.Prelude.{◌≡◌, ℕ, ◌<◌, ◌^◌, Bool, not, List, length, nat_eq}
+use Rattle.block_list.specs.declared.status.Status.{Status}
+use Rattle.mapfile_text.specs.declared.state.MapState.{MapState}
+use Rattle.mapfile_text.specs.declared.read.Mode.{Mode}
+use Rattle.mapfile_text.specs.declared.read.Mode.TheVariants.{Tight}
+use Rattle.mapfile_text.specs.declared.read.MapError.{MapError}
+use Rattle.mapfile_text.specs.HeadingLines.{HeadingLines}
+use Rattle.mapfile_text.specs.Printed.{printed}
+use Rattle.mapfile_text.specs.MapText.{IsMapText, MapFault}
+
+-- two readings of one text are the same
+pub record SameReading (state state' : MapState) (first first' : ℕ) (listed listed' : Bool) (statuses statuses' : List Status) : Type 0 where
+  pub state_is : state ≡ state'
+  pub first_is : first ≡ first'
+  pub listed_is : listed ≡ listed'
+  pub statuses_is : statuses ≡ statuses'
+
+abbrev pub HasOneReading : Type 0
+HasOneReading = (text : List ℕ) (mode : Mode) (state state' : MapState) (first first' : ℕ) (listed listed' : Bool) (statuses statuses' : List Status)
+    → IsMapText text mode state first listed statuses → IsMapText text mode state' first' listed' statuses' → SameReading state state' first first' listed listed' statuses statuses'
+
+-- a text that is a map has no fault
+abbrev pub MapHasNoFault : Type 0
+MapHasNoFault = (text : List ℕ) (mode : Mode) (state : MapState) (first : ℕ) (listed : Bool) (statuses : List Status) (e : MapError)
+    → IsMapText text mode state first listed statuses → MapFault text mode e → ⊥
+
+-- a text that is none has one fault
+abbrev pub HasOneFault : Type 0
+HasOneFault = (text : List ℕ) (mode : Mode) (e e' : MapError) → MapFault text mode e → MapFault text mode e' → e ≡ e'
+
+-- a state and a map within the limits, printed under a heading, are read again as they were
+abbrev pub PrintedIsRead : Type 0
+PrintedIsRead = (heading : HeadingLines) (state : MapState) (statuses : List Status)
+    → heading.start_s < 2 ^ 64 → heading.now_s < 2 ^ 64 → state.pos < 2 ^ 63 → 0 < state.pass → state.pass < 2 ^ 32 → length statuses < 2 ^ 63
+    → IsMapText (printed heading state statuses) Tight state 0 (not (nat_eq (length statuses) 0)) statuses
