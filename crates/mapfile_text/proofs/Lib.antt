@@ -1,2 +1,4 @@
 pub mod Padded
 pub mod Appended
+pub mod OneReading
+pub mod OneFault

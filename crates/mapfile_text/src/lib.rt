@@ -2,6 +2,7 @@
 #![tactic(auto)]
 
 pub mod heading;
+pub mod laws;
 pub mod print;
 pub mod read;
 pub mod state;

@@ -1,0 +1,17 @@
+//! What the definitions mean.
+ghost use Rattle.mapfile_text.specs.Laws.{HasOneFault, HasOneReading, MapHasNoFault};
+
+/// No text is two maps.
+pub fn map_text_has_one_reading()
+    ensures { HasOneReading }
+{}
+
+/// A text that is a map is never refused.
+pub fn map_text_has_no_fault()
+    ensures { MapHasNoFault }
+{}
+
+/// A text that is no map has one error.
+pub fn other_text_has_one_fault()
+    ensures { HasOneFault }
+{}
