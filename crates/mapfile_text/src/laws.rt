@@ -1,5 +1,5 @@
 //! What the definitions mean.
-ghost use Rattle.mapfile_text.specs.Laws.{HasOneFault, HasOneReading, MapHasNoFault};
+ghost use Rattle.mapfile_text.specs.Laws.{HasOneFault, HasOneReading, MapHasNoFault, PrintedIsRead};
 
 /// No text is two maps.
 pub fn map_text_has_one_reading()
@@ -14,4 +14,9 @@ pub fn map_text_has_no_fault()
 /// A text that is no map has one error.
 pub fn other_text_has_one_fault()
     ensures { HasOneFault }
+{}
+
+/// What is printed is read again as it was.
+pub fn printed_text_is_read()
+    ensures { PrintedIsRead }
 {}

@@ -1,0 +1,122 @@
+-- A printed number, symbol or pass is read as what was printed.
+use Rattle.std.proofs.Common.{◌≡◌, ℕ, zero, suc, ◌+◌, ◌-◌, ◌<◌, ◌≤◌, ◌^◌, Bool, true, false, not, ◌&&◌, ◌||◌, cond, List, [], ◌∷◌, ◌++◌, length, drop, replicate, get_or, Some, None, Ok, Err, position, nat_eq, nat_lt, refl, ap, ◌∙◌, arith, length-append}
+use Rattle.std.specs.List.{prefix_len}
+use Rattle.std.specs.Char.{digit_value}
+use Rattle.std.specs.Str.Parse.{AllDigits, IsNumeral, digits_value}
+use Rattle.std.specs.Fmt.{decimal, digits}
+use Rattle.std.proofs.lemmas.Bool.{ne_eqb, lt-ltb}
+use Rattle.std.proofs.lemmas.Bool.Decides.{nat_tests}
+use Rattle.std.proofs.lemmas.Str.Parse.{digit_from_value}
+use Rattle.std.proofs.lemmas.Fmt.{digits_is_IsNumeral, decimal_is_IsNumeral, first_decimal}
+use Rattle.size_suffixes.specs.Number.{number, number_by, within, value, base_of, digits_at, digits_of_text, is_no_digit}
+use Rattle.size_suffixes.specs.declared.error.SizeError.TheVariants.{BadDigit, TooLarge}
+use Rattle.block_list.specs.declared.status.Status.{Status}
+use Rattle.block_list.specs.declared.status.Status.TheVariants.{NonTried, NonTrimmed, NonScraped, BadSector, Finished}
+use Rattle.block_list.specs.Status.{symbol}
+use Rattle.mapfile_text.specs.declared.state.Current.{Current}
+use Rattle.mapfile_text.specs.declared.state.Current.TheVariants.{Copying, Trimming, Scraping, Retrying, Filling, Generating, Finished as Done}
+use Rattle.mapfile_text.specs.Fields.{numeral, numeral_by, status_of_symbol, current_of_symbol, begins_with_digit, above_zero, pass_of}
+use Rattle.mapfile_text.specs.Printed.{hexadecimal, current_symbol}
+
+is_digit : (base c : ℕ) → digit_value c < base → not (is_no_digit base c) ≡ true
+is_digit base c h = rw (lt-ltb (digit_value c) base h) refl
+
+all_digits : (base : ℕ) (ds : List ℕ) → AllDigits base ds → prefix_len (λ c. not (is_no_digit base c)) ds ≡ length ds
+all_digits base [] d = refl
+all_digits base (c ∷ cs) d =
+    let more : ℕ = prefix_len (λ c. not (is_no_digit base c)) cs in
+    let k : more ≡ length cs = all_digits base cs d.1 in
+    ap (λ v. cond v (1 + more) 0) (is_digit base c d.0) ∙ omega arith
+
+none_past_end : (n end : ℕ) → n ≡ end → cond (nat_lt n end) (Some n) None ≡ None
+none_past_end n end e = let f : nat_lt n end ≡ false = grind (arith, nat_tests) in ap (λ v. cond v (Some n) None) f
+
+no_other : (base : ℕ) (ds : List ℕ) → AllDigits base ds → position (is_no_digit base) ds ≡ None
+no_other base ds d = none_past_end (prefix_len (λ c. not (is_no_digit base c)) ds) (length ds) (all_digits base ds d)
+
+-- digits in the base that the text begins with are a numeral
+numeral_of_digits : (c : ℕ) (cs ds : List ℕ) (base n : ℕ) → base_of (c ∷ cs) ≡ base → digits_of_text (c ∷ cs) ≡ ds → IsNumeral base ds → digits_value base ds ≡ n → n < 2 ^ 63 → numeral (c ∷ cs) ≡ Some n
+numeral_of_digits c cs ds base n b t d v small =
+    let text : List ℕ = c ∷ cs in
+    let place : position (is_no_digit (base_of text)) (digits_of_text text) ≡ None = rw (b, t) (no_other base ds d.1) in
+    let some : nat_eq (length (digits_of_text text)) 0 ≡ false = ne_eqb (length (digits_of_text text)) 0 (λ z. omega (arith, ap length t, d.0)) in
+    let is : value text ≡ n = rw (b, t) v in
+    let low : nat_lt n (2 ^ 63) ≡ true = lt-ltb n (2 ^ 63) small in
+    let reads : number text ≡ Ok n =
+    ap (number_by text) place ∙ ap (λ v. cond v (Err (BadDigit (digits_at text))) (within (value text))) some
+    ∙ ap within is ∙ ap (λ v. cond v (Ok n) (Err TooLarge)) low in
+    ap (numeral_by text) reads
+
+zeros_value : (k : ℕ) (ds : List ℕ) → digits_value 16 (replicate k 48 ++ ds) ≡ digits_value 16 ds
+zeros_value zero ds = refl
+zeros_value (suc k) ds = zeros_value k ds
+
+zeros_digits : (k : ℕ) (ds : List ℕ) → AllDigits 16 ds → AllDigits 16 (replicate k 48 ++ ds)
+zeros_digits zero ds d = d
+zeros_digits (suc k) ds d = (omega arith, zeros_digits k ds d)
+
+pub hexadecimal_is_read : (n : ℕ) → n < 2 ^ 63 → numeral (hexadecimal n) ≡ Some n
+hexadecimal_is_read n small =
+    let ds : List ℕ = digits 16 true n in
+    let zeros : ℕ = 8 - length ds in
+    let k : IsNumeral 16 ds × (digits_value 16 ds ≡ n) = digits_is_IsNumeral 16 true (omega arith) (omega arith) n (omega arith) in
+    let some : 0 < length (replicate zeros 48 ++ ds) = omega (arith, length-append (replicate zeros 48) ds, k.0.0) in
+    numeral_of_digits 48 (120 ∷ (replicate zeros 48 ++ ds)) (replicate zeros 48 ++ ds) 16 n refl refl (some, zeros_digits zeros ds k.0.1) (zeros_value zeros ds ∙ k.1) small
+
+decimal_digits_are_read : (ds : List ℕ) (n : ℕ) → IsNumeral 10 ds → digits_value 10 ds ≡ n → 48 < get_or ds 0 0 → n < 2 ^ 63 → numeral ds ≡ Some n
+decimal_digits_are_read [] n d v first small = absurd (omega arith)
+decimal_digits_are_read (c ∷ []) n d v first small =
+    let no : nat_eq c 48 ≡ false = ne_eqb c 48 (λ e. omega arith) in
+    numeral_of_digits c [] (c ∷ []) 10 n (ap (λ v. cond v 8 10) no) refl d v small
+decimal_digits_are_read (c ∷ e ∷ ds) n d v first small =
+    let no : nat_eq c 48 ≡ false = ne_eqb c 48 (λ e. omega arith) in
+    let mark : Bool = nat_eq e 120 || nat_eq e 88 in
+    numeral_of_digits c (e ∷ ds) (c ∷ e ∷ ds) 10 n (ap (λ v. cond (v && mark) 16 (cond v 8 10)) no) (ap (λ v. drop (cond (v && mark) 2 0) (c ∷ e ∷ ds)) no) d v small
+
+begins_with : (ds : List ℕ) → IsNumeral 10 ds → begins_with_digit ds ≡ true
+begins_with [] d = absurd (omega (arith, d.0))
+begins_with (c ∷ cs) d = let k = digit_from_value c d.1.0 in grind (arith, nat_tests)
+
+pub decimal_is_read : (n : ℕ) → 0 < n → n < 2 ^ 63 → numeral (decimal n) ≡ Some n
+decimal_is_read n some small =
+    let k = decimal_is_IsNumeral n (omega arith) in
+    decimal_digits_are_read (decimal n) n k.0 k.1 (first_decimal n some (omega arith)) small
+
+pub pass_is_read : (n : ℕ) → 0 < n → n < 2 ^ 63 → pass_of (decimal n ∷ []) ≡ Some n
+pass_is_read n some small =
+    let f : List ℕ = decimal n in
+    let not_zero : nat_eq n 0 ≡ false = ne_eqb n 0 (λ e. omega arith) in
+    ap (λ v. cond v (above_zero (numeral f)) (Some 1)) (begins_with f (decimal_is_IsNumeral n (omega arith)).0)
+    ∙ ap above_zero (decimal_is_read n some small) ∙ ap (λ v. cond v None (Some n)) not_zero
+
+pub status_is_read : (s : Status) → status_of_symbol (symbol s) ≡ Some s
+status_is_read NonTried = refl
+status_is_read NonTrimmed = refl
+status_is_read NonScraped = refl
+status_is_read BadSector = refl
+status_is_read Finished = refl
+
+pub current_is_read : (c : Current) → current_of_symbol (current_symbol c) ≡ Some c
+current_is_read Copying = refl
+current_is_read Trimming = refl
+current_is_read Scraping = refl
+current_is_read Retrying = refl
+current_is_read Filling = refl
+current_is_read Generating = refl
+current_is_read Done = refl
+
+pub symbol_from : (s : Status) → 33 ≤ symbol s
+symbol_from NonTried = omega arith
+symbol_from NonTrimmed = omega arith
+symbol_from NonScraped = omega arith
+symbol_from BadSector = omega arith
+symbol_from Finished = omega arith
+
+pub current_symbol_from : (c : Current) → 33 ≤ current_symbol c
+current_symbol_from Copying = omega arith
+current_symbol_from Trimming = omega arith
+current_symbol_from Scraping = omega arith
+current_symbol_from Retrying = omega arith
+current_symbol_from Filling = omega arith
+current_symbol_from Generating = omega arith
+current_symbol_from Done = omega arith
