@@ -2,6 +2,7 @@ pub mod Padded
 pub mod Appended
 pub mod OneReading
 pub mod OneFault
+pub mod MapOrFault
 pub mod PrintedBytes
 pub mod ReadNumbers
 pub mod ReadLines

@@ -1,4 +1,4 @@
-use Rattle.std.specs.Prelude.{◌≡◌, ℕ, ◌<◌, ◌^◌, Bool, not, List, length, nat_eq}
+use Rattle.std.specs.Prelude.{◌≡◌, ◌⊎◌, ℕ, ◌<◌, ◌^◌, Bool, not, List, length, nat_eq}
 use Rattle.block_list.specs.declared.status.Status.{Status}
 use Rattle.mapfile_text.specs.declared.state.MapState.{MapState}
 use Rattle.mapfile_text.specs.declared.read.Mode.{Mode}
@@ -27,6 +27,11 @@ MapHasNoFault = (text : List ℕ) (mode : Mode) (state : MapState) (first : ℕ)
 -- a text that is none has one fault
 abbrev pub HasOneFault : Type 0
 HasOneFault = (text : List ℕ) (mode : Mode) (e e' : MapError) → MapFault text mode e → MapFault text mode e' → e ≡ e'
+
+-- each text is a map or has a fault
+abbrev pub IsMapOrHasFault : Type 0
+IsMapOrHasFault = (text : List ℕ) (mode : Mode)
+    → ((state : MapState) × (first : ℕ) × (listed : Bool) × (statuses : List Status) × IsMapText text mode state first listed statuses) ⊎ ((e : MapError) × MapFault text mode e)
 
 -- a state and a map within the limits, printed under a heading, are read again as they were
 abbrev pub PrintedIsRead : Type 0

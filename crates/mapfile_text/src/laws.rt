@@ -1,5 +1,5 @@
 //! What the definitions mean.
-ghost use Rattle.mapfile_text.specs.Laws.{HasOneFault, HasOneReading, MapHasNoFault, PrintedIsRead};
+ghost use Rattle.mapfile_text.specs.Laws.{HasOneFault, HasOneReading, IsMapOrHasFault, MapHasNoFault, PrintedIsRead};
 
 /// No text is two maps.
 pub fn map_text_has_one_reading()
@@ -14,6 +14,11 @@ pub fn map_text_has_no_fault()
 /// A text that is no map has one error.
 pub fn other_text_has_one_fault()
     ensures { HasOneFault }
+{}
+
+/// A text that is no map has an error.
+pub fn text_is_map_or_has_fault()
+    ensures { IsMapOrHasFault }
 {}
 
 /// What is printed is read again as it was.
