@@ -1,5 +1,5 @@
 -- What is printed is read again as it was.
-use Rattle.std.proofs.Common.{◌≡◌, ℕ, ◌+◌, ◌<◌, ◌≤◌, ◌^◌, Bool, true, not, List, [], ◌∷◌, ◌++◌, length, map, replicate, codes, nat_eq, refl, sym, ap, subst, ◌∙◌, append_assoc, arith}
+use Rattle.std.proofs.Common.{◌≡◌, ℕ, ◌+◌, ◌-◌, ◌<◌, ◌≤◌, ◌^◌, Bool, true, not, List, [], ◌∷◌, ◌++◌, length, map, replicate, codes, nat_eq, refl, sym, ap, subst, ◌∙◌, append_assoc, arith}
 use Rattle.std.specs.List.{flat_map}
 use Rattle.std.specs.Fmt.{decimal}
 use Rattle.std.proofs.lemmas.Bool.{ne_eqb}
@@ -15,11 +15,12 @@ use Rattle.block_list.proofs.StretchFacts.{stretches_tiles, stretches_covered}
 use Rattle.mapfile_text.specs.declared.heading.Program.{Program}
 use Rattle.mapfile_text.specs.declared.heading.Program.TheVariants.{Ddrescue, Ddrescuelog}
 use Rattle.mapfile_text.specs.declared.state.MapState.{MapState}
-use Rattle.mapfile_text.specs.declared.read.Mode.TheVariants.{Tight}
+use Rattle.mapfile_text.specs.declared.read.Mode.{Mode}
+use Rattle.mapfile_text.specs.declared.read.Mode.TheVariants.{Tight, Loose}
 use Rattle.mapfile_text.specs.HeadingLines.{HeadingLines}
 use Rattle.mapfile_text.specs.Lines.{Line}
 use Rattle.mapfile_text.specs.Fields.{state_by, block_by}
-use Rattle.mapfile_text.specs.MapText.{IsStateLine, IsBlockLine, Continues, Lists, AreMapLines}
+use Rattle.mapfile_text.specs.MapText.{IsStateLine, IsBlockLine, IsGap, Continues, Lists, AreMapLines}
 use Rattle.mapfile_text.specs.Printed.{ended, hexadecimal, shown_byte, program_line, command_line, time_lines, heading_text, current_symbol, state_line, block_line}
 use Rattle.mapfile_text.specs.Laws.{PrintedIsRead}
 use Rattle.mapfile_text.proofs.PrintedBytes.{AllFrom, from_test, from_lower, decimal_from, hexadecimal_from, shown_line_from}
@@ -129,52 +130,59 @@ text_of_blocks : (b : Block) (bs : List Block) (n : ℕ) → b.pos + b.size < 2 
     → said_from n (flat_map block_line (b ∷ bs)) ≡ record { number = n; fields = block_parts b } ∷ said_from (n + 1) (flat_map block_line bs)
 text_of_blocks b bs n h = block_is_said b n (flat_map block_line bs) h
 
-blocks_continue : (low at end n : ℕ) (bs : List Block) → AreTiles low bs end → end < 2 ^ 63 → at ≡ low → Continues Tight at (said_from n (flat_map block_line bs)) (flat_map covered bs)
-blocks_continue low at end n [] t h e = refl
-blocks_continue low at end n (b ∷ bs) t h e =
+-- where nothing stands between two blocks, that is a gap in any mode
+no_gap : (mode : Mode) (end pos : ℕ) → pos ≡ end → IsGap mode end pos []
+no_gap Tight end pos e = (e, refl)
+no_gap (Loose status) end pos e =
+    let none : pos - end ≡ 0 = omega arith in
+    (omega arith, ap (λ n. replicate n status) (sym none))
+
+blocks_continue : (mode : Mode) (low at end n : ℕ) (bs : List Block) → AreTiles low bs end → end < 2 ^ 63 → at ≡ low → Continues mode at (said_from n (flat_map block_line bs)) (flat_map covered bs)
+blocks_continue mode low at end n [] t h e = refl
+blocks_continue mode low at end n (b ∷ bs) t h e =
     let ends : end ≡ low + b.size + length (flat_map covered bs) = tiles_end (low + b.size) bs end t.2 in
     let begins : b.pos ≡ low = t.0 in
     let short : b.pos + b.size < 2 ^ 63 = omega arith in
-    subst (λ ls. Continues Tight at ls (flat_map covered (b ∷ bs))) (sym (text_of_blocks b bs n short)) (
+    subst (λ ls. Continues mode at ls (flat_map covered (b ∷ bs))) (sym (text_of_blocks b bs n short)) (
       b,
       [],
       flat_map covered bs,
       block_is_read b n short,
-      (begins ∙ sym e, refl),
+      no_gap mode at b.pos (begins ∙ sym e),
       refl,
-      blocks_continue (low + b.size) (b.pos + b.size) end (n + 1) bs t.2 h (omega arith),
+      blocks_continue mode (low + b.size) (b.pos + b.size) end (n + 1) bs t.2 h (omega arith),
     )
 
-blocks_are_read : (bs : List Block) (n end : ℕ) → AreTiles 0 bs end → end < 2 ^ 63 → Lists Tight (said_from n (flat_map block_line bs)) 0 (not (nat_eq end 0)) (flat_map covered bs)
-blocks_are_read [] n end t h = (refl, ap (λ m. not (nat_eq m 0)) t, refl)
-blocks_are_read (b ∷ bs) n end t h =
+blocks_are_read : (mode : Mode) (bs : List Block) (n end : ℕ) → AreTiles 0 bs end → end < 2 ^ 63 → Lists mode (said_from n (flat_map block_line bs)) 0 (not (nat_eq end 0)) (flat_map covered bs)
+blocks_are_read mode [] n end t h = (refl, ap (λ m. not (nat_eq m 0)) t, refl)
+blocks_are_read mode (b ∷ bs) n end t h =
     let ends : end ≡ 0 + b.size + length (flat_map covered bs) = tiles_end (0 + b.size) bs end t.2 in
     let begins : b.pos ≡ 0 = t.0 in
     let some : 0 < b.size = t.1 in
     let short : b.pos + b.size < 2 ^ 63 = omega arith in
     let listed : not (nat_eq end 0) ≡ true = ap not (ne_eqb end 0 (λ e. omega arith)) in
-    subst (λ ls. Lists Tight ls 0 (not (nat_eq end 0)) (flat_map covered (b ∷ bs))) (sym (text_of_blocks b bs n short)) (
+    subst (λ ls. Lists mode ls 0 (not (nat_eq end 0)) (flat_map covered (b ∷ bs))) (sym (text_of_blocks b bs n short)) (
       b,
       flat_map covered bs,
       block_is_read b n short,
       sym begins,
       listed,
       refl,
-      blocks_continue (0 + b.size) (b.pos + b.size) end (n + 1) bs t.2 h (omega arith),
+      blocks_continue mode (0 + b.size) (b.pos + b.size) end (n + 1) bs t.2 h (omega arith),
     )
 
-statuses_are_read : (statuses : List Status) (n : ℕ) → length statuses < 2 ^ 63 → Lists Tight (said_from n (flat_map block_line (stretches statuses))) 0 (not (nat_eq (length statuses) 0)) statuses
-statuses_are_read statuses n h =
+statuses_are_read : (mode : Mode) (statuses : List Status) (n : ℕ) → length statuses < 2 ^ 63 → Lists mode (said_from n (flat_map block_line (stretches statuses))) 0 (not (nat_eq (length statuses) 0)) statuses
+statuses_are_read mode statuses n h =
     let bs : List Block = stretches statuses in
     let same : 0 + length statuses ≡ length statuses = omega arith in
     let tiles : AreTiles 0 bs (length statuses) = subst (AreTiles 0 bs) same (stretches_tiles 0 statuses) in
-    subst (Lists Tight (said_from n (flat_map block_line bs)) 0 (not (nat_eq (length statuses) 0))) (stretches_covered 0 statuses) (blocks_are_read bs n (length statuses) tiles h)
+    subst (Lists mode (said_from n (flat_map block_line bs)) 0 (not (nat_eq (length statuses) 0))) (stretches_covered 0 statuses) (blocks_are_read mode bs n (length statuses) tiles h)
 
 -- a status line between comments, and block lines behind them
-text_is_read : (a b c d : List ℕ) (state : MapState) (listed : Bool) (statuses : List Status) → IsComment a → IsComment b → IsComment c
-    → state.pos < 2 ^ 63 → 0 < state.pass → state.pass < 2 ^ 32 → ((n : ℕ) → Lists Tight (said_from n d) 0 listed statuses)
-    → AreMapLines Tight (said_from 1 (a ++ (b ++ state_line state) ++ c ++ d)) state 0 listed statuses
-text_is_read a b c d state listed statuses p q r hp some hq lists =
+text_is_read : (mode : Mode) (a b c d : List ℕ) (state : MapState) (listed : Bool) (statuses : List Status) → IsComment a → IsComment b → IsComment c
+    → state.pos < 2 ^ 63 → 0 < state.pass → state.pass < 2 ^ 32 → ((n : ℕ) → Lists mode (said_from n d) 0 listed statuses)
+    → AreMapLines mode (said_from 1 (a ++ (b ++ state_line state) ++ c ++ d)) state 0 listed statuses
+text_is_read mode a b c d state listed statuses p q r hp some hq lists =
     let s : List ℕ = state_line state in
     let whole : a ++ (b ++ s) ++ c ++ d ≡ a ++ (b ++ (s ++ (c ++ d))) = simp append_assoc in
     let first = p.passed 1 (b ++ (s ++ (c ++ d))) in
@@ -184,11 +192,11 @@ text_is_read a b c d state listed statuses p q r hp some hq lists =
     let line : Line = record { number = n; fields = state_parts state } in
     let e : said_from 1 (a ++ (b ++ s) ++ c ++ d) ≡ line ∷ said_from third.0 d =
     ap (said_from 1) whole ∙ first.1 ∙ second.1 ∙ state_is_said state n (c ++ d) hp hq ∙ ap (λ ls. line ∷ ls) third.1 in
-    subst (λ ls. AreMapLines Tight ls state 0 listed statuses) (sym e) (state_is_read state n hp some hq, lists third.0)
+    subst (λ ls. AreMapLines mode ls state 0 listed statuses) (sym e) (state_is_read state n hp some hq, lists third.0)
 
 pub printed_is_read : PrintedIsRead
-printed_is_read heading state statuses start now pos some pass short = record {
-  reads = text_is_read (heading_text heading) (ended (codes "# current_pos  current_status  current_pass")) (ended (codes "#      pos        size  status"))
+printed_is_read heading state statuses mode start now pos some pass short = record {
+  reads = text_is_read mode (heading_text heading) (ended (codes "# current_pos  current_status  current_pass")) (ended (codes "#      pos        size  status"))
       (flat_map block_line (stretches statuses)) state (not (nat_eq (length statuses) 0)) statuses
-      (heading_is_comment heading start now) state_columns_are_comment block_columns_are_comment pos some pass (λ n. statuses_are_read statuses n short);
+      (heading_is_comment heading start now) state_columns_are_comment block_columns_are_comment pos some pass (λ n. statuses_are_read mode statuses n short);
 }

@@ -2,7 +2,6 @@ use Rattle.std.specs.Prelude.{◌≡◌, ◌⊎◌, ℕ, ◌<◌, ◌^◌, Bool,
 use Rattle.block_list.specs.declared.status.Status.{Status}
 use Rattle.mapfile_text.specs.declared.state.MapState.{MapState}
 use Rattle.mapfile_text.specs.declared.read.Mode.{Mode}
-use Rattle.mapfile_text.specs.declared.read.Mode.TheVariants.{Tight}
 use Rattle.mapfile_text.specs.declared.read.MapError.{MapError}
 use Rattle.mapfile_text.specs.HeadingLines.{HeadingLines}
 use Rattle.mapfile_text.specs.Printed.{printed}
@@ -33,8 +32,8 @@ abbrev pub IsMapOrHasFault : Type 0
 IsMapOrHasFault = (text : List ℕ) (mode : Mode)
     → ((state : MapState) × (first : ℕ) × (listed : Bool) × (statuses : List Status) × IsMapText text mode state first listed statuses) ⊎ ((e : MapError) × MapFault text mode e)
 
--- a state and a map within the limits, printed under a heading, are read again as they were
+-- a state and a map within the limits, printed under a heading, are read again as they were, in any mode
 abbrev pub PrintedIsRead : Type 0
-PrintedIsRead = (heading : HeadingLines) (state : MapState) (statuses : List Status)
+PrintedIsRead = (heading : HeadingLines) (state : MapState) (statuses : List Status) (mode : Mode)
     → heading.start_s < 2 ^ 64 → heading.now_s < 2 ^ 64 → state.pos < 2 ^ 63 → 0 < state.pass → state.pass < 2 ^ 32 → length statuses < 2 ^ 63
-    → IsMapText (printed heading state statuses) Tight state 0 (not (nat_eq (length statuses) 0)) statuses
+    → IsMapText (printed heading state statuses) mode state 0 (not (nat_eq (length statuses) 0)) statuses
