@@ -1,7 +1,10 @@
 //! The text of a mapfile (GNU ddrescue manual, "Mapfile structure").
 #![tactic(auto)]
 
+mod entries;
+mod fields;
 pub mod heading;
+mod lines;
 pub mod print;
 pub mod read;
 pub mod state;
