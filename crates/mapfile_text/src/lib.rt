@@ -7,6 +7,8 @@ pub mod heading;
 mod lines;
 pub mod print;
 pub mod read;
+#[cfg(test)]
+mod read_tests;
 pub mod state;
 #[cfg(test)]
 mod tests;
