@@ -91,9 +91,12 @@ impl ReadMap {
         ensures listed { OnOk result (self.new.listed ≡ true) }
         ensures state { self.new.state ≡ self.old.state }
         ensures first { OnOk result (self.new.first ≡ (if self.old.listed then self.old.first else block.pos)) }
-        ensures statuses { OnOk result (self.new.tiles.statuses ≡ self.old.tiles.statuses ++ (filling mode self.old.listed (length self.old.tiles.statuses) block.pos ++ covered block)) }
-        ensures gap { OnOk result (IsTrue self.old.listed → IsGap mode (length self.old.tiles.statuses) block.pos (gap_of mode (length self.old.tiles.statuses) block.pos)) }
-        ensures fault { IfErr result (λ e. (e ≡ OutOfMemory) ⊎ (IsTrue self.old.listed × PlaceFault mode (length self.old.tiles.statuses) line.now block e)) }
+        ensures statuses { OnOk result (self.new.tiles.statuses
+            ≡ self.old.tiles.statuses ++ (filling mode self.old.listed (length self.old.tiles.statuses) block.pos ++ covered block)) }
+        ensures gap { OnOk result (IsTrue self.old.listed
+            → IsGap mode (length self.old.tiles.statuses) block.pos (gap_of mode (length self.old.tiles.statuses) block.pos)) }
+        ensures fault { IfErr result (λ e. (e ≡ OutOfMemory)
+            ⊎ (IsTrue self.old.listed × PlaceFault mode (length self.old.tiles.statuses) line.now block e)) }
     {
         if self.listed {
             fill_gap(&mut self.tiles, mode, line, block)?;
@@ -113,6 +116,7 @@ fn append(tiles: &mut PlainTiles, block: Block) -> Result<(), MapError>
     ensures ok { OnOk result (tiles.new.statuses ≡ tiles.old.statuses ++ covered block) }
     ensures err { IfErr result (λ e. e ≡ OutOfMemory) }
 {
+    // The block begins at the end and is short, so only memory can be missing.
     tiles.push(block).map_err(|_| MapError::NoMemory)
 }
 
@@ -120,18 +124,13 @@ fn append(tiles: &mut PlainTiles, block: Block) -> Result<(), MapError>
 fn fill_up_to(tiles: &mut PlainTiles, end: u64, status: Status) -> Result<(), MapError>
     requires later { length tiles.old.statuses ≤ end }
     requires short { end < 2 ^ 63 }
-    ensures ok { OnOk result (tiles.new.statuses ≡ tiles.old.statuses ++ replicate (end - length tiles.old.statuses) status) }
+    ensures ok { OnOk result (tiles.new.statuses
+        ≡ tiles.old.statuses ++ replicate (end - length tiles.old.statuses) status) }
     ensures err { IfErr result (λ e. e ≡ OutOfMemory) }
 {
     let pos = tiles.end();
-    append(
-        tiles,
-        Block {
-            pos,
-            size: end - pos,
-            status,
-        },
-    )
+    let size = end - pos;
+    append(tiles, Block { pos, size, status })
 }
 
 /// Fills what stands between the last position and the block of a line.
@@ -142,20 +141,20 @@ fn fill_gap(
     block: Block,
 ) -> Result<(), MapError>
     requires { block.pos < 2 ^ 63 }
-    ensures filled { OnOk result (tiles.new.statuses ≡ tiles.old.statuses ++ gap_of mode (length tiles.old.statuses) block.pos) }
-    ensures gap { OnOk result (IsGap mode (length tiles.old.statuses) block.pos (gap_of mode (length tiles.old.statuses) block.pos)) }
-    ensures fault { IfErr result (λ e. (e ≡ OutOfMemory) ⊎ PlaceFault mode (length tiles.old.statuses) line.now block e) }
+    ensures filled { OnOk result (tiles.new.statuses
+        ≡ tiles.old.statuses ++ gap_of mode (length tiles.old.statuses) block.pos) }
+    ensures gap { OnOk result (IsGap mode (length tiles.old.statuses) block.pos
+        (gap_of mode (length tiles.old.statuses) block.pos)) }
+    ensures fault { IfErr result (λ e. (e ≡ OutOfMemory)
+        ⊎ PlaceFault mode (length tiles.old.statuses) line.now block e) }
 {
+    let line = line.number();
     let end = tiles.end();
     if block.pos < end {
-        return Err(MapError::Overlap {
-            line: line.number(),
-        });
+        return Err(MapError::Overlap { line });
     }
     match mode {
-        Mode::Tight if end < block.pos => Err(MapError::Gap {
-            line: line.number(),
-        }),
+        Mode::Tight if end < block.pos => Err(MapError::Gap { line }),
         Mode::Tight => Ok(()),
         Mode::Loose(status) => fill_up_to(tiles, block.pos, status),
     }
