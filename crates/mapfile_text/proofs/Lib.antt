@@ -7,3 +7,7 @@ pub mod PrintedBytes
 pub mod ReadNumbers
 pub mod ReadLines
 pub mod ReadPrinted
+pub mod FieldFacts
+pub mod LineFacts
+pub mod EntryFacts
+pub mod Progress

@@ -4,3 +4,5 @@ pub mod Lines
 pub mod Fields
 pub mod MapText
 pub mod Laws
+pub mod Reading
+pub mod Cursor

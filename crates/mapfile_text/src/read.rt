@@ -1,10 +1,16 @@
-ghost use Rattle.std.specs.Prelude.{◌≡◌, ◌⊎◌, ◌<◌, ◌≤◌, length, IfOk, IfErr};
-ghost use Rattle.mapfile_text.specs.MapText.{IsMapText, MapFault};
+ghost use Rattle.std.specs.Prelude.{◌≡◌, ◌⊎◌, ◌+◌, ◌-◌, ◌^◌, ◌<◌, ◌≤◌, ◌++◌, [], true, false, length, replicate, IfOk, IfErr, OnOk, IsTrue, if◌then◌else◌};
+ghost use Rattle.block_list.specs.Stretches.{covered};
+ghost use Rattle.mapfile_text.specs.MapText.{IsGap, IsMapText, Lists, ListsFault, MapFault, PlaceFault};
+ghost use Rattle.mapfile_text.specs.Reading.{filling, gap_of};
 ghost use Rattle.mapfile_text.specs.declared.read.MapError.TheVariants.{TooLong as LongText, NoMemory as OutOfMemory};
 
+use crate::entries::{read_block, read_state};
+use crate::lines::{SaidLine, SaidLines};
 use crate::state::MapState;
+use block_list::block::Block;
 use block_list::plain_tiles::PlainTiles;
 use block_list::status::Status;
+use block_list::tiles::Tiles;
 use std::alloc::Global;
 use thiserror::Error;
 
@@ -62,11 +68,127 @@ pub enum MapError {
     NoMemory,
 }
 
+impl ReadMap {
+    /// A map of no position.
+    fn blank(alloc: Global, state: MapState) -> ReadMap
+        ensures state { result.state ≡ state }
+        ensures first { result.first ≡ 0 }
+        ensures listed { result.listed ≡ false }
+        ensures statuses { result.tiles.statuses ≡ [] }
+    {
+        ReadMap {
+            state,
+            first: 0,
+            listed: false,
+            tiles: PlainTiles::new(alloc),
+        }
+    }
+
+    /// Puts the block of a line behind the positions so far.
+    fn put(&mut self, mode: Mode, line: &SaidLine<'_>, block: Block) -> Result<(), MapError>
+        requires short { block.pos + block.size < 2 ^ 63 }
+        requires blank { self.old.listed ≡ false → self.old.tiles.statuses ≡ [] }
+        ensures listed { OnOk result (self.new.listed ≡ true) }
+        ensures state { self.new.state ≡ self.old.state }
+        ensures first { OnOk result (self.new.first ≡ (if self.old.listed then self.old.first else block.pos)) }
+        ensures statuses { OnOk result (self.new.tiles.statuses
+            ≡ self.old.tiles.statuses ++ (filling mode self.old.listed (length self.old.tiles.statuses) block.pos ++ covered block)) }
+        ensures gap { OnOk result (IsTrue self.old.listed
+            → IsGap mode (length self.old.tiles.statuses) block.pos (gap_of mode (length self.old.tiles.statuses) block.pos)) }
+        ensures fault { IfErr result (λ e. (e ≡ OutOfMemory)
+            ⊎ (IsTrue self.old.listed × PlaceFault mode (length self.old.tiles.statuses) line.now block e)) }
+    {
+        if self.listed {
+            fill_gap(&mut self.tiles, mode, line, block)?;
+        } else {
+            self.first = block.pos;
+            self.listed = true;
+            fill_up_to(&mut self.tiles, block.pos, Status::NonTried)?;
+        }
+        append(&mut self.tiles, block)
+    }
+}
+
+/// Puts a block behind the last position.
+fn append(tiles: &mut PlainTiles, block: Block) -> Result<(), MapError>
+    requires begins { block.pos ≡ length tiles.old.statuses }
+    requires short { block.pos + block.size < 2 ^ 63 }
+    ensures ok { OnOk result (tiles.new.statuses ≡ tiles.old.statuses ++ covered block) }
+    ensures err { IfErr result (λ e. e ≡ OutOfMemory) }
+{
+    // The block begins at the end and is short, so only memory can be missing.
+    tiles.push(block).map_err(|_| MapError::NoMemory)
+}
+
+/// Gives a status to the positions behind the last one, up to an end.
+fn fill_up_to(tiles: &mut PlainTiles, end: u64, status: Status) -> Result<(), MapError>
+    requires later { length tiles.old.statuses ≤ end }
+    requires short { end < 2 ^ 63 }
+    ensures ok { OnOk result (tiles.new.statuses
+        ≡ tiles.old.statuses ++ replicate (end - length tiles.old.statuses) status) }
+    ensures err { IfErr result (λ e. e ≡ OutOfMemory) }
+{
+    let pos = tiles.end();
+    let size = end - pos;
+    append(tiles, Block { pos, size, status })
+}
+
+/// Fills what stands between the last position and the block of a line.
+fn fill_gap(
+    tiles: &mut PlainTiles,
+    mode: Mode,
+    line: &SaidLine<'_>,
+    block: Block,
+) -> Result<(), MapError>
+    requires { block.pos < 2 ^ 63 }
+    ensures filled { OnOk result (tiles.new.statuses
+        ≡ tiles.old.statuses ++ gap_of mode (length tiles.old.statuses) block.pos) }
+    ensures gap { OnOk result (IsGap mode (length tiles.old.statuses) block.pos
+        (gap_of mode (length tiles.old.statuses) block.pos)) }
+    ensures fault { IfErr result (λ e. (e ≡ OutOfMemory)
+        ⊎ PlaceFault mode (length tiles.old.statuses) line.now block e) }
+{
+    let line = line.number();
+    let end = tiles.end();
+    if block.pos < end {
+        return Err(MapError::Overlap { line });
+    }
+    match mode {
+        Mode::Tight if end < block.pos => Err(MapError::Gap { line }),
+        Mode::Tight => Ok(()),
+        Mode::Loose(status) => fill_up_to(tiles, block.pos, status),
+    }
+}
+
+/// Reads the block lines that are left.
+fn read_blocks(mut lines: SaidLines<'_>, mut map: ReadMap, mode: Mode) -> Result<ReadMap, MapError>
+    requires first { map.first ≡ 0 }
+    requires listed { map.listed ≡ false }
+    requires statuses { map.tiles.statuses ≡ [] }
+    ensures state { IfOk result (λ done. done.state ≡ map.state) }
+    ensures lists { IfOk result (λ done. Lists mode lines.entry done.first done.listed done.tiles.statuses) }
+    ensures fault { IfErr result (λ e. (e ≡ OutOfMemory) ⊎ ListsFault mode lines.entry e) }
+{
+    while let Some(line) = lines.take_line() {
+        let block = read_block(&line)?;
+        map.put(mode, &line, block)?;
+    }
+    Ok(map)
+}
+
 /// Reads the text of a mapfile, in time linear in it.
 pub fn read_map(alloc: Global, text: &[u8], mode: Mode) -> Result<ReadMap, MapError>
     ensures size { IfOk result (λ map. length text.now ≤ TEXT_LIMIT) }
     ensures read { IfOk result (λ map. IsMapText text.now mode map.state map.first map.listed map.tiles.statuses) }
     ensures fault { IfErr result (λ e. (e ≡ OutOfMemory) ⊎ ((e ≡ LongText) × (TEXT_LIMIT < length text.now)) ⊎ ((length text.now ≤ TEXT_LIMIT) × MapFault text.now mode e)) }
 {
-    Err(MapError::NoMemory)
+    if text.len() > TEXT_LIMIT {
+        return Err(MapError::TooLong);
+    }
+    let mut lines = SaidLines::new(text);
+    let Some(line) = lines.take_line() else {
+        return Err(MapError::NoStatusLine);
+    };
+    let state = read_state(&line)?;
+    read_blocks(lines, ReadMap::blank(alloc, state), mode)
 }

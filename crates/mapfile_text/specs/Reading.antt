@@ -1,0 +1,30 @@
+use Rattle.std.specs.Prelude.{ℕ, ◌-◌, ◌^◌, min, Bool, true, false, List, [], replicate}
+use Rattle.block_list.specs.declared.status.Status.{Status}
+use Rattle.block_list.specs.declared.status.Status.TheVariants.{NonTried}
+use Rattle.block_list.specs.declared.block.Block.{Block}
+use Rattle.mapfile_text.specs.declared.state.Current.{Current}
+use Rattle.mapfile_text.specs.declared.state.MapState.{MapState}
+use Rattle.mapfile_text.specs.declared.read.Mode.{Mode}
+use Rattle.mapfile_text.specs.declared.read.Mode.TheVariants.{Tight, Loose}
+
+-- a number, or 2^63 where it is larger
+abbrev pub capped : ℕ → ℕ
+capped n = min n (2 ^ 63)
+
+-- position, current status and pass of a state, the numbers capped
+abbrev pub capped_state : MapState → ℕ × Current × ℕ
+capped_state s = (capped s.pos, s.current, capped s.pass)
+
+-- a block, its numbers capped
+abbrev pub capped_block : Block → Block
+capped_block b = record { pos = capped b.pos; size = capped b.size; status = b.status }
+
+-- what may stand between the end of one block and the next
+abbrev pub gap_of : Mode → (end pos : ℕ) → List Status
+gap_of Tight end pos = []
+gap_of (Loose status) end pos = replicate (pos - end) status
+
+-- what is put in front of a block: non-tried positions in front of the first one, and in front of another what stands between
+abbrev pub filling : Mode → (listed : Bool) → (end pos : ℕ) → List Status
+filling mode true end pos = gap_of mode end pos
+filling mode false end pos = replicate pos NonTried
