@@ -51,7 +51,8 @@ fn field_end(line: &[u8]) -> usize
 
 /// The first field of a line, and what stands behind it.
 fn first_field(line: &[u8]) -> Option<(&[u8], &[u8])>
-    ensures { MatchOption result (fields line.now ≡ []) (λ parts. fields line.now ≡ parts.0.now ∷ fields parts.1.now) }
+    ensures { MatchOption result (fields line.now ≡ [])
+        (λ parts. fields line.now ≡ parts.0.now ∷ fields parts.1.now) }
 {
     let line = &line[field_start(line)..];
     if line.is_empty() {

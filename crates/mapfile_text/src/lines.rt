@@ -88,7 +88,8 @@ impl<'a> SaidLines<'a> {
 /// The first line of a text, and what stands behind its newline.
 fn first_line(text: &[u8]) -> (&[u8], &[u8])
     requires { 0 < length text.now }
-    ensures said { (n : ℕ) → said_from n text.now ≡ in_front (line_at n result.0.now) (said_from (n + 1) result.1.now) }
+    ensures said { (n : ℕ) → said_from n text.now ≡ in_front (line_at n result.0.now)
+        (said_from (n + 1) result.1.now) }
     ensures shorter { length result.1.now < length text.now }
 {
     match text.iter().position(|byte| *byte == b'\n') {

@@ -94,7 +94,8 @@ impl ReadMap {
         ensures statuses { OnOk result (self.new.tiles.statuses
             ≡ self.old.tiles.statuses ++ (filling mode self.old.listed (length self.old.tiles.statuses) block.pos ++ covered block)) }
         ensures gap { OnOk result (IsTrue self.old.listed
-            → IsGap mode (length self.old.tiles.statuses) block.pos (gap_of mode (length self.old.tiles.statuses) block.pos)) }
+            → IsGap mode (length self.old.tiles.statuses) block.pos
+            (gap_of mode (length self.old.tiles.statuses) block.pos)) }
         ensures fault { IfErr result (λ e. (e ≡ OutOfMemory)
             ⊎ (IsTrue self.old.listed × PlaceFault mode (length self.old.tiles.statuses) line.now block e)) }
     {
@@ -180,7 +181,9 @@ fn read_blocks(mut lines: SaidLines<'_>, mut map: ReadMap, mode: Mode) -> Result
 pub fn read_map(alloc: Global, text: &[u8], mode: Mode) -> Result<ReadMap, MapError>
     ensures size { IfOk result (λ map. length text.now ≤ TEXT_LIMIT) }
     ensures read { IfOk result (λ map. IsMapText text.now mode map.state map.first map.listed map.tiles.statuses) }
-    ensures fault { IfErr result (λ e. (e ≡ OutOfMemory) ⊎ ((e ≡ LongText) × (TEXT_LIMIT < length text.now)) ⊎ ((length text.now ≤ TEXT_LIMIT) × MapFault text.now mode e)) }
+    ensures fault { IfErr result (λ e. (e ≡ OutOfMemory)
+        ⊎ ((e ≡ LongText) × (TEXT_LIMIT < length text.now))
+        ⊎ ((length text.now ≤ TEXT_LIMIT) × MapFault text.now mode e)) }
 {
     if text.len() > TEXT_LIMIT {
         return Err(MapError::TooLong);
