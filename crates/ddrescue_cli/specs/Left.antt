@@ -4,9 +4,9 @@ use Rattle.crash_site.specs.declared.site.SiteCall.{SiteCall}
 use Rattle.crash_site.specs.declared.site.SiteCall.TheVariants.{ImageOpen, ImageRead, ImageWrite, ImageSync, MapRead, DraftBegin, DraftAppend, DraftSync, DraftPublish, MapSettle, MapRemove}
 use Rattle.crash_site.specs.Files.{File, bytes_of, empty_file}
 use Rattle.ddrescue_cli.specs.declared.ending.Ending.{Ending}
-use Rattle.ddrescue_cli.specs.declared.ending.Ending.TheVariants.{Done, MapThere, SourceLost, SiteFault, NoMemory}
+use Rattle.ddrescue_cli.specs.declared.ending.Ending.TheVariants.{Done, MapRefused, SourceLost, SiteFault, NoMemory}
 use Rattle.ddrescue_cli.specs.Operands.{outfile, mapfile}
-use Rattle.ddrescue_cli.specs.Sectors.{landed}
+use Rattle.ddrescue_cli.specs.Reads.{landed}
 use Rattle.ddrescue_cli.specs.Rescue.{IsOther, AreRescued}
 
 -- every file stands
@@ -23,13 +23,13 @@ pub record OutputMade (words : List (List ℕ)) (files files' : List ℕ → Opt
   pub output : files' (outfile words) ≡ made (files (outfile words))
   pub others : (name : List ℕ) → name ≢ outfile words → files' name ≡ files name
 
--- the output has the whole sectors of these reads, and no mapfile was published
+-- the output has the whole reads of these, and no mapfile was published
 pub record Unpublished (words : List (List ℕ)) (reads : List Reading) (files files' : List ℕ → Option File) : Type 0 where
   pub output : files' (outfile words) ≡ Some (record { bytes = landed (bytes_of (files (outfile words))) reads; regular = true })
   pub no_map : files' (mapfile words) ≡ files (mapfile words)
   pub others : (name : List ℕ) → IsOther words name → files' name ≡ files name
 
--- a write failed: the sector of the last read isn't in the output
+-- a write failed: the last read isn't in the output
 pub record LastWriteFailed (words : List (List ℕ)) (reads : List Reading) (files files' : List ℕ → Option File) : Type 0 where
   pub written : List Reading
   pub failed : Reading
@@ -53,7 +53,7 @@ LeftAt MapRemove words end reads files files' = ⊥
 -- what each answer leaves of the files as they read
 abbrev pub FilesLeft : Ending → List (List ℕ) → ℕ → List Reading → (files files' : List ℕ → Option File) → Type 0
 FilesLeft Done words end reads files files' = AreRescued words end reads files files'
-FilesLeft MapThere words end reads files files' = OutputMade words files files'
+FilesLeft (MapRefused which error) words end reads files files' = OutputMade words files files'
 FilesLeft SourceLost words end reads files files' = Unpublished words reads files files'
 FilesLeft (SiteFault call) words end reads files files' = LeftAt call words end reads files files'
 FilesLeft NoMemory words end reads files files' = AllStand files files' ⊎ Unpublished words reads files files'

@@ -1,15 +1,19 @@
-use Rattle.std.specs.Prelude.{◌≡◌, ◌≢◌, ◌⊎◌, ⊤, ℕ, true, List, [], ◌++◌, length, Option, Some, None, unwrap_or, nat_lt}
+use Rattle.std.specs.Prelude.{◌≡◌, ◌≢◌, ◌⊎◌, ⊤, ℕ, Bool, true, false, IsTrue, List, [], ◌++◌, Option, Some, None}
+use Rattle.block_list.specs.declared.status.Status.{Status}
 use Rattle.fault_count.specs.Counts.{Rose}
 use Rattle.faulty_source.specs.Journal.{Reading}
+use Rattle.mapfile_text.specs.declared.read.MapError.{MapError}
 use Rattle.crash_site.specs.Files.{File, bytes_of}
 use Rattle.crash_site.specs.Calls.{Entry}
 use Rattle.ddrescue_cli.specs.declared.ending.Ending.{Ending}
-use Rattle.ddrescue_cli.specs.declared.ending.Ending.TheVariants.{Done, SourceFault, NotRegular, MapThere, SourceLost, SiteFault, NoMemory}
-use Rattle.ddrescue_cli.specs.Operands.{outfile, mapfile, draft}
-use Rattle.ddrescue_cli.specs.Sectors.{sector_count, AreSectorReads, map_of, landed, gained}
+use Rattle.ddrescue_cli.specs.declared.ending.Ending.TheVariants.{Done, SourceFault, NotRegular, MapRefused, SourceLost, SiteFault, NoMemory}
+use Rattle.ddrescue_cli.specs.Operands.{outfile, mapfile, draft, refusal_of_words}
+use Rattle.ddrescue_cli.specs.Requests.{inside, IsSpent}
+use Rattle.ddrescue_cli.specs.Reads.{map_after, cursor_after, IsRun, landed, gained}
+use Rattle.ddrescue_cli.specs.Start.{Stands, IsRefused, IsSaid}
 use Rattle.ddrescue_cli.specs.Saved.{heading, saved_text}
 use Rattle.ddrescue_cli.specs.Held.{Held}
-use Rattle.ddrescue_cli.specs.Run.{CallsOf, IsBeforeReads, IsAfterReads}
+use Rattle.ddrescue_cli.specs.Run.{is_other, CallsOf, IsBeforeReads, IsAfterReads, IsBegun}
 
 -- Each answer has its cause. The words' own refusal is given exactly where the words bring it, but for want of
 -- memory; a fault or a loss only where the count of the object rose. The counts stand before and after the call:
@@ -21,25 +25,48 @@ Caused SourceFault of_words faults faults' losses losses' site_faults site_fault
 Caused SourceLost of_words faults faults' losses losses' site_faults site_faults' = (of_words ≡ None) × Rose losses losses'
 Caused (SiteFault call) of_words faults faults' losses losses' site_faults site_faults' = (of_words ≡ None) × Rose site_faults site_faults'
 Caused NotRegular of_words faults faults' losses losses' site_faults site_faults' = of_words ≡ None
-Caused MapThere of_words faults faults' losses losses' site_faults site_faults' = of_words ≡ None
+Caused (MapRefused which error) of_words faults faults' losses losses' site_faults site_faults' = (of_words ≡ None) × IsSaid error
 Caused e of_words faults faults' losses losses' site_faults site_faults' = of_words ≡ Some e
 
--- The answer is the verdict, or Done where there is none; else memory wasn't there, or a count rose.
-abbrev pub IsVerdict : Ending → Option Ending → (faults faults' losses losses' site_faults site_faults' : ℕ) → Type 0
-IsVerdict answer refusal faults faults' losses losses' site_faults site_faults' =
-    (answer ≡ unwrap_or refusal Done) ⊎ (answer ≡ NoMemory) ⊎ Rose faults faults' ⊎ Rose losses losses' ⊎ Rose site_faults site_faults'
+-- a refusal that the files bring: an outfile that is no regular file, or else a mapfile that is refused
+abbrev pub FilesRefuse : (output map : Option File) → Ending → Type 0
+FilesRefuse output map NotRegular = is_other output ≡ true
+FilesRefuse output map (MapRefused which error) = (is_other output ≡ false) × IsRefused map error
+FilesRefuse output map e = ⊥
 
--- the reads that a rescue of an input with this length added to the journal: one for each of the first sectors in
--- order; none where the answer comes before them, and all where it comes after them
-pub record IsReadInOrder (answer : Ending) (end : ℕ) (journal journal' : List Reading) : Type 0 where
+abbrev pub VerdictOf : (of_words : Option Ending) → (output map : Option File) → Ending → Type 0
+VerdictOf (Some refusal) output map v = v ≡ refusal
+VerdictOf None output map Done = (e : Ending) → FilesRefuse output map e → ⊥
+VerdictOf None output map v = FilesRefuse output map v
+
+-- the verdict on words and files: the first refusal, in the order of work, whose condition holds, or Done where none does
+pub record IsVerdict (words : List (List ℕ)) (files : List ℕ → Option File) (v : Ending) : Type 0 where
+  pub first : VerdictOf (refusal_of_words words) (files (outfile words)) (files (mapfile words)) v
+
+-- The answer is the verdict, but for want of memory and for what a count that rose explains.
+pub record IsAnswer (answer : Ending) (words : List (List ℕ)) (files : List ℕ → Option File) (faults faults' losses losses' site_faults site_faults' : ℕ) : Type 0 where
+  pub verdict : Ending
+  pub is : IsVerdict words files verdict
+  pub given : (answer ≡ verdict) ⊎ (answer ≡ NoMemory) ⊎ Rose faults faults' ⊎ Rose losses losses' ⊎ Rose site_faults site_faults'
+
+-- The reads that a rescue of an input with this length added to the journal: a run over the map that it began with,
+-- which is the one that the mapfile stands for; none where the answer comes before them, and all where it comes
+-- after them.
+pub record IsReadInOrder (answer : Ending) (end : ℕ) (site_tells : Bool) (file : Option File) (journal journal' : List Reading) : Type 0 where
   pub added : journal' ≡ journal ++ gained journal journal'
-  pub sectors : AreSectorReads end (length (gained journal journal')) (gained journal journal')
+  pub begun : List Status
+  pub shown : ℕ
+  pub stands : IsTrue site_tells → IsBegun answer (gained journal journal') → Stands file end begun shown
+  pub run : IsRun (inside end) begun 0 (gained journal journal')
   pub none : IsBeforeReads answer → gained journal journal' ≡ []
-  pub all : IsAfterReads answer → length (gained journal journal') ≡ sector_count end
+  pub all : IsAfterReads answer → IsSpent (inside end) (map_after begun (gained journal journal')) (cursor_after 0 (gained journal journal'))
 
 -- the calls that it made
-abbrev pub IsCalled : Ending → List (List ℕ) → ℕ → List Reading → List Entry → List Entry → Type 0
-IsCalled answer words end reads calls calls' = CallsOf answer (outfile words) (mapfile words) (draft words) reads (saved_text (heading words) end (map_of reads)) calls calls'
+pub record IsCalled (answer : Ending) (words : List (List ℕ)) (end : ℕ) (file : Option File) (reads : List Reading) (calls calls' : List Entry) : Type 0 where
+  pub begun : List Status
+  pub shown : ℕ
+  pub stands : IsBegun answer reads → Stands file end begun shown
+  pub made : CallsOf answer (outfile words) (mapfile words) (draft words) file reads (saved_text (heading words) (cursor_after shown reads) (map_after begun reads)) calls calls'
 
 -- a name of none of the files that a rescue writes
 pub record IsOther (words : List (List ℕ)) (name : List ℕ) : Type 0 where
@@ -49,17 +76,29 @@ pub record IsOther (words : List (List ℕ)) (name : List ℕ) : Type 0 where
 
 -- the files after a finished rescue with these reads
 pub record AreRescued (words : List (List ℕ)) (end : ℕ) (reads : List Reading) (files files' : List ℕ → Option File) : Type 0 where
-  -- the output is what it was, with each whole sector at its own position
+  -- the output is what it was, with each whole read at its own position
   pub output : files' (outfile words) ≡ Some (record { bytes = landed (bytes_of (files (outfile words))) reads; regular = true })
-  -- the mapfile is the printed map
-  pub saved : files' (mapfile words) ≡ Some (record { bytes = saved_text (heading words) end (map_of reads); regular = true })
+  -- the mapfile is the printed map that the reads make of the one that it stood for
+  pub begun : List Status
+  pub shown : ℕ
+  pub stands : Stands (files (mapfile words)) end begun shown
+  pub saved : files' (mapfile words) ≡ Some (record { bytes = saved_text (heading words) (cursor_after shown reads) (map_after begun reads); regular = true })
   -- no draft is left, and every other file stands
   pub no_draft : files' (draft words) ≡ None
   pub others : (name : List ℕ) → IsOther words name → files' name ≡ files name
 
--- The mapfile found is the printed map of the reads, and what that map marks finished is held by the output: the
--- domain is the input's length, each position stands at its own place, and start is the output as it read when it
--- was opened.
+-- What a map marks finished the output holds: the domain is the input's length, each position stands at its own
+-- place, and start is the output as it read when it was opened.
+abbrev pub OutputHolds : (words : List (List ℕ)) (end : ℕ) (reads : List Reading) (start : List ℕ) → List Status → (List ℕ → Option File) → Type 0
+OutputHolds words end reads start map files = Held (inside end) (λ x. x) 512 reads start map (bytes_of (files (outfile words)))
+
+-- the mapfile found stands for a map, and what that map marks finished the output holds
 pub record MapfileHolds (words : List (List ℕ)) (end : ℕ) (reads : List Reading) (start : List ℕ) (files : List ℕ → Option File) : Type 0 where
-  pub found : files (mapfile words) ≡ Some (record { bytes = saved_text (heading words) end (map_of reads); regular = true })
-  pub held : Held (λ x. nat_lt x end) (λ x. x) 512 reads start (map_of reads) (bytes_of (files (outfile words)))
+  pub map : List Status
+  pub shown : ℕ
+  pub stands : Stands (files (mapfile words)) end map shown
+  pub held : OutputHolds words end reads start map files
+
+-- whatever map the mapfile found stands for, what that map marks finished the output holds
+pub record FoundHolds (words : List (List ℕ)) (end : ℕ) (reads : List Reading) (start : List ℕ) (files : List ℕ → Option File) : Type 0 where
+  pub held : (map : List Status) (shown : ℕ) → Stands (files (mapfile words)) end map shown → OutputHolds words end reads start map files

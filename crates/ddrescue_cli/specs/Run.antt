@@ -1,55 +1,55 @@
-use Rattle.std.specs.Prelude.{◌≡◌, ◌⊎◌, ⊤, ℕ, Bool, true, false, IsTrue, length, map as list_map, List, [], ◌∷◌, ◌++◌, Option, Some, None, is_some, if◌then◌else◌}
+use Rattle.std.specs.Prelude.{◌≡◌, ◌≢◌, ◌⊎◌, ⊤, ℕ, ◌<◌, ◌≤◌, ◌^◌, Bool, true, false, IsTrue, length, map as list_map, List, [], ◌∷◌, ◌++◌, Option, Some, None, if◌then◌else◌}
+use Rattle.block_list.specs.declared.status.Status.{Status}
+use Rattle.fault_count.specs.Counts.{Rose}
 use Rattle.faulty_source.specs.Journal.{Reading, is_whole}
+use Rattle.mapfile_text.specs.HeadingLines.{HeadingLines}
 use Rattle.crash_site.specs.declared.site.SiteCall.{SiteCall}
 use Rattle.crash_site.specs.declared.site.SiteCall.TheVariants.{ImageOpen, ImageWrite, ImageSync, MapRead, DraftBegin, DraftAppend, DraftSync, DraftPublish, MapSettle}
 use Rattle.crash_site.specs.Files.{File}
-use Rattle.crash_site.specs.Calls.{Call, Entry, Done as Listed, Made, BrokeAt, image_open, image_write, map_read, image_sync, draft_begin, draft_append, draft_sync, draft_publish, map_settle}
+use Rattle.crash_site.specs.Calls.{Call, Entry, Done as Listed, Made, BrokeAt, image_open, image_write, image_sync, draft_begin, draft_append, draft_sync, draft_publish, map_settle}
 use Rattle.ddrescue_cli.specs.declared.ending.Ending.{Ending}
-use Rattle.ddrescue_cli.specs.declared.ending.Ending.TheVariants.{Done, SourceFault, NotRegular, MapThere, SourceLost, SiteFault, NoMemory}
-use Rattle.ddrescue_cli.specs.Operands.{outfile, mapfile, draft, refusal_of_words, first_of_both}
-use Rattle.ddrescue_cli.specs.Sectors.{sector_count, AreSectorReads, map_of, writes_of}
+use Rattle.ddrescue_cli.specs.declared.ending.Ending.TheVariants.{Done, SourceFault, NotRegular, MapRefused, SourceLost, SiteFault, NoMemory}
+use Rattle.ddrescue_cli.specs.Requests.{inside, IsSpent}
+use Rattle.ddrescue_cli.specs.Reads.{map_after, cursor_after, IsRun, writes_of}
+use Rattle.ddrescue_cli.specs.Start.{Stands, IsRefused, IsAccepted, IsSaid}
+use Rattle.ddrescue_cli.specs.Loading.{BeginsLoad, IsLoad}
 use Rattle.ddrescue_cli.specs.Saved.{saved_text}
-use Rattle.fault_count.specs.Counts.{Rose}
-use Rattle.mapfile_text.specs.HeadingLines.{HeadingLines}
 
 -- something stands there that is no regular file
 abbrev pub is_other : Option File → Bool
 is_other None = false
 is_other (Some f) = if f.regular then false else true
 
--- the refusal that the files bring, if they bring one
-abbrev pub refusal_of_files : List (List ℕ) → (List ℕ → Option File) → Option Ending
-refusal_of_files words files =
-    if is_other (files (outfile words)) then Some NotRegular
-    else if is_some (files (mapfile words)) then Some MapThere
-    else None
-
--- the verdict: the first refusal, in the order of work, whose condition holds
-abbrev pub verdict : List (List ℕ) → (List ℕ → Option File) → Option Ending
-verdict words files = first_of_both (refusal_of_words words) (refusal_of_files words files)
-
--- a rescue opens the outfile and looks for a mapfile
-abbrev pub opening_calls : List ℕ → List ℕ → List Call
-opening_calls out map = image_open out true ∷ map_read map 0 1 ∷ []
-
 -- a save syncs the image, and only then puts a whole and synced draft in the mapfile's place
 abbrev pub save_calls : List ℕ → List ℕ → List ℕ → List Call
 save_calls map draft text = image_sync ∷ draft_begin draft ∷ draft_append text ∷ draft_sync ∷ draft_publish map ∷ map_settle map ∷ []
 
--- the calls of a whole rescue with these reads, which saves this text
-abbrev pub run_calls : (out map draft : List ℕ) → List Reading → List ℕ → List Call
-run_calls out map draft reads text = opening_calls out map ++ (writes_of reads ++ save_calls map draft text)
+-- the calls of a whole rescue that loads its mapfile so, has these reads, and saves this text
+abbrev pub run_calls : (out map draft : List ℕ) → List Call → List Reading → List ℕ → List Call
+run_calls out map draft load reads text = image_open out true ∷ load ++ (writes_of reads ++ save_calls map draft text)
+
+-- the calls of a rescue up to one that failed
+abbrev pub CallsBroken : SiteCall → (out map draft : List ℕ) → Option File → List Reading → List ℕ → List Entry → List Entry → Type 0
+CallsBroken ImageOpen out map draft file reads text calls calls' = BrokeAt ImageOpen (image_open out true ∷ []) calls calls'
+CallsBroken MapRead out map draft file reads text calls calls' = (load : List Call) × BeginsLoad map file load × BrokeAt MapRead (image_open out true ∷ load) calls calls'
+CallsBroken call out map draft file reads text calls calls' = (load : List Call) × IsLoad map file load × BrokeAt call (run_calls out map draft load reads text) calls calls'
+
+-- the calls of a rescue for which memory ran out: before the outfile, at the mapfile, or behind it
+pub data CallsStarved (out map : List ℕ) (file : Option File) (reads : List Reading) (calls calls' : List Entry) : Type 0 where
+  AtWords : (reads ≡ []) → Made [] calls calls' → CallsStarved out map file reads calls calls'
+  AtLoad : (load : List Call) → (reads ≡ []) → BeginsLoad map file load → Made (image_open out true ∷ load) calls calls' → CallsStarved out map file reads calls calls'
+  AtRun : (load : List Call) → IsLoad map file load → Made (image_open out true ∷ load ++ writes_of reads) calls calls' → CallsStarved out map file reads calls calls'
 
 -- The calls that a rescue made: all of them where it is done, else a beginning, which depends on the answer. Where
--- a call failed, it is the last one.
-abbrev pub CallsOf : Ending → (out map draft : List ℕ) → List Reading → List ℕ → List Entry → List Entry → Type 0
-CallsOf Done out map draft reads text calls calls' = Made (run_calls out map draft reads text) calls calls'
-CallsOf (SiteFault call) out map draft reads text calls calls' = BrokeAt call (run_calls out map draft reads text) calls calls'
-CallsOf SourceLost out map draft reads text calls calls' = Made (opening_calls out map ++ writes_of reads) calls calls'
-CallsOf NoMemory out map draft reads text calls calls' = (Made [] calls calls' × (reads ≡ [])) ⊎ Made (opening_calls out map ++ writes_of reads) calls calls'
-CallsOf NotRegular out map draft reads text calls calls' = Made (image_open out true ∷ []) calls calls'
-CallsOf MapThere out map draft reads text calls calls' = Made (opening_calls out map) calls calls'
-CallsOf e out map draft reads text calls calls' = Made [] calls calls'
+-- a call failed, it is the last one. The file is that under the mapfile's name.
+abbrev pub CallsOf : Ending → (out map draft : List ℕ) → Option File → List Reading → List ℕ → List Entry → List Entry → Type 0
+CallsOf Done out map draft file reads text calls calls' = (load : List Call) × IsLoad map file load × Made (run_calls out map draft load reads text) calls calls'
+CallsOf (SiteFault call) out map draft file reads text calls calls' = CallsBroken call out map draft file reads text calls calls'
+CallsOf SourceLost out map draft file reads text calls calls' = (load : List Call) × IsLoad map file load × Made (image_open out true ∷ load ++ writes_of reads) calls calls'
+CallsOf NoMemory out map draft file reads text calls calls' = CallsStarved out map file reads calls calls'
+CallsOf NotRegular out map draft file reads text calls calls' = Made (image_open out true ∷ []) calls calls'
+CallsOf (MapRefused which error) out map draft file reads text calls calls' = (load : List Call) × IsLoad map file load × Made (image_open out true ∷ load) calls calls'
+CallsOf e out map draft file reads text calls calls' = Made [] calls calls'
 
 -- the calls before the first read
 abbrev pub IsOpening : SiteCall → Type 0
@@ -57,7 +57,7 @@ IsOpening ImageOpen = ⊤
 IsOpening MapRead = ⊤
 IsOpening call = ⊥
 
--- the calls after the last sector
+-- the calls after the last read
 abbrev pub IsSaving : SiteCall → Type 0
 IsSaving ImageSync = ⊤
 IsSaving DraftBegin = ⊤
@@ -86,11 +86,16 @@ IsBeforeReads NoMemory = ⊥
 IsBeforeReads (SiteFault call) = IsOpening call
 IsBeforeReads e = ⊤
 
--- an answer that comes after the last sector
+-- an answer that comes after the last read
 abbrev pub IsAfterReads : Ending → Type 0
 IsAfterReads Done = ⊤
 IsAfterReads (SiteFault call) = IsSaving call
 IsAfterReads e = ⊥
+
+-- an answer that comes once the mapfile is loaded; want of memory does where there are reads
+abbrev pub IsBegun : Ending → List Reading → Type 0
+IsBegun NoMemory reads = reads ≢ []
+IsBegun e reads = IsBeforeReads e → ⊥
 
 -- an answer after which the new mapfile stands
 abbrev pub IsPublished : Ending → Type 0
@@ -105,50 +110,86 @@ StopCause SourceFault faults faults' losses losses' site_faults site_faults' = R
 StopCause SourceLost faults faults' losses losses' site_faults site_faults' = Rose losses losses'
 StopCause (SiteFault call) faults faults' losses losses' site_faults site_faults' = Rose site_faults site_faults'
 StopCause NotRegular faults faults' losses losses' site_faults site_faults' = ⊤
-StopCause MapThere faults faults' losses losses' site_faults site_faults' = ⊤
+StopCause (MapRefused which error) faults faults' losses losses' site_faults site_faults' = IsSaid error
 StopCause e faults faults' losses losses' site_faults site_faults' = ⊥
 
--- what the files say of a failed call: once the output is open it is regular, and once a mapfile was looked for there is none
+-- what the files say of a failed call: once the output is open it is regular, and once the mapfile is loaded it isn't refused
 abbrev pub CallAllowed : SiteCall → (output map : Option File) → Type 0
 CallAllowed ImageOpen output map = ⊤
 CallAllowed MapRead output map = is_other output ≡ false
-CallAllowed call output map = (is_other output ≡ false) × (is_some map ≡ false)
+CallAllowed call output map = (is_other output ≡ false) × IsAccepted map
 
 -- what the files say of an answer
 abbrev pub FilesAllow : Ending → (output map : Option File) → Type 0
 FilesAllow NotRegular output map = is_other output ≡ true
-FilesAllow MapThere output map = (is_other output ≡ false) × (is_some map ≡ true)
-FilesAllow SourceLost output map = (is_other output ≡ false) × (is_some map ≡ false)
-FilesAllow Done output map = (is_other output ≡ false) × (is_some map ≡ false)
+FilesAllow (MapRefused which error) output map = (is_other output ≡ false) × IsRefused map error
+FilesAllow SourceLost output map = (is_other output ≡ false) × IsAccepted map
+FilesAllow Done output map = (is_other output ≡ false) × IsAccepted map
 FilesAllow (SiteFault call) output map = CallAllowed call output map
 FilesAllow e output map = ⊤
 
--- what a rescue did up to its end
-pub record Went (out map draft : List ℕ) (heading : HeadingLines) (source_tells site_tells : Bool) (bytes : List ℕ) (journal journal' : List Reading) (calls calls' : List Entry) : Type 0 where
-  pub end : ℕ
-  pub all : IsTrue source_tells → end ≡ length bytes
-  pub reads : List Reading
-  pub sectors : AreSectorReads end (sector_count end) reads
-  pub told : IsTrue source_tells → journal' ≡ journal ++ reads
-  pub made : IsTrue site_tells → Made (run_calls out map draft reads (saved_text heading end (map_of reads))) calls calls'
-
 -- the write of the last read failed: the reads before it, and that write after the calls for them
-pub record LastUnwritten (out map : List ℕ) (reads : List Reading) (calls calls' : List Entry) : Type 0 where
+pub record LastUnwritten (out map : List ℕ) (file : Option File) (reads : List Reading) (calls calls' : List Entry) : Type 0 where
   pub before : List Reading
   pub last : Reading
   pub split : reads ≡ before ++ last ∷ []
   pub whole : is_whole last ≡ true
-  pub broke : BrokeAt ImageWrite (image_write last.pos last.given ∷ []) (calls ++ list_map Listed (opening_calls out map ++ writes_of before)) calls'
+  pub load : List Call
+  pub loaded : IsLoad map file load
+  pub broke : BrokeAt ImageWrite (image_write last.pos last.given ∷ []) (calls ++ list_map Listed (image_open out true ∷ load ++ writes_of before)) calls'
 
--- what a rescue did up to where it stopped
-pub record Stopped (e : Ending) (out map draft : List ℕ) (heading : HeadingLines) (source_tells site_tells : Bool) (bytes : List ℕ) (journal journal' : List Reading) (calls calls' : List Entry) : Type 0 where
+-- a map that reaches an input's end and a position to show, within the limits
+pub record Fits (end : ℕ) (map : List Status) (shown : ℕ) : Type 0 where
+  pub long : end ≤ length map
+  pub short : length map < 2 ^ 63
+  pub small : shown < 2 ^ 63
+
+-- why a run stopped: memory, or a count that rose
+abbrev pub RunCause : Ending → (losses losses' faults faults' : ℕ) → Type 0
+RunCause e losses losses' faults faults' =
+    (e ≡ NoMemory) ⊎ ((e ≡ SourceLost) × Rose losses losses')
+    ⊎ ((call : SiteCall) × (e ≡ SiteFault call) × (IsOpening call → ⊥) × Rose faults faults')
+
+-- the calls of a run behind the opening
+abbrev pub RunCalls : Ending → (map draft : List ℕ) → List Reading → List ℕ → List Entry → List Entry → Type 0
+RunCalls Done map draft reads text calls calls' = Made (writes_of reads ++ save_calls map draft text) calls calls'
+RunCalls (SiteFault call) map draft reads text calls calls' = BrokeAt call (writes_of reads ++ save_calls map draft text) calls calls'
+RunCalls SourceLost map draft reads text calls calls' = Made (writes_of reads) calls calls'
+RunCalls NoMemory map draft reads text calls calls' = Made (writes_of reads) calls calls'
+RunCalls e map draft reads text calls calls' = ⊥
+
+-- the write of the last read failed: the reads before it, and that write after the calls for them
+pub record RunUnwritten (reads : List Reading) (calls calls' : List Entry) : Type 0 where
+  pub before : List Reading
+  pub last : Reading
+  pub split : reads ≡ before ++ last ∷ []
+  pub whole : is_whole last ≡ true
+  pub between : List Entry
+  pub made : Made (writes_of before) calls between
+  pub broke : BrokeAt ImageWrite (image_write last.pos last.given ∷ []) between calls'
+
+-- what a run did over a map that it began with, up to its end or to where it stopped
+pub record Ran (e : Ending) (map draft : List ℕ) (heading : HeadingLines) (source_tells site_tells : Bool) (end : ℕ) (begun : List Status) (shown : ℕ) (journal journal' : List Reading) (calls calls' : List Entry) : Type 0 where
+  pub reads : List Reading
+  pub run : IsRun (inside end) begun 0 reads
+  pub told : IsTrue source_tells → journal' ≡ journal ++ reads
+  pub made : IsTrue site_tells → RunCalls e map draft reads (saved_text heading (cursor_after shown reads) (map_after begun reads)) calls calls'
+  pub spent : IsAfterReads e → IsSpent (inside end) (map_after begun reads) (cursor_after 0 reads)
+  pub unwritten : e ≡ SiteFault ImageWrite → IsTrue site_tells → RunUnwritten reads calls calls'
+
+-- What a rescue did up to its end, or to where it stopped: it began with a map and a position to show, and its reads
+-- are a run from there on.
+pub record Went (e : Ending) (out map draft : List ℕ) (heading : HeadingLines) (source_tells site_tells : Bool) (bytes : List ℕ) (file : Option File) (journal journal' : List Reading) (calls calls' : List Entry) : Type 0 where
   pub end : ℕ
   pub all : IsTrue source_tells → end ≡ length bytes
-  pub count : ℕ
+  pub begun : List Status
+  pub shown : ℕ
   pub reads : List Reading
-  pub sectors : AreSectorReads end count reads
+  pub run : IsRun (inside end) begun 0 reads
   pub told : IsTrue source_tells → journal' ≡ journal ++ reads
-  pub made : IsTrue site_tells → CallsOf e out map draft reads (saved_text heading end (map_of reads)) calls calls'
+  pub stands : IsTrue site_tells → IsBegun e reads → Stands file end begun shown
+  pub fits : IsBegun e reads → Fits end begun shown
+  pub made : IsTrue site_tells → CallsOf e out map draft file reads (saved_text heading (cursor_after shown reads) (map_after begun reads)) calls calls'
   pub none : IsBeforeReads e → reads ≡ []
-  pub every : IsAfterReads e → count ≡ sector_count end
-  pub unwritten : e ≡ SiteFault ImageWrite → IsTrue site_tells → LastUnwritten out map reads calls calls'
+  pub spent : IsAfterReads e → IsSpent (inside end) (map_after begun reads) (cursor_after 0 reads)
+  pub unwritten : e ≡ SiteFault ImageWrite → IsTrue site_tells → LastUnwritten out map file reads calls calls'

@@ -11,10 +11,10 @@ use Rattle.ddrescue_cli.specs.Operands.{command_line}
 abbrev pub heading : List (List ℕ) → HeadingLines
 heading words = record { program = Ddrescue; line = command_line words; start_s = 0; now_s = 0 }
 
--- where a finished rescue of a length stands
+-- where a finished rescue stands that shows a position
 abbrev pub finished_state : ℕ → MapState
-finished_state end = record { pos = end; current = Finished; pass = 1 }
+finished_state shown = record { pos = shown; current = Finished; pass = 1 }
 
 -- the text of a finished rescue's mapfile: the printed map, with the heading and where the rescue stands
-unfoldable pub saved_text : HeadingLines → ℕ → List Status → List ℕ
-saved_text h end map = printed h (finished_state end) map
+unfoldable pub saved_text : HeadingLines → (shown : ℕ) → List Status → List ℕ
+saved_text h shown map = printed h (finished_state shown) map

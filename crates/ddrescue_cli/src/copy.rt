@@ -1,16 +1,40 @@
-ghost use Rattle.std.specs.Prelude.{◌≡◌, ◌⊎◌, ◌+◌, ◌<◌, ◌≤◌, ◌^◌, true, IsTrue, [], ◌∷◌, ◌++◌, length, map, replicate, OnOk, IfErr};
-ghost use Rattle.block_list.specs.declared.status.Status.TheVariants.{NonTried};
-ghost use Rattle.ddrescue_cli.specs.Sectors.{sector_count};
-ghost use Rattle.ddrescue_cli.specs.Copying.{Turn, Halt, CopyCause, Copied, Halted};
+ghost use Rattle.std.specs.Prelude.{◌≡◌, ◌+◌, ◌<◌, ◌≤◌, ◌^◌, true, IsTrue, length, OnOk, IfOk, IfErr, IfSome, IfNone};
+ghost use Rattle.ddrescue_cli.specs.Requests.{inside, IsRequest, IsSpent};
+ghost use Rattle.ddrescue_cli.specs.Copying.{Turn, Halt, CopyCause, CopiedAll, Halted};
 
 use crate::ending::Ending;
+use block_list::block::Run;
 use block_list::status::Status;
 use block_list::tiles::Tiles;
 use crash_site::site::{Site, SiteCall};
 use faulty_source::source::Source;
 
-/// One sector: reads it into a buffer of its size, writes it if it was read whole, and marks it.
-fn copy_sector<S: Source, D: Site, T: Tiles>(
+/// The most bytes that a read asks for.
+const SECTOR: u64 = 512;
+
+/// The first positions of one sector, at or after a cursor, that are below an input's end and non-tried.
+fn next_request<T: Tiles>(tiles: &T, cursor: u64, end: u64) -> Option<Run>
+    requires { end < 2 ^ 63 }
+    ensures asks { IfSome result (λ run. IsRequest (inside end) (T.statuses tiles.now) cursor run.from run.to) }
+    ensures behind { IfSome result (λ run. cursor ≤ run.from) }
+    ensures some { IfSome result (λ run. run.from < run.to) }
+    ensures small { IfSome result (λ run. run.to ≤ run.from + SECTOR) }
+    ensures below { IfSome result (λ run. run.to ≤ end) }
+    ensures spent { IfNone result (IsSpent (inside end) (T.statuses tiles.now) cursor) }
+{
+    let run = tiles.find_forward(cursor, Status::NonTried)?;
+    if run.from >= end {
+        return None;
+    }
+    let sector_end = (run.from + SECTOR) / SECTOR * SECTOR;
+    Some(Run {
+        from: run.from,
+        to: run.to.min(end).min(sector_end),
+    })
+}
+
+/// One request: reads it into a buffer of its size, writes it if it was read whole, and marks it.
+fn copy_request<S: Source, D: Site, T: Tiles>(
     source: &mut S,
     site: &mut D,
     tiles: &mut T,
@@ -61,20 +85,30 @@ fn copy_sector<S: Source, D: Site, T: Tiles>(
     Ok(())
 }
 
-/// All sectors of an input with this length, in order.
+/// All that is non-tried below an input's end, from its start on. Gives the position to show, which is the end of the
+/// last request, and the one that was handed in where nothing was asked for.
 pub(crate) fn copy_all<S: Source, D: Site, T: Tiles>(
     source: &mut S,
     site: &mut D,
     tiles: &mut T,
     end: u64,
-) -> Result<(), Ending>
+    shown: u64,
+) -> Result<u64, Ending>
     requires input { S.is_open source.old ≡ true }
     requires image { D.is_open site.old ≡ true }
-    requires end { length (T.statuses tiles.old) ≡ end }
-    requires short { end < 2 ^ 63 }
-    ensures copied { OnOk result (Copied end (sector_count end) (S.tells source.old)
-        (D.tells site.old) (S.journal source.old) (S.journal source.new) (D.record_ site.old)
-        (D.record_ site.new) (T.statuses tiles.old) (T.statuses tiles.new)) }
+    requires long { end ≤ length (T.statuses tiles.old) }
+    requires short { length (T.statuses tiles.old) < 2 ^ 63 }
+    ensures copied { IfOk result (λ now. CopiedAll end (S.tells source.old) (D.tells site.old)
+        (S.journal source.old) (S.journal source.new) (D.record_ site.old) (D.record_ site.new)
+        (T.statuses tiles.old) (T.statuses tiles.new) shown now) }
+    ensures halted { IfErr result (λ e. Halted end e (S.tells source.old) (D.tells site.old)
+        (S.journal source.old) (S.journal source.new) (D.record_ site.old) (D.record_ site.new)
+        (T.statuses tiles.old) shown) }
+    ensures cause { IfErr result (λ e. CopyCause e (S.losses source.old) (S.losses source.new)
+        (D.faults site.old) (D.faults site.new)) }
+    ensures losses { S.losses source.old ≤ S.losses source.new }
+    ensures faults { D.faults site.old ≤ D.faults site.new }
+    ensures source_faults { S.faults source.new ≡ S.faults source.old }
     ensures input { S.is_open source.new ≡ true }
     ensures image { D.is_open site.new ≡ true }
     ensures source_tells { S.tells source.new ≡ S.tells source.old }
@@ -82,19 +116,15 @@ pub(crate) fn copy_all<S: Source, D: Site, T: Tiles>(
     ensures bytes { IsTrue (S.tells source.old) → S.bytes source.new ≡ S.bytes source.old }
     ensures start { IsTrue (D.tells site.old) → D.start site.new ≡ D.start site.old }
     ensures draft { D.is_drafting site.new ≡ D.is_drafting site.old }
-    ensures losses { S.losses source.old ≤ S.losses source.new }
-    ensures faults { D.faults site.old ≤ D.faults site.new }
-    ensures source_faults { S.faults source.new ≡ S.faults source.old }
-    ensures cause { IfErr result (λ e. CopyCause e (S.losses source.old) (S.losses source.new)
-        (D.faults site.old) (D.faults site.new)) }
-    ensures halted { IfErr result (λ e. Halted end e (S.tells source.old) (D.tells site.old)
-        (S.journal source.old) (S.journal source.new) (D.record_ site.old) (D.record_ site.new)) }
 {
-    let mut buf = [0u8; 512];
-    for k in 0..end.div_ceil(512) {
-        let pos = k * 512;
-        let size = (end - pos).min(512) as usize;
-        copy_sector(source, site, tiles, &mut buf[..size], pos)?;
+    let mut buf = [0u8; SECTOR as usize];
+    let mut cursor = 0;
+    let mut shown = shown;
+    'requests: while let Some(request) = next_request(tiles, cursor, end) {
+        let size = (request.to - request.from) as usize;
+        copy_request(source, site, tiles, &mut buf[..size], request.from)?;
+        cursor = request.to;
+        shown = request.to;
     }
-    Ok(())
+    Ok(shown)
 }

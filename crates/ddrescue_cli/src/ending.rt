@@ -2,6 +2,7 @@ ghost use Rattle.std.specs.Prelude.{◌≡◌};
 ghost use Rattle.ddrescue_cli.specs.Ending.{status_of_ending};
 
 use crash_site::site::SiteCall;
+use mapfile_text::read::MapError;
 
 /// A file that a rescue names.
 #[derive(Clone, Copy, Debug, PartialEq, Eq)]
@@ -13,10 +14,17 @@ pub enum Operand {
     Draft,
 }
 
+/// A mapfile that a rescue reads.
+#[derive(Clone, Copy, Debug, PartialEq, Eq)]
+pub enum Which {
+    /// The mapfile that it is to go on with.
+    RunMap,
+}
+
 /// How a call of `ddrescue` ended.
 #[derive(Clone, Copy, Debug, PartialEq, Eq)]
 pub enum Ending {
-    /// All sectors were asked for, and the map was saved.
+    /// Everything that wasn't tried was asked for, and the map was saved.
     Done,
     /// Another number of words than three.
     WrongNumber { given: usize },
@@ -28,8 +36,8 @@ pub enum Ending {
     SourceFault,
     /// The outfile is no regular file.
     NotRegular,
-    /// The mapfile is there already.
-    MapThere,
+    /// The mapfile's text is no map.
+    MapRefused { which: Which, error: MapError },
     /// The infile was lost during a read.
     SourceLost,
     /// A call on the outfile or on the mapfile's folder failed.
@@ -39,12 +47,14 @@ pub enum Ending {
 }
 
 impl Ending {
-    /// The exit status: 0 for a finished rescue, 4 for want of memory, 1 for any other refusal.
+    /// The exit status: 0 for a finished rescue, 2 for a mapfile that is refused, 4 for want of memory, 1 for any
+    /// other refusal.
     pub fn code(&self) -> u8
         ensures { result ≡ status_of_ending self.now }
     {
         match self {
             Ending::Done => 0,
+            Ending::MapRefused { .. } => 2,
             Ending::NoMemory => 4,
             _ => 1,
         }

@@ -1,12 +1,11 @@
-ghost use Rattle.std.specs.Prelude.{◌≡◌, ◌⊎◌, ◌≤◌, ◌<◌, ◌^◌, Bool, true, false, IsTrue, is_some, take, length, [], ◌∷◌, OnOk, IfOk, IfErr, None};
-ghost use Rattle.std.specs.Str.{bytes_eq};
-ghost use Rattle.crash_site.specs.Calls.{Made, image_open, map_read};
+ghost use Rattle.std.specs.Prelude.{◌≡◌, ◌≤◌, true, false, IsTrue, [], ◌∷◌, OnOk, IfErr};
+ghost use Rattle.crash_site.specs.Calls.{Made, image_open};
 ghost use Rattle.crash_site.specs.Folder.{after};
 ghost use Rattle.ddrescue_cli.specs.Run.{is_other};
-ghost use Rattle.ddrescue_cli.specs.Opening.{OutputCause, OutputStop, MapCause, MapStop};
+ghost use Rattle.ddrescue_cli.specs.Opening.{OutputCause, OutputStop};
 
 use crate::ending::Ending;
-use crash_site::site::{ImageKind, MapRead, Site, SiteCall};
+use crash_site::site::{ImageKind, Site, SiteCall};
 
 /// Opens the outfile, which is made if it is absent, and refuses one that is no regular file.
 pub(crate) fn open_output<D: Site>(site: &mut D, outfile: &str) -> Result<(), Ending>
@@ -29,31 +28,6 @@ pub(crate) fn open_output<D: Site>(site: &mut D, outfile: &str) -> Result<(), En
         Ok(_) => Ok(()),
         Err(_) => Err(Ending::SiteFault {
             call: SiteCall::ImageOpen,
-        }),
-    }
-}
-
-/// Looks for a mapfile, and refuses one that is there.
-pub(crate) fn refuse_map<D: Site>(site: &mut D, mapfile: &str) -> Result<(), Ending>
-    ensures absent { OnOk result (IsTrue (D.tells site.old)
-        → is_some ((after (D.start site.old) (D.record_ site.old)).files mapfile.now) ≡ false) }
-    ensures made { OnOk result (IsTrue (D.tells site.old)
-        → Made (map_read mapfile.now 0 1 ∷ []) (D.record_ site.old) (D.record_ site.new)) }
-    ensures cause { IfErr result (λ e. MapCause e (D.faults site.old) (D.faults site.new)) }
-    ensures stop { IfErr result (λ e. IsTrue (D.tells site.old)
-        → MapStop e mapfile.now ((after (D.start site.old) (D.record_ site.old)).files mapfile.now)
-        (D.record_ site.old) (D.record_ site.new)) }
-    ensures open { D.is_open site.new ≡ D.is_open site.old }
-    ensures draft { D.is_drafting site.new ≡ D.is_drafting site.old }
-    ensures tells { D.tells site.new ≡ D.tells site.old }
-    ensures start { IsTrue (D.tells site.old) → D.start site.new ≡ D.start site.old }
-    ensures faults { D.faults site.old ≤ D.faults site.new }
-{
-    match site.map_read(mapfile, 0, &mut [0u8]) {
-        Ok(MapRead::Absent) => Ok(()),
-        Ok(MapRead::Bytes(_)) => Err(Ending::MapThere),
-        Err(_) => Err(Ending::SiteFault {
-            call: SiteCall::MapRead,
         }),
     }
 }

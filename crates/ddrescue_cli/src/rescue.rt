@@ -1,42 +1,77 @@
-ghost use Rattle.std.specs.Prelude.{◌≡◌, ◌<◌, ◌^◌, false, IsTrue, length, replicate, OnOk, IfOk, IfErr, IsSome};
+ghost use Rattle.std.specs.Prelude.{◌≡◌, ◌≤◌, false, true, IsTrue, length, OnOk, IfErr, IsSome};
 ghost use Rattle.std.specs.Str.{bytes_eq};
 ghost use Rattle.std.specs.String.{string_bytes};
-ghost use Rattle.block_list.specs.declared.status.Status.TheVariants.{NonTried};
 ghost use Rattle.crash_site.specs.Files.{bytes_of};
 ghost use Rattle.crash_site.specs.Folder.{after};
 ghost use Rattle.ddrescue_cli.specs.declared.ending.Ending.TheVariants.{Done, NoMemory as OutOfMemory};
 ghost use Rattle.ddrescue_cli.specs.Operands.{outfile, mapfile, refusal_of_words};
-ghost use Rattle.ddrescue_cli.specs.Sectors.{gained};
-ghost use Rattle.ddrescue_cli.specs.Run.{is_other, verdict, FilesAllow, IsPublished, DraftLeft, Went, Stopped, StopCause};
-ghost use Rattle.ddrescue_cli.specs.Rescue.{Caused, IsVerdict, IsReadInOrder, IsCalled, MapfileHolds};
+ghost use Rattle.ddrescue_cli.specs.Reads.{gained};
+ghost use Rattle.ddrescue_cli.specs.Run.{is_other, FilesAllow, IsPublished, DraftLeft, Fits, Ran, RunCause, Went, StopCause};
+ghost use Rattle.ddrescue_cli.specs.Rescue.{Caused, IsAnswer, IsReadInOrder, IsCalled, MapfileHolds, FoundHolds};
 ghost use Rattle.ddrescue_cli.specs.Left.{FilesLeft};
 
 use crate::copy::copy_all;
 use crate::ending::Ending;
-use crate::open::{open_output, refuse_map};
+use crate::load::{Start, load};
+use crate::open::open_output;
 use crate::operands::{Plan, make_plan};
 use crate::save::save;
 use crate::words::Words;
-use block_list::plain_tiles::PlainTiles;
-use block_list::tiles::{NoMemory, Tiles};
 use crash_site::site::Site;
 use faulty_source::source::Source;
 use mapfile_text::print::print_map;
 use mapfile_text::state::{Current, MapState};
 use std::alloc::Global;
 
-/// The map of an input that wasn't read yet.
-fn start_map(alloc: Global, end: u64) -> Result<PlainTiles, NoMemory>
-    requires { end < 2 ^ 63 }
-    ensures { IfOk result (λ tiles. tiles.statuses ≡ replicate end NonTried) }
+/// Copies what wasn't tried, and saves the map.
+fn run<S: Source, D: Site>(
+    alloc: Global,
+    plan: &Plan<'_>,
+    source: &mut S,
+    site: &mut D,
+    start: Start,
+    end: u64,
+) -> Result<(), Ending>
+    requires input { S.is_open source.old ≡ true }
+    requires image { D.is_open site.old ≡ true }
+    requires no_draft { D.is_drafting site.old ≡ false }
+    requires fits { Fits end start.tiles.statuses start.shown }
+    ensures went { OnOk result (Ran Done plan.now.names.mapfile.now (string_bytes plan.now.draft)
+        plan.now.heading (S.tells source.old) (D.tells site.old) end start.tiles.statuses
+        start.shown (S.journal source.old) (S.journal source.new) (D.record_ site.old)
+        (D.record_ site.new)) }
+    ensures stopped { IfErr result (λ e. Ran e plan.now.names.mapfile.now
+        (string_bytes plan.now.draft) plan.now.heading (S.tells source.old) (D.tells site.old) end
+        start.tiles.statuses start.shown (S.journal source.old) (S.journal source.new)
+        (D.record_ site.old) (D.record_ site.new)) }
+    ensures cause { IfErr result (λ e. RunCause e (S.losses source.old) (S.losses source.new)
+        (D.faults site.old) (D.faults site.new)) }
+    ensures draft { OnOk result (D.is_drafting site.new ≡ false) }
+    ensures draft_left { IfErr result (λ e. DraftLeft e (D.is_drafting site.new)) }
+    ensures source_tells { S.tells source.new ≡ S.tells source.old }
+    ensures site_tells { D.tells site.new ≡ D.tells site.old }
+    ensures bytes { IsTrue (S.tells source.old) → S.bytes source.new ≡ S.bytes source.old }
+    ensures start { IsTrue (D.tells site.old) → D.start site.new ≡ D.start site.old }
 {
-    let mut tiles = PlainTiles::new(alloc);
-    tiles.reserve(1)?;
-    tiles.extend_to(end);
-    Ok(tiles)
+    let Start {
+        mut tiles, shown, ..
+    } = start;
+    let shown = copy_all(source, site, &mut tiles, end, shown)?;
+    let state = MapState {
+        pos: shown,
+        current: Current::Finished,
+        pass: 1,
+    };
+    let Ok(text) = print_map(alloc, &plan.heading, state, &tiles) else {
+        return Err(Ending::NoMemory);
+    };
+    match save(site, plan.names.mapfile, plan.draft.as_str(), &text) {
+        Ok(()) => Ok(()),
+        Err(call) => Err(Ending::SiteFault { call }),
+    }
 }
 
-/// Copies each sector once, and saves the map.
+/// Opens the files, loads the mapfile, and runs the rescue.
 pub(crate) fn rescue<S: Source, D: Site>(
     alloc: Global,
     plan: &Plan<'_>,
@@ -45,15 +80,16 @@ pub(crate) fn rescue<S: Source, D: Site>(
 ) -> Result<(), Ending>
     requires no_draft { D.is_drafting site.old ≡ false }
     requires apart { bytes_eq plan.now.names.outfile.now plan.now.names.mapfile.now ≡ false }
-    ensures went { OnOk result (Went plan.now.names.outfile.now plan.now.names.mapfile.now
+    ensures went { OnOk result (Went Done plan.now.names.outfile.now plan.now.names.mapfile.now
         (string_bytes plan.now.draft) plan.now.heading (S.tells source.old) (D.tells site.old)
-        (S.bytes source.old) (S.journal source.old) (S.journal source.new) (D.record_ site.old)
-        (D.record_ site.new)) }
-    ensures stopped { IfErr result
-        (λ e. Stopped e plan.now.names.outfile.now plan.now.names.mapfile.now
-        (string_bytes plan.now.draft) plan.now.heading (S.tells source.old) (D.tells site.old)
-        (S.bytes source.old) (S.journal source.old) (S.journal source.new) (D.record_ site.old)
-        (D.record_ site.new)) }
+        (S.bytes source.old) ((after (D.start site.old)
+        (D.record_ site.old)).files plan.now.names.mapfile.now) (S.journal source.old)
+        (S.journal source.new) (D.record_ site.old) (D.record_ site.new)) }
+    ensures stopped { IfErr result (λ e. Went e plan.now.names.outfile.now
+        plan.now.names.mapfile.now (string_bytes plan.now.draft) plan.now.heading
+        (S.tells source.old) (D.tells site.old) (S.bytes source.old) ((after (D.start site.old)
+        (D.record_ site.old)).files plan.now.names.mapfile.now) (S.journal source.old)
+        (S.journal source.new) (D.record_ site.old) (D.record_ site.new)) }
     ensures allowed { OnOk result (IsTrue (D.tells site.old)
         → FilesAllow Done ((after (D.start site.old)
         (D.record_ site.old)).files plan.now.names.outfile.now)
@@ -78,30 +114,16 @@ pub(crate) fn rescue<S: Source, D: Site>(
         return Err(Ending::SourceFault);
     };
     open_output(site, plan.names.outfile)?;
-    refuse_map(site, plan.names.mapfile)?;
-    let Ok(mut tiles) = start_map(alloc, end) else {
-        return Err(Ending::NoMemory);
-    };
-    copy_all(source, site, &mut tiles, end)?;
-    let state = MapState {
-        pos: end,
-        current: Current::Finished,
-        pass: 1,
-    };
-    let Ok(text) = print_map(alloc, &plan.heading, state, &tiles) else {
-        return Err(Ending::NoMemory);
-    };
-    match save(site, plan.names.mapfile, plan.draft.as_str(), &text) {
-        Ok(()) => Ok(()),
-        Err(call) => Err(Ending::SiteFault { call }),
-    }
+    let start = load(alloc, site, plan.names.mapfile, end)?;
+    run(alloc, plan, source, site, start, end)
 }
 
-/// Rescues an infile into an outfile, and saves the map of what was rescued: `infile outfile mapfile`. The input is
-/// read once, sector by sector from its start; a sector that isn't read whole is bad.
+/// Rescues an infile into an outfile, and saves the map of what was rescued: `infile outfile mapfile`. A mapfile that is
+/// there is gone on with. What it leaves non-tried is read once, sector by sector from the input's start; what isn't
+/// read whole is bad.
 ///
 /// The refusals come in this order: another number of words than three, a word that names no file, two files of one
-/// name, an infile that can't be opened, an outfile that is no regular file, a mapfile that is there.
+/// name, an infile that can't be opened, an outfile that is no regular file, a mapfile that is no map.
 pub fn ddrescue<S: Source, D: Site>(
     alloc: Global,
     words: &Words,
@@ -117,16 +139,19 @@ pub fn ddrescue<S: Source, D: Site>(
         ((after (D.start site.old) (D.record_ site.old)).files (mapfile words.now)) }
 
     ensures verdict { IsTrue (D.tells site.old)
-        → IsVerdict result (verdict words.now (after (D.start site.old) (D.record_ site.old)).files)
+        → IsAnswer result words.now (after (D.start site.old) (D.record_ site.old)).files
         (S.faults source.old) (S.faults source.new) (S.losses source.old) (S.losses source.new)
         (D.faults site.old) (D.faults site.new) }
 
     // A refusal of the words touches nothing.
     ensures untouched { IsSome (refusal_of_words words.now) → (source.new ≡ source.old) × (site.new ≡ site.old) }
-    ensures reads { IsTrue (S.tells source.old) → IsReadInOrder result (length (S.bytes source.old))
+    ensures reads { IsTrue (S.tells source.old)
+        → IsReadInOrder result (length (S.bytes source.old)) (D.tells site.old)
+        ((after (D.start site.old) (D.record_ site.old)).files (mapfile words.now))
         (S.journal source.old) (S.journal source.new) }
     ensures calls { IsTrue (S.tells source.old) → IsTrue (D.tells site.old)
         → IsCalled result words.now (length (S.bytes source.old))
+        ((after (D.start site.old) (D.record_ site.old)).files (mapfile words.now))
         (gained (S.journal source.old) (S.journal source.new)) (D.record_ site.old)
         (D.record_ site.new) }
     ensures left { IsTrue (S.tells source.old) → IsTrue (D.tells site.old)
@@ -138,6 +163,13 @@ pub fn ddrescue<S: Source, D: Site>(
     // The mapfile never calls a byte finished that the output does not hold.
     ensures holds { IsPublished result → IsTrue (S.tells source.old) → IsTrue (D.tells site.old)
         → MapfileHolds words.now (length (S.bytes source.old))
+        (gained (S.journal source.old) (S.journal source.new))
+        (bytes_of ((after (D.start site.old) (D.record_ site.old)).files (outfile words.now)))
+        (after (D.start site.new) (D.record_ site.new)).files }
+
+    // So it is after every other answer.
+    ensures found { IsTrue (S.tells source.old) → IsTrue (D.tells site.old)
+        → FoundHolds words.now (length (S.bytes source.old))
         (gained (S.journal source.old) (S.journal source.new))
         (bytes_of ((after (D.start site.old) (D.record_ site.old)).files (outfile words.now)))
         (after (D.start site.new) (D.record_ site.new)).files }

@@ -1,0 +1,63 @@
+use Rattle.std.specs.Prelude.{◌≡◌, ◌⊎◌, ⊤, ℕ, ◌<◌, ◌≤◌, ◌^◌, Bool, List, length, replicate, Option, Some, None}
+use Rattle.block_list.specs.declared.status.Status.{Status}
+use Rattle.block_list.specs.declared.status.Status.TheVariants.{NonTried}
+use Rattle.block_list.specs.Map.{extended}
+use Rattle.mapfile_text.specs.declared.state.MapState.{MapState}
+use Rattle.mapfile_text.specs.declared.read.Mode.TheVariants.{Tight}
+use Rattle.mapfile_text.specs.declared.read.MapError.{MapError}
+use Rattle.mapfile_text.specs.declared.read.MapError.TheVariants.{NoStatusLine, TooLong, NoMemory}
+use Rattle.mapfile_text.specs.MapText.{IsMapText, MapFault, Blank}
+use Rattle.crash_site.specs.Files.{File}
+
+-- nothing of the input was tried yet, and the rescue stands at its start
+pub record IsFresh (end : ℕ) (map : List Status) (shown : ℕ) : Type 0 where
+  pub map_is : map ≡ replicate end NonTried
+  pub shown_is : shown ≡ 0
+
+-- the map that a text is, followed by non-tried positions up to the input's end, and the position that the text shows
+pub record IsResumed (text : List ℕ) (end : ℕ) (map : List Status) (shown : ℕ) : Type 0 where
+  pub state : MapState
+  pub first : ℕ
+  pub listed : Bool
+  pub statuses : List Status
+  pub reads : IsMapText text Tight state first listed statuses
+  pub map_is : map ≡ extended statuses end
+  pub shown_is : shown ≡ state.pos
+
+-- what a mapfile's text stands for; one in which no line says anything stands for what no mapfile does
+pub data TextStands (text : List ℕ) (end : ℕ) (map : List Status) (shown : ℕ) : Type 0 where
+  Says_nothing : Blank text → IsFresh end map shown → TextStands text end map shown
+  Says : IsResumed text end map shown → TextStands text end map shown
+
+abbrev pub StandsFor : Option File → (end : ℕ) → List Status → (shown : ℕ) → Type 0
+StandsFor None end map shown = IsFresh end map shown
+StandsFor (Some f) end map shown = TextStands f.bytes end map shown
+
+-- a mapfile, absent or not, stands for a map of an input with a length, and for the position that it shows
+pub record Stands (mapfile : Option File) (end : ℕ) (map : List Status) (shown : ℕ) : Type 0 where
+  pub stands : StandsFor mapfile end map shown
+
+-- the most bytes that a mapfile may have
+abbrev pub text_limit : ℕ
+text_limit = 2 ^ 28
+
+-- why a mapfile's text is refused: it is too long, or it says something and is no map
+abbrev pub TextRefused : List ℕ → MapError → Type 0
+TextRefused text e =
+    ((e ≡ TooLong) × (text_limit < length text))
+    ⊎ ((length text ≤ text_limit) × (Blank text → ⊥) × MapFault text Tight e)
+
+-- why a mapfile is refused; an absent one never is
+abbrev pub IsRefused : Option File → MapError → Type 0
+IsRefused None e = ⊥
+IsRefused (Some f) e = TextRefused f.bytes e
+
+-- a mapfile that isn't refused, absent or not
+pub record IsAccepted (mapfile : Option File) : Type 0 where
+  pub never : (e : MapError) → IsRefused mapfile e → ⊥
+
+-- a refusal of a mapfile never speaks of a status line that is missing, nor of memory
+abbrev pub IsSaid : MapError → Type 0
+IsSaid NoStatusLine = ⊥
+IsSaid NoMemory = ⊥
+IsSaid e = ⊤
