@@ -1,0 +1,188 @@
+use Rattle.std.proofs.Common.{◌≡◌, ◌⊎◌, ℕ, ◌<◌, ◌^◌, Bool, true, false, IsTrue, List, [], ◌∷◌, ◌++◌, length, map, Option, Some, None, refl, sym, ap, ◌∙◌, ⊎_elim, inl, inr, subst, append-nil}
+use Rattle.std.specs.Str.{bytes_eq}
+use Rattle.block_list.specs.declared.status.Status.{Status}
+use Rattle.faulty_source.specs.Journal.{Reading}
+use Rattle.mapfile_text.specs.HeadingLines.{HeadingLines}
+use Rattle.mapfile_text.specs.declared.read.MapError.{MapError}
+use Rattle.crash_site.specs.declared.site.SiteCall.{SiteCall}
+use Rattle.crash_site.specs.declared.site.SiteCall.TheVariants.{ImageOpen, ImageRead, ImageWrite, ImageSync, MapRead, DraftBegin, DraftAppend, DraftSync, DraftPublish, MapSettle, MapRemove}
+use Rattle.crash_site.specs.Files.{File}
+use Rattle.crash_site.specs.Calls.{Call, Entry, Done, Made, BrokeAt, image_open, image_write}
+use Rattle.crash_site.specs.Folder.{Folder, opened, after}
+use Rattle.ddrescue_cli.specs.declared.ending.Which.TheVariants.{RunMap}
+use Rattle.ddrescue_cli.specs.declared.ending.Ending.{Ending}
+use Rattle.ddrescue_cli.specs.declared.ending.Ending.TheVariants.{Done as Finished, WrongNumber, WrongWord, SameName, SourceFault, NotRegular, MapRefused, SourceLost, SiteFault, NoMemory}
+use Rattle.ddrescue_cli.specs.Requests.{inside}
+use Rattle.ddrescue_cli.specs.Reads.{map_after, cursor_after, writes_of}
+use Rattle.ddrescue_cli.specs.Start.{Stands, IsRefused, IsAccepted}
+use Rattle.ddrescue_cli.specs.Loading.{BeginsLoad, IsLoad}
+use Rattle.ddrescue_cli.specs.Opening.{OutputCause, OutputStop, LoadCause, LoadStop, Starved, Refused, Broken, Loaded}
+use Rattle.ddrescue_cli.specs.Saved.{saved_text}
+use Rattle.ddrescue_cli.specs.Run.{is_other, save_calls, run_calls, CallsOf, CallsBroken, AtLoad, AtRun, IsOpening, IsBeforeReads, IsAfterReads, IsBegun, FilesAllow, CallAllowed, Fits, RunCause, RunCalls, RunUnwritten, LastUnwritten, Ran, Went}
+use Rattle.ddrescue_cli.proofs.CallFacts.{made_more, broke_front, broke_back, after-append}
+use Rattle.ddrescue_cli.proofs.FolderFacts.{bytes_eq-flip}
+
+-- a rescue that stopped before its first read
+pub went_early : (e : Ending) (out name draft : List ℕ) (h : HeadingLines) (ts td : Bool) (bytes : List ℕ) (file : Option File) (end : ℕ) (j0 j1 : List Reading) (c0 c1 : List Entry)
+    → (IsTrue ts → end ≡ length bytes) → (IsTrue ts → j1 ≡ j0) → (IsTrue td → (text : List ℕ) → CallsOf e out name draft file [] text c0 c1)
+    → (IsBegun e [] → ⊥) → (IsAfterReads e → ⊥) → (e ≡ SiteFault ImageWrite → ⊥) → Went e out name draft h ts td bytes file j0 j1 c0 c1
+went_early e out name draft h ts td bytes file end j0 j1 c0 c1 all before made early late other = record {
+  end = end;
+  all = all;
+  begun = [];
+  shown = 0;
+  reads = [];
+  run = tt;
+  told = λ t. before t ∙ sym (append-nil j0);
+  stands = λ _ b. absurd (early b);
+  fits = λ b. absurd (early b);
+  made = λ t. made t (saved_text h (cursor_after 0 []) (map_after [] []));
+  none = λ _. refl;
+  spent = λ a. absurd (late a);
+  unwritten = λ q t. absurd (other q);
+}
+
+-- an input that can't be opened
+pub went_source : (out name draft : List ℕ) (h : HeadingLines) (ts td : Bool) (bytes : List ℕ) (file : Option File) (j0 j1 : List Reading) (c0 : List Entry) → (IsTrue ts → j1 ≡ j0) → Went SourceFault out name draft h ts td bytes file j0 j1 c0 c0
+went_source out name draft h ts td bytes file j0 j1 c0 before =
+    went_early SourceFault out name draft h ts td bytes file (length bytes) j0 j1 c0 c0 (λ _. refl) before (λ _ text. sym (append-nil c0)) (λ b. b tt) (λ a. a) (λ q. cc)
+
+output_calls : (e : Ending) (out name draft : List ℕ) (file output : Option File) (text : List ℕ) (c0 c1 : List Entry) → OutputStop e out output c0 c1 → CallsOf e out name draft file [] text c0 c1
+output_calls e out name draft file output text c0 c1 stop =
+    let P : Ending → Type 0 = λ v. CallsOf v out name draft file [] text c0 c1 in
+    ⊎_elim (λ l. subst P (sym l.0) l.2) (λ r. subst P (sym r.0) r.1) stop
+
+-- an outfile that was refused
+pub went_output : (e : Ending) (out name draft : List ℕ) (h : HeadingLines) (ts td : Bool) (bytes : List ℕ) (file output : Option File) (end faults faults' : ℕ) (j0 j1 : List Reading) (c0 c1 : List Entry)
+    → (IsTrue ts → end ≡ length bytes) → (IsTrue ts → j1 ≡ j0) → (IsTrue td → OutputStop e out output c0 c1) → OutputCause e faults faults' → Went e out name draft h ts td bytes file j0 j1 c0 c1
+went_output e out name draft h ts td bytes file output end faults faults' j0 j1 c0 c1 all before stop cause =
+    let Early : Ending → Type 0 = λ v. (IsBegun v [] → ⊥) × (IsAfterReads v → ⊥) × (v ≡ SiteFault ImageWrite → ⊥) in
+    let early : Early e = ⊎_elim (λ l. subst Early (sym l) (λ b. b tt, λ a. a, λ q. cc)) (λ r. subst Early (sym r.0) (λ b. b tt, λ a. a, λ q. cc)) cause in
+    went_early e out name draft h ts td bytes file end j0 j1 c0 c1 all before (λ t text. output_calls e out name draft file output text c0 c1 (stop t)) early.0 early.1 early.2
+
+load_calls : (e : Ending) (out name draft : List ℕ) (file : Option File) (text : List ℕ) (c0 c1 c2 : List Entry) → Made (image_open out true ∷ []) c0 c1 → LoadStop name file e c1 c2 → CallsOf e out name draft file [] text c0 c2
+load_calls e out name draft file text c0 c1 c2 opened (Starved reads is begins made) =
+    let P : Ending → Type 0 = λ v. CallsOf v out name draft file [] text c0 c2 in
+    subst P (sym is) (AtLoad reads refl begins (made_more c0 c1 c2 (image_open out true ∷ []) reads opened made))
+load_calls e out name draft file text c0 c1 c2 opened (Refused error reads is refused load made) =
+    let P : Ending → Type 0 = λ v. CallsOf v out name draft file [] text c0 c2 in
+    subst P (sym is) (reads, load, made_more c0 c1 c2 (image_open out true ∷ []) reads opened made)
+load_calls e out name draft file text c0 c1 c2 opened (Broken reads is begins broke) =
+    let P : Ending → Type 0 = λ v. CallsOf v out name draft file [] text c0 c2 in
+    subst P (sym is) (reads, begins, broke_back MapRead (image_open out true ∷ []) reads c0 c1 c2 opened broke)
+
+-- a mapfile that couldn't be loaded
+pub went_load : (e : Ending) (out name draft : List ℕ) (h : HeadingLines) (ts td : Bool) (bytes : List ℕ) (file : Option File) (end faults faults' : ℕ) (j0 j1 : List Reading) (c0 c1 c2 : List Entry)
+    → (IsTrue ts → end ≡ length bytes) → (IsTrue ts → j1 ≡ j0) → (IsTrue td → Made (image_open out true ∷ []) c0 c1) → (IsTrue td → LoadStop name file e c1 c2) → LoadCause e faults faults'
+    → Went e out name draft h ts td bytes file j0 j1 c0 c2
+went_load e out name draft h ts td bytes file end faults faults' j0 j1 c0 c1 c2 all before opened stop cause =
+    let Early : Ending → Type 0 = λ v. (IsBegun v [] → ⊥) × (IsAfterReads v → ⊥) × (v ≡ SiteFault ImageWrite → ⊥) in
+    let early : Early e = ⊎_elim (λ l. subst Early (sym l) (λ b. b refl, λ a. a, λ q. cc))
+        (λ r. ⊎_elim (λ m. subst Early (sym m.1) (λ b. b tt, λ a. a, λ q. cc)) (λ f. subst Early (sym f.0) (λ b. b tt, λ a. a, λ q. cc)) r) cause in
+    went_early e out name draft h ts td bytes file end j0 j1 c0 c2 all before (λ t text. load_calls e out name draft file text c0 c1 c2 (opened t) (stop t)) early.0 early.1 early.2
+
+-- the calls of a run, behind those of the opening
+broken_calls : (call : SiteCall) (out name draft : List ℕ) (file : Option File) (load : List Call) (reads : List Reading) (text : List ℕ) (c0 c2 c3 : List Entry)
+    → (IsOpening call → ⊥) → IsLoad name file load → Made (image_open out true ∷ load) c0 c2 → BrokeAt call (writes_of reads ++ save_calls name draft text) c2 c3 → CallsBroken call out name draft file reads text c0 c3
+broken_calls ImageOpen out name draft file load reads text c0 c2 c3 later loaded opened broke = absurd (later tt)
+broken_calls MapRead out name draft file load reads text c0 c2 c3 later loaded opened broke = absurd (later tt)
+broken_calls ImageRead out name draft file load reads text c0 c2 c3 later loaded opened broke = (load, loaded, broke_back ImageRead (image_open out true ∷ load) (writes_of reads ++ save_calls name draft text) c0 c2 c3 opened broke)
+broken_calls ImageWrite out name draft file load reads text c0 c2 c3 later loaded opened broke = (load, loaded, broke_back ImageWrite (image_open out true ∷ load) (writes_of reads ++ save_calls name draft text) c0 c2 c3 opened broke)
+broken_calls ImageSync out name draft file load reads text c0 c2 c3 later loaded opened broke = (load, loaded, broke_back ImageSync (image_open out true ∷ load) (writes_of reads ++ save_calls name draft text) c0 c2 c3 opened broke)
+broken_calls DraftBegin out name draft file load reads text c0 c2 c3 later loaded opened broke = (load, loaded, broke_back DraftBegin (image_open out true ∷ load) (writes_of reads ++ save_calls name draft text) c0 c2 c3 opened broke)
+broken_calls DraftAppend out name draft file load reads text c0 c2 c3 later loaded opened broke = (load, loaded, broke_back DraftAppend (image_open out true ∷ load) (writes_of reads ++ save_calls name draft text) c0 c2 c3 opened broke)
+broken_calls DraftSync out name draft file load reads text c0 c2 c3 later loaded opened broke = (load, loaded, broke_back DraftSync (image_open out true ∷ load) (writes_of reads ++ save_calls name draft text) c0 c2 c3 opened broke)
+broken_calls DraftPublish out name draft file load reads text c0 c2 c3 later loaded opened broke = (load, loaded, broke_back DraftPublish (image_open out true ∷ load) (writes_of reads ++ save_calls name draft text) c0 c2 c3 opened broke)
+broken_calls MapSettle out name draft file load reads text c0 c2 c3 later loaded opened broke = (load, loaded, broke_back MapSettle (image_open out true ∷ load) (writes_of reads ++ save_calls name draft text) c0 c2 c3 opened broke)
+broken_calls MapRemove out name draft file load reads text c0 c2 c3 later loaded opened broke = (load, loaded, broke_back MapRemove (image_open out true ∷ load) (writes_of reads ++ save_calls name draft text) c0 c2 c3 opened broke)
+
+all_calls : (e : Ending) (out name draft : List ℕ) (file : Option File) (load : List Call) (reads : List Reading) (text : List ℕ) (c0 c2 c3 : List Entry)
+    → (IsBeforeReads e → ⊥) → IsLoad name file load → Made (image_open out true ∷ load) c0 c2 → RunCalls e name draft reads text c2 c3 → CallsOf e out name draft file reads text c0 c3
+all_calls Finished out name draft file load reads text c0 c2 c3 later loaded opened made = (load, loaded, made_more c0 c2 c3 (image_open out true ∷ load) (writes_of reads ++ save_calls name draft text) opened made)
+all_calls SourceLost out name draft file load reads text c0 c2 c3 later loaded opened made = (load, loaded, made_more c0 c2 c3 (image_open out true ∷ load) (writes_of reads) opened made)
+all_calls NoMemory out name draft file load reads text c0 c2 c3 later loaded opened made = AtRun load loaded (made_more c0 c2 c3 (image_open out true ∷ load) (writes_of reads) opened made)
+all_calls (SiteFault call) out name draft file load reads text c0 c2 c3 later loaded opened made = broken_calls call out name draft file load reads text c0 c2 c3 later loaded opened made
+all_calls (WrongNumber given) out name draft file load reads text c0 c2 c3 later loaded opened made = absurd made
+all_calls (WrongWord word) out name draft file load reads text c0 c2 c3 later loaded opened made = absurd made
+all_calls (SameName first second) out name draft file load reads text c0 c2 c3 later loaded opened made = absurd made
+all_calls SourceFault out name draft file load reads text c0 c2 c3 later loaded opened made = absurd made
+all_calls NotRegular out name draft file load reads text c0 c2 c3 later loaded opened made = absurd made
+all_calls (MapRefused which error) out name draft file load reads text c0 c2 c3 later loaded opened made = absurd made
+
+last_unwritten : (out name : List ℕ) (file : Option File) (load : List Call) (reads : List Reading) (c0 c2 c3 : List Entry) → IsLoad name file load → Made (image_open out true ∷ load) c0 c2 → RunUnwritten reads c2 c3 → LastUnwritten out name file reads c0 c3
+last_unwritten out name file load reads c0 c2 c3 loaded opened u =
+    let grew : Made (image_open out true ∷ load ++ writes_of u.before) c0 u.between = made_more c0 c2 u.between (image_open out true ∷ load) (writes_of u.before) opened u.made in
+    record {
+      before = u.before;
+      last = u.last;
+      split = u.split;
+      whole = u.whole;
+      load = load;
+      loaded = loaded;
+      broke = rw (← grew) u.broke;
+    }
+
+-- a run that went on to its end, or to where it stopped
+pub went_run : (e : Ending) (out name draft : List ℕ) (h : HeadingLines) (ts ts' td td' : Bool) (bytes : List ℕ) (file : Option File) (end : ℕ) (begun : List Status) (shown : ℕ) (j0 j1 j2 : List Reading) (c0 c1 c2 c3 : List Entry)
+    → Ran e name draft h ts' td' end begun shown j1 j2 c2 c3 → (IsBeforeReads e → ⊥) → ts' ≡ ts → td' ≡ td → (IsTrue ts → end ≡ length bytes) → (IsTrue ts → j1 ≡ j0)
+    → (IsTrue td → Made (image_open out true ∷ []) c0 c1) → (IsTrue td → Loaded name file c1 c2) → (IsTrue td → Stands file end begun shown) → Fits end begun shown
+    → Went e out name draft h ts td bytes file j0 j2 c0 c3
+went_run e out name draft h ts ts' td td' bytes file end begun shown j0 j1 j2 c0 c1 c2 c3 r later same_s same_d all before opened loaded stands fits =
+    let both = λ (t : IsTrue td). let l : Loaded name file c1 c2 = loaded t in made_more c0 c1 c2 (image_open out true ∷ []) l.reads (opened t) l.made in
+    record {
+      end = end;
+      all = all;
+      begun = begun;
+      shown = shown;
+      reads = r.reads;
+      run = r.run;
+      told = λ t. r.told (rw same_s t) ∙ ap (λ j. j ++ r.reads) (before t);
+      stands = λ t b. stands t;
+      fits = λ b. fits;
+      made = λ t. let l : Loaded name file c1 c2 = loaded t in
+          all_calls e out name draft file l.reads r.reads (saved_text h (cursor_after shown r.reads) (map_after begun r.reads)) c0 c2 c3 later l.load (both t) (r.made (rw same_d t));
+      none = λ x. absurd (later x);
+      spent = r.spent;
+      unwritten = λ q t. let l : Loaded name file c1 c2 = loaded t in last_unwritten out name file l.reads r.reads c0 c2 c3 l.load (both t) (r.unwritten q (rw same_d t));
+    }
+
+-- a run stops behind the opening
+pub run_later : (e : Ending) (losses losses' faults faults' : ℕ) → RunCause e losses losses' faults faults' → IsBeforeReads e → ⊥
+run_later e losses losses' faults faults' cause =
+    let P : Ending → Type 0 = λ v. IsBeforeReads v → ⊥ in
+    ⊎_elim (λ l. subst P (sym l) (λ x. x)) (λ r. ⊎_elim (λ m. subst P (sym m.0) (λ x. x)) (λ f. subst P (sym f.1) f.2) r) cause
+
+opened_apart : (d : Folder) (out name : List ℕ) → bytes_eq out name ≡ false → (file : Option File) → (opened d out true file).files name ≡ d.files name
+opened_apart d out name apart None = let e : bytes_eq name out ≡ false = bytes_eq-flip out name apart in rw e refl
+opened_apart d out name apart (Some f) = refl
+
+-- the mapfile as it reads isn't touched when another file is opened
+pub open_apart : (start start' : Folder) (out name : List ℕ) (old new : List Entry) → start' ≡ start → bytes_eq out name ≡ false → Made (image_open out true ∷ []) old new → (after start' new).files name ≡ (after start old).files name
+open_apart start start' out name old new same apart made =
+    ap (λ s. (after s new).files name) same ∙ ap (λ r. (after start r).files name) made ∙ ap (λ (d : Folder). d.files name) (after-append start old (Done (image_open out true) ∷ []))
+    ∙ opened_apart (after start old) out name apart ((after start old).files out)
+
+-- what the files allow of an answer, where the mapfile couldn't be loaded
+pub allowed_load : (e : Ending) (out name : List ℕ) (output file : Option File) (c1 c2 : List Entry) → is_other output ≡ false → LoadStop name file e c1 c2 → FilesAllow e output file
+allowed_load e out name output file c1 c2 regular (Starved reads is begins made) = let P : Ending → Type 0 = λ v. FilesAllow v output file in subst P (sym is) tt
+allowed_load e out name output file c1 c2 regular (Refused error reads is refused load made) = let P : Ending → Type 0 = λ v. FilesAllow v output file in subst P (sym is) (regular, refused)
+allowed_load e out name output file c1 c2 regular (Broken reads is begins broke) = let P : Ending → Type 0 = λ v. FilesAllow v output file in subst P (sym is) regular
+
+call_allowed : (call : SiteCall) (output file : Option File) → is_other output ≡ false → IsAccepted file → CallAllowed call output file
+call_allowed ImageOpen output file regular accepted = tt
+call_allowed ImageRead output file regular accepted = (regular, accepted)
+call_allowed ImageWrite output file regular accepted = (regular, accepted)
+call_allowed ImageSync output file regular accepted = (regular, accepted)
+call_allowed MapRead output file regular accepted = regular
+call_allowed DraftBegin output file regular accepted = (regular, accepted)
+call_allowed DraftAppend output file regular accepted = (regular, accepted)
+call_allowed DraftSync output file regular accepted = (regular, accepted)
+call_allowed DraftPublish output file regular accepted = (regular, accepted)
+call_allowed MapSettle output file regular accepted = (regular, accepted)
+call_allowed MapRemove output file regular accepted = (regular, accepted)
+
+-- what they allow of one with which a run stopped
+pub allowed_run : (e : Ending) (output file : Option File) (losses losses' faults faults' : ℕ) → is_other output ≡ false → IsAccepted file → RunCause e losses losses' faults faults' → FilesAllow e output file
+allowed_run e output file losses losses' faults faults' regular accepted cause =
+    let P : Ending → Type 0 = λ v. FilesAllow v output file in
+    ⊎_elim (λ l. subst P (sym l) tt) (λ r. ⊎_elim (λ m. subst P (sym m.0) (regular, accepted)) (λ f. subst P (sym f.1) (call_allowed f.0 output file regular accepted)) r) cause
