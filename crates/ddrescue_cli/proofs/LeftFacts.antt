@@ -16,7 +16,7 @@ use Rattle.ddrescue_cli.specs.Reads.{map_after, cursor_after, landed, write_of, 
 use Rattle.ddrescue_cli.specs.Saved.{heading, saved_text}
 use Rattle.ddrescue_cli.specs.Start.{Stands}
 use Rattle.ddrescue_cli.specs.Loading.{piece_reads, load_reads, BeginsLoad, IsLoad}
-use Rattle.ddrescue_cli.specs.Run.{is_other, save_calls, run_calls, CallsBroken, CallsStarved, AtWords, AtLoad, AtRun, CallAllowed, FilesAllow, IsBegun, LastUnwritten}
+use Rattle.ddrescue_cli.specs.Run.{is_other, save_calls, run_calls, CallsBroken, CallsStarved, AtWords, AtLoad, AtRun, CallAllowed, FilesAllow, IsAfterLoad, LastUnwritten}
 use Rattle.ddrescue_cli.specs.Rescue.{IsCalled, AreRescued}
 use Rattle.ddrescue_cli.specs.Left.{AllStand, made, OutputMade, Unpublished, LastWriteFailed, LeftAt, FilesLeft}
 use Rattle.ddrescue_cli.proofs.CallFacts.{after-append}
@@ -214,11 +214,11 @@ save_regular at name draft' text d files output map broke allowed =
     r4) r3) r2) r1) r0) broke
 
 -- the files that a save leaves
-rescued : (words : List (List ℕ)) (end : ℕ) (reads : List Reading) (begun : List Status) (shown : ℕ) (files files' : List ℕ → Option File) → Stands (files (mapfile words)) end begun shown
-    → IsSaved (outfile words) (mapfile words) (draft words) (landed (bytes_of (files (outfile words))) reads) (saved_text (heading words) (cursor_after shown reads) (map_after begun reads)) files files' → AreRescued words end reads files files'
-rescued words end reads begun shown files files' stands s = record {
+rescued : (words : List (List ℕ)) (end : ℕ) (reads : List Reading) (start_map : List Status) (shown : ℕ) (files files' : List ℕ → Option File) → Stands (files (mapfile words)) end start_map shown
+    → IsSaved (outfile words) (mapfile words) (draft words) (landed (bytes_of (files (outfile words))) reads) (saved_text (heading words) (cursor_after shown reads) (map_after start_map reads)) files files' → AreRescued words end reads files files'
+rescued words end reads start_map shown files files' stands s = record {
   output = s.output;
-  begun = begun;
+  start_map = start_map;
   shown = shown;
   stands = stands;
   saved = s.saved;
@@ -227,15 +227,15 @@ rescued words end reads begun shown files files' stands s = record {
 }
 
 -- a rescue whose run a failed call ended
-broke_left : (at : SiteCall) (words : List (List ℕ)) (end : ℕ) (load : List Call) (reads : List Reading) (begun : List Status) (shown : ℕ) (d : Folder) (files : List ℕ → Option File) → AreNamedApart words
-    → IsLoad (mapfile words) (d.files (mapfile words)) load → Stands (d.files (mapfile words)) end begun shown
+broke_left : (at : SiteCall) (words : List (List ℕ)) (end : ℕ) (load : List Call) (reads : List Reading) (start_map : List Status) (shown : ℕ) (d : Folder) (files : List ℕ → Option File) → AreNamedApart words
+    → IsLoad (mapfile words) (d.files (mapfile words)) load → Stands (d.files (mapfile words)) end start_map shown
     → CallAllowed at (d.files (outfile words)) (d.files (mapfile words)) → (at ≡ ImageWrite → LeftAt at words end reads d.files files)
-    → FilesAtBreak at (run_calls (outfile words) (mapfile words) (draft words) load reads (saved_text (heading words) (cursor_after shown reads) (map_after begun reads))) d files
+    → FilesAtBreak at (run_calls (outfile words) (mapfile words) (draft words) load reads (saved_text (heading words) (cursor_after shown reads) (map_after start_map reads))) d files
     → LeftAt at words end reads d.files files
-broke_left at words end load reads begun shown d files apart l stands allowed write broke =
+broke_left at words end load reads start_map shown d files apart l stands allowed write broke =
     let out : List ℕ = outfile words in
     let name : List ℕ = mapfile words in
-    let text : List ℕ = saved_text (heading words) (cursor_after shown reads) (map_after begun reads) in
+    let text : List ℕ = saved_text (heading words) (cursor_after shown reads) (map_after start_map reads) in
     let opening : List Call = image_open out true ∷ load in
     let bytes : List ℕ = landed (bytes_of (d.files out)) reads in
     let P : SiteCall → (List ℕ → Option File) → Type 0 = λ a f. LeftAt a words end reads d.files f in
@@ -252,35 +252,35 @@ broke_left at words end load reads begun shown d files apart l stands allowed wr
     let I : Folder → Type 0 = IsOpenImage out bytes d.files in
     save_break P at out name (draft words) bytes text d.files d2 files apart.output_map apart.output_draft (draft_apart name)
     (λ f k. let u : Unpublished words reads d.files f = unpublished words reads d.files f k in (u, u, u, u, u))
-    (λ f s. rescued words end reads begun shown d.files f stands s)
+    (λ f s. rescued words end reads start_map shown d.files f stands s)
     (subst I behind (written_folder d out name (d.files name) load reads l regular)) s)
     (break_split at (writes_of reads) (save_calls name (draft words) text) (after d (map Done opening)) files m))
     (break_split at opening (writes_of reads ++ save_calls name (draft words) text) d files broke)
 
 -- a rescue that a failed call ended
-site_left : (at : SiteCall) (words : List (List ℕ)) (end : ℕ) (reads : List Reading) (begun : List Status) (shown : ℕ) (start : Folder) (old new : List Entry) → AreNamedApart words
-    → (IsBegun (SiteFault at) reads → Stands ((after start old).files (mapfile words)) end begun shown)
+site_left : (at : SiteCall) (words : List (List ℕ)) (end : ℕ) (reads : List Reading) (start_map : List Status) (shown : ℕ) (start : Folder) (old new : List Entry) → AreNamedApart words
+    → (IsAfterLoad (SiteFault at) reads → Stands ((after start old).files (mapfile words)) end start_map shown)
     → CallAllowed at ((after start old).files (outfile words)) ((after start old).files (mapfile words)) → (at ≡ ImageWrite → LeftAt at words end reads (after start old).files (after start new).files)
-    → CallsBroken at (outfile words) (mapfile words) (draft words) ((after start old).files (mapfile words)) reads (saved_text (heading words) (cursor_after shown reads) (map_after begun reads)) old new
+    → CallsBroken at (outfile words) (mapfile words) (draft words) ((after start old).files (mapfile words)) reads (saved_text (heading words) (cursor_after shown reads) (map_after start_map reads)) old new
     → LeftAt at words end reads (after start old).files (after start new).files
-site_left ImageOpen words end reads begun shown start old new apart stands allowed write broke =
+site_left ImageOpen words end reads start_map shown start old new apart stands allowed write broke =
     let b = broke_files start ImageOpen (image_open (outfile words) true ∷ []) old new broke in
     ⊎_elim (λ l. record { each = λ n. ap (λ f. f n) l.1 }) (λ n. absurd n) b
-site_left MapRead words end reads begun shown start old new apart stands allowed write broke =
+site_left MapRead words end reads start_map shown start old new apart stands allowed write broke =
     let load : List Call = broke.0 in
     let begins : BeginsLoad (mapfile words) ((after start old).files (mapfile words)) load = broke.1 in
     let b = broke_files start MapRead (image_open (outfile words) true ∷ load) old new broke.2 in
     let O : List Call → Type 0 = λ c. FilesAtBreak MapRead (image_open (outfile words) true ∷ c) (after start old) (after start new).files in
     opening_left MapRead words end reads begins.given (after start old) (after start new).files (subst O begins.calls_are b)
-site_left ImageRead words end reads begun shown start old new apart stands allowed write broke = broke_left ImageRead words end broke.0 reads begun shown (after start old) (after start new).files apart broke.1 (stands (λ x. x)) allowed write (broke_files start ImageRead (run_calls (outfile words) (mapfile words) (draft words) broke.0 reads (saved_text (heading words) (cursor_after shown reads) (map_after begun reads))) old new broke.2)
-site_left ImageWrite words end reads begun shown start old new apart stands allowed write broke = broke_left ImageWrite words end broke.0 reads begun shown (after start old) (after start new).files apart broke.1 (stands (λ x. x)) allowed write (broke_files start ImageWrite (run_calls (outfile words) (mapfile words) (draft words) broke.0 reads (saved_text (heading words) (cursor_after shown reads) (map_after begun reads))) old new broke.2)
-site_left ImageSync words end reads begun shown start old new apart stands allowed write broke = broke_left ImageSync words end broke.0 reads begun shown (after start old) (after start new).files apart broke.1 (stands (λ x. x)) allowed write (broke_files start ImageSync (run_calls (outfile words) (mapfile words) (draft words) broke.0 reads (saved_text (heading words) (cursor_after shown reads) (map_after begun reads))) old new broke.2)
-site_left DraftBegin words end reads begun shown start old new apart stands allowed write broke = broke_left DraftBegin words end broke.0 reads begun shown (after start old) (after start new).files apart broke.1 (stands (λ x. x)) allowed write (broke_files start DraftBegin (run_calls (outfile words) (mapfile words) (draft words) broke.0 reads (saved_text (heading words) (cursor_after shown reads) (map_after begun reads))) old new broke.2)
-site_left DraftAppend words end reads begun shown start old new apart stands allowed write broke = broke_left DraftAppend words end broke.0 reads begun shown (after start old) (after start new).files apart broke.1 (stands (λ x. x)) allowed write (broke_files start DraftAppend (run_calls (outfile words) (mapfile words) (draft words) broke.0 reads (saved_text (heading words) (cursor_after shown reads) (map_after begun reads))) old new broke.2)
-site_left DraftSync words end reads begun shown start old new apart stands allowed write broke = broke_left DraftSync words end broke.0 reads begun shown (after start old) (after start new).files apart broke.1 (stands (λ x. x)) allowed write (broke_files start DraftSync (run_calls (outfile words) (mapfile words) (draft words) broke.0 reads (saved_text (heading words) (cursor_after shown reads) (map_after begun reads))) old new broke.2)
-site_left DraftPublish words end reads begun shown start old new apart stands allowed write broke = broke_left DraftPublish words end broke.0 reads begun shown (after start old) (after start new).files apart broke.1 (stands (λ x. x)) allowed write (broke_files start DraftPublish (run_calls (outfile words) (mapfile words) (draft words) broke.0 reads (saved_text (heading words) (cursor_after shown reads) (map_after begun reads))) old new broke.2)
-site_left MapSettle words end reads begun shown start old new apart stands allowed write broke = broke_left MapSettle words end broke.0 reads begun shown (after start old) (after start new).files apart broke.1 (stands (λ x. x)) allowed write (broke_files start MapSettle (run_calls (outfile words) (mapfile words) (draft words) broke.0 reads (saved_text (heading words) (cursor_after shown reads) (map_after begun reads))) old new broke.2)
-site_left MapRemove words end reads begun shown start old new apart stands allowed write broke = broke_left MapRemove words end broke.0 reads begun shown (after start old) (after start new).files apart broke.1 (stands (λ x. x)) allowed write (broke_files start MapRemove (run_calls (outfile words) (mapfile words) (draft words) broke.0 reads (saved_text (heading words) (cursor_after shown reads) (map_after begun reads))) old new broke.2)
+site_left ImageRead words end reads start_map shown start old new apart stands allowed write broke = broke_left ImageRead words end broke.0 reads start_map shown (after start old) (after start new).files apart broke.1 (stands (λ x. x)) allowed write (broke_files start ImageRead (run_calls (outfile words) (mapfile words) (draft words) broke.0 reads (saved_text (heading words) (cursor_after shown reads) (map_after start_map reads))) old new broke.2)
+site_left ImageWrite words end reads start_map shown start old new apart stands allowed write broke = broke_left ImageWrite words end broke.0 reads start_map shown (after start old) (after start new).files apart broke.1 (stands (λ x. x)) allowed write (broke_files start ImageWrite (run_calls (outfile words) (mapfile words) (draft words) broke.0 reads (saved_text (heading words) (cursor_after shown reads) (map_after start_map reads))) old new broke.2)
+site_left ImageSync words end reads start_map shown start old new apart stands allowed write broke = broke_left ImageSync words end broke.0 reads start_map shown (after start old) (after start new).files apart broke.1 (stands (λ x. x)) allowed write (broke_files start ImageSync (run_calls (outfile words) (mapfile words) (draft words) broke.0 reads (saved_text (heading words) (cursor_after shown reads) (map_after start_map reads))) old new broke.2)
+site_left DraftBegin words end reads start_map shown start old new apart stands allowed write broke = broke_left DraftBegin words end broke.0 reads start_map shown (after start old) (after start new).files apart broke.1 (stands (λ x. x)) allowed write (broke_files start DraftBegin (run_calls (outfile words) (mapfile words) (draft words) broke.0 reads (saved_text (heading words) (cursor_after shown reads) (map_after start_map reads))) old new broke.2)
+site_left DraftAppend words end reads start_map shown start old new apart stands allowed write broke = broke_left DraftAppend words end broke.0 reads start_map shown (after start old) (after start new).files apart broke.1 (stands (λ x. x)) allowed write (broke_files start DraftAppend (run_calls (outfile words) (mapfile words) (draft words) broke.0 reads (saved_text (heading words) (cursor_after shown reads) (map_after start_map reads))) old new broke.2)
+site_left DraftSync words end reads start_map shown start old new apart stands allowed write broke = broke_left DraftSync words end broke.0 reads start_map shown (after start old) (after start new).files apart broke.1 (stands (λ x. x)) allowed write (broke_files start DraftSync (run_calls (outfile words) (mapfile words) (draft words) broke.0 reads (saved_text (heading words) (cursor_after shown reads) (map_after start_map reads))) old new broke.2)
+site_left DraftPublish words end reads start_map shown start old new apart stands allowed write broke = broke_left DraftPublish words end broke.0 reads start_map shown (after start old) (after start new).files apart broke.1 (stands (λ x. x)) allowed write (broke_files start DraftPublish (run_calls (outfile words) (mapfile words) (draft words) broke.0 reads (saved_text (heading words) (cursor_after shown reads) (map_after start_map reads))) old new broke.2)
+site_left MapSettle words end reads start_map shown start old new apart stands allowed write broke = broke_left MapSettle words end broke.0 reads start_map shown (after start old) (after start new).files apart broke.1 (stands (λ x. x)) allowed write (broke_files start MapSettle (run_calls (outfile words) (mapfile words) (draft words) broke.0 reads (saved_text (heading words) (cursor_after shown reads) (map_after start_map reads))) old new broke.2)
+site_left MapRemove words end reads start_map shown start old new apart stands allowed write broke = broke_left MapRemove words end broke.0 reads start_map shown (after start old) (after start new).files apart broke.1 (stands (λ x. x)) allowed write (broke_files start MapRemove (run_calls (outfile words) (mapfile words) (draft words) broke.0 reads (saved_text (heading words) (cursor_after shown reads) (map_after start_map reads))) old new broke.2)
 
 none_left : (start : Folder) (old new : List Entry) → Made [] old new → AllStand (after start old).files (after start new).files
 none_left start old new grew = record { each = λ n. ap (λ (d : Folder). d.files n) (after_made start [] old new grew) }
@@ -328,8 +328,8 @@ left_of : (e : Ending) (words : List (List ℕ)) (end : ℕ) (reads : List Readi
     → FilesLeft e words end reads (after start old).files (after start new).files
 left_of Finished words end reads start old new apart allowed memory called write =
     let file : Option File = (after start old).files (mapfile words) in
-    rescued words end reads called.begun called.shown (after start old).files (after start new).files (called.stands (λ x. x))
-    (run_files start old new (outfile words) (mapfile words) (draft words) (saved_text (heading words) (cursor_after called.shown reads) (map_after called.begun reads)) file called.made.0 reads
+    rescued words end reads called.start_map called.shown (after start old).files (after start new).files (called.stands (λ x. x))
+    (run_files start old new (outfile words) (mapfile words) (draft words) (saved_text (heading words) (cursor_after called.shown reads) (map_after called.start_map reads)) file called.made.0 reads
     apart.output_map apart.output_draft (draft_apart (mapfile words)) called.made.1 allowed.0 called.made.2)
 left_of (WrongNumber given) words end reads start old new apart allowed memory called write = none_left start old new called.made
 left_of (WrongWord word) words end reads start old new apart allowed memory called write = none_left start old new called.made
@@ -344,7 +344,7 @@ left_of (SiteFault call) words end reads start old new apart allowed memory call
     let Q : SiteCall → Type 0 = λ a. CallAllowed a ((after start old).files (outfile words)) file in
     let P : SiteCall → Type 0 = λ a. LeftAt a words end reads (after start old).files (after start new).files in
     let failed : call ≡ ImageWrite → P call = λ is. subst P (sym is) (unwritten words file reads start old new apart (subst Q is allowed).0 (write (ap (λ c. SiteFault c) is))) in
-    site_left call words end reads called.begun called.shown start old new apart called.stands allowed failed called.made
+    site_left call words end reads called.start_map called.shown start old new apart called.stands allowed failed called.made
 
 -- what each answer leaves of the files
 pub files_left : (e : Ending) (words : List (List ℕ)) (end : ℕ) (reads : List Reading) (start start' : Folder) (old new : List Entry) → AreNamedApart words → start' ≡ start

@@ -18,18 +18,18 @@ use Rattle.ddrescue_cli.specs.Start.{Stands, IsRefused, IsAccepted}
 use Rattle.ddrescue_cli.specs.Loading.{BeginsLoad, IsLoad}
 use Rattle.ddrescue_cli.specs.Opening.{OutputCause, OutputStop, LoadCause, LoadStop, Starved, Refused, Broken, Loaded}
 use Rattle.ddrescue_cli.specs.Saved.{saved_text}
-use Rattle.ddrescue_cli.specs.Run.{is_other, save_calls, run_calls, CallsOf, CallsBroken, AtLoad, AtRun, IsOpening, IsBeforeReads, IsAfterReads, IsBegun, FilesAllow, CallAllowed, Fits, RunCause, RunCalls, RunUnwritten, LastUnwritten, Ran, Went}
+use Rattle.ddrescue_cli.specs.Run.{is_other, save_calls, run_calls, CallsOf, CallsBroken, AtLoad, AtRun, IsOpening, IsBeforeReads, IsAfterReads, IsAfterLoad, FilesAllow, CallAllowed, Fits, RunCause, RunCalls, RunUnwritten, LastUnwritten, Ran, Went}
 use Rattle.ddrescue_cli.proofs.CallFacts.{made_more, broke_front, broke_back, after-append}
 use Rattle.ddrescue_cli.proofs.FolderFacts.{bytes_eq-flip}
 
 -- a rescue that stopped before its first read
 pub went_early : (e : Ending) (out name draft : List ℕ) (h : HeadingLines) (ts td : Bool) (bytes : List ℕ) (file : Option File) (end : ℕ) (j0 j1 : List Reading) (c0 c1 : List Entry)
     → (IsTrue ts → end ≡ length bytes) → (IsTrue ts → j1 ≡ j0) → (IsTrue td → (text : List ℕ) → CallsOf e out name draft file [] text c0 c1)
-    → (IsBegun e [] → ⊥) → (IsAfterReads e → ⊥) → (e ≡ SiteFault ImageWrite → ⊥) → Went e out name draft h ts td bytes file j0 j1 c0 c1
+    → (IsAfterLoad e [] → ⊥) → (IsAfterReads e → ⊥) → (e ≡ SiteFault ImageWrite → ⊥) → Went e out name draft h ts td bytes file j0 j1 c0 c1
 went_early e out name draft h ts td bytes file end j0 j1 c0 c1 all before made early late other = record {
   end = end;
   all = all;
-  begun = [];
+  start_map = [];
   shown = 0;
   reads = [];
   run = tt;
@@ -56,7 +56,7 @@ output_calls e out name draft file output text c0 c1 stop =
 pub went_output : (e : Ending) (out name draft : List ℕ) (h : HeadingLines) (ts td : Bool) (bytes : List ℕ) (file output : Option File) (end faults faults' : ℕ) (j0 j1 : List Reading) (c0 c1 : List Entry)
     → (IsTrue ts → end ≡ length bytes) → (IsTrue ts → j1 ≡ j0) → (IsTrue td → OutputStop e out output c0 c1) → OutputCause e faults faults' → Went e out name draft h ts td bytes file j0 j1 c0 c1
 went_output e out name draft h ts td bytes file output end faults faults' j0 j1 c0 c1 all before stop cause =
-    let Early : Ending → Type 0 = λ v. (IsBegun v [] → ⊥) × (IsAfterReads v → ⊥) × (v ≡ SiteFault ImageWrite → ⊥) in
+    let Early : Ending → Type 0 = λ v. (IsAfterLoad v [] → ⊥) × (IsAfterReads v → ⊥) × (v ≡ SiteFault ImageWrite → ⊥) in
     let early : Early e = ⊎_elim (λ l. subst Early (sym l) (λ b. b tt, λ a. a, λ q. cc)) (λ r. subst Early (sym r.0) (λ b. b tt, λ a. a, λ q. cc)) cause in
     went_early e out name draft h ts td bytes file end j0 j1 c0 c1 all before (λ t text. output_calls e out name draft file output text c0 c1 (stop t)) early.0 early.1 early.2
 
@@ -76,7 +76,7 @@ pub went_load : (e : Ending) (out name draft : List ℕ) (h : HeadingLines) (ts 
     → (IsTrue ts → end ≡ length bytes) → (IsTrue ts → j1 ≡ j0) → (IsTrue td → Made (image_open out true ∷ []) c0 c1) → (IsTrue td → LoadStop name file e c1 c2) → LoadCause e faults faults'
     → Went e out name draft h ts td bytes file j0 j1 c0 c2
 went_load e out name draft h ts td bytes file end faults faults' j0 j1 c0 c1 c2 all before opened stop cause =
-    let Early : Ending → Type 0 = λ v. (IsBegun v [] → ⊥) × (IsAfterReads v → ⊥) × (v ≡ SiteFault ImageWrite → ⊥) in
+    let Early : Ending → Type 0 = λ v. (IsAfterLoad v [] → ⊥) × (IsAfterReads v → ⊥) × (v ≡ SiteFault ImageWrite → ⊥) in
     let early : Early e = ⊎_elim (λ l. subst Early (sym l) (λ b. b refl, λ a. a, λ q. cc))
         (λ r. ⊎_elim (λ m. subst Early (sym m.1) (λ b. b tt, λ a. a, λ q. cc)) (λ f. subst Early (sym f.0) (λ b. b tt, λ a. a, λ q. cc)) r) cause in
     went_early e out name draft h ts td bytes file end j0 j1 c0 c2 all before (λ t text. load_calls e out name draft file text c0 c1 c2 (opened t) (stop t)) early.0 early.1 early.2
@@ -123,16 +123,16 @@ last_unwritten out name file load reads c0 c2 c3 loaded opened u =
     }
 
 -- a run that went on to its end, or to where it stopped
-pub went_run : (e : Ending) (out name draft : List ℕ) (h : HeadingLines) (ts ts' td td' : Bool) (bytes : List ℕ) (file : Option File) (end : ℕ) (begun : List Status) (shown : ℕ) (j0 j1 j2 : List Reading) (c0 c1 c2 c3 : List Entry)
-    → Ran e name draft h ts' td' end begun shown j1 j2 c2 c3 → (IsBeforeReads e → ⊥) → ts' ≡ ts → td' ≡ td → (IsTrue ts → end ≡ length bytes) → (IsTrue ts → j1 ≡ j0)
-    → (IsTrue td → Made (image_open out true ∷ []) c0 c1) → (IsTrue td → Loaded name file c1 c2) → (IsTrue td → Stands file end begun shown) → Fits end begun shown
+pub went_run : (e : Ending) (out name draft : List ℕ) (h : HeadingLines) (ts ts' td td' : Bool) (bytes : List ℕ) (file : Option File) (end : ℕ) (start_map : List Status) (shown : ℕ) (j0 j1 j2 : List Reading) (c0 c1 c2 c3 : List Entry)
+    → Ran e name draft h ts' td' end start_map shown j1 j2 c2 c3 → (IsBeforeReads e → ⊥) → ts' ≡ ts → td' ≡ td → (IsTrue ts → end ≡ length bytes) → (IsTrue ts → j1 ≡ j0)
+    → (IsTrue td → Made (image_open out true ∷ []) c0 c1) → (IsTrue td → Loaded name file c1 c2) → (IsTrue td → Stands file end start_map shown) → Fits end start_map shown
     → Went e out name draft h ts td bytes file j0 j2 c0 c3
-went_run e out name draft h ts ts' td td' bytes file end begun shown j0 j1 j2 c0 c1 c2 c3 r later same_s same_d all before opened loaded stands fits =
+went_run e out name draft h ts ts' td td' bytes file end start_map shown j0 j1 j2 c0 c1 c2 c3 r later same_s same_d all before opened loaded stands fits =
     let both = λ (t : IsTrue td). let l : Loaded name file c1 c2 = loaded t in made_more c0 c1 c2 (image_open out true ∷ []) l.reads (opened t) l.made in
     record {
       end = end;
       all = all;
-      begun = begun;
+      start_map = start_map;
       shown = shown;
       reads = r.reads;
       run = r.run;
@@ -140,7 +140,7 @@ went_run e out name draft h ts ts' td td' bytes file end begun shown j0 j1 j2 c0
       stands = λ t b. stands t;
       fits = λ b. fits;
       made = λ t. let l : Loaded name file c1 c2 = loaded t in
-          all_calls e out name draft file l.reads r.reads (saved_text h (cursor_after shown r.reads) (map_after begun r.reads)) c0 c2 c3 later l.load (both t) (r.made (rw same_d t));
+          all_calls e out name draft file l.reads r.reads (saved_text h (cursor_after shown r.reads) (map_after start_map r.reads)) c0 c2 c3 later l.load (both t) (r.made (rw same_d t));
       none = λ x. absurd (later x);
       spent = r.spent;
       unwritten = λ q t. let l : Loaded name file c1 c2 = loaded t in last_unwritten out name file l.reads r.reads c0 c2 c3 l.load (both t) (r.unwritten q (rw same_d t));

@@ -1,15 +1,16 @@
-use Rattle.std.specs.Prelude.{◌≡◌, ◌↔◌, ◌⊎◌, ℕ, ◌+◌, ◌<◌, ◌≤◌, Bool, true, List, [], ◌∷◌, length, slice_get, Option, Some}
+use Rattle.std.specs.Prelude.{◌≡◌, ◌↔◌, ℕ, ◌+◌, ◌-◌, ◌*◌, ◌/◌, ◌<◌, ◌≤◌, min, Bool, true, List, length, replicate, slice_get, Option, Some}
 use Rattle.block_list.specs.declared.status.Status.{Status}
 use Rattle.block_list.specs.declared.status.Status.TheVariants.{NonTried, Finished}
 use Rattle.block_list.specs.Map.{Has}
-use Rattle.faulty_source.specs.Journal.{Reading}
+use Rattle.block_list.specs.Places.{IsRunUp}
+use Rattle.faulty_source.specs.Journal.{Reading, floor}
 use Rattle.mapfile_text.specs.declared.read.MapError.{MapError}
-use Rattle.crash_site.specs.Files.{File}
+use Rattle.crash_site.specs.Files.{File, bytes_of}
 use Rattle.ddrescue_cli.specs.declared.ending.Ending.{Ending}
 use Rattle.ddrescue_cli.specs.Held.{Held}
-use Rattle.ddrescue_cli.specs.Requests.{IsWanted, IsSpent}
+use Rattle.ddrescue_cli.specs.Requests.{inside, IsWanted, IsSpent}
 use Rattle.ddrescue_cli.specs.Reads.{status_of, map_after, cursor_after, IsRun}
-use Rattle.ddrescue_cli.specs.Start.{Stands, IsRefused, IsAccepted}
+use Rattle.ddrescue_cli.specs.Start.{Stands, IsRefused, IsAccepted, text_limit}
 use Rattle.ddrescue_cli.specs.Rescue.{IsVerdict}
 
 -- every old place that no position of the domain has stands
@@ -26,29 +27,52 @@ pub record Asks (r : Reading) (x : ℕ) : Type 0 where
   pub from : r.pos ≤ x
   pub to : x < r.pos + r.asked
 
--- What a run over a map does, from the start on: it asks for non-tried positions of the domain alone, for none twice,
--- and for all of them where no request is left. Each becomes what its read makes of it, and every other stands.
+-- What a run over a map does, from the start on: it asks for non-tried positions of the domain alone, in ascending
+-- order, and for all of them where no request is left. Each becomes what its read makes of it, and every other stands.
 pub record RunsOver (domain : ℕ → Bool) (map : List Status) (reads : List Reading) : Type 0 where
   pub wanted : (i x : ℕ) (r : Reading) → slice_get reads i ≡ Some r → Asks r x → IsWanted domain map x
   pub once : (i j x : ℕ) (r q : Reading) → slice_get reads i ≡ Some r → slice_get reads j ≡ Some q → Asks r x → Asks q x → i ≡ j
+  pub ascends : (i j : ℕ) (r q : Reading) → slice_get reads i ≡ Some r → slice_get reads j ≡ Some q → i < j → r.pos + r.asked ≤ q.pos
+  -- a read goes up to the end of the wanted positions, or of the sector
+  pub cut : (i : ℕ) (r : Reading) → slice_get reads i ≡ Some r → (e : ℕ) × IsRunUp (IsWanted domain map) r.pos e × (r.pos + r.asked ≡ min e (floor 512 (r.pos + 512)))
   pub all : IsSpent domain (map_after map reads) (cursor_after 0 reads) → (x : ℕ) → IsWanted domain map x → (i : ℕ) × (r : Reading) × (slice_get reads i ≡ Some r) × Asks r x
+  pub none_left : IsSpent domain (map_after map reads) (cursor_after 0 reads) → (x : ℕ) → IsWanted domain (map_after map reads) x → ⊥
   pub marks : (i x : ℕ) (r : Reading) → slice_get reads i ≡ Some r → Asks r x → Has (map_after map reads) (status_of r) x
   pub stands : (x : ℕ) → ((i : ℕ) (r : Reading) → slice_get reads i ≡ Some r → Asks r x → ⊥) → slice_get (map_after map reads) x ≡ slice_get map x
 
 abbrev pub RunAsksOnce : Type 0
 RunAsksOnce = (domain : ℕ → Bool) (map : List Status) (reads : List Reading) → IsRun domain map 0 reads → RunsOver domain map reads
 
--- a mapfile that isn't refused stands for one map and one position
+-- a read of sector k of an input with this length: at its own position, and up to the next one or the end
+pub record IsSectorRead (end k : ℕ) (r : Reading) : Type 0 where
+  pub pos : r.pos ≡ k * 512
+  pub asked : r.asked ≡ min 512 (end - k * 512)
+
+-- a whole run over an input that wasn't tried is one read for each sector, in order; the last one may be shorter
+pub record ReadsSectors (end : ℕ) (reads : List Reading) : Type 0 where
+  pub count : length reads ≡ (end + 511) / 512
+  pub each : (k : ℕ) (r : Reading) → slice_get reads k ≡ Some r → IsSectorRead end k r
+
+abbrev pub FreshRunReadsSectors : Type 0
+FreshRunReadsSectors = (end : ℕ) (reads : List Reading) → IsRun (inside end) (replicate end NonTried) 0 reads
+    → IsSpent (inside end) (map_after (replicate end NonTried) reads) (cursor_after 0 reads) → ReadsSectors end reads
+
+-- a mapfile stands for one map and one position at most
 abbrev pub StandsForOne : Type 0
 StandsForOne = (mapfile : Option File) (end : ℕ) (map map' : List Status) (shown shown' : ℕ) → Stands mapfile end map shown → Stands mapfile end map' shown' → (map ≡ map') × (shown ≡ shown')
 
+-- a mapfile that isn't refused stands for a map
 abbrev pub AcceptedStands : Type 0
 AcceptedStands = (mapfile : Option File) (end : ℕ) → IsAccepted mapfile → (map : List Status) × (shown : ℕ) × Stands mapfile end map shown
 
--- a mapfile is refused for one error
+-- a mapfile within the limit that stands for a map isn't refused
+abbrev pub StandsAccepted : Type 0
+StandsAccepted = (mapfile : Option File) (end : ℕ) (map : List Status) (shown : ℕ) → length (bytes_of mapfile) ≤ text_limit → Stands mapfile end map shown → IsAccepted mapfile
+
+-- a mapfile is refused for one error at most
 abbrev pub RefusedForOne : Type 0
 RefusedForOne = (mapfile : Option File) (e e' : MapError) → IsRefused mapfile e → IsRefused mapfile e' → e ≡ e'
 
--- words and files have one verdict
+-- words and files have one verdict at most
 abbrev pub HasOneVerdict : Type 0
 HasOneVerdict = (words : List (List ℕ)) (files : List ℕ → Option File) (v v' : Ending) → IsVerdict words files v → IsVerdict words files v' → v ≡ v'

@@ -58,3 +58,9 @@ FilesLeft SourceLost words end reads files files' = Unpublished words reads file
 FilesLeft (SiteFault call) words end reads files files' = LeftAt call words end reads files files'
 FilesLeft NoMemory words end reads files files' = AllStand files files' ⊎ Unpublished words reads files files'
 FilesLeft e words end reads files files' = AllStand files files'
+
+-- What an answer that comes before the first read leaves of them, of whatever input.
+abbrev pub LeftBefore : Ending → List (List ℕ) → (files files' : List ℕ → Option File) → Type 0
+LeftBefore (MapRefused which error) words files files' = OutputMade words files files'
+LeftBefore (SiteFault MapRead) words files files' = OutputMade words files files'
+LeftBefore e words files files' = AllStand files files'

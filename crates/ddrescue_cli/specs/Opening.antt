@@ -7,13 +7,13 @@ use Rattle.crash_site.specs.Calls.{Call, Entry, Made, BrokeAt, image_open}
 use Rattle.ddrescue_cli.specs.declared.ending.Ending.{Ending}
 use Rattle.ddrescue_cli.specs.declared.ending.Ending.TheVariants.{NotRegular, MapRefused, SiteFault, NoMemory}
 use Rattle.ddrescue_cli.specs.declared.ending.Which.TheVariants.{RunMap}
-use Rattle.ddrescue_cli.specs.Start.{text_limit, TextRefused, IsRefused, IsSaid}
+use Rattle.ddrescue_cli.specs.Start.{text_limit, TextRefused, IsRefused, IsNamed}
 use Rattle.ddrescue_cli.specs.Loading.{BeginsLoad, IsLoad}
 use Rattle.ddrescue_cli.specs.Run.{is_other}
 
 -- why the outfile was refused
 abbrev pub OutputCause : Ending → (faults faults' : ℕ) → Type 0
-OutputCause e faults faults' = (e ≡ NotRegular) ⊎ ((e ≡ SiteFault ImageOpen) × Rose faults faults')
+OutputCause e faults faults' = ((e ≡ NotRegular) × (faults' ≡ faults)) ⊎ ((e ≡ SiteFault ImageOpen) × Rose faults faults')
 
 -- the same with what is known of the file, and the calls made: no regular file stands there, or the open failed
 abbrev pub OutputStop : Ending → List ℕ → Option File → List Entry → List Entry → Type 0
@@ -24,7 +24,7 @@ OutputStop e out file calls calls' =
 -- why a mapfile couldn't be loaded
 abbrev pub LoadCause : Ending → (faults faults' : ℕ) → Type 0
 LoadCause e faults faults' =
-    (e ≡ NoMemory) ⊎ ((error : MapError) × (e ≡ MapRefused RunMap error) × IsSaid error)
+    (e ≡ NoMemory) ⊎ ((error : MapError) × (e ≡ MapRefused RunMap error) × IsNamed error × (faults' ≡ faults))
     ⊎ ((e ≡ SiteFault MapRead) × Rose faults faults')
 
 -- the same with what is known of the file, and the calls made
@@ -48,4 +48,4 @@ pub record IsTextOf (file : Option File) (text : List ℕ) : Type 0 where
 
 -- why a text gave no map to begin with
 abbrev pub TextStop : List ℕ → Ending → Type 0
-TextStop text e = (e ≡ NoMemory) ⊎ ((error : MapError) × (e ≡ MapRefused RunMap error) × IsSaid error × TextRefused text error)
+TextStop text e = (e ≡ NoMemory) ⊎ ((error : MapError) × (e ≡ MapRefused RunMap error) × IsNamed error × TextRefused text error)

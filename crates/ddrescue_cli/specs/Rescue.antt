@@ -2,36 +2,37 @@ use Rattle.std.specs.Prelude.{◌≡◌, ◌≢◌, ◌⊎◌, ⊤, ℕ, Bool, t
 use Rattle.block_list.specs.declared.status.Status.{Status}
 use Rattle.fault_count.specs.Counts.{Rose}
 use Rattle.faulty_source.specs.Journal.{Reading}
-use Rattle.mapfile_text.specs.declared.read.MapError.{MapError}
 use Rattle.crash_site.specs.Files.{File, bytes_of}
 use Rattle.crash_site.specs.Calls.{Entry}
+use Rattle.ddrescue_cli.specs.declared.ending.Which.TheVariants.{RunMap}
 use Rattle.ddrescue_cli.specs.declared.ending.Ending.{Ending}
 use Rattle.ddrescue_cli.specs.declared.ending.Ending.TheVariants.{Done, SourceFault, NotRegular, MapRefused, SourceLost, SiteFault, NoMemory}
 use Rattle.ddrescue_cli.specs.Operands.{outfile, mapfile, draft, refusal_of_words}
 use Rattle.ddrescue_cli.specs.Requests.{inside, IsSpent}
 use Rattle.ddrescue_cli.specs.Reads.{map_after, cursor_after, IsRun, landed, gained}
-use Rattle.ddrescue_cli.specs.Start.{Stands, IsRefused, IsSaid}
+use Rattle.ddrescue_cli.specs.Start.{Stands, IsRefused, IsNamed}
 use Rattle.ddrescue_cli.specs.Saved.{heading, saved_text}
 use Rattle.ddrescue_cli.specs.Held.{Held}
-use Rattle.ddrescue_cli.specs.Run.{is_other, CallsOf, IsBeforeReads, IsAfterReads, IsBegun}
+use Rattle.ddrescue_cli.specs.Run.{is_other, CallsOf, IsBeforeReads, IsAfterReads, IsAfterLoad, Fits, NoneRose}
 
 -- Each answer has its cause. The words' own refusal is given exactly where the words bring it, but for want of
--- memory; a fault or a loss only where the count of the object rose. The counts stand before and after the call:
+-- memory; a fault or a loss only where the count of the object rose, and no other answer but want of memory hides one.
+-- The counts stand before and after the call:
 -- the source's faults, its losses, and the site's faults.
 abbrev pub Caused : Ending → (of_words : Option Ending) → (faults faults' losses losses' site_faults site_faults' : ℕ) → Type 0
-Caused Done of_words faults faults' losses losses' site_faults site_faults' = of_words ≡ None
+Caused Done of_words faults faults' losses losses' site_faults site_faults' = (of_words ≡ None) × NoneRose faults faults' losses losses' site_faults site_faults'
 Caused NoMemory of_words faults faults' losses losses' site_faults site_faults' = ⊤
 Caused SourceFault of_words faults faults' losses losses' site_faults site_faults' = (of_words ≡ None) × Rose faults faults'
 Caused SourceLost of_words faults faults' losses losses' site_faults site_faults' = (of_words ≡ None) × Rose losses losses'
 Caused (SiteFault call) of_words faults faults' losses losses' site_faults site_faults' = (of_words ≡ None) × Rose site_faults site_faults'
-Caused NotRegular of_words faults faults' losses losses' site_faults site_faults' = of_words ≡ None
-Caused (MapRefused which error) of_words faults faults' losses losses' site_faults site_faults' = (of_words ≡ None) × IsSaid error
+Caused NotRegular of_words faults faults' losses losses' site_faults site_faults' = (of_words ≡ None) × NoneRose faults faults' losses losses' site_faults site_faults'
+Caused (MapRefused which error) of_words faults faults' losses losses' site_faults site_faults' = (of_words ≡ None) × IsNamed error × NoneRose faults faults' losses losses' site_faults site_faults'
 Caused e of_words faults faults' losses losses' site_faults site_faults' = of_words ≡ Some e
 
 -- a refusal that the files bring: an outfile that is no regular file, or else a mapfile that is refused
 abbrev pub FilesRefuse : (output map : Option File) → Ending → Type 0
 FilesRefuse output map NotRegular = is_other output ≡ true
-FilesRefuse output map (MapRefused which error) = (is_other output ≡ false) × IsRefused map error
+FilesRefuse output map (MapRefused which error) = (which ≡ RunMap) × (is_other output ≡ false) × IsRefused map error
 FilesRefuse output map e = ⊥
 
 abbrev pub VerdictOf : (of_words : Option Ending) → (output map : Option File) → Ending → Type 0
@@ -43,30 +44,38 @@ VerdictOf None output map v = FilesRefuse output map v
 pub record IsVerdict (words : List (List ℕ)) (files : List ℕ → Option File) (v : Ending) : Type 0 where
   pub first : VerdictOf (refusal_of_words words) (files (outfile words)) (files (mapfile words)) v
 
--- The answer is the verdict, but for want of memory and for what a count that rose explains.
-pub record IsAnswer (answer : Ending) (words : List (List ℕ)) (files : List ℕ → Option File) (faults faults' losses losses' site_faults site_faults' : ℕ) : Type 0 where
+-- an answer that says that an object failed
+abbrev pub IsFault : Ending → Type 0
+IsFault SourceFault = ⊤
+IsFault SourceLost = ⊤
+IsFault (SiteFault call) = ⊤
+IsFault e = ⊥
+
+-- the answer is the verdict, but for want of memory and for an object that failed
+pub record IsAnswer (answer : Ending) (words : List (List ℕ)) (files : List ℕ → Option File) : Type 0 where
   pub verdict : Ending
   pub is : IsVerdict words files verdict
-  pub given : (answer ≡ verdict) ⊎ (answer ≡ NoMemory) ⊎ Rose faults faults' ⊎ Rose losses losses' ⊎ Rose site_faults site_faults'
+  pub given : (answer ≡ verdict) ⊎ (answer ≡ NoMemory) ⊎ IsFault answer
 
--- The reads that a rescue of an input with this length added to the journal: a run over the map that it began with,
--- which is the one that the mapfile stands for; none where the answer comes before them, and all where it comes
--- after them.
+-- The reads that a rescue of an input with this length added to the journal: a run over the start map, which is the one
+-- that the mapfile stands for. There is no read where the answer comes before the first, and none is left where it comes
+-- after the last.
 pub record IsReadInOrder (answer : Ending) (end : ℕ) (site_tells : Bool) (file : Option File) (journal journal' : List Reading) : Type 0 where
   pub added : journal' ≡ journal ++ gained journal journal'
-  pub begun : List Status
+  pub start_map : List Status
   pub shown : ℕ
-  pub stands : IsTrue site_tells → IsBegun answer (gained journal journal') → Stands file end begun shown
-  pub run : IsRun (inside end) begun 0 (gained journal journal')
+  pub stands : IsTrue site_tells → IsAfterLoad answer (gained journal journal') → Stands file end start_map shown
+  pub fits : IsAfterLoad answer (gained journal journal') → Fits end start_map shown
+  pub run : IsRun (inside end) start_map 0 (gained journal journal')
   pub none : IsBeforeReads answer → gained journal journal' ≡ []
-  pub all : IsAfterReads answer → IsSpent (inside end) (map_after begun (gained journal journal')) (cursor_after 0 (gained journal journal'))
+  pub all : IsAfterReads answer → IsSpent (inside end) (map_after start_map (gained journal journal')) (cursor_after 0 (gained journal journal'))
 
 -- the calls that it made
 pub record IsCalled (answer : Ending) (words : List (List ℕ)) (end : ℕ) (file : Option File) (reads : List Reading) (calls calls' : List Entry) : Type 0 where
-  pub begun : List Status
+  pub start_map : List Status
   pub shown : ℕ
-  pub stands : IsBegun answer reads → Stands file end begun shown
-  pub made : CallsOf answer (outfile words) (mapfile words) (draft words) file reads (saved_text (heading words) (cursor_after shown reads) (map_after begun reads)) calls calls'
+  pub stands : IsAfterLoad answer reads → Stands file end start_map shown
+  pub made : CallsOf answer (outfile words) (mapfile words) (draft words) file reads (saved_text (heading words) (cursor_after shown reads) (map_after start_map reads)) calls calls'
 
 -- a name of none of the files that a rescue writes
 pub record IsOther (words : List (List ℕ)) (name : List ℕ) : Type 0 where
@@ -79,10 +88,12 @@ pub record AreRescued (words : List (List ℕ)) (end : ℕ) (reads : List Readin
   -- the output is what it was, with each whole read at its own position
   pub output : files' (outfile words) ≡ Some (record { bytes = landed (bytes_of (files (outfile words))) reads; regular = true })
   -- the mapfile is the printed map that the reads make of the one that it stood for
-  pub begun : List Status
+  pub start_map : List Status
   pub shown : ℕ
-  pub stands : Stands (files (mapfile words)) end begun shown
-  pub saved : files' (mapfile words) ≡ Some (record { bytes = saved_text (heading words) (cursor_after shown reads) (map_after begun reads); regular = true })
+  pub stands : Stands (files (mapfile words)) end start_map shown
+  pub saved : files' (mapfile words) ≡ Some (record { bytes = saved_text (heading words) (cursor_after shown reads) (map_after start_map reads); regular = true })
+  -- a rescue that resumes from it goes on where this one ended
+  pub resumes : Stands (files' (mapfile words)) end (map_after start_map reads) (cursor_after shown reads)
   -- no draft is left, and every other file stands
   pub no_draft : files' (draft words) ≡ None
   pub others : (name : List ℕ) → IsOther words name → files' name ≡ files name

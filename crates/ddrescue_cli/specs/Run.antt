@@ -7,11 +7,12 @@ use Rattle.crash_site.specs.declared.site.SiteCall.{SiteCall}
 use Rattle.crash_site.specs.declared.site.SiteCall.TheVariants.{ImageOpen, ImageWrite, ImageSync, MapRead, DraftBegin, DraftAppend, DraftSync, DraftPublish, MapSettle}
 use Rattle.crash_site.specs.Files.{File}
 use Rattle.crash_site.specs.Calls.{Call, Entry, Done as Listed, Made, BrokeAt, image_open, image_write, image_sync, draft_begin, draft_append, draft_sync, draft_publish, map_settle}
+use Rattle.ddrescue_cli.specs.declared.ending.Which.TheVariants.{RunMap}
 use Rattle.ddrescue_cli.specs.declared.ending.Ending.{Ending}
 use Rattle.ddrescue_cli.specs.declared.ending.Ending.TheVariants.{Done, SourceFault, NotRegular, MapRefused, SourceLost, SiteFault, NoMemory}
 use Rattle.ddrescue_cli.specs.Requests.{inside, IsSpent}
 use Rattle.ddrescue_cli.specs.Reads.{map_after, cursor_after, IsRun, writes_of}
-use Rattle.ddrescue_cli.specs.Start.{Stands, IsRefused, IsAccepted, IsSaid}
+use Rattle.ddrescue_cli.specs.Start.{Stands, IsRefused, IsAccepted, IsNamed}
 use Rattle.ddrescue_cli.specs.Loading.{BeginsLoad, IsLoad}
 use Rattle.ddrescue_cli.specs.Saved.{saved_text}
 
@@ -93,9 +94,9 @@ IsAfterReads (SiteFault call) = IsSaving call
 IsAfterReads e = ⊥
 
 -- an answer that comes once the mapfile is loaded; want of memory does where there are reads
-abbrev pub IsBegun : Ending → List Reading → Type 0
-IsBegun NoMemory reads = reads ≢ []
-IsBegun e reads = IsBeforeReads e → ⊥
+abbrev pub IsAfterLoad : Ending → List Reading → Type 0
+IsAfterLoad NoMemory reads = reads ≢ []
+IsAfterLoad e reads = IsBeforeReads e → ⊥
 
 -- an answer after which the new mapfile stands
 abbrev pub IsPublished : Ending → Type 0
@@ -103,14 +104,20 @@ IsPublished Done = ⊤
 IsPublished (SiteFault MapSettle) = ⊤
 IsPublished e = ⊥
 
+-- no count rose
+pub record NoneRose (faults faults' losses losses' site_faults site_faults' : ℕ) : Type 0 where
+  pub faults_stay : faults' ≡ faults
+  pub losses_stay : losses' ≡ losses
+  pub site_faults_stay : site_faults' ≡ site_faults
+
 -- why a rescue stopped once its words were read: memory, a count that rose, or a file that stands in its way
 abbrev pub StopCause : Ending → (faults faults' losses losses' site_faults site_faults' : ℕ) → Type 0
 StopCause NoMemory faults faults' losses losses' site_faults site_faults' = ⊤
 StopCause SourceFault faults faults' losses losses' site_faults site_faults' = Rose faults faults'
 StopCause SourceLost faults faults' losses losses' site_faults site_faults' = Rose losses losses'
 StopCause (SiteFault call) faults faults' losses losses' site_faults site_faults' = Rose site_faults site_faults'
-StopCause NotRegular faults faults' losses losses' site_faults site_faults' = ⊤
-StopCause (MapRefused which error) faults faults' losses losses' site_faults site_faults' = IsSaid error
+StopCause NotRegular faults faults' losses losses' site_faults site_faults' = NoneRose faults faults' losses losses' site_faults site_faults'
+StopCause (MapRefused which error) faults faults' losses losses' site_faults site_faults' = IsNamed error × NoneRose faults faults' losses losses' site_faults site_faults'
 StopCause e faults faults' losses losses' site_faults site_faults' = ⊥
 
 -- what the files say of a failed call: once the output is open it is regular, and once the mapfile is loaded it isn't refused
@@ -122,7 +129,7 @@ CallAllowed call output map = (is_other output ≡ false) × IsAccepted map
 -- what the files say of an answer
 abbrev pub FilesAllow : Ending → (output map : Option File) → Type 0
 FilesAllow NotRegular output map = is_other output ≡ true
-FilesAllow (MapRefused which error) output map = (is_other output ≡ false) × IsRefused map error
+FilesAllow (MapRefused which error) output map = (which ≡ RunMap) × (is_other output ≡ false) × IsRefused map error
 FilesAllow SourceLost output map = (is_other output ≡ false) × IsAccepted map
 FilesAllow Done output map = (is_other output ≡ false) × IsAccepted map
 FilesAllow (SiteFault call) output map = CallAllowed call output map
@@ -169,12 +176,12 @@ pub record RunUnwritten (reads : List Reading) (calls calls' : List Entry) : Typ
   pub broke : BrokeAt ImageWrite (image_write last.pos last.given ∷ []) between calls'
 
 -- what a run did over a map that it began with, up to its end or to where it stopped
-pub record Ran (e : Ending) (map draft : List ℕ) (heading : HeadingLines) (source_tells site_tells : Bool) (end : ℕ) (begun : List Status) (shown : ℕ) (journal journal' : List Reading) (calls calls' : List Entry) : Type 0 where
+pub record Ran (e : Ending) (map draft : List ℕ) (heading : HeadingLines) (source_tells site_tells : Bool) (end : ℕ) (start_map : List Status) (shown : ℕ) (journal journal' : List Reading) (calls calls' : List Entry) : Type 0 where
   pub reads : List Reading
-  pub run : IsRun (inside end) begun 0 reads
+  pub run : IsRun (inside end) start_map 0 reads
   pub told : IsTrue source_tells → journal' ≡ journal ++ reads
-  pub made : IsTrue site_tells → RunCalls e map draft reads (saved_text heading (cursor_after shown reads) (map_after begun reads)) calls calls'
-  pub spent : IsAfterReads e → IsSpent (inside end) (map_after begun reads) (cursor_after 0 reads)
+  pub made : IsTrue site_tells → RunCalls e map draft reads (saved_text heading (cursor_after shown reads) (map_after start_map reads)) calls calls'
+  pub spent : IsAfterReads e → IsSpent (inside end) (map_after start_map reads) (cursor_after 0 reads)
   pub unwritten : e ≡ SiteFault ImageWrite → IsTrue site_tells → RunUnwritten reads calls calls'
 
 -- What a rescue did up to its end, or to where it stopped: it began with a map and a position to show, and its reads
@@ -182,14 +189,14 @@ pub record Ran (e : Ending) (map draft : List ℕ) (heading : HeadingLines) (sou
 pub record Went (e : Ending) (out map draft : List ℕ) (heading : HeadingLines) (source_tells site_tells : Bool) (bytes : List ℕ) (file : Option File) (journal journal' : List Reading) (calls calls' : List Entry) : Type 0 where
   pub end : ℕ
   pub all : IsTrue source_tells → end ≡ length bytes
-  pub begun : List Status
+  pub start_map : List Status
   pub shown : ℕ
   pub reads : List Reading
-  pub run : IsRun (inside end) begun 0 reads
+  pub run : IsRun (inside end) start_map 0 reads
   pub told : IsTrue source_tells → journal' ≡ journal ++ reads
-  pub stands : IsTrue site_tells → IsBegun e reads → Stands file end begun shown
-  pub fits : IsBegun e reads → Fits end begun shown
-  pub made : IsTrue site_tells → CallsOf e out map draft file reads (saved_text heading (cursor_after shown reads) (map_after begun reads)) calls calls'
+  pub stands : IsTrue site_tells → IsAfterLoad e reads → Stands file end start_map shown
+  pub fits : IsAfterLoad e reads → Fits end start_map shown
+  pub made : IsTrue site_tells → CallsOf e out map draft file reads (saved_text heading (cursor_after shown reads) (map_after start_map reads)) calls calls'
   pub none : IsBeforeReads e → reads ≡ []
-  pub spent : IsAfterReads e → IsSpent (inside end) (map_after begun reads) (cursor_after 0 reads)
+  pub spent : IsAfterReads e → IsSpent (inside end) (map_after start_map reads) (cursor_after 0 reads)
   pub unwritten : e ≡ SiteFault ImageWrite → IsTrue site_tells → LastUnwritten out map file reads calls calls'

@@ -24,16 +24,17 @@ pub record IsResumed (text : List ℕ) (end : ℕ) (map : List Status) (shown : 
   pub map_is : map ≡ extended statuses end
   pub shown_is : shown ≡ state.pos
 
--- what a mapfile's text stands for; one in which no line says anything stands for what no mapfile does
+-- what a mapfile's text stands for; one of comments and blank lines alone is like no mapfile
 pub data TextStands (text : List ℕ) (end : ℕ) (map : List Status) (shown : ℕ) : Type 0 where
-  Says_nothing : Blank text → IsFresh end map shown → TextStands text end map shown
-  Says : IsResumed text end map shown → TextStands text end map shown
+  AsNone : Blank text → IsFresh end map shown → TextStands text end map shown
+  AsMap : IsResumed text end map shown → TextStands text end map shown
 
 abbrev pub StandsFor : Option File → (end : ℕ) → List Status → (shown : ℕ) → Type 0
 StandsFor None end map shown = IsFresh end map shown
 StandsFor (Some f) end map shown = TextStands f.bytes end map shown
 
--- a mapfile, absent or not, stands for a map of an input with a length, and for the position that it shows
+-- A mapfile, absent or not, stands for a map of an input with a length, and for the position that it shows: the
+-- current position of its status line. How long its text may be is no matter of this.
 pub record Stands (mapfile : Option File) (end : ℕ) (map : List Status) (shown : ℕ) : Type 0 where
   pub stands : StandsFor mapfile end map shown
 
@@ -56,8 +57,9 @@ IsRefused (Some f) e = TextRefused f.bytes e
 pub record IsAccepted (mapfile : Option File) : Type 0 where
   pub never : (e : MapError) → IsRefused mapfile e → ⊥
 
--- a refusal of a mapfile never speaks of a status line that is missing, nor of memory
-abbrev pub IsSaid : MapError → Type 0
-IsSaid NoStatusLine = ⊥
-IsSaid NoMemory = ⊥
-IsSaid e = ⊤
+-- an error for which a mapfile is refused: never a missing status line, since such a text is like no mapfile, and never
+-- want of memory, which is an answer of its own
+abbrev pub IsNamed : MapError → Type 0
+IsNamed NoStatusLine = ⊥
+IsNamed NoMemory = ⊥
+IsNamed e = ⊤

@@ -9,7 +9,7 @@ use block_list::tiles::Tiles;
 use crash_site::site::{Site, SiteCall};
 use faulty_source::source::Source;
 
-/// The most bytes that a read asks for.
+/// The size of a sector in bytes. No read crosses a multiple of it.
 const SECTOR: u64 = 512;
 
 /// The first positions of one sector, at or after a cursor, that are below an input's end and non-tried.
@@ -56,6 +56,8 @@ fn copy_request<S: Source, D: Site, T: Tiles>(
         (D.faults site.old) (D.faults site.new)) }
     ensures losses { S.losses source.old ≤ S.losses source.new }
     ensures faults { D.faults site.old ≤ D.faults site.new }
+    ensures losses_stay { OnOk result (S.losses source.new ≡ S.losses source.old) }
+    ensures faults_stay { OnOk result (D.faults site.new ≡ D.faults site.old) }
     ensures source_faults { S.faults source.new ≡ S.faults source.old }
     ensures input { S.is_open source.new ≡ true }
     ensures image { D.is_open site.new ≡ true }
@@ -108,6 +110,8 @@ pub(crate) fn copy_all<S: Source, D: Site, T: Tiles>(
         (D.faults site.old) (D.faults site.new)) }
     ensures losses { S.losses source.old ≤ S.losses source.new }
     ensures faults { D.faults site.old ≤ D.faults site.new }
+    ensures losses_stay { OnOk result (S.losses source.new ≡ S.losses source.old) }
+    ensures faults_stay { OnOk result (D.faults site.new ≡ D.faults site.old) }
     ensures source_faults { S.faults source.new ≡ S.faults source.old }
     ensures input { S.is_open source.new ≡ true }
     ensures image { D.is_open site.new ≡ true }

@@ -36,7 +36,7 @@ pub enum Ending {
     SourceFault,
     /// The outfile is no regular file.
     NotRegular,
-    /// The mapfile's text is no map.
+    /// The mapfile's text is no map, or is too long.
     MapRefused { which: Which, error: MapError },
     /// The infile was lost during a read.
     SourceLost,

@@ -126,6 +126,7 @@ fn read_text<D: Site>(alloc: Global, site: &mut D, name: &str) -> Result<Option<
     ensures tells { D.tells site.new ≡ D.tells site.old }
     ensures start { IsTrue (D.tells site.old) → D.start site.new ≡ D.start site.old }
     ensures faults { D.faults site.old ≤ D.faults site.new }
+    ensures faults_stay { OnOk result (D.faults site.new ≡ D.faults site.old) }
 {
     let mut text = Vec::new(alloc);
     let mut buf = [0u8; PIECE];
@@ -151,12 +152,12 @@ pub(crate) fn load<D: Site>(
     end: u64,
 ) -> Result<Start, Ending>
     requires { end < 2 ^ 63 }
-    ensures stands { IfOk result (λ begun. IsTrue (D.tells site.old)
+    ensures stands { IfOk result (λ now. IsTrue (D.tells site.old)
         → Stands ((after (D.start site.old) (D.record_ site.old)).files mapfile.now) end
-        begun.tiles.statuses begun.shown) }
+        now.tiles.statuses now.shown) }
     ensures accepted { OnOk result (IsTrue (D.tells site.old)
         → IsAccepted ((after (D.start site.old) (D.record_ site.old)).files mapfile.now)) }
-    ensures fits { IfOk result (λ begun. Fits end begun.tiles.statuses begun.shown) }
+    ensures fits { IfOk result (λ now. Fits end now.tiles.statuses now.shown) }
     ensures loaded { OnOk result (IsTrue (D.tells site.old)
         → Loaded mapfile.now ((after (D.start site.old) (D.record_ site.old)).files mapfile.now)
         (D.record_ site.old) (D.record_ site.new)) }
@@ -169,6 +170,7 @@ pub(crate) fn load<D: Site>(
     ensures tells { D.tells site.new ≡ D.tells site.old }
     ensures start { IsTrue (D.tells site.old) → D.start site.new ≡ D.start site.old }
     ensures faults { D.faults site.old ≤ D.faults site.new }
+    ensures faults_stay { OnOk result (D.faults site.new ≡ D.faults site.old) }
 {
     match read_text(alloc, site, mapfile)? {
         Some(text) => read_start(alloc, &text, end),

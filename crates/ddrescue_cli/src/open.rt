@@ -22,6 +22,7 @@ pub(crate) fn open_output<D: Site>(site: &mut D, outfile: &str) -> Result<(), En
     ensures tells { D.tells site.new ≡ D.tells site.old }
     ensures start { IsTrue (D.tells site.old) → D.start site.new ≡ D.start site.old }
     ensures faults { D.faults site.old ≤ D.faults site.new }
+    ensures faults_stay { OnOk result (D.faults site.new ≡ D.faults site.old) }
 {
     match site.image_open(outfile, true) {
         Ok(ImageKind::Other) => Err(Ending::NotRegular),

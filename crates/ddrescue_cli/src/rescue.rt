@@ -1,4 +1,4 @@
-ghost use Rattle.std.specs.Prelude.{◌≡◌, ◌≤◌, false, true, IsTrue, length, OnOk, IfErr, IsSome};
+ghost use Rattle.std.specs.Prelude.{◌≡◌, false, true, IsTrue, length, OnOk, IfErr, IsSome};
 ghost use Rattle.std.specs.Str.{bytes_eq};
 ghost use Rattle.std.specs.String.{string_bytes};
 ghost use Rattle.crash_site.specs.Files.{bytes_of};
@@ -6,9 +6,9 @@ ghost use Rattle.crash_site.specs.Folder.{after};
 ghost use Rattle.ddrescue_cli.specs.declared.ending.Ending.TheVariants.{Done, NoMemory as OutOfMemory};
 ghost use Rattle.ddrescue_cli.specs.Operands.{outfile, mapfile, refusal_of_words};
 ghost use Rattle.ddrescue_cli.specs.Reads.{gained};
-ghost use Rattle.ddrescue_cli.specs.Run.{is_other, FilesAllow, IsPublished, DraftLeft, Fits, Ran, RunCause, Went, StopCause};
+ghost use Rattle.ddrescue_cli.specs.Run.{is_other, FilesAllow, IsBeforeReads, IsPublished, DraftLeft, Fits, NoneRose, Ran, RunCause, Went, StopCause};
 ghost use Rattle.ddrescue_cli.specs.Rescue.{Caused, IsAnswer, IsReadInOrder, IsCalled, MapfileHolds, FoundHolds};
-ghost use Rattle.ddrescue_cli.specs.Left.{FilesLeft};
+ghost use Rattle.ddrescue_cli.specs.Left.{FilesLeft, LeftBefore};
 
 use crate::copy::copy_all;
 use crate::ending::Ending;
@@ -46,6 +46,9 @@ fn run<S: Source, D: Site>(
         (D.record_ site.old) (D.record_ site.new)) }
     ensures cause { IfErr result (λ e. RunCause e (S.losses source.old) (S.losses source.new)
         (D.faults site.old) (D.faults site.new)) }
+    ensures losses_stay { OnOk result (S.losses source.new ≡ S.losses source.old) }
+    ensures faults_stay { OnOk result (D.faults site.new ≡ D.faults site.old) }
+    ensures source_faults { S.faults source.new ≡ S.faults source.old }
     ensures draft { OnOk result (D.is_drafting site.new ≡ false) }
     ensures draft_left { IfErr result (λ e. DraftLeft e (D.is_drafting site.new)) }
     ensures source_tells { S.tells source.new ≡ S.tells source.old }
@@ -103,6 +106,8 @@ pub(crate) fn rescue<S: Source, D: Site>(
         (D.record_ site.old)).files plan.now.names.outfile.now) ≡ false) }
     ensures cause { IfErr result (λ e. StopCause e (S.faults source.old) (S.faults source.new)
         (S.losses source.old) (S.losses source.new) (D.faults site.old) (D.faults site.new)) }
+    ensures stay { OnOk result (NoneRose (S.faults source.old) (S.faults source.new)
+        (S.losses source.old) (S.losses source.new) (D.faults site.old) (D.faults site.new)) }
     ensures draft { OnOk result (D.is_drafting site.new ≡ false) }
     ensures draft_left { IfErr result (λ e. DraftLeft e (D.is_drafting site.new)) }
     ensures source_tells { S.tells source.new ≡ S.tells source.old }
@@ -118,9 +123,9 @@ pub(crate) fn rescue<S: Source, D: Site>(
     run(alloc, plan, source, site, start, end)
 }
 
-/// Rescues an infile into an outfile, and saves the map of what was rescued: `infile outfile mapfile`. A mapfile that is
-/// there is gone on with. What it leaves non-tried is read once, sector by sector from the input's start; what isn't
-/// read whole is bad.
+/// Rescues an infile into an outfile, and saves the map of what was rescued: `infile outfile mapfile`. If the
+/// mapfile is there, the rescue resumes from it: what it marks non-tried is read once, sector by sector from the input's
+/// start; every other mark stays. What isn't read whole is bad.
 ///
 /// The refusals come in this order: another number of words than three, a word that names no file, two files of one
 /// name, an infile that can't be opened, an outfile that is no regular file, a mapfile that is no map.
@@ -139,9 +144,7 @@ pub fn ddrescue<S: Source, D: Site>(
         ((after (D.start site.old) (D.record_ site.old)).files (mapfile words.now)) }
 
     ensures verdict { IsTrue (D.tells site.old)
-        → IsAnswer result words.now (after (D.start site.old) (D.record_ site.old)).files
-        (S.faults source.old) (S.faults source.new) (S.losses source.old) (S.losses source.new)
-        (D.faults site.old) (D.faults site.new) }
+        → IsAnswer result words.now (after (D.start site.old) (D.record_ site.old)).files }
 
     // A refusal of the words touches nothing.
     ensures untouched { IsSome (refusal_of_words words.now) → (source.new ≡ source.old) × (site.new ≡ site.old) }
@@ -160,6 +163,11 @@ pub fn ddrescue<S: Source, D: Site>(
         (after (D.start site.old) (D.record_ site.old)).files
         (after (D.start site.new) (D.record_ site.new)).files }
 
+    // What an answer before the first read leaves, whatever the infile tells.
+    ensures refused { IsBeforeReads result → IsTrue (D.tells site.old) → LeftBefore result words.now
+        (after (D.start site.old) (D.record_ site.old)).files
+        (after (D.start site.new) (D.record_ site.new)).files }
+
     // The mapfile never calls a byte finished that the output does not hold.
     ensures holds { IsPublished result → IsTrue (S.tells source.old) → IsTrue (D.tells site.old)
         → MapfileHolds words.now (length (S.bytes source.old))
@@ -167,7 +175,7 @@ pub fn ddrescue<S: Source, D: Site>(
         (bytes_of ((after (D.start site.old) (D.record_ site.old)).files (outfile words.now)))
         (after (D.start site.new) (D.record_ site.new)).files }
 
-    // So it is after every other answer.
+    // Nor does one that was there before, after any answer.
     ensures found { IsTrue (S.tells source.old) → IsTrue (D.tells site.old)
         → FoundHolds words.now (length (S.bytes source.old))
         (gained (S.journal source.old) (S.journal source.new))

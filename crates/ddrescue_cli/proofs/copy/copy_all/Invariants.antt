@@ -14,8 +14,8 @@ invariant-requests g l = record {
   bytes : IsTrue (g.S.Source.tells l.fn.source) → g.S.Source.bytes l.source ≡ g.S.Source.bytes l.fn.source;
   start : IsTrue (g.D.Site.tells l.fn.site) → g.D.Site.start l.site ≡ g.D.Site.start l.fn.site;
   draft : g.D.Site.is_drafting l.site ≡ g.D.Site.is_drafting l.fn.site;
-  losses : g.S.Source.losses l.fn.source ≤ g.S.Source.losses l.source;
-  faults : g.D.Site.faults l.fn.site ≤ g.D.Site.faults l.site;
+  losses : g.S.Source.losses l.source ≡ g.S.Source.losses l.fn.source;
+  faults : g.D.Site.faults l.site ≡ g.D.Site.faults l.fn.site;
   source_faults : g.S.Source.faults l.source ≡ g.S.Source.faults l.fn.source;
 }
 
