@@ -1,4 +1,4 @@
-use Rattle.std.proofs.Common.{◌≡◌, ◌≢◌, ◌⊎◌, ℕ, ◌+◌, true, false, Bool, List, [], ◌∷◌, ◌++◌, map, Option, Some, None, refl, sym, ap, ◌∙◌, ⊎_elim, inl, inr, subst}
+use Rattle.std.proofs.Common.{◌≡◌, ◌≢◌, ◌⊎◌, ℕ, ◌+◌, ◌<◌, ◌^◌, IsTrue, length, arith, true, false, Bool, List, [], ◌∷◌, ◌++◌, map, Option, Some, None, refl, sym, ap, ◌∙◌, ⊎_elim, inl, inr, subst}
 use Rattle.std.specs.Prelude.{sum}
 use Rattle.std.specs.Str.{bytes_eq}
 use Rattle.std.proofs.lemmas.List.{map-append}
@@ -12,14 +12,18 @@ use Rattle.crash_site.specs.Folder.{Folder, opened, after, after_done, after_fai
 use Rattle.ddrescue_cli.specs.declared.ending.Ending.{Ending}
 use Rattle.ddrescue_cli.specs.declared.ending.Ending.TheVariants.{Done as Finished, WrongNumber, WrongWord, SameName, SourceFault, NotRegular, MapRefused, SourceLost, SiteFault, NoMemory}
 use Rattle.ddrescue_cli.specs.Operands.{outfile, mapfile, draft, AreNamedApart}
-use Rattle.ddrescue_cli.specs.Reads.{map_after, cursor_after, landed, write_of, writes_of}
+use Rattle.ddrescue_cli.specs.Requests.{inside}
+use Rattle.ddrescue_cli.specs.Reads.{map_after, cursor_after, IsRun, landed, write_of, writes_of}
 use Rattle.ddrescue_cli.specs.Saved.{heading, saved_text}
 use Rattle.ddrescue_cli.specs.Start.{Stands}
 use Rattle.ddrescue_cli.specs.Loading.{piece_reads, load_reads, BeginsLoad, IsLoad}
-use Rattle.ddrescue_cli.specs.Run.{is_other, save_calls, run_calls, CallsBroken, CallsStarved, AtWords, AtLoad, AtRun, CallAllowed, FilesAllow, IsAfterLoad, LastUnwritten}
-use Rattle.ddrescue_cli.specs.Rescue.{IsCalled, AreRescued}
-use Rattle.ddrescue_cli.specs.Left.{AllStand, made, OutputMade, Unpublished, LastWriteFailed, LeftAt, FilesLeft}
+use Rattle.ddrescue_cli.specs.Run.{is_other, save_calls, run_calls, CallsBroken, CallsStarved, AtWords, AtLoad, AtRun, CallAllowed, FilesAllow, IsBeforeReads, IsAfterLoad, Fits, LastUnwritten}
+use Rattle.ddrescue_cli.specs.Rescue.{AreRescued}
+use Rattle.ddrescue_cli.specs.Left.{AllStand, made, OutputMade, Unpublished, LastWriteFailed, LeftAt, FilesLeft, LeftBefore}
 use Rattle.ddrescue_cli.proofs.CallFacts.{after-append}
+use Rattle.ddrescue_cli.proofs.RunFacts.{length_map_after, cursor_after_small}
+use Rattle.ddrescue_cli.proofs.StartFacts.{printed_stands}
+use Rattle.ddrescue_cli.proofs.WentFacts.{Facts}
 use Rattle.ddrescue_cli.proofs.FolderFacts.{apart_of, bytes_eq-flip, draft_apart, put_same, put_other, IsOpenImage, open_image, pieces_stand, load_stands, loaded_folder, after_made, written_folder, IsSaved, save_image, run_files}
 
 failed_files : (d : Folder) (call : Call) → (after_failed d call).files ≡ d.files
@@ -213,22 +217,45 @@ save_regular at name draft' text d files output map broke allowed =
     ⊎_elim (λ l. settle l.0) (λ r5. absurd r5)
     r4) r3) r2) r1) r0) broke
 
+-- the file that a save leaves under the mapfile's name
+abbrev saved_file : List (List ℕ) → List Reading → List Status → ℕ → Option File
+saved_file words reads start_map shown = Some (record { bytes = saved_text (heading words) (cursor_after shown reads) (map_after start_map reads); regular = true })
+
+-- the mapfile stood for the start map, and the saved one stands for what the reads make of it
+record BothStand (words : List (List ℕ)) (end : ℕ) (reads : List Reading) (start_map : List Status) (shown : ℕ) (file : Option File) : Type 0 where
+  pub old : Stands file end start_map shown
+  pub new : Stands (saved_file words reads start_map shown) end (map_after start_map reads) (cursor_after shown reads)
+
+both_stand : (words : List (List ℕ)) (end : ℕ) (reads : List Reading) (start_map : List Status) (shown : ℕ) (file : Option File) → IsRun (inside end) start_map 0 reads → Stands file end start_map shown → Fits end start_map shown
+    → BothStand words end reads start_map shown file
+both_stand words end reads start_map shown file run stands fits =
+    let same : length (map_after start_map reads) ≡ length start_map = length_map_after (inside end) start_map 0 reads run in
+    let below : cursor_after shown reads < 2 ^ 63 = cursor_after_small end (2 ^ 63) start_map 0 shown reads run fits.small (omega (arith, fits.long, fits.short)) in
+    record {
+      old = stands;
+      new = printed_stands (heading words) (record { bytes = saved_text (heading words) (cursor_after shown reads) (map_after start_map reads); regular = true }) end (map_after start_map reads) (cursor_after shown reads)
+          refl refl (omega (arith, same, fits.long)) (omega (arith, same, fits.short)) below refl;
+    }
+
 -- the files that a save leaves
-rescued : (words : List (List ℕ)) (end : ℕ) (reads : List Reading) (start_map : List Status) (shown : ℕ) (files files' : List ℕ → Option File) → Stands (files (mapfile words)) end start_map shown
+rescued : (words : List (List ℕ)) (end : ℕ) (reads : List Reading) (start_map : List Status) (shown : ℕ) (files files' : List ℕ → Option File) → BothStand words end reads start_map shown (files (mapfile words))
     → IsSaved (outfile words) (mapfile words) (draft words) (landed (bytes_of (files (outfile words))) reads) (saved_text (heading words) (cursor_after shown reads) (map_after start_map reads)) files files' → AreRescued words end reads files files'
 rescued words end reads start_map shown files files' stands s = record {
   output = s.output;
   start_map = start_map;
   shown = shown;
-  stands = stands;
+  stands = stands.old;
   saved = s.saved;
+  resumes =
+      let P : Option File → Type 0 = λ f. Stands f end (map_after start_map reads) (cursor_after shown reads) in
+      subst P (sym s.saved) stands.new;
   no_draft = s.no_draft;
   others = λ n o. s.others n o.no_output o.no_map o.no_draft;
 }
 
 -- a rescue whose run a failed call ended
 broke_left : (at : SiteCall) (words : List (List ℕ)) (end : ℕ) (load : List Call) (reads : List Reading) (start_map : List Status) (shown : ℕ) (d : Folder) (files : List ℕ → Option File) → AreNamedApart words
-    → IsLoad (mapfile words) (d.files (mapfile words)) load → Stands (d.files (mapfile words)) end start_map shown
+    → IsLoad (mapfile words) (d.files (mapfile words)) load → BothStand words end reads start_map shown (d.files (mapfile words))
     → CallAllowed at (d.files (outfile words)) (d.files (mapfile words)) → (at ≡ ImageWrite → LeftAt at words end reads d.files files)
     → FilesAtBreak at (run_calls (outfile words) (mapfile words) (draft words) load reads (saved_text (heading words) (cursor_after shown reads) (map_after start_map reads))) d files
     → LeftAt at words end reads d.files files
@@ -259,7 +286,7 @@ broke_left at words end load reads start_map shown d files apart l stands allowe
 
 -- a rescue that a failed call ended
 site_left : (at : SiteCall) (words : List (List ℕ)) (end : ℕ) (reads : List Reading) (start_map : List Status) (shown : ℕ) (start : Folder) (old new : List Entry) → AreNamedApart words
-    → (IsAfterLoad (SiteFault at) reads → Stands ((after start old).files (mapfile words)) end start_map shown)
+    → (IsAfterLoad (SiteFault at) reads → BothStand words end reads start_map shown ((after start old).files (mapfile words)))
     → CallAllowed at ((after start old).files (outfile words)) ((after start old).files (mapfile words)) → (at ≡ ImageWrite → LeftAt at words end reads (after start old).files (after start new).files)
     → CallsBroken at (outfile words) (mapfile words) (draft words) ((after start old).files (mapfile words)) reads (saved_text (heading words) (cursor_after shown reads) (map_after start_map reads)) old new
     → LeftAt at words end reads (after start old).files (after start new).files
@@ -324,35 +351,59 @@ starved_left words file reads start old new apart regular (AtRun load l made) = 
 left_of : (e : Ending) (words : List (List ℕ)) (end : ℕ) (reads : List Reading) (start : Folder) (old new : List Entry) → AreNamedApart words
     → FilesAllow e ((after start old).files (outfile words)) ((after start old).files (mapfile words))
     → (e ≡ NoMemory → is_other ((after start old).files (outfile words)) ≡ false)
-    → IsCalled e words end ((after start old).files (mapfile words)) reads old new → (e ≡ SiteFault ImageWrite → LastUnwritten (outfile words) (mapfile words) ((after start old).files (mapfile words)) reads old new)
+    → Facts e words true ((after start old).files (mapfile words)) end reads old new
     → FilesLeft e words end reads (after start old).files (after start new).files
-left_of Finished words end reads start old new apart allowed memory called write =
+left_of Finished words end reads start old new apart allowed memory f =
     let file : Option File = (after start old).files (mapfile words) in
-    rescued words end reads called.start_map called.shown (after start old).files (after start new).files (called.stands (λ x. x))
-    (run_files start old new (outfile words) (mapfile words) (draft words) (saved_text (heading words) (cursor_after called.shown reads) (map_after called.start_map reads)) file called.made.0 reads
-    apart.output_map apart.output_draft (draft_apart (mapfile words)) called.made.1 allowed.0 called.made.2)
-left_of (WrongNumber given) words end reads start old new apart allowed memory called write = none_left start old new called.made
-left_of (WrongWord word) words end reads start old new apart allowed memory called write = none_left start old new called.made
-left_of (SameName first second) words end reads start old new apart allowed memory called write = none_left start old new called.made
-left_of SourceFault words end reads start old new apart allowed memory called write = none_left start old new called.made
-left_of NotRegular words end reads start old new apart allowed memory called write = other_left words start old new allowed called.made
-left_of (MapRefused which error) words end reads start old new apart allowed memory called write = refused_left words ((after start old).files (mapfile words)) called.made.0 start old new called.made.1 called.made.2
-left_of SourceLost words end reads start old new apart allowed memory called write = copied_left words ((after start old).files (mapfile words)) called.made.0 reads start old new apart allowed.0 called.made.1 called.made.2
-left_of NoMemory words end reads start old new apart allowed memory called write = starved_left words ((after start old).files (mapfile words)) reads start old new apart (memory refl) called.made
-left_of (SiteFault call) words end reads start old new apart allowed memory called write =
+    let made = f.made refl in
+    rescued words end reads f.start_map f.shown (after start old).files (after start new).files (both_stand words end reads f.start_map f.shown file f.run (f.stands refl (λ x. x)) (f.fits (λ x. x)))
+    (run_files start old new (outfile words) (mapfile words) (draft words) (saved_text (heading words) (cursor_after f.shown reads) (map_after f.start_map reads)) file made.0 reads
+    apart.output_map apart.output_draft (draft_apart (mapfile words)) made.1 allowed.0 made.2)
+left_of (WrongNumber given) words end reads start old new apart allowed memory f = none_left start old new (f.made refl)
+left_of (WrongWord word) words end reads start old new apart allowed memory f = none_left start old new (f.made refl)
+left_of (SameName first second) words end reads start old new apart allowed memory f = none_left start old new (f.made refl)
+left_of SourceFault words end reads start old new apart allowed memory f = none_left start old new (f.made refl)
+left_of NotRegular words end reads start old new apart allowed memory f = other_left words start old new allowed (f.made refl)
+left_of (MapRefused which error) words end reads start old new apart allowed memory f = let made = f.made refl in refused_left words ((after start old).files (mapfile words)) made.0 start old new made.1 made.2
+left_of SourceLost words end reads start old new apart allowed memory f = let made = f.made refl in copied_left words ((after start old).files (mapfile words)) made.0 reads start old new apart allowed.0 made.1 made.2
+left_of NoMemory words end reads start old new apart allowed memory f = starved_left words ((after start old).files (mapfile words)) reads start old new apart (memory refl) (f.made refl)
+left_of (SiteFault call) words end reads start old new apart allowed memory f =
     let file : Option File = (after start old).files (mapfile words) in
     let Q : SiteCall → Type 0 = λ a. CallAllowed a ((after start old).files (outfile words)) file in
     let P : SiteCall → Type 0 = λ a. LeftAt a words end reads (after start old).files (after start new).files in
-    let failed : call ≡ ImageWrite → P call = λ is. subst P (sym is) (unwritten words file reads start old new apart (subst Q is allowed).0 (write (ap (λ c. SiteFault c) is))) in
-    site_left call words end reads called.start_map called.shown start old new apart called.stands allowed failed called.made
+    let failed : call ≡ ImageWrite → P call = λ is. subst P (sym is) (unwritten words file reads start old new apart (subst Q is allowed).0 (f.unwritten (ap (λ c. SiteFault c) is) refl)) in
+    site_left call words end reads f.start_map f.shown start old new apart (λ a. both_stand words end reads f.start_map f.shown file f.run (f.stands refl a) (f.fits a)) allowed failed (f.made refl)
 
 -- what each answer leaves of the files
-pub files_left : (e : Ending) (words : List (List ℕ)) (end : ℕ) (reads : List Reading) (start start' : Folder) (old new : List Entry) → AreNamedApart words → start' ≡ start
+pub files_left : (e : Ending) (words : List (List ℕ)) (end : ℕ) (reads : List Reading) (td : Bool) (start start' : Folder) (old new : List Entry) → AreNamedApart words → start' ≡ start
     → FilesAllow e ((after start old).files (outfile words)) ((after start old).files (mapfile words))
     → (e ≡ NoMemory → is_other ((after start old).files (outfile words)) ≡ false)
-    → IsCalled e words end ((after start old).files (mapfile words)) reads old new
-    → (e ≡ SiteFault ImageWrite → LastUnwritten (outfile words) (mapfile words) ((after start old).files (mapfile words)) reads old new)
+    → Facts e words td ((after start old).files (mapfile words)) end reads old new → IsTrue td
     → FilesLeft e words end reads (after start old).files (after start' new).files
-files_left e words end reads start start' old new apart same allowed memory called write =
+files_left e words end reads td start start' old new apart same allowed memory f t =
     let P : Folder → Type 0 = λ z. FilesLeft e words end reads (after start old).files (after z new).files in
-    subst P (sym same) (left_of e words end reads start old new apart allowed memory called write)
+    let Q : Bool → Type 0 = λ b. Facts e words b ((after start old).files (mapfile words)) end reads old new in
+    subst P (sym same) (left_of e words end reads start old new apart allowed memory (subst Q t f))
+
+-- what an answer before the first read leaves of them
+pub left_before : (e : Ending) (words : List (List ℕ)) (end : ℕ) (reads : List Reading) (files files' : List ℕ → Option File) → IsBeforeReads e → FilesLeft e words end reads files files' → LeftBefore e words files files'
+left_before (WrongNumber given) words end reads files files' early left = left
+left_before (WrongWord word) words end reads files files' early left = left
+left_before (SameName first second) words end reads files files' early left = left
+left_before SourceFault words end reads files files' early left = left
+left_before NotRegular words end reads files files' early left = left
+left_before (MapRefused which error) words end reads files files' early left = left
+left_before (SiteFault ImageOpen) words end reads files files' early left = left
+left_before (SiteFault MapRead) words end reads files files' early left = left
+left_before Finished words end reads files files' early left = absurd early
+left_before SourceLost words end reads files files' early left = absurd early
+left_before NoMemory words end reads files files' early left = absurd early
+left_before (SiteFault ImageRead) words end reads files files' early left = absurd early
+left_before (SiteFault ImageWrite) words end reads files files' early left = absurd early
+left_before (SiteFault ImageSync) words end reads files files' early left = absurd early
+left_before (SiteFault DraftBegin) words end reads files files' early left = absurd early
+left_before (SiteFault DraftAppend) words end reads files files' early left = absurd early
+left_before (SiteFault DraftSync) words end reads files files' early left = absurd early
+left_before (SiteFault DraftPublish) words end reads files files' early left = absurd early
+left_before (SiteFault MapSettle) words end reads files files' early left = absurd early
+left_before (SiteFault MapRemove) words end reads files files' early left = absurd early

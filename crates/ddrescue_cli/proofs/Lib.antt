@@ -1,8 +1,12 @@
 pub mod CallFacts
 pub mod RunFacts
+pub mod SectorFacts
 pub mod HeldFacts
 pub mod CopyFacts
 pub mod RanFacts
 pub mod FolderFacts
+pub mod StartFacts
+pub mod LoadFacts
 pub mod WentFacts
 pub mod LeftFacts
+pub mod PublicFacts

@@ -4,7 +4,7 @@ use Rattle.faulty_source.specs.Journal.{Reading, is_whole}
 use Rattle.mapfile_text.specs.HeadingLines.{HeadingLines}
 use Rattle.mapfile_text.specs.Printed.{printed}
 use Rattle.crash_site.specs.declared.site.SiteCall.{SiteCall}
-use Rattle.crash_site.specs.declared.site.SiteCall.TheVariants.{ImageWrite}
+use Rattle.crash_site.specs.declared.site.SiteCall.TheVariants.{ImageOpen, ImageRead, ImageWrite, ImageSync, MapRead, DraftBegin, DraftAppend, DraftSync, DraftPublish, MapSettle, MapRemove}
 use Rattle.crash_site.specs.Calls.{Call, Entry, Made, BrokeAt, image_write}
 use Rattle.ddrescue_cli.specs.declared.ending.Ending.{Ending}
 use Rattle.ddrescue_cli.specs.declared.ending.Ending.TheVariants.{Done as Finished, SiteFault, SourceLost, NoMemory}
@@ -12,7 +12,7 @@ use Rattle.ddrescue_cli.specs.Requests.{inside}
 use Rattle.ddrescue_cli.specs.Reads.{map_after, cursor_after, IsNext, write_of, writes_of}
 use Rattle.ddrescue_cli.specs.Copying.{Halt, Unread, Unwritten, Copied, CopiedAll, Halted}
 use Rattle.ddrescue_cli.specs.Saved.{finished_state, saved_text}
-use Rattle.ddrescue_cli.specs.Run.{save_calls, IsSaving, IsAfterReads, RunCalls, Ran}
+use Rattle.ddrescue_cli.specs.Run.{save_calls, IsOpening, IsSaving, IsBeforeReads, IsAfterReads, RunCalls, Ran}
 use Rattle.ddrescue_cli.proofs.CallFacts.{made_more, broke_front, broke_back}
 use Rattle.ddrescue_cli.proofs.CopyFacts.{flat_map_one}
 use Rattle.ddrescue_cli.proofs.RunFacts.{run_more}
@@ -29,6 +29,7 @@ halted_at : (e : Ending) (map draft : List ℕ) (h : HeadingLines) (ts td : Bool
     → Copied end ts td j0 j1 c0 c1 m0 m1 cursor shown shown' → ((r : Reading) → r.pos ≡ pos → r.asked ≡ size → length r.given ≡ size → IsNext (inside end) m1 cursor r)
     → Halt pos size e ts td j1 j2 c1 c2 → Ran e map draft h ts td end m0 shown j0 j2 c0 c2
 halted_at e map draft h ts td end pos size j0 j1 j2 c0 c1 c2 m0 m1 cursor shown shown' c next (Unread cause untold unmade) = record {
+  later = λ x. let P : Ending → Type 0 = λ v. IsBeforeReads v → ⊥ in ⊎_elim (λ z. subst P (sym z) (λ y. y) x) (λ z. subst P (sym z) (λ y. y) x) cause;
   reads = c.reads;
   run = c.run;
   told = λ t. untold t ∙ c.told t;
@@ -44,6 +45,7 @@ halted_at e map draft h ts td end pos size j0 j1 j2 c0 c1 c2 m0 m1 cursor shown 
     let one : IsNext (inside end) (map_after m0 c.reads) (cursor_after 0 c.reads) r = rw (← c.map_is, ← c.cursor_is) (next r pos_is asked_is full) in
     let last : List Call = image_write r.pos r.given ∷ [] in
     record {
+      later = λ x. let P : Ending → Type 0 = λ v. IsBeforeReads v → ⊥ in subst P (sym is) (λ y. y) x;
       reads = c.reads ++ r ∷ [];
       run = run_more (inside end) m0 0 c.reads r c.run one;
       told = λ t. new t ∙ ap (λ j. j ++ r ∷ []) (c.told t) ∙ append_assoc j0 c.reads (r ∷ []);
@@ -77,9 +79,10 @@ ran_halted e map draft h ts td end j0 j2 c0 c2 m0 shown s =
 
 -- a run that copied all, of an answer with these calls
 copied_all : (e : Ending) (map draft : List ℕ) (h : HeadingLines) (ts td : Bool) (end : ℕ) (j0 j1 : List Reading) (c0 c1 c2 : List Entry) (m0 m1 : List Status) (shown shown' : ℕ)
-    → (all : CopiedAll end ts td j0 j1 c0 c1 m0 m1 shown shown') → (IsTrue td → RunCalls e map draft all.copied.reads (saved_text h (cursor_after shown all.copied.reads) (map_after m0 all.copied.reads)) c0 c2) → (e ≡ SiteFault ImageWrite → ⊥)
+    → (all : CopiedAll end ts td j0 j1 c0 c1 m0 m1 shown shown') → (IsTrue td → RunCalls e map draft all.copied.reads (saved_text h (cursor_after shown all.copied.reads) (map_after m0 all.copied.reads)) c0 c2) → (IsBeforeReads e → ⊥) → (e ≡ SiteFault ImageWrite → ⊥)
     → Ran e map draft h ts td end m0 shown j0 j1 c0 c2
-copied_all e map draft h ts td end j0 j1 c0 c1 c2 m0 m1 shown shown' all made other = record {
+copied_all e map draft h ts td end j0 j1 c0 c1 c2 m0 m1 shown shown' all made later other = record {
+  later = later;
   reads = all.copied.reads;
   run = all.copied.run;
   told = all.copied.told;
@@ -100,7 +103,20 @@ ran_done map draft text h ts td td' end j0 j1 c0 c1 c2 m0 m1 shown shown' all is
     let P : List ℕ → Type 0 = λ w. Made (writes_of all.copied.reads ++ save_calls map draft w) c0 c2 in
     subst P (saved_is map draft text h ts td end j0 j1 c0 c1 m0 m1 shown shown' all is)
     (made_more c0 c1 c2 (writes_of all.copied.reads) (save_calls map draft text) (all.copied.written t) (saved (rw same t))))
-    (λ q. cc)
+    (λ x. x) (λ q. cc)
+
+saving_later : (call : SiteCall) → IsSaving call → IsOpening call → ⊥
+saving_later ImageOpen saving early = saving
+saving_later ImageRead saving early = early
+saving_later ImageWrite saving early = early
+saving_later ImageSync saving early = early
+saving_later MapRead saving early = saving
+saving_later DraftBegin saving early = early
+saving_later DraftAppend saving early = early
+saving_later DraftSync saving early = early
+saving_later DraftPublish saving early = early
+saving_later MapSettle saving early = early
+saving_later MapRemove saving early = early
 
 -- a run whose save failed
 pub ran_unsaved : (call : SiteCall) (map draft text : List ℕ) (h : HeadingLines) (ts td td' : Bool) (end : ℕ) (j0 j1 : List Reading) (c0 c1 c2 : List Entry) (m0 m1 : List Status) (shown shown' : ℕ)
@@ -111,7 +127,7 @@ ran_unsaved call map draft text h ts td td' end j0 j1 c0 c1 c2 m0 m1 shown shown
     let P : List ℕ → Type 0 = λ w. BrokeAt call (writes_of all.copied.reads ++ save_calls map draft w) c0 c2 in
     subst P (saved_is map draft text h ts td end j0 j1 c0 c1 m0 m1 shown shown' all is)
     (broke_back call (writes_of all.copied.reads) (save_calls map draft text) c0 c1 c2 (all.copied.written t) (broke (rw same t))))
-    (λ q. let P : SiteCall → Type 0 = IsSaving in let same_call : call ≡ ImageWrite = cc in subst P same_call saving)
+    (saving_later call saving) (λ q. let P : SiteCall → Type 0 = IsSaving in let same_call : call ≡ ImageWrite = cc in subst P same_call saving)
 
 pub printed_is : (h : HeadingLines) (shown : ℕ) (m : List Status) → printed h (finished_state shown) m ≡ saved_text h shown m
 unfolding saved_text

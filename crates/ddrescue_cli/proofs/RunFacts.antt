@@ -1,13 +1,14 @@
-use Rattle.std.proofs.Common.{◌≡◌, ◌⊎◌, ℕ, zero, suc, ◌+◌, ◌-◌, ◌<◌, ◌≤◌, List, [], ◌∷◌, ◌++◌, length, take, drop, replicate, refl, sym, ap, ◌∙◌, arith, inl, inr, ⊎_elim, Bool, Some, length-append}
+use Rattle.std.proofs.Common.{◌≡◌, ◌⊎◌, ℕ, zero, suc, ◌+◌, ◌-◌, ◌<◌, ◌≤◌, List, [], ◌∷◌, ◌++◌, length, take, drop, replicate, refl, sym, ap, ◌∙◌, arith, inl, inr, ⊎_elim, Bool, Some, length-append, min}
 use Rattle.std.specs.List.{slice_get}
-use Rattle.std.proofs.lemmas.Bool.{cases_lt, ltb-true}
+use Rattle.std.proofs.lemmas.Bool.{cases_lt, cases_Bool, ltb-true, cond-true, cond-false}
 use Rattle.std.proofs.lemmas.List.{length-take-le, length-replicate}
 use Rattle.std.proofs.lemmas.Option.{slice_get_within, same_Some}
 use Rattle.block_list.specs.declared.status.Status.{Status}
-use Rattle.block_list.specs.declared.status.Status.TheVariants.{NonTried}
+use Rattle.block_list.specs.declared.status.Status.TheVariants.{NonTried, BadSector, Finished}
 use Rattle.block_list.specs.Map.{Has, marked}
 use Rattle.block_list.proofs.Places.{slice_get-append_left, slice_get-append_right, slice_get-replicate, length-marked}
-use Rattle.faulty_source.specs.Journal.{Reading, floor}
+use Rattle.block_list.specs.Places.{IsRunUp}
+use Rattle.faulty_source.specs.Journal.{Reading, is_whole, floor}
 use Rattle.ddrescue_cli.specs.Requests.{inside, IsWanted, IsRequest, IsSpent}
 use Rattle.ddrescue_cli.specs.Reads.{status_of, marked_by, map_after, cursor_after, IsNext, IsRun}
 use Rattle.ddrescue_cli.specs.Laws.{Asks, RunsOver}
@@ -135,16 +136,41 @@ wanted_before domain map cursor r x next behind w = record { within = w.within; 
 wanted_after : (domain : ℕ → Bool) (map : List Status) (cursor : ℕ) (r : Reading) (x : ℕ) → IsNext domain map cursor r → r.pos + r.asked ≤ x → IsWanted domain map x → IsWanted domain (marked_by map r) x
 wanted_after domain map cursor r x next behind w = record { within = w.within; non_tried = next_outside domain map cursor r x next (inr behind) ∙ w.non_tried }
 
+-- no read of a run begins before the cursor
+reads_behind : (domain : ℕ → Bool) (map : List Status) (cursor : ℕ) (reads : List Reading) (i : ℕ) (r : Reading) → IsRun domain map cursor reads → slice_get reads i ≡ Some r → cursor ≤ r.pos
+reads_behind domain map cursor [] i r run is = absurd (cc)
+reads_behind domain map cursor (q ∷ qs) zero r run is = rw (← same_Some q r is) run.0.request.first.after
+reads_behind domain map cursor (q ∷ qs) (suc i) r run is =
+    let w : Within domain map cursor q.pos (q.pos + q.asked) = next_within domain map cursor q run.0 in
+    omega (arith, w.after, w.some, reads_behind domain (marked_by map q) (q.pos + q.asked) qs i r run.1 is)
+
 -- a run asks for nothing before its cursor
 asks_behind : (domain : ℕ → Bool) (map : List Status) (cursor : ℕ) (reads : List Reading) (i x : ℕ) (r : Reading) → IsRun domain map cursor reads → slice_get reads i ≡ Some r → Asks r x → cursor ≤ x
-asks_behind domain map cursor [] i x r run is asks = absurd (cc)
-asks_behind domain map cursor (q ∷ qs) zero x r run is asks =
-    let same : q ≡ r = same_Some q r is in
-    let from : q.pos ≤ x = rw same asks.from in
-    omega (arith, from, (next_within domain map cursor q run.0).after)
-asks_behind domain map cursor (q ∷ qs) (suc i) x r run is asks =
-    let w : Within domain map cursor q.pos (q.pos + q.asked) = next_within domain map cursor q run.0 in
-    omega (arith, w.after, w.some, asks_behind domain (marked_by map q) (q.pos + q.asked) qs i x r run.1 is asks)
+asks_behind domain map cursor reads i x r run is asks = omega (arith, asks.from, reads_behind domain map cursor reads i r run is)
+
+-- a read of a run begins at or after the end of each before it
+reads_ascend : (domain : ℕ → Bool) (map : List Status) (cursor : ℕ) (reads : List Reading) (i j : ℕ) (r q : Reading) → IsRun domain map cursor reads → slice_get reads i ≡ Some r → slice_get reads j ≡ Some q → i < j → r.pos + r.asked ≤ q.pos
+reads_ascend domain map cursor [] i j r q run is is' lt = absurd (cc)
+reads_ascend domain map cursor (p ∷ ps) i zero r q run is is' lt = absurd (omega (arith, lt))
+reads_ascend domain map cursor (p ∷ ps) zero (suc j) r q run is is' lt = rw (← same_Some p r is) (reads_behind domain (marked_by map p) (p.pos + p.asked) ps j q run.1 is')
+reads_ascend domain map cursor (p ∷ ps) (suc i) (suc j) r q run is is' lt = reads_ascend domain (marked_by map p) (p.pos + p.asked) ps i j r q run.1 is is' (omega (arith, lt))
+
+-- a run of wanted positions behind a read was one before it
+run_up_before : (domain : ℕ → Bool) (map : List Status) (cursor : ℕ) (r : Reading) (x e : ℕ) → IsNext domain map cursor r → r.pos + r.asked ≤ x → IsRunUp (IsWanted domain (marked_by map r)) x e → IsRunUp (IsWanted domain map) x e
+run_up_before domain map cursor r x e next behind run = record {
+  begun = run.begun;
+  within = λ y from to. wanted_before domain map cursor r y next (omega arith) (run.within y from to);
+  stops = λ wanted. run.stops (wanted_after domain map cursor r e next (omega (arith, run.begun)) wanted);
+}
+
+-- a read of a run goes up to the end of its map's wanted positions there, or of the sector
+reads_cut : (domain : ℕ → Bool) (map : List Status) (cursor : ℕ) (reads : List Reading) (i : ℕ) (r : Reading) → IsRun domain map cursor reads → slice_get reads i ≡ Some r → (e : ℕ) × IsRunUp (IsWanted domain map) r.pos e × (r.pos + r.asked ≡ min e (floor 512 (r.pos + 512)))
+reads_cut domain map cursor [] i r run is = absurd (cc)
+reads_cut domain map cursor (q ∷ qs) zero r run is = rw (← same_Some q r is) (run.0.request.run_end, run.0.request.run, run.0.request.stops)
+reads_cut domain map cursor (q ∷ qs) (suc i) r run is =
+    let behind : q.pos + q.asked ≤ r.pos = reads_behind domain (marked_by map q) (q.pos + q.asked) qs i r run.1 is in
+    let (e, up, stops) = reads_cut domain (marked_by map q) (q.pos + q.asked) qs i r run.1 is in
+    (e, run_up_before domain map cursor q r.pos e run.0 behind up, stops)
 
 -- a run asks for wanted positions of its map alone
 asks_wanted : (domain : ℕ → Bool) (map : List Status) (cursor : ℕ) (reads : List Reading) (i x : ℕ) (r : Reading) → IsRun domain map cursor reads → slice_get reads i ≡ Some r → Asks r x → IsWanted domain map x
@@ -158,24 +184,21 @@ asks_wanted domain map cursor (q ∷ qs) (suc i) x r run is asks =
     wanted_before domain map cursor q x run.0 behind (asks_wanted domain (marked_by map q) (q.pos + q.asked) qs i x r run.1 is asks)
 
 -- no two reads of a run ask for one position
-asks_once : (domain : ℕ → Bool) (map : List Status) (cursor : ℕ) (reads : List Reading) (i j x : ℕ) (r q : Reading) → IsRun domain map cursor reads → slice_get reads i ≡ Some r → slice_get reads j ≡ Some q → Asks r x → Asks q x → i ≡ j
-asks_once domain map cursor [] i j x r q run is is' asks asks' = absurd (cc)
-asks_once domain map cursor (p ∷ ps) zero zero x r q run is is' asks asks' = refl
-asks_once domain map cursor (p ∷ ps) zero (suc j) x r q run is is' asks asks' =
-    let same : p ≡ r = same_Some p r is in
-    let a : Asks p x = rw same asks in
-    absurd (omega (arith, a.to, asks_behind domain (marked_by map p) (p.pos + p.asked) ps j x q run.1 is' asks'))
-asks_once domain map cursor (p ∷ ps) (suc i) zero x r q run is is' asks asks' =
-    let same : p ≡ q = same_Some p q is' in
-    let a : Asks p x = rw same asks' in
-    absurd (omega (arith, a.to, asks_behind domain (marked_by map p) (p.pos + p.asked) ps i x r run.1 is asks))
-asks_once domain map cursor (p ∷ ps) (suc i) (suc j) x r q run is is' asks asks' = ap suc (asks_once domain (marked_by map p) (p.pos + p.asked) ps i j x r q run.1 is is' asks asks')
+asks_once : (domain : ℕ → Bool) (map : List Status) (reads : List Reading) (i j x : ℕ) (r q : Reading) → IsRun domain map 0 reads → slice_get reads i ≡ Some r → slice_get reads j ≡ Some q → Asks r x → Asks q x → i ≡ j
+asks_once domain map reads i j x r q run is is' asks asks' = ⊎_elim
+    (λ (lt : i < j). absurd (omega (arith, asks.to, asks'.from, reads_ascend domain map 0 reads i j r q run is is' lt)))
+    (λ (le : j ≤ i). ⊎_elim (λ (lt : j < i). absurd (omega (arith, asks.from, asks'.to, reads_ascend domain map 0 reads j i q r run is' is lt))) (λ (ge : i ≤ j). omega arith) (cases_lt j i))
+    (cases_lt i j)
+
+-- a read asks for a position or lies apart from it
+asks_or_apart : (r : Reading) (x : ℕ) → Asks r x ⊎ ((x < r.pos) ⊎ (r.pos + r.asked ≤ x))
+asks_or_apart r x = ⊎_elim (λ (lt : x < r.pos). inr (inl lt)) (λ (from : r.pos ≤ x). ⊎_elim (λ (to : x < r.pos + r.asked). inl (record { from = from; to = to })) (λ (behind : r.pos + r.asked ≤ x). inr (inr behind)) (cases_lt x (r.pos + r.asked))) (cases_lt x r.pos)
 
 -- a position that a run doesn't ask for stands
 unasked_stands : (domain : ℕ → Bool) (map : List Status) (cursor : ℕ) (reads : List Reading) (x : ℕ) → IsRun domain map cursor reads → ((i : ℕ) (r : Reading) → slice_get reads i ≡ Some r → Asks r x → ⊥) → slice_get (map_after map reads) x ≡ slice_get map x
 unasked_stands domain map cursor [] x run none = refl
 unasked_stands domain map cursor (r ∷ rs) x run none =
-    let apart : (x < r.pos) ⊎ (r.pos + r.asked ≤ x) = ⊎_elim (λ (lt : x < r.pos). inl lt) (λ (from : r.pos ≤ x). ⊎_elim (λ (to : x < r.pos + r.asked). absurd (none 0 r refl (record { from = from; to = to }))) (λ (behind : r.pos + r.asked ≤ x). inr behind) (cases_lt x (r.pos + r.asked))) (cases_lt x r.pos) in
+    let apart : (x < r.pos) ⊎ (r.pos + r.asked ≤ x) = ⊎_elim (λ asks. absurd (none 0 r refl asks)) (λ apart. apart) (asks_or_apart r x) in
     unasked_stands domain (marked_by map r) (r.pos + r.asked) rs x run.1 (λ i q is asks. none (suc i) q is asks) ∙ next_outside domain map cursor r x run.0 apart
 
 -- a position before a run's cursor stands
@@ -202,12 +225,35 @@ asks_all domain map cursor (r ∷ rs) x run spent at wanted =
     (suc i, q, is, asks))
     (cases_lt x (r.pos + r.asked))
 
--- a run asks for non-tried positions of the domain alone, each once, and for all of them in the end
+-- what a read leaves was tried
+status_tried : (r : Reading) → status_of r ≡ NonTried → ⊥
+status_tried r same = ⊎_elim (λ whole. let e = sym (cond-true (is_whole r) Finished BadSector whole) ∙ same in cc) (λ part. let e = sym (cond-false (is_whole r) Finished BadSector part) ∙ same in cc) (cases_Bool (is_whole r))
+
+-- what is wanted after a run was wanted before it
+wanted_at_first : (domain : ℕ → Bool) (map : List Status) (cursor : ℕ) (reads : List Reading) (x : ℕ) → IsRun domain map cursor reads → IsWanted domain (map_after map reads) x → IsWanted domain map x
+wanted_at_first domain map cursor [] x run wanted = wanted
+wanted_at_first domain map cursor (r ∷ rs) x run wanted =
+    let w : IsWanted domain (marked_by map r) x = wanted_at_first domain (marked_by map r) (r.pos + r.asked) rs x run.1 wanted in
+    ⊎_elim
+    (λ (a : Asks r x). absurd (status_tried r (same_Some (status_of r) NonTried (sym (next_inside domain map cursor r x run.0 a.from a.to) ∙ w.non_tried))))
+    (λ apart. record { within = w.within; non_tried = sym (next_outside domain map cursor r x run.0 apart) ∙ w.non_tried })
+    (asks_or_apart r x)
+
+-- where no request is left, no position is wanted
+none_wanted : (domain : ℕ → Bool) (map : List Status) (reads : List Reading) (x : ℕ) → IsRun domain map 0 reads → IsSpent domain (map_after map reads) (cursor_after 0 reads) → IsWanted domain (map_after map reads) x → ⊥
+none_wanted domain map reads x run spent wanted =
+    let (i, r, is, asks) = asks_all domain map 0 reads x run spent (omega arith) (wanted_at_first domain map 0 reads x run wanted) in
+    status_tried r (same_Some (status_of r) NonTried (sym (asked_becomes domain map 0 reads i x r run is asks) ∙ wanted.non_tried))
+
+-- a run asks for non-tried positions of the domain alone, in ascending order, and leaves none in the end
 pub runs_over : (domain : ℕ → Bool) (map : List Status) (reads : List Reading) → IsRun domain map 0 reads → RunsOver domain map reads
 runs_over domain map reads run = record {
   wanted = λ i x r is asks. asks_wanted domain map 0 reads i x r run is asks;
-  once = λ i j x r q is is' asks asks'. asks_once domain map 0 reads i j x r q run is is' asks asks';
+  once = λ i j x r q is is' asks asks'. asks_once domain map reads i j x r q run is is' asks asks';
+  ascends = λ i j r q is is' lt. reads_ascend domain map 0 reads i j r q run is is' lt;
+  cut = λ i r is. reads_cut domain map 0 reads i r run is;
   all = λ spent x wanted. asks_all domain map 0 reads x run spent (omega arith) wanted;
+  none_left = λ spent x wanted. none_wanted domain map reads x run spent wanted;
   marks = λ i x r is asks. asked_becomes domain map 0 reads i x r run is asks;
   stands = λ x none. unasked_stands domain map 0 reads x run none;
 }

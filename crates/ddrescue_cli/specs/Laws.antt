@@ -5,12 +5,13 @@ use Rattle.block_list.specs.Map.{Has}
 use Rattle.block_list.specs.Places.{IsRunUp}
 use Rattle.faulty_source.specs.Journal.{Reading, floor}
 use Rattle.mapfile_text.specs.declared.read.MapError.{MapError}
+use Rattle.mapfile_text.specs.declared.read.TheConstants.{TEXT_LIMIT}
 use Rattle.crash_site.specs.Files.{File, bytes_of}
 use Rattle.ddrescue_cli.specs.declared.ending.Ending.{Ending}
 use Rattle.ddrescue_cli.specs.Held.{Held}
 use Rattle.ddrescue_cli.specs.Requests.{inside, IsWanted, IsSpent}
 use Rattle.ddrescue_cli.specs.Reads.{status_of, map_after, cursor_after, IsRun}
-use Rattle.ddrescue_cli.specs.Start.{Stands, IsRefused, IsAccepted, text_limit}
+use Rattle.ddrescue_cli.specs.Start.{Stands, IsRefused, IsAccepted}
 use Rattle.ddrescue_cli.specs.Rescue.{IsVerdict}
 
 -- every old place that no position of the domain has stands
@@ -67,7 +68,7 @@ AcceptedStands = (mapfile : Option File) (end : ℕ) → IsAccepted mapfile → 
 
 -- a mapfile within the limit that stands for a map isn't refused
 abbrev pub StandsAccepted : Type 0
-StandsAccepted = (mapfile : Option File) (end : ℕ) (map : List Status) (shown : ℕ) → length (bytes_of mapfile) ≤ text_limit → Stands mapfile end map shown → IsAccepted mapfile
+StandsAccepted = (mapfile : Option File) (end : ℕ) (map : List Status) (shown : ℕ) → length (bytes_of mapfile) ≤ TEXT_LIMIT → Stands mapfile end map shown → IsAccepted mapfile
 
 -- a mapfile is refused for one error at most
 abbrev pub RefusedForOne : Type 0

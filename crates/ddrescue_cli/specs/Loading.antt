@@ -1,7 +1,8 @@
 use Rattle.std.specs.Prelude.{◌≡◌, ◌⊎◌, ℕ, ◌+◌, ◌<◌, ◌≤◌, List, [], ◌∷◌, ◌++◌, length, sum, All, Option}
+use Rattle.mapfile_text.specs.declared.read.TheConstants.{TEXT_LIMIT}
 use Rattle.crash_site.specs.Files.{File, bytes_of}
 use Rattle.crash_site.specs.Calls.{Call, map_read}
-use Rattle.ddrescue_cli.specs.Start.{text_limit}
+
 
 -- reads of a file from a position on, of which so many bytes were taken each: every one asks for 4,096 bytes, behind
 -- those that were taken
@@ -22,13 +23,13 @@ pub record BeginsLoad (name : List ℕ) (file : Option File) (calls : List Call)
   pub given : List ℕ
   pub pieces : All IsPiece given
   pub within : sum given ≤ length (bytes_of file)
-  pub limited : sum given ≤ text_limit
+  pub limited : sum given ≤ TEXT_LIMIT
   pub calls_are : calls ≡ load_reads name given
 
 -- all reads of a file: up to the one that finds its end, or no such file, or that shows the text to be too long
 pub record IsLoad (name : List ℕ) (file : Option File) (calls : List Call) : Type 0 where
   pub given : List ℕ
   pub pieces : All IsPiece given
-  pub limited : sum given ≤ text_limit
-  pub ends : (sum given ≡ length (bytes_of file)) ⊎ ((text_limit < sum given + 4096) × (text_limit < length (bytes_of file)))
+  pub limited : sum given ≤ TEXT_LIMIT
+  pub ends : (sum given ≡ length (bytes_of file)) ⊎ ((TEXT_LIMIT < sum given + 4096) × (TEXT_LIMIT < length (bytes_of file)))
   pub calls_are : calls ≡ load_reads name given

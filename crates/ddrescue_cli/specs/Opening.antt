@@ -1,13 +1,14 @@
 use Rattle.std.specs.Prelude.{◌≡◌, ◌⊎◌, ℕ, ◌≤◌, true, List, [], ◌∷◌, length, Option, Some}
 use Rattle.fault_count.specs.Counts.{Rose}
 use Rattle.mapfile_text.specs.declared.read.MapError.{MapError}
+use Rattle.mapfile_text.specs.declared.read.TheConstants.{TEXT_LIMIT}
 use Rattle.crash_site.specs.declared.site.SiteCall.TheVariants.{ImageOpen, MapRead}
 use Rattle.crash_site.specs.Files.{File}
 use Rattle.crash_site.specs.Calls.{Call, Entry, Made, BrokeAt, image_open}
 use Rattle.ddrescue_cli.specs.declared.ending.Ending.{Ending}
 use Rattle.ddrescue_cli.specs.declared.ending.Ending.TheVariants.{NotRegular, MapRefused, SiteFault, NoMemory}
 use Rattle.ddrescue_cli.specs.declared.ending.Which.TheVariants.{RunMap}
-use Rattle.ddrescue_cli.specs.Start.{text_limit, TextRefused, IsRefused, IsNamed}
+use Rattle.ddrescue_cli.specs.Start.{TextRefused, IsRefused, IsNamed}
 use Rattle.ddrescue_cli.specs.Loading.{BeginsLoad, IsLoad}
 use Rattle.ddrescue_cli.specs.Run.{is_other}
 
@@ -44,7 +45,7 @@ pub record IsTextOf (file : Option File) (text : List ℕ) : Type 0 where
   pub there : File
   pub is : file ≡ Some there
   pub bytes : there.bytes ≡ text
-  pub within : length text ≤ text_limit
+  pub within : length text ≤ TEXT_LIMIT
 
 -- why a text gave no map to begin with
 abbrev pub TextStop : List ℕ → Ending → Type 0

@@ -177,6 +177,7 @@ pub record RunUnwritten (reads : List Reading) (calls calls' : List Entry) : Typ
 
 -- what a run did over a map that it began with, up to its end or to where it stopped
 pub record Ran (e : Ending) (map draft : List ℕ) (heading : HeadingLines) (source_tells site_tells : Bool) (end : ℕ) (start_map : List Status) (shown : ℕ) (journal journal' : List Reading) (calls calls' : List Entry) : Type 0 where
+  pub later : IsBeforeReads e → ⊥
   pub reads : List Reading
   pub run : IsRun (inside end) start_map 0 reads
   pub told : IsTrue source_tells → journal' ≡ journal ++ reads

@@ -7,6 +7,7 @@ use Rattle.mapfile_text.specs.declared.read.Mode.TheVariants.{Tight}
 use Rattle.mapfile_text.specs.declared.read.MapError.{MapError}
 use Rattle.mapfile_text.specs.declared.read.MapError.TheVariants.{NoStatusLine, TooLong, NoMemory}
 use Rattle.mapfile_text.specs.MapText.{IsMapText, MapFault, Blank}
+use Rattle.mapfile_text.specs.declared.read.TheConstants.{TEXT_LIMIT}
 use Rattle.crash_site.specs.Files.{File}
 
 -- nothing of the input was tried yet, and the rescue stands at its start
@@ -38,15 +39,11 @@ StandsFor (Some f) end map shown = TextStands f.bytes end map shown
 pub record Stands (mapfile : Option File) (end : ℕ) (map : List Status) (shown : ℕ) : Type 0 where
   pub stands : StandsFor mapfile end map shown
 
--- the most bytes that a mapfile may have
-abbrev pub text_limit : ℕ
-text_limit = 2 ^ 28
-
 -- why a mapfile's text is refused: it is too long, or it says something and is no map
 abbrev pub TextRefused : List ℕ → MapError → Type 0
 TextRefused text e =
-    ((e ≡ TooLong) × (text_limit < length text))
-    ⊎ ((length text ≤ text_limit) × (Blank text → ⊥) × MapFault text Tight e)
+    ((e ≡ TooLong) × (TEXT_LIMIT < length text))
+    ⊎ ((length text ≤ TEXT_LIMIT) × (Blank text → ⊥) × MapFault text Tight e)
 
 -- why a mapfile is refused; an absent one never is
 abbrev pub IsRefused : Option File → MapError → Type 0

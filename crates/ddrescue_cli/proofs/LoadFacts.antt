@@ -1,0 +1,172 @@
+-- A mapfile that is read piece by piece.
+use Rattle.std.proofs.Common.{◌≡◌, ◌⊎◌, ℕ, zero, suc, ◌+◌, ◌-◌, ◌<◌, ◌≤◌, List, [], ◌∷◌, ◌++◌, length, take, drop, map, Option, Some, None, refl, sym, ap, ◌∙◌, subst, inl, inr, arith, length-append}
+use Rattle.std.specs.List.{sum, All, slice_range}
+use Rattle.std.proofs.lemmas.List.{length-take-le, length-take, length-drop, take_all}
+use Rattle.std.proofs.lemmas.List.Elements.{All-append}
+use Rattle.std.proofs.lemmas.List.Sums.{sum_by-append, sum_by-cons}
+use Rattle.std.proofs.Math.Seq.{take-add}
+use Rattle.mapfile_text.specs.declared.read.MapError.TheVariants.{TooLong}
+use Rattle.mapfile_text.specs.declared.read.TheConstants.{TEXT_LIMIT}
+use Rattle.crash_site.specs.declared.site.MapRead.{MapRead}
+use Rattle.crash_site.specs.declared.site.MapRead.TheVariants.{Bytes, Absent}
+use Rattle.crash_site.specs.declared.site.SiteCall.TheVariants.{MapRead as ReadCall}
+use Rattle.crash_site.specs.Files.{File, bytes_of, IsRead}
+use Rattle.crash_site.specs.Calls.{Call, Entry, Done, Made, Lost, map_read}
+use Rattle.crash_site.specs.Folder.{Folder, after}
+use Rattle.ddrescue_cli.specs.declared.ending.Ending.{Ending}
+use Rattle.ddrescue_cli.specs.declared.ending.Ending.TheVariants.{MapRefused, SiteFault, NoMemory}
+use Rattle.ddrescue_cli.specs.declared.ending.Which.TheVariants.{RunMap}
+use Rattle.ddrescue_cli.specs.Start.{TextRefused}
+use Rattle.ddrescue_cli.specs.Loading.{piece_reads, load_reads, IsPiece, BeginsLoad, IsLoad}
+use Rattle.ddrescue_cli.specs.Opening.{LoadStop, Starved, Refused, Broken, Loaded, IsTextOf, TextStop}
+use Rattle.ddrescue_cli.proofs.CallFacts.{after-append, made_more, broke_back}
+use Rattle.ddrescue_cli.proofs.FolderFacts.{pieces_stand}
+
+-- the text is a file's beginning, read in pieces
+pub record Pieces (name : List ℕ) (file : Option File) (text : List ℕ) (calls calls' : List Entry) : Type 0 where
+  pub given : List ℕ
+  pub pieces : All IsPiece given
+  pub counted : sum given ≡ length text
+  pub within : length text ≤ length (bytes_of file)
+  pub limited : length text ≤ TEXT_LIMIT
+  pub front : text ≡ take (length text) (bytes_of file)
+  pub made : Made (piece_reads name 0 given) calls calls'
+
+-- one piece more
+piece_reads-append : (name : List ℕ) (pos : ℕ) (given : List ℕ) (n : ℕ) → piece_reads name pos (given ++ n ∷ []) ≡ piece_reads name pos given ++ map_read name (pos + sum given) 4096 ∷ []
+piece_reads-append name pos [] n = ap (λ at. map_read name at 4096 ∷ []) (omega arith)
+piece_reads-append name pos (g ∷ gs) n =
+    let at : pos + g + sum gs ≡ pos + sum (g ∷ gs) = omega (arith, sum_by-cons (λ x. x) g gs) in
+    ap (λ calls. map_read name pos 4096 ∷ calls) (piece_reads-append name (pos + g) gs n ∙ ap (λ at. piece_reads name (pos + g) gs ++ map_read name at 4096 ∷ []) at)
+
+-- what the next read finds
+pub read_behind : (name text : List ℕ) (start start' : Folder) (calls calls' : List Entry) (pos : ℕ) (buf : List ℕ) (read : MapRead) → Pieces name ((after start calls).files name) text calls calls' → start' ≡ start
+    → IsRead ((after start' calls').files name) pos buf read → IsRead ((after start calls).files name) pos buf read
+read_behind name text start start' calls calls' pos buf read p same r =
+    let stands : after start' calls' ≡ after start calls = ap (λ d. after d calls') same ∙ ap (after start) p.made ∙ after-append start calls (map Done (piece_reads name 0 p.given)) ∙ pieces_stand (after start calls) name 0 p.given in
+    subst (λ (d : Folder). IsRead (d.files name) pos buf read) stands r
+
+-- the calls of the pieces, and one read more
+made_behind : (name : List ℕ) (file : Option File) (text : List ℕ) (calls calls' calls'' : List Entry) (pos asked : ℕ) (p : Pieces name file text calls calls') → pos ≡ length text → asked ≡ 4096
+    → calls'' ≡ calls' ++ Done (map_read name pos asked) ∷ [] → Made (load_reads name p.given) calls calls''
+made_behind name file text calls calls' calls'' pos asked p at size done =
+    let from : pos ≡ sum p.given = at ∙ sym p.counted in
+    made_more calls calls' calls'' (piece_reads name 0 p.given) (map_read name (sum p.given) 4096 ∷ []) p.made (rw (from, size) at done)
+
+-- the pieces, and one read more, are first reads of the file
+begins : (name : List ℕ) (file : Option File) (text : List ℕ) (calls calls' : List Entry) (p : Pieces name file text calls calls') → BeginsLoad name file (load_reads name p.given)
+begins name file text calls calls' p = record { given = p.given; pieces = p.pieces; within = omega (arith, p.counted, p.within); limited = omega (arith, p.counted, p.limited); calls_are = refl }
+
+-- a read that finds no bytes ends the load
+loaded : (name : List ℕ) (file : Option File) (text : List ℕ) (calls calls' calls'' : List Entry) (pos asked : ℕ) → Pieces name file text calls calls' → pos ≡ length text → asked ≡ 4096
+    → calls'' ≡ calls' ++ Done (map_read name pos asked) ∷ [] → length (bytes_of file) ≤ length text → Loaded name file calls calls''
+loaded name file text calls calls' calls'' pos asked p at size done ends = record {
+  reads = load_reads name p.given;
+  load = record { given = p.given; pieces = p.pieces; limited = omega (arith, p.counted, p.limited); ends = inl (omega (arith, p.counted, p.within)); calls_are = refl };
+  made = made_behind name file text calls calls' calls'' pos asked p at size done;
+}
+
+-- a read finds no file where none is
+pub no_file : (file : Option File) (pos : ℕ) (buf : List ℕ) → IsRead file pos buf Absent → file ≡ None
+no_file None pos buf r = refl
+no_file (Some f) pos buf r = absurd r
+
+-- a load that finds no file has ended
+pub loaded_none : (name : List ℕ) (file : Option File) (text : List ℕ) (calls calls' calls'' : List Entry) (pos asked : ℕ) (buf : List ℕ) → Pieces name file text calls calls' → pos ≡ length text → asked ≡ 4096
+    → calls'' ≡ calls' ++ Done (map_read name pos asked) ∷ [] → IsRead file pos buf Absent → Loaded name file calls calls''
+loaded_none name None text calls calls' calls'' pos asked buf p at size done r = loaded name None text calls calls' calls'' pos asked p at size done (omega arith)
+loaded_none name (Some f) text calls calls' calls'' pos asked buf p at size done r = absurd r
+
+-- so has one that comes to the file's end
+pub loaded_all : (name : List ℕ) (file : Option File) (text : List ℕ) (calls calls' calls'' : List Entry) (pos asked : ℕ) (buf : List ℕ) (n : ℕ) → Pieces name file text calls calls' → pos ≡ length text → asked ≡ 4096
+    → calls'' ≡ calls' ++ Done (map_read name pos asked) ∷ [] → IsRead file pos buf (Bytes n) → n ≡ 0 → Loaded name file calls calls''
+loaded_all name None text calls calls' calls'' pos asked buf n p at size done r nothing = absurd r
+loaded_all name (Some f) text calls calls' calls'' pos asked buf n p at size done r nothing = loaded name (Some f) text calls calls' calls'' pos asked p at size done (omega (arith, r.1 nothing))
+
+-- the text at the file's end
+pub all_text : (name : List ℕ) (file : Option File) (text : List ℕ) (calls calls' : List Entry) (pos : ℕ) (buf : List ℕ) (n : ℕ) → Pieces name file text calls calls' → pos ≡ length text
+    → IsRead file pos buf (Bytes n) → n ≡ 0 → IsTextOf file text
+all_text name None text calls calls' pos buf n p at r nothing = absurd r
+all_text name (Some f) text calls calls' pos buf n p at r nothing = record {
+  there = f;
+  is = refl;
+  bytes = sym (p.front ∙ take_all (length text) f.bytes (omega (arith, r.1 nothing)));
+  within = p.limited;
+}
+
+-- one piece by itself
+one_piece : (n : ℕ) → 0 < n → n ≤ 4096 → All IsPiece (n ∷ [])
+one_piece n some few zero d h = (some, few)
+one_piece n some few (suc k) d h = absurd (omega arith)
+
+-- the bytes that a read gave stand in the file
+piece_within : (bytes : List ℕ) (pos n : ℕ) (buf : List ℕ) → 0 < n → n ≤ length buf → take n buf ≡ slice_range bytes pos (pos + n) → pos + n ≤ length bytes
+piece_within bytes pos n buf some few same = omega (arith, ap length same, length-take-le n buf few, length-take (pos + n - pos) (drop pos bytes), length-drop pos bytes)
+
+-- the pieces, and the one that a read gave
+pub more_pieces : (name : List ℕ) (file : Option File) (text text' : List ℕ) (calls calls' calls'' : List Entry) (pos asked : ℕ) (buf : List ℕ) (n : ℕ) → Pieces name file text calls calls' → pos ≡ length text → asked ≡ 4096
+    → calls'' ≡ calls' ++ Done (map_read name pos asked) ∷ [] → IsRead file pos buf (Bytes n) → 0 < n → n ≤ asked → n ≤ length buf → text' ≡ text ++ take n buf → length text' ≤ TEXT_LIMIT → Pieces name file text' calls calls''
+more_pieces name None text text' calls calls' calls'' pos asked buf n p at size done r some few fits added short = absurd r
+more_pieces name (Some f) text text' calls calls' calls'' pos asked buf n p at size done r some few fits added short =
+    let in_file : pos + n ≤ length f.bytes = piece_within f.bytes pos n buf some fits r.0 in
+    let long : length text' ≡ length text + n = ap length added ∙ length-append text (take n buf) ∙ ap (λ k. length text + k) (length-take-le n buf fits) in
+    let n_is : pos + n - pos ≡ n = omega arith in
+    let piece : take n buf ≡ take n (drop (length text) f.bytes) = r.0 ∙ rw (n_is, at) refl in
+    let all : 0 + sum p.given ≡ sum p.given = omega arith in
+    let more : piece_reads name 0 (p.given ++ n ∷ []) ≡ load_reads name p.given = piece_reads-append name 0 p.given n ∙ ap (λ at. piece_reads name 0 p.given ++ map_read name at 4096 ∷ []) all in
+    record {
+      given = p.given ++ n ∷ [];
+      pieces = All-append IsPiece p.given (n ∷ []) p.pieces (one_piece n some (rw (← size) few));
+      counted = omega (arith, sum_by-append (λ x. x) p.given (n ∷ []), p.counted, long);
+      within = omega arith;
+      limited = short;
+      front = added ∙ ap (λ t. t ++ take n buf) p.front ∙ ap (λ t. take (length text) f.bytes ++ t) piece ∙ sym (ap (λ k. take k f.bytes) long ∙ take-add (length text) n f.bytes);
+      made = subst (λ reads. Made reads calls calls'') (sym more) (made_behind name (Some f) text calls calls' calls'' pos asked p at size done);
+    }
+
+-- a read that failed
+pub broken : (name : List ℕ) (file : Option File) (text : List ℕ) (calls calls' calls'' : List Entry) (pos asked : ℕ) → Pieces name file text calls calls' → pos ≡ length text → asked ≡ 4096
+    → Lost (map_read name pos asked) calls' calls'' → LoadStop name file (SiteFault ReadCall) calls calls''
+broken name file text calls calls' calls'' pos asked p at size lost =
+    let from : pos ≡ sum p.given = at ∙ sym p.counted in
+    let lost_there : Lost (map_read name (sum p.given) 4096) calls' calls'' = rw (from, size) at lost in
+    Broken (load_reads name p.given) refl (begins name file text calls calls' p) (broke_back ReadCall (piece_reads name 0 p.given) (map_read name (sum p.given) 4096 ∷ []) calls calls' calls'' p.made (inl (refl, lost_there)))
+
+-- a piece that didn't fit, for want of memory or since it makes the text too long
+pub stopped : (name : List ℕ) (file : Option File) (text : List ℕ) (calls calls' calls'' : List Entry) (pos asked : ℕ) (buf : List ℕ) (n : ℕ) (e : Ending) → Pieces name file text calls calls' → pos ≡ length text → asked ≡ 4096
+    → calls'' ≡ calls' ++ Done (map_read name pos asked) ∷ [] → IsRead file pos buf (Bytes n) → 0 < n → n ≤ asked → n ≤ length buf
+    → (e ≡ NoMemory) ⊎ ((e ≡ MapRefused RunMap TooLong) × (TEXT_LIMIT < length text + n)) → LoadStop name file e calls calls''
+stopped name None text calls calls' calls'' pos asked buf n e p at size done r some few fits why = absurd r
+stopped name (Some f) text calls calls' calls'' pos asked buf n e p at size done r some few fits why =
+    let made = made_behind name (Some f) text calls calls' calls'' pos asked p at size done in
+    elim why [
+      | inl x ↦ Starved (load_reads name p.given) x (begins name (Some f) text calls calls' p) made
+      | inr x ↦
+          let long : TEXT_LIMIT < length f.bytes = omega (arith, x.1, piece_within f.bytes pos n buf some fits r.0) in
+          Refused TooLong (load_reads name p.given) x.0 (inl (refl, long))
+          (record { given = p.given; pieces = p.pieces; limited = omega (arith, p.counted, p.limited); ends = inr (omega (arith, x.1, p.counted), long); calls_are = refl }) made
+    ]
+
+-- all reads of a file are also the first ones
+pub load_begins : (name : List ℕ) (file : Option File) (reads : List Call) → IsLoad name file reads → BeginsLoad name file reads
+load_begins name file reads l = record {
+  given = l.given;
+  pieces = l.pieces;
+  within = elim l.ends [ inl x ↦ omega (arith, x) | inr x ↦ omega (arith, l.limited, x.1) ];
+  limited = l.limited;
+  calls_are = l.calls_are;
+}
+
+-- a load that ended, and no memory for its map
+pub starved_behind : (name : List ℕ) (file : Option File) (e : Ending) (calls calls' : List Entry) → Loaded name file calls calls' → e ≡ NoMemory → LoadStop name file e calls calls'
+starved_behind name file e calls calls' l is = Starved l.reads is (load_begins name file l.reads l.load) l.made
+
+-- a load that ended, and a text that gave no map
+pub stopped_behind : (name : List ℕ) (file : Option File) (text : List ℕ) (e : Ending) (calls calls' : List Entry) → Loaded name file calls calls' → IsTextOf file text → TextStop text e → LoadStop name file e calls calls'
+stopped_behind name file text e calls calls' l t stop =
+    elim stop [
+      | inl x ↦ starved_behind name file e calls calls' l x
+      | inr x ↦
+          let of_there : TextRefused t.there.bytes x.0 = rw t.bytes x.3 in
+          Refused x.0 l.reads x.1 (rw t.is of_there) l.load l.made
+    ]
