@@ -1,15 +1,13 @@
-use Rattle.std.proofs.Common.{◌≡◌, ℕ, ◌+◌, ◌-◌, ◌<◌, ◌≤◌, Bool, IsTrue, List, [], ◌∷◌, ◌++◌, length, map, refl, sym, ap, ◌∙◌, arith, append_assoc, append-nil}
+use Rattle.std.proofs.Common.{◌≡◌, ℕ, ◌+◌, ◌≤◌, Bool, List, [], ◌∷◌, ◌++◌, length, sym, ap, ◌∙◌, arith, append_assoc}
 use Rattle.std.proofs.lemmas.Grind.{common_steps}
-use Rattle.std.proofs.lemmas.List.{map-append}
 use Rattle.std.specs.List.{flat_map}
 use Rattle.block_list.specs.declared.status.Status.{Status}
-use Rattle.block_list.specs.Map.{marked}
 use Rattle.block_list.proofs.Places.{length-marked}
 use Rattle.faulty_source.specs.Journal.{Reading}
-use Rattle.crash_site.specs.Calls.{Call, Entry, Done, Made}
+use Rattle.crash_site.specs.Calls.{Entry}
 use Rattle.ddrescue_cli.specs.declared.ending.Ending.{Ending}
 use Rattle.ddrescue_cli.specs.Requests.{inside, IsRequest}
-use Rattle.ddrescue_cli.specs.Reads.{status_of, map_after, cursor_after, IsNext, IsRun, write_of, writes_of}
+use Rattle.ddrescue_cli.specs.Reads.{status_of, map_after, cursor_after, IsNext, write_of, writes_of}
 use Rattle.ddrescue_cli.specs.Copying.{Turn, Halt, Copied, Halted}
 use Rattle.ddrescue_cli.proofs.RunFacts.{run_more, map_after_more, cursor_after_more}
 use Rattle.ddrescue_cli.proofs.CallFacts.{made_more}

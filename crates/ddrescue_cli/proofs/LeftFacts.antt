@@ -24,7 +24,7 @@ use Rattle.ddrescue_cli.proofs.CallFacts.{after-append}
 use Rattle.ddrescue_cli.proofs.RunFacts.{length_map_after, cursor_after_small}
 use Rattle.ddrescue_cli.proofs.StartFacts.{printed_stands}
 use Rattle.ddrescue_cli.proofs.WentFacts.{Facts}
-use Rattle.ddrescue_cli.proofs.FolderFacts.{apart_of, bytes_eq-flip, draft_apart, put_same, put_other, IsOpenImage, open_image, pieces_stand, load_stands, loaded_folder, after_made, written_folder, IsSaved, save_image, run_files}
+use Rattle.ddrescue_cli.proofs.FolderFacts.{apart_of, bytes_eq-flip, draft_apart, put_same, put_other, IsOpenImage, open_image, pieces_stand, load_stands, after_made, written_folder, IsSaved, save_image, run_files}
 
 failed_files : (d : Folder) (call : Call) → (after_failed d call).files ≡ d.files
 failed_files d (image_open name make) = refl

@@ -1,13 +1,12 @@
-use Rattle.std.proofs.Common.{◌≡◌, ◌≢◌, ◌⊎◌, ℕ, ◌<◌, ◌^◌, Bool, true, false, IsTrue, List, [], ◌∷◌, ◌++◌, length, Option, Some, None, refl, sym, ap, ◌∙◌, ⊎_elim, inl, inr, subst, append-nil}
+use Rattle.std.proofs.Common.{◌≡◌, ◌≢◌, ℕ, Bool, true, IsTrue, List, [], ◌∷◌, ◌++◌, length, Option, Some, None, refl, sym, ap, ◌∙◌, ⊎_elim, inl, inr, subst, append-nil}
 use Rattle.std.specs.Str.{bytes_eq}
 use Rattle.std.proofs.lemmas.Slice.Eq.{bytes_eq-Decides}
 use Rattle.block_list.specs.declared.status.Status.{Status}
 use Rattle.faulty_source.specs.Journal.{Reading}
 use Rattle.mapfile_text.specs.HeadingLines.{HeadingLines}
-use Rattle.crash_site.specs.declared.site.SiteCall.{SiteCall}
 use Rattle.crash_site.specs.declared.site.SiteCall.TheVariants.{ImageOpen, ImageRead, ImageWrite, ImageSync, MapRead, DraftBegin, DraftAppend, DraftSync, DraftPublish, MapSettle, MapRemove}
-use Rattle.crash_site.specs.Files.{File, bytes_of, empty_file}
-use Rattle.crash_site.specs.Calls.{Entry, Made}
+use Rattle.crash_site.specs.Files.{File, bytes_of}
+use Rattle.crash_site.specs.Calls.{Entry}
 use Rattle.ddrescue_cli.specs.declared.ending.Ending.{Ending}
 use Rattle.ddrescue_cli.specs.declared.ending.Ending.TheVariants.{Done as Finished, WrongNumber, WrongWord, SameName, SourceFault, NotRegular, MapRefused, SourceLost, SiteFault, NoMemory}
 use Rattle.ddrescue_cli.specs.Operands.{outfile, mapfile, draft, refusal_of_words, OfWords, AreNamedApart}
@@ -16,9 +15,9 @@ use Rattle.ddrescue_cli.specs.Reads.{map_after, cursor_after, IsRun, landed, gai
 use Rattle.ddrescue_cli.specs.Start.{Stands}
 use Rattle.ddrescue_cli.specs.Saved.{heading}
 use Rattle.ddrescue_cli.specs.Held.{Held}
-use Rattle.ddrescue_cli.specs.Run.{is_other, FilesAllow, AtWords, IsBeforeReads, IsAfterReads, IsAfterLoad, IsPublished, StopCause, Went}
-use Rattle.ddrescue_cli.specs.Rescue.{IsAnswer, IsVerdict, VerdictOf, IsReadInOrder, IsCalled, AreRescued, OutputHolds, MapfileHolds, FoundHolds}
-use Rattle.ddrescue_cli.specs.Left.{AllStand, made, OutputMade, Unpublished, LastWriteFailed, FilesLeft}
+use Rattle.ddrescue_cli.specs.Run.{FilesAllow, AtWords, IsBeforeReads, IsAfterLoad, IsPublished, StopCause, Went}
+use Rattle.ddrescue_cli.specs.Rescue.{IsAnswer, VerdictOf, IsReadInOrder, IsCalled, AreRescued, OutputHolds, MapfileHolds, FoundHolds}
+use Rattle.ddrescue_cli.specs.Left.{AllStand, made, OutputMade, Unpublished, FilesLeft}
 use Rattle.ddrescue_cli.proofs.StartFacts.{stands_for_one, verdict_exists, accepted_verdict}
 use Rattle.ddrescue_cli.proofs.HeldFacts.{held_now, held_before, held_unread}
 use Rattle.ddrescue_cli.proofs.WentFacts.{Facts, facts_told, gained_is, went_early}

@@ -1,27 +1,25 @@
-use Rattle.std.proofs.Common.{◌≡◌, ◌⊎◌, ℕ, ◌<◌, ◌^◌, Bool, true, false, IsTrue, List, [], ◌∷◌, ◌++◌, length, map, Option, Some, None, refl, sym, ap, ◌∙◌, ⊎_elim, inl, inr, subst, append-nil, drop}
+use Rattle.std.proofs.Common.{◌≡◌, ℕ, Bool, true, false, IsTrue, List, [], ◌∷◌, ◌++◌, length, Option, Some, None, refl, sym, ap, ◌∙◌, ⊎_elim, subst, append-nil, drop}
 use Rattle.std.specs.Str.{bytes_eq}
 use Rattle.std.proofs.Math.Seq.{drop-append_seam}
 use Rattle.block_list.specs.declared.status.Status.{Status}
 use Rattle.faulty_source.specs.Journal.{Reading}
 use Rattle.mapfile_text.specs.HeadingLines.{HeadingLines}
-use Rattle.mapfile_text.specs.declared.read.MapError.{MapError}
 use Rattle.crash_site.specs.declared.site.SiteCall.{SiteCall}
 use Rattle.crash_site.specs.declared.site.SiteCall.TheVariants.{ImageOpen, ImageRead, ImageWrite, ImageSync, MapRead, DraftBegin, DraftAppend, DraftSync, DraftPublish, MapSettle, MapRemove}
 use Rattle.crash_site.specs.Files.{File}
-use Rattle.crash_site.specs.Calls.{Call, Entry, Done, Made, BrokeAt, image_open, image_write}
+use Rattle.crash_site.specs.Calls.{Call, Entry, Done, Made, BrokeAt, image_open}
 use Rattle.crash_site.specs.Folder.{Folder, opened, after}
-use Rattle.ddrescue_cli.specs.declared.ending.Which.TheVariants.{RunMap}
 use Rattle.ddrescue_cli.specs.declared.ending.Ending.{Ending}
 use Rattle.ddrescue_cli.specs.declared.ending.Ending.TheVariants.{Done as Finished, WrongNumber, WrongWord, SameName, SourceFault, NotRegular, MapRefused, SourceLost, SiteFault, NoMemory}
 use Rattle.ddrescue_cli.specs.Requests.{inside, IsSpent}
 use Rattle.ddrescue_cli.specs.Operands.{outfile, mapfile, draft}
 use Rattle.ddrescue_cli.specs.Reads.{map_after, cursor_after, IsRun, writes_of, gained}
-use Rattle.ddrescue_cli.specs.Start.{Stands, IsRefused, IsAccepted}
-use Rattle.ddrescue_cli.specs.Loading.{BeginsLoad, IsLoad}
+use Rattle.ddrescue_cli.specs.Start.{Stands, IsAccepted}
+use Rattle.ddrescue_cli.specs.Loading.{IsLoad}
 use Rattle.ddrescue_cli.specs.Opening.{OutputCause, OutputStop, LoadCause, LoadStop, Starved, Refused, Broken, Loaded}
 use Rattle.ddrescue_cli.specs.Saved.{heading, saved_text}
-use Rattle.ddrescue_cli.specs.Run.{is_other, save_calls, run_calls, CallsOf, CallsBroken, AtLoad, AtRun, IsOpening, IsBeforeReads, IsAfterReads, IsAfterLoad, FilesAllow, CallAllowed, Fits, RunCause, RunCalls, RunUnwritten, LastUnwritten, Ran, Went}
-use Rattle.ddrescue_cli.proofs.CallFacts.{made_more, broke_front, broke_back, after-append}
+use Rattle.ddrescue_cli.specs.Run.{is_other, save_calls, CallsOf, CallsBroken, AtLoad, AtRun, IsOpening, IsBeforeReads, IsAfterReads, IsAfterLoad, FilesAllow, CallAllowed, Fits, RunCause, RunCalls, RunUnwritten, LastUnwritten, Ran, Went}
+use Rattle.ddrescue_cli.proofs.CallFacts.{made_more, broke_back, after-append}
 use Rattle.ddrescue_cli.proofs.FolderFacts.{bytes_eq-flip}
 
 -- a rescue that stopped before its first read
@@ -81,7 +79,7 @@ went_load e out name draft h ts td td' bytes file file' end faults faults' j0 j1
     let P : Option File → Type 0 = λ f. LoadStop name f e c1 c2 in
     let Early : Ending → Type 0 = λ v. (IsAfterLoad v [] → ⊥) × (IsAfterReads v → ⊥) × (v ≡ SiteFault ImageWrite → ⊥) in
     let early : Early e = ⊎_elim (λ l. subst Early (sym l) (λ b. b refl, λ a. a, λ q. cc))
-        (λ r. ⊎_elim (λ m. subst Early (sym m.1) (λ b. b tt, λ a. a, λ q. cc)) (λ f. subst Early (sym f.0) (λ b. b tt, λ a. a, λ q. cc)) r) cause in
+    (λ r. ⊎_elim (λ m. subst Early (sym m.1) (λ b. b tt, λ a. a, λ q. cc)) (λ f. subst Early (sym f.0) (λ b. b tt, λ a. a, λ q. cc)) r) cause in
     went_early e out name draft h ts td bytes file end j0 j1 c0 c2 all before (λ t text. load_calls e out name draft file text c0 c1 c2 (opened t) (subst P (same t) (stop (rw same_d t)))) early.0 early.1 early.2
 
 -- the calls of a run, behind those of the opening

@@ -3,7 +3,6 @@ use Rattle.mapfile_text.specs.declared.read.TheConstants.{TEXT_LIMIT}
 use Rattle.crash_site.specs.Files.{File, bytes_of}
 use Rattle.crash_site.specs.Calls.{Call, map_read}
 
-
 -- reads of a file from a position on, of which so many bytes were taken each: every one asks for 4,096 bytes, behind
 -- those that were taken
 abbrev pub piece_reads : (name : List ℕ) → (pos : ℕ) → (given : List ℕ) → List Call

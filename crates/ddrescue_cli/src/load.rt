@@ -63,7 +63,9 @@ fn resume(map: ReadMap, end: u64) -> Result<Start, Ending>
     ensures starved { IfErr result (λ e. e ≡ OutOfMemory) }
 {
     let ReadMap {
-        state, mut tiles, ..
+        state,
+        mut tiles,
+        ..
     } = map;
     extend(&mut tiles, end).map_err(|_| Ending::NoMemory)?;
     Ok(Start {
@@ -105,8 +107,7 @@ fn add_piece(text: &mut Vec<u8>, piece: &[u8]) -> Result<(), Ending>
             error: MapError::TooLong,
         });
     }
-    text.extend_from_slice(piece)
-        .map_err(|_| Ending::NoMemory)
+    text.extend_from_slice(piece).map_err(|_| Ending::NoMemory)
 }
 
 /// Reads a mapfile to its end, piece by piece. None where there is no such file.

@@ -57,7 +57,9 @@ fn run<S: Source, D: Site>(
     ensures start { IsTrue (D.tells site.old) → D.start site.new ≡ D.start site.old }
 {
     let Start {
-        mut tiles, shown, ..
+        mut tiles,
+        shown,
+        ..
     } = start;
     let shown = copy_all(source, site, &mut tiles, end, shown)?;
     let state = MapState {

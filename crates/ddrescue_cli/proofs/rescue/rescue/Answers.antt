@@ -1,4 +1,3 @@
-use Rattle.std.proofs.Common.{refl}
 use Rattle.std.proofs.lemmas.Result.{err_from_is_err_and, on_ok_weaker, IfErr-weaker}
 use Rattle.ddrescue_cli.proofs.WentFacts.{went_source, went_output, went_load, went_run, open_apart, allowed_load, allowed_done, allowed_run}
 use Rattle.ddrescue_cli.proofs.rescue.rescue.Goals as goal

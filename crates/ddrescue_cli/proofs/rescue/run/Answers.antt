@@ -1,8 +1,6 @@
 use Rattle.std.proofs.Common.{◌∙◌}
 use Rattle.std.proofs.lemmas.Result.{err_from_is_err_and}
 use Rattle.ddrescue_cli.proofs.RanFacts.{ran_halted, ran_done, ran_unsaved, printed_is}
-use Rattle.ddrescue_cli.proofs.LeftFacts.{files_left}
-use Rattle.ddrescue_cli.proofs.WentFacts.{went_run}
 use Rattle.ddrescue_cli.proofs.rescue.run.Goals as goal
 
 pub returns-in_err-shown-clause-stopped : goal.returns-in_err-shown-clause-stopped
