@@ -10,6 +10,7 @@ use Rattle.crash_site.specs.Calls.{Entry}
 use Rattle.ddrescue_cli.specs.declared.ending.Ending.{Ending}
 use Rattle.ddrescue_cli.specs.declared.ending.Ending.TheVariants.{Done as Finished, WrongNumber, WrongWord, SameName, SourceFault, NotRegular, MapRefused, SourceLost, SiteFault, NoMemory}
 use Rattle.ddrescue_cli.specs.Operands.{outfile, mapfile, draft, refusal_of_words, OfWords, AreNamedApart}
+use Rattle.ddrescue_cli.specs.Counts.{Counts}
 use Rattle.ddrescue_cli.specs.Requests.{inside}
 use Rattle.ddrescue_cli.specs.Reads.{map_after, cursor_after, IsRun, landed, gained}
 use Rattle.ddrescue_cli.specs.Start.{Stands}
@@ -196,22 +197,22 @@ published_holds (SiteFault DraftPublish) words td end reads files files' c0 c1 f
 published_holds (SiteFault MapRemove) words td end reads files files' c0 c1 f t left p = absurd p
 
 -- the answer to words that bring no refusal
-pub answered : (e : Ending) (words : List (List ℕ)) (files : List ℕ → Option File) (faults faults' losses losses' site_faults site_faults' : ℕ) → refusal_of_words words ≡ None → FilesAllow e (files (outfile words)) (files (mapfile words))
-    → StopCause e faults faults' losses losses' site_faults site_faults' → IsAnswer e words files
-answered NotRegular words files faults faults' losses losses' site_faults site_faults' none allowed cause =
+pub answered : (e : Ending) (words : List (List ℕ)) (files : List ℕ → Option File) (before now : Counts) → refusal_of_words words ≡ None → FilesAllow e (files (outfile words)) (files (mapfile words))
+    → StopCause e before now → IsAnswer e words files
+answered NotRegular words files before now none allowed cause =
     let P : Option Ending → Type 0 = λ r. VerdictOf r (files (outfile words)) (files (mapfile words)) NotRegular in
     record { verdict = NotRegular; is = record { first = subst P (sym none) allowed }; given = inl refl }
-answered (MapRefused which error) words files faults faults' losses losses' site_faults site_faults' none allowed cause =
+answered (MapRefused which error) words files before now none allowed cause =
     let P : Option Ending → Type 0 = λ r. VerdictOf r (files (outfile words)) (files (mapfile words)) (MapRefused which error) in
     record { verdict = MapRefused which error; is = record { first = subst P (sym none) allowed }; given = inl refl }
-answered NoMemory words files faults faults' losses losses' site_faults site_faults' none allowed cause = let v = verdict_exists words files in record { verdict = v.0; is = v.1; given = inr (inl refl) }
-answered SourceFault words files faults faults' losses losses' site_faults site_faults' none allowed cause = let v = verdict_exists words files in record { verdict = v.0; is = v.1; given = inr (inr tt) }
-answered SourceLost words files faults faults' losses losses' site_faults site_faults' none allowed cause = let v = verdict_exists words files in record { verdict = v.0; is = v.1; given = inr (inr tt) }
-answered (SiteFault call) words files faults faults' losses losses' site_faults site_faults' none allowed cause = let v = verdict_exists words files in record { verdict = v.0; is = v.1; given = inr (inr tt) }
-answered Finished words files faults faults' losses losses' site_faults site_faults' none allowed cause = absurd cause
-answered (WrongNumber given) words files faults faults' losses losses' site_faults site_faults' none allowed cause = absurd cause
-answered (WrongWord word) words files faults faults' losses losses' site_faults site_faults' none allowed cause = absurd cause
-answered (SameName a b) words files faults faults' losses losses' site_faults site_faults' none allowed cause = absurd cause
+answered NoMemory words files before now none allowed cause = let v = verdict_exists words files in record { verdict = v.0; is = v.1; given = inr (inl refl) }
+answered SourceFault words files before now none allowed cause = let v = verdict_exists words files in record { verdict = v.0; is = v.1; given = inr (inr tt) }
+answered SourceLost words files before now none allowed cause = let v = verdict_exists words files in record { verdict = v.0; is = v.1; given = inr (inr tt) }
+answered (SiteFault call) words files before now none allowed cause = let v = verdict_exists words files in record { verdict = v.0; is = v.1; given = inr (inr tt) }
+answered Finished words files before now none allowed cause = absurd cause
+answered (WrongNumber given) words files before now none allowed cause = absurd cause
+answered (WrongWord word) words files before now none allowed cause = absurd cause
+answered (SameName a b) words files before now none allowed cause = absurd cause
 
 pub answered_done : (words : List (List ℕ)) (files : List ℕ → Option File) → refusal_of_words words ≡ None → FilesAllow Finished (files (outfile words)) (files (mapfile words)) → IsAnswer Finished words files
 answered_done words files none allowed = record { verdict = Finished; is = accepted_verdict words files none allowed.0 allowed.1; given = inl refl }

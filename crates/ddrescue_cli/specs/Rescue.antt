@@ -8,26 +8,25 @@ use Rattle.ddrescue_cli.specs.declared.ending.Which.TheVariants.{RunMap}
 use Rattle.ddrescue_cli.specs.declared.ending.Ending.{Ending}
 use Rattle.ddrescue_cli.specs.declared.ending.Ending.TheVariants.{Done, SourceFault, NotRegular, MapRefused, SourceLost, SiteFault, NoMemory}
 use Rattle.ddrescue_cli.specs.Operands.{outfile, mapfile, draft, refusal_of_words}
+use Rattle.ddrescue_cli.specs.Counts.{Counts, NoneRose}
 use Rattle.ddrescue_cli.specs.Requests.{inside, IsSpent}
 use Rattle.ddrescue_cli.specs.Reads.{map_after, cursor_after, IsRun, landed, gained}
 use Rattle.ddrescue_cli.specs.Start.{Stands, IsRefused, IsNamed}
 use Rattle.ddrescue_cli.specs.Saved.{heading, saved_text}
 use Rattle.ddrescue_cli.specs.Held.{Held}
-use Rattle.ddrescue_cli.specs.Run.{is_other, CallsOf, IsBeforeReads, IsAfterReads, IsAfterLoad, Fits, NoneRose}
+use Rattle.ddrescue_cli.specs.Run.{is_other, CallsOf, IsBeforeReads, IsAfterReads, IsAfterLoad, Fits}
 
 -- Each answer has its cause. The words' own refusal is given exactly where the words bring it, but for want of
 -- memory; a fault or a loss only where the count of the object rose, and no other answer but want of memory hides one.
--- The counts stand before and after the call:
--- the source's faults, its losses, and the site's faults.
-abbrev pub Caused : Ending → (of_words : Option Ending) → (faults faults' losses losses' site_faults site_faults' : ℕ) → Type 0
-Caused Done of_words faults faults' losses losses' site_faults site_faults' = (of_words ≡ None) × NoneRose faults faults' losses losses' site_faults site_faults'
-Caused NoMemory of_words faults faults' losses losses' site_faults site_faults' = ⊤
-Caused SourceFault of_words faults faults' losses losses' site_faults site_faults' = (of_words ≡ None) × Rose faults faults'
-Caused SourceLost of_words faults faults' losses losses' site_faults site_faults' = (of_words ≡ None) × Rose losses losses'
-Caused (SiteFault call) of_words faults faults' losses losses' site_faults site_faults' = (of_words ≡ None) × Rose site_faults site_faults'
-Caused NotRegular of_words faults faults' losses losses' site_faults site_faults' = (of_words ≡ None) × NoneRose faults faults' losses losses' site_faults site_faults'
-Caused (MapRefused which error) of_words faults faults' losses losses' site_faults site_faults' = (of_words ≡ None) × IsNamed error × NoneRose faults faults' losses losses' site_faults site_faults'
-Caused e of_words faults faults' losses losses' site_faults site_faults' = of_words ≡ Some e
+abbrev pub Caused : Ending → (of_words : Option Ending) → (before now : Counts) → Type 0
+Caused Done of_words before now = (of_words ≡ None) × NoneRose before now
+Caused NoMemory of_words before now = ⊤
+Caused SourceFault of_words before now = (of_words ≡ None) × Rose before.faults now.faults
+Caused SourceLost of_words before now = (of_words ≡ None) × Rose before.losses now.losses
+Caused (SiteFault call) of_words before now = (of_words ≡ None) × Rose before.site_faults now.site_faults
+Caused NotRegular of_words before now = (of_words ≡ None) × NoneRose before now
+Caused (MapRefused which error) of_words before now = (of_words ≡ None) × IsNamed error × NoneRose before now
+Caused e of_words before now = of_words ≡ Some e
 
 -- a refusal that the files bring: an outfile that is no regular file, or else a mapfile that is refused
 abbrev pub FilesRefuse : (output map : Option File) → Ending → Type 0

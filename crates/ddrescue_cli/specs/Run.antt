@@ -10,6 +10,7 @@ use Rattle.crash_site.specs.Calls.{Call, Entry, Done as Listed, Made, BrokeAt, i
 use Rattle.ddrescue_cli.specs.declared.ending.Which.TheVariants.{RunMap}
 use Rattle.ddrescue_cli.specs.declared.ending.Ending.{Ending}
 use Rattle.ddrescue_cli.specs.declared.ending.Ending.TheVariants.{Done, SourceFault, NotRegular, MapRefused, SourceLost, SiteFault, NoMemory}
+use Rattle.ddrescue_cli.specs.Counts.{Counts, NoneRose}
 use Rattle.ddrescue_cli.specs.Requests.{inside, IsSpent}
 use Rattle.ddrescue_cli.specs.Reads.{map_after, cursor_after, IsRun, writes_of}
 use Rattle.ddrescue_cli.specs.Start.{Stands, IsRefused, IsAccepted, IsNamed}
@@ -104,21 +105,15 @@ IsPublished Done = ⊤
 IsPublished (SiteFault MapSettle) = ⊤
 IsPublished e = ⊥
 
--- no count rose
-pub record NoneRose (faults faults' losses losses' site_faults site_faults' : ℕ) : Type 0 where
-  pub faults_stay : faults' ≡ faults
-  pub losses_stay : losses' ≡ losses
-  pub site_faults_stay : site_faults' ≡ site_faults
-
 -- why a rescue stopped once its words were read: memory, a count that rose, or a file that stands in its way
-abbrev pub StopCause : Ending → (faults faults' losses losses' site_faults site_faults' : ℕ) → Type 0
-StopCause NoMemory faults faults' losses losses' site_faults site_faults' = ⊤
-StopCause SourceFault faults faults' losses losses' site_faults site_faults' = Rose faults faults'
-StopCause SourceLost faults faults' losses losses' site_faults site_faults' = Rose losses losses'
-StopCause (SiteFault call) faults faults' losses losses' site_faults site_faults' = Rose site_faults site_faults'
-StopCause NotRegular faults faults' losses losses' site_faults site_faults' = NoneRose faults faults' losses losses' site_faults site_faults'
-StopCause (MapRefused which error) faults faults' losses losses' site_faults site_faults' = IsNamed error × NoneRose faults faults' losses losses' site_faults site_faults'
-StopCause e faults faults' losses losses' site_faults site_faults' = ⊥
+abbrev pub StopCause : Ending → (before now : Counts) → Type 0
+StopCause NoMemory before now = ⊤
+StopCause SourceFault before now = Rose before.faults now.faults
+StopCause SourceLost before now = Rose before.losses now.losses
+StopCause (SiteFault call) before now = Rose before.site_faults now.site_faults
+StopCause NotRegular before now = NoneRose before now
+StopCause (MapRefused which error) before now = IsNamed error × NoneRose before now
+StopCause e before now = ⊥
 
 -- what the files say of a failed call: once the output is open it is regular, and once the mapfile is loaded it isn't refused
 abbrev pub CallAllowed : SiteCall → (output map : Option File) → Type 0

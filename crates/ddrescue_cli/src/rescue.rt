@@ -5,8 +5,9 @@ ghost use Rattle.crash_site.specs.Files.{bytes_of};
 ghost use Rattle.crash_site.specs.Folder.{after};
 ghost use Rattle.ddrescue_cli.specs.declared.ending.Ending.TheVariants.{Done, NoMemory as OutOfMemory};
 ghost use Rattle.ddrescue_cli.specs.Operands.{outfile, mapfile, refusal_of_words};
+ghost use Rattle.ddrescue_cli.specs.Counts.{NoneRose};
 ghost use Rattle.ddrescue_cli.specs.Reads.{gained};
-ghost use Rattle.ddrescue_cli.specs.Run.{is_other, FilesAllow, IsBeforeReads, IsPublished, DraftLeft, Fits, NoneRose, Ran, RunCause, Went, StopCause};
+ghost use Rattle.ddrescue_cli.specs.Run.{is_other, FilesAllow, IsBeforeReads, IsPublished, DraftLeft, Fits, Ran, RunCause, Went, StopCause};
 ghost use Rattle.ddrescue_cli.specs.Rescue.{Caused, IsAnswer, IsReadInOrder, IsCalled, MapfileHolds, FoundHolds};
 ghost use Rattle.ddrescue_cli.specs.Left.{FilesLeft, LeftBefore};
 
@@ -106,10 +107,12 @@ pub(crate) fn rescue<S: Source, D: Site>(
     ensures regular { IfErr result (λ e. e ≡ OutOfMemory → IsTrue (D.tells site.old)
         → is_other ((after (D.start site.old)
         (D.record_ site.old)).files plan.now.names.outfile.now) ≡ false) }
-    ensures cause { IfErr result (λ e. StopCause e (S.faults source.old) (S.faults source.new)
-        (S.losses source.old) (S.losses source.new) (D.faults site.old) (D.faults site.new)) }
-    ensures stay { OnOk result (NoneRose (S.faults source.old) (S.faults source.new)
-        (S.losses source.old) (S.losses source.new) (D.faults site.old) (D.faults site.new)) }
+    ensures cause { IfErr result (λ e. StopCause e
+        (record { faults = S.faults source.old; losses = S.losses source.old; site_faults = D.faults site.old })
+        (record { faults = S.faults source.new; losses = S.losses source.new; site_faults = D.faults site.new })) }
+    ensures stay { OnOk result (NoneRose
+        (record { faults = S.faults source.old; losses = S.losses source.old; site_faults = D.faults site.old })
+        (record { faults = S.faults source.new; losses = S.losses source.new; site_faults = D.faults site.new })) }
     ensures draft { OnOk result (D.is_drafting site.new ≡ false) }
     ensures draft_left { IfErr result (λ e. DraftLeft e (D.is_drafting site.new)) }
     ensures source_tells { S.tells source.new ≡ S.tells source.old }
@@ -138,9 +141,9 @@ pub fn ddrescue<S: Source, D: Site>(
     site: &mut D,
 ) -> Ending
     requires { D.is_drafting site.old ≡ false }
-    ensures cause { Caused result (refusal_of_words words.now) (S.faults source.old)
-        (S.faults source.new) (S.losses source.old) (S.losses source.new) (D.faults site.old)
-        (D.faults site.new) }
+    ensures cause { Caused result (refusal_of_words words.now)
+        (record { faults = S.faults source.old; losses = S.losses source.old; site_faults = D.faults site.old })
+        (record { faults = S.faults source.new; losses = S.losses source.new; site_faults = D.faults site.new }) }
     ensures files { IsTrue (D.tells site.old) → FilesAllow result
         ((after (D.start site.old) (D.record_ site.old)).files (outfile words.now))
         ((after (D.start site.old) (D.record_ site.old)).files (mapfile words.now)) }

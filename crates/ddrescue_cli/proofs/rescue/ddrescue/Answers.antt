@@ -38,7 +38,7 @@ returns-in-Ok-rescue-clause-found g c = λ t u.
     found_holds _ _ _ _ _ _ _ _ _ c.in-Ok.ensures.apart (facts_told _ _ _ _ _ _ _ _ _ files _ _ _ _ c.in-Ok-rescue.ensures.went c.in-Ok.ensures.outfile c.in-Ok.ensures.mapfile c.in-Ok.ensures.draft c.in-Ok.ensures.heading t) u (files_left _ _ _ _ _ _ _ _ _ c.in-Ok.ensures.apart (c.rescue.ensures.start u) (rw (← c.in-Ok.ensures.outfile, ← c.in-Ok.ensures.mapfile) (c.in-Ok-rescue.ensures.allowed u)) (λ m. cc) (facts_told _ _ _ _ _ _ _ _ _ files _ _ _ _ c.in-Ok-rescue.ensures.went c.in-Ok.ensures.outfile c.in-Ok.ensures.mapfile c.in-Ok.ensures.draft c.in-Ok.ensures.heading t) u)
 
 pub returns-clause-verdict : goal.returns-clause-verdict
-returns-clause-verdict g c = λ u. answered _ _ _ _ _ _ _ _ _ c.in-Ok.ensures.right (rw (← c.in-Ok.ensures.outfile, ← c.in-Ok.ensures.mapfile) (c.in-Err-rescue.ensures.refused u)) c.in-Err-rescue.ensures.cause
+returns-clause-verdict g c = λ u. answered _ _ _ _ _ c.in-Ok.ensures.right (rw (← c.in-Ok.ensures.outfile, ← c.in-Ok.ensures.mapfile) (c.in-Err-rescue.ensures.refused u)) c.in-Err-rescue.ensures.cause
 
 pub returns-clause-left : goal.returns-clause-left
 returns-clause-left g c = λ t u.
