@@ -14,7 +14,7 @@ use Rattle.ddrescue_cli.specs.declared.ending.Ending.TheVariants.{Done as Finish
 use Rattle.ddrescue_cli.specs.Operands.{outfile, mapfile, draft, AreNamedApart}
 use Rattle.ddrescue_cli.specs.Requests.{inside}
 use Rattle.ddrescue_cli.specs.Reads.{map_after, cursor_after, IsRun, landed, write_of, writes_of}
-use Rattle.ddrescue_cli.specs.Saved.{heading, saved_text}
+use Rattle.ddrescue_cli.specs.Saved.{heading, text_after}
 use Rattle.ddrescue_cli.specs.Start.{Stands}
 use Rattle.ddrescue_cli.specs.Loading.{piece_reads, load_reads, BeginsLoad, IsLoad}
 use Rattle.ddrescue_cli.specs.Run.{is_other, save_calls, run_calls, CallsBroken, CallsStarved, AtWords, AtLoad, AtRun, CallAllowed, FilesAllow, IsBeforeReads, IsAfterLoad, Fits, LastUnwritten}
@@ -187,14 +187,13 @@ copied_left words file load reads start old new apart regular l grew =
 unwritten : (words : List (List ℕ)) (file : Option File) (reads : List Reading) (start : Folder) (old new : List Entry) → AreNamedApart words → is_other ((after start old).files (outfile words)) ≡ false
     → LastUnwritten (outfile words) (mapfile words) file reads old new → LastWriteFailed words reads (after start old).files (after start new).files
 unwritten words file reads start old new apart regular w =
-    let mid : List Entry = old ++ map Done (image_open (outfile words) true ∷ w.load ++ writes_of w.before) in
-    let stands : (after start new).files ≡ (after start mid).files = ⊎_elim (λ l. lost_files start (image_write w.last.pos w.last.given) mid new l.1) (λ n. absurd n) w.broke in
+    let stands : (after start new).files ≡ (after start w.between).files = ⊎_elim (λ l. lost_files start (image_write w.last.pos w.last.given) w.between new l.1) (λ n. absurd n) w.broke in
     let P : (List ℕ → Option File) → Type 0 = λ f. Unpublished words w.before (after start old).files f in
     record {
       written = w.before;
       failed = w.last;
       split = w.split;
-      left = subst P (sym stands) (copied_left words file w.load w.before start old mid apart regular w.loaded refl);
+      left = subst P (sym stands) (copied_left words file w.load w.before start old w.between apart regular w.loaded w.made);
     }
 
 -- a call of the save is allowed only where the output is no other file
@@ -219,7 +218,7 @@ save_regular at name draft' text d files output map broke allowed =
 
 -- the file that a save leaves under the mapfile's name
 abbrev saved_file : List (List ℕ) → List Reading → List Status → ℕ → Option File
-saved_file words reads start_map shown = Some (record { bytes = saved_text (heading words) (cursor_after shown reads) (map_after start_map reads); regular = true })
+saved_file words reads start_map shown = Some (record { bytes = text_after (heading words) start_map shown reads; regular = true })
 
 -- the mapfile stood for the start map, and the saved one stands for what the reads make of it
 record BothStand (words : List (List ℕ)) (end : ℕ) (reads : List Reading) (start_map : List Status) (shown : ℕ) (file : Option File) : Type 0 where
@@ -233,13 +232,13 @@ both_stand words end reads start_map shown file run stands fits =
     let below : cursor_after shown reads < 2 ^ 63 = cursor_after_small end (2 ^ 63) start_map 0 shown reads run fits.small (omega (arith, fits.long, fits.short)) in
     record {
       old = stands;
-      new = printed_stands (heading words) (record { bytes = saved_text (heading words) (cursor_after shown reads) (map_after start_map reads); regular = true }) end (map_after start_map reads) (cursor_after shown reads)
+      new = printed_stands (heading words) (record { bytes = text_after (heading words) start_map shown reads; regular = true }) end (map_after start_map reads) (cursor_after shown reads)
           refl refl (omega (arith, same, fits.long)) (omega (arith, same, fits.short)) below refl;
     }
 
 -- the files that a save leaves
 rescued : (words : List (List ℕ)) (end : ℕ) (reads : List Reading) (start_map : List Status) (shown : ℕ) (files files' : List ℕ → Option File) → BothStand words end reads start_map shown (files (mapfile words))
-    → IsSaved (outfile words) (mapfile words) (draft words) (landed (bytes_of (files (outfile words))) reads) (saved_text (heading words) (cursor_after shown reads) (map_after start_map reads)) files files' → AreRescued words end reads files files'
+    → IsSaved (outfile words) (mapfile words) (draft words) (landed (bytes_of (files (outfile words))) reads) (text_after (heading words) start_map shown reads) files files' → AreRescued words end reads files files'
 rescued words end reads start_map shown files files' stands s = record {
   output = s.output;
   start_map = start_map;
@@ -257,12 +256,12 @@ rescued words end reads start_map shown files files' stands s = record {
 broke_left : (at : SiteCall) (words : List (List ℕ)) (end : ℕ) (load : List Call) (reads : List Reading) (start_map : List Status) (shown : ℕ) (d : Folder) (files : List ℕ → Option File) → AreNamedApart words
     → IsLoad (mapfile words) (d.files (mapfile words)) load → BothStand words end reads start_map shown (d.files (mapfile words))
     → CallAllowed at (d.files (outfile words)) (d.files (mapfile words)) → (at ≡ ImageWrite → LeftAt at words end reads d.files files)
-    → FilesAtBreak at (run_calls (outfile words) (mapfile words) (draft words) load reads (saved_text (heading words) (cursor_after shown reads) (map_after start_map reads))) d files
+    → FilesAtBreak at (run_calls (outfile words) (mapfile words) (draft words) load reads (text_after (heading words) start_map shown reads)) d files
     → LeftAt at words end reads d.files files
 broke_left at words end load reads start_map shown d files apart l stands allowed write broke =
     let out : List ℕ = outfile words in
     let name : List ℕ = mapfile words in
-    let text : List ℕ = saved_text (heading words) (cursor_after shown reads) (map_after start_map reads) in
+    let text : List ℕ = text_after (heading words) start_map shown reads in
     let opening : List Call = image_open out true ∷ load in
     let bytes : List ℕ = landed (bytes_of (d.files out)) reads in
     let P : SiteCall → (List ℕ → Option File) → Type 0 = λ a f. LeftAt a words end reads d.files f in
@@ -288,7 +287,7 @@ broke_left at words end load reads start_map shown d files apart l stands allowe
 site_left : (at : SiteCall) (words : List (List ℕ)) (end : ℕ) (reads : List Reading) (start_map : List Status) (shown : ℕ) (start : Folder) (old new : List Entry) → AreNamedApart words
     → (IsAfterLoad (SiteFault at) reads → BothStand words end reads start_map shown ((after start old).files (mapfile words)))
     → CallAllowed at ((after start old).files (outfile words)) ((after start old).files (mapfile words)) → (at ≡ ImageWrite → LeftAt at words end reads (after start old).files (after start new).files)
-    → CallsBroken at (outfile words) (mapfile words) (draft words) ((after start old).files (mapfile words)) reads (saved_text (heading words) (cursor_after shown reads) (map_after start_map reads)) old new
+    → CallsBroken at (outfile words) (mapfile words) (draft words) ((after start old).files (mapfile words)) reads (text_after (heading words) start_map shown reads) old new
     → LeftAt at words end reads (after start old).files (after start new).files
 site_left ImageOpen words end reads start_map shown start old new apart stands allowed write broke =
     let b = broke_files start ImageOpen (image_open (outfile words) true ∷ []) old new broke in
@@ -299,15 +298,15 @@ site_left MapRead words end reads start_map shown start old new apart stands all
     let b = broke_files start MapRead (image_open (outfile words) true ∷ load) old new broke.2 in
     let O : List Call → Type 0 = λ c. FilesAtBreak MapRead (image_open (outfile words) true ∷ c) (after start old) (after start new).files in
     opening_left MapRead words end reads begins.given (after start old) (after start new).files (subst O begins.calls_are b)
-site_left ImageRead words end reads start_map shown start old new apart stands allowed write broke = broke_left ImageRead words end broke.0 reads start_map shown (after start old) (after start new).files apart broke.1 (stands (λ x. x)) allowed write (broke_files start ImageRead (run_calls (outfile words) (mapfile words) (draft words) broke.0 reads (saved_text (heading words) (cursor_after shown reads) (map_after start_map reads))) old new broke.2)
-site_left ImageWrite words end reads start_map shown start old new apart stands allowed write broke = broke_left ImageWrite words end broke.0 reads start_map shown (after start old) (after start new).files apart broke.1 (stands (λ x. x)) allowed write (broke_files start ImageWrite (run_calls (outfile words) (mapfile words) (draft words) broke.0 reads (saved_text (heading words) (cursor_after shown reads) (map_after start_map reads))) old new broke.2)
-site_left ImageSync words end reads start_map shown start old new apart stands allowed write broke = broke_left ImageSync words end broke.0 reads start_map shown (after start old) (after start new).files apart broke.1 (stands (λ x. x)) allowed write (broke_files start ImageSync (run_calls (outfile words) (mapfile words) (draft words) broke.0 reads (saved_text (heading words) (cursor_after shown reads) (map_after start_map reads))) old new broke.2)
-site_left DraftBegin words end reads start_map shown start old new apart stands allowed write broke = broke_left DraftBegin words end broke.0 reads start_map shown (after start old) (after start new).files apart broke.1 (stands (λ x. x)) allowed write (broke_files start DraftBegin (run_calls (outfile words) (mapfile words) (draft words) broke.0 reads (saved_text (heading words) (cursor_after shown reads) (map_after start_map reads))) old new broke.2)
-site_left DraftAppend words end reads start_map shown start old new apart stands allowed write broke = broke_left DraftAppend words end broke.0 reads start_map shown (after start old) (after start new).files apart broke.1 (stands (λ x. x)) allowed write (broke_files start DraftAppend (run_calls (outfile words) (mapfile words) (draft words) broke.0 reads (saved_text (heading words) (cursor_after shown reads) (map_after start_map reads))) old new broke.2)
-site_left DraftSync words end reads start_map shown start old new apart stands allowed write broke = broke_left DraftSync words end broke.0 reads start_map shown (after start old) (after start new).files apart broke.1 (stands (λ x. x)) allowed write (broke_files start DraftSync (run_calls (outfile words) (mapfile words) (draft words) broke.0 reads (saved_text (heading words) (cursor_after shown reads) (map_after start_map reads))) old new broke.2)
-site_left DraftPublish words end reads start_map shown start old new apart stands allowed write broke = broke_left DraftPublish words end broke.0 reads start_map shown (after start old) (after start new).files apart broke.1 (stands (λ x. x)) allowed write (broke_files start DraftPublish (run_calls (outfile words) (mapfile words) (draft words) broke.0 reads (saved_text (heading words) (cursor_after shown reads) (map_after start_map reads))) old new broke.2)
-site_left MapSettle words end reads start_map shown start old new apart stands allowed write broke = broke_left MapSettle words end broke.0 reads start_map shown (after start old) (after start new).files apart broke.1 (stands (λ x. x)) allowed write (broke_files start MapSettle (run_calls (outfile words) (mapfile words) (draft words) broke.0 reads (saved_text (heading words) (cursor_after shown reads) (map_after start_map reads))) old new broke.2)
-site_left MapRemove words end reads start_map shown start old new apart stands allowed write broke = broke_left MapRemove words end broke.0 reads start_map shown (after start old) (after start new).files apart broke.1 (stands (λ x. x)) allowed write (broke_files start MapRemove (run_calls (outfile words) (mapfile words) (draft words) broke.0 reads (saved_text (heading words) (cursor_after shown reads) (map_after start_map reads))) old new broke.2)
+site_left ImageRead words end reads start_map shown start old new apart stands allowed write broke = broke_left ImageRead words end broke.0 reads start_map shown (after start old) (after start new).files apart broke.1 (stands (λ x. x)) allowed write (broke_files start ImageRead (run_calls (outfile words) (mapfile words) (draft words) broke.0 reads (text_after (heading words) start_map shown reads)) old new broke.2)
+site_left ImageWrite words end reads start_map shown start old new apart stands allowed write broke = broke_left ImageWrite words end broke.0 reads start_map shown (after start old) (after start new).files apart broke.1 (stands (λ x. x)) allowed write (broke_files start ImageWrite (run_calls (outfile words) (mapfile words) (draft words) broke.0 reads (text_after (heading words) start_map shown reads)) old new broke.2)
+site_left ImageSync words end reads start_map shown start old new apart stands allowed write broke = broke_left ImageSync words end broke.0 reads start_map shown (after start old) (after start new).files apart broke.1 (stands (λ x. x)) allowed write (broke_files start ImageSync (run_calls (outfile words) (mapfile words) (draft words) broke.0 reads (text_after (heading words) start_map shown reads)) old new broke.2)
+site_left DraftBegin words end reads start_map shown start old new apart stands allowed write broke = broke_left DraftBegin words end broke.0 reads start_map shown (after start old) (after start new).files apart broke.1 (stands (λ x. x)) allowed write (broke_files start DraftBegin (run_calls (outfile words) (mapfile words) (draft words) broke.0 reads (text_after (heading words) start_map shown reads)) old new broke.2)
+site_left DraftAppend words end reads start_map shown start old new apart stands allowed write broke = broke_left DraftAppend words end broke.0 reads start_map shown (after start old) (after start new).files apart broke.1 (stands (λ x. x)) allowed write (broke_files start DraftAppend (run_calls (outfile words) (mapfile words) (draft words) broke.0 reads (text_after (heading words) start_map shown reads)) old new broke.2)
+site_left DraftSync words end reads start_map shown start old new apart stands allowed write broke = broke_left DraftSync words end broke.0 reads start_map shown (after start old) (after start new).files apart broke.1 (stands (λ x. x)) allowed write (broke_files start DraftSync (run_calls (outfile words) (mapfile words) (draft words) broke.0 reads (text_after (heading words) start_map shown reads)) old new broke.2)
+site_left DraftPublish words end reads start_map shown start old new apart stands allowed write broke = broke_left DraftPublish words end broke.0 reads start_map shown (after start old) (after start new).files apart broke.1 (stands (λ x. x)) allowed write (broke_files start DraftPublish (run_calls (outfile words) (mapfile words) (draft words) broke.0 reads (text_after (heading words) start_map shown reads)) old new broke.2)
+site_left MapSettle words end reads start_map shown start old new apart stands allowed write broke = broke_left MapSettle words end broke.0 reads start_map shown (after start old) (after start new).files apart broke.1 (stands (λ x. x)) allowed write (broke_files start MapSettle (run_calls (outfile words) (mapfile words) (draft words) broke.0 reads (text_after (heading words) start_map shown reads)) old new broke.2)
+site_left MapRemove words end reads start_map shown start old new apart stands allowed write broke = broke_left MapRemove words end broke.0 reads start_map shown (after start old) (after start new).files apart broke.1 (stands (λ x. x)) allowed write (broke_files start MapRemove (run_calls (outfile words) (mapfile words) (draft words) broke.0 reads (text_after (heading words) start_map shown reads)) old new broke.2)
 
 none_left : (start : Folder) (old new : List Entry) → Made [] old new → AllStand (after start old).files (after start new).files
 none_left start old new grew = record { each = λ n. ap (λ (d : Folder). d.files n) (after_made start [] old new grew) }
@@ -357,7 +356,7 @@ left_of Finished words end reads start old new apart allowed memory f =
     let file : Option File = (after start old).files (mapfile words) in
     let made = f.made refl in
     rescued words end reads f.start_map f.shown (after start old).files (after start new).files (both_stand words end reads f.start_map f.shown file f.run (f.stands refl (λ x. x)) (f.fits (λ x. x)))
-    (run_files start old new (outfile words) (mapfile words) (draft words) (saved_text (heading words) (cursor_after f.shown reads) (map_after f.start_map reads)) file made.0 reads
+    (run_files start old new (outfile words) (mapfile words) (draft words) (text_after (heading words) f.start_map f.shown reads) file made.0 reads
     apart.output_map apart.output_draft (draft_apart (mapfile words)) made.1 allowed.0 made.2)
 left_of (WrongNumber given) words end reads start old new apart allowed memory f = none_left start old new (f.made refl)
 left_of (WrongWord word) words end reads start old new apart allowed memory f = none_left start old new (f.made refl)

@@ -11,7 +11,7 @@ use Rattle.ddrescue_cli.specs.declared.ending.Ending.TheVariants.{Done as Finish
 use Rattle.ddrescue_cli.specs.Requests.{inside}
 use Rattle.ddrescue_cli.specs.Reads.{map_after, cursor_after, IsNext, write_of, writes_of}
 use Rattle.ddrescue_cli.specs.Copying.{Halt, Unread, Unwritten, Copied, CopiedAll, Halted}
-use Rattle.ddrescue_cli.specs.Saved.{finished_state, saved_text}
+use Rattle.ddrescue_cli.specs.Saved.{finished_state, saved_text, text_after}
 use Rattle.ddrescue_cli.specs.Run.{save_calls, IsOpening, IsSaving, IsBeforeReads, IsAfterReads, RunCalls, Ran}
 use Rattle.ddrescue_cli.proofs.CallFacts.{made_more, broke_front, broke_back}
 use Rattle.ddrescue_cli.proofs.CopyFacts.{flat_map_one}
@@ -34,7 +34,7 @@ halted_at e map draft h ts td end pos size j0 j1 j2 c0 c1 c2 m0 m1 cursor shown 
   run = c.run;
   told = λ t. untold t ∙ c.told t;
   made = λ t.
-      let text : List ℕ = saved_text h (cursor_after shown c.reads) (map_after m0 c.reads) in
+      let text : List ℕ = text_after h m0 shown c.reads in
       let P : Ending → Type 0 = λ v. RunCalls v map draft c.reads text c0 c2 in
       let grew : Made (writes_of c.reads) c0 c2 = unmade t ∙ c.written t in
       ⊎_elim (λ z. subst P (sym z) grew) (λ z. subst P (sym z) grew) cause;
@@ -50,7 +50,7 @@ halted_at e map draft h ts td end pos size j0 j1 j2 c0 c1 c2 m0 m1 cursor shown 
       run = run_more (inside end) m0 0 c.reads r c.run one;
       told = λ t. new t ∙ ap (λ j. j ++ r ∷ []) (c.told t) ∙ append_assoc j0 c.reads (r ∷ []);
       made = λ t.
-          let text : List ℕ = saved_text h (cursor_after shown (c.reads ++ r ∷ [])) (map_after m0 (c.reads ++ r ∷ [])) in
+          let text : List ℕ = text_after h m0 shown (c.reads ++ r ∷ []) in
           let P : Ending → Type 0 = λ v. RunCalls v map draft (c.reads ++ r ∷ []) text c0 c2 in
           let one_write : write_of r ≡ last = write_whole r (full ∙ sym asked_is) in
           let writes : writes_of (c.reads ++ r ∷ []) ≡ writes_of c.reads ++ last = flat_map_one write_of c.reads r ∙ ap (λ w. writes_of c.reads ++ w) one_write in
@@ -79,7 +79,7 @@ ran_halted e map draft h ts td end j0 j2 c0 c2 m0 shown s =
 
 -- a run that copied all, of an answer with these calls
 copied_all : (e : Ending) (map draft : List ℕ) (h : HeadingLines) (ts td : Bool) (end : ℕ) (j0 j1 : List Reading) (c0 c1 c2 : List Entry) (m0 m1 : List Status) (shown shown' : ℕ)
-    → (all : CopiedAll end ts td j0 j1 c0 c1 m0 m1 shown shown') → (IsTrue td → RunCalls e map draft all.copied.reads (saved_text h (cursor_after shown all.copied.reads) (map_after m0 all.copied.reads)) c0 c2) → (IsBeforeReads e → ⊥) → (e ≡ SiteFault ImageWrite → ⊥)
+    → (all : CopiedAll end ts td j0 j1 c0 c1 m0 m1 shown shown') → (IsTrue td → RunCalls e map draft all.copied.reads (text_after h m0 shown all.copied.reads) c0 c2) → (IsBeforeReads e → ⊥) → (e ≡ SiteFault ImageWrite → ⊥)
     → Ran e map draft h ts td end m0 shown j0 j1 c0 c2
 copied_all e map draft h ts td end j0 j1 c0 c1 c2 m0 m1 shown shown' all made later other = record {
   later = later;
@@ -92,7 +92,7 @@ copied_all e map draft h ts td end j0 j1 c0 c1 c2 m0 m1 shown shown' all made la
 }
 
 saved_is : (map draft text : List ℕ) (h : HeadingLines) (ts td : Bool) (end : ℕ) (j0 j1 : List Reading) (c0 c1 : List Entry) (m0 m1 : List Status) (shown shown' : ℕ)
-    → (all : CopiedAll end ts td j0 j1 c0 c1 m0 m1 shown shown') → text ≡ saved_text h shown' m1 → text ≡ saved_text h (cursor_after shown all.copied.reads) (map_after m0 all.copied.reads)
+    → (all : CopiedAll end ts td j0 j1 c0 c1 m0 m1 shown shown') → text ≡ saved_text h shown' m1 → text ≡ text_after h m0 shown all.copied.reads
 saved_is map draft text h ts td end j0 j1 c0 c1 m0 m1 shown shown' all is = is ∙ rw (all.copied.map_is, all.copied.shown_is) refl
 
 -- a run that was saved

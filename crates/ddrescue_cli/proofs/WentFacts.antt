@@ -17,7 +17,7 @@ use Rattle.ddrescue_cli.specs.Reads.{map_after, cursor_after, IsRun, writes_of, 
 use Rattle.ddrescue_cli.specs.Start.{Stands, IsAccepted}
 use Rattle.ddrescue_cli.specs.Loading.{IsLoad}
 use Rattle.ddrescue_cli.specs.Opening.{OutputCause, OutputStop, LoadCause, LoadStop, Starved, Refused, Broken, Loaded}
-use Rattle.ddrescue_cli.specs.Saved.{heading, saved_text}
+use Rattle.ddrescue_cli.specs.Saved.{heading, text_after}
 use Rattle.ddrescue_cli.specs.Run.{is_other, save_calls, CallsOf, CallsBroken, AtLoad, AtRun, IsOpening, IsBeforeReads, IsAfterReads, IsAfterLoad, FilesAllow, CallAllowed, Fits, RunCause, RunCalls, RunUnwritten, LastUnwritten, Ran, Went}
 use Rattle.ddrescue_cli.proofs.CallFacts.{made_more, broke_back, after-append}
 use Rattle.ddrescue_cli.proofs.FolderFacts.{bytes_eq-flip}
@@ -36,7 +36,7 @@ went_early e out name draft h ts td bytes file end j0 j1 c0 c1 all before made e
   told = λ t. before t ∙ sym (append-nil j0);
   stands = λ _ b. absurd (early b);
   fits = λ b. absurd (early b);
-  made = λ t. made t (saved_text h (cursor_after 0 []) (map_after [] []));
+  made = λ t. made t (text_after h [] 0 []);
   none = λ _. refl;
   spent = λ a. absurd (late a);
   unwritten = λ q t. absurd (other q);
@@ -120,7 +120,9 @@ last_unwritten out name file load reads c0 c2 c3 loaded opened u =
       whole = u.whole;
       load = load;
       loaded = loaded;
-      broke = rw (← grew) u.broke;
+      between = u.between;
+      made = grew;
+      broke = u.broke;
     }
 
 -- a run that went on to its end, or to where it stopped
@@ -144,7 +146,7 @@ went_run e out name draft h ts ts' td td' td'' bytes file file' end start_map sh
       stands = λ t b. subst Q (same t) (stands (rw same_d t));
       fits = λ b. fits;
       made = λ t. let l : Loaded name file c1 c2 = here t in
-          all_calls e out name draft file l.reads r.reads (saved_text h (cursor_after shown r.reads) (map_after start_map r.reads)) c0 c2 c3 r.later l.load (both t) (r.made (rw (same_r, same_d) t));
+          all_calls e out name draft file l.reads r.reads (text_after h start_map shown r.reads) c0 c2 c3 r.later l.load (both t) (r.made (rw (same_r, same_d) t));
       none = λ x. absurd (r.later x);
       spent = r.spent;
       unwritten = λ q t. let l : Loaded name file c1 c2 = here t in last_unwritten out name file l.reads r.reads c0 c2 c3 l.load (both t) (r.unwritten q (rw (same_r, same_d) t));
@@ -157,7 +159,7 @@ pub record Facts (e : Ending) (words : List (List ℕ)) (td : Bool) (file : Opti
   pub run : IsRun (inside end) start_map 0 reads
   pub stands : IsTrue td → IsAfterLoad e reads → Stands file end start_map shown
   pub fits : IsAfterLoad e reads → Fits end start_map shown
-  pub made : IsTrue td → CallsOf e (outfile words) (mapfile words) (draft words) file reads (saved_text (heading words) (cursor_after shown reads) (map_after start_map reads)) c0 c1
+  pub made : IsTrue td → CallsOf e (outfile words) (mapfile words) (draft words) file reads (text_after (heading words) start_map shown reads) c0 c1
   pub none : IsBeforeReads e → reads ≡ []
   pub spent : IsAfterReads e → IsSpent (inside end) (map_after start_map reads) (cursor_after 0 reads)
   pub unwritten : e ≡ SiteFault ImageWrite → IsTrue td → LastUnwritten (outfile words) (mapfile words) file reads c0 c1

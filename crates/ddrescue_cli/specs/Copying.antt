@@ -11,7 +11,8 @@ use Rattle.ddrescue_cli.specs.Requests.{inside, IsRequest, IsSpent}
 use Rattle.ddrescue_cli.specs.Reads.{status_of, map_after, cursor_after, IsRun, write_of, writes_of}
 
 -- what the turn of one request did: a read of its positions, a write of what was read whole, and the mark of both
-pub record Turn (pos size : ℕ) (source_tells site_tells : Bool) (journal journal' : List Reading) (calls calls' : List Entry) (map map' : List Status) : Type 0 where
+pub record Turn (pos size : ℕ) (source_tells site_tells : Bool) (journal journal' : List Reading)
+    (calls calls' : List Entry) (map map' : List Status) : Type 0 where
   pub reading : Reading
   pub pos_is : reading.pos ≡ pos
   pub asked_is : reading.asked ≡ size
@@ -21,17 +22,26 @@ pub record Turn (pos size : ℕ) (source_tells site_tells : Bool) (journal journ
   pub marked_is : map' ≡ marked map pos size (status_of reading)
 
 -- what a turn that stopped leaves: nothing was read or written, or its read is whole and its write failed
-pub data Halt (pos size : ℕ) (e : Ending) (source_tells site_tells : Bool) (journal journal' : List Reading) (calls calls' : List Entry) : Type 0 where
-  Unread : ((e ≡ NoMemory) ⊎ (e ≡ SourceLost)) → (IsTrue source_tells → journal' ≡ journal) → (IsTrue site_tells → calls' ≡ calls) → Halt pos size e source_tells site_tells journal journal' calls calls'
-  Unwritten : (r : Reading) → (e ≡ SiteFault ImageWrite) → (r.pos ≡ pos) → (r.asked ≡ size) → (length r.given ≡ size) → (IsTrue source_tells → journal' ≡ journal ++ r ∷ []) → (IsTrue site_tells → Lost (image_write r.pos r.given) calls calls') → Halt pos size e source_tells site_tells journal journal' calls calls'
+pub data Halt (pos size : ℕ) (e : Ending) (source_tells site_tells : Bool) (journal journal' : List Reading)
+    (calls calls' : List Entry) : Type 0 where
+  Unread : ((e ≡ NoMemory) ⊎ (e ≡ SourceLost)) → (IsTrue source_tells → journal' ≡ journal)
+      → (IsTrue site_tells → calls' ≡ calls)
+      → Halt pos size e source_tells site_tells journal journal' calls calls'
+  Unwritten : (r : Reading) → (e ≡ SiteFault ImageWrite) → (r.pos ≡ pos) → (r.asked ≡ size)
+      → (length r.given ≡ size) → (IsTrue source_tells → journal' ≡ journal ++ r ∷ [])
+      → (IsTrue site_tells → Lost (image_write r.pos r.given) calls calls')
+      → Halt pos size e source_tells site_tells journal journal' calls calls'
 
 -- each way in which copying stops has its cause: memory, or a count that rose
 abbrev pub CopyCause : Ending → (losses losses' faults faults' : ℕ) → Type 0
-CopyCause e losses losses' faults faults' = (e ≡ NoMemory) ⊎ ((e ≡ SourceLost) × Rose losses losses') ⊎ ((e ≡ SiteFault ImageWrite) × Rose faults faults')
+CopyCause e losses losses' faults faults' =
+    (e ≡ NoMemory) ⊎ ((e ≡ SourceLost) × Rose losses losses')
+    ⊎ ((e ≡ SiteFault ImageWrite) × Rose faults faults')
 
 -- what the turns of a run from an input's start did, up to where the cursor stands; shown is the position that the
 -- rescue shows, before the first turn and now
-pub record Copied (end : ℕ) (source_tells site_tells : Bool) (journal journal' : List Reading) (calls calls' : List Entry) (map map' : List Status) (cursor shown shown' : ℕ) : Type 0 where
+pub record Copied (end : ℕ) (source_tells site_tells : Bool) (journal journal' : List Reading)
+    (calls calls' : List Entry) (map map' : List Status) (cursor shown shown' : ℕ) : Type 0 where
   pub reads : List Reading
   pub run : IsRun (inside end) map 0 reads
   pub told : IsTrue source_tells → journal' ≡ journal ++ reads
@@ -41,19 +51,22 @@ pub record Copied (end : ℕ) (source_tells site_tells : Bool) (journal journal'
   pub shown_is : shown' ≡ cursor_after shown reads
 
 -- what a whole copy did: turns up to a cursor at which no request is left
-pub record CopiedAll (end : ℕ) (source_tells site_tells : Bool) (journal journal' : List Reading) (calls calls' : List Entry) (map map' : List Status) (shown shown' : ℕ) : Type 0 where
+pub record CopiedAll (end : ℕ) (source_tells site_tells : Bool) (journal journal' : List Reading)
+    (calls calls' : List Entry) (map map' : List Status) (shown shown' : ℕ) : Type 0 where
   pub cursor : ℕ
   pub copied : Copied end source_tells site_tells journal journal' calls calls' map map' cursor shown shown'
   pub spent : IsSpent (inside end) map' cursor
 
 -- what a copy that stopped leaves: turns up to a cursor, and the turn of the next request, which stopped
-pub record Halted (end : ℕ) (e : Ending) (source_tells site_tells : Bool) (journal journal' : List Reading) (calls calls' : List Entry) (map : List Status) (shown : ℕ) : Type 0 where
+pub record Halted (end : ℕ) (e : Ending) (source_tells site_tells : Bool) (journal journal' : List Reading)
+    (calls calls' : List Entry) (map : List Status) (shown : ℕ) : Type 0 where
   pub journal_between : List Reading
   pub calls_between : List Entry
   pub map_between : List Status
   pub cursor : ℕ
   pub shown_between : ℕ
-  pub copied : Copied end source_tells site_tells journal journal_between calls calls_between map map_between cursor shown shown_between
+  pub copied : Copied end source_tells site_tells journal journal_between calls calls_between
+      map map_between cursor shown shown_between
   pub pos : ℕ
   pub size : ℕ
   pub request : IsRequest (inside end) map_between cursor pos (pos + size)

@@ -1,6 +1,7 @@
 use Rattle.std.specs.Prelude.{◌≡◌, ℕ}
 
--- how often each thing failed: opens of the infile, reads that were lost, calls on the outfile and on the mapfile's folder
+-- how often each thing failed: opens of the infile, reads that were lost, and calls on the outfile or on the
+-- mapfile's folder
 pub record Counts : Type 0 where
   pub faults : ℕ
   pub losses : ℕ

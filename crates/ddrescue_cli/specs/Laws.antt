@@ -16,12 +16,17 @@ use Rattle.ddrescue_cli.specs.Rescue.{IsVerdict}
 
 -- every old place that no position of the domain has stands
 abbrev pub OutsideStands : (domain : ℕ → Bool) (place : ℕ → ℕ) (start image : List ℕ) → Type 0
-OutsideStands domain place start image = (y : ℕ) → y < length start → ((x : ℕ) → domain x ≡ true → place x ≡ y → ⊥) → slice_get image y ≡ slice_get start y
+OutsideStands domain place start image =
+    (y : ℕ) → y < length start → ((x : ℕ) → domain x ≡ true → place x ≡ y → ⊥)
+    → slice_get image y ≡ slice_get start y
 
 -- of a map with nothing finished, what is promised is that much and no more
 abbrev pub PromiseOfNothing : Type 0
-PromiseOfNothing = (domain : ℕ → Bool) (place : ℕ → ℕ) (sector : ℕ) (reads : List Reading) (start : List ℕ) (map : List Status) (image : List ℕ)
-    → ((x : ℕ) → Has map Finished x → ⊥) → Held domain place sector reads start map image ↔ OutsideStands domain place start image
+PromiseOfNothing =
+    (domain : ℕ → Bool) (place : ℕ → ℕ) (sector : ℕ) (reads : List Reading)
+    (start : List ℕ) (map : List Status) (image : List ℕ)
+    → ((x : ℕ) → Has map Finished x → ⊥)
+    → Held domain place sector reads start map image ↔ OutsideStands domain place start image
 
 -- a read asks for a position
 pub record Asks (r : Reading) (x : ℕ) : Type 0 where
@@ -32,17 +37,26 @@ pub record Asks (r : Reading) (x : ℕ) : Type 0 where
 -- order, and for all of them where no request is left. Each becomes what its read makes of it, and every other stands.
 pub record RunsOver (domain : ℕ → Bool) (map : List Status) (reads : List Reading) : Type 0 where
   pub wanted : (i x : ℕ) (r : Reading) → slice_get reads i ≡ Some r → Asks r x → IsWanted domain map x
-  pub once : (i j x : ℕ) (r q : Reading) → slice_get reads i ≡ Some r → slice_get reads j ≡ Some q → Asks r x → Asks q x → i ≡ j
-  pub ascends : (i j : ℕ) (r q : Reading) → slice_get reads i ≡ Some r → slice_get reads j ≡ Some q → i < j → r.pos + r.asked ≤ q.pos
+  pub once : (i j x : ℕ) (r q : Reading) → slice_get reads i ≡ Some r → slice_get reads j ≡ Some q
+      → Asks r x → Asks q x → i ≡ j
+  pub ascends : (i j : ℕ) (r q : Reading) → slice_get reads i ≡ Some r → slice_get reads j ≡ Some q → i < j
+      → r.pos + r.asked ≤ q.pos
   -- a read goes up to the end of the wanted positions, or of the sector
-  pub cut : (i : ℕ) (r : Reading) → slice_get reads i ≡ Some r → (e : ℕ) × IsRunUp (IsWanted domain map) r.pos e × (r.pos + r.asked ≡ min e (floor 512 (r.pos + 512)))
-  pub all : IsSpent domain (map_after map reads) (cursor_after 0 reads) → (x : ℕ) → IsWanted domain map x → (i : ℕ) × (r : Reading) × (slice_get reads i ≡ Some r) × Asks r x
-  pub none_left : IsSpent domain (map_after map reads) (cursor_after 0 reads) → (x : ℕ) → IsWanted domain (map_after map reads) x → ⊥
-  pub marks : (i x : ℕ) (r : Reading) → slice_get reads i ≡ Some r → Asks r x → Has (map_after map reads) (status_of r) x
-  pub stands : (x : ℕ) → ((i : ℕ) (r : Reading) → slice_get reads i ≡ Some r → Asks r x → ⊥) → slice_get (map_after map reads) x ≡ slice_get map x
+  pub cut : (i : ℕ) (r : Reading) → slice_get reads i ≡ Some r
+      → (e : ℕ) × IsRunUp (IsWanted domain map) r.pos e × (r.pos + r.asked ≡ min e (floor 512 (r.pos + 512)))
+  pub all : IsSpent domain (map_after map reads) (cursor_after 0 reads) → (x : ℕ) → IsWanted domain map x
+      → (i : ℕ) × (r : Reading) × (slice_get reads i ≡ Some r) × Asks r x
+  pub none_left : IsSpent domain (map_after map reads) (cursor_after 0 reads) → (x : ℕ)
+      → IsWanted domain (map_after map reads) x → ⊥
+  pub marks : (i x : ℕ) (r : Reading) → slice_get reads i ≡ Some r → Asks r x
+      → Has (map_after map reads) (status_of r) x
+  pub stands : (x : ℕ) → ((i : ℕ) (r : Reading) → slice_get reads i ≡ Some r → Asks r x → ⊥)
+      → slice_get (map_after map reads) x ≡ slice_get map x
 
 abbrev pub RunAsksOnce : Type 0
-RunAsksOnce = (domain : ℕ → Bool) (map : List Status) (reads : List Reading) → IsRun domain map 0 reads → RunsOver domain map reads
+RunAsksOnce =
+    (domain : ℕ → Bool) (map : List Status) (reads : List Reading) → IsRun domain map 0 reads
+    → RunsOver domain map reads
 
 -- a read of sector k of an input with this length: at its own position, and up to the next one or the end
 pub record IsSectorRead (end k : ℕ) (r : Reading) : Type 0 where
@@ -56,19 +70,26 @@ pub record ReadsSectors (end : ℕ) (reads : List Reading) : Type 0 where
 
 abbrev pub FreshRunReadsSectors : Type 0
 FreshRunReadsSectors = (end : ℕ) (reads : List Reading) → IsRun (inside end) (replicate end NonTried) 0 reads
-    → IsSpent (inside end) (map_after (replicate end NonTried) reads) (cursor_after 0 reads) → ReadsSectors end reads
+    → IsSpent (inside end) (map_after (replicate end NonTried) reads) (cursor_after 0 reads)
+    → ReadsSectors end reads
 
 -- a mapfile stands for one map and one position at most
 abbrev pub StandsForOne : Type 0
-StandsForOne = (mapfile : Option File) (end : ℕ) (map map' : List Status) (shown shown' : ℕ) → Stands mapfile end map shown → Stands mapfile end map' shown' → (map ≡ map') × (shown ≡ shown')
+StandsForOne =
+    (mapfile : Option File) (end : ℕ) (map map' : List Status) (shown shown' : ℕ) → Stands mapfile end map shown
+    → Stands mapfile end map' shown' → (map ≡ map') × (shown ≡ shown')
 
 -- a mapfile that isn't refused stands for a map
 abbrev pub AcceptedStands : Type 0
-AcceptedStands = (mapfile : Option File) (end : ℕ) → IsAccepted mapfile → (map : List Status) × (shown : ℕ) × Stands mapfile end map shown
+AcceptedStands =
+    (mapfile : Option File) (end : ℕ) → IsAccepted mapfile → (map : List Status) × (shown : ℕ)
+    × Stands mapfile end map shown
 
 -- a mapfile within the limit that stands for a map isn't refused
 abbrev pub StandsAccepted : Type 0
-StandsAccepted = (mapfile : Option File) (end : ℕ) (map : List Status) (shown : ℕ) → length (bytes_of mapfile) ≤ TEXT_LIMIT → Stands mapfile end map shown → IsAccepted mapfile
+StandsAccepted =
+    (mapfile : Option File) (end : ℕ) (map : List Status) (shown : ℕ) → length (bytes_of mapfile) ≤ TEXT_LIMIT
+    → Stands mapfile end map shown → IsAccepted mapfile
 
 -- a mapfile is refused for one error at most
 abbrev pub RefusedForOne : Type 0
@@ -76,4 +97,6 @@ RefusedForOne = (mapfile : Option File) (e e' : MapError) → IsRefused mapfile 
 
 -- words and files have one verdict at most
 abbrev pub HasOneVerdict : Type 0
-HasOneVerdict = (words : List (List ℕ)) (files : List ℕ → Option File) (v v' : Ending) → IsVerdict words files v → IsVerdict words files v' → v ≡ v'
+HasOneVerdict =
+    (words : List (List ℕ)) (files : List ℕ → Option File) (v v' : Ending) → IsVerdict words files v
+    → IsVerdict words files v' → v ≡ v'

@@ -24,20 +24,24 @@ pub record OutputMade (words : List (List ℕ)) (files files' : List ℕ → Opt
   pub others : (name : List ℕ) → name ≢ outfile words → files' name ≡ files name
 
 -- the output has the whole reads of these, and no mapfile was published
-pub record Unpublished (words : List (List ℕ)) (reads : List Reading) (files files' : List ℕ → Option File) : Type 0 where
-  pub output : files' (outfile words) ≡ Some (record { bytes = landed (bytes_of (files (outfile words))) reads; regular = true })
+pub record Unpublished (words : List
+    (List ℕ)) (reads : List Reading) (files files' : List ℕ → Option File) : Type 0 where
+  pub output : files' (outfile words)
+      ≡ Some (record { bytes = landed (bytes_of (files (outfile words))) reads; regular = true })
   pub no_map : files' (mapfile words) ≡ files (mapfile words)
   pub others : (name : List ℕ) → IsOther words name → files' name ≡ files name
 
 -- a write failed: the last read isn't in the output
-pub record LastWriteFailed (words : List (List ℕ)) (reads : List Reading) (files files' : List ℕ → Option File) : Type 0 where
+pub record LastWriteFailed (words : List
+    (List ℕ)) (reads : List Reading) (files files' : List ℕ → Option File) : Type 0 where
   pub written : List Reading
   pub failed : Reading
   pub split : reads ≡ written ++ failed ∷ []
   pub left : Unpublished words written files files'
 
 -- what a failed call leaves of the files
-abbrev pub LeftAt : SiteCall → List (List ℕ) → ℕ → List Reading → (files files' : List ℕ → Option File) → Type 0
+abbrev pub LeftAt : SiteCall → List (List ℕ) → ℕ → List Reading → (files files' : List ℕ → Option File)
+    → Type 0
 LeftAt ImageOpen words end reads files files' = AllStand files files'
 LeftAt MapRead words end reads files files' = OutputMade words files files'
 LeftAt ImageWrite words end reads files files' = LastWriteFailed words reads files files'
@@ -51,7 +55,8 @@ LeftAt ImageRead words end reads files files' = ⊥
 LeftAt MapRemove words end reads files files' = ⊥
 
 -- what each answer leaves of the files as they read
-abbrev pub FilesLeft : Ending → List (List ℕ) → ℕ → List Reading → (files files' : List ℕ → Option File) → Type 0
+abbrev pub FilesLeft : Ending → List (List ℕ) → ℕ → List Reading → (files files' : List ℕ → Option File)
+    → Type 0
 FilesLeft Done words end reads files files' = AreRescued words end reads files files'
 FilesLeft (MapRefused which error) words end reads files files' = OutputMade words files files'
 FilesLeft SourceLost words end reads files files' = Unpublished words reads files files'

@@ -30,5 +30,6 @@ pub record IsLoad (name : List ℕ) (file : Option File) (calls : List Call) : T
   pub given : List ℕ
   pub pieces : All IsPiece given
   pub limited : sum given ≤ TEXT_LIMIT
-  pub ends : (sum given ≡ length (bytes_of file)) ⊎ ((TEXT_LIMIT < sum given + 4096) × (TEXT_LIMIT < length (bytes_of file)))
+  pub ends : (sum given ≡ length (bytes_of file))
+      ⊎ ((TEXT_LIMIT < sum given + 4096) × (TEXT_LIMIT < length (bytes_of file)))
   pub calls_are : calls ≡ load_reads name given

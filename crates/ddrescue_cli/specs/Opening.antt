@@ -14,7 +14,8 @@ use Rattle.ddrescue_cli.specs.Run.{is_other}
 
 -- why the outfile was refused
 abbrev pub OutputCause : Ending → (faults faults' : ℕ) → Type 0
-OutputCause e faults faults' = ((e ≡ NotRegular) × (faults' ≡ faults)) ⊎ ((e ≡ SiteFault ImageOpen) × Rose faults faults')
+OutputCause e faults faults' =
+    ((e ≡ NotRegular) × (faults' ≡ faults)) ⊎ ((e ≡ SiteFault ImageOpen) × Rose faults faults')
 
 -- the same with what is known of the file, and the calls made: no regular file stands there, or the open failed
 abbrev pub OutputStop : Ending → List ℕ → Option File → List Entry → List Entry → Type 0
@@ -25,14 +26,18 @@ OutputStop e out file calls calls' =
 -- why a mapfile couldn't be loaded
 abbrev pub LoadCause : Ending → (faults faults' : ℕ) → Type 0
 LoadCause e faults faults' =
-    (e ≡ NoMemory) ⊎ ((error : MapError) × (e ≡ MapRefused RunMap error) × IsNamed error × (faults' ≡ faults))
+    (e ≡ NoMemory)
+    ⊎ ((error : MapError) × (e ≡ MapRefused RunMap error) × IsNamed error × (faults' ≡ faults))
     ⊎ ((e ≡ SiteFault MapRead) × Rose faults faults')
 
 -- the same with what is known of the file, and the calls made
 pub data LoadStop (name : List ℕ) (file : Option File) (e : Ending) (calls calls' : List Entry) : Type 0 where
-  Starved : (reads : List Call) → (e ≡ NoMemory) → BeginsLoad name file reads → Made reads calls calls' → LoadStop name file e calls calls'
-  Refused : (error : MapError) → (reads : List Call) → (e ≡ MapRefused RunMap error) → IsRefused file error → IsLoad name file reads → Made reads calls calls' → LoadStop name file e calls calls'
-  Broken : (reads : List Call) → (e ≡ SiteFault MapRead) → BeginsLoad name file reads → BrokeAt MapRead reads calls calls' → LoadStop name file e calls calls'
+  Starved : (reads : List Call) → (e ≡ NoMemory) → BeginsLoad name file reads → Made reads calls calls'
+      → LoadStop name file e calls calls'
+  Refused : (error : MapError) → (reads : List Call) → (e ≡ MapRefused RunMap error) → IsRefused file error
+      → IsLoad name file reads → Made reads calls calls' → LoadStop name file e calls calls'
+  Broken : (reads : List Call) → (e ≡ SiteFault MapRead) → BeginsLoad name file reads
+      → BrokeAt MapRead reads calls calls' → LoadStop name file e calls calls'
 
 -- the calls of a load that ended
 pub record Loaded (name : List ℕ) (file : Option File) (calls calls' : List Entry) : Type 0 where
@@ -49,4 +54,6 @@ pub record IsTextOf (file : Option File) (text : List ℕ) : Type 0 where
 
 -- why a text gave no map to begin with
 abbrev pub TextStop : List ℕ → Ending → Type 0
-TextStop text e = (e ≡ NoMemory) ⊎ ((error : MapError) × (e ≡ MapRefused RunMap error) × IsNamed error × TextRefused text error)
+TextStop text e =
+    (e ≡ NoMemory)
+    ⊎ ((error : MapError) × (e ≡ MapRefused RunMap error) × IsNamed error × TextRefused text error)

@@ -53,7 +53,8 @@ first_same i o m d =
 
 -- the refusal of two names that are the same
 abbrev pub same_names : List (List ℕ) → Option Ending
-same_names words = option_map (λ p. SameName p.0 p.1) (first_same (infile words) (outfile words) (mapfile words) (draft words))
+same_names words =
+    option_map (λ p. SameName p.0 p.1) (first_same (infile words) (outfile words) (mapfile words) (draft words))
 
 -- the files that a rescue writes have names of their own
 pub record AreNamedApart (words : List (List ℕ)) : Type 0 where

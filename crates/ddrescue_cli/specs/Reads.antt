@@ -34,7 +34,8 @@ pub record IsNext (domain : ℕ → Bool) (map : List Status) (cursor : ℕ) (r 
 -- a run: each read asks for the request of the map and the cursor that the reads before it left
 abbrev pub IsRun : (domain : ℕ → Bool) → List Status → ℕ → List Reading → Type 0
 IsRun domain map cursor [] = ⊤
-IsRun domain map cursor (r ∷ rs) = IsNext domain map cursor r × IsRun domain (marked_by map r) (r.pos + r.asked) rs
+IsRun domain map cursor (r ∷ rs) =
+    IsNext domain map cursor r × IsRun domain (marked_by map r) (r.pos + r.asked) rs
 
 -- what was read whole is written at its own position
 abbrev pub write_of : Reading → List Call

@@ -12,7 +12,7 @@ use Rattle.ddrescue_cli.specs.Counts.{Counts, NoneRose}
 use Rattle.ddrescue_cli.specs.Requests.{inside, IsSpent}
 use Rattle.ddrescue_cli.specs.Reads.{map_after, cursor_after, IsRun, landed, gained}
 use Rattle.ddrescue_cli.specs.Start.{Stands, IsRefused, IsNamed}
-use Rattle.ddrescue_cli.specs.Saved.{heading, saved_text}
+use Rattle.ddrescue_cli.specs.Saved.{heading, text_after}
 use Rattle.ddrescue_cli.specs.Held.{Held}
 use Rattle.ddrescue_cli.specs.Run.{is_other, CallsOf, IsBeforeReads, IsAfterReads, IsAfterLoad, Fits}
 
@@ -31,7 +31,8 @@ Caused e of_words before now = of_words ≡ Some e
 -- a refusal that the files bring: an outfile that is no regular file, or else a mapfile that is refused
 abbrev pub FilesRefuse : (output map : Option File) → Ending → Type 0
 FilesRefuse output map NotRegular = is_other output ≡ true
-FilesRefuse output map (MapRefused which error) = (which ≡ RunMap) × (is_other output ≡ false) × IsRefused map error
+FilesRefuse output map (MapRefused which error) =
+    (which ≡ RunMap) × (is_other output ≡ false) × IsRefused map error
 FilesRefuse output map e = ⊥
 
 abbrev pub VerdictOf : (of_words : Option Ending) → (output map : Option File) → Ending → Type 0
@@ -39,7 +40,8 @@ VerdictOf (Some refusal) output map v = v ≡ refusal
 VerdictOf None output map Done = (e : Ending) → FilesRefuse output map e → ⊥
 VerdictOf None output map v = FilesRefuse output map v
 
--- the verdict on words and files: the first refusal, in the order of work, whose condition holds, or Done where none does
+-- the verdict on words and files: the first refusal, in the order of work, whose condition holds, or Done where none
+-- does
 pub record IsVerdict (words : List (List ℕ)) (files : List ℕ → Option File) (v : Ending) : Type 0 where
   pub first : VerdictOf (refusal_of_words words) (files (outfile words)) (files (mapfile words)) v
 
@@ -56,25 +58,30 @@ pub record IsAnswer (answer : Ending) (words : List (List ℕ)) (files : List �
   pub is : IsVerdict words files verdict
   pub given : (answer ≡ verdict) ⊎ (answer ≡ NoMemory) ⊎ IsFault answer
 
--- The reads that a rescue of an input with this length added to the journal: a run over the start map, which is the one
--- that the mapfile stands for. There is no read where the answer comes before the first, and none is left where it comes
--- after the last.
-pub record IsReadInOrder (answer : Ending) (end : ℕ) (site_tells : Bool) (file : Option File) (journal journal' : List Reading) : Type 0 where
+-- The reads that a rescue of an input with this length added to the journal: a run over the start map, which is the
+-- one that the mapfile stands for. There is no read where the answer comes before the first, and none is left where it
+-- comes after the last.
+pub record IsReadInOrder (answer : Ending) (end : ℕ) (site_tells : Bool) (file : Option File)
+    (journal journal' : List Reading) : Type 0 where
   pub added : journal' ≡ journal ++ gained journal journal'
   pub start_map : List Status
   pub shown : ℕ
-  pub stands : IsTrue site_tells → IsAfterLoad answer (gained journal journal') → Stands file end start_map shown
+  pub stands : IsTrue site_tells → IsAfterLoad answer (gained journal journal')
+      → Stands file end start_map shown
   pub fits : IsAfterLoad answer (gained journal journal') → Fits end start_map shown
   pub run : IsRun (inside end) start_map 0 (gained journal journal')
   pub none : IsBeforeReads answer → gained journal journal' ≡ []
-  pub all : IsAfterReads answer → IsSpent (inside end) (map_after start_map (gained journal journal')) (cursor_after 0 (gained journal journal'))
+  pub all : IsAfterReads answer
+      → IsSpent (inside end) (map_after start_map (gained journal journal')) (cursor_after 0 (gained journal journal'))
 
 -- the calls that it made
-pub record IsCalled (answer : Ending) (words : List (List ℕ)) (end : ℕ) (file : Option File) (reads : List Reading) (calls calls' : List Entry) : Type 0 where
+pub record IsCalled (answer : Ending) (words : List (List ℕ)) (end : ℕ)
+    (file : Option File) (reads : List Reading) (calls calls' : List Entry) : Type 0 where
   pub start_map : List Status
   pub shown : ℕ
   pub stands : IsAfterLoad answer reads → Stands file end start_map shown
-  pub made : CallsOf answer (outfile words) (mapfile words) (draft words) file reads (saved_text (heading words) (cursor_after shown reads) (map_after start_map reads)) calls calls'
+  pub made : CallsOf answer (outfile words) (mapfile words) (draft words) file reads
+      (text_after (heading words) start_map shown reads) calls calls'
 
 -- a name of none of the files that a rescue writes
 pub record IsOther (words : List (List ℕ)) (name : List ℕ) : Type 0 where
@@ -83,14 +90,17 @@ pub record IsOther (words : List (List ℕ)) (name : List ℕ) : Type 0 where
   pub no_draft : name ≢ draft words
 
 -- the files after a finished rescue with these reads
-pub record AreRescued (words : List (List ℕ)) (end : ℕ) (reads : List Reading) (files files' : List ℕ → Option File) : Type 0 where
+pub record AreRescued (words : List (List ℕ)) (end : ℕ) (reads : List Reading)
+    (files files' : List ℕ → Option File) : Type 0 where
   -- the output is what it was, with each whole read at its own position
-  pub output : files' (outfile words) ≡ Some (record { bytes = landed (bytes_of (files (outfile words))) reads; regular = true })
+  pub output : files' (outfile words)
+      ≡ Some (record { bytes = landed (bytes_of (files (outfile words))) reads; regular = true })
   -- the mapfile is the printed map that the reads make of the one that it stood for
   pub start_map : List Status
   pub shown : ℕ
   pub stands : Stands (files (mapfile words)) end start_map shown
-  pub saved : files' (mapfile words) ≡ Some (record { bytes = saved_text (heading words) (cursor_after shown reads) (map_after start_map reads); regular = true })
+  pub saved : files' (mapfile words)
+      ≡ Some (record { bytes = text_after (heading words) start_map shown reads; regular = true })
   -- a rescue that resumes from it goes on where this one ended
   pub resumes : Stands (files' (mapfile words)) end (map_after start_map reads) (cursor_after shown reads)
   -- no draft is left, and every other file stands
@@ -99,16 +109,21 @@ pub record AreRescued (words : List (List ℕ)) (end : ℕ) (reads : List Readin
 
 -- What a map marks finished the output holds: the domain is the input's length, each position stands at its own
 -- place, and start is the output as it read when it was opened.
-abbrev pub OutputHolds : (words : List (List ℕ)) (end : ℕ) (reads : List Reading) (start : List ℕ) → List Status → (List ℕ → Option File) → Type 0
-OutputHolds words end reads start map files = Held (inside end) (λ x. x) 512 reads start map (bytes_of (files (outfile words)))
+abbrev pub OutputHolds : (words : List (List ℕ)) (end : ℕ) (reads : List Reading) (start : List ℕ) → List Status
+    → (List ℕ → Option File) → Type 0
+OutputHolds words end reads start map files =
+    Held (inside end) (λ x. x) 512 reads start map (bytes_of (files (outfile words)))
 
 -- the mapfile found stands for a map, and what that map marks finished the output holds
-pub record MapfileHolds (words : List (List ℕ)) (end : ℕ) (reads : List Reading) (start : List ℕ) (files : List ℕ → Option File) : Type 0 where
+pub record MapfileHolds (words : List (List ℕ)) (end : ℕ) (reads : List Reading)
+    (start : List ℕ) (files : List ℕ → Option File) : Type 0 where
   pub map : List Status
   pub shown : ℕ
   pub stands : Stands (files (mapfile words)) end map shown
   pub held : OutputHolds words end reads start map files
 
 -- whatever map the mapfile found stands for, what that map marks finished the output holds
-pub record FoundHolds (words : List (List ℕ)) (end : ℕ) (reads : List Reading) (start : List ℕ) (files : List ℕ → Option File) : Type 0 where
-  pub held : (map : List Status) (shown : ℕ) → Stands (files (mapfile words)) end map shown → OutputHolds words end reads start map files
+pub record FoundHolds (words : List (List ℕ)) (end : ℕ) (reads : List Reading)
+    (start : List ℕ) (files : List ℕ → Option File) : Type 0 where
+  pub held : (map : List Status) (shown : ℕ) → Stands (files (mapfile words)) end map shown
+      → OutputHolds words end reads start map files

@@ -1,4 +1,4 @@
-use Rattle.std.specs.Prelude.{◌≡◌, ◌≢◌, ◌⊎◌, ⊤, ℕ, ◌<◌, ◌≤◌, ◌^◌, Bool, true, false, IsTrue, length, map as list_map, List, [], ◌∷◌, ◌++◌, Option, Some, None, if◌then◌else◌}
+use Rattle.std.specs.Prelude.{◌≡◌, ◌≢◌, ◌⊎◌, ⊤, ℕ, ◌<◌, ◌≤◌, ◌^◌, Bool, true, false, IsTrue, length, List, [], ◌∷◌, ◌++◌, Option, Some, None, if◌then◌else◌}
 use Rattle.block_list.specs.declared.status.Status.{Status}
 use Rattle.fault_count.specs.Counts.{Rose}
 use Rattle.faulty_source.specs.Journal.{Reading, is_whole}
@@ -6,7 +6,7 @@ use Rattle.mapfile_text.specs.HeadingLines.{HeadingLines}
 use Rattle.crash_site.specs.declared.site.SiteCall.{SiteCall}
 use Rattle.crash_site.specs.declared.site.SiteCall.TheVariants.{ImageOpen, ImageWrite, ImageSync, MapRead, DraftBegin, DraftAppend, DraftSync, DraftPublish, MapSettle}
 use Rattle.crash_site.specs.Files.{File}
-use Rattle.crash_site.specs.Calls.{Call, Entry, Done as Listed, Made, BrokeAt, image_open, image_write, image_sync, draft_begin, draft_append, draft_sync, draft_publish, map_settle}
+use Rattle.crash_site.specs.Calls.{Call, Entry, Made, BrokeAt, image_open, image_write, image_sync, draft_begin, draft_append, draft_sync, draft_publish, map_settle}
 use Rattle.ddrescue_cli.specs.declared.ending.Which.TheVariants.{RunMap}
 use Rattle.ddrescue_cli.specs.declared.ending.Ending.{Ending}
 use Rattle.ddrescue_cli.specs.declared.ending.Ending.TheVariants.{Done, SourceFault, NotRegular, MapRefused, SourceLost, SiteFault, NoMemory}
@@ -15,7 +15,7 @@ use Rattle.ddrescue_cli.specs.Requests.{inside, IsSpent}
 use Rattle.ddrescue_cli.specs.Reads.{map_after, cursor_after, IsRun, writes_of}
 use Rattle.ddrescue_cli.specs.Start.{Stands, IsRefused, IsAccepted, IsNamed}
 use Rattle.ddrescue_cli.specs.Loading.{BeginsLoad, IsLoad}
-use Rattle.ddrescue_cli.specs.Saved.{saved_text}
+use Rattle.ddrescue_cli.specs.Saved.{text_after}
 
 -- something stands there that is no regular file
 abbrev pub is_other : Option File → Bool
@@ -24,33 +24,51 @@ is_other (Some f) = if f.regular then false else true
 
 -- a save syncs the image, and only then puts a whole and synced draft in the mapfile's place
 abbrev pub save_calls : List ℕ → List ℕ → List ℕ → List Call
-save_calls map draft text = image_sync ∷ draft_begin draft ∷ draft_append text ∷ draft_sync ∷ draft_publish map ∷ map_settle map ∷ []
+save_calls map draft text =
+    image_sync ∷ draft_begin draft ∷ draft_append text ∷ draft_sync
+    ∷ draft_publish map ∷ map_settle map ∷ []
 
 -- the calls of a whole rescue that loads its mapfile so, has these reads, and saves this text
 abbrev pub run_calls : (out map draft : List ℕ) → List Call → List Reading → List ℕ → List Call
-run_calls out map draft load reads text = image_open out true ∷ load ++ (writes_of reads ++ save_calls map draft text)
+run_calls out map draft load reads text =
+    image_open out true ∷ load ++ (writes_of reads ++ save_calls map draft text)
 
 -- the calls of a rescue up to one that failed
-abbrev pub CallsBroken : SiteCall → (out map draft : List ℕ) → Option File → List Reading → List ℕ → List Entry → List Entry → Type 0
-CallsBroken ImageOpen out map draft file reads text calls calls' = BrokeAt ImageOpen (image_open out true ∷ []) calls calls'
-CallsBroken MapRead out map draft file reads text calls calls' = (load : List Call) × BeginsLoad map file load × BrokeAt MapRead (image_open out true ∷ load) calls calls'
-CallsBroken call out map draft file reads text calls calls' = (load : List Call) × IsLoad map file load × BrokeAt call (run_calls out map draft load reads text) calls calls'
+abbrev pub CallsBroken : SiteCall → (out map draft : List ℕ) → Option File → List Reading → List ℕ
+    → List Entry → List Entry → Type 0
+CallsBroken ImageOpen out map draft file reads text calls calls' =
+    BrokeAt ImageOpen (image_open out true ∷ []) calls calls'
+CallsBroken MapRead out map draft file reads text calls calls' =
+    (load : List Call) × BeginsLoad map file load × BrokeAt MapRead (image_open out true ∷ load) calls calls'
+CallsBroken call out map draft file reads text calls calls' =
+    (load : List Call) × IsLoad map file load
+    × BrokeAt call (run_calls out map draft load reads text) calls calls'
 
 -- the calls of a rescue for which memory ran out: before the outfile, at the mapfile, or behind it
-pub data CallsStarved (out map : List ℕ) (file : Option File) (reads : List Reading) (calls calls' : List Entry) : Type 0 where
+pub data CallsStarved (out map : List ℕ) (file : Option File) (reads : List Reading) (calls calls' : List Entry)
+    : Type 0 where
   AtWords : (reads ≡ []) → Made [] calls calls' → CallsStarved out map file reads calls calls'
-  AtLoad : (load : List Call) → (reads ≡ []) → BeginsLoad map file load → Made (image_open out true ∷ load) calls calls' → CallsStarved out map file reads calls calls'
-  AtRun : (load : List Call) → IsLoad map file load → Made (image_open out true ∷ load ++ writes_of reads) calls calls' → CallsStarved out map file reads calls calls'
+  AtLoad : (load : List Call) → (reads ≡ []) → BeginsLoad map file load
+      → Made (image_open out true ∷ load) calls calls' → CallsStarved out map file reads calls calls'
+  AtRun : (load : List Call) → IsLoad map file load
+      → Made (image_open out true ∷ load ++ writes_of reads) calls calls'
+      → CallsStarved out map file reads calls calls'
 
 -- The calls that a rescue made: all of them where it is done, else a beginning, which depends on the answer. Where
 -- a call failed, it is the last one. The file is that under the mapfile's name.
-abbrev pub CallsOf : Ending → (out map draft : List ℕ) → Option File → List Reading → List ℕ → List Entry → List Entry → Type 0
-CallsOf Done out map draft file reads text calls calls' = (load : List Call) × IsLoad map file load × Made (run_calls out map draft load reads text) calls calls'
-CallsOf (SiteFault call) out map draft file reads text calls calls' = CallsBroken call out map draft file reads text calls calls'
-CallsOf SourceLost out map draft file reads text calls calls' = (load : List Call) × IsLoad map file load × Made (image_open out true ∷ load ++ writes_of reads) calls calls'
+abbrev pub CallsOf : Ending → (out map draft : List ℕ) → Option File → List Reading → List ℕ
+    → List Entry → List Entry → Type 0
+CallsOf Done out map draft file reads text calls calls' =
+    (load : List Call) × IsLoad map file load × Made (run_calls out map draft load reads text) calls calls'
+CallsOf (SiteFault call) out map draft file reads text calls calls' =
+    CallsBroken call out map draft file reads text calls calls'
+CallsOf SourceLost out map draft file reads text calls calls' =
+    (load : List Call) × IsLoad map file load
+    × Made (image_open out true ∷ load ++ writes_of reads) calls calls'
 CallsOf NoMemory out map draft file reads text calls calls' = CallsStarved out map file reads calls calls'
 CallsOf NotRegular out map draft file reads text calls calls' = Made (image_open out true ∷ []) calls calls'
-CallsOf (MapRefused which error) out map draft file reads text calls calls' = (load : List Call) × IsLoad map file load × Made (image_open out true ∷ load) calls calls'
+CallsOf (MapRefused which error) out map draft file reads text calls calls' =
+    (load : List Call) × IsLoad map file load × Made (image_open out true ∷ load) calls calls'
 CallsOf e out map draft file reads text calls calls' = Made [] calls calls'
 
 -- the calls before the first read
@@ -115,7 +133,8 @@ StopCause NotRegular before now = NoneRose before now
 StopCause (MapRefused which error) before now = IsNamed error × NoneRose before now
 StopCause e before now = ⊥
 
--- what the files say of a failed call: once the output is open it is regular, and once the mapfile is loaded it isn't refused
+-- what the files say of a failed call: once the output is open it is regular, and once the mapfile is loaded it isn't
+-- refused
 abbrev pub CallAllowed : SiteCall → (output map : Option File) → Type 0
 CallAllowed ImageOpen output map = ⊤
 CallAllowed MapRead output map = is_other output ≡ false
@@ -124,21 +143,25 @@ CallAllowed call output map = (is_other output ≡ false) × IsAccepted map
 -- what the files say of an answer
 abbrev pub FilesAllow : Ending → (output map : Option File) → Type 0
 FilesAllow NotRegular output map = is_other output ≡ true
-FilesAllow (MapRefused which error) output map = (which ≡ RunMap) × (is_other output ≡ false) × IsRefused map error
+FilesAllow (MapRefused which error) output map =
+    (which ≡ RunMap) × (is_other output ≡ false) × IsRefused map error
 FilesAllow SourceLost output map = (is_other output ≡ false) × IsAccepted map
 FilesAllow Done output map = (is_other output ≡ false) × IsAccepted map
 FilesAllow (SiteFault call) output map = CallAllowed call output map
 FilesAllow e output map = ⊤
 
 -- the write of the last read failed: the reads before it, and that write after the calls for them
-pub record LastUnwritten (out map : List ℕ) (file : Option File) (reads : List Reading) (calls calls' : List Entry) : Type 0 where
+pub record LastUnwritten (out map : List ℕ) (file : Option File) (reads : List Reading)
+    (calls calls' : List Entry) : Type 0 where
   pub before : List Reading
   pub last : Reading
   pub split : reads ≡ before ++ last ∷ []
   pub whole : is_whole last ≡ true
   pub load : List Call
   pub loaded : IsLoad map file load
-  pub broke : BrokeAt ImageWrite (image_write last.pos last.given ∷ []) (calls ++ list_map Listed (image_open out true ∷ load ++ writes_of before)) calls'
+  pub between : List Entry
+  pub made : Made (image_open out true ∷ load ++ writes_of before) calls between
+  pub broke : BrokeAt ImageWrite (image_write last.pos last.given ∷ []) between calls'
 
 -- a map that reaches an input's end and a position to show, within the limits
 pub record Fits (end : ℕ) (map : List Status) (shown : ℕ) : Type 0 where
@@ -153,9 +176,12 @@ RunCause e losses losses' faults faults' =
     ⊎ ((call : SiteCall) × (e ≡ SiteFault call) × (IsOpening call → ⊥) × Rose faults faults')
 
 -- the calls of a run behind the opening
-abbrev pub RunCalls : Ending → (map draft : List ℕ) → List Reading → List ℕ → List Entry → List Entry → Type 0
-RunCalls Done map draft reads text calls calls' = Made (writes_of reads ++ save_calls map draft text) calls calls'
-RunCalls (SiteFault call) map draft reads text calls calls' = BrokeAt call (writes_of reads ++ save_calls map draft text) calls calls'
+abbrev pub RunCalls : Ending → (map draft : List ℕ) → List Reading → List ℕ
+    → List Entry → List Entry → Type 0
+RunCalls Done map draft reads text calls calls' =
+    Made (writes_of reads ++ save_calls map draft text) calls calls'
+RunCalls (SiteFault call) map draft reads text calls calls' =
+    BrokeAt call (writes_of reads ++ save_calls map draft text) calls calls'
 RunCalls SourceLost map draft reads text calls calls' = Made (writes_of reads) calls calls'
 RunCalls NoMemory map draft reads text calls calls' = Made (writes_of reads) calls calls'
 RunCalls e map draft reads text calls calls' = ⊥
@@ -171,18 +197,21 @@ pub record RunUnwritten (reads : List Reading) (calls calls' : List Entry) : Typ
   pub broke : BrokeAt ImageWrite (image_write last.pos last.given ∷ []) between calls'
 
 -- what a run did over a map that it began with, up to its end or to where it stopped
-pub record Ran (e : Ending) (map draft : List ℕ) (heading : HeadingLines) (source_tells site_tells : Bool) (end : ℕ) (start_map : List Status) (shown : ℕ) (journal journal' : List Reading) (calls calls' : List Entry) : Type 0 where
+pub record Ran (e : Ending) (map draft : List ℕ) (heading : HeadingLines) (source_tells site_tells : Bool)
+    (end : ℕ) (start_map : List Status) (shown : ℕ) (journal journal' : List Reading) (calls calls' : List Entry) : Type 0 where
   pub later : IsBeforeReads e → ⊥
   pub reads : List Reading
   pub run : IsRun (inside end) start_map 0 reads
   pub told : IsTrue source_tells → journal' ≡ journal ++ reads
-  pub made : IsTrue site_tells → RunCalls e map draft reads (saved_text heading (cursor_after shown reads) (map_after start_map reads)) calls calls'
+  pub made : IsTrue site_tells
+      → RunCalls e map draft reads (text_after heading start_map shown reads) calls calls'
   pub spent : IsAfterReads e → IsSpent (inside end) (map_after start_map reads) (cursor_after 0 reads)
   pub unwritten : e ≡ SiteFault ImageWrite → IsTrue site_tells → RunUnwritten reads calls calls'
 
 -- What a rescue did up to its end, or to where it stopped: it began with a map and a position to show, and its reads
 -- are a run from there on.
-pub record Went (e : Ending) (out map draft : List ℕ) (heading : HeadingLines) (source_tells site_tells : Bool) (bytes : List ℕ) (file : Option File) (journal journal' : List Reading) (calls calls' : List Entry) : Type 0 where
+pub record Went (e : Ending) (out map draft : List ℕ) (heading : HeadingLines) (source_tells site_tells : Bool)
+    (bytes : List ℕ) (file : Option File) (journal journal' : List Reading) (calls calls' : List Entry) : Type 0 where
   pub end : ℕ
   pub all : IsTrue source_tells → end ≡ length bytes
   pub start_map : List Status
@@ -192,7 +221,8 @@ pub record Went (e : Ending) (out map draft : List ℕ) (heading : HeadingLines)
   pub told : IsTrue source_tells → journal' ≡ journal ++ reads
   pub stands : IsTrue site_tells → IsAfterLoad e reads → Stands file end start_map shown
   pub fits : IsAfterLoad e reads → Fits end start_map shown
-  pub made : IsTrue site_tells → CallsOf e out map draft file reads (saved_text heading (cursor_after shown reads) (map_after start_map reads)) calls calls'
+  pub made : IsTrue site_tells
+      → CallsOf e out map draft file reads (text_after heading start_map shown reads) calls calls'
   pub none : IsBeforeReads e → reads ≡ []
   pub spent : IsAfterReads e → IsSpent (inside end) (map_after start_map reads) (cursor_after 0 reads)
   pub unwritten : e ≡ SiteFault ImageWrite → IsTrue site_tells → LastUnwritten out map file reads calls calls'

@@ -108,11 +108,27 @@ pub(crate) fn rescue<S: Source, D: Site>(
         → is_other ((after (D.start site.old)
         (D.record_ site.old)).files plan.now.names.outfile.now) ≡ false) }
     ensures cause { IfErr result (λ e. StopCause e
-        (record { faults = S.faults source.old; losses = S.losses source.old; site_faults = D.faults site.old })
-        (record { faults = S.faults source.new; losses = S.losses source.new; site_faults = D.faults site.new })) }
+        (record {
+          faults = S.faults source.old;
+          losses = S.losses source.old;
+          site_faults = D.faults site.old;
+        })
+        (record {
+          faults = S.faults source.new;
+          losses = S.losses source.new;
+          site_faults = D.faults site.new;
+        })) }
     ensures stay { OnOk result (NoneRose
-        (record { faults = S.faults source.old; losses = S.losses source.old; site_faults = D.faults site.old })
-        (record { faults = S.faults source.new; losses = S.losses source.new; site_faults = D.faults site.new })) }
+        (record {
+          faults = S.faults source.old;
+          losses = S.losses source.old;
+          site_faults = D.faults site.old;
+        })
+        (record {
+          faults = S.faults source.new;
+          losses = S.losses source.new;
+          site_faults = D.faults site.new;
+        })) }
     ensures draft { OnOk result (D.is_drafting site.new ≡ false) }
     ensures draft_left { IfErr result (λ e. DraftLeft e (D.is_drafting site.new)) }
     ensures source_tells { S.tells source.new ≡ S.tells source.old }
@@ -142,8 +158,16 @@ pub fn ddrescue<S: Source, D: Site>(
 ) -> Ending
     requires { D.is_drafting site.old ≡ false }
     ensures cause { Caused result (refusal_of_words words.now)
-        (record { faults = S.faults source.old; losses = S.losses source.old; site_faults = D.faults site.old })
-        (record { faults = S.faults source.new; losses = S.losses source.new; site_faults = D.faults site.new }) }
+        (record {
+          faults = S.faults source.old;
+          losses = S.losses source.old;
+          site_faults = D.faults site.old;
+        })
+        (record {
+          faults = S.faults source.new;
+          losses = S.losses source.new;
+          site_faults = D.faults site.new;
+        }) }
     ensures files { IsTrue (D.tells site.old) → FilesAllow result
         ((after (D.start site.old) (D.record_ site.old)).files (outfile words.now))
         ((after (D.start site.old) (D.record_ site.old)).files (mapfile words.now)) }
