@@ -57,11 +57,7 @@ fn run<S: Source, D: Site>(
     ensures bytes { IsTrue (S.tells source.old) → S.bytes source.new ≡ S.bytes source.old }
     ensures start { IsTrue (D.tells site.old) → D.start site.new ≡ D.start site.old }
 {
-    let Start {
-        mut tiles,
-        shown,
-        ..
-    } = start;
+    let Start { mut tiles, shown } = start;
     let shown = copy_all(source, site, &mut tiles, end, shown)?;
     let state = MapState {
         pos: shown,
