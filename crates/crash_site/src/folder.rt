@@ -100,14 +100,18 @@ fn read_full(file: &mut File, buf: &mut [u8]) -> io::Result<usize>
     Ok(filled)
 }
 
+/// Reads a mapfile at a place. One that is no regular file is an error: a pipe would wait for its writer, and a draft
+/// would take a device's place.
 fn read_map(rt: &HostRuntime, name: &str, pos: u64, buf: &mut [u8]) -> io::Result<MapRead>
     ensures { IfOk result (λ read. IsWithin read (length buf.old)) }
 {
-    let mut file = match File::open(rt, name) {
-        Ok(file) => file,
+    match fs::metadata(rt, name) {
+        Ok(found) if found.is_file() => {}
+        Ok(_) => return Err(io::Error::from(ErrorKind::InvalidInput)),
         Err(error) if error.kind() == ErrorKind::NotFound => return Ok(MapRead::Absent),
         Err(error) => return Err(error),
-    };
+    }
+    let mut file = File::open(rt, name)?;
     file.seek(SeekFrom::Start(pos))?;
     Ok(MapRead::Bytes(read_full(&mut file, buf)?))
 }
@@ -287,6 +291,9 @@ mod tests {
         assert_eq!(rt; site.map_read(name, 4, &mut buf)?, MapRead::Bytes(1));
         assert_eq!(rt; site.map_read(name, 5, &mut buf)?, MapRead::Bytes(0));
         assert!(rt; !fs::exists(&rt, draft.as_path())?);
+        for no_file in ["/dev/null", folder.as_path().as_str()] {
+            assert!(rt; site.map_read(no_file, 0, &mut buf).is_err(), "{no_file}");
+        }
         fs::remove_file(&rt, name)?;
         fs::remove_dir(&rt, folder.as_path())?;
         assert!(rt; site.draft_begin(draft.as_path().as_str()).is_err());
