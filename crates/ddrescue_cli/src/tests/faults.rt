@@ -129,9 +129,8 @@ fn a_mapfile_is_read_in_pieces_up_to_a_read_of_no_byte(rt: HostRuntime) -> Resul
             ..GOOD
         };
         let calls = list_calls(rt.alloc(), map_reads)?;
-        let mut number = 1;
-        let mut written = 0;
-        for call in calls.iter() {
+        let mut written: u16 = 0;
+        for (number, call) in (1..).zip(calls.iter()) {
             let outcome = run(
                 rt.alloc(),
                 &Scene {
@@ -140,15 +139,14 @@ fn a_mapfile_is_read_in_pieces_up_to_a_read_of_no_byte(rt: HostRuntime) -> Resul
                 },
             )?;
             assert_stopped(&rt, &outcome, text.as_bytes(), *call, written)?;
-            number += 1;
             if *call == SiteCall::ImageWrite {
-                written += 512;
+                written = written.saturating_add(512);
             }
         }
         let outcome = run(
             rt.alloc(),
             &Scene {
-                site_fault: Some(number),
+                site_fault: Some((calls.len() as u64).saturating_add(1)),
                 ..scene
             },
         )?;

@@ -1,4 +1,4 @@
-use super::scene::{GOOD, Scene, run, run_with};
+use super::scene::{GOOD, Outcome, Scene, run, run_with};
 use crate::ending::{Ending, Operand, Which};
 use crash_site::site::{Site, SiteCall, SiteFault};
 use faulty_source::source::{Source, SourceFault};
@@ -112,6 +112,13 @@ fn with_line(alloc: Global, number: usize, line: &str) -> Result<String, Fail> {
     Ok(text)
 }
 
+/// A rescue left this output and this mapfile, and no draft.
+fn assert_left(rt: &impl Abort, outcome: &Outcome, output: &[u8], mapfile: &[u8]) {
+    assert_eq!(rt; outcome.site.file("out"), Some(output), "over {mapfile:?}");
+    assert_eq!(rt; outcome.site.file("map"), Some(mapfile));
+    assert_eq!(rt; outcome.site.file("map.tmp"), None, "over {mapfile:?}");
+}
+
 /// This mapfile is refused with or without an output, and every file stands.
 fn assert_map_refused(
     rt: &(impl Abort + AllocGlobal),
@@ -122,7 +129,11 @@ fn assert_map_refused(
         which: Which::RunMap,
         error,
     };
-    for output in [None, Some((b"old".as_slice(), true))] {
+    let table = [
+        (None, b"".as_slice()),
+        (Some((b"old".as_slice(), true)), b"old".as_slice()),
+    ];
+    for (output, left) in table {
         let scene = Scene {
             mapfile: Some(mapfile),
             output,
@@ -132,14 +143,7 @@ fn assert_map_refused(
         assert_eq!(rt; outcome.ending, expected, "{scene:?}");
         assert_eq!(rt; outcome.ending.code(), 2, "{scene:?}");
         assert_eq!(rt; outcome.source.journal(), [].as_slice(), "{scene:?}");
-        let left = if output.is_some() {
-            b"old".as_slice()
-        } else {
-            b"".as_slice()
-        };
-        assert_eq!(rt; outcome.site.file("out"), Some(left), "{scene:?}");
-        assert_eq!(rt; outcome.site.file("map"), Some(mapfile), "{scene:?}");
-        assert_eq!(rt; outcome.site.file("map.tmp"), None, "{scene:?}");
+        assert_left(rt, &outcome, left, mapfile);
     }
     Ok(())
 }
