@@ -1,6 +1,7 @@
-use super::scene::{GOOD, Outcome, Piece, Scene, join_pieces, run, run_with};
+use super::scene::{GOOD, Outcome, Piece, Scene, join_pieces, long_text, run, run_with};
 use crate::ending::Ending;
 use crash_site::site::SiteCall;
+use std::alloc::Global;
 use std::process::Abort;
 use std::test::Fail;
 
@@ -33,11 +34,14 @@ fn a_failed_write_is_named_and_nothing_is_saved(rt: HostRuntime) -> Result<(), F
     assert_no_map(&rt, &outcome, &[])
 }
 
-#[test]
-fn each_call_that_fails_is_named(rt: HostRuntime) -> Result<(), Fail> {
-    let calls = [
-        SiteCall::ImageOpen,
-        SiteCall::MapRead,
+/// The calls of a run over three good sectors, with so many reads of the mapfile.
+fn list_calls(alloc: Global, map_reads: usize) -> Result<Vec<SiteCall>, Fail> {
+    let mut calls = Vec::new(alloc);
+    calls.push(SiteCall::ImageOpen)?;
+    for _ in 0..map_reads {
+        calls.push(SiteCall::MapRead)?;
+    }
+    calls.extend_from_slice(&[
         SiteCall::ImageWrite,
         SiteCall::ImageWrite,
         SiteCall::ImageWrite,
@@ -47,8 +51,14 @@ fn each_call_that_fails_is_named(rt: HostRuntime) -> Result<(), Fail> {
         SiteCall::DraftSync,
         SiteCall::DraftPublish,
         SiteCall::MapSettle,
-    ];
-    for (number, call) in (1..).zip(calls) {
+    ])?;
+    Ok(calls)
+}
+
+#[test]
+fn each_call_that_fails_is_named(rt: HostRuntime) -> Result<(), Fail> {
+    let calls = list_calls(rt.alloc(), 1)?;
+    for (number, call) in (1..).zip(calls.iter()) {
         let outcome = run(
             rt.alloc(),
             &Scene {
@@ -56,6 +66,7 @@ fn each_call_that_fails_is_named(rt: HostRuntime) -> Result<(), Fail> {
                 ..GOOD
             },
         )?;
+        let call = *call;
         assert_eq!(rt; outcome.ending, Ending::SiteFault { call }, "call {number}");
         assert_eq!(rt; outcome.ending.code(), 1, "call {number}");
         assert_eq!(rt;
@@ -77,6 +88,70 @@ fn the_calls_of_three_good_sectors_are_eleven(rt: HostRuntime) -> Result<(), Fai
         },
     )?;
     assert_eq!(rt; outcome.ending, Ending::Done);
+    Ok(())
+}
+
+/// A rescue over a mapfile and an output of three other sectors stopped at this call, which is in this place.
+fn assert_stopped(
+    rt: &(impl Abort + AllocGlobal),
+    outcome: &Outcome,
+    mapfile: &[u8],
+    call: SiteCall,
+    written: u16,
+) -> Result<(), Fail> {
+    assert_eq!(rt; outcome.ending, Ending::SiteFault { call });
+    let output = [(written, Piece::Input), (1536, Piece::Only(0xEE))];
+    let bytes = join_pieces(rt.alloc(), &output)?;
+    assert_eq!(rt; outcome.site.file("out"), Some(bytes.as_slice()));
+    assert_eq!(rt;
+        outcome.site.file("map") == Some(mapfile),
+        call != SiteCall::MapSettle
+    );
+    Ok(())
+}
+
+#[test]
+fn a_mapfile_is_read_in_pieces_up_to_a_read_of_no_byte(rt: HostRuntime) -> Result<(), Fail> {
+    let table = [
+        (0, 1),
+        (1, 2),
+        (4095, 2),
+        (4096, 2),
+        (4097, 3),
+        (8192, 3),
+        (10_000, 4),
+    ];
+    for (size, map_reads) in table {
+        let text = long_text(rt.alloc(), size, "")?;
+        let scene = Scene {
+            mapfile: Some(text.as_bytes()),
+            output: Some((&[0xEE; 1536], true)),
+            ..GOOD
+        };
+        let calls = list_calls(rt.alloc(), map_reads)?;
+        let mut written: u16 = 0;
+        for (number, call) in (1..).zip(calls.iter()) {
+            let outcome = run(
+                rt.alloc(),
+                &Scene {
+                    site_fault: Some(number),
+                    ..scene
+                },
+            )?;
+            assert_stopped(&rt, &outcome, text.as_bytes(), *call, written)?;
+            if *call == SiteCall::ImageWrite {
+                written = written.saturating_add(512);
+            }
+        }
+        let outcome = run(
+            rt.alloc(),
+            &Scene {
+                site_fault: Some((calls.len() as u64).saturating_add(1)),
+                ..scene
+            },
+        )?;
+        assert_eq!(rt; outcome.ending, Ending::Done, "{size}");
+    }
     Ok(())
 }
 

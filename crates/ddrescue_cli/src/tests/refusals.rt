@@ -1,7 +1,9 @@
-use super::scene::{GOOD, Scene, run, run_with};
-use crate::ending::{Ending, Operand};
+use super::scene::{GOOD, Outcome, Scene, run, run_with};
+use crate::ending::{Ending, Operand, Which};
 use crash_site::site::{Site, SiteCall, SiteFault};
 use faulty_source::source::{Source, SourceFault};
+use mapfile_text::read::MapError;
+use std::alloc::Global;
 use std::process::Abort;
 use std::test::Fail;
 
@@ -90,30 +92,102 @@ fn two_files_of_one_name_are_refused(rt: HostRuntime) -> Result<(), Fail> {
     Ok(())
 }
 
-#[test]
-fn a_mapfile_that_is_there_is_refused(rt: HostRuntime) -> Result<(), Fail> {
+const LINES: [&str; 7] = [
+    "# Mapfile. Created by ddrescue",
+    "# Command line: ddrescue in out map",
+    "# current_pos  current_status  current_pass",
+    "0 ? 1",
+    "#      pos        size  status",
+    "0x0 0x400 +",
+    "0x400 0x200 -",
+];
+
+/// The lines above, with another one at a number.
+fn with_line(alloc: Global, number: usize, line: &str) -> Result<String, Fail> {
+    let mut text = String::new(alloc);
+    for (i, usual) in LINES.iter().enumerate() {
+        text.push_str(if i + 1 == number { line } else { *usual })?;
+        text.push_str("\n")?;
+    }
+    Ok(text)
+}
+
+/// A rescue left this output and this mapfile, and no draft.
+fn assert_left(rt: &impl Abort, outcome: &Outcome, output: &[u8], mapfile: &[u8]) {
+    assert_eq!(rt; outcome.site.file("out"), Some(output), "over {mapfile:?}");
+    assert_eq!(rt; outcome.site.file("map"), Some(mapfile));
+    assert_eq!(rt; outcome.site.file("map.tmp"), None, "over {mapfile:?}");
+}
+
+/// This mapfile is refused with or without an output, and every file stands.
+fn assert_map_refused(
+    rt: &(impl Abort + AllocGlobal),
+    mapfile: &[u8],
+    error: MapError,
+) -> Result<(), Fail> {
+    let expected = Ending::MapRefused {
+        which: Which::RunMap,
+        error,
+    };
     let table = [
-        (b"#".as_slice(), None, b"".as_slice()),
-        (b"".as_slice(), None, b"".as_slice()),
-        (
-            b"#".as_slice(),
-            Some((b"old".as_slice(), true)),
-            b"old".as_slice(),
-        ),
+        (None, b"".as_slice()),
+        (Some((b"old".as_slice(), true)), b"old".as_slice()),
     ];
-    for (mapfile, output, left) in table {
+    for (output, left) in table {
         let scene = Scene {
             mapfile: Some(mapfile),
             output,
             ..GOOD
         };
         let outcome = run(rt.alloc(), &scene)?;
-        assert_eq!(rt; outcome.ending, Ending::MapThere, "{scene:?}");
-        assert_eq!(rt; outcome.ending.code(), 1, "{scene:?}");
-        assert_eq!(rt; outcome.site.file("map"), Some(mapfile), "{scene:?}");
-        assert_eq!(rt; outcome.site.file("out"), Some(left), "{scene:?}");
-        assert_eq!(rt; outcome.site.file("map.tmp"), None, "{scene:?}");
+        assert_eq!(rt; outcome.ending, expected, "{scene:?}");
+        assert_eq!(rt; outcome.ending.code(), 2, "{scene:?}");
         assert_eq!(rt; outcome.source.journal(), [].as_slice(), "{scene:?}");
+        assert_left(rt, &outcome, left, mapfile);
+    }
+    Ok(())
+}
+
+#[test]
+fn a_mapfile_that_is_no_map_is_refused(rt: HostRuntime) -> Result<(), Fail> {
+    let table = [
+        (7, "0x200 0x200 -", MapError::Overlap { line: 7 }),
+        (
+            7,
+            "0x400 0x7FFFFFFFFFFFFC00 ?",
+            MapError::TooLarge { line: 7 },
+        ),
+        (7, "0x500 1 ?", MapError::Gap { line: 7 }),
+        (6, "0 0x400", MapError::BadBlockLine { line: 6 }),
+        (4, "0 x 1", MapError::BadStatusLine { line: 4 }),
+        // The blocks alone: the first of them is taken for the status line.
+        (4, "", MapError::BadStatusLine { line: 6 }),
+    ];
+    for (number, line, error) in table {
+        let text = with_line(rt.alloc(), number, line)?;
+        assert_map_refused(&rt, text.as_bytes(), error)?;
+    }
+    Ok(())
+}
+
+#[test]
+fn a_mapfile_that_is_no_text_is_refused(rt: HostRuntime) -> Result<(), Fail> {
+    let line_1 = MapError::BadStatusLine { line: 1 };
+    let table = [
+        (b"\xFF\xFE\x00\x80 \xC3".as_slice(), line_1),
+        (b"\x00".as_slice(), line_1),
+        (b"\x7FELF\n0 ? 1\n".as_slice(), line_1),
+        (
+            b"\n\xFF ? 1\n".as_slice(),
+            MapError::BadStatusLine { line: 2 },
+        ),
+        (
+            b"0 ? 1\n0 0x200 \xAB\n".as_slice(),
+            MapError::BadBlockLine { line: 2 },
+        ),
+    ];
+    for (mapfile, error) in table {
+        assert_map_refused(&rt, mapfile, error)?;
     }
     Ok(())
 }
@@ -122,19 +196,19 @@ fn a_mapfile_that_is_there_is_refused(rt: HostRuntime) -> Result<(), Fail> {
 fn an_output_that_is_no_regular_file_is_refused(rt: HostRuntime) -> Result<(), Fail> {
     let scene = Scene {
         output: Some((b"device", false)),
-        mapfile: Some(b"#"),
+        mapfile: Some(b"\xFF no map"),
         ..GOOD
     };
     let outcome = run(rt.alloc(), &scene)?;
     assert_eq!(rt; outcome.ending, Ending::NotRegular);
     assert_eq!(rt; outcome.site.file("out"), Some(b"device".as_slice()));
-    assert_eq!(rt; outcome.site.file("map"), Some(b"#".as_slice()));
+    assert_eq!(rt; outcome.site.file("map"), Some(b"\xFF no map".as_slice()));
     assert_eq!(rt; outcome.source.journal(), [].as_slice());
     Ok(())
 }
 
 #[test]
-fn the_exit_code_tells_success_and_want_of_memory_from_the_rest(rt: HostRuntime) {
+fn the_exit_code_tells_success_a_refused_map_and_want_of_memory_from_the_rest(rt: HostRuntime) {
     let table = [
         (Ending::Done, 0),
         (Ending::WrongNumber { given: 0 }, 1),
@@ -148,7 +222,13 @@ fn the_exit_code_tells_success_and_want_of_memory_from_the_rest(rt: HostRuntime)
         ),
         (Ending::SourceFault, 1),
         (Ending::NotRegular, 1),
-        (Ending::MapThere, 1),
+        (
+            Ending::MapRefused {
+                which: Which::RunMap,
+                error: MapError::TooLong,
+            },
+            2,
+        ),
         (Ending::SourceLost, 1),
         (
             Ending::SiteFault {

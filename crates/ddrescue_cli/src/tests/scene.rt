@@ -67,6 +67,28 @@ pub(crate) fn read(pos: u64, asked: usize, given: usize) -> ReadEntry {
     ReadEntry { pos, asked, given }
 }
 
+/// Reads, each with the position, the bytes asked for and the bytes given.
+pub(crate) fn list_reads(
+    alloc: Global,
+    reads: &[(u64, usize, usize)],
+) -> Result<Vec<ReadEntry>, Fail> {
+    let mut entries = Vec::new(alloc);
+    for (pos, asked, given) in reads {
+        entries.push(read(*pos, *asked, *given))?;
+    }
+    Ok(entries)
+}
+
+/// So many `#`, and then the rest.
+pub(crate) fn long_text(alloc: Global, comment: usize, rest: &str) -> Result<String, Fail> {
+    let mut text = String::new(alloc);
+    for _ in 0..comment {
+        text.push_str("#")?;
+    }
+    text.push_str(rest)?;
+    Ok(text)
+}
+
 fn make_words(alloc: Global, words: &[&str]) -> Result<Words, NoMemory> {
     let mut made = Words::new(alloc);
     for word in words {
@@ -165,6 +187,19 @@ impl Outcome {
         std::str::from_utf8(self.site.file(name)?).ok()
     }
 
+    /// The scene of a rescue that goes on with this rescue's output and with a mapfile.
+    pub(crate) fn go_on<'a>(&'a self, scene: &Scene<'a>, mapfile: &'a [u8]) -> Scene<'a> {
+        let output = match self.site.file("out") {
+            Some(bytes) => Some((bytes, true)),
+            None => None,
+        };
+        Scene {
+            output,
+            mapfile: Some(mapfile),
+            ..*scene
+        }
+    }
+
     /// A finished rescue leaves these bytes and this map, and no draft.
     pub(crate) fn assert_done(
         &self,
@@ -172,12 +207,27 @@ impl Outcome {
         output: &[(u16, Piece)],
         map: &str,
     ) -> Result<(), Fail> {
+        self.assert_done_after(rt, "no mapfile", output, map)
+    }
+
+    /// The same, after the mapfile that the rescue found.
+    pub(crate) fn assert_done_after(
+        &self,
+        rt: &(impl Abort + AllocGlobal),
+        found: &str,
+        output: &[(u16, Piece)],
+        map: &str,
+    ) -> Result<(), Fail> {
         let bytes = join_pieces(rt.alloc(), output)?;
-        assert_eq!(rt; self.ending, Ending::Done);
-        assert_eq!(rt; self.ending.code(), 0);
-        assert_eq!(rt; self.site.file("out"), Some(bytes.as_slice()));
-        assert_eq!(rt; self.text("map"), Some(map));
-        assert_eq!(rt; self.site.file("map.tmp"), None);
+        assert_eq!(rt; self.ending, Ending::Done, "after {found}");
+        assert_eq!(rt; self.ending.code(), 0, "after {found}");
+        assert_eq!(rt;
+            self.site.file("out"),
+            Some(bytes.as_slice()),
+            "after {found}"
+        );
+        assert_eq!(rt; self.text("map"), Some(map), "after {found}");
+        assert_eq!(rt; self.site.file("map.tmp"), None, "after {found}");
         Ok(())
     }
 }
