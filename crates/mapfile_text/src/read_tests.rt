@@ -119,6 +119,61 @@ fn names_the_first_faulty_line(rt: HostRuntime) -> Result<(), Fail> {
         (4, "0 ? 4294967296", MapError::TooLarge { line: 4 }),
         (4, "0x8000000000000000 ? 1", MapError::TooLarge { line: 4 }),
         (4, "# no status line", MapError::BadStatusLine { line: 6 }),
+        (4, "x ? 1", MapError::BadStatusLine { line: 4 }),
+        (4, "-1 ? 1", MapError::BadStatusLine { line: 4 }),
+        (4, "08 ? 1", MapError::BadStatusLine { line: 4 }),
+        (4, "0x ? 1", MapError::BadStatusLine { line: 4 }),
+        (4, "0x1G ? 1", MapError::BadStatusLine { line: 4 }),
+        (4, "0 ?? 1", MapError::BadStatusLine { line: 4 }),
+        (4, "0 f 1", MapError::BadStatusLine { line: 4 }),
+        (4, "0 ? 00", MapError::BadStatusLine { line: 4 }),
+        (4, "0 ? 0x0", MapError::BadStatusLine { line: 4 }),
+        (4, "0 ? 08", MapError::BadStatusLine { line: 4 }),
+        (4, "0 ? 0x", MapError::BadStatusLine { line: 4 }),
+        (
+            4,
+            "0x8000000000000000 x 1",
+            MapError::BadStatusLine { line: 4 },
+        ),
+        (
+            4,
+            "0x8000000000000000 ? 0",
+            MapError::BadStatusLine { line: 4 },
+        ),
+        (6, "x 0x400 +", MapError::BadBlockLine { line: 6 }),
+        (6, "08 0x400 +", MapError::BadBlockLine { line: 6 }),
+        (6, "0x 0x400 +", MapError::BadBlockLine { line: 6 }),
+        (6, "+0 0x400 +", MapError::BadBlockLine { line: 6 }),
+        (6, "0 x +", MapError::BadBlockLine { line: 6 }),
+        (6, "0 -1 +", MapError::BadBlockLine { line: 6 }),
+        (6, "0 512k +", MapError::BadBlockLine { line: 6 }),
+        (6, "0 1.5 +", MapError::BadBlockLine { line: 6 }),
+        (6, "0", MapError::BadBlockLine { line: 6 }),
+        (6, "0 0x400+", MapError::BadBlockLine { line: 6 }),
+        (6, "0 0x400 x", MapError::BadBlockLine { line: 6 }),
+        (
+            6,
+            "0x8000000000000000 1 x",
+            MapError::BadBlockLine { line: 6 },
+        ),
+        (6, "0x8000000000000000 0 +", MapError::TooLarge { line: 6 }),
+        (
+            6,
+            "0xFFFFFFFFFFFFFFFF 0xFFFFFFFFFFFFFFFF +",
+            MapError::TooLarge { line: 6 },
+        ),
+        (7, "0x500 0 ?", MapError::Gap { line: 7 }),
+        (7, "0x3FF 0 ?", MapError::Overlap { line: 7 }),
+        (
+            7,
+            "0x200 0x7FFFFFFFFFFFFFFF ?",
+            MapError::TooLarge { line: 7 },
+        ),
+        (
+            7,
+            "0x500 0x7FFFFFFFFFFFFFFF ?",
+            MapError::TooLarge { line: 7 },
+        ),
     ];
     for (number, line, expected) in faults {
         let text = with_line(&rt, number, line)?;
@@ -128,16 +183,54 @@ fn names_the_first_faulty_line(rt: HostRuntime) -> Result<(), Fail> {
 }
 
 #[test]
-fn refuses_a_number_of_400_digits(rt: HostRuntime) -> Result<(), Fail> {
-    let line = format!(in rt.alloc(); "0x400 1{:0399} ?", 0)?;
-    let text = with_line(&rt, 7, line.as_str())?;
-    assert_fails(
-        &rt,
-        text.as_str(),
-        Mode::Tight,
-        MapError::TooLarge { line: 7 },
-    );
-    Ok(())
+fn names_the_first_of_two_faulty_lines(rt: HostRuntime) {
+    let faults = [
+        ("0 x\n0 x +\n", MapError::BadStatusLine { line: 1 }),
+        ("0 ? 1\n0 1 +\n5 1 ?\n0 x +\n", MapError::Gap { line: 3 }),
+        ("0 ? 1\n0 x +\n5 1 ?\n", MapError::BadBlockLine { line: 2 }),
+        (
+            "0 ? 1\r\n\r\n\n0 2 +\r\n1 1 +",
+            MapError::Overlap { line: 5 },
+        ),
+        (
+            "#\n0 ? 1\n0 0x8000000000000000 +",
+            MapError::TooLarge { line: 3 },
+        ),
+    ];
+    for (text, expected) in faults {
+        assert_fails(&rt, text, Mode::Tight, expected);
+    }
+}
+
+#[test]
+fn reads_numbers_of_400_digits(rt: HostRuntime) -> Result<(), Fail> {
+    let zeros = format!(in rt.alloc(); "{:0400}", 0)?;
+    let zeros = zeros.as_str();
+    for digits in ["1", "0x1", "01"] {
+        let number = format!(in rt.alloc(); "{digits}{zeros}")?;
+        let number = number.as_str();
+        for (line, text) in [
+            (4, format!(in rt.alloc(); "{number} ? 1")?),
+            (4, format!(in rt.alloc(); "0 ? {number}")?),
+            (6, format!(in rt.alloc(); "{number} 1 +")?),
+            (7, format!(in rt.alloc(); "0x400 {number} ?")?),
+        ] {
+            let text = with_line(&rt, line, text.as_str())?;
+            assert_fails(&rt, text.as_str(), Mode::Tight, MapError::TooLarge { line });
+        }
+    }
+    let text = format!(in rt.alloc(); "0x{zeros}7 ? {zeros}5\n{zeros} {zeros}10 +")?;
+    let reading = Reading {
+        state: MapState {
+            pos: 7,
+            current: Current::Copying,
+            pass: 5,
+        },
+        first: 0,
+        listed: true,
+        stretches: &[(8, Status::Finished)],
+    };
+    assert_reads(&rt, text.as_str(), Mode::Tight, &reading)
 }
 
 #[test]
@@ -154,13 +247,14 @@ fn fills_a_gap_in_a_loose_map(rt: HostRuntime) -> Result<(), Fail> {
         ],
     };
     assert_reads(&rt, text.as_str(), Mode::Loose(Status::BadSector), &reading)?;
-    let overlap = with_line(&rt, 7, "0x3FF 1 ?")?;
-    assert_fails(
-        &rt,
-        overlap.as_str(),
-        Mode::Loose(Status::BadSector),
-        MapError::Overlap { line: 7 },
-    );
+    for (line, expected) in [
+        ("0x3FF 1 ?", MapError::Overlap { line: 7 }),
+        ("0x500 x ?", MapError::BadBlockLine { line: 7 }),
+        ("0x500 0x7FFFFFFFFFFFFFFF ?", MapError::TooLarge { line: 7 }),
+    ] {
+        let text = with_line(&rt, 7, line)?;
+        assert_fails(&rt, text.as_str(), Mode::Loose(Status::BadSector), expected);
+    }
     Ok(())
 }
 
@@ -187,6 +281,7 @@ fn reads_the_pass(rt: HostRuntime) -> Result<(), Fail> {
         ("0 ?", 1),
         ("0 ? x", 1),
         ("0 ? +7", 1),
+        ("0 ? -1", 1),
         ("0 ? 7", 7),
         ("0 ? 0x10 1", 16),
         ("0 ? 4294967295", 4294967295),
