@@ -14,7 +14,7 @@ use Rattle.ddrescue_cli.specs.Operands.{draft_name}
 use Rattle.ddrescue_cli.specs.Run.{is_other, save_calls, run_calls}
 use Rattle.ddrescue_cli.proofs.CallFacts.{after-append}
 
-pub bytes_eq-refl : (xs : List ℕ) → bytes_eq xs xs ≡ true
+bytes_eq-refl : (xs : List ℕ) → bytes_eq xs xs ≡ true
 bytes_eq-refl xs = (bytes_eq-Decides xs xs).1 refl
 
 pub bytes_eq-flip : (xs ys : List ℕ) → bytes_eq xs ys ≡ false → bytes_eq ys xs ≡ false
@@ -66,7 +66,7 @@ write_one r true out bytes files d o = write_image out bytes files d r.pos r.giv
 write_one r false out bytes files d o = o
 
 -- the writes of these reads
-pub writes_image : (reads : List Reading) (out bytes : List ℕ) (files : List ℕ → Option File) (d : Folder) → IsOpenImage out bytes files d → IsOpenImage out (landed bytes reads) files (after d (map Done (writes_of reads)))
+writes_image : (reads : List Reading) (out bytes : List ℕ) (files : List ℕ → Option File) (d : Folder) → IsOpenImage out bytes files d → IsOpenImage out (landed bytes reads) files (after d (map Done (writes_of reads)))
 writes_image [] out bytes files d o = o
 writes_image (r ∷ rs) out bytes files d o =
     let calls : map Done (writes_of (r ∷ rs)) ≡ map Done (write_of r) ++ map Done (writes_of rs) = map-append Done (write_of r) (writes_of rs) in
@@ -109,7 +109,7 @@ load_stands d name given =
     ∙ pieces_stand d name 0 given
 
 -- the folder behind the opening of the outfile and a load
-pub loaded_folder : (d : Folder) (out name : List ℕ) (file : Option File) (load : List Call) → IsLoad name file load → after d (map Done (image_open out true ∷ load)) ≡ after_done d (image_open out true)
+loaded_folder : (d : Folder) (out name : List ℕ) (file : Option File) (load : List Call) → IsLoad name file load → after d (map Done (image_open out true ∷ load)) ≡ after_done d (image_open out true)
 loaded_folder d out name file load l =
     let P : List Call → Type 0 = λ c. after (after_done d (image_open out true)) (map Done c) ≡ after_done d (image_open out true) in
     subst P (sym l.calls_are) (load_stands (after_done d (image_open out true)) name l.given)

@@ -67,7 +67,7 @@ next_apart true image r x within apart = written_outside image r.pos r.given x w
 next_apart false image r x within apart = refl
 
 -- reads leave an image no shorter
-pub length_landed : (image : List ℕ) (reads : List Reading) → length image ≤ length (landed image reads)
+length_landed : (image : List ℕ) (reads : List Reading) → length image ≤ length (landed image reads)
 length_landed image [] = omega arith
 length_landed image (r ∷ rs) = omega (arith, length-next (is_whole r) image r, length_landed (next (is_whole r) image r) rs)
 
@@ -209,7 +209,7 @@ fate_behind domain map cursor r rs image x n behind (missed f) = missed (record 
 })
 
 -- what a run makes of each position
-pub fate : (domain : ℕ → Bool) (map : List Status) (cursor : ℕ) (reads : List Reading) (image : List ℕ) → IsRun domain map cursor reads → (x : ℕ) → Fate domain map reads image x
+fate : (domain : ℕ → Bool) (map : List Status) (cursor : ℕ) (reads : List Reading) (image : List ℕ) → IsRun domain map cursor reads → (x : ℕ) → Fate domain map reads image x
 fate domain map cursor [] image run x = untouched (record { unread = refl; mark = refl; stands = λ within. refl })
 fate domain map cursor (r ∷ rs) image run x =
     let before : x < r.pos + r.asked → Untouched (marked_by map r) rs (next (is_whole r) image r) x = untouched_before domain (marked_by map r) (r.pos + r.asked) rs (next (is_whole r) image r) x run.1 in

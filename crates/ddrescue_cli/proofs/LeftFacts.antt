@@ -38,7 +38,7 @@ failed_files d (draft_publish name) = refl
 failed_files d (map_settle name) = refl
 
 -- a call that failed changes no file
-pub lost_files : (start : Folder) (call : Call) (old new : List Entry) → Lost call old new → (after start new).files ≡ (after start old).files
+lost_files : (start : Folder) (call : Call) (old new : List Entry) → Lost call old new → (after start new).files ≡ (after start old).files
 lost_files start call old new lost = ⊎_elim
     (λ l. ap (λ r. (after start r).files) l ∙ ap (λ (d : Folder). d.files) (after-append start old (Failed call ∷ [])) ∙ failed_files (after start old) call)
     (λ r. ap (λ n. (after start n).files) r)

@@ -148,7 +148,7 @@ stopped name (Some f) text calls calls' calls'' pos asked buf n e p at size done
     ]
 
 -- all reads of a file are also the first ones
-pub load_begins : (name : List ℕ) (file : Option File) (reads : List Call) → IsLoad name file reads → BeginsLoad name file reads
+load_begins : (name : List ℕ) (file : Option File) (reads : List Call) → IsLoad name file reads → BeginsLoad name file reads
 load_begins name file reads l = record {
   given = l.given;
   pieces = l.pieces;

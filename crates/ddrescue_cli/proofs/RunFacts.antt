@@ -43,7 +43,7 @@ pub record Within (domain : ℕ → Bool) (map : List Status) (cursor p q : ℕ)
   pub each : (x : ℕ) → p ≤ x → x < q → IsWanted domain map x
 
 -- a request lies there
-pub request_within : (domain : ℕ → Bool) (map : List Status) (cursor p q : ℕ) → IsRequest domain map cursor p q → Within domain map cursor p q
+request_within : (domain : ℕ → Bool) (map : List Status) (cursor p q : ℕ) → IsRequest domain map cursor p q → Within domain map cursor p q
 request_within domain map cursor p q r =
     let some : p < q = omega (arith, r.run.begun, r.stops) in
     let each : (x : ℕ) → p ≤ x → x < q → IsWanted domain map x = λ x from to. r.run.within x from (omega (arith, r.stops)) in
@@ -58,7 +58,7 @@ request_within domain map cursor p q r =
     }
 
 -- a request of the input's positions ends at or before the input's end
-pub request_inside : (end : ℕ) (map : List Status) (cursor p q : ℕ) → IsRequest (inside end) map cursor p q → q ≤ end
+request_inside : (end : ℕ) (map : List Status) (cursor p q : ℕ) → IsRequest (inside end) map cursor p q → q ≤ end
 request_inside end map cursor p q r =
     let w : Within (inside end) map cursor p q = request_within (inside end) map cursor p q r in
     let some : p < q = w.some in

@@ -1,7 +1,6 @@
 -- What a mapfile stands for, and what words and files come to.
-use Rattle.std.proofs.Common.{◌≡◌, ◌≢◌, ◌⊎◌, ℕ, ◌+◌, ◌-◌, ◌<◌, ◌≤◌, ◌^◌, Bool, true, false, List, [], ◌∷◌, length, replicate, Option, Some, None, not, nat_eq, refl, sym, ap, ◌∙◌, subst, inl, inr, arith, append-nil, length-append}
+use Rattle.std.proofs.Common.{◌≡◌, ◌≢◌, ◌⊎◌, ℕ, ◌+◌, ◌-◌, ◌<◌, ◌≤◌, ◌^◌, Bool, true, false, List, [], ◌∷◌, length, replicate, Option, Some, None, not, nat_eq, refl, sym, ap, ◌∙◌, subst, inl, inr, arith, append-nil}
 use Rattle.std.proofs.lemmas.Bool.{cases_lt}
-use Rattle.std.proofs.lemmas.List.{length-replicate}
 use Rattle.block_list.specs.declared.status.Status.{Status}
 use Rattle.block_list.specs.declared.status.Status.TheVariants.{NonTried}
 use Rattle.block_list.specs.declared.block.Block.{Block}
@@ -24,7 +23,7 @@ use Rattle.ddrescue_cli.specs.declared.ending.Which.TheVariants.{RunMap}
 use Rattle.ddrescue_cli.specs.declared.ending.Ending.{Ending}
 use Rattle.ddrescue_cli.specs.declared.ending.Ending.TheVariants.{Done, WrongNumber, WrongWord, SameName, SourceFault, NotRegular, MapRefused, SourceLost, SiteFault, NoMemory}
 use Rattle.ddrescue_cli.specs.Operands.{outfile, mapfile, refusal_of_words}
-use Rattle.ddrescue_cli.specs.Start.{IsFresh, IsResumed, TextStands, AsNone, AsMap, Stands, TextRefused, IsRefused, IsAccepted, IsNamed}
+use Rattle.ddrescue_cli.specs.Start.{TextStands, AsNone, AsMap, Stands, TextRefused, IsRefused, IsAccepted, IsNamed}
 use Rattle.ddrescue_cli.specs.Saved.{finished_state, saved_text}
 use Rattle.ddrescue_cli.specs.Run.{is_other}
 use Rattle.ddrescue_cli.specs.Rescue.{FilesRefuse, VerdictOf, IsVerdict}
@@ -77,7 +76,7 @@ some_lines mode [] state first listed statuses m e = absurd m
 some_lines mode (l ∷ ls) state first listed statuses m e = cc
 
 -- a map says something
-pub map_is_not_blank : (text : List ℕ) (mode : Mode) (state : MapState) (first : ℕ) (listed : Bool) (statuses : List Status) → IsMapText text mode state first listed statuses → Blank text → ⊥
+map_is_not_blank : (text : List ℕ) (mode : Mode) (state : MapState) (first : ℕ) (listed : Bool) (statuses : List Status) → IsMapText text mode state first listed statuses → Blank text → ⊥
 map_is_not_blank text mode state first listed statuses m e = some_lines mode (said text) state first listed statuses m.reads e
 
 -- a map within the limit isn't refused
@@ -256,21 +255,6 @@ accepted_verdict words files none regular accepted = record {
   first = subst (λ o. VerdictOf o (files (outfile words)) (files (mapfile words)) Done) (sym none) (never_refused (files (outfile words)) (files (mapfile words)) regular accepted);
 }
 
--- a fresh map reaches the input's end
-fresh_long : (end : ℕ) (map : List Status) (shown : ℕ) → IsFresh end map shown → end ≤ length map
-fresh_long end map shown f = omega (arith, ap length f.map_is, length-replicate end NonTried)
-
--- so does one that goes on
-resumed_long : (text : List ℕ) (end : ℕ) (map : List Status) (shown : ℕ) → IsResumed text end map shown → end ≤ length map
-resumed_long text end map shown r =
-    omega (arith, ap length r.map_is, length-append r.statuses (replicate (end - length r.statuses) NonTried), length-replicate (end - length r.statuses) NonTried)
-
--- the map that a mapfile stands for reaches the input's end
-pub stands_long : (file : Option File) (end : ℕ) (map : List Status) (shown : ℕ) → Stands file end map shown → end ≤ length map
-stands_long None end map shown s = fresh_long end map shown s.stands
-stands_long (Some f) end map shown s = elim s.stands [ AsNone b x ↦ fresh_long end map shown x | AsMap x ↦ resumed_long f.bytes end map shown x ]
-
--- a map that is long enough isn't extended
 long_enough : (end : ℕ) (map : List Status) → end ≤ length map → map ≡ extended map end
 long_enough end map long =
     let none : end - length map ≡ 0 = omega arith in
