@@ -11,7 +11,8 @@ use Rattle.ddrescue_cli.specs.Reads.{landed, write_of, writes_of}
 use Rattle.ddrescue_cli.specs.Loading.{piece_reads, load_reads, IsLoad}
 use Rattle.std.specs.Prelude.{codes, sum}
 use Rattle.ddrescue_cli.specs.Operands.{draft_name}
-use Rattle.ddrescue_cli.specs.Run.{is_other, save_calls, run_calls}
+use Rattle.ddrescue_cli.specs.Answers.{is_other}
+use Rattle.ddrescue_cli.specs.CallsMade.{save_calls, run_calls}
 use Rattle.ddrescue_cli.proofs.CallFacts.{after-append}
 
 bytes_eq-refl : (xs : List ℕ) → bytes_eq xs xs ≡ true

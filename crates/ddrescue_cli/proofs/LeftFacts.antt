@@ -16,11 +16,13 @@ use Rattle.ddrescue_cli.specs.Requests.{inside}
 use Rattle.ddrescue_cli.specs.Reads.{map_after, cursor_after, IsRun, landed, write_of, writes_of}
 use Rattle.ddrescue_cli.specs.Saved.{heading, text_after}
 use Rattle.ddrescue_cli.specs.Start.{Stands}
-use Rattle.ddrescue_cli.specs.Loading.{piece_reads, load_reads, BeginsLoad, IsLoad}
-use Rattle.ddrescue_cli.specs.Run.{is_other, save_calls, run_calls, CallsBroken, CallsStarved, AtWords, AtLoad, AtRun, CallAllowed, FilesAllow, IsBeforeReads, IsAfterLoad, Fits, LastUnwritten}
+use Rattle.ddrescue_cli.specs.Loading.{piece_reads, load_reads, IsLoad}
+use Rattle.ddrescue_cli.specs.Answers.{is_other, CallAllowed, FilesAllow, IsBeforeReads, IsAfterLoad}
+use Rattle.ddrescue_cli.specs.CallsMade.{save_calls, run_calls, CallsBroken, BrokenOpen, BrokenLoad, BrokenRun, CallsStarved, StarvedWords, StarvedLoad, StarvedRun}
+use Rattle.ddrescue_cli.specs.Run.{Fits, LastUnwritten}
 use Rattle.ddrescue_cli.specs.Rescue.{AreRescued}
 use Rattle.ddrescue_cli.specs.Left.{AllStand, made, OutputMade, Unpublished, LastWriteFailed, LeftAt, FilesLeft, LeftBefore}
-use Rattle.ddrescue_cli.proofs.CallFacts.{after-append}
+use Rattle.ddrescue_cli.proofs.CallFacts.{after-append, made_more}
 use Rattle.ddrescue_cli.proofs.RunFacts.{length_map_after, cursor_after_small}
 use Rattle.ddrescue_cli.proofs.StartFacts.{printed_stands}
 use Rattle.ddrescue_cli.proofs.WentFacts.{Facts}
@@ -187,13 +189,15 @@ copied_left words file load reads start old new apart regular l grew =
 unwritten : (words : List (List ℕ)) (file : Option File) (reads : List Reading) (start : Folder) (old new : List Entry) → AreNamedApart words → is_other ((after start old).files (outfile words)) ≡ false
     → LastUnwritten (outfile words) (mapfile words) file reads old new → LastWriteFailed words reads (after start old).files (after start new).files
 unwritten words file reads start old new apart regular w =
-    let stands : (after start new).files ≡ (after start w.between).files = ⊎_elim (λ l. lost_files start (image_write w.last.pos w.last.given) w.between new l.1) (λ n. absurd n) w.broke in
-    let P : (List ℕ → Option File) → Type 0 = λ f. Unpublished words w.before (after start old).files f in
+    let r = w.run in
+    let stands : (after start new).files ≡ (after start r.between).files = ⊎_elim (λ l. lost_files start (image_write r.last.pos r.last.given) r.between new l.1) (λ n. absurd n) r.broke in
+    let made : Made (image_open (outfile words) true ∷ w.load ++ writes_of r.before) old r.between = made_more old w.opened r.between (image_open (outfile words) true ∷ w.load) (writes_of r.before) w.opening r.made in
+    let P : (List ℕ → Option File) → Type 0 = λ f. Unpublished words r.before (after start old).files f in
     record {
-      written = w.before;
-      failed = w.last;
-      split = w.split;
-      left = subst P (sym stands) (copied_left words file w.load w.before start old w.between apart regular w.loaded w.made);
+      written = r.before;
+      failed = r.last;
+      split = r.split;
+      left = subst P (sym stands) (copied_left words file w.load r.before start old r.between apart regular w.loaded made);
     }
 
 -- a call of the save is allowed only where the output is no other file
@@ -289,24 +293,18 @@ site_left : (at : SiteCall) (words : List (List ℕ)) (end : ℕ) (reads : List 
     → CallAllowed at ((after start old).files (outfile words)) ((after start old).files (mapfile words)) → (at ≡ ImageWrite → LeftAt at words end reads (after start old).files (after start new).files)
     → CallsBroken at (outfile words) (mapfile words) (draft words) ((after start old).files (mapfile words)) reads (text_after (heading words) start_map shown reads) old new
     → LeftAt at words end reads (after start old).files (after start new).files
-site_left ImageOpen words end reads start_map shown start old new apart stands allowed write broke =
+site_left call words end reads start_map shown start old new apart stands allowed write (BrokenOpen is broke) =
     let b = broke_files start ImageOpen (image_open (outfile words) true ∷ []) old new broke in
-    ⊎_elim (λ l. record { each = λ n. ap (λ f. f n) l.1 }) (λ n. absurd n) b
-site_left MapRead words end reads start_map shown start old new apart stands allowed write broke =
-    let load : List Call = broke.0 in
-    let begins : BeginsLoad (mapfile words) ((after start old).files (mapfile words)) load = broke.1 in
-    let b = broke_files start MapRead (image_open (outfile words) true ∷ load) old new broke.2 in
+    let P : SiteCall → Type 0 = λ a. LeftAt a words end reads (after start old).files (after start new).files in
+    subst P (sym is) (⊎_elim (λ l. record { each = λ n. ap (λ f. f n) l.1 }) (λ n. absurd n) b)
+site_left call words end reads start_map shown start old new apart stands allowed write (BrokenLoad load is begins broke) =
+    let b = broke_files start MapRead (image_open (outfile words) true ∷ load) old new broke in
     let O : List Call → Type 0 = λ c. FilesAtBreak MapRead (image_open (outfile words) true ∷ c) (after start old) (after start new).files in
-    opening_left MapRead words end reads begins.given (after start old) (after start new).files (subst O begins.calls_are b)
-site_left ImageRead words end reads start_map shown start old new apart stands allowed write broke = broke_left ImageRead words end broke.0 reads start_map shown (after start old) (after start new).files apart broke.1 (stands (λ x. x)) allowed write (broke_files start ImageRead (run_calls (outfile words) (mapfile words) (draft words) broke.0 reads (text_after (heading words) start_map shown reads)) old new broke.2)
-site_left ImageWrite words end reads start_map shown start old new apart stands allowed write broke = broke_left ImageWrite words end broke.0 reads start_map shown (after start old) (after start new).files apart broke.1 (stands (λ x. x)) allowed write (broke_files start ImageWrite (run_calls (outfile words) (mapfile words) (draft words) broke.0 reads (text_after (heading words) start_map shown reads)) old new broke.2)
-site_left ImageSync words end reads start_map shown start old new apart stands allowed write broke = broke_left ImageSync words end broke.0 reads start_map shown (after start old) (after start new).files apart broke.1 (stands (λ x. x)) allowed write (broke_files start ImageSync (run_calls (outfile words) (mapfile words) (draft words) broke.0 reads (text_after (heading words) start_map shown reads)) old new broke.2)
-site_left DraftBegin words end reads start_map shown start old new apart stands allowed write broke = broke_left DraftBegin words end broke.0 reads start_map shown (after start old) (after start new).files apart broke.1 (stands (λ x. x)) allowed write (broke_files start DraftBegin (run_calls (outfile words) (mapfile words) (draft words) broke.0 reads (text_after (heading words) start_map shown reads)) old new broke.2)
-site_left DraftAppend words end reads start_map shown start old new apart stands allowed write broke = broke_left DraftAppend words end broke.0 reads start_map shown (after start old) (after start new).files apart broke.1 (stands (λ x. x)) allowed write (broke_files start DraftAppend (run_calls (outfile words) (mapfile words) (draft words) broke.0 reads (text_after (heading words) start_map shown reads)) old new broke.2)
-site_left DraftSync words end reads start_map shown start old new apart stands allowed write broke = broke_left DraftSync words end broke.0 reads start_map shown (after start old) (after start new).files apart broke.1 (stands (λ x. x)) allowed write (broke_files start DraftSync (run_calls (outfile words) (mapfile words) (draft words) broke.0 reads (text_after (heading words) start_map shown reads)) old new broke.2)
-site_left DraftPublish words end reads start_map shown start old new apart stands allowed write broke = broke_left DraftPublish words end broke.0 reads start_map shown (after start old) (after start new).files apart broke.1 (stands (λ x. x)) allowed write (broke_files start DraftPublish (run_calls (outfile words) (mapfile words) (draft words) broke.0 reads (text_after (heading words) start_map shown reads)) old new broke.2)
-site_left MapSettle words end reads start_map shown start old new apart stands allowed write broke = broke_left MapSettle words end broke.0 reads start_map shown (after start old) (after start new).files apart broke.1 (stands (λ x. x)) allowed write (broke_files start MapSettle (run_calls (outfile words) (mapfile words) (draft words) broke.0 reads (text_after (heading words) start_map shown reads)) old new broke.2)
-site_left MapRemove words end reads start_map shown start old new apart stands allowed write broke = broke_left MapRemove words end broke.0 reads start_map shown (after start old) (after start new).files apart broke.1 (stands (λ x. x)) allowed write (broke_files start MapRemove (run_calls (outfile words) (mapfile words) (draft words) broke.0 reads (text_after (heading words) start_map shown reads)) old new broke.2)
+    let P : SiteCall → Type 0 = λ a. LeftAt a words end reads (after start old).files (after start new).files in
+    subst P (sym is) (opening_left MapRead words end reads begins.given (after start old) (after start new).files (subst O begins.calls_are b))
+site_left call words end reads start_map shown start old new apart stands allowed write (BrokenRun load later loaded broke) =
+    broke_left call words end load reads start_map shown (after start old) (after start new).files apart loaded (stands later) allowed write
+    (broke_files start call (run_calls (outfile words) (mapfile words) (draft words) load reads (text_after (heading words) start_map shown reads)) old new broke)
 
 none_left : (start : Folder) (old new : List Entry) → Made [] old new → AllStand (after start old).files (after start new).files
 none_left start old new grew = record { each = λ n. ap (λ (d : Folder). d.files n) (after_made start [] old new grew) }
@@ -336,15 +334,15 @@ refused_left words file load start old new l grew =
 -- a rescue for which memory ran out
 starved_left : (words : List (List ℕ)) (file : Option File) (reads : List Reading) (start : Folder) (old new : List Entry) → AreNamedApart words → is_other ((after start old).files (outfile words)) ≡ false
     → CallsStarved (outfile words) (mapfile words) file reads old new → AllStand (after start old).files (after start new).files ⊎ Unpublished words reads (after start old).files (after start new).files
-starved_left words file reads start old new apart regular (AtWords none made) = inl (none_left start old new made)
-starved_left words file reads start old new apart regular (AtLoad load none begins made) =
+starved_left words file reads start old new apart regular (StarvedWords none made) = inl (none_left start old new made)
+starved_left words file reads start old new apart regular (StarvedLoad load none begins made) =
     let d : Folder = after start old in
     let P : (List ℕ → Option File) → Type 0 = λ f. Unpublished words [] d.files f in
     let R : List Reading → Type 0 = λ r. Unpublished words r d.files (after start new).files in
     let o : IsOpenImage (outfile words) (bytes_of (d.files (outfile words))) d.files (after_done d (image_open (outfile words) true)) = open_image d (outfile words) (d.files (outfile words)) refl regular in
     let k = kept (outfile words) (mapfile words) (draft words) (bytes_of (d.files (outfile words))) d.files (after_done d (image_open (outfile words) true)) apart.output_map o in
     inr (subst R (sym none) (subst P (sym (load_left words begins.given load start old new begins.calls_are made)) (unpublished words [] d.files (after_done d (image_open (outfile words) true)).files k)))
-starved_left words file reads start old new apart regular (AtRun load l made) = inr (copied_left words file load reads start old new apart regular l made)
+starved_left words file reads start old new apart regular (StarvedRun load l made) = inr (copied_left words file load reads start old new apart regular l made)
 
 -- what each answer leaves of the files, of one start
 left_of : (e : Ending) (words : List (List ℕ)) (end : ℕ) (reads : List Reading) (start : Folder) (old new : List Entry) → AreNamedApart words

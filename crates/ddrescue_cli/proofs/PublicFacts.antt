@@ -16,7 +16,9 @@ use Rattle.ddrescue_cli.specs.Reads.{map_after, cursor_after, IsRun, landed, gai
 use Rattle.ddrescue_cli.specs.Start.{Stands}
 use Rattle.ddrescue_cli.specs.Saved.{heading}
 use Rattle.ddrescue_cli.specs.Held.{Held}
-use Rattle.ddrescue_cli.specs.Run.{FilesAllow, AtWords, IsBeforeReads, IsAfterLoad, IsPublished, StopCause, Went}
+use Rattle.ddrescue_cli.specs.Answers.{FilesAllow, IsBeforeReads, IsAfterLoad, IsPublished, StopCause}
+use Rattle.ddrescue_cli.specs.CallsMade.{StarvedWords}
+use Rattle.ddrescue_cli.specs.Run.{Went}
 use Rattle.ddrescue_cli.specs.Rescue.{IsAnswer, VerdictOf, IsReadInOrder, IsCalled, AreRescued, OutputHolds, MapfileHolds, FoundHolds}
 use Rattle.ddrescue_cli.specs.Left.{AllStand, made, OutputMade, Unpublished, FilesLeft}
 use Rattle.ddrescue_cli.proofs.StartFacts.{stands_for_one, verdict_exists, accepted_verdict}
@@ -26,7 +28,7 @@ use Rattle.ddrescue_cli.proofs.WentFacts.{Facts, facts_told, gained_is, went_ear
 -- a refusal of the words, as what a rescue did
 went_words : (e : Ending) (refusal : Option Ending) (out name draft' : List ℕ) (h : HeadingLines) (ts td : Bool) (bytes : List ℕ) (file : Option File) (j : List Reading) (c : List Entry)
     → OfWords e refusal → Went e out name draft' h ts td bytes file j j c c
-went_words NoMemory refusal out name draft' h ts td bytes file j c of_words = went_early NoMemory out name draft' h ts td bytes file (length bytes) j j c c (λ _. refl) (λ _. refl) (λ _ text. AtWords refl (sym (append-nil c))) (λ b. b refl) (λ a. a) (λ q. cc)
+went_words NoMemory refusal out name draft' h ts td bytes file j c of_words = went_early NoMemory out name draft' h ts td bytes file (length bytes) j j c c (λ _. refl) (λ _. refl) (λ _ text. StarvedWords refl (sym (append-nil c))) (λ b. b refl) (λ a. a) (λ q. cc)
 went_words (WrongNumber n) refusal out name draft' h ts td bytes file j c of_words = went_early (WrongNumber n) out name draft' h ts td bytes file (length bytes) j j c c (λ _. refl) (λ _. refl) (λ _ text. sym (append-nil c)) (λ b. b tt) (λ a. a) (λ q. cc)
 went_words (WrongWord n) refusal out name draft' h ts td bytes file j c of_words = went_early (WrongWord n) out name draft' h ts td bytes file (length bytes) j j c c (λ _. refl) (λ _. refl) (λ _ text. sym (append-nil c)) (λ b. b tt) (λ a. a) (λ q. cc)
 went_words (SameName a b) refusal out name draft' h ts td bytes file j c of_words = went_early (SameName a b) out name draft' h ts td bytes file (length bytes) j j c c (λ _. refl) (λ _. refl) (λ _ text. sym (append-nil c)) (λ b. b tt) (λ a. a) (λ q. cc)

@@ -12,7 +12,9 @@ use Rattle.ddrescue_cli.specs.Requests.{inside}
 use Rattle.ddrescue_cli.specs.Reads.{map_after, cursor_after, IsNext, write_of, writes_of}
 use Rattle.ddrescue_cli.specs.Copying.{Halt, Unread, Unwritten, Copied, CopiedAll, Halted}
 use Rattle.ddrescue_cli.specs.Saved.{finished_state, saved_text, text_after}
-use Rattle.ddrescue_cli.specs.Run.{save_calls, IsOpening, IsSaving, IsBeforeReads, IsAfterReads, RunCalls, Ran}
+use Rattle.ddrescue_cli.specs.Answers.{IsOpening, IsSaving, IsBeforeReads, IsAfterReads}
+use Rattle.ddrescue_cli.specs.CallsMade.{save_calls}
+use Rattle.ddrescue_cli.specs.Run.{RunCalls, Ran}
 use Rattle.ddrescue_cli.proofs.CallFacts.{made_more, broke_front, broke_back}
 use Rattle.ddrescue_cli.proofs.CopyFacts.{flat_map_one}
 use Rattle.ddrescue_cli.proofs.RunFacts.{run_more}

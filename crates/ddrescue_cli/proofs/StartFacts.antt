@@ -25,7 +25,7 @@ use Rattle.ddrescue_cli.specs.declared.ending.Ending.TheVariants.{Done, WrongNum
 use Rattle.ddrescue_cli.specs.Operands.{outfile, mapfile, refusal_of_words}
 use Rattle.ddrescue_cli.specs.Start.{TextStands, AsNone, AsMap, Stands, TextRefused, IsRefused, IsAccepted, IsNamed}
 use Rattle.ddrescue_cli.specs.Saved.{finished_state, saved_text}
-use Rattle.ddrescue_cli.specs.Run.{is_other}
+use Rattle.ddrescue_cli.specs.Answers.{is_other}
 use Rattle.ddrescue_cli.specs.Rescue.{FilesRefuse, VerdictOf, IsVerdict}
 use Rattle.ddrescue_cli.specs.Laws.{StandsForOne, AcceptedStands, StandsAccepted, RefusedForOne, HasOneVerdict}
 

@@ -18,7 +18,9 @@ use Rattle.ddrescue_cli.specs.Start.{Stands, IsAccepted}
 use Rattle.ddrescue_cli.specs.Loading.{IsLoad}
 use Rattle.ddrescue_cli.specs.Opening.{OutputCause, OutputStop, LoadCause, LoadStop, Starved, Refused, Broken, Loaded}
 use Rattle.ddrescue_cli.specs.Saved.{heading, text_after}
-use Rattle.ddrescue_cli.specs.Run.{is_other, save_calls, CallsOf, CallsBroken, AtLoad, AtRun, IsOpening, IsBeforeReads, IsAfterReads, IsAfterLoad, FilesAllow, CallAllowed, Fits, RunCause, RunCalls, RunUnwritten, LastUnwritten, Ran, Went}
+use Rattle.ddrescue_cli.specs.Answers.{is_other, IsOpening, IsBeforeReads, IsAfterReads, IsAfterLoad, FilesAllow, CallAllowed}
+use Rattle.ddrescue_cli.specs.CallsMade.{save_calls, CallsOf, CallsBroken, BrokenOpen, BrokenLoad, BrokenRun, StarvedLoad, StarvedRun}
+use Rattle.ddrescue_cli.specs.Run.{Fits, RunCause, RunCalls, LastUnwritten, Ran, Went}
 use Rattle.ddrescue_cli.proofs.CallFacts.{made_more, broke_back, after-append}
 use Rattle.ddrescue_cli.proofs.FolderFacts.{bytes_eq-flip}
 
@@ -50,7 +52,7 @@ went_source out name draft h ts td bytes file j0 j1 c0 before =
 output_calls : (e : Ending) (out name draft : List ℕ) (file output : Option File) (text : List ℕ) (c0 c1 : List Entry) → OutputStop e out output c0 c1 → CallsOf e out name draft file [] text c0 c1
 output_calls e out name draft file output text c0 c1 stop =
     let P : Ending → Type 0 = λ v. CallsOf v out name draft file [] text c0 c1 in
-    ⊎_elim (λ l. subst P (sym l.0) l.2) (λ r. subst P (sym r.0) r.1) stop
+    ⊎_elim (λ l. subst P (sym l.0) l.2) (λ r. subst P (sym r.0) (BrokenOpen refl r.1)) stop
 
 -- an outfile that was refused
 pub went_output : (e : Ending) (out name draft : List ℕ) (h : HeadingLines) (ts td : Bool) (bytes : List ℕ) (file output : Option File) (end faults faults' : ℕ) (j0 j1 : List Reading) (c0 c1 : List Entry)
@@ -63,13 +65,13 @@ went_output e out name draft h ts td bytes file output end faults faults' j0 j1 
 load_calls : (e : Ending) (out name draft : List ℕ) (file : Option File) (text : List ℕ) (c0 c1 c2 : List Entry) → Made (image_open out true ∷ []) c0 c1 → LoadStop name file e c1 c2 → CallsOf e out name draft file [] text c0 c2
 load_calls e out name draft file text c0 c1 c2 opened (Starved reads is begins made) =
     let P : Ending → Type 0 = λ v. CallsOf v out name draft file [] text c0 c2 in
-    subst P (sym is) (AtLoad reads refl begins (made_more c0 c1 c2 (image_open out true ∷ []) reads opened made))
+    subst P (sym is) (StarvedLoad reads refl begins (made_more c0 c1 c2 (image_open out true ∷ []) reads opened made))
 load_calls e out name draft file text c0 c1 c2 opened (Refused error reads is refused load made) =
     let P : Ending → Type 0 = λ v. CallsOf v out name draft file [] text c0 c2 in
     subst P (sym is) (reads, load, made_more c0 c1 c2 (image_open out true ∷ []) reads opened made)
 load_calls e out name draft file text c0 c1 c2 opened (Broken reads is begins broke) =
     let P : Ending → Type 0 = λ v. CallsOf v out name draft file [] text c0 c2 in
-    subst P (sym is) (reads, begins, broke_back MapRead (image_open out true ∷ []) reads c0 c1 c2 opened broke)
+    subst P (sym is) (BrokenLoad reads refl begins (broke_back MapRead (image_open out true ∷ []) reads c0 c1 c2 opened broke))
 
 -- a mapfile that couldn't be loaded
 pub went_load : (e : Ending) (out name draft : List ℕ) (h : HeadingLines) (ts td td' : Bool) (bytes : List ℕ) (file file' : Option File) (end faults faults' : ℕ) (j0 j1 : List Reading) (c0 c1 c2 : List Entry)
@@ -85,23 +87,14 @@ went_load e out name draft h ts td td' bytes file file' end faults faults' j0 j1
 -- the calls of a run, behind those of the opening
 broken_calls : (call : SiteCall) (out name draft : List ℕ) (file : Option File) (load : List Call) (reads : List Reading) (text : List ℕ) (c0 c2 c3 : List Entry)
     → (IsOpening call → ⊥) → IsLoad name file load → Made (image_open out true ∷ load) c0 c2 → BrokeAt call (writes_of reads ++ save_calls name draft text) c2 c3 → CallsBroken call out name draft file reads text c0 c3
-broken_calls ImageOpen out name draft file load reads text c0 c2 c3 later loaded opened broke = absurd (later tt)
-broken_calls MapRead out name draft file load reads text c0 c2 c3 later loaded opened broke = absurd (later tt)
-broken_calls ImageRead out name draft file load reads text c0 c2 c3 later loaded opened broke = (load, loaded, broke_back ImageRead (image_open out true ∷ load) (writes_of reads ++ save_calls name draft text) c0 c2 c3 opened broke)
-broken_calls ImageWrite out name draft file load reads text c0 c2 c3 later loaded opened broke = (load, loaded, broke_back ImageWrite (image_open out true ∷ load) (writes_of reads ++ save_calls name draft text) c0 c2 c3 opened broke)
-broken_calls ImageSync out name draft file load reads text c0 c2 c3 later loaded opened broke = (load, loaded, broke_back ImageSync (image_open out true ∷ load) (writes_of reads ++ save_calls name draft text) c0 c2 c3 opened broke)
-broken_calls DraftBegin out name draft file load reads text c0 c2 c3 later loaded opened broke = (load, loaded, broke_back DraftBegin (image_open out true ∷ load) (writes_of reads ++ save_calls name draft text) c0 c2 c3 opened broke)
-broken_calls DraftAppend out name draft file load reads text c0 c2 c3 later loaded opened broke = (load, loaded, broke_back DraftAppend (image_open out true ∷ load) (writes_of reads ++ save_calls name draft text) c0 c2 c3 opened broke)
-broken_calls DraftSync out name draft file load reads text c0 c2 c3 later loaded opened broke = (load, loaded, broke_back DraftSync (image_open out true ∷ load) (writes_of reads ++ save_calls name draft text) c0 c2 c3 opened broke)
-broken_calls DraftPublish out name draft file load reads text c0 c2 c3 later loaded opened broke = (load, loaded, broke_back DraftPublish (image_open out true ∷ load) (writes_of reads ++ save_calls name draft text) c0 c2 c3 opened broke)
-broken_calls MapSettle out name draft file load reads text c0 c2 c3 later loaded opened broke = (load, loaded, broke_back MapSettle (image_open out true ∷ load) (writes_of reads ++ save_calls name draft text) c0 c2 c3 opened broke)
-broken_calls MapRemove out name draft file load reads text c0 c2 c3 later loaded opened broke = (load, loaded, broke_back MapRemove (image_open out true ∷ load) (writes_of reads ++ save_calls name draft text) c0 c2 c3 opened broke)
+broken_calls call out name draft file load reads text c0 c2 c3 later loaded opened broke =
+    BrokenRun load later loaded (broke_back call (image_open out true ∷ load) (writes_of reads ++ save_calls name draft text) c0 c2 c3 opened broke)
 
 all_calls : (e : Ending) (out name draft : List ℕ) (file : Option File) (load : List Call) (reads : List Reading) (text : List ℕ) (c0 c2 c3 : List Entry)
     → (IsBeforeReads e → ⊥) → IsLoad name file load → Made (image_open out true ∷ load) c0 c2 → RunCalls e name draft reads text c2 c3 → CallsOf e out name draft file reads text c0 c3
 all_calls Finished out name draft file load reads text c0 c2 c3 later loaded opened made = (load, loaded, made_more c0 c2 c3 (image_open out true ∷ load) (writes_of reads ++ save_calls name draft text) opened made)
 all_calls SourceLost out name draft file load reads text c0 c2 c3 later loaded opened made = (load, loaded, made_more c0 c2 c3 (image_open out true ∷ load) (writes_of reads) opened made)
-all_calls NoMemory out name draft file load reads text c0 c2 c3 later loaded opened made = AtRun load loaded (made_more c0 c2 c3 (image_open out true ∷ load) (writes_of reads) opened made)
+all_calls NoMemory out name draft file load reads text c0 c2 c3 later loaded opened made = StarvedRun load loaded (made_more c0 c2 c3 (image_open out true ∷ load) (writes_of reads) opened made)
 all_calls (SiteFault call) out name draft file load reads text c0 c2 c3 later loaded opened made = broken_calls call out name draft file load reads text c0 c2 c3 later loaded opened made
 all_calls (WrongNumber given) out name draft file load reads text c0 c2 c3 later loaded opened made = absurd made
 all_calls (WrongWord word) out name draft file load reads text c0 c2 c3 later loaded opened made = absurd made
@@ -109,21 +102,6 @@ all_calls (SameName first second) out name draft file load reads text c0 c2 c3 l
 all_calls SourceFault out name draft file load reads text c0 c2 c3 later loaded opened made = absurd made
 all_calls NotRegular out name draft file load reads text c0 c2 c3 later loaded opened made = absurd made
 all_calls (MapRefused which error) out name draft file load reads text c0 c2 c3 later loaded opened made = absurd made
-
-last_unwritten : (out name : List ℕ) (file : Option File) (load : List Call) (reads : List Reading) (c0 c2 c3 : List Entry) → IsLoad name file load → Made (image_open out true ∷ load) c0 c2 → RunUnwritten reads c2 c3 → LastUnwritten out name file reads c0 c3
-last_unwritten out name file load reads c0 c2 c3 loaded opened u =
-    let grew : Made (image_open out true ∷ load ++ writes_of u.before) c0 u.between = made_more c0 c2 u.between (image_open out true ∷ load) (writes_of u.before) opened u.made in
-    record {
-      before = u.before;
-      last = u.last;
-      split = u.split;
-      whole = u.whole;
-      load = load;
-      loaded = loaded;
-      between = u.between;
-      made = grew;
-      broke = u.broke;
-    }
 
 -- a run that went on to its end, or to where it stopped
 pub went_run : (e : Ending) (out name draft : List ℕ) (h : HeadingLines) (ts ts' td td' td'' : Bool) (bytes : List ℕ) (file file' : Option File) (end : ℕ) (start_map : List Status) (shown : ℕ) (j0 j1 j2 : List Reading) (c0 c1 c2 c3 : List Entry)
@@ -149,7 +127,7 @@ went_run e out name draft h ts ts' td td' td'' bytes file file' end start_map sh
           all_calls e out name draft file l.reads r.reads (text_after h start_map shown r.reads) c0 c2 c3 r.later l.load (both t) (r.made (rw (same_r, same_d) t));
       none = λ x. absurd (r.later x);
       spent = r.spent;
-      unwritten = λ q t. let l : Loaded name file c1 c2 = here t in last_unwritten out name file l.reads r.reads c0 c2 c3 l.load (both t) (r.unwritten q (rw (same_r, same_d) t));
+      unwritten = λ q t. let l : Loaded name file c1 c2 = here t in record { load = l.reads; loaded = l.load; opened = c2; opening = both t; run = r.unwritten q (rw (same_r, same_d) t) };
     }
 
 -- what a rescue did, by the words that it was called with

@@ -32,11 +32,11 @@ pub data Halt (pos size : ℕ) (e : Ending) (source_tells site_tells : Bool) (jo
       → (IsTrue site_tells → Lost (image_write r.pos r.given) calls calls')
       → Halt pos size e source_tells site_tells journal journal' calls calls'
 
--- each way in which copying stops has its cause: memory, or a count that rose
+-- each way in which copying stops has its cause: memory, or one count that rose
 abbrev pub CopyCause : Ending → (losses losses' faults faults' : ℕ) → Type 0
 CopyCause e losses losses' faults faults' =
-    (e ≡ NoMemory) ⊎ ((e ≡ SourceLost) × Rose losses losses')
-    ⊎ ((e ≡ SiteFault ImageWrite) × Rose faults faults')
+    (e ≡ NoMemory) ⊎ ((e ≡ SourceLost) × Rose losses losses' × (faults' ≡ faults))
+    ⊎ ((e ≡ SiteFault ImageWrite) × (losses' ≡ losses) × Rose faults faults')
 
 -- what the turns of a run from an input's start did, up to where the cursor stands; shown is the position that the
 -- rescue shows, before the first turn and now

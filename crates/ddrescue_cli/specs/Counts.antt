@@ -1,4 +1,5 @@
 use Rattle.std.specs.Prelude.{◌≡◌, ℕ}
+use Rattle.fault_count.specs.Counts.{Rose}
 
 -- how often each thing failed: opens of the infile, reads that were lost, and calls on the outfile or on the
 -- mapfile's folder
@@ -12,3 +13,21 @@ pub record NoneRose (before now : Counts) : Type 0 where
   pub faults : now.faults ≡ before.faults
   pub losses : now.losses ≡ before.losses
   pub site_faults : now.site_faults ≡ before.site_faults
+
+-- the first count rose, and no other
+pub record FaultRose (before now : Counts) : Type 0 where
+  pub rose : Rose before.faults now.faults
+  pub losses : now.losses ≡ before.losses
+  pub site_faults : now.site_faults ≡ before.site_faults
+
+-- the second rose, and no other
+pub record LossRose (before now : Counts) : Type 0 where
+  pub faults : now.faults ≡ before.faults
+  pub rose : Rose before.losses now.losses
+  pub site_faults : now.site_faults ≡ before.site_faults
+
+-- the third rose, and no other
+pub record SiteFaultRose (before now : Counts) : Type 0 where
+  pub faults : now.faults ≡ before.faults
+  pub losses : now.losses ≡ before.losses
+  pub rose : Rose before.site_faults now.site_faults

@@ -10,7 +10,7 @@ use Rattle.ddrescue_cli.specs.declared.ending.Ending.TheVariants.{NotRegular, Ma
 use Rattle.ddrescue_cli.specs.declared.ending.Which.TheVariants.{RunMap}
 use Rattle.ddrescue_cli.specs.Start.{TextRefused, IsRefused, IsNamed}
 use Rattle.ddrescue_cli.specs.Loading.{BeginsLoad, IsLoad}
-use Rattle.ddrescue_cli.specs.Run.{is_other}
+use Rattle.ddrescue_cli.specs.Answers.{is_other}
 
 -- why the outfile was refused
 abbrev pub OutputCause : Ending → (faults faults' : ℕ) → Type 0

@@ -1,6 +1,5 @@
 use Rattle.std.specs.Prelude.{◌≡◌, ◌≢◌, ◌⊎◌, ⊤, ℕ, Bool, true, false, IsTrue, List, [], ◌++◌, Option, Some, None}
 use Rattle.block_list.specs.declared.status.Status.{Status}
-use Rattle.fault_count.specs.Counts.{Rose}
 use Rattle.faulty_source.specs.Journal.{Reading}
 use Rattle.crash_site.specs.Files.{File, bytes_of}
 use Rattle.crash_site.specs.Calls.{Entry}
@@ -8,22 +7,24 @@ use Rattle.ddrescue_cli.specs.declared.ending.Which.TheVariants.{RunMap}
 use Rattle.ddrescue_cli.specs.declared.ending.Ending.{Ending}
 use Rattle.ddrescue_cli.specs.declared.ending.Ending.TheVariants.{Done, SourceFault, NotRegular, MapRefused, SourceLost, SiteFault, NoMemory}
 use Rattle.ddrescue_cli.specs.Operands.{outfile, mapfile, draft, refusal_of_words}
-use Rattle.ddrescue_cli.specs.Counts.{Counts, NoneRose}
+use Rattle.ddrescue_cli.specs.Counts.{Counts, NoneRose, FaultRose, LossRose, SiteFaultRose}
 use Rattle.ddrescue_cli.specs.Requests.{inside, IsSpent}
 use Rattle.ddrescue_cli.specs.Reads.{map_after, cursor_after, IsRun, landed, gained}
 use Rattle.ddrescue_cli.specs.Start.{Stands, IsRefused, IsNamed}
 use Rattle.ddrescue_cli.specs.Saved.{heading, text_after}
 use Rattle.ddrescue_cli.specs.Held.{Held}
-use Rattle.ddrescue_cli.specs.Run.{is_other, CallsOf, IsBeforeReads, IsAfterReads, IsAfterLoad, Fits}
+use Rattle.ddrescue_cli.specs.Answers.{is_other, IsBeforeReads, IsAfterReads, IsAfterLoad}
+use Rattle.ddrescue_cli.specs.CallsMade.{CallsOf}
+use Rattle.ddrescue_cli.specs.Run.{Fits}
 
 -- Each answer has its cause. The words' own refusal is given exactly where the words bring it, but for want of
--- memory; a fault or a loss only where the count of the object rose, and no other answer but want of memory hides one.
+-- memory; a fault or a loss only where the count of the object rose, and no answer but want of memory hides another.
 abbrev pub Caused : Ending → (of_words : Option Ending) → (before now : Counts) → Type 0
 Caused Done of_words before now = (of_words ≡ None) × NoneRose before now
 Caused NoMemory of_words before now = ⊤
-Caused SourceFault of_words before now = (of_words ≡ None) × Rose before.faults now.faults
-Caused SourceLost of_words before now = (of_words ≡ None) × Rose before.losses now.losses
-Caused (SiteFault call) of_words before now = (of_words ≡ None) × Rose before.site_faults now.site_faults
+Caused SourceFault of_words before now = (of_words ≡ None) × FaultRose before now
+Caused SourceLost of_words before now = (of_words ≡ None) × LossRose before now
+Caused (SiteFault call) of_words before now = (of_words ≡ None) × SiteFaultRose before now
 Caused NotRegular of_words before now = (of_words ≡ None) × NoneRose before now
 Caused (MapRefused which error) of_words before now = (of_words ≡ None) × IsNamed error × NoneRose before now
 Caused e of_words before now = of_words ≡ Some e
@@ -35,6 +36,7 @@ FilesRefuse output map (MapRefused which error) =
     (which ≡ RunMap) × (is_other output ≡ false) × IsRefused map error
 FilesRefuse output map e = ⊥
 
+-- the same by what the words bring
 abbrev pub VerdictOf : (of_words : Option Ending) → (output map : Option File) → Ending → Type 0
 VerdictOf (Some refusal) output map v = v ≡ refusal
 VerdictOf None output map Done = (e : Ending) → FilesRefuse output map e → ⊥

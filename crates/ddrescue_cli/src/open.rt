@@ -1,7 +1,7 @@
 ghost use Rattle.std.specs.Prelude.{◌≡◌, ◌≤◌, true, false, IsTrue, [], ◌∷◌, OnOk, IfErr};
 ghost use Rattle.crash_site.specs.Calls.{Made, image_open};
 ghost use Rattle.crash_site.specs.Folder.{after};
-ghost use Rattle.ddrescue_cli.specs.Run.{is_other};
+ghost use Rattle.ddrescue_cli.specs.Answers.{is_other};
 ghost use Rattle.ddrescue_cli.specs.Opening.{OutputCause, OutputStop};
 
 use crate::ending::Ending;

@@ -7,7 +7,8 @@ ghost use Rattle.ddrescue_cli.specs.declared.ending.Ending.TheVariants.{Done, No
 ghost use Rattle.ddrescue_cli.specs.Operands.{outfile, mapfile, refusal_of_words};
 ghost use Rattle.ddrescue_cli.specs.Counts.{NoneRose};
 ghost use Rattle.ddrescue_cli.specs.Reads.{gained};
-ghost use Rattle.ddrescue_cli.specs.Run.{is_other, FilesAllow, IsBeforeReads, IsPublished, DraftLeft, Fits, Ran, RunCause, Went, StopCause};
+ghost use Rattle.ddrescue_cli.specs.Answers.{is_other, FilesAllow, IsBeforeReads, IsPublished, DraftLeft, StopCause};
+ghost use Rattle.ddrescue_cli.specs.Run.{Fits, Ran, RunCause, Went};
 ghost use Rattle.ddrescue_cli.specs.Rescue.{Caused, IsAnswer, IsReadInOrder, IsCalled, MapfileHolds, FoundHolds};
 ghost use Rattle.ddrescue_cli.specs.Left.{FilesLeft, LeftBefore};
 

@@ -1,7 +1,8 @@
-ghost use Rattle.std.specs.Prelude.{◌≡◌, ◌≤◌, false, IsTrue, OnOk, IfErr, OnErr};
+ghost use Rattle.std.specs.Prelude.{◌≡◌, false, IsTrue, OnOk, IfErr};
 ghost use Rattle.fault_count.specs.Counts.{HasCause};
 ghost use Rattle.crash_site.specs.Calls.{Made, BrokeAt};
-ghost use Rattle.ddrescue_cli.specs.Run.{save_calls, IsSaving, LeavesDraft};
+ghost use Rattle.ddrescue_cli.specs.Answers.{IsSaving, LeavesDraft};
+ghost use Rattle.ddrescue_cli.specs.CallsMade.{save_calls};
 
 use crash_site::site::{Site, SiteCall};
 
