@@ -4,6 +4,7 @@ use Rattle.block_list.specs.declared.status.Status.TheVariants.{Finished}
 use Rattle.block_list.specs.Map.{Has}
 use Rattle.faulty_source.specs.Journal.{Reading, covers}
 
+-- the later of two bytes, where there is one
 abbrev pub last_of_both : Option ℕ → Option ℕ → Option ℕ
 last_of_both (Some later) earlier = Some later
 last_of_both None earlier = earlier

@@ -53,6 +53,7 @@ pub record RunsOver (domain : ℕ → Bool) (map : List Status) (reads : List Re
   pub stands : (x : ℕ) → ((i : ℕ) (r : Reading) → slice_get reads i ≡ Some r → Asks r x → ⊥)
       → slice_get (map_after map reads) x ≡ slice_get map x
 
+-- each run does so
 abbrev pub RunAsksOnce : Type 0
 RunAsksOnce =
     (domain : ℕ → Bool) (map : List Status) (reads : List Reading) → IsRun domain map 0 reads
@@ -68,6 +69,7 @@ pub record ReadsSectors (end : ℕ) (reads : List Reading) : Type 0 where
   pub count : length reads ≡ (end + 511) / 512
   pub each : (k : ℕ) (r : Reading) → slice_get reads k ≡ Some r → IsSectorRead end k r
 
+-- each does so that goes on to its end
 abbrev pub FreshRunReadsSectors : Type 0
 FreshRunReadsSectors = (end : ℕ) (reads : List Reading) → IsRun (inside end) (replicate end NonTried) 0 reads
     → IsSpent (inside end) (map_after (replicate end NonTried) reads) (cursor_after 0 reads)

@@ -11,6 +11,7 @@ use Rattle.ddrescue_cli.specs.declared.ending.Operand.TheVariants.{Infile, Outfi
 abbrev pub word : List (List ℕ) → ℕ → List ℕ
 word words i = slice_index_or words (i - 1) []
 
+-- the names of a rescue's files, in the order of the words
 abbrev pub infile : List (List ℕ) → List ℕ
 infile words = word words 1
 
@@ -61,6 +62,7 @@ pub record AreNamedApart (words : List (List ℕ)) : Type 0 where
   pub output_map : bytes_eq (outfile words) (mapfile words) ≡ false
   pub output_draft : bytes_eq (outfile words) (draft words) ≡ false
 
+-- the first of two refusals, where there is one
 abbrev pub first_of_both : Option Ending → Option Ending → Option Ending
 first_of_both (Some e) o = Some e
 first_of_both None o = o

@@ -41,6 +41,7 @@ IsRun domain map cursor (r ∷ rs) =
 abbrev pub write_of : Reading → List Call
 write_of r = if is_whole r then image_write r.pos r.given ∷ [] else []
 
+-- the writes of these reads, in order
 abbrev pub writes_of : List Reading → List Call
 writes_of reads = flat_map write_of reads
 

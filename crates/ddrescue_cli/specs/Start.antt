@@ -30,6 +30,7 @@ pub data TextStands (text : List ℕ) (end : ℕ) (map : List Status) (shown : �
   AsNone : Blank text → IsFresh end map shown → TextStands text end map shown
   AsMap : IsResumed text end map shown → TextStands text end map shown
 
+-- what a mapfile stands for: its text, or an input that wasn't tried where it is absent
 abbrev pub StandsFor : Option File → (end : ℕ) → List Status → (shown : ℕ) → Type 0
 StandsFor None end map shown = IsFresh end map shown
 StandsFor (Some f) end map shown = TextStands f.bytes end map shown

@@ -40,7 +40,7 @@ pub enum Ending {
     MapRefused { which: Which, error: MapError },
     /// The infile was lost during a read.
     SourceLost,
-    /// A call on the outfile or on the mapfile's folder failed.
+    /// A call on the outfile, on the mapfile or on its folder failed. A mapfile that is no regular file fails to be read.
     SiteFault { call: SiteCall },
     /// Memory wasn't there.
     NoMemory,

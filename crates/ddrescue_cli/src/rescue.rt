@@ -146,7 +146,9 @@ pub(crate) fn rescue<S: Source, D: Site>(
 /// start; every other mark stays. What isn't read whole is bad.
 ///
 /// The refusals come in this order: another number of words than three, a word that names no file, two files of one
-/// name, an infile that can't be opened, an outfile that is no regular file, a mapfile that is no map.
+/// name, an infile that can't be opened, an outfile that is no regular file, a mapfile that is no map. At any time the
+/// infile may be lost, a call on the outfile, the mapfile or its folder may fail, and memory may run out; the first
+/// that happens is the answer.
 pub fn ddrescue<S: Source, D: Site>(
     alloc: Global,
     words: &Words,
