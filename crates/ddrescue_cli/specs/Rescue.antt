@@ -103,7 +103,7 @@ pub record AreRescued (words : List (List ℕ)) (end : ℕ) (reads : List Readin
   pub stands : Stands (files (mapfile words)) end start_map shown
   pub saved : files' (mapfile words)
       ≡ Some (record { bytes = text_after (heading words) start_map shown reads; regular = true })
-  -- a rescue that resumes from it goes on where this one ended
+  -- it stands for that map, so a rescue that resumes from it goes on where this one ended, unless its text is too long
   pub resumes : Stands (files' (mapfile words)) end (map_after start_map reads) (cursor_after shown reads)
   -- no draft is left, and every other file stands
   pub no_draft : files' (draft words) ≡ None
