@@ -113,7 +113,7 @@ load_stands d name given =
 loaded_folder : (d : Folder) (out name : List ℕ) (file : Option File) (load : List Call) → IsLoad name file load → after d (map Done (image_open out true ∷ load)) ≡ after_done d (image_open out true)
 loaded_folder d out name file load l =
     let P : List Call → Type 0 = λ c. after (after_done d (image_open out true)) (map Done c) ≡ after_done d (image_open out true) in
-    subst P (sym l.calls_are) (load_stands (after_done d (image_open out true)) name l.given)
+    subst P (sym l.begins.calls_are) (load_stands (after_done d (image_open out true)) name l.begins.given)
 
 -- the folder after calls that were made
 pub after_made : (start : Folder) (calls : List Call) (old new : List Entry) → Made calls old new → after start new ≡ after (after start old) (map Done calls)

@@ -273,7 +273,7 @@ broke_left at words end load reads start_map shown d files apart l stands allowe
     let behind : after d (map Done (opening ++ writes_of reads)) ≡ after (after d (map Done opening)) (map Done (writes_of reads))
     = ap (after d) (map-append Done opening (writes_of reads)) ∙ after-append d (map Done opening) (map Done (writes_of reads)) in
     ⊎_elim
-    (λ o. opening_left at words end reads l.given d files (subst O l.calls_are o))
+    (λ o. opening_left at words end reads l.begins.given d files (subst O l.begins.calls_are o))
     (λ m. ⊎_elim
     (λ w. write (break_writes at reads (after d (map Done opening)) files w))
     (λ s.
@@ -329,7 +329,7 @@ refused_left : (words : List (List ℕ)) (file : Option File) (load : List Call)
     → OutputMade words (after start old).files (after start new).files
 refused_left words file load start old new l grew =
     let P : (List ℕ → Option File) → Type 0 = λ f. OutputMade words (after start old).files f in
-    subst P (sym (load_left words l.given load start old new l.calls_are grew)) (output_made words (after start old))
+    subst P (sym (load_left words l.begins.given load start old new l.begins.calls_are grew)) (output_made words (after start old))
 
 -- a rescue for which memory ran out
 starved_left : (words : List (List ℕ)) (file : Option File) (reads : List Reading) (start : Folder) (old new : List Entry) → AreNamedApart words → is_other ((after start old).files (outfile words)) ≡ false

@@ -11,13 +11,13 @@ use Rattle.crash_site.specs.declared.site.MapRead.{MapRead}
 use Rattle.crash_site.specs.declared.site.MapRead.TheVariants.{Bytes, Absent}
 use Rattle.crash_site.specs.declared.site.SiteCall.TheVariants.{MapRead as ReadCall}
 use Rattle.crash_site.specs.Files.{File, bytes_of, IsRead}
-use Rattle.crash_site.specs.Calls.{Call, Entry, Done, Made, Lost, map_read}
+use Rattle.crash_site.specs.Calls.{Entry, Done, Made, Lost, map_read}
 use Rattle.crash_site.specs.Folder.{Folder, after}
 use Rattle.ddrescue_cli.specs.declared.ending.Ending.{Ending}
 use Rattle.ddrescue_cli.specs.declared.ending.Ending.TheVariants.{MapRefused, SiteFault, NoMemory}
 use Rattle.ddrescue_cli.specs.declared.ending.Which.TheVariants.{RunMap}
 use Rattle.ddrescue_cli.specs.Start.{TextRefused}
-use Rattle.ddrescue_cli.specs.Loading.{piece_reads, load_reads, IsPiece, BeginsLoad, IsLoad}
+use Rattle.ddrescue_cli.specs.Loading.{piece_reads, load_reads, IsPiece, BeginsLoad}
 use Rattle.ddrescue_cli.specs.Opening.{LoadStop, Starved, Refused, Broken, Loaded, IsTextOf, TextStop}
 use Rattle.ddrescue_cli.proofs.CallFacts.{after-append, made_more, broke_back}
 use Rattle.ddrescue_cli.proofs.FolderFacts.{pieces_stand}
@@ -54,7 +54,7 @@ made_behind name file text calls calls' calls'' pos asked p at size done =
     made_more calls calls' calls'' (piece_reads name 0 p.given) (map_read name (sum p.given) 4096 ∷ []) p.made (rw (from, size) at done)
 
 -- the pieces, and one read more, are first reads of the file
-begins : (name : List ℕ) (file : Option File) (text : List ℕ) (calls calls' : List Entry) (p : Pieces name file text calls calls') → BeginsLoad name file (load_reads name p.given)
+abbrev begins : (name : List ℕ) (file : Option File) (text : List ℕ) (calls calls' : List Entry) (p : Pieces name file text calls calls') → BeginsLoad name file (load_reads name p.given)
 begins name file text calls calls' p = record { given = p.given; pieces = p.pieces; within = omega (arith, p.counted, p.within); limited = omega (arith, p.counted, p.limited); calls_are = refl }
 
 -- a read that finds no bytes ends the load
@@ -62,7 +62,7 @@ loaded : (name : List ℕ) (file : Option File) (text : List ℕ) (calls calls' 
     → calls'' ≡ calls' ++ Done (map_read name pos asked) ∷ [] → length (bytes_of file) ≤ length text → Loaded name file calls calls''
 loaded name file text calls calls' calls'' pos asked p at size done ends = record {
   reads = load_reads name p.given;
-  load = record { given = p.given; pieces = p.pieces; limited = omega (arith, p.counted, p.limited); ends = inl (omega (arith, p.counted, p.within)); calls_are = refl };
+  load = record { begins = begins name file text calls calls' p; ends = inl (omega (arith, p.counted, p.within)) };
   made = made_behind name file text calls calls' calls'' pos asked p at size done;
 }
 
@@ -144,22 +144,12 @@ stopped name (Some f) text calls calls' calls'' pos asked buf n e p at size done
       | inr x ↦
           let long : TEXT_LIMIT < length f.bytes = omega (arith, x.1, piece_within f.bytes pos n buf some fits r.0) in
           Refused TooLong (load_reads name p.given) x.0 (inl (refl, long))
-          (record { given = p.given; pieces = p.pieces; limited = omega (arith, p.counted, p.limited); ends = inr (omega (arith, x.1, p.counted), long); calls_are = refl }) made
+          (record { begins = begins name (Some f) text calls calls' p; ends = inr (omega (arith, x.1, p.counted), long) }) made
     ]
-
--- all reads of a file are also the first ones
-load_begins : (name : List ℕ) (file : Option File) (reads : List Call) → IsLoad name file reads → BeginsLoad name file reads
-load_begins name file reads l = record {
-  given = l.given;
-  pieces = l.pieces;
-  within = elim l.ends [ inl x ↦ omega (arith, x) | inr x ↦ omega (arith, l.limited, x.1) ];
-  limited = l.limited;
-  calls_are = l.calls_are;
-}
 
 -- a load that ended, and no memory for its map
 pub starved_behind : (name : List ℕ) (file : Option File) (e : Ending) (calls calls' : List Entry) → Loaded name file calls calls' → e ≡ NoMemory → LoadStop name file e calls calls'
-starved_behind name file e calls calls' l is = Starved l.reads is (load_begins name file l.reads l.load) l.made
+starved_behind name file e calls calls' l is = Starved l.reads is l.load.begins l.made
 
 -- a load that ended, and a text that gave no map
 pub stopped_behind : (name : List ℕ) (file : Option File) (text : List ℕ) (e : Ending) (calls calls' : List Entry) → Loaded name file calls calls' → IsTextOf file text → TextStop text e → LoadStop name file e calls calls'

@@ -16,10 +16,10 @@ use Rattle.ddrescue_cli.specs.Reads.{map_after, cursor_after, IsRun, landed, gai
 use Rattle.ddrescue_cli.specs.Start.{Stands}
 use Rattle.ddrescue_cli.specs.Saved.{heading}
 use Rattle.ddrescue_cli.specs.Held.{Held}
-use Rattle.ddrescue_cli.specs.Answers.{FilesAllow, IsBeforeReads, IsAfterLoad, IsPublished, StopCause}
+use Rattle.ddrescue_cli.specs.Answers.{FilesAllow, IsBeforeReads, IsAfterLoad, IsPublished}
 use Rattle.ddrescue_cli.specs.CallsMade.{StarvedWords}
 use Rattle.ddrescue_cli.specs.Run.{Went}
-use Rattle.ddrescue_cli.specs.Rescue.{IsAnswer, VerdictOf, IsReadInOrder, IsCalled, AreRescued, OutputHolds, MapfileHolds, FoundHolds}
+use Rattle.ddrescue_cli.specs.Rescue.{Caused, IsAnswer, VerdictOf, IsReadInOrder, IsCalled, AreRescued, OutputHolds, MapfileHolds, FoundHolds}
 use Rattle.ddrescue_cli.specs.Left.{AllStand, made, OutputMade, Unpublished, FilesLeft}
 use Rattle.ddrescue_cli.proofs.StartFacts.{stands_for_one, verdict_exists, accepted_verdict}
 use Rattle.ddrescue_cli.proofs.HeldFacts.{held_now, held_before, held_unread}
@@ -198,9 +198,13 @@ published_holds (SiteFault DraftSync) words td end reads files files' c0 c1 f t 
 published_holds (SiteFault DraftPublish) words td end reads files files' c0 c1 f t left p = absurd p
 published_holds (SiteFault MapRemove) words td end reads files files' c0 c1 f t left p = absurd p
 
+-- Done, to words that bring no refusal
+pub answered_done : (words : List (List ℕ)) (files : List ℕ → Option File) → refusal_of_words words ≡ None → FilesAllow Finished (files (outfile words)) (files (mapfile words)) → IsAnswer Finished words files
+answered_done words files none allowed = record { verdict = Finished; is = accepted_verdict words files none allowed.0 allowed.1; given = inl refl }
+
 -- the answer to words that bring no refusal
 pub answered : (e : Ending) (words : List (List ℕ)) (files : List ℕ → Option File) (before now : Counts) → refusal_of_words words ≡ None → FilesAllow e (files (outfile words)) (files (mapfile words))
-    → StopCause e before now → IsAnswer e words files
+    → Caused e None before now → IsAnswer e words files
 answered NotRegular words files before now none allowed cause =
     let P : Option Ending → Type 0 = λ r. VerdictOf r (files (outfile words)) (files (mapfile words)) NotRegular in
     record { verdict = NotRegular; is = record { first = subst P (sym none) allowed }; given = inl refl }
@@ -211,13 +215,10 @@ answered NoMemory words files before now none allowed cause = let v = verdict_ex
 answered SourceFault words files before now none allowed cause = let v = verdict_exists words files in record { verdict = v.0; is = v.1; given = inr (inr tt) }
 answered SourceLost words files before now none allowed cause = let v = verdict_exists words files in record { verdict = v.0; is = v.1; given = inr (inr tt) }
 answered (SiteFault call) words files before now none allowed cause = let v = verdict_exists words files in record { verdict = v.0; is = v.1; given = inr (inr tt) }
-answered Finished words files before now none allowed cause = absurd cause
-answered (WrongNumber given) words files before now none allowed cause = absurd cause
-answered (WrongWord word) words files before now none allowed cause = absurd cause
-answered (SameName a b) words files before now none allowed cause = absurd cause
-
-pub answered_done : (words : List (List ℕ)) (files : List ℕ → Option File) → refusal_of_words words ≡ None → FilesAllow Finished (files (outfile words)) (files (mapfile words)) → IsAnswer Finished words files
-answered_done words files none allowed = record { verdict = Finished; is = accepted_verdict words files none allowed.0 allowed.1; given = inl refl }
+answered Finished words files before now none allowed cause = answered_done words files none allowed
+answered (WrongNumber given) words files before now none allowed cause = absurd cc
+answered (WrongWord word) words files before now none allowed cause = absurd cc
+answered (SameName a b) words files before now none allowed cause = absurd cc
 
 refused_verdict : (words : List (List ℕ)) (files : List ℕ → Option File) (e : Ending) → refusal_of_words words ≡ Some e → IsAnswer e words files
 refused_verdict words files e is =

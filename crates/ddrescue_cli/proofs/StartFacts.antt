@@ -23,27 +23,27 @@ use Rattle.ddrescue_cli.specs.declared.ending.Which.TheVariants.{RunMap}
 use Rattle.ddrescue_cli.specs.declared.ending.Ending.{Ending}
 use Rattle.ddrescue_cli.specs.declared.ending.Ending.TheVariants.{Done, WrongNumber, WrongWord, SameName, SourceFault, NotRegular, MapRefused, SourceLost, SiteFault, NoMemory}
 use Rattle.ddrescue_cli.specs.Operands.{outfile, mapfile, refusal_of_words}
-use Rattle.ddrescue_cli.specs.Start.{TextStands, AsNone, AsMap, Stands, TextRefused, IsRefused, IsAccepted, IsNamed}
+use Rattle.ddrescue_cli.specs.Start.{TextStands, AsNone, AsMap, Stands, TextRefused, IsRefused, IsAccepted, IsMapRefusal}
 use Rattle.ddrescue_cli.specs.Saved.{finished_state, saved_text}
 use Rattle.ddrescue_cli.specs.Answers.{is_other}
 use Rattle.ddrescue_cli.specs.Rescue.{FilesRefuse, VerdictOf, IsVerdict}
 use Rattle.ddrescue_cli.specs.Laws.{StandsForOne, AcceptedStands, StandsAccepted, RefusedForOne, HasOneVerdict}
 
 -- the fault of a status line names that line
-state_said : (l : Line) (e : MapError) → StateFault l e → IsNamed e
-state_said l e f = elim f [ inl x ↦ subst IsNamed (sym x.0) tt | inr x ↦ subst IsNamed (sym x.0) tt ]
+state_said : (l : Line) (e : MapError) → StateFault l e → IsMapRefusal e
+state_said l e f = elim f [ inl x ↦ subst IsMapRefusal (sym x.0) tt | inr x ↦ subst IsMapRefusal (sym x.0) tt ]
 
 -- so does that of a block line
-block_said : (l : Line) (e : MapError) → BlockFault l e → IsNamed e
-block_said l e f = elim f [ inl x ↦ subst IsNamed (sym x.0) tt | inr x ↦ subst IsNamed (sym x.0) tt ]
+block_said : (l : Line) (e : MapError) → BlockFault l e → IsMapRefusal e
+block_said l e f = elim f [ inl x ↦ subst IsMapRefusal (sym x.0) tt | inr x ↦ subst IsMapRefusal (sym x.0) tt ]
 
 -- so does that of a block that can't follow
-place_said : (mode : Mode) (end : ℕ) (l : Line) (b : Block) (e : MapError) → PlaceFault mode end l b e → IsNamed e
-place_said Tight end l b e f = elim f [ inl x ↦ subst IsNamed (sym x.0) tt | inr x ↦ subst IsNamed (sym x.0) tt ]
-place_said (Loose status) end l b e f = subst IsNamed (sym f.0) tt
+place_said : (mode : Mode) (end : ℕ) (l : Line) (b : Block) (e : MapError) → PlaceFault mode end l b e → IsMapRefusal e
+place_said Tight end l b e f = elim f [ inl x ↦ subst IsMapRefusal (sym x.0) tt | inr x ↦ subst IsMapRefusal (sym x.0) tt ]
+place_said (Loose status) end l b e f = subst IsMapRefusal (sym f.0) tt
 
 -- so does the first fault behind a block
-continue_said : (mode : Mode) (end : ℕ) (ls : List Line) (e : MapError) → ContinuesFault mode end ls e → IsNamed e
+continue_said : (mode : Mode) (end : ℕ) (ls : List Line) (e : MapError) → ContinuesFault mode end ls e → IsMapRefusal e
 continue_said mode end [] e f = absurd f
 continue_said mode end (l ∷ ls) e f =
     elim f [
@@ -53,12 +53,12 @@ continue_said mode end (l ∷ ls) e f =
     ]
 
 -- so does the first fault of block lines
-lists_said : (mode : Mode) (ls : List Line) (e : MapError) → ListsFault mode ls e → IsNamed e
+lists_said : (mode : Mode) (ls : List Line) (e : MapError) → ListsFault mode ls e → IsMapRefusal e
 lists_said mode [] e f = absurd f
 lists_said mode (l ∷ ls) e f = elim f [ inl x ↦ block_said l e x | inr x ↦ continue_said mode (x.0.pos + x.0.size) ls e x.2 ]
 
 -- so does the first fault of lines
-lines_said : (mode : Mode) (l : Line) (ls : List Line) (e : MapError) → MapLinesFault mode (l ∷ ls) e → IsNamed e
+lines_said : (mode : Mode) (l : Line) (ls : List Line) (e : MapError) → MapLinesFault mode (l ∷ ls) e → IsMapRefusal e
 lines_said mode l ls e f = elim f [ inl x ↦ state_said l e x | inr x ↦ lists_said mode ls e x.2 ]
 
 -- without a status line there are no lines

@@ -5,9 +5,8 @@ use Rattle.crash_site.specs.declared.site.SiteCall.TheVariants.{ImageOpen, Image
 use Rattle.crash_site.specs.Files.{File}
 use Rattle.ddrescue_cli.specs.declared.ending.Which.TheVariants.{RunMap}
 use Rattle.ddrescue_cli.specs.declared.ending.Ending.{Ending}
-use Rattle.ddrescue_cli.specs.declared.ending.Ending.TheVariants.{Done, SourceFault, NotRegular, MapRefused, SourceLost, SiteFault, NoMemory}
-use Rattle.ddrescue_cli.specs.Counts.{Counts, NoneRose, FaultRose, LossRose, SiteFaultRose}
-use Rattle.ddrescue_cli.specs.Start.{IsRefused, IsAccepted, IsNamed}
+use Rattle.ddrescue_cli.specs.declared.ending.Ending.TheVariants.{Done, NotRegular, MapRefused, SourceLost, SiteFault, NoMemory}
+use Rattle.ddrescue_cli.specs.Start.{IsRefused, IsAccepted}
 
 -- something stands there that is no regular file
 abbrev pub is_other : Option File → Bool
@@ -65,16 +64,6 @@ LeavesDraft call drafting drafting' = drafting ≡ false → drafting' ≡ false
 abbrev pub DraftLeft : Ending → (drafting' : Bool) → Type 0
 DraftLeft (SiteFault call) drafting' = LeavesDraft call false drafting'
 DraftLeft e drafting' = drafting' ≡ false
-
--- why a rescue stopped once its words were read: memory, a count that rose, or a file that stands in its way
-abbrev pub StopCause : Ending → (before now : Counts) → Type 0
-StopCause NoMemory before now = ⊤
-StopCause SourceFault before now = FaultRose before now
-StopCause SourceLost before now = LossRose before now
-StopCause (SiteFault call) before now = SiteFaultRose before now
-StopCause NotRegular before now = NoneRose before now
-StopCause (MapRefused which error) before now = IsNamed error × NoneRose before now
-StopCause e before now = ⊥
 
 -- what the files say of a failed call: once the output is open it is regular, and once the mapfile is loaded it isn't
 -- refused

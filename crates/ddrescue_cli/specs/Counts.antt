@@ -8,25 +8,25 @@ pub record Counts : Type 0 where
   pub losses : ℕ
   pub site_faults : ℕ
 
--- no count rose
+-- nothing failed
 pub record NoneRose (before now : Counts) : Type 0 where
   pub faults : now.faults ≡ before.faults
   pub losses : now.losses ≡ before.losses
   pub site_faults : now.site_faults ≡ before.site_faults
 
--- the first count rose, and no other
+-- the infile couldn't be opened, and nothing else failed
 pub record FaultRose (before now : Counts) : Type 0 where
   pub rose : Rose before.faults now.faults
   pub losses : now.losses ≡ before.losses
   pub site_faults : now.site_faults ≡ before.site_faults
 
--- the second rose, and no other
+-- a read was lost, and nothing else failed
 pub record LossRose (before now : Counts) : Type 0 where
   pub faults : now.faults ≡ before.faults
   pub rose : Rose before.losses now.losses
   pub site_faults : now.site_faults ≡ before.site_faults
 
--- the third rose, and no other
+-- a call on the outfile or on the mapfile's folder failed, and nothing else did
 pub record SiteFaultRose (before now : Counts) : Type 0 where
   pub faults : now.faults ≡ before.faults
   pub losses : now.losses ≡ before.losses

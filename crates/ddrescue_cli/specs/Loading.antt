@@ -27,9 +27,6 @@ pub record BeginsLoad (name : List ℕ) (file : Option File) (calls : List Call)
 
 -- all reads of a file: up to the one that finds its end, or no such file, or that shows the text to be too long
 pub record IsLoad (name : List ℕ) (file : Option File) (calls : List Call) : Type 0 where
-  pub given : List ℕ
-  pub pieces : All IsPiece given
-  pub limited : sum given ≤ TEXT_LIMIT
-  pub ends : (sum given ≡ length (bytes_of file))
-      ⊎ ((TEXT_LIMIT < sum given + 4096) × (TEXT_LIMIT < length (bytes_of file)))
-  pub calls_are : calls ≡ load_reads name given
+  pub begins : BeginsLoad name file calls
+  pub ends : (sum begins.given ≡ length (bytes_of file))
+      ⊎ ((TEXT_LIMIT < sum begins.given + 4096) × (TEXT_LIMIT < length (bytes_of file)))

@@ -8,7 +8,7 @@ use Rattle.crash_site.specs.Calls.{Call, Entry, Made, BrokeAt, image_open}
 use Rattle.ddrescue_cli.specs.declared.ending.Ending.{Ending}
 use Rattle.ddrescue_cli.specs.declared.ending.Ending.TheVariants.{NotRegular, MapRefused, SiteFault, NoMemory}
 use Rattle.ddrescue_cli.specs.declared.ending.Which.TheVariants.{RunMap}
-use Rattle.ddrescue_cli.specs.Start.{TextRefused, IsRefused, IsNamed}
+use Rattle.ddrescue_cli.specs.Start.{TextRefused, IsRefused, IsMapRefusal}
 use Rattle.ddrescue_cli.specs.Loading.{BeginsLoad, IsLoad}
 use Rattle.ddrescue_cli.specs.Answers.{is_other}
 
@@ -27,7 +27,7 @@ OutputStop e out file calls calls' =
 abbrev pub LoadCause : Ending → (faults faults' : ℕ) → Type 0
 LoadCause e faults faults' =
     (e ≡ NoMemory)
-    ⊎ ((error : MapError) × (e ≡ MapRefused RunMap error) × IsNamed error × (faults' ≡ faults))
+    ⊎ ((error : MapError) × (e ≡ MapRefused RunMap error) × IsMapRefusal error × (faults' ≡ faults))
     ⊎ ((e ≡ SiteFault MapRead) × Rose faults faults')
 
 -- the same with what is known of the file, and the calls made
@@ -56,4 +56,4 @@ pub record IsTextOf (file : Option File) (text : List ℕ) : Type 0 where
 abbrev pub TextStop : List ℕ → Ending → Type 0
 TextStop text e =
     (e ≡ NoMemory)
-    ⊎ ((error : MapError) × (e ≡ MapRefused RunMap error) × IsNamed error × TextRefused text error)
+    ⊎ ((error : MapError) × (e ≡ MapRefused RunMap error) × IsMapRefusal error × TextRefused text error)

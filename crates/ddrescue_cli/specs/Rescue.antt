@@ -10,7 +10,7 @@ use Rattle.ddrescue_cli.specs.Operands.{outfile, mapfile, draft, refusal_of_word
 use Rattle.ddrescue_cli.specs.Counts.{Counts, NoneRose, FaultRose, LossRose, SiteFaultRose}
 use Rattle.ddrescue_cli.specs.Requests.{inside, IsSpent}
 use Rattle.ddrescue_cli.specs.Reads.{map_after, cursor_after, IsRun, landed, gained}
-use Rattle.ddrescue_cli.specs.Start.{Stands, IsRefused, IsNamed}
+use Rattle.ddrescue_cli.specs.Start.{Stands, IsRefused, IsMapRefusal}
 use Rattle.ddrescue_cli.specs.Saved.{heading, text_after}
 use Rattle.ddrescue_cli.specs.Held.{Held}
 use Rattle.ddrescue_cli.specs.Answers.{is_other, IsBeforeReads, IsAfterReads, IsAfterLoad}
@@ -26,7 +26,7 @@ Caused SourceFault of_words before now = (of_words ≡ None) × FaultRose before
 Caused SourceLost of_words before now = (of_words ≡ None) × LossRose before now
 Caused (SiteFault call) of_words before now = (of_words ≡ None) × SiteFaultRose before now
 Caused NotRegular of_words before now = (of_words ≡ None) × NoneRose before now
-Caused (MapRefused which error) of_words before now = (of_words ≡ None) × IsNamed error × NoneRose before now
+Caused (MapRefused which error) of_words before now = (of_words ≡ None) × IsMapRefusal error × NoneRose before now
 Caused e of_words before now = of_words ≡ Some e
 
 -- a refusal that the files bring: an outfile that is no regular file, or else a mapfile that is refused

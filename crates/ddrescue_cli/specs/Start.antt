@@ -57,7 +57,7 @@ pub record IsAccepted (mapfile : Option File) : Type 0 where
 
 -- an error for which a mapfile is refused: never a missing status line, since such a text is like no mapfile, and never
 -- want of memory, which is an answer of its own
-abbrev pub IsNamed : MapError → Type 0
-IsNamed NoStatusLine = ⊥
-IsNamed NoMemory = ⊥
-IsNamed e = ⊤
+abbrev pub IsMapRefusal : MapError → Type 0
+IsMapRefusal NoStatusLine = ⊥
+IsMapRefusal NoMemory = ⊥
+IsMapRefusal e = ⊤

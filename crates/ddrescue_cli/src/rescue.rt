@@ -1,4 +1,4 @@
-ghost use Rattle.std.specs.Prelude.{◌≡◌, false, true, IsTrue, length, OnOk, IfErr, IsSome};
+ghost use Rattle.std.specs.Prelude.{◌≡◌, false, true, IsTrue, length, OnOk, IfErr, IsSome, None};
 ghost use Rattle.std.specs.Str.{bytes_eq};
 ghost use Rattle.std.specs.String.{string_bytes};
 ghost use Rattle.crash_site.specs.Files.{bytes_of};
@@ -7,7 +7,7 @@ ghost use Rattle.ddrescue_cli.specs.declared.ending.Ending.TheVariants.{Done, No
 ghost use Rattle.ddrescue_cli.specs.Operands.{outfile, mapfile, refusal_of_words};
 ghost use Rattle.ddrescue_cli.specs.Counts.{NoneRose};
 ghost use Rattle.ddrescue_cli.specs.Reads.{gained};
-ghost use Rattle.ddrescue_cli.specs.Answers.{is_other, FilesAllow, IsBeforeReads, IsPublished, DraftLeft, StopCause};
+ghost use Rattle.ddrescue_cli.specs.Answers.{is_other, FilesAllow, IsBeforeReads, IsPublished, DraftLeft};
 ghost use Rattle.ddrescue_cli.specs.Run.{Fits, Ran, RunCause, Went};
 ghost use Rattle.ddrescue_cli.specs.Rescue.{Caused, IsAnswer, IsReadInOrder, IsCalled, MapfileHolds, FoundHolds};
 ghost use Rattle.ddrescue_cli.specs.Left.{FilesLeft, LeftBefore};
@@ -104,7 +104,7 @@ pub(crate) fn rescue<S: Source, D: Site>(
     ensures regular { IfErr result (λ e. e ≡ OutOfMemory → IsTrue (D.tells site.old)
         → is_other ((after (D.start site.old)
         (D.record_ site.old)).files plan.now.names.outfile.now) ≡ false) }
-    ensures cause { IfErr result (λ e. StopCause e
+    ensures cause { IfErr result (λ e. Caused e None
         (record {
           faults = S.faults source.old;
           losses = S.losses source.old;
