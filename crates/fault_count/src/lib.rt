@@ -1,6 +1,8 @@
 //! How often calls of an outside object, as a disk or a folder, have failed.
 #![tactic(auto)]
 
+pub mod plan;
+
 ghost use Rattle.std.specs.Prelude.{◌≡◌, ◌≤◌, ℕ};
 ghost use Rattle.fault_count.specs.Counts.{raised};
 

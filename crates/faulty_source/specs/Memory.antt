@@ -4,6 +4,10 @@ use Rattle.faulty_source.specs.declared.memory.BadRange.{BadRange}
 use Rattle.faulty_source.specs.declared.memory.ReadEntry.{ReadEntry}
 use Rattle.faulty_source.specs.Journal.{Reading}
 
+-- the greatest length of a name under which an input in memory opens, in bytes
+abbrev pub name_limit : ℕ
+name_limit = 4096
+
 -- whether attempts at a bad range will still fail; without a number they fail for ever
 abbrev pub fails_still : Option ℕ → Bool
 fails_still None = true

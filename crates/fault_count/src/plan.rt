@@ -1,0 +1,67 @@
+ghost use Rattle.std.specs.Prelude.{◌≡◌, ◌↔◌, IsTrue, OnOk, OnErr};
+ghost use Rattle.fault_count.specs.Plan.{no_plan, counted, with_failing, FailsNext};
+
+use std::alloc::{AllocError, Global};
+use std::marker::Model;
+
+/// Which calls of an object in memory are to fail, and how many were made.
+#[derive(Drop)]
+pub struct FaultPlan {
+    failing: Vec<u64>,
+    made: u64,
+}
+
+impl Model for FaultPlan {
+    ghost use Rattle.fault_count.specs.Plan.{Plan};
+
+    ghost Value = { Plan };
+
+    ghost view = { λ p. record { failing = p.failing.items; made = p.made } };
+}
+
+impl FaultPlan {
+    /// No call is to fail, and none was made.
+    pub fn new(alloc: Global) -> FaultPlan
+        ensures { result ≡ no_plan }
+    {
+        FaultPlan {
+            failing: Vec::new(alloc),
+            made: 0,
+        }
+    }
+
+    /// Has the call with this number fail, counted from 1 over all calls.
+    pub fn fail_call(&mut self, number: u64) -> Result<(), AllocError>
+        ensures added { OnOk result (self.new ≡ with_failing number self.old) }
+        ensures kept { OnErr result (self.new ≡ self.old) }
+    {
+        self.failing.push(number)?;
+        Ok(())
+    }
+
+    /// Counts a call, and answers whether it is to fail.
+    pub fn count_call(&mut self) -> bool
+        ensures counted { self.new ≡ counted self.old }
+        ensures fails { IsTrue result ↔ FailsNext self.old }
+    {
+        self.made = self.made.saturating_add(1);
+        self.failing.contains(&self.made)
+    }
+}
+
+#[cfg(test)]
+mod tests {
+    use super::*;
+    use std::test::Fail;
+
+    #[test]
+    fn fails_the_calls_that_it_was_told(rt: HostRuntime) -> Result<(), Fail> {
+        let mut plan = FaultPlan::new(rt.alloc());
+        plan.fail_call(3)?;
+        plan.fail_call(1)?;
+        for fails in [true, false, true, false] {
+            assert_eq!(rt; plan.count_call(), fails);
+        }
+        Ok(())
+    }
+}
