@@ -84,7 +84,7 @@ on_append reads f g draft k m piece bytes is same_k same_m grown e same =
     ∙ ap (λ (n : List ℕ). put f n (Some (record { bytes = bytes; regular = true }))) same_k
     ∙ ap (λ (h : List ℕ → Option File). put h draft (Some (record { bytes = bytes; regular = true }))) same
     ∙ ap (λ (b : List ℕ). put reads.files draft (Some (record { bytes = b; regular = true })))
-      (grown ∙ ap (λ (n : List ℕ). bytes_of (reads.files n) ++ piece) same_m)
+    (grown ∙ ap (λ (n : List ℕ). bytes_of (reads.files n) ++ piece) same_m)
     ∙ ap (λ (o : Option (List ℕ)). (appended reads o piece).files) (sym is)
 
 pub on_unpublished : (reads : Folder) (f : List ℕ → Option File) (name : List ℕ) → reads.draft ≡ None
@@ -97,8 +97,8 @@ pub on_publish : (reads : Folder) (f h g : List ℕ → Option File) (draft k m 
 on_publish reads f h g draft k m name v is same_k same_m gone file e same =
     e
     ∙ ap (λ (d : List ℕ → Option File). put d name v)
-      (gone ∙ ap (λ (n : List ℕ). put f n None) same_k
-      ∙ ap (λ (d : List ℕ → Option File). put d draft None) same)
+    (gone ∙ ap (λ (n : List ℕ). put f n None) same_k
+    ∙ ap (λ (d : List ℕ → Option File). put d draft None) same)
     ∙ ap (put (put reads.files draft None) name) (file ∙ ap reads.files same_m)
     ∙ ap (λ (o : Option (List ℕ)). (published reads o name).files) (sym is)
 
@@ -139,11 +139,11 @@ pub done_at : (ls : List Listed) (k i : ℕ) (l : Listed) → i ≤ k → i < le
     → AllDone (take (k + 1) (map entry_of ls)) → l.failed ≡ false
 done_at ls k i l le lt is h =
     let within : i < length (take (k + 1) (map entry_of ls)) =
-        omega (arith, length-take (k + 1) (map entry_of ls), length-map ls entry_of) in
+    omega (arith, length-take (k + 1) (map entry_of ls), length-map ls entry_of) in
     let same : get_or (take (k + 1) (map entry_of ls)) i (entry_of l) ≡ entry_of l =
-        get_or-take (k + 1) (map entry_of ls) i (entry_of l) (omega arith)
-        ∙ get_or-map entry_of ls i l (entry_of l) lt
-        ∙ ap entry_of (sym is) in
+    get_or-take (k + 1) (map entry_of ls) i (entry_of l) (omega arith)
+    ∙ get_or-map entry_of ls i l (entry_of l) lt
+    ∙ ap entry_of (sym is) in
     not_failed l.failed (call_of l.act) (subst IsDone same (h i (entry_of l) within))
 
 after_append : (d : Folder) (xs ys : List Entry) → after d (xs ++ ys) ≡ after (after d xs) ys
@@ -169,7 +169,7 @@ next_done reads ls k l lt is done =
     ap (λ (es : List Entry). after reads (take 1 es))
     (drop-cons (map entry_of ls) k (entry_of l) (omega (arith, length-map ls entry_of))
     ∙ ap (λ (e : Entry). e ∷ drop (suc k) (map entry_of ls))
-      (get_or-map entry_of ls k l (entry_of l) lt ∙ ap entry_of (sym is) ∙ entry_done l done))
+    (get_or-map entry_of ls k l (entry_of l) lt ∙ ap entry_of (sym is) ∙ entry_done l done))
 
 pub next_none : (reads : Folder) (ls : List Listed) (k : ℕ) → k ≡ length ls
     → after reads (take 1 (drop k (map entry_of ls))) ≡ reads

@@ -5,4 +5,5 @@ use Rattle.crash_site.proofs.PlaceFacts.{files_of-told}
 use Rattle.crash_site.proofs.places.copy_places.Goals as goal
 
 pub returns : goal.returns
-returns c = files_of-told c.loop-place.copied.items c.args.places.now (c.loop-place.invariant ∙ ap (map told) (take_all c.loop-place.place-index c.args.places.now (omega arith)))
+returns c = files_of-told c.loop-place.copied.items c.args.places.now
+    (c.loop-place.invariant ∙ ap (map told) (take_all c.loop-place.place-index c.args.places.now (omega arith)))

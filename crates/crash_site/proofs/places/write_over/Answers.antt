@@ -7,4 +7,5 @@ pub returns-clause-written : goal.returns-clause-written
 returns-clause-written c =
     let pasted = rw c.deref_mut.ensures.value at c.paste.ensures in
     take_at c.paste.new.bytes _ c.grow.new.bytes.len (omega (arith, c.deref_mut.ensures.len, c.grow.new.bytes.ok.0))
-    ∙ written_over c.args.bytes.now.items c.paste.new.bytes c.args.piece.now c.grow.new.bytes.items c.args.pos c.in_ok-grow.ensures.grown pasted
+    ∙ written_over c.args.bytes.now.items c.paste.new.bytes c.args.piece.now c.grow.new.bytes.items c.args.pos
+    c.in_ok-grow.ensures.grown pasted

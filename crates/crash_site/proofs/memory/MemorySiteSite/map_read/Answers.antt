@@ -6,4 +6,10 @@ use Rattle.crash_site.proofs.FollowFacts.{follows_entered}
 use Rattle.crash_site.proofs.memory.MemorySiteSite.map_read.Goals as goal
 
 pub invariant_of-self-2 : goal.invariant_of-self-2
-invariant_of-self-2 c = record { follows = follows_entered (folder_of c.args.self.now.start) (folder_of c.args.self.now.folder) (entries_of c.args.self.now.log) (entries_of c.enter.new.self) (map_read c.in-Ok.copied.items c.args.pos (length c.args.buf.now) (Some c.read-answer.result)) c.enter.result (λ a. refl) tt c.args.self.now.follows c.enter.ensures.done c.enter.ensures.lost }
+invariant_of-self-2 c =
+    record {
+      follows = follows_entered (folder_of c.args.self.now.start) (folder_of c.args.self.now.folder)
+          (entries_of c.args.self.now.log) (entries_of c.enter.new.self)
+          (map_read c.in-Ok.copied.items c.args.pos (length c.args.buf.now) (Some c.read-answer.result)) c.enter.result
+          (λ a. refl) tt c.args.self.now.follows c.enter.ensures.done c.enter.ensures.lost;
+    }
