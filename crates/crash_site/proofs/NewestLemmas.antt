@@ -1,6 +1,6 @@
 -- Files that read as they are left, along the calls of a record.
 use Rattle.std.proofs.Common.{◌≡◌, ℕ, suc, ◌+◌, ◌≤◌, ◌<◌, Bool, true, false, List, [], ◌∷◌, ◌++◌, length, take, drop, map, get_or, Option, Some, None, is_some, if◌then◌else◌, refl, sym, ◌∙◌, ap, subst, arith}
-use Rattle.std.proofs.lemmas.List.{get_or-map, get_or-take, drop_all, length-map, length-take}
+use Rattle.std.proofs.lemmas.List.{get_or-map, get_or-take, length-map, length-take}
 use Rattle.std.proofs.Math.Seq.{drop-cons, take-add}
 use Rattle.crash_site.specs.declared.call_log.Listed.{Listed}
 use Rattle.crash_site.specs.CallLog.{call_of, entry_of}
@@ -14,10 +14,6 @@ use Rattle.crash_site.proofs.DiskLemmas.{run_reads}
 
 -- Each call, where its effect is left as it reads.
 
-opened_same : (d : Folder) (name : List ℕ) (o : Option File) → (opened d name false o).files ≡ d.files
-opened_same d name None = refl
-opened_same d name (Some f) = refl
-
 opened_there : (d : Folder) (name : List ℕ) (make : Bool) (o : Option File) → is_some o ≡ true
     → (opened d name make o).files ≡ d.files
 opened_there d name make None some = absurd (cc)
@@ -28,11 +24,6 @@ opened_made : (d : Folder) (name : List ℕ) (make : Bool) (o : Option File) →
 opened_made d name true None is none = refl
 opened_made d name true (Some f) is none = absurd (cc)
 opened_made d name false o is none = absurd (cc)
-
-pub on_unmade : (reads : Folder) (f : List ℕ → Option File) (name : List ℕ) (make : Bool) → make ≡ false
-    → ReadsOn (image_open name make) reads f f
-on_unmade reads f name true is e = absurd (cc)
-on_unmade reads f name false is e = e ∙ sym (opened_same reads name (reads.files name))
 
 pub on_there : (reads : Folder) (f : List ℕ → Option File) (name : List ℕ) (make : Bool)
     → is_some (reads.files name) ≡ true → ReadsOn (image_open name make) reads f f
@@ -54,10 +45,6 @@ on_made reads f g name make is none e same =
     ∙ ap (λ (h : List ℕ → Option File). put h name (Some empty_file)) same
     ∙ sym (opened_made reads name make (reads.files name) is none)
 
-pub on_closed : (reads : Folder) (f : List ℕ → Option File) (pos : ℕ) (piece : List ℕ) → reads.image ≡ None
-    → ReadsOn (image_write pos piece) reads f f
-on_closed reads f pos piece none e = e ∙ ap (λ (o : Option (List ℕ)). (with_piece reads o pos piece).files) (sym none)
-
 pub on_gone : (reads : Folder) (f : List ℕ → Option File) (call : Call) (name : List ℕ) → f name ≡ None
     → is_some (reads.files name) ≡ true → ReadsOn call reads f f
 on_gone reads f call name none some e =
@@ -72,10 +59,6 @@ on_write reads f g image k pos piece is same_k e same =
     ∙ ap (λ (h : List ℕ → Option File). put h image (Some (written_file (h image) pos piece))) same
     ∙ ap (λ (o : Option (List ℕ)). (with_piece reads o pos piece).files) (sym is)
 
-pub on_undrafted : (reads : Folder) (f : List ℕ → Option File) (piece : List ℕ) → reads.draft ≡ None
-    → ReadsOn (draft_append piece) reads f f
-on_undrafted reads f piece none e = e ∙ ap (λ (o : Option (List ℕ)). (appended reads o piece).files) (sym none)
-
 pub on_append : (reads : Folder) (f g : List ℕ → Option File) (draft k m piece bytes : List ℕ)
     → reads.draft ≡ Some draft → k ≡ draft → m ≡ draft → bytes ≡ bytes_of (reads.files m) ++ piece
     → g ≡ put f k (Some (record { bytes = bytes; regular = true })) → ReadsOn (draft_append piece) reads f g
@@ -87,10 +70,6 @@ on_append reads f g draft k m piece bytes is same_k same_m grown e same =
     (grown ∙ ap (λ (n : List ℕ). bytes_of (reads.files n) ++ piece) same_m)
     ∙ ap (λ (o : Option (List ℕ)). (appended reads o piece).files) (sym is)
 
-pub on_unpublished : (reads : Folder) (f : List ℕ → Option File) (name : List ℕ) → reads.draft ≡ None
-    → ReadsOn (draft_publish name) reads f f
-on_unpublished reads f name none e = e ∙ ap (λ (o : Option (List ℕ)). (published reads o name).files) (sym none)
-
 pub on_publish : (reads : Folder) (f h g : List ℕ → Option File) (draft k m name : List ℕ) (v : Option File)
     → reads.draft ≡ Some draft → k ≡ draft → m ≡ draft → h ≡ put f k None → v ≡ reads.files m → g ≡ put h name v
     → ReadsOn (draft_publish name) reads f g
@@ -101,11 +80,6 @@ on_publish reads f h g draft k m name v is same_k same_m gone file e same =
     ∙ ap (λ (d : List ℕ → Option File). put d draft None) same)
     ∙ ap (put (put reads.files draft None) name) (file ∙ ap reads.files same_m)
     ∙ ap (λ (o : Option (List ℕ)). (published reads o name).files) (sym is)
-
-pub on_put : (reads : Folder) (f g : List ℕ → Option File) (name k : List ℕ) (v : Option File) → k ≡ name
-    → g ≡ put f k v → f ≡ reads.files → g ≡ put reads.files name v
-on_put reads f g name k v same_k e same =
-    e ∙ ap (λ (n : List ℕ). put f n v) same_k ∙ ap (λ (h : List ℕ → Option File). put h name v) same
 
 -- What a call that returned Ok makes sure reads so already.
 pub on_sure : (call : Call) (reads : Folder) (f h g : List ℕ → Option File) (name : List ℕ) (v : Option File)
@@ -170,8 +144,3 @@ next_done reads ls k l lt is done =
     (drop-cons (map entry_of ls) k (entry_of l) (omega (arith, length-map ls entry_of))
     ∙ ap (λ (e : Entry). e ∷ drop (suc k) (map entry_of ls))
     (get_or-map entry_of ls k l (entry_of l) lt ∙ ap entry_of (sym is) ∙ entry_done l done))
-
-pub next_none : (reads : Folder) (ls : List Listed) (k : ℕ) → k ≡ length ls
-    → after reads (take 1 (drop k (map entry_of ls))) ≡ reads
-next_none reads ls k e = ap (λ (es : List Entry). after reads (take 1 es))
-    (drop_all k (map entry_of ls) (omega (arith, length-map ls entry_of)))
