@@ -4,6 +4,7 @@ use Rattle.std.proofs.lemmas.Bool.{false_from_ne_true}
 use Rattle.std.proofs.lemmas.List.{map-append}
 use Rattle.std.proofs.lemmas.Slice.Eq.{bytes_eq-Decides}
 use Rattle.faulty_source.specs.Journal.{Reading, is_whole}
+use Rattle.crash_site.specs.declared.site.MapRead.{MapRead}
 use Rattle.crash_site.specs.Files.{File, bytes_of, empty_file, put, written, written_file}
 use Rattle.crash_site.specs.Calls.{Call, Entry, Done, Made, image_open, image_write, map_read}
 use Rattle.crash_site.specs.Folder.{Folder, opened, with_piece, after, after_done}
@@ -103,9 +104,9 @@ pub pieces_stand : (d : Folder) (name : List ℕ) (pos : ℕ) (given : List ℕ)
 pieces_stand d name pos [] = refl
 pieces_stand d name pos (n ∷ ns) = pieces_stand d name (pos + n) ns
 
-pub load_stands : (d : Folder) (name : List ℕ) (given : List ℕ) → after d (map Done (load_reads name given)) ≡ d
-load_stands d name given =
-    let last : List Call = map_read name (sum given) 4096 ∷ [] in
+pub load_stands : (d : Folder) (name : List ℕ) (given : List ℕ) (answer : Option MapRead) → after d (map Done (load_reads name given answer)) ≡ d
+load_stands d name given answer =
+    let last : List Call = map_read name (sum given) 4096 answer ∷ [] in
     ap (after d) (map-append Done (piece_reads name 0 given) last) ∙ after-append d (map Done (piece_reads name 0 given)) (map Done last)
     ∙ pieces_stand d name 0 given
 
@@ -113,7 +114,7 @@ load_stands d name given =
 loaded_folder : (d : Folder) (out name : List ℕ) (file : Option File) (load : List Call) → IsLoad name file load → after d (map Done (image_open out true ∷ load)) ≡ after_done d (image_open out true)
 loaded_folder d out name file load l =
     let P : List Call → Type 0 = λ c. after (after_done d (image_open out true)) (map Done c) ≡ after_done d (image_open out true) in
-    subst P (sym l.begins.calls_are) (load_stands (after_done d (image_open out true)) name l.begins.given)
+    subst P (sym l.begins.calls_are) (load_stands (after_done d (image_open out true)) name l.begins.given l.begins.answer)
 
 -- the folder after calls that were made
 pub after_made : (start : Folder) (calls : List Call) (old new : List Entry) → Made calls old new → after start new ≡ after (after start old) (map Done calls)

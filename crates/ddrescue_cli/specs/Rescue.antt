@@ -18,10 +18,10 @@ use Rattle.ddrescue_cli.specs.CallsMade.{CallsOf}
 use Rattle.ddrescue_cli.specs.Run.{Fits}
 
 -- Each answer has its cause. The words' own refusal is given exactly where the words bring it, but for want of
--- memory; a fault or a loss only where the count of the object rose, and no answer but want of memory hides another.
+-- memory; a fault or a loss only where the count of the object rose by one, and no answer hides another.
 abbrev pub Caused : Ending → (of_words : Option Ending) → (before now : Counts) → Type 0
 Caused Done of_words before now = (of_words ≡ None) × NoneRose before now
-Caused NoMemory of_words before now = ⊤
+Caused NoMemory of_words before now = NoneRose before now
 Caused SourceFault of_words before now = (of_words ≡ None) × FaultRose before now
 Caused SourceLost of_words before now = (of_words ≡ None) × LossRose before now
 Caused (SiteFault call) of_words before now = (of_words ≡ None) × SiteFaultRose before now

@@ -23,10 +23,11 @@ pub record Fits (end : ℕ) (map : List Status) (shown : ℕ) : Type 0 where
   pub short : length map < 2 ^ 63
   pub small : shown < 2 ^ 63
 
--- why a run stopped: memory, or one count that rose
+-- why a run stopped: want of memory, where no count rose, or one count that rose
 abbrev pub RunCause : Ending → (losses losses' faults faults' : ℕ) → Type 0
 RunCause e losses losses' faults faults' =
-    (e ≡ NoMemory) ⊎ ((e ≡ SourceLost) × Rose losses losses' × (faults' ≡ faults))
+    ((e ≡ NoMemory) × (losses' ≡ losses) × (faults' ≡ faults))
+    ⊎ ((e ≡ SourceLost) × Rose losses losses' × (faults' ≡ faults))
     ⊎ ((call : SiteCall) × (e ≡ SiteFault call) × (IsOpening call → ⊥) × (losses' ≡ losses) × Rose faults faults')
 
 -- the calls of a run behind the opening
