@@ -54,7 +54,7 @@ impl PlainTiles {
         }
     }
 
-    /// Puts a block behind the last position. It takes memory only where the block isn't empty and doesn't join the last.
+    /// Puts a block behind the last position. It takes memory only for one that isn't empty and doesn't join the last.
     pub fn push(&mut self, block: Block) -> Result<(), PushError>
         ensures ok { OnOk result (self.new.statuses ≡ self.old.statuses ++ replicate block.size block.status) }
         ensures err { OnErr result (self.new.statuses ≡ self.old.statuses) }

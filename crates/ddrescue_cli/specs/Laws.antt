@@ -5,7 +5,7 @@ use Rattle.block_list.specs.Map.{Has}
 use Rattle.block_list.specs.Places.{IsRunUp}
 use Rattle.faulty_source.specs.Journal.{Reading, floor}
 use Rattle.mapfile_text.specs.declared.read.MapError.{MapError}
-use Rattle.mapfile_text.specs.declared.read.TheConstants.{TEXT_LIMIT}
+use Rattle.mapfile_text.specs.MapText.{text_limit}
 use Rattle.crash_site.specs.Files.{File, bytes_of}
 use Rattle.ddrescue_cli.specs.declared.ending.Ending.{Ending}
 use Rattle.ddrescue_cli.specs.Held.{Held}
@@ -90,7 +90,7 @@ AcceptedStands =
 -- a mapfile within the limit that stands for a map isn't refused
 abbrev pub StandsAccepted : Type 0
 StandsAccepted =
-    (mapfile : Option File) (end : ℕ) (map : List Status) (shown : ℕ) → length (bytes_of mapfile) ≤ TEXT_LIMIT
+    (mapfile : Option File) (end : ℕ) (map : List Status) (shown : ℕ) → length (bytes_of mapfile) ≤ text_limit
     → Stands mapfile end map shown → IsAccepted mapfile
 
 -- a mapfile is refused for one error at most
