@@ -1,7 +1,7 @@
 use Rattle.std.proofs.Common.{◌≡◌, ℕ, ◌+◌, ◌-◌, ◌<◌, ◌≤◌, ◌^◌, List, [], ◌∷◌, ◌++◌, length, take, drop, get_or, replicate, Some, Bool, true, false, if◌then◌else◌, ltb, refl, arith, ap, sym, ◌∙◌, subst, append_assoc, append-nil, length-append, ⊎_elim, ltb-true, ltb-false}
 use Rattle.std.specs.List.{flat_map, slice_get}
 use Rattle.std.specs.List.Sorted.{IsPartitionPoint, IsNonDecreasingBy}
-use Rattle.std.proofs.lemmas.List.{take-append-drop, take_more, drop_more, replicate-append-replicate, take_more_set, drop-set-lt, take_at, drop_at, length_push, length-take-le, drop_all, drop-drop, take-append-le, drop-append-le, get_or_default}
+use Rattle.std.proofs.lemmas.List.{take-append-drop, take_more, drop_more, replicate-append-replicate, take_more_set, drop-set-lt, take_at, drop_at, length_push, length-take-le, take_all, drop_all, drop-drop, take-append-le, drop-append-le, get_or_default}
 use Rattle.std.proofs.lemmas.Bool.{cases_lt}
 use Rattle.block_list.specs.declared.status.Status.{Status}
 use Rattle.block_list.specs.declared.status.Status.TheVariants.{NonTried}
@@ -9,6 +9,7 @@ use Rattle.block_list.specs.declared.block.Block.{Block}
 use Rattle.block_list.specs.Map.{marked}
 use Rattle.block_list.specs.Stretches.{covered}
 use Rattle.block_list.specs.Tiling.{AreTiles, IsMerged}
+use Rattle.block_list.specs.Push.{EndsWith}
 use Rattle.block_list.specs.Edits.{IsTiled, IsPlace, IsCut, IsJoinedBefore, IsJoinedBehind, start_of, front_of, back_of, cut_at}
 use Rattle.block_list.proofs.TileFacts.{covered-append, length_first, tiles_join, tiles_split, tiled_from_tiles, parts_of, start_le_end, start_mono, index_before, start_more, start_all, tile_at, tile_read, front_statuses, back_statuses}
 use Rattle.block_list.proofs.StretchFacts.{block_has}
@@ -249,3 +250,31 @@ place_has bs x i b t p q =
     let r = tile_read bs k b t h q in
     let e : k + 1 ≡ i = omega arith in
     ap (λ l. slice_get (flat_map covered l) x) (sym s) ∙ block_has (take k bs) b (drop (k + 1) bs) x (omega (arith, p.before z)) (omega (arith, r.begins, r.ends, p.reaches, ap (λ n. start_of bs n) e))
+
+-- the last block has the status of the last position
+last_status : (bs : List Block) (status : Status) → IsTiled bs → EndsWith (flat_map covered bs) status → (front : List Block) (last : Block) → bs ≡ front ++ last ∷ [] → 0 < last.size → last.status ≡ status
+last_status bs status t f front last e z =
+    let x : ℕ = length (flat_map covered bs) - 1 in
+    let n : length (flat_map covered bs) ≡ length (flat_map covered front) + last.size = ap (λ r. length (flat_map covered r)) e ∙ ap length (covered-append front (last ∷ [])) ∙ omega (arith, length-append (flat_map covered front) (flat_map covered (last ∷ [])), length_first last []) in
+    let h : slice_get (flat_map covered bs) x ≡ Some last.status = ap (λ r. slice_get (flat_map covered r) x) e ∙ block_has front last [] x (omega (arith, n)) (omega (arith, n)) in
+    let g : slice_get (flat_map covered bs) x ≡ Some status = f.last in
+    cc
+
+-- a block that joins the last one leaves room for itself
+pub joined_shorter : (bs : List Block) (low : ℕ) (block wide : Block) → IsTiled bs → IsMerged bs → IsJoinedBefore bs (length bs) block low wide → EndsWith (flat_map covered bs) block.status → low < length bs
+joined_shorter bs low block wide t m f e = ⊎_elim
+    (λ (l : low < length bs). l)
+    (λ (l : length bs ≤ low).
+    let k : ℕ = length bs - 1 in
+    let some : 0 < length bs = index_before bs 0 (length bs) (omega (arith, start_all bs (length bs) (omega arith), e.some)) in
+    let a : Block = get_or bs k no_block in
+    let j : k + 1 ≡ length bs = omega arith in
+    let all : bs ≡ take k bs ++ a ∷ [] = sym (take_all (k + 1) bs (omega arith)) ∙ take_more bs k no_block (omega arith) in
+    let s : a.status ≡ block.status = last_status bs block.status t e (take k bs) a all (tile_at bs k no_block t (omega arith)).sized in
+    let w : take low bs ≡ bs = take_all low bs l in
+    let full : take (length bs) bs ≡ bs = take_all (length bs) bs (omega arith) in
+    let n : IsMerged (bs ++ wide ∷ []) = rw w at (f.merged (rw full m)) in
+    let p : AreApart ((take k bs ++ a ∷ []) ++ wide ∷ []) = subst (λ (r : List Block). AreApart (r ++ wide ∷ [])) all (apart_from_merged _ n) in
+    let q : AreApart (a ∷ wide ∷ []) = apart_right (take k bs) (a ∷ wide ∷ []) (rw append_assoc at p) in
+    absurd (q.0 (s ∙ sym f.status)))
+    (cases_lt low (length bs))

@@ -1,6 +1,8 @@
-use Rattle.std.specs.Prelude.{ℕ, ◌+◌, ◌^◌, Option, Some, None, nat_lt, nat_le, if◌then◌else◌}
+use Rattle.std.specs.Prelude.{ℕ, ◌+◌, ◌-◌, ◌<◌, ◌^◌, List, length, Option, Some, None, nat_lt, nat_le, if◌then◌else◌}
+use Rattle.block_list.specs.declared.status.Status.{Status}
 use Rattle.block_list.specs.declared.plain_tiles.PushError.{PushError}
 use Rattle.block_list.specs.declared.plain_tiles.PushError.TheVariants.{TooLarge, Overlap, Gap}
+use Rattle.block_list.specs.Map.{Has}
 
 -- why a block can't be put behind a map with this end, in the order in which it is looked at
 abbrev pub push_fault : (pos size end : ℕ) → Option PushError
@@ -9,3 +11,8 @@ push_fault pos size end =
     else if nat_lt pos end then Some (Overlap end)
     else if nat_lt end pos then Some (Gap end)
     else None
+
+-- the map has a last position, and it has this status
+pub record EndsWith (map : List Status) (status : Status) : Type 0 where
+  pub some : 0 < length map
+  pub last : Has map status (length map - 1)

@@ -4,6 +4,7 @@ ghost use Rattle.std.specs.List.{flat_map};
 ghost use Rattle.block_list.specs.Map.{marked};
 ghost use Rattle.block_list.specs.Stretches.{covered};
 ghost use Rattle.block_list.specs.Tiling.{IsMerged};
+ghost use Rattle.block_list.specs.Push.{EndsWith};
 ghost use Rattle.block_list.specs.Edits.{IsTiled, IsPlace, IsCut, IsJoinedBefore, IsJoinedBehind, start_of, front_of, back_of, cut_at};
 
 use crate::block::Block;
@@ -50,6 +51,7 @@ pub fn append(blocks: &mut Vec<Block>, block: Block) -> Result<(), NoMemory>
         ≡ flat_map covered blocks.old.items ++ covered block) }
     ensures kept { OnErr result (blocks.new.items ≡ blocks.old.items) }
     ensures full { vec_len blocks.old < vec_capacity blocks.old → IsOk result }
+    ensures joins { EndsWith (flat_map covered blocks.old.items) block.status → IsOk result }
     ensures len { vec_len blocks.new ≤ vec_len blocks.old + 1 }
     ensures capacity { vec_capacity blocks.old ≤ vec_capacity blocks.new }
 {

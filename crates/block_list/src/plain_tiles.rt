@@ -1,5 +1,5 @@
-ghost use Rattle.std.specs.Prelude.{◌≡◌, ◌+◌, ◌<◌, ◌^◌, ◌++◌, ◌⊎◌, [], length, replicate, OnOk, OnErr, IsOk, IfOk, MatchOption};
-ghost use Rattle.block_list.specs.Push.{push_fault};
+ghost use Rattle.std.specs.Prelude.{◌≡◌, ◌+◌, ◌<◌, ◌^◌, ◌++◌, ◌⊎◌, [], length, replicate, OnOk, OnErr, IsOk, IfOk, MatchOption, None};
+ghost use Rattle.block_list.specs.Push.{push_fault, EndsWith};
 
 use crate::block::{Block, Run};
 use crate::status::Status;
@@ -54,12 +54,14 @@ impl PlainTiles {
         }
     }
 
-    /// Puts a block behind the last position. It takes memory only where it doesn't join the last block.
+    /// Puts a block behind the last position. It takes memory only for one that isn't empty and doesn't join the last.
     pub fn push(&mut self, block: Block) -> Result<(), PushError>
         ensures ok { OnOk result (self.new.statuses ≡ self.old.statuses ++ replicate block.size block.status) }
         ensures err { OnErr result (self.new.statuses ≡ self.old.statuses) }
         ensures answer { MatchOption (push_fault block.pos block.size (length self.old.statuses))
             (IsOk result ⊎ (result ≡ Err PushError.NoMemory)) (λ e. result ≡ Err e) }
+        ensures joins { push_fault block.pos block.size (length self.old.statuses) ≡ None
+            → (block.size ≡ 0) ⊎ EndsWith self.old.statuses block.status → IsOk result }
     {
         let end = end_behind(self.end, block)?;
         if block.size > 0 {

@@ -9,7 +9,7 @@ use Rattle.crash_site.specs.Files.{File, bytes_of, empty_file, put, written, wri
 use Rattle.crash_site.specs.Calls.{Call, Entry, Done, Made, image_open, image_write, map_read}
 use Rattle.crash_site.specs.Folder.{Folder, opened, with_piece, after, after_done}
 use Rattle.ddrescue_cli.specs.Reads.{landed, write_of, writes_of}
-use Rattle.ddrescue_cli.specs.Loading.{piece_reads, load_reads, IsLoad}
+use Rattle.ddrescue_cli.specs.Loading.{piece_reads, load_reads, IsLoad, piece_size}
 use Rattle.std.specs.Prelude.{codes, sum}
 use Rattle.ddrescue_cli.specs.Operands.{draft_name}
 use Rattle.ddrescue_cli.specs.Answers.{is_other}
@@ -106,7 +106,7 @@ pieces_stand d name pos (n ∷ ns) = pieces_stand d name (pos + n) ns
 
 pub load_stands : (d : Folder) (name : List ℕ) (given : List ℕ) (answer : Option MapRead) → after d (map Done (load_reads name given answer)) ≡ d
 load_stands d name given answer =
-    let last : List Call = map_read name (sum given) 4096 answer ∷ [] in
+    let last : List Call = map_read name (sum given) piece_size answer ∷ [] in
     ap (after d) (map-append Done (piece_reads name 0 given) last) ∙ after-append d (map Done (piece_reads name 0 given)) (map Done last)
     ∙ pieces_stand d name 0 given
 

@@ -9,7 +9,7 @@ use Rattle.block_list.specs.Map.{Has}
 use Rattle.block_list.proofs.Places.{slice_get-append_left, slice_get-append_right}
 use Rattle.faulty_source.specs.Journal.{Reading, is_whole, floor, kept, covers}
 use Rattle.crash_site.specs.Files.{written}
-use Rattle.ddrescue_cli.specs.Requests.{IsWanted}
+use Rattle.ddrescue_cli.specs.Requests.{IsWanted, sector_size}
 use Rattle.ddrescue_cli.specs.Reads.{marked_by, map_after, IsNext, IsRun, landed}
 use Rattle.ddrescue_cli.specs.Held.{Held, given, last_of_both}
 use Rattle.ddrescue_cli.proofs.RunFacts.{Within, next_within, next_inside, next_outside, wanted_before, run_front, slice_get-take, slice_get-drop}
@@ -85,35 +85,35 @@ last_of_none None = refl
 last_of_none (Some b) = refl
 
 -- a read that doesn't cover a position gives nothing there
-given_uncovered : (r : Reading) (rs : List Reading) (x : ℕ) → covers 512 r x ≡ false → given 512 (r ∷ rs) x ≡ given 512 rs x
-given_uncovered r rs x apart = ap (λ o. last_of_both (given 512 rs x) o) (cond-false (covers 512 r x) (slice_get r.given (x - r.pos)) None apart) ∙ last_of_none (given 512 rs x)
+given_uncovered : (r : Reading) (rs : List Reading) (x : ℕ) → covers sector_size r x ≡ false → given sector_size (r ∷ rs) x ≡ given sector_size rs x
+given_uncovered r rs x apart = ap (λ o. last_of_both (given sector_size rs x) o) (cond-false (covers sector_size r x) (slice_get r.given (x - r.pos)) None apart) ∙ last_of_none (given sector_size rs x)
 
 -- one that covers it gives its byte, if no later one does
-given_covered : (r : Reading) (rs : List Reading) (x : ℕ) → covers 512 r x ≡ true → given 512 rs x ≡ None → given 512 (r ∷ rs) x ≡ slice_get r.given (x - r.pos)
-given_covered r rs x covered later = last_at_none (given 512 rs x) (if covers 512 r x then slice_get r.given (x - r.pos) else None) later ∙ cond-true (covers 512 r x) (slice_get r.given (x - r.pos)) None covered
+given_covered : (r : Reading) (rs : List Reading) (x : ℕ) → covers sector_size r x ≡ true → given sector_size rs x ≡ None → given sector_size (r ∷ rs) x ≡ slice_get r.given (x - r.pos)
+given_covered r rs x covered later = last_at_none (given sector_size rs x) (if covers sector_size r x then slice_get r.given (x - r.pos) else None) later ∙ cond-true (covers sector_size r x) (slice_get r.given (x - r.pos)) None covered
 
 -- a whole read is kept whole
-kept_whole : (r : Reading) → is_whole r ≡ true → kept 512 r ≡ r.asked
-kept_whole r whole = cond-true (is_whole r) r.asked (floor 512 (r.pos + length r.given) - r.pos) whole
+kept_whole : (r : Reading) → is_whole r ≡ true → kept sector_size r ≡ r.asked
+kept_whole r whole = cond-true (is_whole r) r.asked (floor sector_size (r.pos + length r.given) - r.pos) whole
 
 -- of a request that isn't given whole nothing is kept, as it lies in one sector
-kept_part : (domain : ℕ → Bool) (map : List Status) (cursor : ℕ) (r : Reading) → IsNext domain map cursor r → is_whole r ≡ false → kept 512 r ≡ 0
+kept_part : (domain : ℕ → Bool) (map : List Status) (cursor : ℕ) (r : Reading) → IsNext domain map cursor r → is_whole r ≡ false → kept sector_size r ≡ 0
 kept_part domain map cursor r n part =
     let w : Within domain map cursor r.pos (r.pos + r.asked) = next_within domain map cursor r n in
     let less : length r.given < r.asked = omega (arith, n.few, eqb-false (length r.given) r.asked part) in
-    cond-false (is_whole r) r.asked (floor 512 (r.pos + length r.given) - r.pos) part ∙ omega (arith, less, w.sector)
+    cond-false (is_whole r) r.asked (floor sector_size (r.pos + length r.given) - r.pos) part ∙ omega (arith, less, w.sector)
 
 -- no more is kept than was asked for
-kept_few : (domain : ℕ → Bool) (map : List Status) (cursor : ℕ) (r : Reading) → IsNext domain map cursor r → kept 512 r ≤ r.asked
+kept_few : (domain : ℕ → Bool) (map : List Status) (cursor : ℕ) (r : Reading) → IsNext domain map cursor r → kept sector_size r ≤ r.asked
 kept_few domain map cursor r n = ⊎_elim (λ whole. omega (arith, kept_whole r whole)) (λ part. omega (arith, kept_part domain map cursor r n part)) (cases_Bool (is_whole r))
 
 -- a read doesn't cover what lies outside its kept part
-covers_not : (r : Reading) (x : ℕ) → (x < r.pos) ⊎ (r.pos + kept 512 r ≤ x) → covers 512 r x ≡ false
-covers_not r x apart = ⊎_elim (λ (lt : x < r.pos). and_left (nat_le r.pos x) (nat_lt x (r.pos + kept 512 r)) (lt-leb r.pos x lt)) (λ (le : r.pos + kept 512 r ≤ x). and_right (nat_le r.pos x) (nat_lt x (r.pos + kept 512 r)) (le-ltb x (r.pos + kept 512 r) le)) apart
+covers_not : (r : Reading) (x : ℕ) → (x < r.pos) ⊎ (r.pos + kept sector_size r ≤ x) → covers sector_size r x ≡ false
+covers_not r x apart = ⊎_elim (λ (lt : x < r.pos). and_left (nat_le r.pos x) (nat_lt x (r.pos + kept sector_size r)) (lt-leb r.pos x lt)) (λ (le : r.pos + kept sector_size r ≤ x). and_right (nat_le r.pos x) (nat_lt x (r.pos + kept sector_size r)) (le-ltb x (r.pos + kept sector_size r) le)) apart
 
 -- what reads leave of a position that they don't ask for
 pub record Untouched (map : List Status) (reads : List Reading) (image : List ℕ) (x : ℕ) : Type 0 where
-  pub unread : given 512 reads x ≡ None
+  pub unread : given sector_size reads x ≡ None
   pub mark : slice_get (map_after map reads) x ≡ slice_get map x
   pub stands : x < length image → slice_get (landed image reads) x ≡ slice_get image x
 
@@ -121,13 +121,13 @@ pub record Untouched (map : List Status) (reads : List Reading) (image : List �
 pub record Rescued (domain : ℕ → Bool) (map : List Status) (reads : List Reading) (image : List ℕ) (x : ℕ) : Type 0 where
   pub wanted : IsWanted domain map x
   pub byte : ℕ
-  pub gave : given 512 reads x ≡ Some byte
+  pub gave : given sector_size reads x ≡ Some byte
   pub stands : slice_get (landed image reads) x ≡ Some byte
 
 -- and of one that they ask for and don't get
 pub record Missed (domain : ℕ → Bool) (map : List Status) (reads : List Reading) (image : List ℕ) (x : ℕ) : Type 0 where
   pub wanted : IsWanted domain map x
-  pub unread : given 512 reads x ≡ None
+  pub unread : given sector_size reads x ≡ None
   pub bad : Has (map_after map reads) BadSector x
   pub stands : x < length image → slice_get (landed image reads) x ≡ slice_get image x
 
@@ -145,7 +145,7 @@ stands_apart r rs image x few apart later within =
     later (omega (arith, length-next (is_whole r) image r)) ∙ next_apart (is_whole r) image r x within off
 
 -- and gives nothing there
-unread_apart : (domain : ℕ → Bool) (map : List Status) (cursor : ℕ) (r : Reading) (rs : List Reading) (x : ℕ) → IsNext domain map cursor r → (x < r.pos) ⊎ (r.pos + r.asked ≤ x) → given 512 (r ∷ rs) x ≡ given 512 rs x
+unread_apart : (domain : ℕ → Bool) (map : List Status) (cursor : ℕ) (r : Reading) (rs : List Reading) (x : ℕ) → IsNext domain map cursor r → (x < r.pos) ⊎ (r.pos + r.asked ≤ x) → given sector_size (r ∷ rs) x ≡ given sector_size rs x
 unread_apart domain map cursor r rs x n apart = given_uncovered r rs x (covers_not r x (⊎_elim (λ (lt : x < r.pos). inl lt) (λ (le : r.pos + r.asked ≤ x). inr (omega (arith, kept_few domain map cursor r n))) apart))
 
 -- so a position outside it that the later reads don't touch is untouched
@@ -169,7 +169,7 @@ rescued_here domain map cursor r rs image x n from to whole u =
     let full : length r.given ≡ r.asked = eqb-true (length r.given) r.asked whole in
     let byte : slice_get r.given (x - r.pos) ≡ Some (get_or r.given (x - r.pos) 0) = slice_get-get_or r.given (x - r.pos) 0 (omega arith) in
     let at = next_at (is_whole r) image r x (x - r.pos) whole (omega arith) (omega arith) in
-    let covered : covers 512 r x ≡ true = and_from (nat_le r.pos x) (nat_lt x (r.pos + kept 512 r)) (le-leb r.pos x from) (lt-ltb x (r.pos + kept 512 r) (omega (arith, kept_whole r whole))) in
+    let covered : covers sector_size r x ≡ true = and_from (nat_le r.pos x) (nat_lt x (r.pos + kept sector_size r)) (le-leb r.pos x from) (lt-ltb x (r.pos + kept sector_size r) (omega (arith, kept_whole r whole))) in
     record {
       wanted = (next_within domain map cursor r n).each x from to;
       byte = get_or r.given (x - r.pos) 0;
@@ -222,13 +222,13 @@ fate domain map cursor (r ∷ rs) image run x =
     (cases_lt x (r.pos + r.asked))
 
 -- a position that a run gives a byte for holds it
-holds_given : (domain : ℕ → Bool) (map : List Status) (reads : List Reading) (image : List ℕ) (x b : ℕ) → Fate domain map reads image x → given 512 reads x ≡ Some b → slice_get (landed image reads) x ≡ Some b
+holds_given : (domain : ℕ → Bool) (map : List Status) (reads : List Reading) (image : List ℕ) (x b : ℕ) → Fate domain map reads image x → given sector_size reads x ≡ Some b → slice_get (landed image reads) x ≡ Some b
 holds_given domain map reads image x b (untouched u) gave = absurd (none-some b (sym u.unread ∙ gave))
 holds_given domain map reads image x b (rescued f) gave = f.stands ∙ sym f.gave ∙ gave
 holds_given domain map reads image x b (missed f) gave = absurd (none-some b (sym f.unread ∙ gave))
 
 -- one that it gives none for stands
-ungiven_stands : (domain : ℕ → Bool) (map : List Status) (reads : List Reading) (image : List ℕ) (x : ℕ) → Fate domain map reads image x → given 512 reads x ≡ None → x < length image → slice_get (landed image reads) x ≡ slice_get image x
+ungiven_stands : (domain : ℕ → Bool) (map : List Status) (reads : List Reading) (image : List ℕ) (x : ℕ) → Fate domain map reads image x → given sector_size reads x ≡ None → x < length image → slice_get (landed image reads) x ≡ slice_get image x
 ungiven_stands domain map reads image x (untouched u) none within = u.stands within
 ungiven_stands domain map reads image x (rescued f) none within = absurd (none-some f.byte (sym none ∙ f.gave))
 ungiven_stands domain map reads image x (missed f) none within = f.stands within
@@ -244,7 +244,7 @@ finished_unwanted : (domain : ℕ → Bool) (map : List Status) (x : ℕ) → Ha
 finished_unwanted domain map x has w = let e : Finished ≡ NonTried = same_Some Finished NonTried (sym has ∙ w.non_tried) in cc
 
 -- the map that a run makes holds with the image that its writes make
-pub held_now : (domain : ℕ → Bool) (map : List Status) (reads : List Reading) (start : List ℕ) → IsRun domain map 0 reads → Held domain (λ x. x) 512 reads start (map_after map reads) (landed start reads)
+pub held_now : (domain : ℕ → Bool) (map : List Status) (reads : List Reading) (start : List ℕ) → IsRun domain map 0 reads → Held domain (λ x. x) sector_size reads start (map_after map reads) (landed start reads)
 held_now domain map reads start run =
     let each : (x : ℕ) → Fate domain map reads start x = fate domain map 0 reads start run in
     record {
@@ -254,7 +254,7 @@ held_now domain map reads start run =
     }
 
 -- the map that a run begins with holds while any of its first reads are written
-pub held_before : (domain : ℕ → Bool) (map : List Status) (reads written rest : List Reading) (start : List ℕ) → reads ≡ written ++ rest → IsRun domain map 0 reads → Held domain (λ x. x) 512 reads start map (landed start written)
+pub held_before : (domain : ℕ → Bool) (map : List Status) (reads written rest : List Reading) (start : List ℕ) → reads ≡ written ++ rest → IsRun domain map 0 reads → Held domain (λ x. x) sector_size reads start map (landed start written)
 held_before domain map reads written rest start is run =
     let all : (x : ℕ) → Fate domain map reads start x = fate domain map 0 reads start run in
     let front : (x : ℕ) → Fate domain map written start x = fate domain map 0 written start (run_front domain map 0 written rest (rw is at run)) in
@@ -265,5 +265,5 @@ held_before domain map reads written rest start is run =
     }
 
 -- before the first read a map holds with any image
-pub held_unread : (domain : ℕ → Bool) (map : List Status) (start : List ℕ) → Held domain (λ x. x) 512 [] start map start
+pub held_unread : (domain : ℕ → Bool) (map : List Status) (start : List ℕ) → Held domain (λ x. x) sector_size [] start map start
 held_unread domain map start = held_now domain map [] start tt

@@ -11,7 +11,7 @@ use Rattle.ddrescue_cli.specs.declared.ending.Ending.{Ending}
 use Rattle.ddrescue_cli.specs.declared.ending.Ending.TheVariants.{Done as Finished, WrongNumber, WrongWord, SameName, SourceFault, NotRegular, MapRefused, SourceLost, SiteFault, NoMemory}
 use Rattle.ddrescue_cli.specs.Operands.{outfile, mapfile, draft, refusal_of_words, OfWords, AreNamedApart}
 use Rattle.ddrescue_cli.specs.Counts.{Counts}
-use Rattle.ddrescue_cli.specs.Requests.{inside}
+use Rattle.ddrescue_cli.specs.Requests.{inside, sector_size}
 use Rattle.ddrescue_cli.specs.Reads.{map_after, cursor_after, IsRun, landed, gained}
 use Rattle.ddrescue_cli.specs.Start.{Stands}
 use Rattle.ddrescue_cli.specs.Saved.{heading}
@@ -84,12 +84,12 @@ loaded_by (SiteFault call) reads none some = λ early. some (none early)
 
 -- the map that was loaded holds while any first part of the reads is written
 held_found : (end : ℕ) (file : Option File) (start_map map : List Status) (shown other : ℕ) (reads written rest : List Reading) (start : List ℕ) → reads ≡ written ++ rest → IsRun (inside end) start_map 0 reads
-    → (reads ≢ [] → Stands file end start_map shown) → Stands file end map other → Held (inside end) (λ x. x) 512 reads start map (landed start written)
+    → (reads ≢ [] → Stands file end start_map shown) → Stands file end map other → Held (inside end) (λ x. x) sector_size reads start map (landed start written)
 held_found end file start_map map shown other [] [] rest start split run loaded found = held_unread (inside end) map start
 held_found end file start_map map shown other [] (w ∷ ws) rest start split run loaded found = cc
 held_found end file start_map map shown other (r ∷ rs) written rest start split run loaded found =
     let same = stands_for_one file end start_map map shown other (loaded (λ e. cc)) found in
-    let P : List Status → Type 0 = λ m. Held (inside end) (λ x. x) 512 (r ∷ rs) start m (landed start written) in
+    let P : List Status → Type 0 = λ m. Held (inside end) (λ x. x) sector_size (r ∷ rs) start m (landed start written) in
     subst P same.0 (held_before (inside end) start_map (r ∷ rs) written rest start split run)
 
 -- where the mapfile wasn't replaced
@@ -98,7 +98,7 @@ old_holds : (e : Ending) (words : List (List ℕ)) (td : Bool) (end : ℕ) (read
     → FoundHolds words end reads (bytes_of (files (outfile words))) files'
 old_holds e words td end reads written rest files files' c0 c1 f t split image same = record {
   held = λ map other found.
-      let P : List ℕ → Type 0 = λ i. Held (inside end) (λ x. x) 512 reads (bytes_of (files (outfile words))) map i in
+      let P : List ℕ → Type 0 = λ i. Held (inside end) (λ x. x) sector_size reads (bytes_of (files (outfile words))) map i in
       let Q : Option File → Type 0 = λ o. Stands o end map other in
       subst P (sym image) (held_found end (files (mapfile words)) f.start_map map f.shown other reads written rest (bytes_of (files (outfile words))) split f.run
       (λ some. f.stands t (loaded_by e reads f.none some)) (subst Q same found));
@@ -111,7 +111,7 @@ new_holds e words td end reads files files' c0 c1 f t after a =
     let same = stands_for_one (files (mapfile words)) end f.start_map a.start_map f.shown a.shown (f.stands t after) a.stands in
     let run : IsRun (inside end) a.start_map 0 reads = let P : List Status → Type 0 = λ m. IsRun (inside end) m 0 reads in subst P same.0 f.run in
     let image : bytes_of (files' (outfile words)) ≡ landed (bytes_of (files (outfile words))) reads = ap bytes_of a.output in
-    let P : List ℕ → Type 0 = λ i. Held (inside end) (λ x. x) 512 reads (bytes_of (files (outfile words))) (map_after a.start_map reads) i in
+    let P : List ℕ → Type 0 = λ i. Held (inside end) (λ x. x) sector_size reads (bytes_of (files (outfile words))) (map_after a.start_map reads) i in
     record {
       map = map_after a.start_map reads;
       shown = cursor_after a.shown reads;

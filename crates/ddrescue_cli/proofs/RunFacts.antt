@@ -9,7 +9,7 @@ use Rattle.block_list.specs.Map.{Has, marked}
 use Rattle.block_list.proofs.Places.{slice_get-append_left, slice_get-append_right, slice_get-replicate, length-marked}
 use Rattle.block_list.specs.Places.{IsRunUp}
 use Rattle.faulty_source.specs.Journal.{Reading, is_whole, floor}
-use Rattle.ddrescue_cli.specs.Requests.{inside, IsWanted, IsRequest, IsSpent}
+use Rattle.ddrescue_cli.specs.Requests.{inside, IsWanted, IsRequest, IsSpent, sector_size}
 use Rattle.ddrescue_cli.specs.Reads.{status_of, marked_by, map_after, cursor_after, IsNext, IsRun}
 use Rattle.ddrescue_cli.specs.Laws.{Asks, RunsOver}
 
@@ -37,8 +37,8 @@ run_front domain map cursor (r ∷ rs) back run = (run.0, run_front domain (mark
 pub record Within (domain : ℕ → Bool) (map : List Status) (cursor p q : ℕ) : Type 0 where
   pub after : cursor ≤ p
   pub some : p < q
-  pub few : q ≤ p + 512
-  pub sector : q ≤ floor 512 (p + 512)
+  pub few : q ≤ p + sector_size
+  pub sector : q ≤ floor sector_size (p + sector_size)
   pub there : q ≤ length map
   pub each : (x : ℕ) → p ≤ x → x < q → IsWanted domain map x
 
@@ -164,7 +164,7 @@ run_up_before domain map cursor r x e next behind run = record {
 }
 
 -- a read of a run goes up to the end of its map's wanted positions there, or of the sector
-reads_cut : (domain : ℕ → Bool) (map : List Status) (cursor : ℕ) (reads : List Reading) (i : ℕ) (r : Reading) → IsRun domain map cursor reads → slice_get reads i ≡ Some r → (e : ℕ) × IsRunUp (IsWanted domain map) r.pos e × (r.pos + r.asked ≡ min e (floor 512 (r.pos + 512)))
+reads_cut : (domain : ℕ → Bool) (map : List Status) (cursor : ℕ) (reads : List Reading) (i : ℕ) (r : Reading) → IsRun domain map cursor reads → slice_get reads i ≡ Some r → (e : ℕ) × IsRunUp (IsWanted domain map) r.pos e × (r.pos + r.asked ≡ min e (floor sector_size (r.pos + sector_size)))
 reads_cut domain map cursor [] i r run is = absurd (cc)
 reads_cut domain map cursor (q ∷ qs) zero r run is = rw (← same_Some q r is) (run.0.request.run_end, run.0.request.run, run.0.request.stops)
 reads_cut domain map cursor (q ∷ qs) (suc i) r run is =

@@ -12,12 +12,11 @@ use Rattle.mapfile_text.specs.declared.read.MapError.{MapError}
 use Rattle.mapfile_text.specs.declared.read.MapError.TheVariants.{NoStatusLine, TooLong}
 use Rattle.mapfile_text.specs.HeadingLines.{HeadingLines}
 use Rattle.mapfile_text.specs.Lines.{Line, said}
-use Rattle.mapfile_text.specs.MapText.{IsMapText, MapFault, Blank, AreMapLines, StateFault, BlockFault, PlaceFault, ContinuesFault, ListsFault, MapLinesFault}
+use Rattle.mapfile_text.specs.MapText.{IsMapText, MapFault, Blank, AreMapLines, StateFault, BlockFault, PlaceFault, ContinuesFault, ListsFault, MapLinesFault, text_limit}
 use Rattle.mapfile_text.proofs.OneReading.{has_one_reading}
 use Rattle.mapfile_text.proofs.OneFault.{map_has_no_fault, has_one_fault}
 use Rattle.mapfile_text.proofs.MapOrFault.{is_map_or_has_fault}
 use Rattle.mapfile_text.proofs.ReadPrinted.{printed_is_read}
-use Rattle.mapfile_text.specs.declared.read.TheConstants.{TEXT_LIMIT}
 use Rattle.crash_site.specs.Files.{File}
 use Rattle.ddrescue_cli.specs.declared.ending.Which.TheVariants.{RunMap}
 use Rattle.ddrescue_cli.specs.declared.ending.Ending.{Ending}
@@ -80,7 +79,7 @@ map_is_not_blank : (text : List ℕ) (mode : Mode) (state : MapState) (first : �
 map_is_not_blank text mode state first listed statuses m e = some_lines mode (said text) state first listed statuses m.reads e
 
 -- a map within the limit isn't refused
-pub map_is_accepted : (text : List ℕ) (state : MapState) (first : ℕ) (listed : Bool) (statuses : List Status) → IsMapText text Tight state first listed statuses → length text ≤ TEXT_LIMIT
+pub map_is_accepted : (text : List ℕ) (state : MapState) (first : ℕ) (listed : Bool) (statuses : List Status) → IsMapText text Tight state first listed statuses → length text ≤ text_limit
     → (e : MapError) → TextRefused text e → ⊥
 map_is_accepted text state first listed statuses m short e r =
     elim r [
@@ -89,7 +88,7 @@ map_is_accepted text state first listed statuses m short e r =
     ]
 
 -- nor is a short text that says nothing
-pub blank_is_accepted : (text : List ℕ) → Blank text → length text ≤ TEXT_LIMIT → (e : MapError) → TextRefused text e → ⊥
+pub blank_is_accepted : (text : List ℕ) → Blank text → length text ≤ text_limit → (e : MapError) → TextRefused text e → ⊥
 blank_is_accepted text blank short e r = elim r [ inl x ↦ omega (arith, x.1) | inr x ↦ x.1 blank ]
 
 -- a text stands for one map and one position
@@ -124,7 +123,7 @@ blank_or_not (l ∷ ls) = inr (λ e. cc)
 stands_or_refused : (mapfile : Option File) (end : ℕ) → ((map : List Status) × (shown : ℕ) × Stands mapfile end map shown × IsAccepted mapfile) ⊎ ((e : MapError) × IsRefused mapfile e)
 stands_or_refused None end = inl (replicate end NonTried, 0, record { stands = record { map_is = refl; shown_is = refl } }, record { never = λ e r. r })
 stands_or_refused (Some f) end =
-    elim (cases_lt TEXT_LIMIT (length f.bytes)) [
+    elim (cases_lt text_limit (length f.bytes)) [
       | inl long ↦ inr (TooLong, inl (refl, long))
       | inr short ↦
           elim (blank_or_not (said f.bytes)) [

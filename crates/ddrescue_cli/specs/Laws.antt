@@ -5,11 +5,11 @@ use Rattle.block_list.specs.Map.{Has}
 use Rattle.block_list.specs.Places.{IsRunUp}
 use Rattle.faulty_source.specs.Journal.{Reading, floor}
 use Rattle.mapfile_text.specs.declared.read.MapError.{MapError}
-use Rattle.mapfile_text.specs.declared.read.TheConstants.{TEXT_LIMIT}
+use Rattle.mapfile_text.specs.MapText.{text_limit}
 use Rattle.crash_site.specs.Files.{File, bytes_of}
 use Rattle.ddrescue_cli.specs.declared.ending.Ending.{Ending}
 use Rattle.ddrescue_cli.specs.Held.{Held}
-use Rattle.ddrescue_cli.specs.Requests.{inside, IsWanted, IsSpent}
+use Rattle.ddrescue_cli.specs.Requests.{inside, IsWanted, IsSpent, sector_size}
 use Rattle.ddrescue_cli.specs.Reads.{status_of, map_after, cursor_after, IsRun}
 use Rattle.ddrescue_cli.specs.Start.{Stands, IsRefused, IsAccepted}
 use Rattle.ddrescue_cli.specs.Rescue.{IsVerdict}
@@ -43,7 +43,8 @@ pub record RunsOver (domain : ℕ → Bool) (map : List Status) (reads : List Re
       → r.pos + r.asked ≤ q.pos
   -- a read goes up to the end of the wanted positions, or of the sector
   pub cut : (i : ℕ) (r : Reading) → slice_get reads i ≡ Some r
-      → (e : ℕ) × IsRunUp (IsWanted domain map) r.pos e × (r.pos + r.asked ≡ min e (floor 512 (r.pos + 512)))
+      → (e : ℕ) × IsRunUp (IsWanted domain map) r.pos e
+      × (r.pos + r.asked ≡ min e (floor sector_size (r.pos + sector_size)))
   pub all : IsSpent domain (map_after map reads) (cursor_after 0 reads) → (x : ℕ) → IsWanted domain map x
       → (i : ℕ) × (r : Reading) × (slice_get reads i ≡ Some r) × Asks r x
   pub none_left : IsSpent domain (map_after map reads) (cursor_after 0 reads) → (x : ℕ)
@@ -61,12 +62,12 @@ RunAsksOnce =
 
 -- a read of sector k of an input with this length: at its own position, and up to the next one or the end
 pub record IsSectorRead (end k : ℕ) (r : Reading) : Type 0 where
-  pub pos : r.pos ≡ k * 512
-  pub asked : r.asked ≡ min 512 (end - k * 512)
+  pub pos : r.pos ≡ k * sector_size
+  pub asked : r.asked ≡ min sector_size (end - k * sector_size)
 
 -- a whole run over an input that wasn't tried is one read for each sector, in order; the last one may be shorter
 pub record ReadsSectors (end : ℕ) (reads : List Reading) : Type 0 where
-  pub count : length reads ≡ (end + 511) / 512
+  pub count : length reads ≡ (end + sector_size - 1) / sector_size
   pub each : (k : ℕ) (r : Reading) → slice_get reads k ≡ Some r → IsSectorRead end k r
 
 -- each does so that goes on to its end
@@ -90,7 +91,7 @@ AcceptedStands =
 -- a mapfile within the limit that stands for a map isn't refused
 abbrev pub StandsAccepted : Type 0
 StandsAccepted =
-    (mapfile : Option File) (end : ℕ) (map : List Status) (shown : ℕ) → length (bytes_of mapfile) ≤ TEXT_LIMIT
+    (mapfile : Option File) (end : ℕ) (map : List Status) (shown : ℕ) → length (bytes_of mapfile) ≤ text_limit
     → Stands mapfile end map shown → IsAccepted mapfile
 
 -- a mapfile is refused for one error at most

@@ -9,6 +9,10 @@ use Rattle.faulty_source.specs.Journal.{floor}
 abbrev pub inside : ℕ → ℕ → Bool
 inside end x = nat_lt x end
 
+-- the size of a sector in bytes
+abbrev pub sector_size : ℕ
+sector_size = 512
+
 -- a position that copying asks for: one of the domain that is non-tried
 pub record IsWanted (domain : ℕ → Bool) (map : List Status) (x : ℕ) : Type 0 where
   pub within : domain x ≡ true
@@ -20,7 +24,7 @@ pub record IsRequest (domain : ℕ → Bool) (map : List Status) (cursor p q : �
   pub first : IsFirst (IsWanted domain map) cursor p
   pub run_end : ℕ
   pub run : IsRunUp (IsWanted domain map) p run_end
-  pub stops : q ≡ min run_end (floor 512 (p + 512))
+  pub stops : q ≡ min run_end (floor sector_size (p + sector_size))
 
 -- no request is left
 pub record IsSpent (domain : ℕ → Bool) (map : List Status) (cursor : ℕ) : Type 0 where

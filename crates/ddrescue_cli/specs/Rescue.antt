@@ -8,7 +8,7 @@ use Rattle.ddrescue_cli.specs.declared.ending.Ending.{Ending}
 use Rattle.ddrescue_cli.specs.declared.ending.Ending.TheVariants.{Done, SourceFault, NotRegular, MapRefused, SourceLost, SiteFault, NoMemory}
 use Rattle.ddrescue_cli.specs.Operands.{outfile, mapfile, draft, refusal_of_words}
 use Rattle.ddrescue_cli.specs.Counts.{Counts, NoneRose, FaultRose, LossRose, SiteFaultRose}
-use Rattle.ddrescue_cli.specs.Requests.{inside, IsSpent}
+use Rattle.ddrescue_cli.specs.Requests.{inside, IsSpent, sector_size}
 use Rattle.ddrescue_cli.specs.Reads.{map_after, cursor_after, IsRun, landed, gained}
 use Rattle.ddrescue_cli.specs.Start.{Stands, IsRefused, IsMapRefusal}
 use Rattle.ddrescue_cli.specs.Saved.{heading, text_after}
@@ -114,7 +114,7 @@ pub record AreRescued (words : List (List ℕ)) (end : ℕ) (reads : List Readin
 abbrev pub OutputHolds : (words : List (List ℕ)) (end : ℕ) (reads : List Reading) (start : List ℕ) → List Status
     → (List ℕ → Option File) → Type 0
 OutputHolds words end reads start map files =
-    Held (inside end) (λ x. x) 512 reads start map (bytes_of (files (outfile words)))
+    Held (inside end) (λ x. x) sector_size reads start map (bytes_of (files (outfile words)))
 
 -- the mapfile found stands for a map, and what that map marks finished the output holds
 pub record MapfileHolds (words : List (List ℕ)) (end : ℕ) (reads : List Reading)

@@ -6,8 +6,7 @@ use Rattle.mapfile_text.specs.declared.state.MapState.{MapState}
 use Rattle.mapfile_text.specs.declared.read.Mode.TheVariants.{Tight}
 use Rattle.mapfile_text.specs.declared.read.MapError.{MapError}
 use Rattle.mapfile_text.specs.declared.read.MapError.TheVariants.{NoStatusLine, TooLong, NoMemory}
-use Rattle.mapfile_text.specs.MapText.{IsMapText, MapFault, Blank}
-use Rattle.mapfile_text.specs.declared.read.TheConstants.{TEXT_LIMIT}
+use Rattle.mapfile_text.specs.MapText.{IsMapText, MapFault, Blank, text_limit}
 use Rattle.crash_site.specs.Files.{File}
 
 -- nothing of the input was tried yet, and the rescue stands at its start
@@ -43,8 +42,8 @@ pub record Stands (mapfile : Option File) (end : ℕ) (map : List Status) (shown
 -- why a mapfile's text is refused: it is too long, or it says something and is no map
 abbrev pub TextRefused : List ℕ → MapError → Type 0
 TextRefused text e =
-    ((e ≡ TooLong) × (TEXT_LIMIT < length text))
-    ⊎ ((length text ≤ TEXT_LIMIT) × (Blank text → ⊥) × MapFault text Tight e)
+    ((e ≡ TooLong) × (text_limit < length text))
+    ⊎ ((length text ≤ text_limit) × (Blank text → ⊥) × MapFault text Tight e)
 
 -- why a mapfile is refused; an absent one never is
 abbrev pub IsRefused : Option File → MapError → Type 0

@@ -10,6 +10,10 @@ use Rattle.mapfile_text.specs.declared.read.MapError.TheVariants.{NoStatusLine, 
 use Rattle.mapfile_text.specs.Lines.{Line, said}
 use Rattle.mapfile_text.specs.Fields.{state_of, block_of}
 
+-- the most bytes that the text of a mapfile may have: 2^28
+abbrev pub text_limit : ℕ
+text_limit = 268435456
+
 -- a status line spells a state, within the limits of position and pass
 pub record IsStateLine (line : Line) (state : MapState) : Type 0 where
   pub spells : state_of line.fields ≡ Some state

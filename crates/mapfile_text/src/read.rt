@@ -1,6 +1,6 @@
 ghost use Rattle.std.specs.Prelude.{◌≡◌, ◌⊎◌, ◌+◌, ◌-◌, ◌^◌, ◌<◌, ◌≤◌, ◌++◌, [], true, false, length, replicate, IfOk, IfErr, OnOk, IsTrue, if◌then◌else◌};
 ghost use Rattle.block_list.specs.Stretches.{covered};
-ghost use Rattle.mapfile_text.specs.MapText.{IsGap, IsMapText, Lists, ListsFault, MapFault, PlaceFault};
+ghost use Rattle.mapfile_text.specs.MapText.{IsGap, IsMapText, Lists, ListsFault, MapFault, PlaceFault, text_limit};
 ghost use Rattle.mapfile_text.specs.Reading.{filling, gap_of};
 ghost use Rattle.mapfile_text.specs.declared.read.MapError.TheVariants.{TooLong as LongText, NoMemory as OutOfMemory};
 
@@ -179,11 +179,11 @@ fn read_blocks(mut lines: SaidLines<'_>, mut map: ReadMap, mode: Mode) -> Result
 
 /// Reads the text of a mapfile, in time linear in it.
 pub fn read_map(alloc: Global, text: &[u8], mode: Mode) -> Result<ReadMap, MapError>
-    ensures size { IfOk result (λ map. length text.now ≤ TEXT_LIMIT) }
+    ensures size { IfOk result (λ map. length text.now ≤ text_limit) }
     ensures read { IfOk result (λ map. IsMapText text.now mode map.state map.first map.listed map.tiles.statuses) }
     ensures fault { IfErr result (λ e. (e ≡ OutOfMemory)
-        ⊎ ((e ≡ LongText) × (TEXT_LIMIT < length text.now))
-        ⊎ ((length text.now ≤ TEXT_LIMIT) × MapFault text.now mode e)) }
+        ⊎ ((e ≡ LongText) × (text_limit < length text.now))
+        ⊎ ((length text.now ≤ text_limit) × MapFault text.now mode e)) }
 {
     if text.len() > TEXT_LIMIT {
         return Err(MapError::TooLong);

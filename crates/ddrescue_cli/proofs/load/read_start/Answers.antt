@@ -4,15 +4,14 @@ use Rattle.std.proofs.lemmas.Result.{IfOk-weaker}
 use Rattle.mapfile_text.specs.declared.read.Mode.TheVariants.{Tight}
 use Rattle.mapfile_text.specs.declared.read.MapError.{MapError}
 use Rattle.mapfile_text.specs.declared.read.MapError.TheVariants.{NoStatusLine, TooLong, NoMemory}
-use Rattle.mapfile_text.specs.MapText.{Blank, MapFault}
-use Rattle.mapfile_text.specs.declared.read.TheConstants.{TEXT_LIMIT}
+use Rattle.mapfile_text.specs.MapText.{Blank, MapFault, text_limit}
 use Rattle.ddrescue_cli.specs.Start.{AsNone}
 use Rattle.ddrescue_cli.proofs.StartFacts.{fault_is_blank, map_is_accepted, blank_is_accepted}
 use Rattle.ddrescue_cli.proofs.load.read_start.Goals as goal
 
 -- a text without a status line says nothing, within the limit
-says_nothing : (text : List ℕ) (e : MapError) → e ≡ NoStatusLine → (e ≡ NoMemory) ⊎ ((e ≡ TooLong) × (TEXT_LIMIT < length text)) ⊎ ((length text ≤ TEXT_LIMIT) × MapFault text Tight e)
-    → Blank text × (length text ≤ TEXT_LIMIT)
+says_nothing : (text : List ℕ) (e : MapError) → e ≡ NoStatusLine → (e ≡ NoMemory) ⊎ ((e ≡ TooLong) × (text_limit < length text)) ⊎ ((length text ≤ text_limit) × MapFault text Tight e)
+    → Blank text × (length text ≤ text_limit)
 says_nothing text e is why =
     elim why [
       | inl x ↦ cc

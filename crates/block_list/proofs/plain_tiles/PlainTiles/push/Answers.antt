@@ -4,7 +4,7 @@ use Rattle.std.proofs.lemmas.List.{length-replicate}
 use Rattle.block_list.specs.declared.plain_tiles.PushError.TheVariants.{NoMemory}
 use Rattle.block_list.specs.Stretches.{covered}
 use Rattle.block_list.proofs.TileFacts.{tiled_from_tiling, tiling_end, tiles_up_to}
-use Rattle.block_list.proofs.PushFacts.{fault_passed, no_fault, on_success}
+use Rattle.block_list.proofs.PushFacts.{fault_passed, fault_was_there, no_fault, on_success}
 use Rattle.block_list.proofs.plain_tiles.PlainTiles.push.Goals as goal
 
 pub append-requires-clause-tiled : goal.append-requires-clause-tiled
@@ -17,6 +17,10 @@ pub returns-in_err-end-clause-answer : goal.returns-in_err-end-clause-answer
 returns-in_err-end-clause-answer c =
     let q : c.from_residual.result ≡ Err c.in_err-end.field-0.0 = search rules in
     rw (← c.self.view_is, ← tiling_end _ c.self.invariant) (fault_passed _ c.end_behind.result _ _ _ c.end_behind.ensures.answer c.in_err-end.was q)
+
+pub returns-in_err-end-clause-joins : goal.returns-in_err-end-clause-joins
+returns-in_err-end-clause-joins c =
+    rw (← c.self.view_is, ← tiling_end _ c.self.invariant) (λ none room. fault_was_there _ c.end_behind.result _ _ c.end_behind.ensures.answer c.in_err-end.was none)
 
 pub returns-in_err-map_err-clause-answer : goal.returns-in_err-map_err-clause-answer
 returns-in_err-map_err-clause-answer c =
