@@ -1,4 +1,3 @@
-pub mod Padded
 pub mod Appended
 pub mod OneReading
 pub mod OneFault
