@@ -1,3 +1,7 @@
+pub mod DigitFacts
+pub mod TakenOff
+pub mod PartFacts
+pub mod PieceFacts
 pub mod Appended
 pub mod OneReading
 pub mod OneFault

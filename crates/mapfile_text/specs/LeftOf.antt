@@ -1,4 +1,5 @@
 use Rattle.std.specs.Prelude.{◌≡◌, ℕ, ◌+◌, List, [], ◌∷◌, ◌++◌, map, drop, codes}
+use Rattle.std.specs.List.{concat}
 use Rattle.std.specs.Fmt.{decimal}
 use Rattle.block_list.specs.declared.status.Status.{Status}
 use Rattle.block_list.specs.Stretches.{stretches}
@@ -10,7 +11,6 @@ use Rattle.mapfile_text.specs.declared.place.Part.TheVariants.{Program as Progra
 use Rattle.mapfile_text.specs.declared.place.Place.{Place}
 use Rattle.mapfile_text.specs.HeadingLines.{HeadingLines}
 use Rattle.mapfile_text.specs.Printed.{ended, shown_byte, program_line, state_line, block_line}
-use Rattle.mapfile_text.specs.Pieces.{joined}
 
 -- the line on when the run began, which ddrescue alone prints
 abbrev pub start_line : Program → ℕ → List ℕ
@@ -55,4 +55,4 @@ IsPlace place part went = (number_of place.part ≡ part) × (place.went ≡ wen
 
 -- what is left of a mapfile's text at a place: the parts from one on, less the bytes that went
 unfoldable pub left_of : Place → HeadingLines → MapState → List Status → List ℕ
-left_of place h s statuses = drop place.went (joined (drop (number_of place.part) (parts h s statuses)))
+left_of place h s statuses = drop place.went (concat (drop (number_of place.part) (parts h s statuses)))

@@ -1,9 +1,5 @@
 use Rattle.std.specs.Prelude.{◌≡◌, ℕ, ◌+◌, ◌*◌, ◌/◌, ◌<◌, List, [], ◌∷◌, length, map, take, drop, slice_get, Some}
-use Rattle.std.specs.List.{flat_map, range_with_len}
-
--- texts one behind the other
-abbrev pub joined : List (List ℕ) → List ℕ
-joined texts = flat_map (λ t. t) texts
+use Rattle.std.specs.List.{concat, range_with_len}
 
 -- the piece of a text with a number: 4,096 bytes, or as many as are left
 abbrev pub piece : List ℕ → ℕ → List ℕ
@@ -20,6 +16,6 @@ AreTakenOff (p ∷ ps) text = (0 < length text) × (p ≡ take 4096 text) × Are
 
 -- a text in pieces: joined they are the text; none is empty, and each but the last has 4,096 bytes
 pub record InPieces (ps : List (List ℕ)) (text : List ℕ) : Type 0 where
-  pub together : joined ps ≡ text
+  pub together : concat ps ≡ text
   pub some : (i : ℕ) (p : List ℕ) → slice_get ps i ≡ Some p → 0 < length p
   pub full : (i : ℕ) (p : List ℕ) → slice_get ps i ≡ Some p → i + 1 < length ps → length p ≡ 4096
