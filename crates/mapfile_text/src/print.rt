@@ -21,9 +21,9 @@ pub fn print_map<T: Tiles>(
     let mut printer = MapPrinter::begin();
     let mut piece = ArrayVec::new();
     while printer.next(state, heading, tiles, &mut piece) {
-        if text.extend_from_slice(piece.as_slice()).is_err() {
+        let Ok(()) = text.extend_from_slice(piece.as_slice()) else {
             return Err(NoMemory);
-        }
+        };
     }
     Ok(text)
 }

@@ -58,6 +58,10 @@ impl MapPrinter {
         ensures rest { left_of self.new heading.now state (T.statuses tiles.now)
             ≡ drop 4096 (left_of self.old heading.now state (T.statuses tiles.now)) }
         ensures more { IsTrue result ↔ (0 < length (left_of self.old heading.now state (T.statuses tiles.now))) }
+        ensures pieces { MatchBool result
+            (pieces_of (left_of self.old heading.now state (T.statuses tiles.now))
+                ≡ out.new.items ∷ pieces_of (left_of self.new heading.now state (T.statuses tiles.now)))
+            (pieces_of (left_of self.old heading.now state (T.statuses tiles.now)) ≡ []) }
     {
         out.clear();
         self.place = fill(self.place, state, heading, tiles, out);
