@@ -11,6 +11,8 @@ mod made_lines;
 mod place;
 pub mod print;
 pub mod printer;
+#[cfg(test)]
+mod printer_tests;
 pub mod read;
 #[cfg(test)]
 mod read_tests;
