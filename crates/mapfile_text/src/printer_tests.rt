@@ -31,28 +31,7 @@ fn map_of(rt: &impl Abort, alloc: Global, blocks: u64) -> PlainTiles {
     tiles
 }
 
-fn text_of(rt: &impl Abort, alloc: Global, words: &str, blocks: u64) -> Result<String, AllocError> {
-    assert!(rt; blocks < 1000);
-    let mut text = format!(in alloc;
-        "\
-# Mapfile. Created by ddrescue
-# Command line: {words}
-# Start time:   0
-# Current time: 0
-# current_pos  current_status  current_pass
-0x00000000     +               1
-#      pos        size  status
-"
-    )?;
-    for i in 0..blocks {
-        let pos = i * 512;
-        let symbol = if i % 2 == 0 { '+' } else { '-' };
-        writeln!(text, "0x{pos:08X}  0x00000200  {symbol}")?;
-    }
-    Ok(text)
-}
-
-/// Prints a map piece by piece: the pieces have these lengths, and joined they are the text.
+/// Prints a map piece by piece: the pieces have these lengths, and joined they are what print_map gives.
 fn assert_pieces(
     rt: &(impl Abort + AllocGlobal),
     words: &str,
@@ -71,10 +50,8 @@ fn assert_pieces(
     }
     assert!(rt; !printer.next(STATE, &heading, &tiles, &mut piece));
     assert!(rt; piece.is_empty());
-    let expected = text_of(rt, rt.alloc(), words, blocks)?;
-    assert_eq!(rt; std::str::from_utf8(text.as_slice())?, expected.as_str());
     let whole = print_map(rt.alloc(), &heading, STATE, &tiles)?;
-    assert_eq!(rt; std::str::from_utf8(whole.as_slice())?, expected.as_str());
+    assert!(rt; text.as_slice() == whole.as_slice());
     Ok(())
 }
 
