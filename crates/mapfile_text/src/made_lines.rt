@@ -6,7 +6,7 @@ ghost use Rattle.mapfile_text.specs.Printed.{ended, program_line, hexadecimal, s
 ghost use Rattle.mapfile_text.specs.LeftOf.{start_line, now_line};
 
 use crate::digits::write_digits;
-use crate::heading::Program;
+use crate::heading::{Heading, Program};
 use crate::state::MapState;
 use arrayvec::ArrayVec;
 use block_list::block::Block;
@@ -53,28 +53,28 @@ pub(crate) fn append_program(line: &mut Line, program: Program)
     append(line, b"\n");
 }
 
-pub(crate) fn append_start(line: &mut Line, program: Program, start_s: u64)
+pub(crate) fn append_start(line: &mut Line, heading: &Heading)
     requires { line.old.items ≡ [] }
-    ensures { line.new.items ≡ start_line program start_s }
+    ensures { line.new.items ≡ start_line heading.now.program heading.now.start_s }
 {
-    match program {
+    match heading.program() {
         Program::Ddrescue => {
             append(line, b"# Start time:   ");
-            append_decimal(line, start_s);
+            append_decimal(line, heading.start_s());
             append(line, b"\n");
         }
         Program::Ddrescuelog => {}
     }
 }
 
-pub(crate) fn append_now(line: &mut Line, program: Program, now_s: u64)
+pub(crate) fn append_now(line: &mut Line, heading: &Heading)
     requires { line.old.items ≡ [] }
-    ensures { line.new.items ≡ now_line program now_s }
+    ensures { line.new.items ≡ now_line heading.now.program heading.now.now_s }
 {
-    match program {
+    match heading.program() {
         Program::Ddrescue => {
             append(line, b"# Current time: ");
-            append_decimal(line, now_s);
+            append_decimal(line, heading.now_s());
             append(line, b"\n");
         }
         Program::Ddrescuelog => {}

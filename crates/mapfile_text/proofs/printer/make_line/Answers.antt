@@ -2,7 +2,7 @@
 use Rattle.std.proofs.Common.{◌≡◌, ℕ, List, [], ◌++◌, arith, sym, ap, ◌∙◌}
 use Rattle.block_list.specs.Stretches.{stretches}
 use Rattle.mapfile_text.specs.Printed.{program_line, block_line}
-use Rattle.mapfile_text.specs.LeftOf.{start_line, now_line, number_of, parts}
+use Rattle.mapfile_text.specs.LeftOf.{number_of, parts}
 use Rattle.mapfile_text.proofs.PartFacts.{length_parts, block_part}
 use Rattle.mapfile_text.proofs.printer.make_line.Goals as goal
 
@@ -29,11 +29,11 @@ returns-in-Newline g c = rw c.in-Newline.is (from_empty _ _ _ c.append-in-Newlin
 
 pub returns-in-Start : goal.returns-in-Start
 unfolding parts
-returns-in-Start g c = rw c.in-Start.is (c.append_start.ensures ∙ ap (λ p. start_line p c.start_s.result) c.program-in-Start.ensures ∙ ap (start_line c.args.heading.now.program) c.start_s.ensures)
+returns-in-Start g c = rw c.in-Start.is (c.append_start.ensures)
 
 pub returns-in-Now : goal.returns-in-Now
 unfolding parts
-returns-in-Now g c = rw c.in-Now.is (c.append_now.ensures ∙ ap (λ p. now_line p c.now_s.result) c.program-in-Now.ensures ∙ ap (now_line c.args.heading.now.program) c.now_s.ensures)
+returns-in-Now g c = rw c.in-Now.is (c.append_now.ensures)
 
 pub returns-in-StateColumns : goal.returns-in-StateColumns
 unfolding parts
