@@ -1,12 +1,12 @@
 -- Digits, written from the last one on over zeros.
-use Rattle.std.proofs.Common.{◌≡◌, ℕ, zero, suc, ◌+◌, ◌-◌, ◌*◌, ◌/◌, ◌%◌, ◌^◌, ◌<◌, ◌≤◌, min, Bool, true, false, cond, nat_eq, List, [], ◌∷◌, ◌++◌, replicate, length, take, drop, set, arith, ◌⊎◌, inl, inr, ⊎_elim, refl, sym, ap, ◌∙◌, codes, length-append}
+use Rattle.std.proofs.Common.{◌≡◌, ℕ, zero, suc, ◌+◌, ◌-◌, ◌/◌, ◌%◌, ◌^◌, ◌<◌, ◌≤◌, min, Bool, true, false, cond, nat_eq, List, [], ◌∷◌, ◌++◌, replicate, length, take, drop, set, arith, ◌⊎◌, inl, inr, ⊎_elim, refl, sym, ap, ◌∙◌, length-append}
 use Rattle.std.specs.Fmt.{digits, digits_onto, digit_glyph, decimal}
 use Rattle.std.proofs.lemmas.Bool.Decides.{nat_tests}
 use Rattle.std.proofs.lemmas.Bool.{cases_order}
 use Rattle.std.proofs.Math.Nat.{pow-suc, pow-zero}
 use Rattle.std.proofs.lemmas.List.{length-replicate, take_all, drop-replicate, take-replicate, take-take, take-set-le, drop-set, drop-append-le, take-append-drop, length-drop}
 use Rattle.std.proofs.lemmas.Fmt.{length-decimal-le}
-use Rattle.mapfile_text.specs.Printed.{at_least_eight, hexadecimal}
+use Rattle.mapfile_text.specs.Printed.{at_least_eight}
 
 pub below_or_not : (a b : ℕ) → (a < b) ⊎ (b ≤ a)
 below_or_not a b = ⊎_elim (λ e. inr (omega arith)) (λ o. ⊎_elim (λ l. inl l) (λ g. inr (omega arith)) o) (cases_order a b)

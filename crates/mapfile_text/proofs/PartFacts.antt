@@ -1,11 +1,10 @@
 -- The parts of a mapfile's text, and what is left of it from one on.
-use Rattle.std.proofs.Common.{◌≡◌, ◌⊎◌, ℕ, zero, suc, ◌+◌, ◌-◌, ◌<◌, ◌≤◌, List, [], ◌∷◌, ◌++◌, length, get_or, map, take, drop, Some, arith, refl, sym, ap, ◌∙◌, append_assoc, codes, length-append, ⊎_elim, Bool, false, IsTrue}
+use Rattle.std.proofs.Common.{◌≡◌, ℕ, ◌+◌, ◌-◌, ◌<◌, ◌≤◌, List, [], ◌∷◌, ◌++◌, length, get_or, map, take, drop, Some, arith, refl, sym, ap, ◌∙◌, append_assoc, codes, length-append, ⊎_elim, Bool, false, IsTrue}
 use Rattle.std.specs.Option.{option_map}
 use Rattle.std.specs.List.{concat, flat_map, slice_get}
 use Rattle.std.proofs.lemmas.List.{drop_more, drop_all, get_or-append-add, length-map, length-drop, length-take}
 use Rattle.std.proofs.lemmas.Bool.{false≢true}
 use Rattle.std.proofs.lemmas.Option.{slice_get-map, get_or_from_slice_get}
-use Rattle.std.proofs.lemmas.Grind.{common_steps}
 use Rattle.block_list.specs.declared.status.Status.{Status}
 use Rattle.block_list.specs.declared.block.Block.{Block}
 use Rattle.block_list.specs.Stretches.{stretches}

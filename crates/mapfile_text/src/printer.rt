@@ -10,7 +10,9 @@ ghost use Rattle.mapfile_text.specs.Pieces.{pieces_of};
 ghost use Rattle.mapfile_text.specs.LeftOf.{number_of, parts, left_of};
 
 use crate::heading::{Heading, shown};
-use crate::made_lines::{Line, append, append_block, append_now, append_program, append_start, append_state};
+use crate::made_lines::{
+    Line, append, append_block, append_now, append_program, append_start, append_state,
+};
 use crate::place::{Part, Place};
 use crate::state::MapState;
 use arrayvec::ArrayVec;
@@ -60,7 +62,7 @@ impl MapPrinter {
         ensures more { IsTrue result ↔ (0 < length (left_of self.old heading.now state (T.statuses tiles.now))) }
         ensures pieces { MatchBool result
             (pieces_of (left_of self.old heading.now state (T.statuses tiles.now))
-                ≡ out.new.items ∷ pieces_of (left_of self.new heading.now state (T.statuses tiles.now)))
+            ≡ out.new.items ∷ pieces_of (left_of self.new heading.now state (T.statuses tiles.now)))
             (pieces_of (left_of self.old heading.now state (T.statuses tiles.now)) ≡ []) }
     {
         out.clear();

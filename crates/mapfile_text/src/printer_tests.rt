@@ -24,7 +24,11 @@ fn map_of(rt: &impl Abort, alloc: Global, blocks: u64) -> PlainTiles {
         let block = Block {
             pos: i * 512,
             size: 512,
-            status: if i % 2 == 0 { Status::Finished } else { Status::BadSector },
+            status: if i % 2 == 0 {
+                Status::Finished
+            } else {
+                Status::BadSector
+            },
         };
         assert!(rt; tiles.push(block).is_ok());
     }

@@ -1,4 +1,4 @@
-use Rattle.std.proofs.Common.{◌≡◌, ◌+◌, ◌≤◌, ◌++◌, length, map, take}
+use Rattle.std.proofs.Common.{◌≡◌, ◌+◌, ◌++◌, length, map, take}
 use Rattle.mapfile_text.specs.Printed.{shown_byte}
 use Rattle.mapfile_text.proofs.printer.append_words.Given as goal
 

@@ -1,7 +1,7 @@
 -- The heading's parts are there always, and a block's where there is such a block.
-use Rattle.std.proofs.Common.{◌≡◌, ◌+◌, ◌<◌, length, IsTrue, arith, ap, refl}
+use Rattle.std.proofs.Common.{arith, ap, refl}
 use Rattle.std.proofs.lemmas.Bool.Decides.{nat_tests}
-use Rattle.mapfile_text.specs.LeftOf.{number_of, parts}
+use Rattle.mapfile_text.specs.LeftOf.{number_of}
 use Rattle.mapfile_text.proofs.PartFacts.{length_parts, heading_number}
 use Rattle.mapfile_text.proofs.printer.is_there.Goals as goal
 

@@ -1,7 +1,6 @@
 -- Each part is where it stands among the parts.
 use Rattle.std.proofs.Common.{◌≡◌, ℕ, List, [], ◌++◌, arith, sym, ap, ◌∙◌}
-use Rattle.block_list.specs.Stretches.{stretches}
-use Rattle.mapfile_text.specs.Printed.{program_line, block_line}
+use Rattle.mapfile_text.specs.Printed.{program_line}
 use Rattle.mapfile_text.specs.LeftOf.{number_of, parts}
 use Rattle.mapfile_text.proofs.PartFacts.{length_parts, block_part}
 use Rattle.mapfile_text.proofs.printer.make_line.Goals as goal

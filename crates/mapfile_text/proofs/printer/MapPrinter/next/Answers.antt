@@ -1,6 +1,3 @@
-use Rattle.std.proofs.Common.{◌≡◌, ◌∷◌, [], not, MatchBool, subst}
-use Rattle.mapfile_text.specs.Pieces.{pieces_of}
-use Rattle.mapfile_text.specs.LeftOf.{left_of}
 use Rattle.mapfile_text.proofs.PieceFacts.{piece_given}
 use Rattle.mapfile_text.proofs.printer.MapPrinter.next.Goals as goal
 
