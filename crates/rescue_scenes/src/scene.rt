@@ -99,16 +99,22 @@ impl Scene {
         bytes: &[u8],
         regular: bool,
     ) -> Result<(), Refusal> {
-        let is_new = self.site.file(name).is_none();
-        if is_new && self.files >= FILES_LIMIT {
-            return Err(Refusal::NotUnderstood);
-        }
+        let files = self.files_with(name)?;
         self.count_bytes(bytes.len())?;
         self.place_file(name, bytes, regular)?;
-        if is_new {
-            self.files += 1;
-        }
+        self.files = files;
         Ok(())
+    }
+
+    /// How many files there are with one more, unless they are too many.
+    fn files_with(&self, name: &str) -> Result<usize, Refusal> {
+        if self.site.file(name).is_some() {
+            return Ok(self.files);
+        }
+        if self.files >= FILES_LIMIT {
+            return Err(Refusal::NotUnderstood);
+        }
+        Ok(self.files + 1)
     }
 
     /// Puts a file there that was counted before.

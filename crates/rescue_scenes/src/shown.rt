@@ -53,14 +53,12 @@ impl<'a> Iterator for Pieces<'a> {
 fn count_ramp(bytes: &[u8], place: usize) -> usize
     ensures { result ≤ length bytes.now }
 {
-    let mut count = 0;
-    for byte in bytes {
-        if *byte != ramp(place.saturating_add(count)) {
-            break;
+    for (i, byte) in bytes.iter().enumerate() {
+        if *byte != ramp(place.saturating_add(i)) {
+            return i;
         }
-        count += 1;
     }
-    count
+    bytes.len()
 }
 
 /// How many bytes from the first on are equal to one.
