@@ -1,5 +1,5 @@
 //! Files as bytes and as text.
-ghost use Rattle.std.specs.Prelude.{◌≤◌, ◌<◌, ◌+◌, ◌-◌, length, IfSome};
+ghost use Rattle.std.specs.Prelude.{◌≤◌, length};
 ghost use Rattle.std.specs.Iterator.{at_most};
 
 use crate::refusal::Refusal;
@@ -13,7 +13,7 @@ const RAMP: usize = 8;
 const EQUAL: usize = 4;
 
 /// Bytes that follow each other in a file.
-#[derive(Clone, Copy, Debug, PartialEq, Eq)]
+#[derive(Clone, Copy)]
 enum Piece {
     Ramp(usize),
     Equal(u8, usize),
