@@ -13,8 +13,8 @@ end_of-append low [] r = refl
 end_of-append low (x ∷ xs) r = end_of-append x.to xs r
 
 -- one more range behind the others
-pub pushed : (xs ys : List BadRange) (r : BadRange) (end : ℕ) → ys ≡ xs ++ r ∷ [] → AreApart 0 xs → end_of 0 xs ≡ end
+pub AreApart-push : (xs ys : List BadRange) (r : BadRange) (end : ℕ) → ys ≡ xs ++ r ∷ [] → AreApart 0 xs → end_of 0 xs ≡ end
     → end ≤ r.from → r.from < r.to → AreApart 0 ys × (end_of 0 ys ≡ r.to)
-pushed xs ys r end grown apart last behind some =
+AreApart-push xs ys r end grown apart last behind some =
     let below : end_of 0 xs ≤ r.from = omega arith in
     rw grown (AreApart-append 0 xs r apart below some, end_of-append 0 xs r)

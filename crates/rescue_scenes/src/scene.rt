@@ -231,8 +231,10 @@ impl Scene {
 
     fn view_one(&self, view: View, name: &str, out: &mut Vec<u8>) -> Result<(), Refusal> {
         let file = self.site.file(name);
-        if let (View::Print, Some([_, ..])) = (view, file) {
-            return append_lines(out, file.unwrap_or(&[]));
+        if let (View::Print, Some(text)) = (view, file)
+            && !text.is_empty()
+        {
+            return append_lines(out, text);
         }
         out.extend_from_slice(b"  ")?;
         append_escaped(out, name.as_bytes())?;
