@@ -252,16 +252,22 @@ place_has bs x i b t p q =
     ap (λ l. slice_get (flat_map covered l) x) (sym s) ∙ block_has (take k bs) b (drop (k + 1) bs) x (omega (arith, p.before z)) (omega (arith, r.begins, r.ends, p.reaches, ap (λ n. start_of bs n) e))
 
 -- the last block has the status of the last position
-last_status : (bs : List Block) (status : Status) → IsTiled bs → EndsWith (flat_map covered bs) status → (front : List Block) (last : Block) → bs ≡ front ++ last ∷ [] → 0 < last.size → last.status ≡ status
-last_status bs status t f front last e z =
+last_status : (bs : List Block) (status : Status) → EndsWith (flat_map covered bs) status → (front : List Block) (last : Block)
+    → bs ≡ front ++ last ∷ [] → 0 < last.size → last.status ≡ status
+last_status bs status f front last e z =
     let x : ℕ = length (flat_map covered bs) - 1 in
-    let n : length (flat_map covered bs) ≡ length (flat_map covered front) + last.size = ap (λ r. length (flat_map covered r)) e ∙ ap length (covered-append front (last ∷ [])) ∙ omega (arith, length-append (flat_map covered front) (flat_map covered (last ∷ [])), length_first last []) in
-    let h : slice_get (flat_map covered bs) x ≡ Some last.status = ap (λ r. slice_get (flat_map covered r) x) e ∙ block_has front last [] x (omega (arith, n)) (omega (arith, n)) in
+    let n : length (flat_map covered bs) ≡ length (flat_map covered front) + last.size =
+    ap (λ r. length (flat_map covered r)) e
+    ∙ ap length (covered-append front (last ∷ []))
+    ∙ omega (arith, length-append (flat_map covered front) (flat_map covered (last ∷ [])), length_first last []) in
+    let h : slice_get (flat_map covered bs) x ≡ Some last.status =
+    ap (λ r. slice_get (flat_map covered r) x) e ∙ block_has front last [] x (omega (arith, n)) (omega (arith, n)) in
     let g : slice_get (flat_map covered bs) x ≡ Some status = f.last in
     cc
 
 -- a block that joins the last one leaves room for itself
-pub joined_shorter : (bs : List Block) (low : ℕ) (block wide : Block) → IsTiled bs → IsMerged bs → IsJoinedBefore bs (length bs) block low wide → EndsWith (flat_map covered bs) block.status → low < length bs
+pub joined_shorter : (bs : List Block) (low : ℕ) (block wide : Block) → IsTiled bs → IsMerged bs
+    → IsJoinedBefore bs (length bs) block low wide → EndsWith (flat_map covered bs) block.status → low < length bs
 joined_shorter bs low block wide t m f e = ⊎_elim
     (λ (l : low < length bs). l)
     (λ (l : length bs ≤ low).
@@ -270,7 +276,7 @@ joined_shorter bs low block wide t m f e = ⊎_elim
     let a : Block = get_or bs k no_block in
     let j : k + 1 ≡ length bs = omega arith in
     let all : bs ≡ take k bs ++ a ∷ [] = sym (take_all (k + 1) bs (omega arith)) ∙ take_more bs k no_block (omega arith) in
-    let s : a.status ≡ block.status = last_status bs block.status t e (take k bs) a all (tile_at bs k no_block t (omega arith)).sized in
+    let s : a.status ≡ block.status = last_status bs block.status e (take k bs) a all (tile_at bs k no_block t (omega arith)).sized in
     let w : take low bs ≡ bs = take_all low bs l in
     let full : take (length bs) bs ≡ bs = take_all (length bs) bs (omega arith) in
     let n : IsMerged (bs ++ wide ∷ []) = rw w at (f.merged (rw full m)) in

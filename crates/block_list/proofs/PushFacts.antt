@@ -8,7 +8,8 @@ fault_passed None (Err f) q e A h k l = cc
 fault_passed (Some f) r q e A h k l = cc
 
 -- a fault was found only where there is one
-pub fault_was_there : (o : Option PushError) (r : Result ℕ PushError) (e : PushError) (A : Type 0) → MatchOption o (IsOk r) (λ f. r ≡ Err f) → r ≡ Err e → o ≡ None → A
+pub fault_was_there : (o : Option PushError) (r : Result ℕ PushError) (e : PushError) (A : Type 0)
+    → MatchOption o (IsOk r) (λ f. r ≡ Err f) → r ≡ Err e → o ≡ None → A
 fault_was_there None (Ok n) e A h k n' = cc
 fault_was_there None (Err f) e A h k n' = cc
 fault_was_there (Some f) r e A h k n' = cc

@@ -1,4 +1,4 @@
-ghost use Rattle.std.specs.Prelude.{◌≡◌, ◌+◌, ◌<◌, ◌^◌, ◌++◌, ◌⊎◌, [], length, replicate, OnOk, OnErr, IsOk, IfOk, MatchOption, None};
+ghost use Rattle.std.specs.Prelude.{◌≡◌, ◌+◌, ◌<◌, ◌^◌, ◌++◌, ◌⊎◌, [], length, replicate, None, OnOk, OnErr, IsOk, IfOk, MatchOption};
 ghost use Rattle.block_list.specs.Push.{push_fault, EndsWith};
 
 use crate::block::{Block, Run};

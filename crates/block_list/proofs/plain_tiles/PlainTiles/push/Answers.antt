@@ -20,7 +20,8 @@ returns-in_err-end-clause-answer c =
 
 pub returns-in_err-end-clause-joins : goal.returns-in_err-end-clause-joins
 returns-in_err-end-clause-joins c =
-    rw (← c.self.view_is, ← tiling_end _ c.self.invariant) (λ none room. fault_was_there _ c.end_behind.result _ _ c.end_behind.ensures.answer c.in_err-end.was none)
+    rw (← c.self.view_is, ← tiling_end _ c.self.invariant)
+    (λ none room. fault_was_there _ c.end_behind.result _ _ c.end_behind.ensures.answer c.in_err-end.was none)
 
 pub returns-in_err-map_err-clause-answer : goal.returns-in_err-map_err-clause-answer
 returns-in_err-map_err-clause-answer c =
