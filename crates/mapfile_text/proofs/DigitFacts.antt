@@ -15,11 +15,13 @@ pub digits_onto_nil : (base n : ℕ) → digits_onto 64 base true n [] ≡ digit
 unfolding digits
 digits_onto_nil base n = refl
 
-pub digits_onto_last : (base n : ℕ) (acc : List ℕ) (i : ℕ) → 0 < i → n / base ≡ 0 → digits_onto i base true n acc ≡ digit_glyph true (n % base) ∷ acc
+pub digits_onto_last : (base n : ℕ) (acc : List ℕ) (i : ℕ) → 0 < i → n / base ≡ 0
+    → digits_onto i base true n acc ≡ digit_glyph true (n % base) ∷ acc
 digits_onto_last base n acc zero h e = absurd (omega arith)
 digits_onto_last base n acc (suc k) h e = rw e refl
 
-pub digits_onto_more : (base n : ℕ) (acc : List ℕ) (i : ℕ) → 0 < i → (n / base ≡ 0 → ⊥) → digits_onto i base true n acc ≡ digits_onto (i - 1) base true (n / base) (digit_glyph true (n % base) ∷ acc)
+pub digits_onto_more : (base n : ℕ) (acc : List ℕ) (i : ℕ) → 0 < i → (n / base ≡ 0 → ⊥)
+    → digits_onto i base true n acc ≡ digits_onto (i - 1) base true (n / base) (digit_glyph true (n % base) ∷ acc)
 digits_onto_more base n acc zero h e = absurd (omega arith)
 digits_onto_more base n acc (suc k) h e =
     let f : nat_eq (n / base) 0 ≡ false = grind (arith, nat_tests) in
@@ -37,7 +39,8 @@ front_zeros out i x z =
     take-set-le (i - 1) out (i - 1) x (omega arith) ∙ sym (take-take (i - 1) i out (omega arith))
     ∙ ap (take (i - 1)) z ∙ take-replicate (i - 1) i 48 (omega arith)
 
-padded_few : (out : List ℕ) (begin : ℕ) → length out ≡ 64 → begin ≤ 64 → take begin out ≡ replicate begin 48 → 56 < begin → drop (min begin 56) out ≡ at_least_eight (drop begin out)
+padded_few : (out : List ℕ) (begin : ℕ) → length out ≡ 64 → begin ≤ 64 → take begin out ≡ replicate begin 48 → 56 < begin
+    → drop (min begin 56) out ≡ at_least_eight (drop begin out)
 padded_few out begin l b z h =
     let e : min begin 56 ≡ 56 = omega arith in
     let f : replicate begin 48 ++ drop begin out ≡ out = rw (sym z) (take-append-drop begin out) in
@@ -53,7 +56,8 @@ padded_many out begin l b =
     rw (e, g) refl
 
 -- zeros in front of digits, so that they are at least eight
-pub padded_behind : (out : List ℕ) (begin : ℕ) → length out ≡ 64 → begin ≤ 64 → take begin out ≡ replicate begin 48 → drop (min begin 56) out ≡ at_least_eight (drop begin out)
+pub padded_behind : (out : List ℕ) (begin : ℕ) → length out ≡ 64 → begin ≤ 64 → take begin out ≡ replicate begin 48
+    → drop (min begin 56) out ≡ at_least_eight (drop begin out)
 padded_behind out begin l b z = ⊎_elim (λ h. padded_few out begin l b z h) (λ h. padded_many out begin l h) (below_or_not 56 begin)
 
 -- what a slice from a place on is

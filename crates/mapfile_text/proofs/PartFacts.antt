@@ -20,7 +20,8 @@ use Rattle.mapfile_text.specs.LeftOf.{start_line, now_line, heading_parts, parts
 use Rattle.mapfile_text.proofs.DigitFacts.{below_or_not}
 use Rattle.mapfile_text.proofs.TakenOff.{took_none, took_whole, took_some}
 
-assembled : (a b c d e f g h i l : List ℕ) → a ++ (b ++ (c ++ (d ++ (e ++ (f ++ (g ++ (h ++ (i ++ l)))))))) ≡ a ++ ((b ++ c) ++ d) ++ (e ++ f) ++ (g ++ h) ++ i ++ l
+assembled : (a b c d e f g h i l : List ℕ)
+    → a ++ (b ++ (c ++ (d ++ (e ++ (f ++ (g ++ (h ++ (i ++ l)))))))) ≡ a ++ ((b ++ c) ++ d) ++ (e ++ f) ++ (g ++ h) ++ i ++ l
 assembled a b c d e f g h i l = sym (simp append_assoc)
 
 module _ (h : HeadingLines) (s : MapState) (statuses : List Status) where
@@ -32,7 +33,8 @@ module _ (h : HeadingLines) (s : MapState) (statuses : List Status) where
   unfolding parts
   block_part i b e =
       get_or-append-add (heading_parts h s) (map block_line (stretches statuses)) i []
-      ∙ get_or_from_slice_get (map block_line (stretches statuses)) i (block_line b) [] (slice_get-map block_line (stretches statuses) i ∙ ap (option_map block_line) e)
+      ∙ get_or_from_slice_get (map block_line (stretches statuses)) i (block_line b) []
+      (slice_get-map block_line (stretches statuses) i ∙ ap (option_map block_line) e)
 
   time_lines_are : (p : Program) (m n : ℕ) → start_line p m ++ now_line p n ≡ time_lines p m n
   time_lines_are Ddrescue m n = refl
@@ -45,15 +47,19 @@ module _ (h : HeadingLines) (s : MapState) (statuses : List Status) where
   pub begin_is_printed : left_of (record { part = ProgramLine; went = 0 }) h s statuses ≡ printed h s statuses
   unfolding parts left_of
   begin_is_printed =
-      assembled (program_line h.program) (codes "# Command line: ") (map shown_byte h.line) (10 ∷ []) (start_line h.program h.start_s) (now_line h.program h.now_s)
-      (ended (codes "# current_pos  current_status  current_pass")) (state_line s) (ended (codes "#      pos        size  status")) (concat (map block_line (stretches statuses)))
-      ∙ ap (λ t. program_line h.program ++ command_line h.line ++ t ++ state_text s ++ ended (codes "#      pos        size  status") ++ concat (map block_line (stretches statuses)))
+      assembled (program_line h.program) (codes "# Command line: ") (map shown_byte h.line) (10 ∷ [])
+      (start_line h.program h.start_s) (now_line h.program h.now_s)
+      (ended (codes "# current_pos  current_status  current_pass")) (state_line s)
+      (ended (codes "#      pos        size  status")) (concat (map block_line (stretches statuses)))
+      ∙ ap (λ t. program_line h.program ++ command_line h.line ++ t ++ state_text s
+      ++ ended (codes "#      pos        size  status") ++ concat (map block_line (stretches statuses)))
       (time_lines_are h.program h.start_s h.now_s)
       ∙ ap (λ t. heading_text h ++ state_text s ++ ended (codes "#      pos        size  status") ++ t) (concat_lines (stretches statuses))
 
   -- what is left from a part on begins with what is left of the part
   pub left_at : (place : Place) → number_of place.part < length (parts h s statuses)
-      → left_of place h s statuses ≡ drop place.went (get_or (parts h s statuses) (number_of place.part) [] ++ concat (drop (number_of place.part + 1) (parts h s statuses)))
+      → left_of place h s statuses
+      ≡ drop place.went (get_or (parts h s statuses) (number_of place.part) [] ++ concat (drop (number_of place.part + 1) (parts h s statuses)))
   unfolding left_of
   left_at place there = ap (λ ps. drop place.went (concat ps)) (drop_more (parts h s statuses) (number_of place.part) [] there)
 
@@ -100,7 +106,8 @@ moves_on : (number part went len room : ℕ) (t before after : List ℕ) (place 
     → (len ≤ went → IsPlace place (part + 1) (went - len))
     → (went < len → len ≤ went + room → IsPlace place (part + 1) 0)
     → (went + room < len → IsPlace place part (went + room))
-    → (length after ≤ 4096) × (0 < room → (number - number_of place.part) + (4096 - length after) < (number - part) + (4096 - length before))
+    → (length after ≤ 4096)
+    × (0 < room → (number - number_of place.part) + (4096 - length after) < (number - part) + (4096 - length before))
 moves_on number part went len room t before after place there e room_is is past whole cut =
     let l : length after ≡ length before + length (take room (drop went t)) = ap length is ∙ length-append before (take room (drop went t)) in
     let m = length-take room (drop went t) in
@@ -118,7 +125,8 @@ pub record GoesOn (h : HeadingLines) (s : MapState) (statuses : List Status) (pl
   pub fits : length after ≤ 4096
   pub same : after ++ left_of next h s statuses ≡ before ++ left_of place h s statuses
   pub less : (room ≡ 0 → ⊥)
-      → (length (parts h s statuses) - number_of next.part) + (4096 - length after) < (length (parts h s statuses) - number_of place.part) + (4096 - length before)
+      → (length (parts h s statuses) - number_of next.part) + (4096 - length after)
+      < (length (parts h s statuses) - number_of place.part) + (4096 - length before)
 
 pub goes_on : (h : HeadingLines) (s : MapState) (statuses : List Status) (place next : Place) (before after : List ℕ) (len room : ℕ)
     → number_of place.part < length (parts h s statuses)

@@ -4,7 +4,8 @@ use Rattle.std.proofs.Math.Seq.{drop-append-add}
 use Rattle.std.proofs.lemmas.List.{append-nil, take_all, drop_all, take-append-le, drop-append-le, take-append-drop, drop-drop, length-drop, take_at, drop_at}
 
 -- a part that went already
-pub took_none : (t rest : List ℕ) (went room : ℕ) → length t ≤ went → take room (drop went t) ++ drop (went - length t) rest ≡ drop went (t ++ rest)
+pub took_none : (t rest : List ℕ) (went room : ℕ) → length t ≤ went
+    → take room (drop went t) ++ drop (went - length t) rest ≡ drop went (t ++ rest)
 took_none t rest went room h =
     let e : length t + (went - length t) ≡ went = omega arith in
     let f : drop went (t ++ rest) ≡ drop (went - length t) rest = ap (λ k. drop k (t ++ rest)) (sym e) ∙ drop-append-add t rest (went - length t) in
@@ -12,13 +13,15 @@ took_none t rest went room h =
     rw g (sym f)
 
 -- the whole rest of a part
-pub took_whole : (t rest : List ℕ) (went room : ℕ) → went < length t → length t ≤ went + room → take room (drop went t) ++ rest ≡ drop went (t ++ rest)
+pub took_whole : (t rest : List ℕ) (went room : ℕ) → went < length t → length t ≤ went + room
+    → take room (drop went t) ++ rest ≡ drop went (t ++ rest)
 took_whole t rest went room some fits =
     let e : take room (drop went t) ≡ drop went t = take_all room (drop went t) (omega (arith, length-drop went t)) in
     rw e (sym (drop-append-le went t rest (omega arith)))
 
 -- as much of a part as there is room for
-pub took_some : (t rest : List ℕ) (went room : ℕ) → went + room < length t → take room (drop went t) ++ drop (went + room) (t ++ rest) ≡ drop went (t ++ rest)
+pub took_some : (t rest : List ℕ) (went room : ℕ) → went + room < length t
+    → take room (drop went t) ++ drop (went + room) (t ++ rest) ≡ drop went (t ++ rest)
 took_some t rest went room h =
     let x = drop went (t ++ rest) in
     let e : x ≡ drop went t ++ rest = drop-append-le went t rest (omega arith) in
@@ -40,7 +43,8 @@ rest_is out rest whole n e l (inr f) =
     f ∙ sym (drop_all n out l) ∙ ap (drop n) g
 
 -- a piece that goes from what is left to the end of what was taken
-pub piece_moved : (text text' piece left left' whole : List ℕ) (n : ℕ) → text' ≡ text ++ piece → piece ≡ take n left → left' ≡ drop n left → text ++ left ≡ whole → text' ++ left' ≡ whole
+pub piece_moved : (text text' piece left left' whole : List ℕ) (n : ℕ)
+    → text' ≡ text ++ piece → piece ≡ take n left → left' ≡ drop n left → text ++ left ≡ whole → text' ++ left' ≡ whole
 piece_moved text text' piece left left' whole n e p l w =
     ap (λ t. t ++ left') e ∙ append_assoc text piece left' ∙ ap (λ q. text ++ (q ++ left')) p ∙ ap (λ r. text ++ (take n left ++ r)) l
     ∙ ap (λ r. text ++ r) (take-append-drop n left) ∙ w

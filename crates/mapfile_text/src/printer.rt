@@ -116,9 +116,11 @@ fn append_part<T: Tiles>(
     tiles: &T,
 ) -> usize
     requires { number_of place.part < length (parts heading.now state (T.statuses tiles.now)) }
-    ensures text { let part = slice_index_or (parts heading.now state (T.statuses tiles.now)) (number_of place.part) [] in
+    ensures text { let part =
+        slice_index_or (parts heading.now state (T.statuses tiles.now)) (number_of place.part) [] in
         out.new.items ≡ out.old.items ++ take (4096 - array_vec_len out.old) (drop place.went part) }
-    ensures len { result ≡ length (slice_index_or (parts heading.now state (T.statuses tiles.now)) (number_of place.part) []) }
+    ensures len { result
+        ≡ length (slice_index_or (parts heading.now state (T.statuses tiles.now)) (number_of place.part) []) }
 {
     match place.part {
         Part::Words => {

@@ -4,7 +4,9 @@ use Rattle.mapfile_text.proofs.TakenOff.{piece_is, rest_is}
 use Rattle.mapfile_text.proofs.PartFacts.{GoesOn, goes_on, left_past, not_there}
 use Rattle.mapfile_text.proofs.printer.fill.Goals as goal
 
-went : (g : _) (c : goal.After-behind-place g) → GoesOn c.args.heading.now c.args.state (g.T.Tiles.statuses c.args.tiles.now) c.loop-state.place c.behind-place.result c.loop-state.out.items c.append_part-len.new.out.items c.remaining_capacity-room.result
+went : (g : _) (c : goal.After-behind-place g)
+    → GoesOn c.args.heading.now c.args.state (g.T.Tiles.statuses c.args.tiles.now) c.loop-state.place c.behind-place.result
+    c.loop-state.out.items c.append_part-len.new.out.items c.remaining_capacity-room.result
 went g c =
     goes_on c.args.heading.now c.args.state (g.T.Tiles.statuses c.args.tiles.now) c.loop-state.place c.behind-place.result
     c.loop-state.out.items c.append_part-len.new.out.items c.append_part-len.result c.remaining_capacity-room.result

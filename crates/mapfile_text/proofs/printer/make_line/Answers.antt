@@ -49,4 +49,5 @@ returns-in-Columns g c = rw c.in-Columns.is (from_empty _ _ _ c.append-in-Column
 pub returns-in-Block : goal.returns-in-Block
 returns-in-Block g c =
     rw c.in-Block.is
-    (c.append_block.ensures ∙ sym (block_part c.args.heading.now c.args.state (g.T.Tiles.statuses c.args.tiles.now) c.in-Block.i c.block.result c.block.ensures))
+    (c.append_block.ensures
+    ∙ sym (block_part c.args.heading.now c.args.state (g.T.Tiles.statuses c.args.tiles.now) c.in-Block.i c.block.result c.block.ensures))
