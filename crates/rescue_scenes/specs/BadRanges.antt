@@ -1,0 +1,7 @@
+use Rattle.std.specs.Prelude.{ℕ, List, [], ◌∷◌}
+use Rattle.faulty_source.specs.declared.memory.BadRange.{BadRange}
+
+-- where the last range ends, or a place in front of all
+abbrev pub end_of : ℕ → List BadRange → ℕ
+end_of low [] = low
+end_of low (r ∷ rs) = end_of r.to rs

@@ -1,0 +1,40 @@
+//! Files as mapfiles.
+use crate::refusal::Refusal;
+use block_list::tiles::Tiles;
+use mapfile_text::read::{MapError, Mode, ReadMap, read_map};
+use std::alloc::Global;
+use std::io::Write;
+
+/// Adds what a file says as a mapfile.
+pub(crate) fn append_blocks(
+    alloc: Global,
+    out: &mut Vec<u8>,
+    file: Option<&[u8]>,
+) -> Result<(), Refusal> {
+    let Some(text) = file else {
+        out.extend_from_slice(b"absent")?;
+        return Ok(());
+    };
+    match read_map(alloc, text, Mode::Tight) {
+        Ok(map) => append_map(out, &map),
+        Err(MapError::NoMemory) => Err(Refusal::NoMemory),
+        Err(error) => {
+            write!(out, "refused, {error:?}")?;
+            Ok(())
+        }
+    }
+}
+
+fn append_map(out: &mut Vec<u8>, map: &ReadMap) -> Result<(), Refusal> {
+    let pos = map.state.pos;
+    let current = char::from(map.state.current.symbol());
+    let pass = map.state.pass;
+    write!(out, "0x{pos:X} {current} {pass}:")?;
+    for i in 0..map.tiles.blocks() {
+        let block = map.tiles.block(i);
+        let status = char::from(block.status.symbol());
+        let size = block.size;
+        write!(out, " {status}0x{size:X}")?;
+    }
+    Ok(())
+}

@@ -1,0 +1,215 @@
+//! The commands of a transcript.
+ghost use Rattle.std.specs.Prelude.{◌≤◌, ◌<◌, length, IfOk};
+
+use crate::fields::{Field, Fields};
+use crate::refusal::Refusal;
+use crate::values::{read_bytes, read_number, read_text};
+use crash_site::stop::LeftKind;
+use ddrescue_cli::words::Words;
+use faulty_source::memory::BadRange;
+use std::alloc::Global;
+
+/// What a stop may leave, with its name.
+pub(crate) const KINDS: [(&str, LeftKind); 3] = [
+    ("oldest", LeftKind::Oldest),
+    ("newest", LeftKind::Newest),
+    ("garbage", LeftKind::Garbage),
+];
+
+/// An object whose calls may fail.
+#[derive(Clone, Copy, Debug, PartialEq, Eq)]
+pub(crate) enum Object {
+    Source,
+    Site,
+}
+
+/// What is asked of files.
+#[derive(Clone, Copy, Debug, PartialEq, Eq)]
+pub(crate) enum View {
+    /// Their bytes.
+    Show,
+    /// Their text.
+    Print,
+    /// What they say as mapfiles.
+    Blocks,
+}
+
+/// A rescue that is stopped after each of the calls made, and the files to be shown.
+#[derive(Drop)]
+pub(crate) struct Stops {
+    pub(crate) output: String,
+    pub(crate) map: String,
+    pub(crate) words: Words,
+}
+
+/// A line that asks for something.
+#[derive(Drop)]
+pub(crate) enum Command {
+    /// Begins anew.
+    Scene,
+    /// The input's bytes.
+    Source(Vec<u8>),
+    /// One more bad range of the input.
+    Bad(BadRange),
+    /// How many reads the journal holds.
+    Room(usize),
+    /// A file, and whether it is regular.
+    File(String, Vec<u8>, bool),
+    /// A regular file, whose lines follow.
+    Text(String),
+    /// The numbers of calls that fail.
+    Fail(Object, Vec<u64>),
+    /// A rescue.
+    Run(Words),
+    /// So many calls of the site were made, and then a stop came.
+    Stop(usize, LeftKind),
+    Stops(Stops),
+    /// Files to be looked at.
+    View(View, Vec<String>),
+}
+
+/// Reads a line. A command begins it, without a space before.
+pub(crate) fn read_command(alloc: Global, line: &[u8]) -> Result<Command, Refusal> {
+    if line.starts_with(b" ") {
+        return Err(Refusal::NotUnderstood);
+    }
+    let mut fields = Fields::new(alloc, line);
+    let word = take_text(&mut fields)?;
+    match word.as_str() {
+        "scene" => read_scene(fields),
+        "source" => Ok(Command::Source(read_bytes(fields)?)),
+        "bad" => read_bad(fields),
+        "room" => read_room(fields),
+        "file" => read_file(fields, true),
+        "other" => read_file(fields, false),
+        "text" => read_text_file(fields),
+        "fail" => read_fail(fields),
+        "run" => Ok(Command::Run(take_words(fields)?)),
+        "stop" => read_stop(fields),
+        "stops" => read_stops(fields),
+        "show" => read_view(View::Show, fields),
+        "print" => read_view(View::Print, fields),
+        "blocks" => read_view(View::Blocks, fields),
+        _ => Err(Refusal::NotUnderstood),
+    }
+}
+
+fn take_field(fields: &mut Fields<'_>) -> Result<Field, Refusal> {
+    match fields.next() {
+        Some(field) => field,
+        None => Err(Refusal::NotUnderstood),
+    }
+}
+
+fn take_text(fields: &mut Fields<'_>) -> Result<String, Refusal> {
+    read_text(&take_field(fields)?)
+}
+
+fn take_number(fields: &mut Fields<'_>) -> Result<u64, Refusal> {
+    read_number(&take_field(fields)?.bytes)
+}
+
+/// Nothing is left of the line.
+fn take_end(mut fields: Fields<'_>) -> Result<(), Refusal> {
+    match fields.next() {
+        Some(_) => Err(Refusal::NotUnderstood),
+        None => Ok(()),
+    }
+}
+
+/// All fields that are left, as texts.
+fn take_texts(fields: Fields<'_>) -> Result<Vec<String>, Refusal> {
+    let mut texts = Vec::new(fields.allocator());
+    for field in fields {
+        texts.push(read_text(&field?)?)?;
+    }
+    Ok(texts)
+}
+
+/// All fields that are left, as the words of a command line.
+fn take_words(fields: Fields<'_>) -> Result<Words, Refusal> {
+    let mut words = Words::new(fields.allocator());
+    for field in fields {
+        let word = read_text(&field?)?;
+        words.push(word.as_str())?;
+    }
+    Ok(words)
+}
+
+fn read_scene(fields: Fields<'_>) -> Result<Command, Refusal> {
+    take_texts(fields)?;
+    Ok(Command::Scene)
+}
+
+fn read_bad(mut fields: Fields<'_>) -> Result<Command, Refusal> {
+    let from = take_number(&mut fields)?;
+    let to = take_number(&mut fields)?;
+    let attempts = match fields.next() {
+        None => None,
+        Some(field) => Some(read_attempts(&field?)?),
+    };
+    take_end(fields)?;
+    Ok(Command::Bad(BadRange { from, to, attempts }))
+}
+
+fn read_attempts(field: &Field) -> Result<u32, Refusal> {
+    u32::try_from(read_number(&field.bytes)?).map_err(|_| Refusal::NotUnderstood)
+}
+
+fn read_room(mut fields: Fields<'_>) -> Result<Command, Refusal> {
+    let room = take_number(&mut fields)?;
+    take_end(fields)?;
+    Ok(Command::Room(room as usize))
+}
+
+fn read_file(mut fields: Fields<'_>, regular: bool) -> Result<Command, Refusal> {
+    let name = take_text(&mut fields)?;
+    Ok(Command::File(name, read_bytes(fields)?, regular))
+}
+
+fn read_text_file(mut fields: Fields<'_>) -> Result<Command, Refusal> {
+    let name = take_text(&mut fields)?;
+    take_end(fields)?;
+    Ok(Command::Text(name))
+}
+
+fn read_fail(mut fields: Fields<'_>) -> Result<Command, Refusal> {
+    let object = match take_text(&mut fields)?.as_str() {
+        "source" => Object::Source,
+        "site" => Object::Site,
+        _ => return Err(Refusal::NotUnderstood),
+    };
+    let mut numbers = Vec::new(fields.allocator());
+    for field in fields {
+        numbers.push(read_number(&field?.bytes)?)?;
+    }
+    Ok(Command::Fail(object, numbers))
+}
+
+fn read_stop(mut fields: Fields<'_>) -> Result<Command, Refusal> {
+    let calls = take_number(&mut fields)?;
+    let kind = read_kind(take_text(&mut fields)?.as_str())?;
+    take_end(fields)?;
+    Ok(Command::Stop(calls as usize, kind))
+}
+
+fn read_kind(word: &str) -> Result<LeftKind, Refusal> {
+    for (name, kind) in KINDS {
+        if word == name {
+            return Ok(kind);
+        }
+    }
+    Err(Refusal::NotUnderstood)
+}
+
+fn read_stops(mut fields: Fields<'_>) -> Result<Command, Refusal> {
+    Ok(Command::Stops(Stops {
+        output: take_text(&mut fields)?,
+        map: take_text(&mut fields)?,
+        words: take_words(fields)?,
+    }))
+}
+
+fn read_view(view: View, fields: Fields<'_>) -> Result<Command, Refusal> {
+    Ok(Command::View(view, take_texts(fields)?))
+}

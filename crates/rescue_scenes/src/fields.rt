@@ -1,0 +1,171 @@
+//! The fields of a line.
+ghost use Rattle.std.specs.Prelude.{◌≤◌, ◌<◌, length, IfOk, IfSome};
+ghost use Rattle.std.specs.Iterator.{at_most};
+
+use crate::refusal::Refusal;
+use crate::values::byte_of_digits;
+use std::alloc::Global;
+
+/// A field, without its quotes and with its escapes read.
+#[derive(Drop)]
+pub(crate) struct Field {
+    pub(crate) bytes: Vec<u8>,
+    pub(crate) is_quoted: bool,
+}
+
+/// What is left of a line: its fields, one after another. Behind a field that can't be read nothing is left.
+#[derive(Drop)]
+pub(crate) struct Fields<'a> {
+    alloc: Global,
+    rest: &'a [u8],
+}
+
+impl<'a> Fields<'a> {
+    pub(crate) fn new(alloc: Global, line: &'a [u8]) -> Fields<'a> {
+        Fields { alloc, rest: line }
+    }
+
+    pub(crate) fn allocator(&self) -> Global {
+        self.alloc
+    }
+}
+
+impl<'a> Iterator for Fields<'a> {
+    type Item = Result<Field, Refusal>;
+
+    ghost remaining = { λ s. at_most (length s.rest.now) };
+
+    fn next(&mut self) -> Option<Result<Field, Refusal>> {
+        let line = without_spaces(self.rest);
+        let (first, behind) = line.split_first()?;
+        let read = if *first == b'"' {
+            read_quoted(self.alloc, behind)
+        } else {
+            read_bare(self.alloc, *first, behind)
+        };
+        match read {
+            Ok((field, read)) => {
+                self.rest = &behind[read..];
+                Some(Ok(field))
+            }
+            Err(refusal) => {
+                self.rest = &[];
+                Some(Err(refusal))
+            }
+        }
+    }
+}
+
+/// The line from its first byte on that is no space.
+fn without_spaces(line: &[u8]) -> &[u8]
+    ensures { length result.now ≤ length line.now }
+{
+    let start = line
+        .iter()
+        .position(|byte| *byte != b' ')
+        .unwrap_or(line.len());
+    &line[start..]
+}
+
+/// Reads a field without quotes from its second byte on. Answers how many bytes were read.
+fn read_bare(alloc: Global, first: u8, behind: &[u8]) -> Result<(Field, usize), Refusal>
+    ensures { IfOk result (λ read. read.1 ≤ length behind.now) }
+{
+    let end = behind
+        .iter()
+        .position(|byte| *byte == b' ')
+        .unwrap_or(behind.len());
+    let mut bytes = Vec::new(alloc);
+    bytes.push(first)?;
+    bytes.extend_from_slice(&behind[..end])?;
+    let field = Field {
+        bytes,
+        is_quoted: false,
+    };
+    Ok((field, end))
+}
+
+/// Reads a field from behind its first quote. Answers how many bytes were read.
+fn read_quoted(alloc: Global, behind: &[u8]) -> Result<(Field, usize), Refusal>
+    ensures { IfOk result (λ read. read.1 ≤ length behind.now) }
+{
+    let mut text = Quoted {
+        bytes: Vec::new(alloc),
+        place: Place::Text,
+    };
+    for (i, byte) in behind.iter().enumerate() {
+        if text.take(*byte)? {
+            return close(text.bytes, behind, i);
+        }
+    }
+    Err(Refusal::NotUnderstood)
+}
+
+/// The field that ends at a quote. A space or the line's end follows.
+fn close(bytes: Vec<u8>, behind: &[u8], quote: usize) -> Result<(Field, usize), Refusal>
+    requires { quote < length behind.now }
+    ensures { IfOk result (λ read. read.1 ≤ length behind.now) }
+{
+    let end = quote + 1;
+    if end < behind.len() && behind[end] != b' ' {
+        return Err(Refusal::NotUnderstood);
+    }
+    let field = Field {
+        bytes,
+        is_quoted: true,
+    };
+    Ok((field, end))
+}
+
+/// What the next byte of a quoted field belongs to.
+#[derive(Clone, Copy, Debug, PartialEq, Eq)]
+enum Place {
+    Text,
+    /// A backslash stands before it.
+    Escape,
+    /// `\x` stands before it.
+    FirstDigit,
+    /// `\x` and this digit stand before it.
+    SecondDigit(u8),
+}
+
+/// A quoted field, as far as it was read.
+#[derive(Drop)]
+struct Quoted {
+    bytes: Vec<u8>,
+    place: Place,
+}
+
+impl Quoted {
+    /// Takes the next byte. Answers whether it is the quote that ends the field.
+    fn take(&mut self, byte: u8) -> Result<bool, Refusal> {
+        match self.place {
+            Place::Text if byte == b'"' => return Ok(true),
+            Place::Text if byte == b'\\' => self.place = Place::Escape,
+            Place::Text => self.bytes.push(byte)?,
+            Place::Escape if byte == b'x' => self.place = Place::FirstDigit,
+            Place::Escape => self.put(escaped(byte)?)?,
+            Place::FirstDigit => self.place = Place::SecondDigit(byte),
+            Place::SecondDigit(first) => self.put(byte_of_digits(first, byte)?)?,
+        }
+        Ok(false)
+    }
+
+    /// Adds the byte for which an escape stands.
+    fn put(&mut self, byte: u8) -> Result<(), Refusal> {
+        self.bytes.push(byte)?;
+        self.place = Place::Text;
+        Ok(())
+    }
+}
+
+/// The byte for which a backslash and this letter stand.
+fn escaped(letter: u8) -> Result<u8, Refusal> {
+    match letter {
+        b'n' => Ok(b'\n'),
+        b't' => Ok(b'\t'),
+        b'r' => Ok(b'\r'),
+        b'\\' | b'"' => Ok(letter),
+        _ => Err(Refusal::NotUnderstood),
+    }
+}

@@ -1,0 +1,76 @@
+//! What came of a rescue.
+ghost use Rattle.std.specs.Prelude.{◌≤◌, ◌<◌, length};
+
+use crate::refusal::Refusal;
+use crash_site::memory::MemorySite;
+use crash_site::site::SiteCall;
+use ddrescue_cli::ending::Ending;
+use faulty_source::memory::ReadEntry;
+use std::io::Write;
+
+/// Adds a line of reads, if there are any.
+pub(crate) fn append_reads(out: &mut Vec<u8>, reads: &[ReadEntry]) -> Result<(), Refusal> {
+    if reads.is_empty() {
+        return Ok(());
+    }
+    let count = reads.len();
+    write!(out, "  reads {count}:")?;
+    for read in reads {
+        let ReadEntry { pos, asked, given } = *read;
+        write!(out, " ({pos},{asked})->{given}")?;
+    }
+    out.push(b'\n')?;
+    Ok(())
+}
+
+/// Adds a line of the calls from a number on, if there are any.
+pub(crate) fn append_calls(
+    out: &mut Vec<u8>,
+    site: &MemorySite,
+    before: usize,
+) -> Result<(), Refusal> {
+    let made = site.made();
+    if made <= before {
+        return Ok(());
+    }
+    let count = made - before;
+    write!(out, "  calls {count}:")?;
+    let mut last: Option<(SiteCall, usize)> = None;
+    for i in before..made {
+        last = Some(append_call(out, last, site.call(i))?);
+    }
+    if let Some((_, times)) = last {
+        append_times(out, times)?;
+    }
+    out.push(b'\n')?;
+    Ok(())
+}
+
+/// Adds a call, unless it is equal to the last one. Answers the call, and how many equal ones stand there by now.
+fn append_call(
+    out: &mut Vec<u8>,
+    last: Option<(SiteCall, usize)>,
+    call: SiteCall,
+) -> Result<(SiteCall, usize), Refusal> {
+    match last {
+        Some((name, times)) if name == call => return Ok((call, times.saturating_add(1))),
+        Some((_, times)) => append_times(out, times)?,
+        None => {}
+    }
+    write!(out, " {call:?}")?;
+    Ok((call, 1))
+}
+
+fn append_times(out: &mut Vec<u8>, times: usize) -> Result<(), Refusal> {
+    if times > 1 {
+        write!(out, "*{times}")?;
+    }
+    Ok(())
+}
+
+/// Adds the line of an answer.
+pub(crate) fn append_ending(out: &mut Vec<u8>, ending: Ending) -> Result<(), Refusal> {
+    let status = ending.code();
+    writeln!(out, "  ends {ending:?}, status {status}")?;
+    Ok(())
+}

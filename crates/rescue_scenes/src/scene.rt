@@ -1,0 +1,222 @@
+//! A scene: an input, files, and the rescues that go over them.
+ghost use Rattle.std.specs.Prelude.{◌≡◌, ◌≤◌, ◌<◌, length, false, IfOk};
+
+use crate::blocks::append_blocks;
+use crate::command::{KINDS, Object, Stops, View};
+use crate::refusal::Refusal;
+use crate::results::{append_calls, append_ending, append_reads};
+use crate::shown::{append_escaped, append_lines, append_shown};
+use crate::stated::Stated;
+use crate::values::BYTES_LIMIT;
+use crash_site::memory::MemorySite;
+use crash_site::stop::LeftKind;
+use ddrescue_cli::rescue::ddrescue;
+use ddrescue_cli::words::Words;
+use faulty_source::memory::{BadRange, MemorySource};
+use std::alloc::Global;
+use std::io::Write;
+
+/// The most files that a scene puts there.
+const FILES_LIMIT: usize = 256;
+
+/// The input and the files of a scene, and what it has said of them.
+#[derive(Drop)]
+pub(crate) struct Scene {
+    alloc: Global,
+    stated: Stated,
+    /// The source of the runs so far. A new one is made for the next run where there is none.
+    source: Option<MemorySource>,
+    site: MemorySite,
+    /// How many bytes it has stated.
+    bytes: usize,
+    /// How many files it has put under new names.
+    files: usize,
+}
+
+impl Scene {
+    /// An empty source, and no file.
+    pub(crate) fn new(alloc: Global) -> Scene {
+        Scene {
+            alloc,
+            stated: Stated::new(alloc),
+            source: None,
+            site: MemorySite::new(alloc),
+            bytes: 0,
+            files: 0,
+        }
+    }
+
+    /// Counts stated bytes, unless they are too many.
+    pub(crate) fn count_bytes(&mut self, count: usize) -> Result<(), Refusal> {
+        let bytes = self.bytes.saturating_add(count);
+        if bytes > BYTES_LIMIT {
+            return Err(Refusal::NotUnderstood);
+        }
+        self.bytes = bytes;
+        Ok(())
+    }
+
+    pub(crate) fn set_source(&mut self, bytes: Vec<u8>) -> Result<(), Refusal> {
+        self.count_bytes(bytes.len())?;
+        self.stated.set_bytes(bytes);
+        self.source = None;
+        Ok(())
+    }
+
+    pub(crate) fn add_bad(&mut self, range: BadRange) -> Result<(), Refusal> {
+        self.stated.add_bad(range)?;
+        self.source = None;
+        Ok(())
+    }
+
+    pub(crate) fn set_room(&mut self, room: usize) -> Result<(), Refusal> {
+        self.stated.set_room(room)?;
+        self.source = None;
+        Ok(())
+    }
+
+    pub(crate) fn fail_calls(&mut self, object: Object, numbers: &[u64]) -> Result<(), Refusal> {
+        match object {
+            Object::Source => {
+                self.stated.fail_calls(numbers)?;
+                self.source = None;
+                Ok(())
+            }
+            Object::Site => self.fail_site_calls(numbers),
+        }
+    }
+
+    fn fail_site_calls(&mut self, numbers: &[u64]) -> Result<(), Refusal> {
+        for number in numbers {
+            self.site.fail_call(*number)?;
+        }
+        Ok(())
+    }
+
+    pub(crate) fn put_file(
+        &mut self,
+        name: &str,
+        bytes: &[u8],
+        regular: bool,
+    ) -> Result<(), Refusal> {
+        let is_new = self.site.file(name).is_none();
+        if is_new && self.files >= FILES_LIMIT {
+            return Err(Refusal::NotUnderstood);
+        }
+        self.count_bytes(bytes.len())?;
+        self.place_file(name, bytes, regular)?;
+        if is_new {
+            self.files += 1;
+        }
+        Ok(())
+    }
+
+    /// Puts a file there that was counted before.
+    pub(crate) fn place_file(
+        &mut self,
+        name: &str,
+        bytes: &[u8],
+        regular: bool,
+    ) -> Result<(), Refusal> {
+        self.site.put_file(name, bytes, regular)?;
+        Ok(())
+    }
+
+    /// Runs a rescue, and adds its results.
+    pub(crate) fn run(&mut self, words: &Words, out: &mut Vec<u8>) -> Result<(), Refusal> {
+        if self.site.is_drafting() {
+            return Err(Refusal::NotUnderstood);
+        }
+        let mut source = match self.source.take() {
+            Some(source) => source,
+            None => self.stated.make_source(self.alloc)?,
+        };
+        let read = source.journal().len();
+        let made = self.site.made();
+        let ending = ddrescue(self.alloc, words, &mut source, &mut self.site);
+        append_reads(out, source.journal().get(read..).unwrap_or(&[]))?;
+        append_calls(out, &self.site, made)?;
+        append_ending(out, ending)?;
+        self.source = Some(source);
+        Ok(())
+    }
+
+    /// Puts the site there that a stop leaves.
+    pub(crate) fn stop(&mut self, calls: usize, kind: LeftKind) -> Result<(), Refusal> {
+        if calls > self.site.made() {
+            return Err(Refusal::NotUnderstood);
+        }
+        self.site = self.site.stopped_at(self.alloc, calls, kind)?;
+        Ok(())
+    }
+
+    /// Adds what each stop leaves, and what a rescue makes of it.
+    pub(crate) fn stops(&self, stops: &Stops, out: &mut Vec<u8>) -> Result<(), Refusal> {
+        for calls in 0..=self.site.made() {
+            self.stops_at(stops, calls, out)?;
+        }
+        Ok(())
+    }
+
+    fn stops_at(&self, stops: &Stops, calls: usize, out: &mut Vec<u8>) -> Result<(), Refusal> {
+        for (name, kind) in KINDS {
+            write!(out, "  {calls} {name}: ")?;
+            self.go_on(stops, calls, kind, out)?;
+        }
+        Ok(())
+    }
+
+    /// Goes on with a rescue after a stop, and adds the rest of its line.
+    fn go_on(
+        &self,
+        stops: &Stops,
+        calls: usize,
+        kind: LeftKind,
+        out: &mut Vec<u8>,
+    ) -> Result<(), Refusal> {
+        if calls > self.site.made() {
+            return Err(Refusal::NotUnderstood);
+        }
+        let mut site = self.site.stopped_at(self.alloc, calls, kind)?;
+        let mut source = self.stated.make_source(self.alloc)?;
+        write!(out, "left ")?;
+        append_blocks(self.alloc, out, site.file(stops.map.as_str()))?;
+        let ending = ddrescue(self.alloc, &stops.words, &mut source, &mut site);
+        let reads = source.journal().len();
+        write!(out, "; ends {ending:?}; {reads} reads; map ")?;
+        append_blocks(self.alloc, out, site.file(stops.map.as_str()))?;
+        write!(out, "; out ")?;
+        append_shown(out, site.file(stops.output.as_str()))?;
+        out.push(b'\n')?;
+        Ok(())
+    }
+
+    /// Adds what files hold.
+    pub(crate) fn view(
+        &self,
+        view: View,
+        names: &[String],
+        out: &mut Vec<u8>,
+    ) -> Result<(), Refusal> {
+        for name in names {
+            self.view_one(view, name.as_str(), out)?;
+        }
+        Ok(())
+    }
+
+    fn view_one(&self, view: View, name: &str, out: &mut Vec<u8>) -> Result<(), Refusal> {
+        let file = self.site.file(name);
+        if let (View::Print, Some([_, ..])) = (view, file) {
+            return append_lines(out, file.unwrap_or(&[]));
+        }
+        out.extend_from_slice(b"  ")?;
+        append_escaped(out, name.as_bytes())?;
+        out.extend_from_slice(b": ")?;
+        match view {
+            View::Show | View::Print => append_shown(out, file)?,
+            View::Blocks => append_blocks(self.alloc, out, file)?,
+        }
+        out.push(b'\n')?;
+        Ok(())
+    }
+}

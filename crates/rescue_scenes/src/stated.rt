@@ -1,0 +1,121 @@
+//! What a scene has said of its input.
+ghost use Rattle.std.specs.Prelude.{◌≡◌, [], ◌∷◌, ◌++◌, IfOk, OnOk, OnErr};
+
+use crate::refusal::Refusal;
+use faulty_source::memory::{BadRange, MemorySource};
+use std::alloc::Global;
+use std::marker::Model;
+
+/// How many reads the journal holds if it isn't said.
+const ROOM: usize = 1_000_000;
+
+/// The most reads that a journal holds.
+const ROOM_LIMIT: usize = 1 << 24;
+
+/// Bad ranges, none of them empty, each behind those before it.
+#[derive(Drop)]
+pub(crate) struct BadRanges {
+    ranges: Vec<BadRange>,
+    /// Where the last one ends, or 0.
+    end: u64,
+}
+
+impl Model for BadRanges {
+    ghost use Rattle.std.specs.Prelude.{List, ◌×◌, ◌≡◌};
+    ghost use Rattle.faulty_source.specs.declared.memory.BadRange.{BadRange};
+    ghost use Rattle.faulty_source.specs.Memory.{AreApart};
+    ghost use Rattle.rescue_scenes.specs.BadRanges.{end_of};
+
+    ghost Value = { List BadRange };
+
+    ghost view = { λ b. b.ranges.items };
+
+    ghost invariant = { λ b. AreApart 0 b.ranges.items × (end_of 0 b.ranges.items ≡ b.end) };
+}
+
+impl BadRanges {
+    ghost use Rattle.faulty_source.specs.Memory.{AreApart};
+
+    fn new(alloc: Global) -> BadRanges
+        ensures { result ≡ [] }
+    {
+        BadRanges {
+            ranges: Vec::new(alloc),
+            end: 0,
+        }
+    }
+
+    /// Adds a range, if it isn't empty and stands behind the others.
+    fn push(&mut self, range: BadRange) -> Result<(), Refusal>
+        ensures ok { OnOk result (self.new ≡ self.old ++ range ∷ []) }
+        ensures err { OnErr result (self.new ≡ self.old) }
+    {
+        if range.from < self.end || range.to <= range.from {
+            return Err(Refusal::NotUnderstood);
+        }
+        self.ranges.push(range)?;
+        self.end = range.to;
+        Ok(())
+    }
+
+    /// The ranges, once more.
+    fn copy(&self, alloc: Global) -> Result<Vec<BadRange>, Refusal>
+        ensures same { IfOk result (λ ranges. ranges.items ≡ self.now) }
+        ensures apart { IfOk result (λ ranges. AreApart 0 ranges.items) }
+    {
+        Ok(Vec::from_slice(alloc, self.ranges.as_slice())?)
+    }
+}
+
+/// The input's bytes, where they are bad, the journal's room, and the numbers of the calls that fail.
+#[derive(Drop)]
+pub(crate) struct Stated {
+    bytes: Vec<u8>,
+    bad: BadRanges,
+    room: usize,
+    failing: Vec<u64>,
+}
+
+impl Stated {
+    /// An empty input.
+    pub(crate) fn new(alloc: Global) -> Stated {
+        Stated {
+            bytes: Vec::new(alloc),
+            bad: BadRanges::new(alloc),
+            room: ROOM,
+            failing: Vec::new(alloc),
+        }
+    }
+
+    pub(crate) fn set_bytes(&mut self, bytes: Vec<u8>) {
+        self.bytes = bytes;
+    }
+
+    pub(crate) fn add_bad(&mut self, range: BadRange) -> Result<(), Refusal> {
+        self.bad.push(range)
+    }
+
+    pub(crate) fn set_room(&mut self, room: usize) -> Result<(), Refusal> {
+        if room > ROOM_LIMIT {
+            return Err(Refusal::NotUnderstood);
+        }
+        self.room = room;
+        Ok(())
+    }
+
+    pub(crate) fn fail_calls(&mut self, numbers: &[u64]) -> Result<(), Refusal> {
+        self.failing.extend_from_slice(numbers)?;
+        Ok(())
+    }
+
+    /// A new source of all this.
+    pub(crate) fn make_source(&self, alloc: Global) -> Result<MemorySource, Refusal> {
+        let bytes = Vec::from_slice(alloc, self.bytes.as_slice())?;
+        let bad = self.bad.copy(alloc)?;
+        let mut source = MemorySource::new(alloc, bytes, bad, self.room)?;
+        for number in &self.failing {
+            source.fail_call(*number)?;
+        }
+        Ok(source)
+    }
+}
