@@ -4,7 +4,7 @@ SOURCES := crates.txt $(shell find crates -path '*/out' -prune -o -type f -print
 
 .PHONY: all check install clean
 
-all: bin/ddrescue
+all: bin/ddrescue bin/rescue_scenes
 
 # Proves and builds the program, and tries it on an empty input.
 bin/ddrescue: $(SOURCES)
@@ -12,10 +12,16 @@ bin/ddrescue: $(SOURCES)
 	mkdir -p bin
 	cp crates/ddrescue/out/ddrescue bin/ddrescue
 
+# Proves and builds the player of transcripts, and tries it on an empty one.
+bin/rescue_scenes: $(SOURCES)
+	cd crates/rescue_scenes && rt run </dev/null
+	mkdir -p bin
+	cp crates/rescue_scenes/out/rescue_scenes bin/rescue_scenes
+
 check:
 	bash .ci/run
 
-install: bin/ddrescue
+install: bin/ddrescue bin/rescue_scenes
 	install -D bin/ddrescue $(DESTDIR)$(PREFIX)/bin/ddrescue
 
 clean:

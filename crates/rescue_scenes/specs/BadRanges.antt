@@ -1,3 +1,4 @@
+-- Bad ranges in their order.
 use Rattle.std.specs.Prelude.{ℕ, List, [], ◌∷◌}
 use Rattle.faulty_source.specs.declared.memory.BadRange.{BadRange}
 

@@ -1,30 +1,21 @@
 //! The commands of a transcript.
-ghost use Rattle.std.specs.Prelude.{◌≤◌, ◌<◌, length, IfOk};
-
 use crate::fields::{Field, Fields};
+use crate::kinds::{Left, read_kind};
 use crate::refusal::Refusal;
 use crate::values::{read_bytes, read_number, read_text};
-use crash_site::stop::LeftKind;
 use ddrescue_cli::words::Words;
 use faulty_source::memory::BadRange;
 use std::alloc::Global;
 
-/// What a stop may leave, with its name.
-pub(crate) const KINDS: [(&str, LeftKind); 3] = [
-    ("oldest", LeftKind::Oldest),
-    ("newest", LeftKind::Newest),
-    ("garbage", LeftKind::Garbage),
-];
-
 /// An object whose calls may fail.
-#[derive(Clone, Copy, Debug, PartialEq, Eq)]
+#[derive(Clone, Copy)]
 pub(crate) enum Object {
     Source,
     Site,
 }
 
 /// What is asked of files.
-#[derive(Clone, Copy, Debug, PartialEq, Eq)]
+#[derive(Clone, Copy)]
 pub(crate) enum View {
     /// Their bytes.
     Show,
@@ -53,8 +44,12 @@ pub(crate) enum Command {
     Bad(BadRange),
     /// How many reads the journal holds.
     Room(usize),
-    /// A file, and whether it is regular.
-    File(String, Vec<u8>, bool),
+    /// A file.
+    File {
+        name: String,
+        bytes: Vec<u8>,
+        regular: bool,
+    },
     /// A regular file, whose lines follow.
     Text(String),
     /// The numbers of calls that fail.
@@ -62,7 +57,10 @@ pub(crate) enum Command {
     /// A rescue.
     Run(Words),
     /// So many calls of the site were made, and then a stop came.
-    Stop(usize, LeftKind),
+    Stop {
+        calls: usize,
+        kind: Left,
+    },
     Stops(Stops),
     /// Files to be looked at.
     View(View, Vec<String>),
@@ -164,7 +162,12 @@ fn read_room(mut fields: Fields<'_>) -> Result<Command, Refusal> {
 
 fn read_file(mut fields: Fields<'_>, regular: bool) -> Result<Command, Refusal> {
     let name = take_text(&mut fields)?;
-    Ok(Command::File(name, read_bytes(fields)?, regular))
+    let bytes = read_bytes(fields)?;
+    Ok(Command::File {
+        name,
+        bytes,
+        regular,
+    })
 }
 
 fn read_text_file(mut fields: Fields<'_>) -> Result<Command, Refusal> {
@@ -190,16 +193,10 @@ fn read_stop(mut fields: Fields<'_>) -> Result<Command, Refusal> {
     let calls = take_number(&mut fields)?;
     let kind = read_kind(take_text(&mut fields)?.as_str())?;
     take_end(fields)?;
-    Ok(Command::Stop(calls as usize, kind))
-}
-
-fn read_kind(word: &str) -> Result<LeftKind, Refusal> {
-    for (name, kind) in KINDS {
-        if word == name {
-            return Ok(kind);
-        }
-    }
-    Err(Refusal::NotUnderstood)
+    Ok(Command::Stop {
+        calls: calls as usize,
+        kind,
+    })
 }
 
 fn read_stops(mut fields: Fields<'_>) -> Result<Command, Refusal> {

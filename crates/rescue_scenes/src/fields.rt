@@ -1,5 +1,5 @@
 //! The fields of a line.
-ghost use Rattle.std.specs.Prelude.{◌≤◌, ◌<◌, length, IfOk, IfSome};
+ghost use Rattle.std.specs.Prelude.{◌≤◌, ◌<◌, length, IfOk};
 ghost use Rattle.std.specs.Iterator.{at_most};
 
 use crate::refusal::Refusal;
@@ -118,7 +118,7 @@ fn close(bytes: Vec<u8>, behind: &[u8], quote: usize) -> Result<(Field, usize), 
 }
 
 /// What the next byte of a quoted field belongs to.
-#[derive(Clone, Copy, Debug, PartialEq, Eq)]
+#[derive(Clone, Copy)]
 enum Place {
     Text,
     /// A backslash stands before it.

@@ -4,6 +4,7 @@
 mod blocks;
 mod command;
 mod fields;
+mod kinds;
 mod player;
 mod refusal;
 mod results;
@@ -23,7 +24,7 @@ const NOT_UNDERSTOOD: u8 = 2;
 const NO_MEMORY: u8 = 4;
 
 /// Plays the transcript on standard input. Answers whether each of its lines was understood.
-fn run(rt: &HostRuntime) -> io::Result<bool> {
+fn run(rt: &(impl Input + Print + AllocGlobal)) -> io::Result<bool> {
     let mut transcript = Vec::new(rt.alloc());
     rt.reader().read_to_end(&mut transcript)?;
     play(rt.alloc(), &transcript, &mut io::writer(rt))

@@ -113,13 +113,15 @@ impl Player {
             Command::Source(bytes) => self.scene.set_source(bytes),
             Command::Bad(range) => self.scene.add_bad(range),
             Command::Room(room) => self.scene.set_room(room),
-            Command::File(name, bytes, regular) => {
-                self.scene.put_file(name.as_str(), &bytes, regular)
-            }
+            Command::File {
+                name,
+                bytes,
+                regular,
+            } => self.scene.put_file(name.as_str(), &bytes, regular),
             Command::Text(name) => self.begin_text(name),
             Command::Fail(object, numbers) => self.scene.fail_calls(object, &numbers),
             Command::Run(words) => self.scene.run(&words, &mut self.out),
-            Command::Stop(calls, kind) => self.scene.stop(calls, kind),
+            Command::Stop { calls, kind } => self.scene.stop(calls, kind),
             Command::Stops(stops) => self.scene.stops(&stops, &mut self.out),
             Command::View(view, names) => self.scene.view(view, &names, &mut self.out),
         }

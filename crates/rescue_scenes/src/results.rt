@@ -1,6 +1,4 @@
 //! What came of a rescue.
-ghost use Rattle.std.specs.Prelude.{◌≤◌, ◌<◌, length};
-
 use crate::refusal::Refusal;
 use crash_site::memory::MemorySite;
 use crash_site::site::SiteCall;

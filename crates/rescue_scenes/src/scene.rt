@@ -1,15 +1,17 @@
 //! A scene: an input, files, and the rescues that go over them.
-ghost use Rattle.std.specs.Prelude.{◌≡◌, ◌≤◌, ◌<◌, length, false, IfOk};
+ghost use Rattle.std.specs.Prelude.{◌≡◌, false};
+ghost use Rattle.crash_site.specs.MemoryState.{state_of};
 
 use crate::blocks::append_blocks;
-use crate::command::{KINDS, Object, Stops, View};
+use crate::command::{Object, Stops, View};
+use crate::kinds::{KINDS, Left};
 use crate::refusal::Refusal;
 use crate::results::{append_calls, append_ending, append_reads};
 use crate::shown::{append_escaped, append_lines, append_shown};
 use crate::stated::Stated;
 use crate::values::BYTES_LIMIT;
 use crash_site::memory::MemorySite;
-use crash_site::stop::LeftKind;
+use ddrescue_cli::ending::Ending;
 use ddrescue_cli::rescue::ddrescue;
 use ddrescue_cli::words::Words;
 use faulty_source::memory::{BadRange, MemorySource};
@@ -31,6 +33,23 @@ pub(crate) struct Scene {
     bytes: usize,
     /// How many files it has put under new names.
     files: usize,
+}
+
+/// Runs a rescue. Where it finds no memory there is no answer: a scene can't ask for that.
+fn rescue(
+    alloc: Global,
+    words: &Words,
+    source: &mut MemorySource,
+    site: &mut MemorySite,
+) -> Result<Ending, Refusal>
+    requires { (state_of site.old).is_drafting ≡ false }
+{
+    let starved = site.starved();
+    let ending = ddrescue(alloc, words, source, site);
+    if matches!(ending, Ending::NoMemory) || site.starved() > starved {
+        return Err(Refusal::NoMemory);
+    }
+    Ok(ending)
 }
 
 impl Scene {
@@ -99,16 +118,22 @@ impl Scene {
         bytes: &[u8],
         regular: bool,
     ) -> Result<(), Refusal> {
-        let is_new = self.site.file(name).is_none();
-        if is_new && self.files >= FILES_LIMIT {
-            return Err(Refusal::NotUnderstood);
-        }
+        let files = self.files_with(name)?;
         self.count_bytes(bytes.len())?;
         self.place_file(name, bytes, regular)?;
-        if is_new {
-            self.files += 1;
-        }
+        self.files = files;
         Ok(())
+    }
+
+    /// How many files there are with one more, unless they are too many.
+    fn files_with(&self, name: &str) -> Result<usize, Refusal> {
+        if self.site.file(name).is_some() {
+            return Ok(self.files);
+        }
+        if self.files >= FILES_LIMIT {
+            return Err(Refusal::NotUnderstood);
+        }
+        Ok(self.files + 1)
     }
 
     /// Puts a file there that was counted before.
@@ -133,7 +158,7 @@ impl Scene {
         };
         let read = source.journal().len();
         let made = self.site.made();
-        let ending = ddrescue(self.alloc, words, &mut source, &mut self.site);
+        let ending = rescue(self.alloc, words, &mut source, &mut self.site)?;
         append_reads(out, source.journal().get(read..).unwrap_or(&[]))?;
         append_calls(out, &self.site, made)?;
         append_ending(out, ending)?;
@@ -142,7 +167,7 @@ impl Scene {
     }
 
     /// Puts the site there that a stop leaves.
-    pub(crate) fn stop(&mut self, calls: usize, kind: LeftKind) -> Result<(), Refusal> {
+    pub(crate) fn stop(&mut self, calls: usize, kind: Left) -> Result<(), Refusal> {
         if calls > self.site.made() {
             return Err(Refusal::NotUnderstood);
         }
@@ -171,7 +196,7 @@ impl Scene {
         &self,
         stops: &Stops,
         calls: usize,
-        kind: LeftKind,
+        kind: Left,
         out: &mut Vec<u8>,
     ) -> Result<(), Refusal> {
         if calls > self.site.made() {
@@ -181,7 +206,7 @@ impl Scene {
         let mut source = self.stated.make_source(self.alloc)?;
         write!(out, "left ")?;
         append_blocks(self.alloc, out, site.file(stops.map.as_str()))?;
-        let ending = ddrescue(self.alloc, &stops.words, &mut source, &mut site);
+        let ending = rescue(self.alloc, &stops.words, &mut source, &mut site)?;
         let reads = source.journal().len();
         write!(out, "; ends {ending:?}; {reads} reads; map ")?;
         append_blocks(self.alloc, out, site.file(stops.map.as_str()))?;
@@ -206,8 +231,10 @@ impl Scene {
 
     fn view_one(&self, view: View, name: &str, out: &mut Vec<u8>) -> Result<(), Refusal> {
         let file = self.site.file(name);
-        if let (View::Print, Some([_, ..])) = (view, file) {
-            return append_lines(out, file.unwrap_or(&[]));
+        if let (View::Print, Some(text)) = (view, file)
+            && !text.is_empty()
+        {
+            return append_lines(out, text);
         }
         out.extend_from_slice(b"  ")?;
         append_escaped(out, name.as_bytes())?;

@@ -1,5 +1,5 @@
 //! Files as bytes and as text.
-ghost use Rattle.std.specs.Prelude.{◌≤◌, ◌<◌, ◌+◌, ◌-◌, length, IfSome};
+ghost use Rattle.std.specs.Prelude.{◌≤◌, length};
 ghost use Rattle.std.specs.Iterator.{at_most};
 
 use crate::refusal::Refusal;
@@ -13,7 +13,7 @@ const RAMP: usize = 8;
 const EQUAL: usize = 4;
 
 /// Bytes that follow each other in a file.
-#[derive(Clone, Copy, Debug, PartialEq, Eq)]
+#[derive(Clone, Copy)]
 enum Piece {
     Ramp(usize),
     Equal(u8, usize),
@@ -53,14 +53,12 @@ impl<'a> Iterator for Pieces<'a> {
 fn count_ramp(bytes: &[u8], place: usize) -> usize
     ensures { result ≤ length bytes.now }
 {
-    let mut count = 0;
-    for byte in bytes {
-        if *byte != ramp(place.saturating_add(count)) {
-            break;
+    for (i, byte) in bytes.iter().enumerate() {
+        if *byte != ramp(place.saturating_add(i)) {
+            return i;
         }
-        count += 1;
     }
-    count
+    bytes.len()
 }
 
 /// How many bytes from the first on are equal to one.

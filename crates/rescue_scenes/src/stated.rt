@@ -21,7 +21,7 @@ pub(crate) struct BadRanges {
 }
 
 impl Model for BadRanges {
-    ghost use Rattle.std.specs.Prelude.{List, ◌×◌, ◌≡◌};
+    ghost use Rattle.std.specs.Prelude.{List, ◌≡◌};
     ghost use Rattle.faulty_source.specs.declared.memory.BadRange.{BadRange};
     ghost use Rattle.faulty_source.specs.Memory.{AreApart};
     ghost use Rattle.rescue_scenes.specs.BadRanges.{end_of};

@@ -1,5 +1,5 @@
 //! What fields spell: numbers, names and bytes.
-ghost use Rattle.std.specs.Prelude.{◌≤◌, ◌<◌, ◌≡◌, ◌+◌, ◌*◌, ◌/◌, ◌%◌, length, IfOk, IfSome};
+ghost use Rattle.std.specs.Prelude.{◌≡◌, ◌<◌, ◌+◌, ◌*◌, ◌/◌, ◌%◌, IfSome};
 
 use crate::fields::{Field, Fields};
 use crate::refusal::Refusal;
@@ -67,7 +67,9 @@ pub(crate) fn read_text(field: &Field) -> Result<String, Refusal> {
 }
 
 /// The ramp's byte at a place: `(7 * place + place / 512) % 251`.
-pub(crate) fn ramp(place: usize) -> u8 {
+pub(crate) fn ramp(place: usize) -> u8
+    ensures { result ≡ (7 * place + place / 512) % 251 }
+{
     ((place % 251 * 7 + place / 512 % 251) % 251) as u8
 }
 
