@@ -1,0 +1,67 @@
+use crate::folder::apart::Apart;
+use crate::folder::names::make_new;
+use real_files::identity::Identity;
+use real_files::outcome::if_there;
+use real_files::place::put;
+use std::fs::{self, File, Metadata, Permissions};
+use std::io::{self, ErrorKind};
+use std::os::unix::fs::{MetadataExt, PermissionsExt, fchown};
+
+/// The bits of a mode that say who may read, write and run a file.
+const RIGHTS: u32 = 0o777;
+
+/// A begun draft under its own name.
+#[derive(Drop)]
+pub(super) struct Draft {
+    file: File,
+    name: String,
+    identity: Identity,
+}
+
+impl Draft {
+    /// Makes a new file. What stood under its name loses that name; a folder keeps it.
+    pub fn begin(rt: &HostRuntime, apart: &Apart<'_>, name: &str) -> io::Result<Draft> {
+        if let Some(found) = if_there(fs::symlink_metadata(rt, name))? {
+            apart.check(&found)?;
+            fs::remove_file(rt, name)?;
+        }
+        let copy = String::from_str(rt.alloc(), name)?;
+        let file = make_new(rt, name)?;
+        let identity = Identity::of(&file.metadata()?);
+        Ok(Draft {
+            file,
+            name: copy,
+            identity,
+        })
+    }
+
+    pub fn append(&self, piece: &[u8]) -> io::Result<()> {
+        let mut file = &self.file;
+        put(&mut file, piece)
+    }
+
+    pub fn sync(&self) -> io::Result<()> {
+        self.file.sync_all()
+    }
+
+    /// Renames the draft, if it still has its name. The mode and the owner of a mapfile that is there go over to it.
+    pub fn publish(self, rt: &HostRuntime, apart: &Apart<'_>, name: &str) -> io::Result<()> {
+        if let Some(found) = if_there(fs::metadata(rt, name))? {
+            apart.check(&found)?;
+            keep_rights(&self.file, &found);
+        }
+        let standing = fs::symlink_metadata(rt, self.name.as_str())?;
+        if Identity::of(&standing) != self.identity {
+            return Err(ErrorKind::AlreadyExists.into());
+        }
+        fs::rename(rt, self.name.as_str(), name)
+    }
+}
+
+/// Gives a file the mode of another, and its owner and group as far as the kernel allows.
+fn keep_rights(file: &File, old: &Metadata) {
+    if fchown(file, Some(old.uid()), Some(old.gid())).is_err() {
+        let _ = fchown(file, None, Some(old.gid()));
+    }
+    let _ = file.set_permissions(Permissions::from_mode(old.mode() & RIGHTS));
+}

@@ -1,0 +1,47 @@
+use real_files::outcome::folder_synced;
+use std::fs::{self, File, OpenFile, OpenOptions};
+use std::io::{self, ErrorKind};
+use std::path::Path;
+
+/// The name of the folder that holds a name.
+pub(super) fn folder_of(name: &str) -> &str {
+    match Path::new(name).parent() {
+        None => "/",
+        Some(parent) => {
+            let text = parent.as_str();
+            if text.is_empty() { "." } else { text }
+        }
+    }
+}
+
+/// The folder in which the file lies that a name reaches.
+pub(super) fn open_folder(rt: &HostRuntime, name: &str) -> io::Result<File> {
+    if !fs::symlink_metadata(rt, name)?.is_symlink() {
+        return File::open(rt, folder_of(name));
+    }
+    let real = fs::canonicalize(rt, name)?;
+    File::open(rt, folder_of(real.as_str()))
+}
+
+/// Makes a folder's entries durable, where its file system has that.
+pub(super) fn sync_entries<F: OpenFile>(folder: &F) -> io::Result<()> {
+    folder_synced(folder.sync_all())
+}
+
+/// Opens a file with these rights, or where they aren't there to write it alone.
+pub(super) fn open_with(rt: &HostRuntime, rights: &OpenOptions, name: &str) -> io::Result<File> {
+    match rights.open(rt, name) {
+        Err(error) if error.kind() == ErrorKind::PermissionDenied => {
+            OpenOptions::new().write(true).open(rt, name)
+        }
+        outcome => outcome,
+    }
+}
+
+/// Makes a file where nothing stands.
+pub(super) fn make_new(rt: &HostRuntime, name: &str) -> io::Result<File> {
+    OpenOptions::new()
+        .write(true)
+        .create_new(true)
+        .open(rt, name)
+}

@@ -1,0 +1,90 @@
+use super::names::folder_of;
+use super::*;
+use std::path::PathBuf;
+use std::test::Fail;
+use std::{env, fs, process};
+
+/// An empty folder for one test.
+fn folder_for(rt: &HostRuntime, test: &str) -> io::Result<PathBuf> {
+    let name = format!(in rt.alloc(); "crash_site_{}_{test}", process::id(rt.process()))?;
+    let folder = env::temp_dir(rt)?.join(rt.alloc(), name.as_str())?;
+    fs::create_dir(rt, folder.as_path())?;
+    Ok(folder)
+}
+
+#[test]
+fn keeps_a_longer_image(rt: HostRuntime) -> Result<(), Fail> {
+    let folder = folder_for(&rt, "image")?;
+    let path = folder.join(rt.alloc(), "image")?;
+    let name = path.as_path().as_str();
+    let mut site = FolderSite::new(rt.clone()?);
+    assert_eq!(rt; site.image_open(name, false)?, ImageKind::Absent);
+    assert_eq!(rt; site.image_open(name, true)?, ImageKind::Regular);
+    site.image_write(2, b"abcdef")?;
+    site.image_sync()?;
+    assert_eq!(rt; site.image_open(name, true)?, ImageKind::Regular);
+    site.image_write(3, b"xy")?;
+    site.image_sync()?;
+    let bytes = fs::read(&rt, name)?;
+    assert_eq!(rt; bytes.as_slice(), b"\0\0axydef".as_slice());
+    assert!(rt; site.image_open(folder.as_path().as_str(), true).is_err());
+    assert_eq!(rt; site.image_open("/dev/null", false)?, ImageKind::Other);
+    fs::remove_file(&rt, name)?;
+    assert!(rt; site.image_open(name, false).is_ok());
+    fs::remove_dir(&rt, folder.as_path())?;
+    assert!(rt; site.image_open(name, false).is_err());
+    assert!(rt; site.image_open(name, true).is_err());
+    Ok(())
+}
+
+#[test]
+fn publishes_a_draft(rt: HostRuntime) -> Result<(), Fail> {
+    let folder = folder_for(&rt, "map")?;
+    let map = folder.join(rt.alloc(), "map")?;
+    let draft = folder.join(rt.alloc(), "map.tmp")?;
+    let mut site = FolderSite::new(rt.clone()?);
+    let mut buf = [0; 4];
+    let name = map.as_path().as_str();
+    assert_eq!(rt; site.map_read(name, 0, &mut buf)?, MapRead::Absent);
+    for text in ["longer text", "texts"] {
+        site.draft_begin(draft.as_path().as_str())?;
+        let (front, back) = text.as_bytes().split_at(4);
+        site.draft_append(front)?;
+        site.draft_append(back)?;
+        site.draft_sync()?;
+        site.draft_publish(name)?;
+        site.map_settle(name)?;
+    }
+    assert_eq!(rt; site.map_read(name, 1, &mut buf)?, MapRead::Bytes(4));
+    assert_eq!(rt; buf, *b"exts");
+    assert_eq!(rt; site.map_read(name, 4, &mut buf)?, MapRead::Bytes(1));
+    assert_eq!(rt; site.map_read(name, 5, &mut buf)?, MapRead::Bytes(0));
+    assert!(rt; !fs::exists(&rt, draft.as_path())?);
+    for no_file in ["/dev/null", folder.as_path().as_str()] {
+        assert!(rt; site.map_read(no_file, 0, &mut buf).is_err(), "{no_file}");
+    }
+    fs::remove_file(&rt, name)?;
+    fs::remove_dir(&rt, folder.as_path())?;
+    assert!(rt; site.draft_begin(draft.as_path().as_str()).is_err());
+    assert!(rt; site.map_settle(name).is_err());
+    Ok(())
+}
+
+#[test]
+fn finds_the_folder_of_a_name(rt: HostRuntime) {
+    for (name, folder) in [
+        ("map", "."),
+        ("/map", "/"),
+        ("a/b/map", "a/b"),
+        ("/a/map", "/a"),
+    ] {
+        assert_eq!(rt; folder_of(name), folder, "of {name}");
+    }
+}
+
+#[test]
+fn settles_a_name_without_a_folder(rt: HostRuntime) -> Result<(), Fail> {
+    let mut site = FolderSite::new(rt);
+    site.map_settle("map")?;
+    Ok(())
+}
