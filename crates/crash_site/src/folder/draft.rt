@@ -65,3 +65,50 @@ fn keep_rights(file: &File, old: &Metadata) {
     }
     let _ = file.set_permissions(Permissions::from_mode(old.mode() & RIGHTS));
 }
+
+#[cfg(test)]
+mod tests {
+    use super::*;
+    use std::fs::OpenOptions;
+    use std::test::Fail;
+    use std::{env, process};
+
+    #[test]
+    fn tells_errors(rt: HostRuntime) -> Result<(), Fail> {
+        let file = OpenOptions::new().write(true).open(&rt, "/dev/full")?;
+        let identity = Identity::of(&file.metadata()?);
+        let name = String::from_str(rt.alloc(), "/dev/null")?;
+        let full = Draft {
+            file,
+            name,
+            identity,
+        };
+        let apart = Apart::new(&None, &None);
+        assert!(rt; full.append(b"text").is_err());
+        assert!(rt; full.sync().is_err());
+        assert!(rt; full.publish(&rt, &apart, "/dev/null/map").is_err());
+        let folder = env::temp_dir(&rt)?;
+        let own_name = format!(in rt.alloc(); "crash_site_{}.tmp", process::id(rt.process()))?;
+        let path = folder.join(rt.alloc(), own_name.as_str())?;
+        let name = path.as_path().as_str();
+        fs::write(&rt, name, "longer text")?;
+        let draft = Draft::begin(&rt, &apart, name)?;
+        assert_eq!(rt; draft.file.metadata()?.len(), 0);
+        assert!(rt;
+            draft
+                .publish(&rt, &apart, folder.as_path().as_str())
+                .is_err()
+        );
+        let removed = Draft::begin(&rt, &apart, name)?;
+        fs::remove_file(&rt, name)?;
+        fs::write(&rt, name, "of another program")?;
+        let target = folder.join(rt.alloc(), "crash_site_map")?;
+        assert!(rt;
+            removed
+                .publish(&rt, &apart, target.as_path().as_str())
+                .is_err()
+        );
+        fs::remove_file(&rt, name)?;
+        Ok(())
+    }
+}

@@ -45,3 +45,40 @@ pub(super) fn make_new(rt: &HostRuntime, name: &str) -> io::Result<File> {
         .create_new(true)
         .open(rt, name)
 }
+
+#[cfg(test)]
+mod tests {
+    use super::*;
+    use std::fs::Metadata;
+    use std::test::Fail;
+
+    /// A folder whose sync ends with an error of this number.
+    #[derive(Drop)]
+    struct Unsynced(i32);
+
+    impl OpenFile for Unsynced {
+        fn metadata(&self) -> io::Result<Metadata> {
+            Err(ErrorKind::Unsupported.into())
+        }
+
+        fn set_len(&self, _size: u64) -> io::Result<()> {
+            Err(ErrorKind::Unsupported.into())
+        }
+
+        fn sync_all(&self) -> io::Result<()> {
+            Err(io::Error::from_raw_os_error(self.0))
+        }
+
+        fn sync_data(&self) -> io::Result<()> {
+            Err(ErrorKind::Unsupported.into())
+        }
+    }
+
+    #[test]
+    fn passes_over_a_folder_without_the_operation_alone(rt: HostRuntime) -> Result<(), Fail> {
+        for (error, is_ok) in [(22, true), (5, false), (30, false), (28, false)] {
+            assert_eq!(rt; sync_entries(&Unsynced(error)).is_ok(), is_ok, "at {error}");
+        }
+        Ok(())
+    }
+}

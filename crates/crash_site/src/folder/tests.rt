@@ -1,5 +1,6 @@
 use super::names::folder_of;
 use super::*;
+use real_files::identity::Identity;
 use std::path::PathBuf;
 use std::test::Fail;
 use std::{env, fs, process};
@@ -86,5 +87,78 @@ fn finds_the_folder_of_a_name(rt: HostRuntime) {
 fn settles_a_name_without_a_folder(rt: HostRuntime) -> Result<(), Fail> {
     let mut site = FolderSite::new(rt);
     site.map_settle("map")?;
+    Ok(())
+}
+
+#[test]
+fn tells_errors_of_kernel_files(rt: HostRuntime) -> Result<(), Fail> {
+    let mut site = FolderSite::new(rt.clone()?);
+    let mut buf = [0; 4];
+    assert_eq!(rt; site.image_open("/dev/full", false)?, ImageKind::Other);
+    assert!(rt; site.image_write(0, b"text").is_err());
+    assert!(rt; site.image_sync().is_err());
+    assert_eq!(rt;
+        site.image_open("/proc/self/mem", false)?,
+        ImageKind::Regular
+    );
+    assert!(rt; site.image_read(0, &mut buf).is_err());
+    assert!(rt; site.image_write(0, b"text").is_err());
+    assert!(rt; site.image_sync().is_err());
+    assert_eq!(rt; site.faults.get(), 5);
+    let mut site = FolderSite::new(rt.clone()?);
+    assert!(rt; site.map_read("/proc/self/mem", 0, &mut buf).is_err());
+    assert!(rt; site.map_read("/dev/null/map", 0, &mut buf).is_err());
+    assert_eq!(rt; site.map_read("/dev/no_map", 0, &mut buf)?, MapRead::Absent);
+    assert_eq!(rt; site.faults.get(), 2);
+    Ok(())
+}
+
+#[test]
+fn keeps_the_input_and_the_image_apart(rt: HostRuntime) -> Result<(), Fail> {
+    let folder = folder_for(&rt, "apart")?;
+    let path = folder.join(rt.alloc(), "map")?;
+    let draft = folder.join(rt.alloc(), "map.tmp")?;
+    let name = path.as_path().as_str();
+    let mut buf = [0; 4];
+    fs::write(&rt, name, "text")?;
+    let mut site = FolderSite::new(rt.clone()?);
+    let input = OpenInput::new(rt.alloc())?;
+    site.keep_apart(input.share()?);
+    assert_eq!(rt; site.map_read(name, 0, &mut buf)?, MapRead::Bytes(4));
+    input.note(Some(Identity::of(&fs::metadata(&rt, name)?)));
+    assert!(rt; site.image_open(name, true).is_err());
+    for _ in 0..2 {
+        assert!(rt; site.map_read(name, 0, &mut buf).is_err());
+        assert!(rt; site.map_settle(name).is_err());
+        assert!(rt; site.draft_begin(name).is_err());
+        site.draft_begin(draft.as_path().as_str())?;
+        assert!(rt; site.draft_publish(name).is_err());
+        input.note(None);
+        site.image_open(name, false)?;
+    }
+    assert_eq!(rt; fs::read(&rt, name)?.as_slice(), b"text".as_slice());
+    fs::remove_dir_all(&rt, folder.as_path())?;
+    Ok(())
+}
+
+#[test]
+fn reads_what_was_published_and_keeps_what_stands(rt: HostRuntime) -> Result<(), Fail> {
+    let folder = folder_for(&rt, "kept")?;
+    let path = folder.join(rt.alloc(), "map")?;
+    let draft = folder.join(rt.alloc(), "map.tmp")?;
+    let (name, under) = (path.as_path().as_str(), draft.as_path().as_str());
+    let mut buf = [0; 4];
+    fs::write(&rt, name, "old text")?;
+    let mut site = FolderSite::new(rt.clone()?);
+    assert_eq!(rt; site.map_read(name, 0, &mut buf)?, MapRead::Bytes(4));
+    fs::write(&rt, under, "a draft of another run")?;
+    site.map_settle(name)?;
+    assert_eq!(rt; fs::read(&rt, under)?.len(), 22);
+    assert_eq!(rt; site.map_read(name, 0, &mut buf)?, MapRead::Bytes(4));
+    site.draft_begin(under)?;
+    site.draft_append(b"newer")?;
+    site.draft_publish(name)?;
+    assert_eq!(rt; site.map_read(name, 4, &mut buf)?, MapRead::Bytes(1));
+    fs::remove_dir_all(&rt, folder.as_path())?;
     Ok(())
 }
