@@ -2,7 +2,7 @@ ghost use Rattle.std.specs.Prelude.{◌≡◌, true, false, IfOk, IsSome};
 ghost use Rattle.crash_site.specs.Files.{is_absent};
 
 use crate::folder::apart::check_input;
-use crate::folder::names::{folder_of, open_folder, open_with, sync_entries};
+use crate::folder::names::{folder_of, open_folder, open_with, sync_both};
 use crate::site::ImageKind;
 use real_files::identity::{Identity, OpenInput};
 use real_files::outcome::if_there;
@@ -31,11 +31,7 @@ impl OpenImage {
 
     /// Makes the image durable, and its entry.
     pub fn sync(&self) -> io::Result<()> {
-        self.file.sync_all()?;
-        match &self.folder {
-            Some(folder) => sync_entries(folder),
-            None => Ok(()),
-        }
+        sync_both(Some(&self.file), self.folder.as_ref())
     }
 }
 

@@ -24,8 +24,22 @@ pub(super) fn open_folder(rt: &HostRuntime, name: &str) -> io::Result<File> {
 }
 
 /// Makes a folder's entries durable, where its file system has that.
-pub(super) fn sync_entries<F: OpenFile>(folder: &F) -> io::Result<()> {
+fn sync_entries<F: OpenFile>(folder: &F) -> io::Result<()> {
     folder_synced(folder.sync_all())
+}
+
+/// Makes a file durable, if there is one, and then its folder's entries, if that is open.
+pub(super) fn sync_both<F: OpenFile, G: OpenFile>(
+    file: Option<&F>,
+    folder: Option<&G>,
+) -> io::Result<()> {
+    if let Some(file) = file {
+        file.sync_all()?;
+    }
+    match folder {
+        Some(folder) => sync_entries(folder),
+        None => Ok(()),
+    }
 }
 
 /// Opens a file with these rights, or where they aren't there to write it alone.
@@ -52,7 +66,7 @@ mod tests {
     use std::fs::Metadata;
     use std::test::Fail;
 
-    /// A folder whose sync ends with an error of this number.
+    /// A file whose sync ends with an error of this number, or well at 0.
     #[derive(Drop)]
     struct Unsynced(i32);
 
@@ -66,7 +80,10 @@ mod tests {
         }
 
         fn sync_all(&self) -> io::Result<()> {
-            Err(io::Error::from_raw_os_error(self.0))
+            match self.0 {
+                0 => Ok(()),
+                error => Err(io::Error::from_raw_os_error(error)),
+            }
         }
 
         fn sync_data(&self) -> io::Result<()> {
@@ -76,8 +93,16 @@ mod tests {
 
     #[test]
     fn passes_over_a_folder_without_the_operation_alone(rt: HostRuntime) -> Result<(), Fail> {
-        for (error, is_ok) in [(22, true), (5, false), (30, false), (28, false)] {
-            assert_eq!(rt; sync_entries(&Unsynced(error)).is_ok(), is_ok, "at {error}");
+        for (file, folder, is_ok) in [
+            (0, 0, true),
+            (0, 22, true),
+            (0, 5, false),
+            (0, 28, false),
+            (22, 0, false),
+            (5, 22, false),
+        ] {
+            let outcome = sync_both(Some(&Unsynced(file)), Some(&Unsynced(folder)));
+            assert_eq!(rt; outcome.is_ok(), is_ok, "at {file} and {folder}");
         }
         Ok(())
     }

@@ -1,6 +1,6 @@
 use crate::folder::apart::Apart;
 use crate::folder::mapfile::find_map;
-use crate::folder::names::{folder_of, make_new, open_with, sync_entries};
+use crate::folder::names::{folder_of, make_new, open_with, sync_both};
 use real_files::outcome::if_there;
 use std::fs::{self, File, OpenOptions};
 use std::io::{self, ErrorKind};
@@ -8,17 +8,14 @@ use std::io::{self, ErrorKind};
 /// Makes a mapfile durable that is there, and the entries of its folder, after it was asked whether it can be saved.
 pub(super) fn settle(rt: &HostRuntime, apart: &Apart<'_>, name: &str) -> io::Result<()> {
     ask_for_saves(rt, apart, name)?;
-    if find_map(rt, apart, name)?.is_some() {
-        sync_file(rt, name)?;
-    }
-    sync_entries(&File::open(rt, folder_of(name))?)
-}
-
-/// Makes a file durable, with whatever right it can be opened.
-fn sync_file(rt: &HostRuntime, name: &str) -> io::Result<()> {
     let mut rights = OpenOptions::new();
     rights.read(true);
-    open_with(rt, &rights, name)?.sync_all()
+    let file = match find_map(rt, apart, name)? {
+        Some(_) => Some(open_with(rt, &rights, name)?),
+        None => None,
+    };
+    let folder = File::open(rt, folder_of(name))?;
+    sync_both(file.as_ref(), Some(&folder))
 }
 
 /// Whether a draft could be made beside a mapfile, and take its place. Nothing that stands there is lost.
