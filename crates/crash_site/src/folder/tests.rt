@@ -84,9 +84,16 @@ fn finds_the_folder_of_a_name(rt: HostRuntime) {
 }
 
 #[test]
-fn settles_a_name_without_a_folder(rt: HostRuntime) -> Result<(), Fail> {
-    let mut site = FolderSite::new(rt);
+fn settles_what_can_be_saved(rt: HostRuntime) -> Result<(), Fail> {
+    let mut site = FolderSite::new(rt.clone()?);
     site.map_settle("map")?;
+    let mut long = String::new(rt.alloc());
+    for _ in 0..252 {
+        long.push('m')?;
+    }
+    for name in [long.as_str(), "/proc/map", "no/such/folder/map"] {
+        assert!(rt; site.map_settle(name).is_err(), "{name}");
+    }
     Ok(())
 }
 
