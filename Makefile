@@ -1,4 +1,4 @@
-# The usual ways into the repository. The one gate is `rt ci`; `make check` runs it.
+# The usual ways into the repository. `make check` runs the gate.
 PREFIX ?= /usr/local
 SOURCES := crates.txt $(shell find crates -path '*/out' -prune -o -type f -print)
 

@@ -1,0 +1,88 @@
+ghost use Rattle.std.specs.Prelude.{◌≡◌, true, false, IfOk, IsSome};
+ghost use Rattle.crash_site.specs.Files.{is_absent};
+
+use crate::folder::apart::check_input;
+use crate::folder::names::{folder_of, open_folder, open_with, sync_both};
+use crate::site::ImageKind;
+use real_files::identity::{Identity, OpenInput};
+use real_files::outcome::if_there;
+use std::fs::{self, File, OpenOptions, TryLockError};
+use std::io::{self, ErrorKind};
+
+/// An open image, and the folder in which it lies, where that could be opened.
+#[derive(Drop)]
+pub(super) struct OpenImage {
+    pub file: File,
+    folder: Option<File>,
+    regular: bool,
+    pub identity: Identity,
+}
+
+impl OpenImage {
+    pub fn kind(&self) -> ImageKind
+        ensures { is_absent result ≡ false }
+    {
+        if self.regular {
+            ImageKind::Regular
+        } else {
+            ImageKind::Other
+        }
+    }
+
+    /// Makes the image durable, and its entry.
+    pub fn sync(&self) -> io::Result<()> {
+        sync_both(Some(&self.file), self.folder.as_ref())
+    }
+}
+
+/// Holds a file against another run. Where the file system has no locks nothing is held.
+fn hold(file: &File) -> io::Result<()> {
+    match file.try_lock() {
+        Err(TryLockError::WouldBlock) => Err(ErrorKind::WouldBlock.into()),
+        _ => Ok(()),
+    }
+}
+
+/// The folder of a file. One that can't be read can't be synced: that is an error where the file was made here, since
+/// its entry would not be durable.
+fn folder_for(rt: &HostRuntime, name: &str, made: bool) -> io::Result<Option<File>> {
+    match open_folder(rt, name) {
+        Ok(folder) => Ok(Some(folder)),
+        Err(error) if !made && error.kind() == ErrorKind::PermissionDenied => Ok(None),
+        Err(error) => Err(error),
+    }
+}
+
+/// Opens a file as the image, and its folder. None where the file is absent and isn't to be made. A missing folder is
+/// an error.
+pub(super) fn open_image(
+    rt: &HostRuntime,
+    input: &Option<OpenInput>,
+    name: &str,
+    make: bool,
+) -> io::Result<Option<OpenImage>>
+    ensures { IfOk result (λ image. make ≡ true → IsSome image) }
+{
+    let mut rights = OpenOptions::new();
+    rights.read(true).write(true);
+    let found = if_there(open_with(rt, &rights, name))?;
+    let made = found.is_none();
+    let file = match found {
+        Some(file) => file,
+        None if !make => {
+            fs::metadata(rt, folder_of(name))?;
+            return Ok(None);
+        }
+        None => rights.create(true).open(rt, name)?,
+    };
+    let found = file.metadata()?;
+    let identity = Identity::of(&found);
+    check_input(input, identity)?;
+    hold(&file)?;
+    Ok(Some(OpenImage {
+        folder: folder_for(rt, name, made)?,
+        file,
+        regular: found.is_file(),
+        identity,
+    }))
+}

@@ -1,0 +1,78 @@
+ghost use Rattle.std.specs.Prelude.{◌≤◌, length, IfOk};
+ghost use Rattle.crash_site.specs.Files.{IsWithin};
+
+use crate::folder::apart::Apart;
+use crate::site::MapRead;
+use real_files::outcome::if_there;
+use real_files::place::{Place, read_full};
+use std::fs::{self, File, Metadata};
+use std::io::{self, ErrorKind};
+
+/// A mapfile that is being read, under its name.
+#[derive(Drop)]
+pub(super) struct OpenMap {
+    file: File,
+    name: String,
+}
+
+/// What stands under a mapfile's name. What is no regular file is an error, since a pipe would wait for its writer, and
+/// a draft would take a device's place; so is a file that is to stay apart.
+pub(super) fn find_map(
+    rt: &HostRuntime,
+    apart: &Apart<'_>,
+    name: &str,
+) -> io::Result<Option<Metadata>> {
+    let Some(found) = if_there(fs::metadata(rt, name))? else {
+        return Ok(None);
+    };
+    if !found.is_file() {
+        return Err(ErrorKind::InvalidInput.into());
+    }
+    apart.check(&found)?;
+    Ok(Some(found))
+}
+
+fn open_map(rt: &HostRuntime, apart: &Apart<'_>, name: &str) -> io::Result<Option<OpenMap>> {
+    if find_map(rt, apart, name)?.is_none() {
+        return Ok(None);
+    }
+    let Some(file) = if_there(File::open(rt, name))? else {
+        return Ok(None);
+    };
+    let name = String::from_str(rt.alloc(), name)?;
+    Ok(Some(OpenMap { file, name }))
+}
+
+fn is_of(kept: &Option<OpenMap>, name: &str) -> bool {
+    match kept {
+        Some(map) => map.name.as_str() == name,
+        None => false,
+    }
+}
+
+/// Reads a mapfile at a place. It is opened where its reading begins, and kept open for the reads that follow.
+pub(super) fn read_map(
+    rt: &HostRuntime,
+    apart: &Apart<'_>,
+    kept: &mut Option<OpenMap>,
+    name: &str,
+    pos: u64,
+    buf: &mut [u8],
+) -> io::Result<MapRead>
+    ensures { IfOk result (λ read. IsWithin read (length buf.old)) }
+{
+    if pos == 0 || !is_of(kept, name) {
+        *kept = None;
+        *kept = open_map(rt, apart, name)?;
+    }
+    let Some(map) = kept else {
+        return Ok(MapRead::Absent);
+    };
+    let n = read_full(&mut Place::new(&map.file, pos), buf)?;
+    Ok(MapRead::Bytes(n))
+}
+
+pub(super) fn remove_map(rt: &HostRuntime, name: &str) -> io::Result<()> {
+    if_there(fs::remove_file(rt, name))?;
+    Ok(())
+}

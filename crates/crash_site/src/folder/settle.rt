@@ -1,0 +1,51 @@
+use crate::folder::apart::Apart;
+use crate::folder::mapfile::find_map;
+use crate::folder::names::{folder_of, make_new, open_with, sync_both};
+use real_files::outcome::if_there;
+use std::fs::{self, File, OpenOptions};
+use std::io::{self, ErrorKind};
+
+/// Makes a mapfile durable that is there, and the entries of its folder, after it was asked whether it can be saved.
+pub(super) fn settle(rt: &HostRuntime, apart: &Apart<'_>, name: &str) -> io::Result<()> {
+    ask_for_saves(rt, apart, name)?;
+    let mut rights = OpenOptions::new();
+    rights.read(true);
+    let file = match find_map(rt, apart, name)? {
+        Some(_) => Some(open_with(rt, &rights, name)?),
+        None => None,
+    };
+    let folder = File::open(rt, folder_of(name))?;
+    sync_both(file.as_ref(), Some(&folder))
+}
+
+/// Whether a draft could be made beside a mapfile, and take its place. Nothing that stands there is lost.
+fn ask_for_saves(rt: &HostRuntime, apart: &Apart<'_>, name: &str) -> io::Result<()> {
+    let draft = format!(in rt.alloc(); "{name}.tmp")?;
+    match if_there(fs::symlink_metadata(rt, draft.as_str()))? {
+        None => {
+            make_new(rt, draft.as_str())?;
+            fs::remove_file(rt, draft.as_str())?;
+        }
+        Some(found) => {
+            apart.check(&found)?;
+            ask_for_removal(rt, draft.as_str())?;
+        }
+    }
+    if if_there(fs::symlink_metadata(rt, name))?.is_some() {
+        ask_for_removal(rt, name)?;
+    }
+    Ok(())
+}
+
+/// Whether what stands under a name could be removed. The kernel looks at the rights first and then refuses to remove
+/// as a folder what is none.
+fn ask_for_removal(rt: &HostRuntime, name: &str) -> io::Result<()> {
+    if fs::symlink_metadata(rt, name)?.is_dir() {
+        return Err(ErrorKind::IsADirectory.into());
+    }
+    match fs::remove_dir(rt, name) {
+        Err(error) if error.kind() == ErrorKind::NotADirectory => Ok(()),
+        Err(error) => Err(error),
+        Ok(()) => Err(ErrorKind::NotFound.into()),
+    }
+}

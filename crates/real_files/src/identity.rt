@@ -1,0 +1,63 @@
+//! Which file a name reaches, whatever the name.
+use std::alloc::Global;
+use std::cell::Cell;
+use std::fs::Metadata;
+use std::io;
+use std::os::unix::fs::{FileTypeExt, MetadataExt};
+use std::rc::Rc;
+
+/// A file, whatever its names: where its file system lies and its number there. A block device is one file whatever
+/// its nodes.
+#[derive(Clone, Copy, Debug, PartialEq, Eq)]
+pub struct Identity {
+    device: u64,
+    number: u64,
+    is_device: bool,
+}
+
+impl Identity {
+    pub fn of(found: &Metadata) -> Identity {
+        if found.file_type().is_block_device() {
+            return Identity {
+                device: found.rdev(),
+                number: 0,
+                is_device: true,
+            };
+        }
+        Identity {
+            device: found.dev(),
+            number: found.ino(),
+            is_device: false,
+        }
+    }
+}
+
+/// The open input, if there is one. Who opens it notes it here, and who writes asks here what not to touch.
+#[derive(Drop)]
+pub struct OpenInput {
+    noted: Rc<Cell<Option<Identity>>>,
+}
+
+impl OpenInput {
+    /// No input is open.
+    pub fn new(alloc: Global) -> io::Result<OpenInput> {
+        match Rc::new(alloc, Cell::new(None)) {
+            Ok(noted) => Ok(OpenInput { noted }),
+            Err(_) => Err(io::Error::from(io::ErrorKind::OutOfMemory)),
+        }
+    }
+
+    /// Another hold of the same note.
+    pub fn share(&self) -> io::Result<OpenInput> {
+        let noted = self.noted.clone()?;
+        Ok(OpenInput { noted })
+    }
+
+    pub fn note(&self, input: Option<Identity>) {
+        self.noted.set(input);
+    }
+
+    pub fn is(&self, found: Identity) -> bool {
+        self.noted.get() == Some(found)
+    }
+}

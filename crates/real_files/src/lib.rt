@@ -1,0 +1,7 @@
+//! What the forms for real files stand on: reads and writes at a place, what an error means, and which file a name
+//! reaches.
+#![tactic(auto)]
+
+pub mod identity;
+pub mod outcome;
+pub mod place;
