@@ -1,4 +1,7 @@
-pub mod Padded
+pub mod DigitFacts
+pub mod TakenOff
+pub mod PartFacts
+pub mod PieceFacts
 pub mod Appended
 pub mod OneReading
 pub mod OneFault

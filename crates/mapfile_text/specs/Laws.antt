@@ -1,10 +1,11 @@
-use Rattle.std.specs.Prelude.{◌≡◌, ◌⊎◌, ℕ, ◌<◌, ◌^◌, Bool, not, List, length, nat_eq}
+use Rattle.std.specs.Prelude.{◌≡◌, ◌↔◌, ◌⊎◌, ℕ, ◌<◌, ◌^◌, Bool, not, List, length, nat_eq}
 use Rattle.block_list.specs.declared.status.Status.{Status}
 use Rattle.mapfile_text.specs.declared.state.MapState.{MapState}
 use Rattle.mapfile_text.specs.declared.read.Mode.{Mode}
 use Rattle.mapfile_text.specs.declared.read.MapError.{MapError}
 use Rattle.mapfile_text.specs.HeadingLines.{HeadingLines}
 use Rattle.mapfile_text.specs.Printed.{printed}
+use Rattle.mapfile_text.specs.Pieces.{pieces_of, AreTakenOff, InPieces}
 use Rattle.mapfile_text.specs.MapText.{IsMapText, MapFault}
 
 -- two readings of one text are the same
@@ -37,3 +38,11 @@ abbrev pub PrintedIsRead : Type 0
 PrintedIsRead = (heading : HeadingLines) (state : MapState) (statuses : List Status) (mode : Mode)
     → heading.start_s < 2 ^ 64 → heading.now_s < 2 ^ 64 → state.pos < 2 ^ 63 → 0 < state.pass → state.pass < 2 ^ 32 → length statuses < 2 ^ 63
     → IsMapText (printed heading state statuses) mode state 0 (not (nat_eq (length statuses) 0)) statuses
+
+-- what is got from a text by taking 4,096 bytes off its front until nothing is left is its pieces, and nothing else is
+abbrev pub TakingGivesPieces : Type 0
+TakingGivesPieces = (ps : List (List ℕ)) (text : List ℕ) → AreTakenOff ps text ↔ (ps ≡ pieces_of text)
+
+-- the pieces of a text are the text, cut where each but the last is full
+abbrev pub PiecesAreTheText : Type 0
+PiecesAreTheText = (text : List ℕ) → InPieces (pieces_of text) text

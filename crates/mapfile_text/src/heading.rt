@@ -1,9 +1,8 @@
-ghost use Rattle.std.specs.Prelude.{◌≡◌, ◌++◌, IfOk, OnOk, map};
-ghost use Rattle.mapfile_text.specs.Printed.{command_line, heading_text, program_line, program_name, shown_byte, time_lines};
+ghost use Rattle.std.specs.Prelude.{◌≡◌, IfOk};
+ghost use Rattle.mapfile_text.specs.Printed.{program_name, shown_byte};
 
 use block_list::tiles::NoMemory;
 use std::alloc::Global;
-use std::io::{self, Write};
 use std::marker::Model;
 
 /// The program that prints a mapfile.
@@ -73,58 +72,39 @@ impl Heading {
         self.now_s = now_s;
     }
 
-    pub(crate) fn append_to(&self, text: &mut Vec<u8>) -> io::Result<()>
-        ensures { OnOk result (text.new.items ≡ text.old.items ++ heading_text self.now) }
+    pub(crate) fn program(&self) -> Program
+        ensures { result ≡ self.now.program }
     {
-        append_program(text, self.program)?;
-        append_command(text, self.line.as_bytes())?;
-        append_times(text, self.program, self.start_s, self.now_s)
+        self.program
+    }
+
+    /// The command line.
+    pub(crate) fn line(&self) -> &[u8]
+        ensures { result.now ≡ self.now.line }
+    {
+        self.line.as_bytes()
+    }
+
+    pub(crate) fn start_s(&self) -> u64
+        ensures { result ≡ self.now.start_s }
+    {
+        self.start_s
+    }
+
+    pub(crate) fn now_s(&self) -> u64
+        ensures { result ≡ self.now.now_s }
+    {
+        self.now_s
     }
 }
 
-fn append_program(text: &mut Vec<u8>, program: Program) -> io::Result<()>
-    ensures { OnOk result (text.new.items ≡ text.old.items ++ program_line program) }
-{
-    let name = program.name();
-    writeln!(text, "# Mapfile. Created by {name}")
-}
-
-fn append_command(text: &mut Vec<u8>, line: &[u8]) -> io::Result<()>
-    ensures { OnOk result (text.new.items ≡ text.old.items ++ command_line line.now) }
-{
-    text.extend_from_slice(b"# Command line: ")?;
-    append_shown(text, line)?;
-    text.push(b'\n')?;
-    Ok(())
-}
-
-fn append_shown(text: &mut Vec<u8>, line: &[u8]) -> io::Result<()>
-    ensures { OnOk result (text.new.items ≡ text.old.items ++ map shown_byte line.now) }
-{
-    for byte in line {
-        text.push(shown(*byte))?;
-    }
-    Ok(())
-}
-
-fn shown(byte: u8) -> u8
+/// A byte of a command line, as it is printed.
+pub(crate) fn shown(byte: u8) -> u8
     ensures { result ≡ shown_byte byte }
 {
     if byte < 0x20 || byte == 0x7F {
         b'?'
     } else {
         byte
-    }
-}
-
-fn append_times(text: &mut Vec<u8>, program: Program, start_s: u64, now_s: u64) -> io::Result<()>
-    ensures { OnOk result (text.new.items ≡ text.old.items ++ time_lines program start_s now_s) }
-{
-    match program {
-        Program::Ddrescue => {
-            writeln!(text, "# Start time:   {start_s}")?;
-            writeln!(text, "# Current time: {now_s}")
-        }
-        Program::Ddrescuelog => Ok(()),
     }
 }

@@ -1,5 +1,5 @@
 //! What the definitions mean.
-ghost use Rattle.mapfile_text.specs.Laws.{HasOneFault, HasOneReading, IsMapOrHasFault, MapHasNoFault, PrintedIsRead};
+ghost use Rattle.mapfile_text.specs.Laws.{HasOneFault, HasOneReading, IsMapOrHasFault, MapHasNoFault, PiecesAreTheText, PrintedIsRead, TakingGivesPieces};
 
 /// No text is two maps.
 pub fn map_text_has_one_reading()
@@ -24,4 +24,10 @@ pub fn text_is_map_or_has_fault()
 /// What is printed is read again as it was.
 pub fn printed_text_is_read()
     ensures { PrintedIsRead }
+{}
+
+/// The pieces that a printer gives from the start of a text on are the text; each but the last is full.
+pub fn pieces_are_the_text()
+    ensures taken { TakingGivesPieces }
+    ensures whole { PiecesAreTheText }
 {}

@@ -1,12 +1,16 @@
 //! The text of a mapfile (GNU ddrescue manual, "Mapfile structure").
 #![tactic(auto)]
 
+mod digits;
 mod entries;
 mod fields;
 pub mod heading;
 pub mod laws;
 mod lines;
+mod made_lines;
+mod place;
 pub mod print;
+pub mod printer;
 pub mod read;
 #[cfg(test)]
 mod read_tests;

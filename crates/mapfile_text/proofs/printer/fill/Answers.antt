@@ -1,0 +1,36 @@
+-- What was appended and what is left are what was left; the piece is full, or nothing is left.
+use Rattle.std.proofs.Common.{arith, ◌∙◌, inl, inr, refl}
+use Rattle.mapfile_text.proofs.TakenOff.{piece_is, rest_is}
+use Rattle.mapfile_text.proofs.PartFacts.{GoesOn, goes_on, left_past, not_there}
+use Rattle.mapfile_text.proofs.printer.fill.Goals as goal
+
+went : (g : _) (c : goal.After-behind-place g) → GoesOn c.args.heading.now c.args.state (g.T.Tiles.statuses c.args.tiles.now) c.loop-state.place c.behind-place.result c.loop-state.out.items c.append_part-len.new.out.items c.remaining_capacity-room.result
+went g c =
+    goes_on c.args.heading.now c.args.state (g.T.Tiles.statuses c.args.tiles.now) c.loop-state.place c.behind-place.result
+    c.loop-state.out.items c.append_part-len.new.out.items c.append_part-len.result c.remaining_capacity-room.result
+    (c.loop-state-test.ensures.there.0 refl) c.remaining_capacity-room.ensures
+    c.append_part-len.ensures.text c.append_part-len.ensures.len c.behind-place.ensures.past c.behind-place.ensures.whole c.behind-place.ensures.cut
+
+pub returns-then-room-eq0-clause-piece : goal.returns-then-room-eq0-clause-piece
+returns-then-room-eq0-clause-piece g c =
+    piece_is _ _ _ 4096 c.loop-state.invariant.all c.loop-state.invariant.fits (inl (omega (arith, c.remaining_capacity-room.ensures)))
+
+pub returns-then-room-eq0-clause-rest : goal.returns-then-room-eq0-clause-rest
+returns-then-room-eq0-clause-rest g c =
+    rest_is _ _ _ 4096 c.loop-state.invariant.all c.loop-state.invariant.fits (inl (omega (arith, c.remaining_capacity-room.ensures)))
+
+pub loop-state-preserved : goal.loop-state-preserved
+loop-state-preserved g c = record { fits = (went g c).fits; all = (went g c).same ∙ c.loop-state.invariant.all }
+
+pub loop-state-smaller : goal.loop-state-smaller
+loop-state-smaller g c = (went g c).less c.if-room-eq0.false
+
+pub returns-clause-piece : goal.returns-clause-piece
+returns-clause-piece g c =
+    piece_is _ _ _ 4096 c.loop-state.invariant.all c.loop-state.invariant.fits
+    (inr (left_past _ _ _ _ (not_there _ _ _ c.loop-state-test.false c.is_there.ensures.there.1)))
+
+pub returns-clause-rest : goal.returns-clause-rest
+returns-clause-rest g c =
+    rest_is _ _ _ 4096 c.loop-state.invariant.all c.loop-state.invariant.fits
+    (inr (left_past _ _ _ _ (not_there _ _ _ c.loop-state-test.false c.is_there.ensures.there.1)))
