@@ -92,6 +92,11 @@ pub record IsWithinLimits (m : ReadMap) : Type 0 where
   pub pos : m.state.pos < 2 ^ 63
   pub pass : 0 < m.state.pass
 
+abbrev pub ResumedWithinLimits : Result Resumed ResumeFault → Type 0
+ResumedWithinLimits (Ok Fresh) = ⊤
+ResumedWithinLimits (Ok (Map m)) = IsWithinLimits m
+ResumedWithinLimits (Err e) = ⊤
+
 -- Behind the barrier nothing is pending: each stop from here on finds the mapfile and the open image as they read.
 pub record NothingPending (names : MapNames) (was now : Disk) : Type 0 where
   pub mapfile : now.shows names.map ≡ only (was.reads.files names.map)

@@ -44,5 +44,5 @@ pub record IsSaved (names : MapNames) (text : List ℕ) (was now : Disk) : Type 
   pub map_sure : now.shows names.map ≡ only (Some (text_file text))
   pub map_reads : now.reads.files names.map ≡ Some (text_file text)
   pub image : ImageIsDurable names was now
-  pub no_draft : now.reads.files names.draft ≡ None
+  pub no_draft : names.draft ≢ names.map → now.reads.files names.draft ≡ None
   pub others : (name : List ℕ) → name ≢ names.map → name ≢ names.draft → now.reads.files name ≡ was.reads.files name

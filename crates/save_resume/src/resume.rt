@@ -23,6 +23,7 @@ pub fn resume<D: Site>(alloc: Global, site: &mut D, names: &Names) -> Result<Res
         (D.state site.old).calls (D.state site.new).calls }
     ensures settled { IsTrue (D.state site.old).tells → SettlesAll names.now result (D.state site.old) (D.state site.new) }
     ensures counts { Counts result (D.state site.old).faults (D.state site.new).faults }
+    ensures limits { ResumedWithinLimits result }
     ensures stays { Stays (D.state site.old) (D.state site.new) }
 {
     todo
