@@ -1,5 +1,3 @@
 pub mod MapNames
 pub mod Saving
 pub mod SaveStops
-pub mod Loading
-pub mod Resuming

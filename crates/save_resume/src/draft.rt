@@ -46,7 +46,10 @@ impl Draft<Begun> {
         ensures call { Saves (begin_calls names.now) true result (D.state site.old) (D.state site.new) }
         ensures begun { OnOk result (IsTrue (D.state site.old).tells → EndsBegun (D.state site.new).calls) }
     {
-        todo
+        site.image_sync().map_err(|_| SaveFault { call: SiteCall::ImageSync })?;
+        site.draft_begin(names.draft())
+            .map_err(|_| SaveFault { call: SiteCall::DraftBegin })?;
+        Ok(Draft { state: Begun })
     }
 
     /// Appends the printed map, piece by piece.
@@ -62,7 +65,15 @@ impl Draft<Begun> {
         ensures call { Saves (fill_calls (printed heading.now state (T.statuses tiles.now))) true result (D.state site.old) (D.state site.new) }
         ensures filled { OnOk result (IsTrue (D.state site.old).tells → EndsFilled (D.state site.new).calls) }
     {
-        todo
+        let Draft { state: _begun } = self;
+        let mut printer = MapPrinter::begin();
+        let mut piece = ArrayVec::new();
+        while printer.next(state, heading, tiles, &mut piece) {
+            if site.draft_append(piece.as_slice()).is_err() {
+                return Err(SaveFault { call: SiteCall::DraftAppend });
+            }
+        }
+        Ok(Draft { state: Filled })
     }
 }
 
@@ -74,7 +85,9 @@ impl Draft<Filled> {
         ensures call { Saves (draft_sync ∷ []) true result (D.state site.old) (D.state site.new) }
         ensures firm { OnOk result (IsTrue (D.state site.old).tells → EndsFirm (D.state site.new).calls) }
     {
-        todo
+        let Draft { state: _filled } = self;
+        site.draft_sync().map_err(|_| SaveFault { call: SiteCall::DraftSync })?;
+        Ok(Draft { state: Firm })
     }
 }
 
@@ -85,6 +98,11 @@ impl Draft<Firm> {
         requires firm { IsTrue (D.state site.old).tells → EndsFirm (D.state site.old).calls }
         ensures { Saves (publish_calls names.now) false result (D.state site.old) (D.state site.new) }
     {
-        todo
+        let Draft { state: _firm } = self;
+        site.draft_publish(names.map())
+            .map_err(|_| SaveFault { call: SiteCall::DraftPublish })?;
+        site.map_settle(names.map())
+            .map_err(|_| SaveFault { call: SiteCall::MapSettle })?;
+        Ok(Saved)
     }
 }

@@ -2,7 +2,5 @@
 #![tactic(auto)]
 
 pub mod draft;
-pub mod load;
 pub mod names;
-pub mod resume;
 pub mod save;

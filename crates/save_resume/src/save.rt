@@ -26,5 +26,8 @@ pub fn save<D: Site, T: Tiles>(
     ensures saved { OnOk result (IsTrue (D.state site.old).tells → IsSaved names.now
         (printed heading.now state (T.statuses tiles.now)) (disk_of (D.state site.old)) (disk_of (D.state site.new))) }
 {
-    todo
+    let begun = Draft::begin(site, names)?;
+    let filled = begun.fill(site, state, tiles, heading)?;
+    let firm = filled.firm(site)?;
+    firm.publish(site, names)
 }
