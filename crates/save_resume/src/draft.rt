@@ -69,9 +69,9 @@ impl Draft<Begun> {
         let mut printer = MapPrinter::begin();
         let mut piece = ArrayVec::new();
         while printer.next(state, heading, tiles, &mut piece) {
-            if site.draft_append(piece.as_slice()).is_err() {
+            let Ok(()) = site.draft_append(piece.as_slice()) else {
                 return Err(SaveFault { call: SiteCall::DraftAppend });
-            }
+            };
         }
         Ok(Draft { state: Filled })
     }

@@ -1,0 +1,2 @@
+pub mod CallFacts
+pub mod FillFacts
