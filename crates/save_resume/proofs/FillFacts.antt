@@ -7,8 +7,8 @@ use Rattle.crash_site.specs.Calls.{Call, Entry, Done, Made, BrokeAt, Lost, image
 use Rattle.crash_site.specs.SiteState.{SiteState, Keeps, Makes, Breaks, Answers}
 use Rattle.mapfile_text.specs.Pieces.{pieces_of}
 use Rattle.save_resume.specs.declared.draft.SaveFault.{SaveFault}
-use Rattle.save_resume.specs.Saving.{fill_calls, EndsBegun, EndsFilled, Saves}
-use Rattle.save_resume.proofs.CallFacts.{made_more, broke_back, broke_front}
+use Rattle.save_resume.specs.Saving.{IsNameIn, fill_calls, EndsBegun, EndsFilled, Saves}
+use Rattle.save_resume.proofs.CallFacts.{made_more, broke_back, named_back}
 
 -- some pieces of the text were appended, and these bytes of it are left
 pub record Filling (text left : List ℕ) (old new : SiteState) : Type 0 where
@@ -65,6 +65,7 @@ all_filled text left old new x f none =
       keeps = f.keeps;
       made = record { made = λ t. subst (λ (ps : List (List ℕ)). Made (map draft_append ps) old.calls new.calls) all (f.made t); faults = f.faults };
       broke = tt;
+      named = tt;
       image = f.image;
       draft = f.drafting;
       draft_left = tt;
@@ -87,6 +88,7 @@ piece_refused text left rest out piece old mid new e f first same b =
             (f.made t) (inl (refl, b.lost (subst (λ (y : Bool). IsTrue y) (sym f.keeps.tells) t))));
         rose = b.rose ∙ ap raised f.faults;
       };
+      named = subst (λ (cs : List Call). IsNameIn DraftAppend cs) whole (named_back DraftAppend (map draft_append f.went) (draft_append piece ∷ map draft_append (pieces_of rest)) (inl refl));
       image = b.image ∙ f.image;
       draft = tt;
       draft_left = b.draft ∙ f.drafting;

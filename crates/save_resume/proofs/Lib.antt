@@ -1,2 +1,3 @@
 pub mod CallFacts
 pub mod FillFacts
+pub mod SaveFacts

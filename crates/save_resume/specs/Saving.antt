@@ -2,7 +2,7 @@
 use Rattle.std.specs.Prelude.{◌≡◌, ◌⊎◌, ℕ, Bool, true, false, IsTrue, List, [], ◌∷◌, ◌++◌, map, Option, None, Result, is_ok, OnOk, IfErr}
 use Rattle.crash_site.specs.declared.site.SiteCall.{SiteCall}
 use Rattle.crash_site.specs.declared.site.SiteCall.TheVariants.{ImageOpen, ImageRead, ImageWrite, ImageSync, MapRead, DraftBegin, DraftAppend, DraftSync, DraftPublish, MapSettle, MapRemove}
-use Rattle.crash_site.specs.Calls.{Call, Entry, Done, image_sync, draft_begin, draft_append, draft_sync, draft_publish, map_settle}
+use Rattle.crash_site.specs.Calls.{Call, call_name, Entry, Done, image_sync, draft_begin, draft_append, draft_sync, draft_publish, map_settle}
 use Rattle.crash_site.specs.SiteState.{SiteState, Keeps, Makes, Breaks}
 use Rattle.mapfile_text.specs.Pieces.{pieces_of}
 use Rattle.save_resume.specs.declared.draft.SaveFault.{SaveFault}
@@ -58,12 +58,18 @@ drafting_after_fault DraftPublish before = false
 drafting_after_fault MapSettle before = false
 drafting_after_fault MapRemove before = before
 
+-- one of these calls has this name
+abbrev pub IsNameIn : SiteCall → List Call → Type 0
+IsNameIn at [] = ⊥
+IsNameIn at (call ∷ calls) = (at ≡ call_name call) ⊎ IsNameIn at calls
+
 -- What a part of a save does to a site, by its outcome: these calls and no other, or those up to one that failed, which
 -- it names; `drafting` says whether a draft is begun behind it where none failed.
 pub record Saves {T : Type 0} (calls : List Call) (drafting : Bool) (result : Result T SaveFault) (old new : SiteState) : Type 0 where
   pub keeps : Keeps old new
   pub made : OnOk result (Makes calls old new)
   pub broke : IfErr result (λ f. Breaks f.call calls old new)
+  pub named : IfErr result (λ f. IsNameIn f.call calls)
   pub image : new.is_open ≡ old.is_open
   pub draft : OnOk result (new.is_drafting ≡ drafting)
   pub draft_left : IfErr result (λ f. new.is_drafting ≡ drafting_after_fault f.call old.is_drafting)

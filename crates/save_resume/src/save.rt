@@ -26,6 +26,20 @@ pub fn save<D: Site, T: Tiles>(
     ensures saved { OnOk result (IsTrue (D.state site.old).tells → IsSaved names.now
         (printed heading.now state (T.statuses tiles.now)) (disk_of (D.state site.old)) (disk_of (D.state site.new))) }
 {
+    make_calls(site, names, state, tiles, heading)
+}
+
+/// Makes the calls of a save.
+fn make_calls<D: Site, T: Tiles>(
+    site: &mut D,
+    names: &Names,
+    state: MapState,
+    tiles: &T,
+    heading: &Heading,
+) -> Result<Saved, SaveFault>
+    ensures { Saves (save_calls names.now (printed heading.now state (T.statuses tiles.now))) false result
+        (D.state site.old) (D.state site.new) }
+{
     let begun = Draft::begin(site, names)?;
     let filled = begun.fill(site, state, tiles, heading)?;
     let firm = filled.firm(site)?;
