@@ -19,6 +19,7 @@ pub record Synced (names : MapNames) (was now : Disk) : Type 0 where
   pub loose : (o f : Option File) → names.map ≢ names.draft → MatchesFile o (now.shows names.map).loose f → MatchesFile o (was.shows names.map).loose f
   pub image : ImageIsDurable names was now
   pub reads : (n : List ℕ) → n ≢ names.draft → now.reads.files n ≡ was.reads.files n
+  pub selected : now.reads.image ≡ was.reads.image
 
 -- The draft is begun and holds this text.
 pub record Drafting (names : MapNames) (text : List ℕ) (was now : Disk) : Type 0 where
@@ -58,12 +59,14 @@ published_safe names text was now p = λ name f apart h. elim (cases_Bool (bytes
 
 -- A change under the draft's name alone keeps what was synced.
 pub moves_on : (names : MapNames) (was now next : Disk) → ((n : List ℕ) → n ≢ names.draft → next.shows n ≡ now.shows n)
-    → ((n : List ℕ) → n ≢ names.draft → next.reads.files n ≡ now.reads.files n) → Synced names was now → Synced names was next
-moves_on names was now next same_shows same_reads s = record {
+    → ((n : List ℕ) → n ≢ names.draft → next.reads.files n ≡ now.reads.files n) → next.reads.image ≡ now.reads.image
+    → Synced names was now → Synced names was next
+moves_on names was now next same_shows same_reads same_image s = record {
   shows = λ n f apart h. s.shows n f apart (subst (λ (x : Showing). MayShow x f) (same_shows n apart) h);
   loose = λ o f apart h. s.loose o f apart (subst (λ (x : Showing). MatchesFile o x.loose f) (same_shows names.map apart) h);
   image = λ image is apart_map apart. same_shows image apart ∙ s.image image is apart_map apart;
   reads = λ n apart. same_reads n apart ∙ s.reads n apart;
+  selected = same_image ∙ s.selected;
 }
 
 -- a file that is this one is so with more ranges
@@ -95,16 +98,17 @@ image_synced names was reads = record {
   loose = λ o f apart h. some_sync_loose was was.reads.image names.map o f h;
   image = λ image is apart_map apart. sure_synced was was.reads.image image is;
   reads = λ n apart. refl;
+  selected = refl;
 }
 
 pub begun_in_part : (names : MapNames) (was now : Disk) → Synced names was now → Synced names was (entered now (Failed (draft_begin names.draft)))
 begun_in_part names was now s =
-    moves_on names was now (entered now (Failed (draft_begin names.draft))) (λ n apart. part_other now (draft_begin names.draft) n apart) (λ n apart. refl) s
+    moves_on names was now (entered now (Failed (draft_begin names.draft))) (λ n apart. part_other now (draft_begin names.draft) n apart) (λ n apart. refl) refl s
 
 pub begun : (names : MapNames) (was now : Disk) → Synced names was now → Drafting names [] was (entered now (Done (draft_begin names.draft)))
 begun names was now s = record {
   synced = moves_on names was now (entered now (Done (draft_begin names.draft))) (λ n apart. part_other now (draft_begin names.draft) n apart)
-      (λ n apart. done_other now.reads (draft_begin names.draft) n apart) s;
+      (λ n apart. done_other now.reads (draft_begin names.draft) n apart) refl s;
   draft = refl;
   holds = cond-true (bytes_eq names.draft names.draft) (Some empty_file) (now.reads.files names.draft) (own_name names.draft);
 }
@@ -116,11 +120,15 @@ is_the_draft now names n is apart e = apart (let same : Some n ≡ Some names.dr
 pub appended_in_part : (names : MapNames) (text piece : List ℕ) (was now : Disk) → Drafting names text was now → Synced names was (entered now (Failed (draft_append piece)))
 appended_in_part names text piece was now d =
     moves_on names was now (entered now (Failed (draft_append piece)))
-    (λ n apart. part_other now (draft_append piece) n (is_the_draft now names n d.draft apart)) (λ n apart. refl) d.synced
+    (λ n apart. part_other now (draft_append piece) n (is_the_draft now names n d.draft apart)) (λ n apart. refl) refl d.synced
 
 appended_draft : (r : Folder) (o : Option (List ℕ)) (piece : List ℕ) → (appended r o piece).draft ≡ r.draft
 appended_draft r None piece = refl
 appended_draft r (Some draft) piece = refl
+
+appended_image : (r : Folder) (o : Option (List ℕ)) (piece : List ℕ) → (appended r o piece).image ≡ r.image
+appended_image r None piece = refl
+appended_image r (Some draft) piece = refl
 
 appended_holds : (r : Folder) (o : Option (List ℕ)) (draft text piece : List ℕ) → o ≡ Some draft → r.files draft ≡ Some (text_file text)
     → (appended r o piece).files draft ≡ Some (text_file (text ++ piece))
@@ -136,13 +144,14 @@ pub appended_more : (names : MapNames) (text piece : List ℕ) (was now : Disk) 
 appended_more names text piece was now d = record {
   synced = moves_on names was now (entered now (Done (draft_append piece)))
       (λ n apart. part_other now (draft_append piece) n (is_the_draft now names n d.draft apart))
-      (λ n apart. done_other now.reads (draft_append piece) n (is_the_draft now names n d.draft apart)) d.synced;
+      (λ n apart. done_other now.reads (draft_append piece) n (is_the_draft now names n d.draft apart))
+      (appended_image now.reads now.reads.draft piece) d.synced;
   draft = appended_draft now.reads now.reads.draft piece ∙ d.draft;
   holds = appended_holds now.reads now.reads.draft names.draft text piece d.draft d.holds;
 }
 
 pub firm_kept : (names : MapNames) (text : List ℕ) (was now : Disk) → Drafting names text was now → Drafting names text was (entered now (Done draft_sync))
-firm_kept names text was now d = record { synced = moves_on names was now (entered now (Done draft_sync)) (λ n apart. refl) (λ n apart. refl) d.synced; draft = d.draft; holds = d.holds }
+firm_kept names text was now d = record { synced = moves_on names was now (entered now (Done draft_sync)) (λ n apart. refl) (λ n apart. refl) refl d.synced; draft = d.draft; holds = d.holds }
 
 -- a firm text may be shown, or what could be before
 text_shown : (firm : Bool) (file reads : Option File) (s : Showing) (f : Option File) → firm ≡ true → MayShow (with_text file firm reads s) f → MayShow s f ⊎ MatchesFile file s.loose f

@@ -37,12 +37,22 @@ moved_draft r (Some from) draft name is apart =
     ∙ ap (λ (n : List ℕ). put r.files n None draft) same
     ∙ cond-true (bytes_eq draft draft) None (r.files draft) (own_name draft)
 
+moved_image : (r : Folder) (o : Option (List ℕ)) (name : List ℕ) → (moved r o name).image ≡ r.image
+moved_image r None name = refl
+moved_image r (Some from) name = refl
+
+moved_none : (r : Folder) (o : Option (List ℕ)) (draft name : List ℕ) → o ≡ Some draft → (moved r o name).draft ≡ None
+moved_none r None draft name is = absurd (cc)
+moved_none r (Some from) draft name is = refl
+
 -- the disk behind a publish that returned Ok
 pub record Moved (names : MapNames) (text : List ℕ) (was now : Disk) : Type 0 where
   pub published : Published names text was now
   pub map : now.reads.files names.map ≡ Some (text_file text)
   pub draft : names.draft ≢ names.map → now.reads.files names.draft ≡ None
   pub others : (n : List ℕ) → n ≢ names.map → n ≢ names.draft → now.reads.files n ≡ was.reads.files n
+  pub still_open : now.reads.image ≡ was.reads.image
+  pub none_begun : now.reads.draft ≡ None
 
 was_moved : (names : MapNames) (text : List ℕ) (was now : Disk) → Drafting names text was now → now.firm ≡ true → Moved names text was (entered now (Done (draft_publish names.map)))
 was_moved names text was now d firm = record {
@@ -50,6 +60,8 @@ was_moved names text was now d firm = record {
   map = moved_map now.reads now.reads.draft names.draft names.map d.draft ∙ d.holds;
   draft = λ apart. moved_draft now.reads now.reads.draft names.draft names.map d.draft apart;
   others = λ n apart_map apart. done_other now.reads (draft_publish names.map) n (is_other now names n d.draft apart_map apart) ∙ d.synced.reads n apart;
+  still_open = moved_image now.reads now.reads.draft names.map ∙ d.synced.selected;
+  none_begun = moved_none now.reads now.reads.draft names.draft names.map d.draft;
 }
 
 along_publish : (names : MapNames) (text : List ℕ) (was now : Disk) → Drafting names text was now → now.firm ≡ true
@@ -68,7 +80,7 @@ along_publish names text was now d firm =
 along_firm : (names : MapNames) (text : List ℕ) (was now : Disk) → Drafting names text was now → AlongCalls (IsSafe names text was) now (draft_sync ∷ publish_calls names)
 along_firm names text was now d =
     ( synced_safe names text was now d.synced
-    , synced_safe names text was _ (moves_on names was now (entered now (Failed draft_sync)) (λ n apart. refl) (λ n apart. refl) d.synced)
+    , synced_safe names text was _ (moves_on names was now (entered now (Failed draft_sync)) (λ n apart. refl) (λ n apart. refl) refl d.synced)
     , along_publish names text was (entered now (Done draft_sync)) (firm_kept names text was now d) refl
     )
 
@@ -106,6 +118,9 @@ settled_saved names text was now d firm =
       image = (settled names text was p m.map m.published).image;
       no_draft = m.draft;
       others = m.others;
+      still_open = m.still_open;
+      none_begun = m.none_begun;
+      no_wider = λ n f apart_map apart h. (settled names text was p m.map m.published).shows n f apart_map apart h;
     }
 
 filled_saved : (names : MapNames) (text so_far : List ℕ) (was now : Disk) (ps : List (List ℕ)) → so_far ++ concat ps ≡ text → Drafting names so_far was now

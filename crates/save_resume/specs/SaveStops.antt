@@ -38,11 +38,14 @@ StopsInSave names text old new =
     → (name : List ℕ) → name ≢ names.draft
     → IsOldOrNew names text (disk_of old) (disk_after (at_rest new.start) (until k new.calls)) name (found name)
 
--- Behind a save that returned Ok the mapfile is the new text, the image is durable as it read, and no draft is left;
--- other files read as they did.
+-- Behind a save that returned Ok the mapfile is the new text, the open image is durable as it read, and no draft is
+-- left; other files read as they did, and nothing else may be found in their place.
 pub record IsSaved (names : MapNames) (text : List ℕ) (was now : Disk) : Type 0 where
   pub map_sure : now.shows names.map ≡ only (Some (text_file text))
   pub map_reads : now.reads.files names.map ≡ Some (text_file text)
   pub image : ImageIsDurable names was now
+  pub still_open : now.reads.image ≡ was.reads.image
+  pub none_begun : now.reads.draft ≡ None
   pub no_draft : names.draft ≢ names.map → now.reads.files names.draft ≡ None
   pub others : (name : List ℕ) → name ≢ names.map → name ≢ names.draft → now.reads.files name ≡ was.reads.files name
+  pub no_wider : (name : List ℕ) (found : Option File) → name ≢ names.map → name ≢ names.draft → MayShow (now.shows name) found → MayShow (was.shows name) found
