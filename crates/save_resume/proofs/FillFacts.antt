@@ -1,12 +1,11 @@
 -- A draft is filled piece by piece.
-use Rattle.std.proofs.Common.{◌≡◌, ◌≤◌, ℕ, Bool, true, IsTrue, List, [], ◌∷◌, ◌++◌, map, Result, Ok, Err, refl, sym, subst, ap, ◌∙◌, inl, append_assoc, append-nil, arith}
+use Rattle.std.proofs.Common.{◌≡◌, ℕ, Bool, true, IsTrue, List, [], ◌∷◌, ◌++◌, map, Ok, Err, refl, sym, subst, ap, ◌∙◌, inl, append_assoc, append-nil, arith}
 use Rattle.std.proofs.lemmas.List.{map-append}
 use Rattle.fault_count.specs.Counts.{raised}
 use Rattle.crash_site.specs.declared.site.SiteCall.TheVariants.{DraftAppend}
-use Rattle.crash_site.specs.Calls.{Call, Entry, Done, Made, BrokeAt, Lost, image_sync, draft_begin, draft_append}
-use Rattle.crash_site.specs.SiteState.{SiteState, Keeps, Makes, Breaks, Answers}
+use Rattle.crash_site.specs.Calls.{Call, Entry, Done, Made, BrokeAt, image_sync, draft_begin, draft_append}
+use Rattle.crash_site.specs.SiteState.{SiteState, Keeps, Answers}
 use Rattle.mapfile_text.specs.Pieces.{pieces_of}
-use Rattle.save_resume.specs.declared.draft.SaveFault.{SaveFault}
 use Rattle.save_resume.specs.Saving.{IsNameIn, fill_calls, EndsBegun, EndsFilled, Saves}
 use Rattle.save_resume.proofs.CallFacts.{made_more, broke_back, named_back}
 
@@ -43,14 +42,17 @@ nothing_filled text left old all drafting = record {
 }
 
 pub piece_filled : (text left rest out piece : List ℕ) (old mid new : SiteState) {T E : Type 0} (x : T)
-    → Filling text left old mid → pieces_of left ≡ out ∷ pieces_of rest → piece ≡ out → Answers {E = E} (draft_append piece) (Ok x) mid new → Filling text rest old new
+    → Filling text left old mid → pieces_of left ≡ out ∷ pieces_of rest → piece ≡ out
+    → Answers {E = E} (draft_append piece) (Ok x) mid new → Filling text rest old new
 piece_filled text left rest out piece old mid new x f first same b =
     let next : pieces_of left ≡ piece ∷ pieces_of rest = first ∙ ap (λ p. p ∷ pieces_of rest) (sym same) in
     record {
       went = f.went ++ piece ∷ [];
       whole = f.whole ∙ ap (λ ps. f.went ++ ps) next ∙ sym (append_assoc f.went (piece ∷ []) (pieces_of rest));
       made = λ t.
-          let both = made_more old.calls mid.calls new.calls (map draft_append f.went) (draft_append piece ∷ []) (f.made t) (b.done (subst (λ (y : Bool). IsTrue y) (sym f.keeps.tells) t)) in
+          let both = made_more old.calls mid.calls new.calls (map draft_append f.went) (draft_append piece ∷ []) (f.made t)
+              (b.done (subst (λ (y : Bool). IsTrue y) (sym f.keeps.tells) t))
+          in
           subst (λ (cs : List Call). Made cs old.calls new.calls) (sym (map-append draft_append f.went (piece ∷ []))) both;
       faults = b.kept ∙ f.faults;
       keeps = keeps_more old mid new f.keeps b.keeps;
@@ -58,12 +60,16 @@ piece_filled text left rest out piece old mid new x f first same b =
       drafting = b.draft ∙ f.drafting;
     }
 
-pub all_filled : (text left : List ℕ) (old new : SiteState) {T : Type 0} (x : T) → Filling text left old new → pieces_of left ≡ [] → Saves (fill_calls text) true (Ok x) old new
+pub all_filled : (text left : List ℕ) (old new : SiteState) {T : Type 0} (x : T) → Filling text left old new
+    → pieces_of left ≡ [] → Saves (fill_calls text) true (Ok x) old new
 all_filled text left old new x f none =
     let all : f.went ≡ pieces_of text = sym (append-nil f.went) ∙ ap (λ ps. f.went ++ ps) (sym none) ∙ sym f.whole in
     record {
       keeps = f.keeps;
-      made = record { made = λ t. subst (λ (ps : List (List ℕ)). Made (map draft_append ps) old.calls new.calls) all (f.made t); faults = f.faults };
+      made = record {
+        made = λ t. subst (λ (ps : List (List ℕ)). Made (map draft_append ps) old.calls new.calls) all (f.made t);
+        faults = f.faults;
+      };
       broke = tt;
       named = tt;
       image = f.image;
@@ -77,18 +83,22 @@ pub piece_refused : (text left rest out piece : List ℕ) (old mid new : SiteSta
 piece_refused text left rest out piece old mid new e f first same b =
     let next : pieces_of left ≡ piece ∷ pieces_of rest = first ∙ ap (λ p. p ∷ pieces_of rest) (sym same) in
     let whole : map draft_append f.went ++ draft_append piece ∷ map draft_append (pieces_of rest) ≡ fill_calls text =
-    sym (map-append draft_append f.went (piece ∷ pieces_of rest)) ∙ ap (λ ps. map draft_append (f.went ++ ps)) (sym next) ∙ ap (map draft_append) (sym f.whole)
+    sym (map-append draft_append f.went (piece ∷ pieces_of rest))
+    ∙ ap (λ ps. map draft_append (f.went ++ ps)) (sym next)
+    ∙ ap (map draft_append) (sym f.whole)
     in
     record {
       keeps = keeps_more old mid new f.keeps b.keeps;
       made = tt;
       broke = record {
         broke = λ t. subst (λ (cs : List Call). BrokeAt DraftAppend cs old.calls new.calls) whole
-            (broke_back DraftAppend (map draft_append f.went) (draft_append piece ∷ map draft_append (pieces_of rest)) old.calls mid.calls new.calls
+            (broke_back DraftAppend (map draft_append f.went) (draft_append piece ∷ map draft_append (pieces_of rest))
+            old.calls mid.calls new.calls
             (f.made t) (inl (refl, b.lost (subst (λ (y : Bool). IsTrue y) (sym f.keeps.tells) t))));
         rose = b.rose ∙ ap raised f.faults;
       };
-      named = subst (λ (cs : List Call). IsNameIn DraftAppend cs) whole (named_back DraftAppend (map draft_append f.went) (draft_append piece ∷ map draft_append (pieces_of rest)) (inl refl));
+      named = subst (λ (cs : List Call). IsNameIn DraftAppend cs) whole
+          (named_back DraftAppend (map draft_append f.went) (draft_append piece ∷ map draft_append (pieces_of rest)) (inl refl));
       image = b.image ∙ f.image;
       draft = tt;
       draft_left = b.draft ∙ f.drafting;
@@ -109,5 +119,6 @@ ends_filled ps old new b m = record {
       ∙ ap (λ es. b.before ++ Done image_sync ∷ Done (draft_begin b.draft) ∷ es) (entries_of_pieces ps);
 }
 
-pub filled_behind : (text left : List ℕ) (old new : SiteState) → Filling text left old new → IsTrue old.tells → EndsBegun old.calls → EndsFilled new.calls
+pub filled_behind : (text left : List ℕ) (old new : SiteState) → Filling text left old new → IsTrue old.tells
+    → EndsBegun old.calls → EndsFilled new.calls
 filled_behind text left old new f t b = ends_filled f.went old.calls new.calls b (f.made t)

@@ -1,7 +1,6 @@
 -- What a stop within a save may leave.
-use Rattle.std.specs.Prelude.{◌≡◌, ◌≢◌, ◌⊎◌, true, ℕ, ◌≤◌, List, length, Option, Some, None}
+use Rattle.std.specs.Prelude.{◌≡◌, ◌≢◌, true, ℕ, ◌≤◌, List, length, Option, Some, None}
 use Rattle.crash_site.specs.Files.{File}
-use Rattle.crash_site.specs.Calls.{Entry}
 use Rattle.crash_site.specs.Disk.{Disk, at_rest, only, disk_after}
 use Rattle.crash_site.specs.Left.{MatchesFile, MayShow, until, MayBeLeft}
 use Rattle.crash_site.specs.SiteState.{SiteState}
@@ -48,4 +47,5 @@ pub record IsSaved (names : MapNames) (text : List ℕ) (was now : Disk) : Type 
   pub none_begun : now.reads.draft ≡ None
   pub no_draft : names.draft ≢ names.map → now.reads.files names.draft ≡ None
   pub others : (name : List ℕ) → name ≢ names.map → name ≢ names.draft → now.reads.files name ≡ was.reads.files name
-  pub no_wider : (name : List ℕ) (found : Option File) → name ≢ names.map → name ≢ names.draft → MayShow (now.shows name) found → MayShow (was.shows name) found
+  pub no_wider : (name : List ℕ) (found : Option File) → name ≢ names.map → name ≢ names.draft
+      → MayShow (now.shows name) found → MayShow (was.shows name) found

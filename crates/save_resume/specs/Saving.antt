@@ -1,5 +1,5 @@
 -- The calls of a save, and what each of its parts says of the site.
-use Rattle.std.specs.Prelude.{◌≡◌, ◌⊎◌, ℕ, Bool, true, false, IsTrue, List, [], ◌∷◌, ◌++◌, map, Option, None, Result, is_ok, OnOk, IfErr}
+use Rattle.std.specs.Prelude.{◌≡◌, ◌⊎◌, ℕ, Bool, true, false, List, [], ◌∷◌, ◌++◌, map, Result, OnOk, IfErr}
 use Rattle.crash_site.specs.declared.site.SiteCall.{SiteCall}
 use Rattle.crash_site.specs.declared.site.SiteCall.TheVariants.{ImageOpen, ImageRead, ImageWrite, ImageSync, MapRead, DraftBegin, DraftAppend, DraftSync, DraftPublish, MapSettle, MapRemove}
 use Rattle.crash_site.specs.Calls.{Call, call_name, Entry, Done, image_sync, draft_begin, draft_append, draft_sync, draft_publish, map_settle}
@@ -42,7 +42,8 @@ pub record EndsFirm (calls : List Entry) : Type 0 where
   pub before : List Entry
   pub draft : List ℕ
   pub pieces : List (List ℕ)
-  pub is : calls ≡ before ++ Done image_sync ∷ Done (draft_begin draft) ∷ (map (λ piece. Done (draft_append piece)) pieces ++ Done draft_sync ∷ [])
+  pub is : calls ≡ before ++ Done image_sync ∷ Done (draft_begin draft)
+      ∷ (map (λ piece. Done (draft_append piece)) pieces ++ Done draft_sync ∷ [])
 
 -- whether a draft is begun behind a part of a save, by the call that failed
 abbrev pub drafting_after_fault : SiteCall → (before : Bool) → Bool
