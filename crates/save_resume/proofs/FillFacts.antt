@@ -51,7 +51,7 @@ piece_filled text left rest out piece old mid new x f first same b =
       whole = f.whole ∙ ap (λ ps. f.went ++ ps) next ∙ sym (append_assoc f.went (piece ∷ []) (pieces_of rest));
       made = λ t.
           let both = made_more old.calls mid.calls new.calls (map draft_append f.went) (draft_append piece ∷ []) (f.made t)
-              (b.done (subst (λ (y : Bool). IsTrue y) (sym f.keeps.tells) t))
+          (b.done (subst (λ (y : Bool). IsTrue y) (sym f.keeps.tells) t))
           in
           subst (λ (cs : List Call). Made cs old.calls new.calls) (sym (map-append draft_append f.went (piece ∷ []))) both;
       faults = b.kept ∙ f.faults;

@@ -12,17 +12,17 @@ use Rattle.save_resume.proofs.CallFacts.{made_more, broke_front, broke_back, nam
 use Rattle.save_resume.proofs.FillFacts.{keeps_more}
 
 -- whether a draft is begun behind one of these calls that failed doesn't depend on what was begun before
-abbrev pub Settles : List Call → Type 0
-Settles calls = (at : SiteCall) (a b : Bool) → IsNameIn at calls → drafting_after_fault at a ≡ drafting_after_fault at b
+abbrev pub FixesTheDraft : List Call → Type 0
+FixesTheDraft calls = (at : SiteCall) (a b : Bool) → IsNameIn at calls → drafting_after_fault at a ≡ drafting_after_fault at b
 
-publish_settles : (names : MapNames) → Settles (publish_calls names)
+publish_settles : (names : MapNames) → FixesTheDraft (publish_calls names)
 publish_settles names at a b h =
     ⊎_elim (λ e. rw e refl) (λ r. ⊎_elim (λ e. rw e refl) (λ no. absurd no) r) h
 
-firm_settles : (names : MapNames) → Settles (draft_sync ∷ publish_calls names)
+firm_settles : (names : MapNames) → FixesTheDraft (draft_sync ∷ publish_calls names)
 firm_settles names at a b h = ⊎_elim (λ e. rw e refl) (λ r. publish_settles names at a b r) h
 
-appends_settle : (names : MapNames) (ps : List (List ℕ)) → Settles (map draft_append ps ++ draft_sync ∷ publish_calls names)
+appends_settle : (names : MapNames) (ps : List (List ℕ)) → FixesTheDraft (map draft_append ps ++ draft_sync ∷ publish_calls names)
 appends_settle names [] at a b h = firm_settles names at a b h
 appends_settle names (p ∷ ps) at a b h = ⊎_elim (λ e. rw e refl) (λ r. appends_settle names ps at a b r) h
 
@@ -45,7 +45,7 @@ saves_more xs ys d d' x y old mid new f g = record {
 
 -- a part that was made, and then one that failed
 breaks_more : {T U : Type 0} (xs ys : List Call) (d d' d'' : Bool) (x : T) (e : SaveFault) (old mid new : SiteState)
-    → Settles ys → Saves xs d (Ok x) old mid → Saves {T = U} ys d' (Err e) mid new → Saves {T = U} (xs ++ ys) d'' (Err e) old new
+    → FixesTheDraft ys → Saves xs d (Ok x) old mid → Saves {T = U} ys d' (Err e) mid new → Saves {T = U} (xs ++ ys) d'' (Err e) old new
 breaks_more xs ys d d' d'' x e old mid new settles f g = record {
   keeps = keeps_more old mid new f.keeps g.keeps;
   made = tt;

@@ -28,7 +28,7 @@ pub record Drafting (names : MapNames) (text : List ℕ) (was now : Disk) : Type
   pub holds : now.reads.files names.draft ≡ Some (text_file text)
 
 -- The mapfile reads as this text; a stop shows that or what could be shown before.
-pub record Published (names : MapNames) (text : List ℕ) (was now : Disk) : Type 0 where
+pub record ShowsNew (names : MapNames) (text : List ℕ) (was now : Disk) : Type 0 where
   pub here : (f : Option File) → names.map ≢ names.draft → MayShow (now.shows names.map) f
       → MayShow (was.shows names.map) f ⊎ MatchesFile (Some (text_file text)) (was.shows names.map).loose f
   pub shows : (n : List ℕ) (f : Option File) → n ≢ names.map → n ≢ names.draft → MayShow (now.shows n) f → MayShow (was.shows n) f
@@ -50,18 +50,18 @@ old_or_new : (names : MapNames) (text : List ℕ) (was now : Disk) (f : Option F
 old_or_new names text was now f image (inl old) = Old old
 old_or_new names text was now f image (inr new) = New refl new image
 
-pub published_safe : (names : MapNames) (text : List ℕ) (was now : Disk) → Published names text was now → IsSafe names text was now
+pub published_safe : (names : MapNames) (text : List ℕ) (was now : Disk) → ShowsNew names text was now → IsSafe names text was now
 published_safe names text was now p = λ name f apart h. elim (cases_Bool (bytes_eq name names.map)) [
   | inl is ↦
-    let same : name ≡ names.map = same_name name names.map is in
-    subst (λ (n : List ℕ). IsOldOrNew names text was now n f) (sym same)
-    (old_or_new names text was now f p.image
-    (p.here f (subst (λ (n : List ℕ). n ≢ names.draft) same apart) (subst (λ (n : List ℕ). MayShow (now.shows n) f) same h)))
+      let same : name ≡ names.map = same_name name names.map is in
+      subst (λ (n : List ℕ). IsOldOrNew names text was now n f) (sym same)
+      (old_or_new names text was now f p.image
+      (p.here f (subst (λ (n : List ℕ). n ≢ names.draft) same apart) (subst (λ (n : List ℕ). MayShow (now.shows n) f) same h)))
   | inr other ↦
-    let apart_map : name ≢ names.map =
-    λ e. absurd (let is : bytes_eq name names.map ≡ true = ap (λ n. bytes_eq n names.map) e ∙ own_name names.map in cc)
-    in
-    Old (p.shows name f apart_map apart h)
+      let apart_map : name ≢ names.map =
+      λ e. absurd (let is : bytes_eq name names.map ≡ true = ap (λ n. bytes_eq n names.map) e ∙ own_name names.map in cc)
+      in
+      Old (p.shows name f apart_map apart h)
 ]
 
 -- A change under the draft's name alone keeps what was synced.
@@ -116,9 +116,9 @@ begun_in_part names was now s =
     moves_on names was now (entered now (Failed (draft_begin names.draft)))
     (λ n apart. part_other now (draft_begin names.draft) n apart) (λ n apart. refl) refl s
 
-pub begun : (names : MapNames) (was now : Disk) → Synced names was now
+pub draft_begun : (names : MapNames) (was now : Disk) → Synced names was now
     → Drafting names [] was (entered now (Done (draft_begin names.draft)))
-begun names was now s = record {
+draft_begun names was now s = record {
   synced = moves_on names was now (entered now (Done (draft_begin names.draft)))
       (λ n apart. part_other now (draft_begin names.draft) n apart)
       (λ n apart. done_other now.reads (draft_begin names.draft) n apart) refl s;
@@ -205,7 +205,7 @@ is_other now names n is apart_map apart (inl e) = is_the_draft now names n is ap
 is_other now names n is apart_map apart (inr e) = apart_map e
 
 pub published_in_part : (names : MapNames) (text : List ℕ) (was now : Disk) → Drafting names text was now → now.firm ≡ true
-    → Published names text was (part (draft_publish names.map) now)
+    → ShowsNew names text was (part (draft_publish names.map) now)
 published_in_part names text was now d firm = record {
   here = λ f apart h. ⊎_elim (λ old. inl (d.synced.shows names.map f apart old))
       (λ new. inr (d.synced.loose (Some (text_file text)) f apart
@@ -219,7 +219,7 @@ published_in_part names text was now d firm = record {
 }
 
 pub reshown : (names : MapNames) (text : List ℕ) (was now next : Disk) → ((n : List ℕ) → next.shows n ≡ now.shows n)
-    → Published names text was now → Published names text was next
+    → ShowsNew names text was now → ShowsNew names text was next
 reshown names text was now next same p = record {
   here = λ f apart h. p.here f apart (subst (λ (s : Showing). MayShow s f) (same names.map) h);
   shows = λ n f apart_map apart h. p.shows n f apart_map apart (subst (λ (s : Showing). MayShow s f) (same n) h);
@@ -234,7 +234,7 @@ settled_shows now name file is =
 
 -- what was published and then settled
 pub settled : (names : MapNames) (text : List ℕ) (was now : Disk) → now.reads.files names.map ≡ Some (text_file text)
-    → Published names text was now → Published names text was (entered now (Done (map_settle names.map)))
+    → ShowsNew names text was now → ShowsNew names text was (entered now (Done (map_settle names.map)))
 settled names text was now reads p = record {
   here = λ f apart h.
       let file : Option File = Some (text_file text) in

@@ -19,7 +19,7 @@ use Rattle.save_resume.specs.declared.draft.SaveFault.{SaveFault}
 use Rattle.save_resume.specs.MapNames.{MapNames}
 use Rattle.save_resume.specs.Saving.{publish_calls, save_calls, Saves}
 use Rattle.save_resume.specs.SaveStops.{disk_of, text_file, IsOldOrNew, Old, StopsInSave, IsSaved}
-use Rattle.save_resume.proofs.StageFacts.{Drafting, Published, IsSafe, synced_safe, published_safe, image_synced, begun_in_part, begun, appended_in_part, appended_more, firm_kept, published_in_part, moves_on, reshown, settled, settled_shows, is_other}
+use Rattle.save_resume.proofs.StageFacts.{Drafting, ShowsNew, IsSafe, synced_safe, published_safe, image_synced, begun_in_part, draft_begun, appended_in_part, appended_more, firm_kept, published_in_part, moves_on, reshown, settled, settled_shows, is_other}
 
 -- a publish puts the draft's file under the mapfile's name
 moved_map : (r : Folder) (o : Option (List ℕ)) (draft name : List ℕ) → o ≡ Some draft → (moved r o name).files name ≡ r.files draft
@@ -46,8 +46,8 @@ moved_none r None draft name is = absurd (cc)
 moved_none r (Some from) draft name is = refl
 
 -- the disk behind a publish that returned Ok
-pub record Moved (names : MapNames) (text : List ℕ) (was now : Disk) : Type 0 where
-  pub published : Published names text was now
+pub record BehindPublish (names : MapNames) (text : List ℕ) (was now : Disk) : Type 0 where
+  pub published : ShowsNew names text was now
   pub map : now.reads.files names.map ≡ Some (text_file text)
   pub draft : names.draft ≢ names.map → now.reads.files names.draft ≡ None
   pub others : (n : List ℕ) → n ≢ names.map → n ≢ names.draft → now.reads.files n ≡ was.reads.files n
@@ -55,7 +55,7 @@ pub record Moved (names : MapNames) (text : List ℕ) (was now : Disk) : Type 0 
   pub none_begun : now.reads.draft ≡ None
 
 was_moved : (names : MapNames) (text : List ℕ) (was now : Disk) → Drafting names text was now → now.firm ≡ true
-    → Moved names text was (entered now (Done (draft_publish names.map)))
+    → BehindPublish names text was (entered now (Done (draft_publish names.map)))
 was_moved names text was now d firm = record {
   published = reshown names text was _ (entered now (Done (draft_publish names.map))) (λ n. refl)
       (published_in_part names text was now d firm);
@@ -71,24 +71,25 @@ along_publish : (names : MapNames) (text : List ℕ) (was now : Disk) → Drafti
     → AlongCalls (IsSafe names text was) now (publish_calls names)
 along_publish names text was now d firm =
     let m = was_moved names text was now d firm in
-    let p : Disk = entered now (Done (draft_publish names.map)) in
-    ( synced_safe names text was now d.synced
-    , published_safe names text was _
-      (reshown names text was _ (entered now (Failed (draft_publish names.map))) (λ n. refl) (published_in_part names text was now d firm))
-    , ( published_safe names text was p m.published
-      , published_safe names text was _ (reshown names text was p (entered p (Failed (map_settle names.map))) (λ n. refl) m.published)
-      , published_safe names text was _ (settled names text was p m.map m.published)
-      )
+    let p : Disk = entered now (Done (draft_publish names.map)) in (
+      synced_safe names text was now d.synced,
+      published_safe names text was _
+          (reshown names text was _ (entered now (Failed (draft_publish names.map))) (λ n. refl) (published_in_part names text was now d firm)),
+      (
+        published_safe names text was p m.published,
+        published_safe names text was _ (reshown names text was p (entered p (Failed (map_settle names.map))) (λ n. refl) m.published),
+        published_safe names text was _ (settled names text was p m.map m.published),
+      ),
     )
 
 along_firm : (names : MapNames) (text : List ℕ) (was now : Disk) → Drafting names text was now
     → AlongCalls (IsSafe names text was) now (draft_sync ∷ publish_calls names)
-along_firm names text was now d =
-    ( synced_safe names text was now d.synced
-    , synced_safe names text was _
-      (moves_on names was now (entered now (Failed draft_sync)) (λ n apart. refl) (λ n apart. refl) refl d.synced)
-    , along_publish names text was (entered now (Done draft_sync)) (firm_kept names text was now d) refl
-    )
+along_firm names text was now d = (
+  synced_safe names text was now d.synced,
+  synced_safe names text was _
+      (moves_on names was now (entered now (Failed draft_sync)) (λ n apart. refl) (λ n apart. refl) refl d.synced),
+  along_publish names text was (entered now (Done draft_sync)) (firm_kept names text was now d) refl,
+)
 
 -- a text so far and the pieces that are left
 along_fill : (names : MapNames) (text so_far : List ℕ) (was now : Disk) (ps : List (List ℕ))
@@ -96,25 +97,26 @@ along_fill : (names : MapNames) (text so_far : List ℕ) (was now : Disk) (ps : 
     → AlongCalls (IsSafe names text was) now (map draft_append ps ++ draft_sync ∷ publish_calls names)
 along_fill names text so_far was now [] e d =
     along_firm names text was now (subst (λ (t : List ℕ). Drafting names t was now) (sym (append-nil so_far) ∙ e) d)
-along_fill names text so_far was now (p ∷ ps) e d =
-    ( synced_safe names text was now d.synced
-    , synced_safe names text was _ (appended_in_part names so_far p was now d)
-    , along_fill names text (so_far ++ p) was (entered now (Done (draft_append p))) ps (append_assoc so_far p (concat ps) ∙ e)
-      (appended_more names so_far p was now d)
-    )
+along_fill names text so_far was now (p ∷ ps) e d = (
+  synced_safe names text was now d.synced,
+  synced_safe names text was _ (appended_in_part names so_far p was now d),
+  along_fill names text (so_far ++ p) was (entered now (Done (draft_append p))) ps (append_assoc so_far p (concat ps) ∙ e)
+      (appended_more names so_far p was now d),
+)
 
 along_save : (names : MapNames) (text : List ℕ) (was : Disk) → Leaves was was.reads.files
     → AlongCalls (IsSafe names text was) was (save_calls names text)
 along_save names text was reads =
     let s = image_synced names was reads in
-    let d : Disk = entered was (Done image_sync) in
-    ( (λ name f apart h. Old h)
-    , (λ name f apart h. Old h)
-    , ( synced_safe names text was d s
-      , synced_safe names text was _ (begun_in_part names was d s)
-      , along_fill names text [] was (entered d (Done (draft_begin names.draft))) (pieces_of text) (in_pieces text).together
-        (begun names was d s)
-      )
+    let d : Disk = entered was (Done image_sync) in (
+      (λ name f apart h. Old h),
+      (λ name f apart h. Old h),
+      (
+        synced_safe names text was d s,
+        synced_safe names text was _ (begun_in_part names was d s),
+        along_fill names text [] was (entered d (Done (draft_begin names.draft))) (pieces_of text) (in_pieces text).together
+            (draft_begun names was d s),
+      ),
     )
 
 settled_saved : (names : MapNames) (text : List ℕ) (was now : Disk) → Drafting names text was now → now.firm ≡ true
@@ -148,7 +150,7 @@ all_saved : (names : MapNames) (text : List ℕ) (was : Disk) → Leaves was was
 all_saved names text was reads =
     let d : Disk = entered was (Done image_sync) in
     filled_saved names text [] was (entered d (Done (draft_begin names.draft))) (pieces_of text) (in_pieces text).together
-    (begun names was d (image_synced names was reads))
+    (draft_begun names was d (image_synced names was reads))
 
 -- what reads is one outcome
 reads_sound : (start : Folder) (calls : List Entry)
@@ -179,8 +181,8 @@ pub stops_in_save : {T : Type 0} (names : MapNames) (text : List ℕ) (result : 
     → Saves (save_calls names text) false result old new → StopsInSave names text old new
 stops_in_save names text result old new tells s =
     λ k found le most left name apart.
-        stops_along names text old.start new.start old.calls new.calls (s.keeps.start tells)
-        (goes_on names text result old new tells s) k found le left name apart
+    stops_along names text old.start new.start old.calls new.calls (s.keeps.start tells)
+    (goes_on names text result old new tells s) k found le left name apart
 
 is_saved : {T : Type 0} (names : MapNames) (text : List ℕ) (x : T) (old new : SiteState) → IsTrue old.tells
     → Saves (save_calls names text) false (Ok x) old new → IsSaved names text (disk_of old) (disk_of new)

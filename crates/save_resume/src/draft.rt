@@ -18,6 +18,12 @@ pub struct SaveFault {
     pub call: SiteCall,
 }
 
+fn at(call: SiteCall) -> SaveFault
+    ensures { result ≡ record { call = call } }
+{
+    SaveFault { call }
+}
+
 /// A map was saved.
 #[derive(Clone, Copy, Debug, PartialEq, Eq)]
 pub struct Saved;
@@ -46,9 +52,9 @@ impl Draft<Begun> {
         ensures call { Saves (begin_calls names.now) true result (D.state site.old) (D.state site.new) }
         ensures begun { OnOk result (IsTrue (D.state site.old).tells → EndsBegun (D.state site.new).calls) }
     {
-        site.image_sync().map_err(|_| SaveFault { call: SiteCall::ImageSync })?;
+        site.image_sync().map_err(|_| at(SiteCall::ImageSync))?;
         site.draft_begin(names.draft())
-            .map_err(|_| SaveFault { call: SiteCall::DraftBegin })?;
+            .map_err(|_| at(SiteCall::DraftBegin))?;
         Ok(Draft { state: Begun })
     }
 
@@ -62,7 +68,8 @@ impl Draft<Begun> {
     ) -> Result<Draft<Filled>, SaveFault>
         requires drafting { (D.state site.old).is_drafting ≡ true }
         requires begun { IsTrue (D.state site.old).tells → EndsBegun (D.state site.old).calls }
-        ensures call { Saves (fill_calls (printed heading.now state (T.statuses tiles.now))) true result (D.state site.old) (D.state site.new) }
+        ensures call { Saves (fill_calls (printed heading.now state (T.statuses tiles.now))) true result
+            (D.state site.old) (D.state site.new) }
         ensures filled { OnOk result (IsTrue (D.state site.old).tells → EndsFilled (D.state site.new).calls) }
     {
         let Draft { state: _begun } = self;
@@ -70,7 +77,7 @@ impl Draft<Begun> {
         let mut piece = ArrayVec::new();
         while printer.next(state, heading, tiles, &mut piece) {
             let Ok(()) = site.draft_append(piece.as_slice()) else {
-                return Err(SaveFault { call: SiteCall::DraftAppend });
+                return Err(at(SiteCall::DraftAppend));
             };
         }
         Ok(Draft { state: Filled })
@@ -86,7 +93,7 @@ impl Draft<Filled> {
         ensures firm { OnOk result (IsTrue (D.state site.old).tells → EndsFirm (D.state site.new).calls) }
     {
         let Draft { state: _filled } = self;
-        site.draft_sync().map_err(|_| SaveFault { call: SiteCall::DraftSync })?;
+        site.draft_sync().map_err(|_| at(SiteCall::DraftSync))?;
         Ok(Draft { state: Firm })
     }
 }
@@ -100,9 +107,9 @@ impl Draft<Firm> {
     {
         let Draft { state: _firm } = self;
         site.draft_publish(names.map())
-            .map_err(|_| SaveFault { call: SiteCall::DraftPublish })?;
+            .map_err(|_| at(SiteCall::DraftPublish))?;
         site.map_settle(names.map())
-            .map_err(|_| SaveFault { call: SiteCall::MapSettle })?;
+            .map_err(|_| at(SiteCall::MapSettle))?;
         Ok(Saved)
     }
 }

@@ -4,3 +4,5 @@
 pub mod draft;
 pub mod names;
 pub mod save;
+#[cfg(test)]
+mod tests;

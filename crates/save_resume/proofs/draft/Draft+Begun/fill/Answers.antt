@@ -11,7 +11,8 @@ loop-state-init g c =
 
 pub returns-in_default-clause-call : goal.returns-in_default-clause-call
 returns-in_default-clause-call g c =
-    piece_refused _ _ _ _ _ _ _ _ _ c.loop-state.invariant c.loop-state-test.ensures.pieces c.as_slice.ensures.value c.in_default.ensures
+    rw c.at.ensures
+    (piece_refused _ _ _ _ _ _ _ _ _ c.loop-state.invariant c.loop-state-test.ensures.pieces c.as_slice.ensures.value c.in_default.ensures)
 
 pub loop-state-smaller : goal.loop-state-smaller
 loop-state-smaller g c =
