@@ -1,0 +1,5 @@
+pub mod CallFacts
+pub mod FillFacts
+pub mod SaveFacts
+pub mod StageFacts
+pub mod StopFacts

@@ -1,0 +1,3 @@
+pub mod MapNames
+pub mod Saving
+pub mod SaveStops

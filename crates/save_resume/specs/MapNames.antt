@@ -1,0 +1,10 @@
+use Rattle.std.specs.Prelude.{ℕ, List, ◌++◌, codes}
+
+-- the names of a mapfile and of its draft, as bytes
+pub record MapNames : Type 0 where
+  pub map : List ℕ
+  pub draft : List ℕ
+
+-- the draft stands beside the mapfile: its name is the mapfile's, followed by `.tmp`
+abbrev pub names_of : List ℕ → MapNames
+names_of map = record { map = map; draft = map ++ codes ".tmp" }

@@ -1,0 +1,111 @@
+-- What a mapfile is read as, alone and behind the barrier.
+use Rattle.std.specs.Prelude.{◌≡◌, ◌≢◌, ◌⊎◌, ⊤, ℕ, ◌<◌, ◌≤◌, ◌^◌, IsTrue, List, [], ◌∷◌, ◌++◌, length, Option, Some, None, Result, Ok, Err}
+use Rattle.fault_count.specs.Counts.{Rose}
+use Rattle.mapfile_text.specs.declared.read.Mode.{Mode}
+use Rattle.mapfile_text.specs.declared.read.Mode.TheVariants.{Tight}
+use Rattle.mapfile_text.specs.declared.read.ReadMap.{ReadMap}
+use Rattle.mapfile_text.specs.declared.read.MapError.{MapError}
+use Rattle.mapfile_text.specs.declared.read.MapError.TheVariants.{NoStatusLine, TooLong, NoMemory as OutOfMemory}
+use Rattle.mapfile_text.specs.declared.read.TheConstants.{TEXT_LIMIT}
+use Rattle.mapfile_text.specs.MapText.{IsMapText, MapFault, Blank}
+use Rattle.crash_site.specs.declared.site.SiteCall.{SiteCall}
+use Rattle.crash_site.specs.declared.site.SiteCall.TheVariants.{ImageSync, MapRead, MapSettle}
+use Rattle.crash_site.specs.Files.{File}
+use Rattle.crash_site.specs.Calls.{Call, Entry, Made, BrokeAt, image_sync, map_settle}
+use Rattle.crash_site.specs.Disk.{Disk, only}
+use Rattle.crash_site.specs.SiteState.{SiteState, Stays, files_in}
+use Rattle.save_resume.specs.declared.load.ResumeFault.{ResumeFault}
+use Rattle.save_resume.specs.declared.load.ResumeFault.TheVariants.{Site, Map as Refused, NoMemory}
+use Rattle.save_resume.specs.declared.resume.Resumed.{Resumed}
+use Rattle.save_resume.specs.declared.resume.Resumed.TheVariants.{Fresh, Map}
+use Rattle.save_resume.specs.MapNames.{MapNames}
+use Rattle.save_resume.specs.SaveStops.{disk_of}
+use Rattle.save_resume.specs.Loading.{BeginsLoad, IsLoad}
+
+-- a file is there, and its text is this map
+pub record IsReadAs (file : Option File) (mode : Mode) (m : ReadMap) : Type 0 where
+  pub there : File
+  pub is : file ≡ Some there
+  pub within : length there.bytes ≤ TEXT_LIMIT
+  pub reads : IsMapText there.bytes mode m.state m.first m.listed m.tiles.statuses
+
+-- a file is there, and its text is refused: it is too long, or no map
+pub record IsRefusedFor (file : Option File) (mode : Mode) (e : MapError) : Type 0 where
+  pub there : File
+  pub is : file ≡ Some there
+  pub why : ((e ≡ TooLong) × (TEXT_LIMIT < length there.bytes))
+      ⊎ ((length there.bytes ≤ TEXT_LIMIT) × MapFault there.bytes mode e)
+
+-- no file is there, or one within the limit that says nothing
+pub data IsLikeNone (file : Option File) : Type 0 where
+  NoFile : file ≡ None → IsLikeNone file
+  SaysNothing : (there : File) → file ≡ Some there → length there.bytes ≤ TEXT_LIMIT → Blank there.bytes → IsLikeNone file
+
+-- the reads of a load that ended, behind other calls
+abbrev pub Loaded : List Call → List ℕ → Option File → List Entry → List Entry → Type 0
+Loaded before name file calls calls' = (load : List Call) × IsLoad name file load × Made (before ++ load) calls calls'
+
+-- the first reads of a load, behind other calls, for which memory ran out
+abbrev pub Starved : List Call → List ℕ → Option File → List Entry → List Entry → Type 0
+Starved before name file calls calls' = (load : List Call) × BeginsLoad name file load × Made (before ++ load) calls calls'
+
+-- a read of a load failed, behind other calls
+abbrev pub BrokeInLoad : List Call → List ℕ → Option File → List Entry → List Entry → Type 0
+BrokeInLoad before name file calls calls' = (load : List Call) × BeginsLoad name file load × BrokeAt MapRead (before ++ load) calls calls'
+
+-- What a load answers of a file, and its calls.
+abbrev pub Loads : List ℕ → Mode → Option File → Result (Option ReadMap) ResumeFault → List Entry → List Entry → Type 0
+Loads name mode file (Ok None) calls calls' = (file ≡ None) × Loaded [] name file calls calls'
+Loads name mode file (Ok (Some m)) calls calls' = IsReadAs file mode m × Loaded [] name file calls calls'
+Loads name mode file (Err (Site call)) calls calls' = (call ≡ MapRead) × BrokeInLoad [] name file calls calls'
+Loads name mode file (Err (Refused e)) calls calls' = IsRefusedFor file mode e × Loaded [] name file calls calls'
+Loads name mode file (Err NoMemory) calls calls' = Starved [] name file calls calls'
+
+-- The barrier: the mapfile is settled and the image synced, so that nothing of an earlier run is pending.
+abbrev pub barrier_calls : MapNames → List Call
+barrier_calls names = map_settle names.map ∷ image_sync ∷ []
+
+-- a call that failed as a rescue resumed: one of the barrier, or a read behind it
+abbrev pub BrokeAsResumed : MapNames → Option File → SiteCall → List Entry → List Entry → Type 0
+BrokeAsResumed names file call calls calls' =
+    BrokeAt call (barrier_calls names) calls calls'
+    ⊎ ((call ≡ MapRead) × BrokeInLoad (barrier_calls names) names.map file calls calls')
+
+-- What a resume answers of a mapfile, and its calls: one that says nothing is like none.
+abbrev pub Resumes : MapNames → Option File → Result Resumed ResumeFault → List Entry → List Entry → Type 0
+Resumes names file (Ok Fresh) calls calls' = IsLikeNone file × Loaded (barrier_calls names) names.map file calls calls'
+Resumes names file (Ok (Map m)) calls calls' = IsReadAs file Tight m × Loaded (barrier_calls names) names.map file calls calls'
+Resumes names file (Err (Site call)) calls calls' = BrokeAsResumed names file call calls calls'
+Resumes names file (Err (Refused e)) calls calls' =
+    IsRefusedFor file Tight e × (e ≢ NoStatusLine) × Loaded (barrier_calls names) names.map file calls calls'
+Resumes names file (Err NoMemory) calls calls' = Starved (barrier_calls names) names.map file calls calls'
+
+-- The count of faults: it rose by one exactly where a call failed.
+abbrev pub Counts : {T : Type 0} → Result T ResumeFault → (faults faults' : ℕ) → Type 0
+Counts (Ok x) faults faults' = faults' ≡ faults
+Counts (Err (Site call)) faults faults' = Rose faults faults'
+Counts (Err (Refused e)) faults faults' = (faults' ≡ faults) × (e ≢ OutOfMemory)
+Counts (Err NoMemory) faults faults' = faults' ≡ faults
+
+-- a state that was read is within the limits
+pub record IsWithinLimits (m : ReadMap) : Type 0 where
+  pub pos : m.state.pos < 2 ^ 63
+  pub pass : 0 < m.state.pass
+
+abbrev pub ResumedWithinLimits : Result Resumed ResumeFault → Type 0
+ResumedWithinLimits (Ok Fresh) = ⊤
+ResumedWithinLimits (Ok (Map m)) = IsWithinLimits m
+ResumedWithinLimits (Err e) = ⊤
+
+-- Behind the barrier nothing is pending: each stop from here on finds the mapfile and the open image as they read.
+pub record NothingPending (names : MapNames) (was now : Disk) : Type 0 where
+  pub mapfile : now.shows names.map ≡ only (was.reads.files names.map)
+  pub image : (image : List ℕ) → was.reads.image ≡ Some image → now.shows image ≡ only (was.reads.files image)
+  pub reads : now.reads ≡ was.reads
+
+-- so it is where no call of the barrier failed
+abbrev pub SettlesAll : MapNames → Result Resumed ResumeFault → (old new : SiteState) → Type 0
+SettlesAll names (Ok r) old new = NothingPending names (disk_of old) (disk_of new)
+SettlesAll names (Err (Site call)) old new = call ≡ MapRead → NothingPending names (disk_of old) (disk_of new)
+SettlesAll names (Err (Refused e)) old new = NothingPending names (disk_of old) (disk_of new)
+SettlesAll names (Err NoMemory) old new = NothingPending names (disk_of old) (disk_of new)

@@ -1,0 +1,8 @@
+//! Saves a mapfile so that a stop at any moment leaves the old one or the new one, and resumes from one.
+#![tactic(auto)]
+
+pub mod draft;
+pub mod names;
+pub mod save;
+#[cfg(test)]
+mod tests;
