@@ -1,5 +1,5 @@
 pub mod MapNames
-pub mod Saving
 pub mod SaveStops
 pub mod Loading
+pub mod Text
 pub mod Resuming

@@ -1,0 +1,5 @@
+pub mod CallLemmas
+pub mod LoadLemmas
+pub mod MapLemmas
+pub mod BarrierLemmas
+pub mod ResumeLemmas
