@@ -3,7 +3,6 @@ use Rattle.std.specs.Prelude.{⊤}
 use Rattle.std.proofs.Common.{◌≡◌, ◌⊎◌, ℕ, ◌+◌, Bool, true, false, if◌then◌else◌, IsTrue, List, [], ◌∷◌, ◌++◌, map, Option, Some, None, Result, Ok, Err, refl, sym, ap, ◌∙◌, subst, inl, inr, ⊎_elim}
 use Rattle.std.specs.Str.{bytes_eq}
 use Rattle.std.proofs.lemmas.List.{map-append}
-use Rattle.std.proofs.lemmas.Slice.Eq.{bytes_eq-Decides}
 use Rattle.crash_site.specs.declared.site.SiteCall.{SiteCall}
 use Rattle.crash_site.specs.declared.site.SiteCall.TheVariants.{MapRead}
 use Rattle.crash_site.specs.Files.{File}
@@ -12,11 +11,11 @@ use Rattle.crash_site.specs.Folder.{Folder, after}
 use Rattle.crash_site.specs.Disk.{Showing, Disk, only, at_rest, under_some, entered, disk_after}
 use Rattle.crash_site.specs.SiteState.{SiteState, Keeps, Makes, files_in}
 use Rattle.crash_site.proofs.DiskLemmas.{run-append}
+use Rattle.crash_site.proofs.LawLemmas.{sure_synced, after-append}
 use Rattle.save_resume.specs.MapNames.{MapNames}
 use Rattle.save_resume.specs.Loading.{piece_size, piece_reads, BeginsLoad}
 use Rattle.save_resume.specs.SaveStops.{disk_of}
 use Rattle.save_resume.specs.Resuming.{barrier_calls, NothingPending}
-use Rattle.save_resume.proofs.CallLemmas.{after-append}
 
 both_same : (b : Bool) (x y : Showing) → y ≡ x → (if b then x else y) ≡ x
 both_same true x y is = refl
@@ -28,22 +27,13 @@ sure_stays : (d : Disk) (sure : Option (List ℕ)) (name : List ℕ) → d.shows
 sure_stays d None name is = is
 sure_stays d (Some other) name is = both_same (bytes_eq name other) (only (d.reads.files name)) (d.shows name) is
 
--- what is made sure under a name
-sure_here : (d : Disk) (sure : Option (List ℕ)) (name : List ℕ) → sure ≡ Some name
-    → (under_some sure (λ file s. only file) d).shows name ≡ only (d.reads.files name)
-sure_here d None name is = absurd (cc)
-sure_here d (Some other) name is =
-    let e : other ≡ name = cc in
-    let same : bytes_eq name other ≡ true = (bytes_eq-Decides name other).1 (sym e) in
-    rw same refl
-
 -- behind the barrier nothing is pending
 barrier_settles : (names : MapNames) (was : Disk) → NothingPending names was (disk_after was (map Done (barrier_calls names)))
 barrier_settles names was =
     let settled : Disk = entered was (Done (map_settle names.map)) in
     record {
-      mapfile = sure_stays settled was.reads.image names.map (sure_here was (Some names.map) names.map refl);
-      image = λ image is. sure_here settled was.reads.image image is;
+      mapfile = sure_stays settled was.reads.image names.map (sure_synced was (Some names.map) names.map refl);
+      image = λ image is. sure_synced settled was.reads.image image is;
       reads = refl;
     }
 

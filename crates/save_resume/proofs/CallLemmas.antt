@@ -3,22 +3,12 @@ use Rattle.std.proofs.Common.{◌≡◌, List, [], ◌∷◌, ◌++◌, map, ref
 use Rattle.std.proofs.lemmas.List.{map-append}
 use Rattle.crash_site.specs.declared.site.SiteCall.{SiteCall}
 use Rattle.crash_site.specs.Calls.{Call, Entry, Done, Made, BrokeAt}
-use Rattle.crash_site.specs.Folder.{Folder, after, after_entry}
-
-pub after-append : (d : Folder) (xs ys : List Entry) → after d (xs ++ ys) ≡ after (after d xs) ys
-after-append d [] ys = refl
-after-append d (x ∷ xs) ys = after-append (after_entry d x) xs ys
 
 -- calls that were made, and then others
 pub made_more : (old mid new : List Entry) (xs ys : List Call) → Made xs old mid → Made ys mid new → Made (xs ++ ys) old new
 made_more old mid new xs ys first second =
     second ∙ ap (λ r. r ++ map Done ys) first ∙ append_assoc old (map Done xs) (map Done ys)
     ∙ ap (λ r. old ++ r) (sym (map-append Done xs ys))
-
--- a call that failed among the first calls failed among all of them
-pub broke_front : (at : SiteCall) (xs ys : List Call) (old new : List Entry) → BrokeAt at xs old new → BrokeAt at (xs ++ ys) old new
-broke_front at [] ys old new b = absurd b
-broke_front at (x ∷ xs) ys old new b = ⊎_elim (λ l. inl l) (λ r. inr (broke_front at xs ys (old ++ Done x ∷ []) new r)) b
 
 -- a call that failed behind others
 pub broke_back : (at : SiteCall) (xs ys : List Call) (old mid new : List Entry) → Made xs old mid → BrokeAt at ys mid new

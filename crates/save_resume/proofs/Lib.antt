@@ -3,3 +3,4 @@ pub mod LoadLemmas
 pub mod MapLemmas
 pub mod BarrierLemmas
 pub mod ResumeLemmas
+pub mod AnswerLemmas

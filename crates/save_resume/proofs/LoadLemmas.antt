@@ -21,7 +21,8 @@ use Rattle.save_resume.specs.Loading.{piece_size, piece_reads, load_reads, IsPie
 use Rattle.mapfile_text.specs.declared.read.Mode.{Mode}
 use Rattle.save_resume.specs.Resuming.{Loaded, BrokeInLoad, Loads, FaultCounts}
 use Rattle.save_resume.specs.Text.{IsTextOf, TextStop, NoMapIn}
-use Rattle.save_resume.proofs.CallLemmas.{after-append, made_more, broke_back}
+use Rattle.crash_site.proofs.LawLemmas.{after-append}
+use Rattle.save_resume.proofs.CallLemmas.{made_more, broke_back}
 
 -- the text is a file's beginning, read in pieces
 pub record Pieces (name : List ℕ) (file : Option File) (text : List ℕ) (calls calls' : List Entry) : Type 0 where

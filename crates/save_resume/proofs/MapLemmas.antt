@@ -104,3 +104,21 @@ no_lines mode (l ∷ ls) f = absurd (lines_said mode l ls NoStatusLine f refl)
 -- a text without a status line says nothing
 pub fault_is_blank : (text : List ℕ) (mode : Mode) → MapFault text mode NoStatusLine → Blank text
 fault_is_blank text mode f = no_lines mode (said text) f.breaks
+
+-- and one that says nothing has no status line
+blank_lines : (mode : Mode) (ls : List Line) → ls ≡ [] → MapLinesFault mode ls NoStatusLine
+blank_lines mode [] is = refl
+blank_lines mode (l ∷ ls) is = absurd (cc)
+
+pub blank_fault : (text : List ℕ) (mode : Mode) → Blank text → MapFault text mode NoStatusLine
+blank_fault text mode blank = record { breaks = blank_lines mode (said text) blank }
+
+-- a map says something
+some_lines : (mode : Mode) (ls : List Line) (state : MapState) (first : ℕ) (listed : Bool) (statuses : List Status)
+    → AreMapLines mode ls state first listed statuses → ls ≢ []
+some_lines mode [] state first listed statuses m e = absurd m
+some_lines mode (l ∷ ls) state first listed statuses m e = cc
+
+pub map_is_not_blank : (text : List ℕ) (mode : Mode) (state : MapState) (first : ℕ) (listed : Bool) (statuses : List Status)
+    → IsMapText text mode state first listed statuses → Blank text → ⊥
+map_is_not_blank text mode state first listed statuses m e = some_lines mode (said text) state first listed statuses m.reads e

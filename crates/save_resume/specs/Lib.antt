@@ -3,3 +3,4 @@ pub mod SaveStops
 pub mod Loading
 pub mod Text
 pub mod Resuming
+pub mod Laws
