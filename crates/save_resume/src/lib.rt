@@ -5,3 +5,5 @@ pub mod laws;
 pub mod load;
 pub mod names;
 pub mod resume;
+#[cfg(test)]
+mod tests;
