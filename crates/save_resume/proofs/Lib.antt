@@ -3,3 +3,9 @@ pub mod FillFacts
 pub mod SaveFacts
 pub mod StageFacts
 pub mod StopFacts
+pub mod CallLemmas
+pub mod LoadLemmas
+pub mod MapLemmas
+pub mod BarrierLemmas
+pub mod ResumeLemmas
+pub mod AnswerLemmas

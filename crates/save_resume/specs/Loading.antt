@@ -1,6 +1,6 @@
 -- How a mapfile is read.
 use Rattle.std.specs.Prelude.{◌≡◌, ◌⊎◌, ℕ, ◌+◌, ◌<◌, ◌≤◌, List, [], ◌∷◌, ◌++◌, length, sum, All, Option, Some, None}
-use Rattle.mapfile_text.specs.declared.read.TheConstants.{TEXT_LIMIT}
+use Rattle.mapfile_text.specs.MapText.{text_limit}
 use Rattle.crash_site.specs.declared.site.MapRead.{MapRead}
 use Rattle.crash_site.specs.declared.site.MapRead.TheVariants.{Bytes, Absent}
 use Rattle.crash_site.specs.Files.{File, bytes_of}
@@ -30,7 +30,7 @@ pub record BeginsLoad (name : List ℕ) (file : Option File) (calls : List Call)
   pub answer : Option MapRead
   pub pieces : All IsPiece given
   pub within : sum given ≤ length (bytes_of file)
-  pub limited : sum given ≤ TEXT_LIMIT
+  pub limited : sum given ≤ text_limit
   pub calls_are : calls ≡ load_reads name given answer
 
 -- the read behind so many bytes ends a load: it finds no such file, the file's end, or more bytes than a text may have
@@ -39,7 +39,7 @@ Ends file taken None = ⊥
 Ends file taken (Some Absent) = file ≡ None
 Ends file taken (Some (Bytes n)) =
     ((n ≡ 0) × (taken ≡ length (bytes_of file)))
-    ⊎ (IsPiece n × (TEXT_LIMIT < taken + n) × (taken + n ≤ length (bytes_of file)))
+    ⊎ (IsPiece n × (text_limit < taken + n) × (taken + n ≤ length (bytes_of file)))
 
 -- all reads of a file, up to the one that ends the load
 pub record IsLoad (name : List ℕ) (file : Option File) (calls : List Call) : Type 0 where

@@ -6,7 +6,7 @@ use Rattle.mapfile_text.specs.declared.read.Mode.TheVariants.{Tight}
 use Rattle.mapfile_text.specs.declared.read.ReadMap.{ReadMap}
 use Rattle.mapfile_text.specs.declared.read.MapError.{MapError}
 use Rattle.mapfile_text.specs.declared.read.MapError.TheVariants.{NoStatusLine, TooLong, NoMemory as OutOfMemory}
-use Rattle.mapfile_text.specs.declared.read.TheConstants.{TEXT_LIMIT}
+use Rattle.mapfile_text.specs.MapText.{text_limit}
 use Rattle.mapfile_text.specs.MapText.{IsMapText, MapFault, Blank}
 use Rattle.crash_site.specs.declared.site.SiteCall.{SiteCall}
 use Rattle.crash_site.specs.declared.site.SiteCall.TheVariants.{ImageSync, MapRead, MapSettle}
@@ -26,20 +26,20 @@ use Rattle.save_resume.specs.Loading.{BeginsLoad, IsLoad}
 pub record IsReadAs (file : Option File) (mode : Mode) (m : ReadMap) : Type 0 where
   pub there : File
   pub is : file ≡ Some there
-  pub within : length there.bytes ≤ TEXT_LIMIT
+  pub within : length there.bytes ≤ text_limit
   pub reads : IsMapText there.bytes mode m.state m.first m.listed m.tiles.statuses
 
 -- a file is there, and its text is refused: it is too long, or no map
 pub record IsRefusedFor (file : Option File) (mode : Mode) (e : MapError) : Type 0 where
   pub there : File
   pub is : file ≡ Some there
-  pub why : ((e ≡ TooLong) × (TEXT_LIMIT < length there.bytes))
-      ⊎ ((length there.bytes ≤ TEXT_LIMIT) × MapFault there.bytes mode e)
+  pub why : ((e ≡ TooLong) × (text_limit < length there.bytes))
+      ⊎ ((length there.bytes ≤ text_limit) × MapFault there.bytes mode e)
 
 -- no file is there, or one within the limit that says nothing
 pub data IsLikeNone (file : Option File) : Type 0 where
   NoFile : file ≡ None → IsLikeNone file
-  SaysNothing : (there : File) → file ≡ Some there → length there.bytes ≤ TEXT_LIMIT → Blank there.bytes → IsLikeNone file
+  SaysNothing : (there : File) → file ≡ Some there → length there.bytes ≤ text_limit → Blank there.bytes → IsLikeNone file
 
 -- the reads of a load that ended, behind other calls
 abbrev pub Loaded : List Call → List ℕ → Option File → List Entry → List Entry → Type 0
@@ -71,6 +71,19 @@ BrokeAsResumed names file call calls calls' =
     BrokeAt call (barrier_calls names) calls calls'
     ⊎ ((call ≡ MapRead) × BrokeInLoad (barrier_calls names) names.map file calls calls')
 
+-- what a text without a status line is resumed as, and one with another error
+abbrev pub refused_as : MapError → Result Resumed ResumeFault
+refused_as NoStatusLine = Ok Fresh
+refused_as e = Err (Refused e)
+
+-- what a rescue goes on with, by what its mapfile was read as
+abbrev pub resumed_of : Result (Option ReadMap) ResumeFault → Result Resumed ResumeFault
+resumed_of (Ok None) = Ok Fresh
+resumed_of (Ok (Some m)) = Ok (Map m)
+resumed_of (Err (Site call)) = Err (Site call)
+resumed_of (Err (Refused e)) = refused_as e
+resumed_of (Err NoMemory) = Err NoMemory
+
 -- What a resume answers of a mapfile, and its calls: one that says nothing is like none.
 abbrev pub Resumes : MapNames → Option File → Result Resumed ResumeFault → List Entry → List Entry → Type 0
 Resumes names file (Ok Fresh) calls calls' = IsLikeNone file × Loaded (barrier_calls names) names.map file calls calls'
@@ -80,12 +93,17 @@ Resumes names file (Err (Refused e)) calls calls' =
     IsRefusedFor file Tight e × (e ≢ NoStatusLine) × Loaded (barrier_calls names) names.map file calls calls'
 Resumes names file (Err NoMemory) calls calls' = Starved (barrier_calls names) names.map file calls calls'
 
--- The count of faults: it rose by one exactly where a call failed.
+-- The count of faults by why there is no answer: it rose by one exactly where a call failed. Want of memory is never
+-- told as an error of the text.
+abbrev pub FaultCounts : ResumeFault → (faults faults' : ℕ) → Type 0
+FaultCounts (Site call) faults faults' = Rose faults faults'
+FaultCounts (Refused e) faults faults' = (faults' ≡ faults) × (e ≢ OutOfMemory)
+FaultCounts NoMemory faults faults' = faults' ≡ faults
+
+-- the same by what was answered
 abbrev pub Counts : {T : Type 0} → Result T ResumeFault → (faults faults' : ℕ) → Type 0
 Counts (Ok x) faults faults' = faults' ≡ faults
-Counts (Err (Site call)) faults faults' = Rose faults faults'
-Counts (Err (Refused e)) faults faults' = (faults' ≡ faults) × (e ≢ OutOfMemory)
-Counts (Err NoMemory) faults faults' = faults' ≡ faults
+Counts (Err e) faults faults' = FaultCounts e faults faults'
 
 -- a state that was read is within the limits
 pub record IsWithinLimits (m : ReadMap) : Type 0 where

@@ -2,7 +2,12 @@
 #![tactic(auto)]
 
 pub mod draft;
+pub mod laws;
+pub mod load;
 pub mod names;
+pub mod resume;
+#[cfg(test)]
+mod resume_tests;
 pub mod save;
 #[cfg(test)]
-mod tests;
+mod save_tests;

@@ -1,6 +1,9 @@
-ghost use Rattle.std.specs.Prelude.{◌≡◌, IsTrue};
-ghost use Rattle.crash_site.specs.SiteState.{files_in, Stays};
-ghost use Rattle.save_resume.specs.Resuming.{Resumes, Counts, SettlesAll, ResumedWithinLimits};
+//! Resumes from a mapfile, behind a barrier.
+ghost use Rattle.std.specs.Prelude.{◌≡◌, ◌≢◌, IsTrue, OnOk, IfErr};
+ghost use Rattle.mapfile_text.specs.declared.read.MapError.TheVariants.{NoStatusLine as Nothing};
+ghost use Rattle.crash_site.specs.SiteState.{files_in, Makes, Breaks, Stays};
+ghost use Rattle.save_resume.specs.declared.load.ResumeFault.TheVariants.{Map as Refused};
+ghost use Rattle.save_resume.specs.Resuming.{barrier_calls, resumed_of, Resumes, Counts, SettlesAll, ResumedWithinLimits};
 
 use crate::load::{ResumeFault, load_map};
 use crate::names::Names;
@@ -17,14 +20,45 @@ pub enum Resumed {
     Map(ReadMap),
 }
 
+/// Makes the mapfile and the open image durable as they read. Or the call that failed.
+fn make_durable<D: Site>(site: &mut D, names: &Names) -> Result<(), SiteCall>
+    ensures made { OnOk result (Makes (barrier_calls names.now) (D.state site.old) (D.state site.new)) }
+    ensures broke { IfErr result (λ call. Breaks call (barrier_calls names.now) (D.state site.old) (D.state site.new)) }
+    ensures stays { Stays (D.state site.old) (D.state site.new) }
+{
+    if site.map_settle(names.map()).is_err() {
+        return Err(SiteCall::MapSettle);
+    }
+    if site.image_sync().is_err() {
+        return Err(SiteCall::ImageSync);
+    }
+    Ok(())
+}
+
+/// What a rescue goes on with, by what its mapfile was read as.
+fn answer(read: Result<Option<ReadMap>, ResumeFault>) -> Result<Resumed, ResumeFault>
+    ensures { result ≡ resumed_of read }
+{
+    match read {
+        Ok(Some(map)) => Ok(Resumed::Map(map)),
+        Ok(None) | Err(ResumeFault::Map(MapError::NoStatusLine)) => Ok(Resumed::Fresh),
+        Err(fault) => Err(fault),
+    }
+}
+
 /// Settles the mapfile and syncs the image, so that nothing of an earlier run is pending, and then reads the mapfile.
+/// One that says nothing is like none.
 pub fn resume<D: Site>(alloc: Global, site: &mut D, names: &Names) -> Result<Resumed, ResumeFault>
     ensures told { IsTrue (D.state site.old).tells → Resumes names.now (files_in (D.state site.old) names.now.map) result
         (D.state site.old).calls (D.state site.new).calls }
     ensures settled { IsTrue (D.state site.old).tells → SettlesAll names.now result (D.state site.old) (D.state site.new) }
     ensures counts { Counts result (D.state site.old).faults (D.state site.new).faults }
+    ensures says { IfErr result (λ e. e ≢ Refused Nothing) }
     ensures limits { ResumedWithinLimits result }
     ensures stays { Stays (D.state site.old) (D.state site.new) }
 {
-    todo
+    if let Err(call) = make_durable(site, names) {
+        return Err(ResumeFault::Site(call));
+    }
+    answer(load_map(alloc, site, names.map(), Mode::Tight))
 }
