@@ -13,6 +13,7 @@ pub struct Place<'a, F: FileExt> {
 }
 
 impl<'a, F: FileExt> Place<'a, F> {
+    /// The place at a position from the file's start.
     pub fn new(file: &'a F, pos: u64) -> Place<'a, F> {
         Place { file, pos }
     }
@@ -41,7 +42,9 @@ impl<'a, F: FileExt> Write for Place<'a, F> {
 /// How far reads filled a buffer, and why they ended there.
 #[derive(Drop)]
 pub struct Filled {
+    /// How many bytes came, at the buffer's front.
     pub got: usize,
+    /// The error of the read that failed.
     pub outcome: io::Result<()>,
 }
 
