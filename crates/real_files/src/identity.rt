@@ -16,6 +16,7 @@ pub struct Identity {
 }
 
 impl Identity {
+    /// The file of which this was found.
     pub fn of(found: &Metadata) -> Identity {
         if found.file_type().is_block_device() {
             return Identity {
@@ -53,10 +54,12 @@ impl OpenInput {
         Ok(OpenInput { noted })
     }
 
+    /// Notes which input is open from here on.
     pub fn note(&self, input: Option<Identity>) {
         self.noted.set(input);
     }
 
+    /// Whether this file is the open input.
     pub fn is(&self, found: Identity) -> bool {
         self.noted.get() == Some(found)
     }
