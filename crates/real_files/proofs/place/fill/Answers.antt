@@ -1,4 +1,4 @@
-use Rattle.std.proofs.Common.{◌≡◌, ℕ, ◌+◌, ◌-◌, ◌≤◌, List, ◌++◌, rules, arith, length, take, slice_range, sym, ap, ◌∙◌, subst, le_refl, drop_at, length-take-le, take_all}
+use Rattle.std.proofs.Common.{◌≡◌, ℕ, ◌+◌, ◌-◌, ◌≤◌, List, ◌++◌, rules, arith, length, take, slice_range, sym, ap, ◌∙◌, subst, le_refl, drop_at, length-take-le}
 use Rattle.std.proofs.lemmas.Slice.{take-put_mid_below}
 use Rattle.std.specs.Io.KnownBytes.{Consumes}
 use Rattle.std.proofs.KnownBytes.{Consumes-trans, Consumes-kept}
@@ -7,26 +7,36 @@ use lib.Seq.{take-add, take-append-le}
 use Rattle.real_files.proofs.place.fill.Goals as goal
 use Rattle.real_files.proofs.place.fill.Goals.{in-Ok, in-Err}
 
-take_split : (a b : ℕ) (old new : List ℕ) → a ≤ b → take a new ≡ take a old → take a old ++ slice_range new a b ≡ take b new
+take_split : (a b : ℕ) (old new : List ℕ) → a ≤ b → take a new ≡ take a old
+    → take a old ++ slice_range new a b ≡ take b new
 take_split a b old new h front =
     let same : a + (b - a) ≡ b = omega arith in
     ap (λ l. l ++ slice_range new a b) (sym front) ∙ sym (take-add a (b - a) new) ∙ ap (λ n. take n new) same
 
-slice_range-put_mid : (a k n : ℕ) (xs ys : List ℕ) → a ≤ length xs → n ≤ length ys → slice_range (put_mid a k xs ys) a (a + n) ≡ take n ys
+slice_range-put_mid : (a k n : ℕ) (xs ys : List ℕ) → a ≤ length xs → n ≤ length ys
+    → slice_range (put_mid a k xs ys) a (a + n) ≡ take n ys
 slice_range-put_mid a k n xs ys within fits =
     let same : (a + n) - a ≡ n = omega arith in
     let after = post_of a k xs in
-    ap (take ((a + n) - a)) (drop_at (take a xs) (ys ++ after) a (length-take-le a xs within)) ∙ ap (λ m. take m (ys ++ after)) same ∙ take-append-le n ys after fits
+    ap (take ((a + n) - a)) (drop_at (take a xs) (ys ++ after) a (length-take-le a xs within))
+    ∙ ap (λ m. take m (ys ++ after)) same ∙ take-append-le n ys after fits
 
 pub loop-preserved : goal.loop-preserved
-loop-preserved g c = elim c.match-read.branch [
-  | in-Ok w ↦
-      (let from = c.loop.got in
-      let room = length c.loop.buf - from in
-      let within = c.loop.invariant.1 in
-      let part = slice_range-put_mid from room w.in-Ok.n c.loop.buf c.read.new.buf within w.in-Ok.ensures.bound.0 in
-      let joined = take_split from (from + w.in-Ok.n) c.loop.buf (put_mid from room c.loop.buf c.read.new.buf) (omega arith) (take-put_mid_below _ _ _ _ _ (le_refl _) within) in
-      (search rules, search rules, subst (Consumes _ _) (ap (λ l. take from c.loop.buf ++ l) (sym part) ∙ joined ∙ ap (λ k. take k (put_mid from room c.loop.buf c.read.new.buf)) (sym w.got-is)) (Consumes-trans _ _ _ _ _ c.loop.invariant.2 w.in-Ok.ensures.bytes.0)))
-  | in-Err w ↦
-      (search rules, search rules, subst (Consumes _ _) (sym (take-put_mid_below _ _ _ _ _ (le_refl _) c.loop.invariant.1) ∙ ap (λ k. take k (put_mid c.loop.got (length c.loop.buf - c.loop.got) c.loop.buf c.read.new.buf)) (sym w.got-is)) (Consumes-kept _ _ _ _ c.loop.invariant.2 w.in-Err.ensures.bytes))
-]
+loop-preserved g c =
+    let from = c.loop.got in
+    let room = length c.loop.buf - from in
+    let now = put_mid from room c.loop.buf c.read.new.buf in
+    let within = c.loop.invariant.1 in
+    let front : take from now ≡ take from c.loop.buf = take-put_mid_below _ _ _ _ _ (le_refl _) within in
+    elim c.match-read.branch [
+      | in-Ok w ↦
+          (let n = w.in-Ok.n in
+          let part = slice_range-put_mid from room n c.loop.buf c.read.new.buf within w.in-Ok.ensures.bound.0 in
+          let joined = take_split from (from + n) c.loop.buf now (omega arith) front in
+          let whole = ap (λ l. take from c.loop.buf ++ l) (sym part) ∙ joined ∙ ap (λ k. take k now) (sym w.got-is) in
+          let came = Consumes-trans _ _ _ _ _ c.loop.invariant.2 w.in-Ok.ensures.bytes.0 in
+          (search rules, search rules, subst (Consumes _ _) whole came))
+      | in-Err w ↦
+          (let kept = Consumes-kept _ _ _ _ c.loop.invariant.2 w.in-Err.ensures.bytes in
+          (search rules, search rules, subst (Consumes _ _) (sym front ∙ ap (λ k. take k now) (sym w.got-is)) kept))
+    ]

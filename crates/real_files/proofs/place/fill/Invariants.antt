@@ -4,4 +4,5 @@ use Rattle.real_files.proofs.place.fill.Given as goal
 
 -- what was filled is what was consumed
 abbrev pub invariant-loop : goal.invariant-loop
-invariant-loop g l = (length l.buf ≡ length l.initial.buf) × (l.got ≤ length l.buf) × Consumes (g.R.Read.remaining l.initial.reader) (g.R.Read.remaining l.reader) (take l.got l.buf)
+invariant-loop g l = (length l.buf ≡ length l.initial.buf) × (l.got ≤ length l.buf)
+    × Consumes (g.R.Read.remaining l.initial.reader) (g.R.Read.remaining l.reader) (take l.got l.buf)
