@@ -125,6 +125,7 @@ fn stops_leave_the_old_map_or_the_new(rt: HostRuntime) -> Result<(), Fail> {
     save(&mut site, &names, STATE, &tiles, &heading)?;
     for k in 2..9 {
         for (kind, first_new) in [(Left::Oldest, 8), (Left::Newest, 6), (Left::Garbage, 6)] {
+            assert!(rt; k <= site.made());
             let stopped = site.stopped_at(alloc, k, kind)?;
             let is_new = first_new <= k;
             assert_file(
