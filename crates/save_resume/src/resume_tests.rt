@@ -53,6 +53,10 @@ fn with_map(alloc: Global, text: Option<&str>) -> Result<MemorySite, Fail> {
     Ok(site)
 }
 
+fn stands(site: &MemorySite, name: &str, bytes: &[u8]) -> bool {
+    site.file(name).is_some_and(|found| found == bytes)
+}
+
 const MAP: &str = "0 ? 1\n0 4 +\n4 4 ?\n";
 
 #[test]
@@ -133,7 +137,7 @@ fn each_call_that_fails_is_named(rt: HostRuntime) -> Result<(), Fail> {
             expected,
             "call {number}"
         );
-        assert_eq!(rt; site.file("map"), Some(text.as_bytes()), "call {number}");
+        assert!(rt; stands(&site, "map", text.as_bytes()), "call {number}");
     }
     Ok(())
 }
@@ -147,12 +151,12 @@ fn nothing_is_pending_behind_a_resume(rt: HostRuntime) -> Result<(), Fail> {
     site.draft_append(MAP.as_bytes())?;
     site.draft_publish("map")?;
     let stop = site.stopped_at(rt.alloc(), site.made(), Left::Oldest)?;
-    assert_eq!(rt; stop.file("map"), Some("0 ? 1\n".as_bytes()));
-    assert_eq!(rt; stop.file("image"), None);
+    assert!(rt; stands(&stop, "map", b"0 ? 1\n"));
+    assert!(rt; stop.file("image").is_none());
     let names = Names::of_map(rt.alloc(), "map")?;
     assert_eq!(rt; went_on(resume(rt.alloc(), &mut site, &names)), Ends(8));
     let stop = site.stopped_at(rt.alloc(), site.made(), Left::Oldest)?;
-    assert_eq!(rt; stop.file("map"), Some(MAP.as_bytes()));
-    assert_eq!(rt; stop.file("image"), Some("abcd".as_bytes()));
+    assert!(rt; stands(&stop, "map", MAP.as_bytes()));
+    assert!(rt; stands(&stop, "image", b"abcd"));
     Ok(())
 }
