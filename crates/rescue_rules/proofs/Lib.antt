@@ -1,0 +1,11 @@
+pub mod RunLemmas
+pub mod HeldLemmas
+pub mod StandsLemmas
+pub mod CutLemmas
+pub mod DiskStages
+pub mod EachLemmas
+pub mod BarrierLemmas
+pub mod GoesLemmas
+pub mod BeforeLemmas
+pub mod StopsLemmas
+pub mod OthersLemmas

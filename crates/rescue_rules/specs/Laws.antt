@@ -1,0 +1,35 @@
+-- What the definitions mean.
+use Rattle.std.specs.Prelude.{◌≡◌, ◌≢◌, ◌⊎◌, ℕ, ◌<◌, ◌^◌, List, Option, Some}
+use Rattle.block_list.specs.declared.status.Status.{Status}
+use Rattle.block_list.specs.declared.status.Status.TheVariants.{Finished}
+use Rattle.block_list.specs.Map.{Has}
+use Rattle.faulty_source.specs.Journal.{Reading}
+use Rattle.crash_site.specs.Files.{File}
+use Rattle.rescue_rules.specs.Setting.{Setting, IsSensible}
+use Rattle.rescue_rules.specs.Start.{Stands}
+use Rattle.rescue_rules.specs.Run.{map_after, IsRun}
+use Rattle.rescue_rules.specs.Given.{given}
+use Rattle.rescue_rules.specs.Work.{Gain, Goes}
+use Rattle.rescue_rules.specs.Stops.{Behind, files_before, StopsSafely}
+
+-- the names of the output, the mapfile and the draft are three
+pub record AreThreeNames (s : Setting) : Type 0 where
+  pub map : s.outfile ≢ s.names.map
+  pub draft : s.outfile ≢ s.names.draft
+  pub apart : s.names.map ≢ s.names.draft
+
+-- A rescue that goes as it should stops safely at every moment.
+abbrev pub GoesSafely : Type 0
+GoesSafely = (b : Behind) (s : Setting) (g : Gain) → IsSensible s → AreThreeNames s → s.end < 2 ^ 63
+    → Goes s (files_before b) g → StopsSafely b s g
+
+-- A run calls a position finished only if it was, or if the source gave its byte.
+abbrev pub FinishedIsGiven : Type 0
+FinishedIsGiven = (s : Setting) (map : List Status) (reads : List Reading) (x : ℕ) → IsSensible s → IsRun s map 0 reads
+    → Has (map_after map reads) Finished x → Has map Finished x ⊎ ((b : ℕ) × (given s.sector reads x ≡ Some b))
+
+-- a mapfile stands for one map and one position at most
+abbrev pub StandsForOne : Type 0
+StandsForOne =
+    (mapfile : Option File) (end : ℕ) (map map' : List Status) (shown shown' : ℕ) → Stands mapfile end map shown
+    → Stands mapfile end map' shown' → (map ≡ map') × (shown ≡ shown')

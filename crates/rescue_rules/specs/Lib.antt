@@ -1,0 +1,10 @@
+pub mod Setting
+pub mod Start
+pub mod Requests
+pub mod Run
+pub mod Given
+pub mod Held
+pub mod Saves
+pub mod Work
+pub mod Stops
+pub mod Laws
