@@ -2,6 +2,7 @@ use Rattle.std.specs.Prelude.{◌≡◌, ⊤, ℕ, ◌-◌, Bool, true, false, L
 use Rattle.std.specs.Option.{option_map}
 use Rattle.std.specs.Str.{bytes_eq}
 use Rattle.std.specs.List.{flat_map}
+use Rattle.save_resume.specs.MapNames.{names_of}
 use Rattle.ddrescue_cli.specs.declared.ending.Ending.{Ending}
 use Rattle.ddrescue_cli.specs.declared.ending.Ending.TheVariants.{WrongNumber, WrongWord, SameName, NoMemory}
 use Rattle.ddrescue_cli.specs.declared.ending.Operand.{Operand}
@@ -21,12 +22,8 @@ outfile words = word words 2
 abbrev pub mapfile : List (List ℕ) → List ℕ
 mapfile words = word words 3
 
--- the name of the draft, which becomes the mapfile when it is whole
-abbrev pub draft_name : List ℕ → List ℕ
-draft_name name = name ++ codes ".tmp"
-
 abbrev pub draft : List (List ℕ) → List ℕ
-draft words = draft_name (mapfile words)
+draft words = (names_of (mapfile words)).draft
 
 -- a word that names no file: an empty one, or one that begins with a hyphen and is longer
 abbrev pub is_wrong : List ℕ → Bool

@@ -1,5 +1,5 @@
 ghost use Rattle.std.specs.Prelude.{◌≡◌};
-ghost use Rattle.ddrescue_cli.specs.Ending.{status_of_ending};
+ghost use Rattle.ddrescue_cli.specs.Answers.{status_of_ending};
 
 use crash_site::site::SiteCall;
 use mapfile_text::read::MapError;

@@ -1,20 +1,22 @@
 ghost use Rattle.std.specs.Prelude.{◌≡◌, length, IfOk, IfErr, OnOk};
 ghost use Rattle.std.specs.String.{string_bytes};
-ghost use Rattle.ddrescue_cli.specs.Operands.{is_wrong, wrong_word, first_same, refusal_of_words, infile, outfile, mapfile, draft_name, draft, command_line, OfWords, AreNamedApart};
-ghost use Rattle.ddrescue_cli.specs.Saved.{heading};
+ghost use Rattle.save_resume.specs.MapNames.{names_of};
+ghost use Rattle.rescue_rules.specs.Saves.{heading_of};
+ghost use Rattle.ddrescue_cli.specs.Operands.{is_wrong, wrong_word, first_same, refusal_of_words, infile, outfile, mapfile, command_line, OfWords, AreNamedApart};
 
 use crate::ending::{Ending, Operand};
 use crate::words::Words;
 use block_list::tiles::NoMemory;
 use mapfile_text::heading::{Heading, Program};
+use save_resume::names::Names;
 use std::alloc::{AllocError, Global};
 
-/// The names of the files of a rescue.
+/// The files that the words name.
 #[derive(Clone, Copy, Debug)]
-pub(crate) struct Names<'a> {
-    pub infile: &'a str,
-    pub outfile: &'a str,
-    pub mapfile: &'a str,
+struct Operands<'a> {
+    infile: &'a str,
+    outfile: &'a str,
+    mapfile: &'a str,
 }
 
 /// Whether a word names no file.
@@ -29,7 +31,7 @@ fn names_no_file(word: &str) -> bool
 }
 
 /// The three names that the words give.
-pub(crate) fn read_names(words: &Words) -> Result<Names<'_>, Ending>
+fn read_names(words: &Words) -> Result<Operands<'_>, Ending>
     ensures three { OnOk result (length words.now ≡ 3) }
     ensures infile { IfOk result (λ n. n.infile.now ≡ infile words.now) }
     ensures outfile { IfOk result (λ n. n.outfile.now ≡ outfile words.now) }
@@ -53,7 +55,7 @@ pub(crate) fn read_names(words: &Words) -> Result<Names<'_>, Ending>
     if names_no_file(mapfile) {
         return Err(Ending::WrongWord { word: 3 });
     }
-    Ok(Names {
+    Ok(Operands {
         infile,
         outfile,
         mapfile,
@@ -79,15 +81,6 @@ fn find_same(infile: &str, outfile: &str, mapfile: &str, draft: &str) -> Option<
     }
 }
 
-/// The name of a mapfile's draft.
-fn draft_beside(alloc: Global, mapfile: &str) -> Result<String, AllocError>
-    ensures { IfOk result (λ name. string_bytes name ≡ draft_name mapfile.now) }
-{
-    let mut name = String::from_str(alloc, mapfile)?;
-    name.push_str(".tmp")?;
-    Ok(name)
-}
-
 /// The program's name, and a space before each word.
 fn joined(alloc: Global, words: &Words) -> Result<String, AllocError>
     ensures { IfOk result (λ line. string_bytes line ≡ command_line words.now) }
@@ -102,7 +95,7 @@ fn joined(alloc: Global, words: &Words) -> Result<String, AllocError>
 
 /// The heading of the mapfile, with the command line.
 fn make_heading(alloc: Global, words: &Words) -> Result<Heading, NoMemory>
-    ensures { IfOk result (λ h. h ≡ heading words.now) }
+    ensures { IfOk result (λ h. h ≡ heading_of (command_line words.now)) }
 {
     let Ok(line) = joined(alloc, words) else {
         return Err(NoMemory);
@@ -113,40 +106,40 @@ fn make_heading(alloc: Global, words: &Words) -> Result<Heading, NoMemory>
 /// What a rescue needs before it opens a file.
 #[derive(Drop)]
 pub(crate) struct Plan<'a> {
-    pub names: Names<'a>,
-    pub draft: String,
+    pub infile: &'a str,
+    pub outfile: &'a str,
+    pub names: Names,
     pub heading: Heading,
 }
 
 /// Reads the words, and takes the memory that the save wants for its names.
 pub(crate) fn make_plan(alloc: Global, words: &Words) -> Result<Plan<'_>, Ending>
-    ensures infile { IfOk result (λ p. p.names.infile.now ≡ infile words.now) }
-    ensures outfile { IfOk result (λ p. p.names.outfile.now ≡ outfile words.now) }
-    ensures mapfile { IfOk result (λ p. p.names.mapfile.now ≡ mapfile words.now) }
-    ensures draft { IfOk result (λ p. string_bytes p.draft ≡ draft words.now) }
-    ensures heading { IfOk result (λ p. p.heading ≡ heading words.now) }
+    ensures infile { IfOk result (λ p. p.infile.now ≡ infile words.now) }
+    ensures outfile { IfOk result (λ p. p.outfile.now ≡ outfile words.now) }
+    ensures names { IfOk result (λ p. p.names ≡ names_of (mapfile words.now)) }
+    ensures heading { IfOk result (λ p. p.heading ≡ heading_of (command_line words.now)) }
     ensures right { OnOk result (refusal_of_words words.now ≡ None) }
     ensures refusal { IfErr result (λ e. OfWords e (refusal_of_words words.now)) }
     ensures apart { OnOk result (AreNamedApart words.now) }
 {
-    let names = read_names(words)?;
-    let Ok(draft) = draft_beside(alloc, names.mapfile) else {
+    let Operands {
+        infile,
+        outfile,
+        mapfile,
+    } = read_names(words)?;
+    let Ok(names) = Names::of_map(alloc, mapfile) else {
         return Err(Ending::NoMemory);
     };
-    if let Some((first, second)) = find_same(
-        names.infile,
-        names.outfile,
-        names.mapfile,
-        draft.as_str(),
-    ) {
+    if let Some((first, second)) = find_same(infile, outfile, mapfile, names.draft()) {
         return Err(Ending::SameName { first, second });
     }
     let Ok(heading) = make_heading(alloc, words) else {
         return Err(Ending::NoMemory);
     };
     Ok(Plan {
+        infile,
+        outfile,
         names,
-        draft,
         heading,
     })
 }

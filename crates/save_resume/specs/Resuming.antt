@@ -93,10 +93,14 @@ Resumes names file (Err (Refused e)) calls calls' =
     IsRefusedFor file Tight e × (e ≢ NoStatusLine) × Loaded (barrier_calls names) names.map file calls calls'
 Resumes names file (Err NoMemory) calls calls' = Starved (barrier_calls names) names.map file calls calls'
 
--- The count of faults by why there is no answer: it rose by one exactly where a call failed. Want of memory is never
--- told as an error of the text.
+-- the calls of a resume
+abbrev pub IsResumeCall : SiteCall → Type 0
+IsResumeCall call = (call ≡ MapSettle) ⊎ (call ≡ ImageSync) ⊎ (call ≡ MapRead)
+
+-- The count of faults by why there is no answer: it rose by one exactly where a call failed, which is one of a resume.
+-- Want of memory is never told as an error of the text.
 abbrev pub FaultCounts : ResumeFault → (faults faults' : ℕ) → Type 0
-FaultCounts (Site call) faults faults' = Rose faults faults'
+FaultCounts (Site call) faults faults' = IsResumeCall call × Rose faults faults'
 FaultCounts (Refused e) faults faults' = (faults' ≡ faults) × (e ≢ OutOfMemory)
 FaultCounts NoMemory faults faults' = faults' ≡ faults
 

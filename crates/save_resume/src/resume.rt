@@ -3,7 +3,7 @@ ghost use Rattle.std.specs.Prelude.{◌≡◌, ◌≢◌, IsTrue, OnOk, IfErr};
 ghost use Rattle.mapfile_text.specs.declared.read.MapError.TheVariants.{NoStatusLine as Nothing};
 ghost use Rattle.crash_site.specs.SiteState.{files_in, Makes, Breaks, Stays};
 ghost use Rattle.save_resume.specs.declared.load.ResumeFault.TheVariants.{Map as Refused};
-ghost use Rattle.save_resume.specs.Resuming.{barrier_calls, resumed_of, Resumes, Counts, SettlesAll, ResumedWithinLimits};
+ghost use Rattle.save_resume.specs.Resuming.{barrier_calls, IsResumeCall, resumed_of, Resumes, Counts, SettlesAll, ResumedWithinLimits};
 
 use crate::load::{ResumeFault, load_map};
 use crate::names::Names;
@@ -24,6 +24,7 @@ pub enum Resumed {
 fn make_durable<D: Site>(site: &mut D, names: &Names) -> Result<(), SiteCall>
     ensures made { OnOk result (Makes (barrier_calls names.now) (D.state site.old) (D.state site.new)) }
     ensures broke { IfErr result (λ call. Breaks call (barrier_calls names.now) (D.state site.old) (D.state site.new)) }
+    ensures named { IfErr result IsResumeCall }
     ensures stays { Stays (D.state site.old) (D.state site.new) }
 {
     if site.map_settle(names.map()).is_err() {

@@ -1,0 +1,35 @@
+-- What the words of a rescue ask for.
+use Rattle.std.specs.Prelude.{ℕ, Bool, List, [], nat_lt}
+use Rattle.save_resume.specs.MapNames.{MapNames, names_of}
+use Rattle.rescue_rules.specs.Setting.{Setting}
+use Rattle.ddrescue_cli.specs.Operands.{infile, outfile, mapfile, command_line}
+
+-- the size of a sector in bytes
+abbrev pub default_sector : ℕ
+default_sector = 512
+
+-- the positions below the input's length
+abbrev pub inside : ℕ → ℕ → Bool
+inside end x = nat_lt x end
+
+-- what files with these names and this command line ask for of an input with this length
+abbrev pub setting : (infile outfile : List ℕ) → MapNames → (line : List ℕ) → (end : ℕ) → Setting
+setting infile outfile names line end = record {
+  infile = infile;
+  outfile = outfile;
+  names = names;
+  line = line;
+  end = end;
+  domain = inside end;
+  from = 0;
+  to = 0;
+  sector = default_sector;
+}
+
+-- what these words ask for
+abbrev pub setting_of : List (List ℕ) → (end : ℕ) → Setting
+setting_of words end = setting (infile words) (outfile words) (names_of (mapfile words)) (command_line words) end
+
+-- the same for a copy, which knows no names
+abbrev pub copying : (end : ℕ) → Setting
+copying end = setting [] [] (names_of []) [] end

@@ -1,0 +1,47 @@
+-- What a call of `ddrescue` was handed, and all that the objects tell of it.
+use Rattle.std.specs.Prelude.{ℕ, IsTrue, List, length, drop, Option}
+use Rattle.faulty_source.specs.SourceState.{SourceState}
+use Rattle.crash_site.specs.Files.{File}
+use Rattle.crash_site.specs.SiteState.{SiteState, files_in}
+use Rattle.rescue_rules.specs.Setting.{Setting}
+use Rattle.rescue_rules.specs.Work.{Gain}
+use Rattle.rescue_rules.specs.Stops.{Behind}
+use Rattle.ddrescue_cli.specs.declared.ending.Ending.{Ending}
+use Rattle.ddrescue_cli.specs.Asked.{setting_of}
+
+-- the words, the answer, and what each object tells before the call and after it
+pub record Told : Type 0 where
+  pub words : List (List ℕ)
+  pub answer : Ending
+  pub source : SourceState
+  pub source' : SourceState
+  pub site : SiteState
+  pub site' : SiteState
+
+-- the input and the site tell
+pub record AllTell (t : Told) : Type 0 where
+  pub source : IsTrue t.source.tells
+  pub site : IsTrue t.site.tells
+
+-- what a list has gained at its end
+abbrev pub gained : {A : Type 0} → List A → List A → List A
+gained before now = drop (length before) now
+
+-- what was done: the calls on the files, and the reads
+abbrev pub gain_of : (source source' : SourceState) → (site site' : SiteState) → Gain
+gain_of source source' site site' = record { calls = gained site.calls site'.calls; reads = gained source.journal source'.journal }
+
+abbrev pub gain : Told → Gain
+gain t = gain_of t.source t.source' t.site t.site'
+
+-- the calls stand behind those that the site had made
+abbrev pub behind : Told → Behind
+behind t = record { start = t.site.start; earlier = t.site.calls }
+
+-- the files as they read before the call
+abbrev pub files_of : Told → List ℕ → Option File
+files_of t = files_in t.site
+
+-- what the words ask for of the input
+abbrev pub asked : Told → Setting
+asked t = setting_of t.words (length t.source.bytes)

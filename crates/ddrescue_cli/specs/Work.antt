@@ -1,0 +1,69 @@
+-- The work of a rescue: its steps in order, what each does on the files, and where it refuses. It says which answer is
+-- given, and which calls and reads were made by then.
+use Rattle.std.specs.Prelude.{◌≡◌, ◌⊎◌, ℕ, true, List, [], ◌∷◌, ◌++◌, map, Option}
+use Rattle.block_list.specs.declared.status.Status.{Status}
+use Rattle.crash_site.specs.declared.site.SiteCall.{SiteCall}
+use Rattle.crash_site.specs.declared.site.SiteCall.TheVariants.{MapRead}
+use Rattle.crash_site.specs.Files.{File}
+use Rattle.crash_site.specs.Calls.{Call, Entry, Done as Returned, BrokeAt, image_open}
+use Rattle.save_resume.specs.Loading.{BeginsLoad, IsLoad}
+use Rattle.save_resume.specs.Resuming.{barrier_calls}
+use Rattle.rescue_rules.specs.Setting.{Setting}
+use Rattle.rescue_rules.specs.Start.{Stands}
+use Rattle.rescue_rules.specs.Work.{Gain, IsNothing, RunEnd, Saved, InputLost, MemoryOut, CallFailed, Runs}
+use Rattle.ddrescue_cli.specs.declared.ending.Ending.{Ending}
+use Rattle.ddrescue_cli.specs.declared.ending.Ending.TheVariants.{Done, SourceLost, SiteFault, NoMemory}
+use Rattle.ddrescue_cli.specs.Refusals.{WordsRefused, InputRefused, OutputRefused, MapfileRefused}
+
+-- The answer is a refusal exactly where there is one; else the work goes on. Memory may run out before it does.
+abbrev pub OrElse : (Ending → Type 0) → (Ending → Gain → Type 0) → Ending → Gain → Type 0
+OrElse P Q e g = ((P e ⊎ (e ≡ NoMemory)) × IsNothing g) ⊎ (((e' : Ending) → P e' → ⊥) × Q e g)
+
+-- the same where memory can't run out
+abbrev pub OrRefused : (Ending → Type 0) → (Ending → Gain → Type 0) → Ending → Gain → Type 0
+OrRefused P Q e g = (P e × IsNothing g) ⊎ (((e' : Ending) → P e' → ⊥) × Q e g)
+
+-- the answer may be a refusal, or the work goes on
+abbrev pub OrMay : (Ending → Type 0) → (Ending → Gain → Type 0) → Ending → Gain → Type 0
+OrMay P Q e g = (P e × IsNothing g) ⊎ Q e g
+
+-- These calls are made, and the work goes on, unless one fails.
+abbrev pub Then : List Call → (Ending → Gain → Type 0) → Ending → Gain → Type 0
+Then calls Q e g =
+    ((call : SiteCall) × (e ≡ SiteFault call) × BrokeAt call calls [] g.calls × (g.reads ≡ []))
+    ⊎ ((rest : List Entry) × (g.calls ≡ map Returned calls ++ rest) × Q e (record g { calls = rest }))
+
+-- A mapfile is read, and the work goes on, unless a read fails or memory runs out.
+abbrev pub ThenRead : List ℕ → Option File → (Ending → Gain → Type 0) → Ending → Gain → Type 0
+ThenRead name file Q e g =
+    ((load : List Call) × (e ≡ SiteFault MapRead) × BeginsLoad name file load × BrokeAt MapRead load [] g.calls × (g.reads ≡ []))
+    ⊎ ((load : List Call) × (e ≡ NoMemory) × BeginsLoad name file load × (g.calls ≡ map Returned load) × (g.reads ≡ []))
+    ⊎ ((load : List Call) × (rest : List Entry) × IsLoad name file load × (g.calls ≡ map Returned load ++ rest) × Q e (record g { calls = rest }))
+
+-- the answer of a run that ended so
+abbrev pub answer_of : RunEnd → Ending
+answer_of Saved = Done
+answer_of InputLost = SourceLost
+answer_of MemoryOut = NoMemory
+answer_of (CallFailed call) = SiteFault call
+
+-- the run over the map that a mapfile stands for
+abbrev pub ThenRun : Setting → Option File → Ending → Gain → Type 0
+ThenRun s mapfile e g =
+    (statuses : List Status) × (shown : ℕ) × Stands mapfile s.end statuses shown
+    × ((end : RunEnd) × (e ≡ answer_of end) × Runs s statuses shown g end)
+
+-- the work behind the words, over files as they read before it
+abbrev pub WorksOn : Setting → (List ℕ → Option File) → Ending → Gain → Type 0
+WorksOn s files =
+    OrMay InputRefused
+    (Then (image_open s.outfile true ∷ [])
+    (OrRefused (OutputRefused (files s.outfile))
+    (Then (barrier_calls s.names)
+    (ThenRead s.names.map (files s.names.map)
+    (OrRefused (MapfileRefused (files s.names.map))
+    (ThenRun s (files s.names.map)))))))
+
+-- the whole work
+abbrev pub Works : List (List ℕ) → Setting → (List ℕ → Option File) → Ending → Gain → Type 0
+Works words s files = OrElse (WordsRefused words) (WorksOn s files)
