@@ -1,17 +1,15 @@
 -- What an answer leaves open and begun.
-use Rattle.std.proofs.Common.{◌≡◌, ◌≢◌, ◌⊎◌, ℕ, Bool, false, List, None, refl, sym, ◌∙◌, inl, inr, subst}
-use Rattle.mapfile_text.specs.declared.read.MapError.{MapError}
+use Rattle.std.proofs.Common.{◌≡◌, ℕ, false, List, None, refl, inl, inr}
 use Rattle.faulty_source.specs.SourceState.{SourceState}
 use Rattle.crash_site.specs.declared.site.SiteCall.{SiteCall}
-use Rattle.crash_site.specs.declared.site.SiteCall.TheVariants.{ImageSync, ImageWrite, MapRead, MapSettle}
+use Rattle.crash_site.specs.declared.site.SiteCall.TheVariants.{ImageWrite}
 use Rattle.crash_site.specs.SiteState.{SiteState}
 use Rattle.save_resume.specs.Saving.{drafting_after_fault}
 use Rattle.save_resume.specs.Resuming.{IsResumeCall}
-use Rattle.rescue_rules.specs.Work.{RunEnd, Saved, InputLost, MemoryOut, CallFailed}
+use Rattle.rescue_rules.specs.Work.{Saved, InputLost, MemoryOut, CallFailed}
 use Rattle.ddrescue_cli.specs.declared.ending.Ending.{Ending}
 use Rattle.ddrescue_cli.specs.Answers.{SaysOfWords, IsOpenedAs, drafting_left}
 use Rattle.ddrescue_cli.specs.Copying.{CopyCause}
-use Rattle.ddrescue_cli.specs.Work.{answer_of}
 use Rattle.ddrescue_cli.specs.Steps.{EndsRun, LoadCause, OutputStop}
 
 resume_leaves : (call : SiteCall) → IsResumeCall call → drafting_after_fault call false ≡ false

@@ -1,5 +1,5 @@
 -- Records of calls, taken apart where they grew.
-use Rattle.std.proofs.Common.{◌≡◌, List, [], ◌∷◌, ◌++◌, map, length, drop, refl, sym, ap, ◌∙◌, inl, inr, subst, append_assoc, append-nil}
+use Rattle.std.proofs.Common.{◌≡◌, List, [], ◌∷◌, ◌++◌, length, drop, refl, sym, ap, ◌∙◌, inl, inr, subst, append_assoc, append-nil}
 use Rattle.std.proofs.Math.Seq.{drop-append_seam}
 use Rattle.crash_site.specs.declared.site.SiteCall.{SiteCall}
 use Rattle.crash_site.specs.Calls.{Call, Entry, Done, Failed, Lost, BrokeAt}

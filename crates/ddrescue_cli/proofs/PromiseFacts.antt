@@ -1,11 +1,11 @@
 -- The promise of a rescue, by what its work did.
-use Rattle.std.proofs.Common.{◌≡◌, ◌≢◌, ◌⊎◌, ℕ, ◌+◌, ◌<◌, ◌≤◌, ◌^◌, Bool, true, false, IsTrue, List, [], ◌∷◌, ◌++◌, length, Option, Some, None, refl, sym, ap, ◌∙◌, inl, inr, subst, arith, append-nil, length-append}
+use Rattle.std.proofs.Common.{◌≡◌, ◌≢◌, ◌⊎◌, ℕ, ◌+◌, ◌<◌, ◌^◌, true, false, IsTrue, List, [], ◌++◌, length, Option, Some, None, refl, sym, ap, ◌∙◌, inl, inr, subst, arith, append-nil, length-append}
 use Rattle.std.specs.Prelude.{codes}
 use Rattle.std.specs.Str.{bytes_eq}
 use Rattle.std.proofs.lemmas.Slice.Eq.{bytes_eq-Decides}
 use Rattle.faulty_source.specs.SourceState.{SourceState, Keeps as SourceKeeps}
 use Rattle.crash_site.specs.Files.{File}
-use Rattle.crash_site.specs.SiteState.{SiteState, files_in, Keeps as SiteKeeps}
+use Rattle.crash_site.specs.SiteState.{SiteState, Keeps as SiteKeeps}
 use Rattle.save_resume.specs.MapNames.{MapNames, names_of}
 use Rattle.rescue_rules.specs.Setting.{Setting, IsSensible}
 use Rattle.rescue_rules.specs.Work.{Gain, IsNothing}
@@ -18,10 +18,10 @@ use Rattle.ddrescue_cli.specs.Operands.{infile, outfile, mapfile, command_line, 
 use Rattle.ddrescue_cli.specs.Asked.{setting, setting_of}
 use Rattle.ddrescue_cli.specs.Told.{Told, AllTell, gained, gain_of, gain, behind, files_of, asked}
 use Rattle.ddrescue_cli.specs.Refusals.{WordsRefused}
-use Rattle.ddrescue_cli.specs.Work.{Works, WorksOn}
+use Rattle.ddrescue_cli.specs.Work.{WorksOn}
 use Rattle.ddrescue_cli.specs.Answers.{SaysOfWords, Causes, IsOpenedAs, drafting_left}
 use Rattle.ddrescue_cli.specs.Steps.{WorkedOn}
-use Rattle.ddrescue_cli.specs.Ddrescue.{HasGained, Ddrescue}
+use Rattle.ddrescue_cli.specs.Ddrescue.{Ddrescue}
 use Rattle.ddrescue_cli.proofs.GainFacts.{gained_is}
 use Rattle.ddrescue_cli.proofs.GoesFacts.{goes_on, nothing_stops}
 

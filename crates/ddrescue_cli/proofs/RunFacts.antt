@@ -1,5 +1,5 @@
 -- The reads of a run, one more, and what they don't depend on.
-use Rattle.std.proofs.Common.{◌≡◌, ℕ, ◌+◌, ◌≤◌, ◌<◌, Bool, true, List, [], ◌∷◌, ◌++◌, refl, sym, ap, ◌∙◌}
+use Rattle.std.proofs.Common.{◌≡◌, ℕ, ◌+◌, List, [], ◌∷◌, ◌++◌, refl}
 use Rattle.block_list.specs.declared.status.Status.{Status}
 use Rattle.faulty_source.specs.Journal.{Reading}
 use Rattle.save_resume.specs.MapNames.{MapNames}

@@ -1,29 +1,23 @@
 -- What the work behind the words did, by where it ended.
-use Rattle.std.proofs.Common.{◌≡◌, ◌≢◌, ◌⊎◌, ℕ, ◌<◌, ◌^◌, Bool, true, false, IsTrue, List, [], ◌∷◌, ◌++◌, map, Option, Some, None, refl, sym, ap, ◌∙◌, inl, inr, subst, append_assoc, append-nil}
+use Rattle.std.proofs.Common.{◌≡◌, ℕ, ◌<◌, ◌^◌, true, false, IsTrue, List, [], ◌∷◌, ◌++◌, map, Option, Some, None, refl, sym, ap, ◌∙◌, inl, inr, subst, append_assoc, append-nil}
 use Rattle.std.specs.Str.{bytes_eq}
 use Rattle.std.proofs.lemmas.Bool.{false_from_ne_true}
 use Rattle.std.proofs.lemmas.Slice.Eq.{bytes_eq-Decides}
 use Rattle.block_list.specs.declared.status.Status.{Status}
-use Rattle.faulty_source.specs.Journal.{Reading}
 use Rattle.faulty_source.specs.SourceState.{SourceState}
-use Rattle.crash_site.specs.declared.site.SiteCall.{SiteCall}
 use Rattle.crash_site.specs.declared.site.SiteCall.TheVariants.{ImageOpen, MapRead, MapSettle, ImageSync}
 use Rattle.crash_site.specs.Files.{File}
 use Rattle.crash_site.specs.Folder.{Folder, opened, after, after_entry}
 use Rattle.crash_site.specs.Calls.{Call, Entry, Done as Returned, Made, BrokeAt, image_open, image_sync, map_settle}
-use Rattle.crash_site.specs.SiteState.{SiteState, files_in, Makes, Breaks}
+use Rattle.crash_site.specs.SiteState.{SiteState, files_in}
 use Rattle.save_resume.specs.MapNames.{MapNames}
-use Rattle.save_resume.specs.Loading.{BeginsLoad, IsLoad}
 use Rattle.save_resume.specs.Resuming.{barrier_calls}
 use Rattle.rescue_rules.specs.Setting.{Setting}
-use Rattle.rescue_rules.specs.Start.{Stands}
-use Rattle.rescue_rules.specs.Work.{Gain, IsNothing}
 use Rattle.ddrescue_cli.specs.declared.ending.Ending.{Ending}
-use Rattle.ddrescue_cli.specs.declared.ending.Ending.TheVariants.{SourceFault, NotRegular, SiteFault, NoMemory}
+use Rattle.ddrescue_cli.specs.declared.ending.Ending.TheVariants.{SourceFault}
 use Rattle.ddrescue_cli.specs.Asked.{setting}
-use Rattle.ddrescue_cli.specs.Refusals.{is_other, OutputRefused, MapfileRefused}
-use Rattle.ddrescue_cli.specs.Work.{WorksOn}
-use Rattle.ddrescue_cli.specs.Steps.{OutputStop, Started, LoadStopped, InBarrier, InRead, Starved, Refused, Gains, RanOn, WorkedOn}
+use Rattle.ddrescue_cli.specs.Refusals.{is_other, OutputRefused}
+use Rattle.ddrescue_cli.specs.Steps.{OutputStop, Started, LoadStopped, InBarrier, InRead, Starved, Refused, RanOn, WorkedOn}
 use Rattle.ddrescue_cli.proofs.GainFacts.{GainsBroken, broke_gains}
 
 -- a name isn't another where the other isn't it
