@@ -9,3 +9,6 @@ pub mod GoesLemmas
 pub mod BeforeLemmas
 pub mod StopsLemmas
 pub mod OthersLemmas
+pub mod PromiseLemmas
+pub mod AsksLemmas
+pub mod SectorLemmas

@@ -1,14 +1,15 @@
 -- What the definitions mean.
-use Rattle.std.specs.Prelude.{◌≡◌, ◌≢◌, ◌⊎◌, ℕ, ◌<◌, ◌^◌, List, Option, Some}
+use Rattle.std.specs.Prelude.{◌≡◌, ◌≢◌, ◌⊎◌, ◌↔◌, ℕ, ◌<◌, ◌^◌, true, List, length, slice_get, Option, Some}
 use Rattle.block_list.specs.declared.status.Status.{Status}
 use Rattle.block_list.specs.declared.status.Status.TheVariants.{Finished}
 use Rattle.block_list.specs.Map.{Has}
 use Rattle.faulty_source.specs.Journal.{Reading}
 use Rattle.crash_site.specs.Files.{File}
-use Rattle.rescue_rules.specs.Setting.{Setting, IsSensible}
+use Rattle.rescue_rules.specs.Setting.{Setting, IsSensible, place}
 use Rattle.rescue_rules.specs.Start.{Stands}
 use Rattle.rescue_rules.specs.Run.{map_after, IsRun}
 use Rattle.rescue_rules.specs.Given.{given}
+use Rattle.rescue_rules.specs.Held.{Held}
 use Rattle.rescue_rules.specs.Work.{Gain, Goes}
 use Rattle.rescue_rules.specs.Stops.{Behind, files_before, StopsSafely}
 
@@ -33,3 +34,16 @@ abbrev pub StandsForOne : Type 0
 StandsForOne =
     (mapfile : Option File) (end : ℕ) (map map' : List Status) (shown shown' : ℕ) → Stands mapfile end map shown
     → Stands mapfile end map' shown' → (map ≡ map') × (shown ≡ shown')
+
+-- every old place that no position of the domain has stands
+abbrev pub OutsideStands : Setting → (start image : List ℕ) → Type 0
+OutsideStands s start image =
+    (y : ℕ) → y < length start → ((x : ℕ) → s.domain x ≡ true → place s x ≡ y → ⊥)
+    → slice_get image y ≡ slice_get start y
+
+-- of a map with nothing of the domain finished, what is promised is that much and no more
+abbrev pub PromiseOfNothing : Type 0
+PromiseOfNothing =
+    (s : Setting) (reads : List Reading) (start : List ℕ) (map : List Status) (image : List ℕ)
+    → ((x : ℕ) → s.domain x ≡ true → Has map Finished x → ⊥)
+    → Held s reads start map image ↔ OutsideStands s start image

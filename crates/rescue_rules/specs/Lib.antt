@@ -8,3 +8,4 @@ pub mod Saves
 pub mod Work
 pub mod Stops
 pub mod Laws
+pub mod RunLaws
