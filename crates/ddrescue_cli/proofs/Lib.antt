@@ -7,3 +7,4 @@ pub mod WorkFacts
 pub mod AnswerFacts
 pub mod GoesFacts
 pub mod PromiseFacts
+pub mod DoneFacts
