@@ -157,11 +157,11 @@ pub work_kept : (t : Told) (i o : List ℕ) (n : MapNames) (l : List ℕ) → i 
     → t.site'.is_drafting ≡ drafting_left t.answer → SourceKeeps t.source t.source' → SiteKeeps t.site t.site' → Ddrescue t
 work_kept t i o n l is_i is_o is_n is_l apart right says cause opened worked draft keeps keeps' =
     let worked_as : AllTell t → WorkedOn (asked t) (files_of t) t.answer t.source t.source' t.site t.site' =
-        λ tell. rw (is_i, is_o, is_n, is_l) at (worked tell.source tell.site) in
+    λ tell. rw (is_i, is_o, is_n, is_l) at (worked tell.source tell.site) in
     let P : AllTell t → Gain → Type 0 = λ tell g. WorksOn (asked t) (files_of t) t.answer g in
     let Q : Gain → Type 0 = λ g. StopsSafely (behind t) (asked t) g in
     let same : (tell : AllTell t) → (worked_as tell).gain ≡ gain t =
-        λ tell. gain_is (asked t) (files_of t) t.answer t.source t.source' t.site t.site' (worked_as tell) in
+    λ tell. gain_is (asked t) (files_of t) t.answer t.source t.source' t.site t.site' (worked_as tell) in
     record {
       words = rw right says;
       cause = cause;

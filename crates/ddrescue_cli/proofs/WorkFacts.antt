@@ -63,7 +63,7 @@ worked_output_at i o n l e end s0 s1 d0 d1 same td short (inl (is, other, makes)
 }
 worked_output_at i o n l e end s0 s1 d0 d1 same td short (inr (is, breaks)) =
     let g : GainsBroken ImageOpen (image_open o true ∷ []) d0.calls d1.calls =
-        broke_gains ImageOpen (image_open o true ∷ []) d0.calls d1.calls (breaks.broke td) in
+    broke_gains ImageOpen (image_open o true ∷ []) d0.calls d1.calls (breaks.broke td) in
     record {
       gain = record { calls = g.more; reads = [] };
       gains = record { reads = same ∙ sym (append-nil s0.journal); calls = g.grew };
@@ -114,15 +114,21 @@ worked_stopped_at i o n l e end s0 s1 d0 d1 d2 same short made regular (InBarrie
 worked_stopped_at i o n l e end s0 s1 d0 d1 d2 same short made regular (InRead load is begins broke) =
     let before : List Entry = Returned (map_settle n.map) ∷ Returned image_sync ∷ [] in
     let g : GainsBroken MapRead load (d1.calls ++ before) d2.calls =
-        broke_gains MapRead load (d1.calls ++ before) d2.calls (broke_past n load d1.calls d2.calls broke) in
+    broke_gains MapRead load (d1.calls ++ before) d2.calls (broke_past n load d1.calls d2.calls broke) in
     record {
       gain = record { calls = Returned (image_open o true) ∷ (before ++ g.more); reads = [] };
       gains = record {
         reads = same ∙ sym (append-nil s0.journal);
         calls = joined (image_open o true) d0.calls d1.calls d2.calls (before ++ g.more) made (g.grew ∙ append_assoc d1.calls before g.more);
       };
-      works = inr (inr (before ++ g.more, refl, inr (regular_passes (files_in d0 o) regular,
-          inr (g.more, refl, inl (load, is, begins, g.broke, refl)))));
+      works = inr (inr (
+        before ++ g.more,
+        refl,
+        inr (
+          regular_passes (files_in d0 o) regular,
+          inr (g.more, refl, inl (load, is, begins, g.broke, refl)),
+        ),
+      ));
       short = inr short;
     }
 worked_stopped_at i o n l e end s0 s1 d0 d1 d2 same short made regular (Starved load is begins all) =
@@ -132,8 +138,14 @@ worked_stopped_at i o n l e end s0 s1 d0 d1 d2 same short made regular (Starved 
         reads = same ∙ sym (append-nil s0.journal);
         calls = joined (image_open o true) d0.calls d1.calls d2.calls (map Returned (barrier_calls n ++ load)) made all;
       };
-      works = inr (inr (map Returned (barrier_calls n ++ load), refl, inr (regular_passes (files_in d0 o) regular,
-          inr (map Returned load, refl, inr (inl (load, is, begins, refl, refl))))));
+      works = inr (inr (
+        map Returned (barrier_calls n ++ load),
+        refl,
+        inr (
+          regular_passes (files_in d0 o) regular,
+          inr (map Returned load, refl, inr (inl (load, is, begins, refl, refl))),
+        ),
+      ));
       short = inr short;
     }
 worked_stopped_at i o n l e end s0 s1 d0 d1 d2 same short made regular (Refused load refused loaded all) =
@@ -143,9 +155,24 @@ worked_stopped_at i o n l e end s0 s1 d0 d1 d2 same short made regular (Refused 
         reads = same ∙ sym (append-nil s0.journal);
         calls = joined (image_open o true) d0.calls d1.calls d2.calls (map Returned (barrier_calls n ++ load)) made all;
       };
-      works = inr (inr (map Returned (barrier_calls n ++ load), refl, inr (regular_passes (files_in d0 o) regular,
-          inr (map Returned load, refl, inr (inr (load, [], loaded, sym (append-nil (map Returned load)),
-          inl (refused, record { calls = refl; reads = refl })))))));
+      works = inr (inr (
+        map Returned (barrier_calls n ++ load),
+        refl,
+        inr (
+          regular_passes (files_in d0 o) regular,
+          inr (
+            map Returned load,
+            refl,
+            inr (inr (
+              load,
+              [],
+              loaded,
+              sym (append-nil (map Returned load)),
+              inl (refused, record { calls = refl; reads = refl }),
+            )),
+          ),
+        ),
+      ));
       short = inr short;
     }
 
@@ -173,9 +200,24 @@ worked_run_at i o n l e end statuses shown s0 s1 s2 d0 d1 d2 d3 same short made 
         calls = joined (image_open o true) d0.calls d1.calls d3.calls (loaded ++ ran.gain.calls) made
             (ran.gains.calls ∙ ap (λ c. c ++ ran.gain.calls) st.made ∙ append_assoc d1.calls loaded ran.gain.calls);
       };
-      works = inr (inr (loaded ++ ran.gain.calls, refl, inr (regular_passes (files_in d0 o) regular,
-          inr (map Returned st.load ++ ran.gain.calls, refl, inr (inr (st.load, ran.gain.calls, st.is_load, refl,
-          inr (st.accepted, (statuses, shown, st.stands, (ran.end, ran.answer, ran.runs)))))))));
+      works = inr (inr (
+        loaded ++ ran.gain.calls,
+        refl,
+        inr (
+          regular_passes (files_in d0 o) regular,
+          inr (
+            map Returned st.load ++ ran.gain.calls,
+            refl,
+            inr (inr (
+              st.load,
+              ran.gain.calls,
+              st.is_load,
+              refl,
+              inr (st.accepted, (statuses, shown, st.stands, (ran.end, ran.answer, ran.runs))),
+            )),
+          ),
+        ),
+      ));
       short = inr short;
     }
 
