@@ -19,7 +19,7 @@ opened s = Returned (image_open s.outfile true) ∷ []
 abbrev pub settled : Setting → List Entry
 settled s = Returned (image_open s.outfile true) ∷ Returned (map_settle s.names.map) ∷ Returned image_sync ∷ []
 
-settled_more : (s : Setting) (calls rest more : List Entry) → calls ≡ opened s ++ rest → rest ≡ map Returned (barrier_calls s.names) ++ more
+pub settled_more : (s : Setting) (calls rest more : List Entry) → calls ≡ opened s ++ rest → rest ≡ map Returned (barrier_calls s.names) ++ more
     → calls ≡ settled s ++ more
 settled_more s calls rest more grew grew' = grew ∙ ap (λ r. opened s ++ r) grew'
 

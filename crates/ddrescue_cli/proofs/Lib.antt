@@ -7,3 +7,5 @@ pub mod WorkFacts
 pub mod AnswerFacts
 pub mod GoesFacts
 pub mod PromiseFacts
+pub mod CountFacts
+pub mod DoneFacts

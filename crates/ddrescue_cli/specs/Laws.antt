@@ -1,1 +1,41 @@
 -- What the definitions mean.
+use Rattle.std.specs.Prelude.{◌≡◌, ℕ, true, List, length, Some}
+use Rattle.block_list.specs.declared.status.Status.{Status}
+use Rattle.crash_site.specs.Files.{bytes_of}
+use Rattle.crash_site.specs.SiteState.{files_in}
+use Rattle.rescue_rules.specs.Start.{Stands}
+use Rattle.rescue_rules.specs.Requests.{IsSpent}
+use Rattle.rescue_rules.specs.Run.{map_after, cursor_after, IsRun}
+use Rattle.rescue_rules.specs.Held.{Held}
+use Rattle.rescue_rules.specs.Saves.{text_of, snapshot}
+use Rattle.rescue_rules.specs.Stops.{has_barrier, IsKept}
+use Rattle.ddrescue_cli.specs.declared.ending.Ending.TheVariants.{Done}
+use Rattle.ddrescue_cli.specs.Operands.{outfile, mapfile, command_line}
+use Rattle.ddrescue_cli.specs.Told.{Told, AllTell, gain, behind, files_of, asked}
+use Rattle.ddrescue_cli.specs.Ddrescue.{Ddrescue}
+
+-- Behind each answer that comes after the barrier, the files as they read keep the promise.
+abbrev pub HoldsAtEnd : Type 0
+HoldsAtEnd =
+    (t : Told) (began : List Status) (shown : ℕ) → Ddrescue t → AllTell t → has_barrier (gain t).calls ≡ true
+    → Stands (files_of t (mapfile t.words)) (length t.source.bytes) began shown
+    → IsKept (behind t) (asked t) (gain t) began shown (length (gain t).calls) (files_in t.site')
+
+-- What a rescue leaves that went on to its end, over the map that its mapfile stood for:
+pub record IsSaved (t : Told) : Type 0 where
+  pub statuses : List Status
+  pub shown : ℕ
+  pub stands : Stands (files_of t (mapfile t.words)) (length t.source.bytes) statuses shown
+  -- the reads are a run that left nothing wanted
+  pub run : IsRun (asked t) statuses 0 (gain t).reads
+  pub spent : IsSpent (asked t) (map_after statuses (gain t).reads) (cursor_after 0 (gain t).reads)
+  -- the mapfile is the map of all reads
+  pub mapfile : files_in t.site' (mapfile t.words)
+      ≡ Some (record { bytes = text_of (command_line t.words) (snapshot statuses shown (gain t).reads); regular = true })
+  -- and the output holds what that map promises
+  pub held : Held (asked t) (gain t).reads (bytes_of (files_of t (outfile t.words))) (map_after statuses (gain t).reads)
+      (bytes_of (files_in t.site' (outfile t.words)))
+
+-- A finished rescue leaves that.
+abbrev pub DoneIsSaved : Type 0
+DoneIsSaved = (t : Told) → Ddrescue t → AllTell t → t.answer ≡ Done → IsSaved t

@@ -1,1 +1,12 @@
 //! What the definitions mean.
+ghost use Rattle.ddrescue_cli.specs.Laws.{DoneIsSaved, HoldsAtEnd};
+
+/// Behind each answer that comes after the barrier, the files as they read keep the promise.
+pub fn files_hold_at_the_end()
+    ensures { HoldsAtEnd }
+{}
+
+/// A finished rescue saved the map of all its reads, left nothing wanted, and the output holds what that map promises.
+pub fn done_is_saved()
+    ensures { DoneIsSaved }
+{}
