@@ -1,4 +1,5 @@
--- The promise of `ddrescue`, one sentence a field.
+-- The promise of `ddrescue`, field by field. What an object tells is its own: the forms in memory tell all, those for real
+-- files their counts and what is open.
 use Rattle.std.specs.Prelude.{◌≡◌, ◌++◌, IsTrue}
 use Rattle.faulty_source.specs.SourceState.{Keeps as SourceKeeps}
 use Rattle.crash_site.specs.SiteState.{Keeps as SiteKeeps}
@@ -15,21 +16,24 @@ pub record HasGained (t : Told) : Type 0 where
 
 -- What `ddrescue` promises of a call, by all that is told of it
 pub record Ddrescue (t : Told) : Type 0 where
-  -- Words that name no three files are refused, whatever the objects tell; only memory may run out before.
+  -- Words that don't name three files of three names, and a draft's name beside them, are refused, whatever the objects
+  -- tell; only memory may run out before.
   pub words : SaysOfWords t.answer (refusal_of_words t.words)
   -- Each answer has its cause: a fault is answered exactly where its count rose, and no other answer hides one.
   pub cause : Causes t.answer t.source t.source' t.site t.site'
-  -- What is read is the infile.
+  -- Where the input tells: what is opened is the infile.
   pub input : IsTrue t.source.tells → IsOpenedAs t.answer (infile t.words) t.source t.source'
-  -- The answer is the first refusal of the work, or how its run ended; and the calls on the files and the reads are those
-  -- of the work up to there.
+  -- Where both tell: the answer is the first refusal of the work, or how its run ended; and the calls on the files and the
+  -- reads are those of the work up to there.
   pub work : AllTell t → Works t.words (asked t) (files_of t) t.answer (gain t)
-  -- At whatever moment the rescue is stopped, the mapfile found is one that it saved, no older than the last save that
-  -- had returned, or the one it began with; and the output holds what that mapfile promises.
+  -- Where both tell: at whatever moment the rescue is stopped, what is found could be found before, until the barrier has
+  -- returned; from then on the mapfile found is the one it began with or one that it saved, no older than the last save
+  -- that had returned, and the output holds what that mapfile promises.
   pub stops : AllTell t → StopsSafely (behind t) (asked t) (gain t)
-  -- No draft is left begun, but where a call on it failed.
+  -- A draft is left begun exactly where an append to it failed, or its sync. (A file of its name may be left behind any
+  -- failed call of a save.)
   pub draft : t.site'.is_drafting ≡ drafting_left t.answer
-  -- What was told before stays, and the journal and the record have only gained at their ends.
+  -- What was told before stays; and where both tell, the journal and the record have only gained at their ends.
   pub source : SourceKeeps t.source t.source'
   pub site : SiteKeeps t.site t.site'
   pub gains : AllTell t → HasGained t

@@ -1,5 +1,5 @@
--- The work of a rescue: its steps in order, what each does on the files, and where it refuses. It says which answer is
--- given, and which calls and reads were made by then.
+-- The work of a rescue: its steps in order, what each does on the files, and where it refuses. It says which answers
+-- may be given, and which calls and reads were made by then.
 use Rattle.std.specs.Prelude.{◌≡◌, ◌⊎◌, ℕ, true, List, [], ◌∷◌, ◌++◌, map, Option}
 use Rattle.block_list.specs.declared.status.Status.{Status}
 use Rattle.crash_site.specs.declared.site.SiteCall.{SiteCall}
@@ -15,7 +15,7 @@ use Rattle.ddrescue_cli.specs.declared.ending.Ending.{Ending}
 use Rattle.ddrescue_cli.specs.declared.ending.Ending.TheVariants.{Done, SourceLost, SiteFault, NoMemory}
 use Rattle.ddrescue_cli.specs.Refusals.{WordsRefused, InputRefused, OutputRefused, MapfileRefused}
 
--- The answer is a refusal exactly where there is one; else the work goes on. Memory may run out before it does.
+-- Where there is a refusal it is the answer, or memory ran out; else the work goes on, unless memory ran out.
 abbrev pub OrElse : (Ending → Type 0) → (Ending → Gain → Type 0) → Ending → Gain → Type 0
 OrElse P Q e g = ((P e ⊎ (e ≡ NoMemory)) × IsNothing g) ⊎ (((e' : Ending) → P e' → ⊥) × Q e g)
 

@@ -63,8 +63,9 @@ IsSave old began line saves (suc n) found statuses =
     (p : Snapshot) × (slice_get saves n ≡ Some p) × (statuses ≡ p.map)
     × (found ≡ Some (record { bytes = text_of line p; regular = true }))
 
--- The mapfile found is one that the run saved: no older than the last save that had returned, and no newer than the
--- last that had begun to be published. It stands for that save's map, and the output holds what that map promises.
+-- The mapfile found is the one that stood there (number 0) or one that the run saved: no older than the last save that had
+-- returned, and no newer than the last that had begun to be published. It stands for that map, and the output holds what
+-- that map promises.
 pub record IsKept (b : Behind) (s : Setting) (g : Gain) (began : List Status) (shown : ℕ) (k : ℕ) (files : List ℕ → Option File) : Type 0 where
   pub number : ℕ
   pub no_older : returned (take k g.calls) ≤ number
