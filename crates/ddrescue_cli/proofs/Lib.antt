@@ -5,6 +5,7 @@ pub mod GainFacts
 pub mod RanFacts
 pub mod WorkFacts
 pub mod AnswerFacts
+pub mod AloneFacts
 pub mod GoesFacts
 pub mod PromiseFacts
 pub mod CountFacts

@@ -20,8 +20,10 @@ use Rattle.ddrescue_cli.specs.Told.{Told, AllTell, gained, gain_of, gain, behind
 use Rattle.ddrescue_cli.specs.Refusals.{WordsRefused}
 use Rattle.ddrescue_cli.specs.Work.{WorksOn}
 use Rattle.ddrescue_cli.specs.Answers.{SaysOfWords, Causes, IsOpenedAs, drafting_left}
+use Rattle.ddrescue_cli.specs.Alone.{HasRead, FilesAllow}
 use Rattle.ddrescue_cli.specs.Steps.{WorkedOn}
 use Rattle.ddrescue_cli.specs.Ddrescue.{Ddrescue}
+use Rattle.ddrescue_cli.proofs.AloneFacts.{none_read}
 use Rattle.ddrescue_cli.proofs.GainFacts.{gained_is}
 use Rattle.ddrescue_cli.proofs.GoesFacts.{goes_on, nothing_stops}
 
@@ -86,6 +88,21 @@ words_refuse (MapRefused which error) words of = absurd of
 words_refuse SourceLost words of = absurd of
 words_refuse (SiteFault call) words of = absurd of
 
+words_allow : (e : Ending) (refusal : Option Ending) (output mapfile : Option File) → OfWords e refusal → FilesAllow e output mapfile
+words_allow NoMemory refusal output mapfile of = tt
+words_allow (WrongNumber n) refusal output mapfile of = tt
+words_allow (WrongWord n) refusal output mapfile of = tt
+words_allow (SameName a b) refusal output mapfile of = tt
+words_allow Done refusal output mapfile of = absurd of
+words_allow SourceFault refusal output mapfile of = absurd of
+words_allow NotRegular refusal output mapfile of = absurd of
+words_allow (MapRefused which error) refusal output mapfile of = absurd of
+words_allow SourceLost refusal output mapfile of = absurd of
+words_allow (SiteFault call) refusal output mapfile of = absurd of
+
+words_stop : (e : Ending) (refusal : Option Ending) → OfWords e refusal → e ≡ Done → ⊥
+words_stop e refusal of is = let P : Ending → Type 0 = λ v. OfWords v refusal in subst P is of
+
 -- nothing was gained
 gained_none : {A : Type 0} (xs : List A) → gained xs xs ≡ []
 gained_none xs = gained_is xs xs [] (sym (append-nil xs))
@@ -103,6 +120,8 @@ words_kept words e s d of none keeps keeps' =
       words = words_say e (refusal_of_words words) of;
       cause = words_cause e (refusal_of_words words) s d of;
       input = λ tells. words_open e (refusal_of_words words) (infile words) s of;
+      read = λ tells. none_read (asked t) e s s (words_stop e (refusal_of_words words) of) refl;
+      files = λ tells. words_allow e (refusal_of_words words) (files_of t (outfile words)) (files_of t (mapfile words)) of;
       work = λ tell. inl (words_refuse e words of, nothing_gained s d);
       stops = λ tell. nothing_stops (behind t) (asked t) (gain t) (nothing_gained s d);
       draft = none ∙ sym (words_leave e (refusal_of_words words) of);
@@ -154,8 +173,10 @@ pub work_kept : (t : Told) (i o : List ℕ) (n : MapNames) (l : List ℕ) → i 
     → (IsTrue t.source.tells → IsOpenedAs t.answer i t.source t.source')
     → (IsTrue t.source.tells → IsTrue t.site.tells
     → WorkedOn (setting i o n l (length t.source.bytes)) (files_of t) t.answer t.source t.source' t.site t.site')
+    → (IsTrue t.source.tells → HasRead (setting i o n l (length t.source.bytes)) t.answer t.source t.source')
+    → (IsTrue t.site.tells → FilesAllow t.answer (files_of t o) (files_of t n.map))
     → t.site'.is_drafting ≡ drafting_left t.answer → SourceKeeps t.source t.source' → SiteKeeps t.site t.site' → Ddrescue t
-work_kept t i o n l is_i is_o is_n is_l apart right says cause opened worked draft keeps keeps' =
+work_kept t i o n l is_i is_o is_n is_l apart right says cause opened worked read files draft keeps keeps' =
     let worked_as : AllTell t → WorkedOn (asked t) (files_of t) t.answer t.source t.source' t.site t.site' =
     λ tell. rw (is_i, is_o, is_n, is_l) at (worked tell.source tell.site) in
     let P : AllTell t → Gain → Type 0 = λ tell g. WorksOn (asked t) (files_of t) t.answer g in
@@ -166,6 +187,8 @@ work_kept t i o n l is_i is_o is_n is_l apart right says cause opened worked dra
       words = rw right says;
       cause = cause;
       input = λ tells. rw is_i at (opened tells);
+      read = λ tells. rw (is_i, is_o, is_n, is_l) at (read tells);
+      files = λ tells. rw (is_o, is_n) at (files tells);
       work = λ tell. inr (λ e refused. let none : None ≡ Some e = sym right ∙ refused in cc, subst (P tell) (same tell) (worked_as tell).works);
       stops = λ tell. subst Q (same tell) (stops_by t (worked_as tell).gain apart (worked_as tell).works (worked_as tell).short);
       draft = draft;

@@ -35,7 +35,7 @@ opened_apart d out name apart None = let e : bytes_eq name out ≡ false = bytes
 opened_apart d out name apart (Some f) = refl
 
 -- the mapfile as it reads isn't touched when another file is opened
-open_apart : (start start' : Folder) (out name : List ℕ) (old new : List Entry) → start' ≡ start → bytes_eq out name ≡ false
+pub open_apart : (start start' : Folder) (out name : List ℕ) (old new : List Entry) → start' ≡ start → bytes_eq out name ≡ false
     → Made (image_open out true ∷ []) old new → (after start' new).files name ≡ (after start old).files name
 open_apart start start' out name old new same apart made =
     ap (λ s. (after s new).files name) same ∙ ap (λ r. (after start r).files name) made

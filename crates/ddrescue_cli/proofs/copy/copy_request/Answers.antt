@@ -8,4 +8,4 @@ pub returns-then-is_err-2-clause-halt : goal.returns-then-is_err-2-clause-halt
 returns-then-is_err-2-clause-halt g c =
     let all : take c.in-Ok.got.0 c.read_at.new.buf ≡ c.read_at.new.buf = take_all _ _ (grind (arith, common_steps)) in
     Unwritten (record { pos = c.args.pos; asked = length c.args.buf.now; given = take c.in-Ok.got.0 c.read_at.new.buf }) refl refl refl
-    (rw all (grind (arith, common_steps))) (search rules) (rw all (search rules))
+    (rw all (grind (arith, common_steps))) (search rules) (search rules) (rw all (search rules))

@@ -1,0 +1,75 @@
+-- What is said where the input tells, whatever the files do, and where the files tell, whatever the input does.
+use Rattle.std.specs.Prelude.{◌≡◌, ⊤, ℕ, ◌+◌, true, false, List, [], ◌++◌, length, slice_range, All, Option}
+use Rattle.block_list.specs.declared.status.Status.{Status}
+use Rattle.faulty_source.specs.Journal.{Reading}
+use Rattle.faulty_source.specs.SourceState.{SourceState}
+use Rattle.crash_site.specs.declared.site.SiteCall.{SiteCall}
+use Rattle.crash_site.specs.declared.site.SiteCall.TheVariants.{ImageOpen, ImageRead, ImageWrite, ImageSync, MapRead, DraftBegin, DraftAppend, DraftSync, DraftPublish, MapSettle, MapRemove}
+use Rattle.crash_site.specs.Files.{File}
+use Rattle.rescue_rules.specs.Setting.{Setting}
+use Rattle.rescue_rules.specs.Requests.{IsSpent}
+use Rattle.rescue_rules.specs.Run.{map_after, cursor_after, IsRun}
+use Rattle.ddrescue_cli.specs.declared.ending.Ending.{Ending}
+use Rattle.ddrescue_cli.specs.declared.ending.Ending.TheVariants.{Done, WrongNumber, WrongWord, SameName, SourceFault, NotRegular, MapRefused, SourceLost, SiteFault, NoMemory}
+use Rattle.ddrescue_cli.specs.Refusals.{is_other, MapfileRefused}
+
+-- a read gave the input's own bytes
+abbrev pub IsFrom : (bytes : List ℕ) → Reading → Type 0
+IsFrom bytes r = r.given ≡ slice_range bytes r.pos (r.pos + length r.given)
+
+-- a refusal, which comes before the first read
+abbrev pub IsRefusal : Ending → Type 0
+IsRefusal Done = ⊥
+IsRefusal (WrongNumber given) = ⊤
+IsRefusal (WrongWord word) = ⊤
+IsRefusal (SameName first second) = ⊤
+IsRefusal SourceFault = ⊤
+IsRefusal NotRegular = ⊤
+IsRefusal (MapRefused which error) = ⊤
+IsRefusal SourceLost = ⊥
+IsRefusal (SiteFault call) = ⊥
+IsRefusal NoMemory = ⊥
+
+-- The reads are a run over some map, and gave the input's own bytes; there is none before a refusal, and no request is
+-- left where the rescue is done.
+pub record HasRead (s : Setting) (e : Ending) (source source' : SourceState) : Type 0 where
+  pub map : List Status
+  pub reads : List Reading
+  pub gained : source'.journal ≡ source.journal ++ reads
+  pub run : IsRun s map 0 reads
+  pub right : All (IsFrom source.bytes) reads
+  pub refused : IsRefusal e → reads ≡ []
+  pub done : e ≡ Done → IsSpent s (map_after map reads) (cursor_after 0 reads)
+
+-- the output is a regular file or absent, and the mapfile isn't refused
+pub record Pass (output mapfile : Option File) : Type 0 where
+  pub regular : is_other output ≡ false
+  pub accepted : (e : Ending) → MapfileRefused mapfile e → ⊥
+
+-- a call that failed: once the output is open it is regular, and once the mapfile is read it isn't refused
+abbrev pub CallPasses : SiteCall → (output mapfile : Option File) → Type 0
+CallPasses ImageOpen output mapfile = ⊤
+CallPasses ImageRead output mapfile = Pass output mapfile
+CallPasses ImageWrite output mapfile = Pass output mapfile
+CallPasses ImageSync output mapfile = is_other output ≡ false
+CallPasses MapRead output mapfile = is_other output ≡ false
+CallPasses DraftBegin output mapfile = Pass output mapfile
+CallPasses DraftAppend output mapfile = Pass output mapfile
+CallPasses DraftSync output mapfile = Pass output mapfile
+CallPasses DraftPublish output mapfile = Pass output mapfile
+CallPasses MapSettle output mapfile = is_other output ≡ false
+CallPasses MapRemove output mapfile = Pass output mapfile
+
+-- what an answer says of the files
+abbrev pub FilesAllow : Ending → (output mapfile : Option File) → Type 0
+FilesAllow Done output mapfile = Pass output mapfile
+FilesAllow (WrongNumber given) output mapfile = ⊤
+FilesAllow (WrongWord word) output mapfile = ⊤
+FilesAllow (SameName first second) output mapfile = ⊤
+FilesAllow SourceFault output mapfile = ⊤
+FilesAllow NotRegular output mapfile = is_other output ≡ true
+FilesAllow (MapRefused which error) output mapfile =
+    (is_other output ≡ false) × MapfileRefused mapfile (MapRefused which error)
+FilesAllow SourceLost output mapfile = Pass output mapfile
+FilesAllow (SiteFault call) output mapfile = CallPasses call output mapfile
+FilesAllow NoMemory output mapfile = ⊤
