@@ -1,16 +1,18 @@
 -- What the definitions mean.
-use Rattle.std.specs.Prelude.{◌≡◌, ℕ, true, List, length, Some}
+use Rattle.std.specs.Prelude.{◌≡◌, ℕ, true, IsTrue, List, length, slice_get, Some}
 use Rattle.block_list.specs.declared.status.Status.{Status}
 use Rattle.crash_site.specs.Files.{bytes_of}
 use Rattle.crash_site.specs.SiteState.{files_in}
 use Rattle.rescue_rules.specs.Start.{Stands}
 use Rattle.rescue_rules.specs.Requests.{IsSpent}
 use Rattle.rescue_rules.specs.Run.{map_after, cursor_after, IsRun}
+use Rattle.rescue_rules.specs.Given.{given}
 use Rattle.rescue_rules.specs.Held.{Held}
 use Rattle.rescue_rules.specs.Saves.{text_of, snapshot}
 use Rattle.rescue_rules.specs.Stops.{has_barrier, IsKept}
 use Rattle.ddrescue_cli.specs.declared.ending.Ending.TheVariants.{Done}
 use Rattle.ddrescue_cli.specs.Operands.{outfile, mapfile, command_line}
+use Rattle.ddrescue_cli.specs.Asked.{default_sector}
 use Rattle.ddrescue_cli.specs.Told.{Told, AllTell, gain, behind, files_of, asked}
 use Rattle.ddrescue_cli.specs.Ddrescue.{Ddrescue}
 
@@ -39,3 +41,9 @@ pub record IsSaved (t : Told) : Type 0 where
 -- A finished rescue leaves that.
 abbrev pub DoneIsSaved : Type 0
 DoneIsSaved = (t : Told) → Ddrescue t → AllTell t → t.answer ≡ Done → IsSaved t
+
+-- What the reads gave is the input's own, where the input tells. So what a saved map calls finished, and the reads gave,
+-- stands in the output as it stands in the input.
+abbrev pub GivenIsInput : Type 0
+GivenIsInput = (t : Told) (x b : ℕ) → Ddrescue t → IsTrue t.source.tells → given default_sector (gain t).reads x ≡ Some b
+    → slice_get t.source.bytes x ≡ Some b

@@ -1,5 +1,5 @@
 //! What the definitions mean.
-ghost use Rattle.ddrescue_cli.specs.Laws.{DoneIsSaved, HoldsAtEnd};
+ghost use Rattle.ddrescue_cli.specs.Laws.{DoneIsSaved, GivenIsInput, HoldsAtEnd};
 
 /// Behind each answer that comes after the barrier, the files as they read keep the promise.
 pub fn files_hold_at_the_end()
@@ -9,4 +9,9 @@ pub fn files_hold_at_the_end()
 /// A finished rescue saved the map of all its reads, left nothing wanted, and the output holds what that map promises.
 pub fn done_is_saved()
     ensures { DoneIsSaved }
+{}
+
+/// What the reads of a rescue gave is the input's own.
+pub fn given_is_the_inputs()
+    ensures { GivenIsInput }
 {}

@@ -125,14 +125,14 @@ last_of_none None = refl
 last_of_none (Some b) = refl
 
 -- a read that doesn't cover a position gives nothing there
-given_uncovered : (b : ℕ) (r : Reading) (rs : List Reading) (x : ℕ) → covers b r x ≡ false
+pub given_uncovered : (b : ℕ) (r : Reading) (rs : List Reading) (x : ℕ) → covers b r x ≡ false
     → given b (r ∷ rs) x ≡ given b rs x
 given_uncovered b r rs x apart =
     ap (λ o. last_of_both (given b rs x) o) (cond-false (covers b r x) (slice_get r.given (x - r.pos)) None apart)
     ∙ last_of_none (given b rs x)
 
 -- one that covers it gives its byte, if no later one does
-given_covered : (b : ℕ) (r : Reading) (rs : List Reading) (x : ℕ) → covers b r x ≡ true → given b rs x ≡ None
+pub given_covered : (b : ℕ) (r : Reading) (rs : List Reading) (x : ℕ) → covers b r x ≡ true → given b rs x ≡ None
     → given b (r ∷ rs) x ≡ slice_get r.given (x - r.pos)
 given_covered b r rs x covered later =
     last_at_none (given b rs x) (if covers b r x then slice_get r.given (x - r.pos) else None) later
