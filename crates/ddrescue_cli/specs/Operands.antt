@@ -4,7 +4,7 @@ use Rattle.std.specs.Str.{bytes_eq}
 use Rattle.std.specs.List.{flat_map}
 use Rattle.save_resume.specs.MapNames.{names_of}
 use Rattle.ddrescue_cli.specs.declared.ending.Ending.{Ending}
-use Rattle.ddrescue_cli.specs.declared.ending.Ending.TheVariants.{WrongNumber, WrongWord, SameName, NoMemory}
+use Rattle.ddrescue_cli.specs.declared.ending.Ending.TheVariants.{Done, WrongNumber, WrongWord, SameName, SourceFault, NotRegular, MapRefused, SourceLost, SiteFault, NoMemory}
 use Rattle.ddrescue_cli.specs.declared.ending.Operand.{Operand}
 use Rattle.ddrescue_cli.specs.declared.ending.Operand.TheVariants.{Infile, Outfile, Mapfile, Draft}
 
@@ -76,7 +76,12 @@ OfWords NoMemory refusal = ⊤
 OfWords (WrongNumber given) refusal = refusal ≡ Some (WrongNumber given)
 OfWords (WrongWord word) refusal = refusal ≡ Some (WrongWord word)
 OfWords (SameName first second) refusal = refusal ≡ Some (SameName first second)
-OfWords e refusal = ⊥
+OfWords Done refusal = ⊥
+OfWords SourceFault refusal = ⊥
+OfWords NotRegular refusal = ⊥
+OfWords (MapRefused which error) refusal = ⊥
+OfWords SourceLost refusal = ⊥
+OfWords (SiteFault call) refusal = ⊥
 
 -- the command line: the program's name, and a space before each word
 abbrev pub command_line : List (List ℕ) → List ℕ

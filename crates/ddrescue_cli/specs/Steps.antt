@@ -20,6 +20,7 @@ use Rattle.ddrescue_cli.specs.declared.ending.Ending.{Ending}
 use Rattle.ddrescue_cli.specs.declared.ending.Ending.TheVariants.{Done, NotRegular, MapRefused, SiteFault, NoMemory}
 use Rattle.ddrescue_cli.specs.declared.ending.Which.TheVariants.{RunMap}
 use Rattle.ddrescue_cli.specs.Refusals.{is_other, MapfileRefused}
+use Rattle.ddrescue_cli.specs.Alone.{HasRead, FilesAllow}
 use Rattle.ddrescue_cli.specs.Work.{answer_of, WorksOn}
 
 -- how a rescue ends whose parts returned this
@@ -82,9 +83,21 @@ pub record RanOn (s : Setting) (statuses : List Status) (shown : ℕ) (e : Endin
 abbrev pub EndsRun : Ending → Type 0
 EndsRun e = (end : RunEnd) × (e ≡ answer_of end)
 
+-- the same by which objects tell; and how it ended, whether they do or not
+pub record Ran (s : Setting) (statuses : List Status) (shown : ℕ) (e : Ending) (source source' : SourceState) (site site' : SiteState) : Type 0 where
+  pub told : IsTrue source.tells → IsTrue site.tells → RanOn s statuses shown e source source' site site'
+  pub read : IsTrue source.tells → HasRead s e source source'
+  pub ends : EndsRun e
+
 -- what the work behind the words did, up to its end or to where it stopped
 pub record WorkedOn (s : Setting) (files : List ℕ → Option File) (e : Ending) (source source' : SourceState) (site site' : SiteState) : Type 0 where
   pub gain : Gain
   pub gains : Gains source source' site site' gain
   pub works : WorksOn s files e gain
   pub short : IsNothing gain ⊎ (s.end < 2 ^ 63)
+
+-- the same by which objects tell
+pub record Worked (s : Setting) (files : List ℕ → Option File) (e : Ending) (source source' : SourceState) (site site' : SiteState) : Type 0 where
+  pub told : IsTrue source.tells → IsTrue site.tells → WorkedOn s files e source source' site site'
+  pub read : IsTrue source.tells → HasRead s e source source'
+  pub allowed : IsTrue site.tells → FilesAllow e (files s.outfile) (files s.names.map)
