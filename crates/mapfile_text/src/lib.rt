@@ -9,7 +9,6 @@ pub mod laws;
 mod lines;
 mod made_lines;
 mod place;
-pub mod print;
 pub mod printer;
 #[cfg(test)]
 mod printer_tests;

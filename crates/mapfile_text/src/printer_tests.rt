@@ -1,5 +1,4 @@
 use crate::heading::{Heading, Program};
-use crate::print::print_map;
 use crate::printer::MapPrinter;
 use crate::state::{Current, MapState};
 use arrayvec::ArrayVec;
@@ -35,7 +34,7 @@ fn map_of(rt: &impl Abort, alloc: Global, blocks: u64) -> PlainTiles {
     tiles
 }
 
-/// Prints a map piece by piece: the pieces have these lengths, and joined they are what print_map gives.
+/// Prints a map piece by piece: the pieces have these lengths, and behind them nothing is left.
 fn assert_pieces(
     rt: &(impl Abort + AllocGlobal),
     words: &str,
@@ -46,16 +45,12 @@ fn assert_pieces(
     let tiles = map_of(rt, rt.alloc(), blocks);
     let mut printer = MapPrinter::begin();
     let mut piece = ArrayVec::new();
-    let mut text = Vec::new(rt.alloc());
     for length in lengths {
         assert!(rt; printer.next(STATE, &heading, &tiles, &mut piece));
         assert_eq!(rt; piece.len(), *length);
-        text.extend_from_slice(piece.as_slice())?;
     }
     assert!(rt; !printer.next(STATE, &heading, &tiles, &mut piece));
     assert!(rt; piece.is_empty());
-    let whole = print_map(rt.alloc(), &heading, STATE, &tiles)?;
-    assert!(rt; text.as_slice() == whole.as_slice());
     Ok(())
 }
 

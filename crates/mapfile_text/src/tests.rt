@@ -1,6 +1,7 @@
 use crate::heading::{Heading, Program};
-use crate::print::print_map;
+use crate::printer::MapPrinter;
 use crate::state::{Current, MapState};
+use arrayvec::ArrayVec;
 use block_list::plain_tiles::PlainTiles;
 use block_list::status::Status;
 use block_list::tiles::{NoMemory, Tiles};
@@ -37,6 +38,24 @@ fn add_stretches<T: Tiles>(
     Ok(())
 }
 
+/// The pieces of a printed map, joined.
+fn printed_text<T: Tiles>(
+    alloc: Global,
+    heading: &Heading,
+    state: MapState,
+    tiles: &T,
+) -> Result<Vec<u8>, Fail> {
+    let mut text = Vec::new(alloc);
+    let mut printer = MapPrinter::begin();
+    let mut piece = ArrayVec::new();
+    for _ in 0..100 {
+        if printer.next(state, heading, tiles, &mut piece) {
+            text.extend_from_slice(piece.as_slice())?;
+        }
+    }
+    Ok(text)
+}
+
 fn assert_prints(
     rt: &(impl Abort + AllocGlobal),
     heading: &Heading,
@@ -45,7 +64,7 @@ fn assert_prints(
     expected: &str,
 ) -> Result<(), Fail> {
     let tiles = map_of(rt, rt.alloc(), stretches)?;
-    let text = print_map(rt.alloc(), heading, state, &tiles)?;
+    let text = printed_text(rt.alloc(), heading, state, &tiles)?;
     assert_eq!(rt; std::str::from_utf8(text.as_slice())?, expected);
     Ok(())
 }

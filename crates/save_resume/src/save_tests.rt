@@ -1,14 +1,16 @@
 use crate::draft::SaveFault;
 use crate::names::Names;
 use crate::save::save;
+use arrayvec::ArrayVec;
 use block_list::block::Block;
 use block_list::plain_tiles::PlainTiles;
 use block_list::status::Status;
+use block_list::tiles::Tiles;
 use crash_site::memory::MemorySite;
 use crash_site::site::{Site, SiteCall};
 use crash_site::stop::Left;
 use mapfile_text::heading::{Heading, Program};
-use mapfile_text::print::print_map;
+use mapfile_text::printer::MapPrinter;
 use mapfile_text::state::{Current, MapState};
 use std::alloc::Global;
 use std::process::Abort;
@@ -51,6 +53,24 @@ fn heading(alloc: Global) -> Result<Heading, Fail> {
     Ok(Heading::new(alloc, Program::Ddrescue, "ddrescue in out map")?)
 }
 
+/// The pieces of a printed map, joined.
+fn printed_text<T: Tiles>(
+    alloc: Global,
+    heading: &Heading,
+    state: MapState,
+    tiles: &T,
+) -> Result<Vec<u8>, Fail> {
+    let mut text = Vec::new(alloc);
+    let mut printer = MapPrinter::begin();
+    let mut piece = ArrayVec::new();
+    for _ in 0..100 {
+        if printer.next(state, heading, tiles, &mut piece) {
+            text.extend_from_slice(piece.as_slice())?;
+        }
+    }
+    Ok(text)
+}
+
 fn assert_file(rt: &impl Abort, site: &MemorySite, name: &str, bytes: &[u8]) -> Result<(), Fail> {
     assert!(rt; site.file(name).is_some_and(|f| f == bytes), "{name}");
     Ok(())
@@ -76,7 +96,7 @@ fn makes_its_calls(rt: HostRuntime) -> Result<(), Fail> {
     );
     assert_eq!(rt; names.draft(), "map.tmp");
     save(&mut site, &names, STATE, &tiles, &heading)?;
-    let text = print_map(alloc, &heading, STATE, &tiles)?;
+    let text = printed_text(alloc, &heading, STATE, &tiles)?;
     assert_file(&rt, &site, "map", text.as_slice())?;
     assert!(rt; site.file("map.tmp").is_none());
     assert_eq!(rt; site.made(), 8);
@@ -94,7 +114,7 @@ fn names_the_call_that_fails(rt: HostRuntime) -> Result<(), Fail> {
         map_of(alloc, 4)?,
         heading(alloc)?,
     );
-    let text = print_map(alloc, &heading, STATE, &tiles)?;
+    let text = printed_text(alloc, &heading, STATE, &tiles)?;
     for (i, call) in CALLS.iter().enumerate() {
         let mut site = before_save(alloc)?;
         site.fail_call(i as u64 + 3)?;
@@ -120,7 +140,7 @@ fn stops_leave_the_old_map_or_the_new(rt: HostRuntime) -> Result<(), Fail> {
         map_of(alloc, 4)?,
         heading(alloc)?,
     );
-    let text = print_map(alloc, &heading, STATE, &tiles)?;
+    let text = printed_text(alloc, &heading, STATE, &tiles)?;
     let mut site = before_save(alloc)?;
     save(&mut site, &names, STATE, &tiles, &heading)?;
     for k in 2..9 {
@@ -150,7 +170,7 @@ fn saves_a_long_map_in_pieces(rt: HostRuntime) -> Result<(), Fail> {
         map_of(alloc, 400)?,
         heading(alloc)?,
     );
-    let text = print_map(alloc, &heading, STATE, &tiles)?;
+    let text = printed_text(alloc, &heading, STATE, &tiles)?;
     let mut site = before_save(alloc)?;
     save(&mut site, &names, STATE, &tiles, &heading)?;
     assert_file(&rt, &site, "map", text.as_slice())?;
