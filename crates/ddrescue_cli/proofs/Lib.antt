@@ -6,6 +6,7 @@ pub mod RanFacts
 pub mod WorkFacts
 pub mod AnswerFacts
 pub mod AloneFacts
+pub mod LeftFacts
 pub mod GivenFacts
 pub mod GoesFacts
 pub mod PromiseFacts

@@ -5,7 +5,7 @@ use Rattle.std.specs.Str.{bytes_eq}
 use Rattle.std.proofs.lemmas.Slice.Eq.{bytes_eq-Decides}
 use Rattle.faulty_source.specs.SourceState.{SourceState, Keeps as SourceKeeps}
 use Rattle.crash_site.specs.Files.{File}
-use Rattle.crash_site.specs.SiteState.{SiteState, Keeps as SiteKeeps}
+use Rattle.crash_site.specs.SiteState.{files_in, SiteState, Keeps as SiteKeeps}
 use Rattle.save_resume.specs.MapNames.{MapNames, names_of}
 use Rattle.rescue_rules.specs.Setting.{Setting, IsSensible}
 use Rattle.rescue_rules.specs.Work.{Gain, IsNothing}
@@ -20,7 +20,7 @@ use Rattle.ddrescue_cli.specs.Told.{Told, AllTell, gained, gain_of, gain, behind
 use Rattle.ddrescue_cli.specs.Refusals.{WordsRefused}
 use Rattle.ddrescue_cli.specs.Work.{WorksOn}
 use Rattle.ddrescue_cli.specs.Answers.{SaysOfWords, Causes, IsOpenedAs, drafting_left}
-use Rattle.ddrescue_cli.specs.Alone.{HasRead, FilesAllow}
+use Rattle.ddrescue_cli.specs.Alone.{HasRead, FilesAllow, IsLeft}
 use Rattle.ddrescue_cli.specs.Steps.{WorkedOn}
 use Rattle.ddrescue_cli.specs.Ddrescue.{Ddrescue}
 use Rattle.ddrescue_cli.proofs.AloneFacts.{none_read}
@@ -103,6 +103,18 @@ words_allow (SiteFault call) refusal output mapfile of = absurd of
 words_stop : (e : Ending) (refusal : Option Ending) → OfWords e refusal → e ≡ Done → ⊥
 words_stop e refusal of is = let P : Ending → Type 0 = λ v. OfWords v refusal in subst P is of
 
+words_files : (e : Ending) (refusal : Option Ending) (outfile : List ℕ) (files : List ℕ → Option File) → OfWords e refusal → IsLeft e outfile files files
+words_files NoMemory refusal outfile files of = tt
+words_files (WrongNumber n) refusal outfile files of = λ name. refl
+words_files (WrongWord n) refusal outfile files of = λ name. refl
+words_files (SameName a b) refusal outfile files of = λ name. refl
+words_files Done refusal outfile files of = absurd of
+words_files SourceFault refusal outfile files of = absurd of
+words_files NotRegular refusal outfile files of = absurd of
+words_files (MapRefused which error) refusal outfile files of = absurd of
+words_files SourceLost refusal outfile files of = absurd of
+words_files (SiteFault call) refusal outfile files of = absurd of
+
 -- nothing was gained
 gained_none : {A : Type 0} (xs : List A) → gained xs xs ≡ []
 gained_none xs = gained_is xs xs [] (sym (append-nil xs))
@@ -122,6 +134,7 @@ words_kept words e s d of none keeps keeps' =
       input = λ tells. words_open e (refusal_of_words words) (infile words) s of;
       read = λ tells. none_read (asked t) e s s (words_stop e (refusal_of_words words) of) refl;
       files = λ tells. words_allow e (refusal_of_words words) (files_of t (outfile words)) (files_of t (mapfile words)) of;
+      left = λ tells. words_files e (refusal_of_words words) (outfile words) (files_of t) of;
       work = λ tell. inl (words_refuse e words of, nothing_gained s d);
       stops = λ tell. nothing_stops (behind t) (asked t) (gain t) (nothing_gained s d);
       draft = none ∙ sym (words_leave e (refusal_of_words words) of);
@@ -175,8 +188,9 @@ pub work_kept : (t : Told) (i o : List ℕ) (n : MapNames) (l : List ℕ) → i 
     → WorkedOn (setting i o n l (length t.source.bytes)) (files_of t) t.answer t.source t.source' t.site t.site')
     → (IsTrue t.source.tells → HasRead (setting i o n l (length t.source.bytes)) t.answer t.source t.source')
     → (IsTrue t.site.tells → FilesAllow t.answer (files_of t o) (files_of t n.map))
+    → (IsTrue t.site.tells → IsLeft t.answer o (files_of t) (files_in t.site'))
     → t.site'.is_drafting ≡ drafting_left t.answer → SourceKeeps t.source t.source' → SiteKeeps t.site t.site' → Ddrescue t
-work_kept t i o n l is_i is_o is_n is_l apart right says cause opened worked read files draft keeps keeps' =
+work_kept t i o n l is_i is_o is_n is_l apart right says cause opened worked read files left draft keeps keeps' =
     let worked_as : AllTell t → WorkedOn (asked t) (files_of t) t.answer t.source t.source' t.site t.site' =
     λ tell. rw (is_i, is_o, is_n, is_l) at (worked tell.source tell.site) in
     let P : AllTell t → Gain → Type 0 = λ tell g. WorksOn (asked t) (files_of t) t.answer g in
@@ -189,6 +203,7 @@ work_kept t i o n l is_i is_o is_n is_l apart right says cause opened worked rea
       input = λ tells. rw is_i at (opened tells);
       read = λ tells. rw (is_i, is_o, is_n, is_l) at (read tells);
       files = λ tells. rw (is_o, is_n) at (files tells);
+      left = λ tells. rw is_o at (left tells);
       work = λ tell. inr (λ e refused. let none : None ≡ Some e = sym right ∙ refused in cc, subst (P tell) (same tell) (worked_as tell).works);
       stops = λ tell. subst Q (same tell) (stops_by t (worked_as tell).gain apart (worked_as tell).works (worked_as tell).short);
       draft = draft;

@@ -26,7 +26,7 @@ bytes_eq-flip xs ys e = false_from_ne_true (bytes_eq ys xs) (λ t.
     let same : ys ≡ xs = (bytes_eq-Decides ys xs).0 t in
     let h : bytes_eq xs ys ≡ true = (bytes_eq-Decides xs ys).1 (sym same) in cc)
 
-after-append : (d : Folder) (xs ys : List Entry) → after d (xs ++ ys) ≡ after (after d xs) ys
+pub after-append : (d : Folder) (xs ys : List Entry) → after d (xs ++ ys) ≡ after (after d xs) ys
 after-append d [] ys = refl
 after-append d (x ∷ xs) ys = after-append (after_entry d x) xs ys
 

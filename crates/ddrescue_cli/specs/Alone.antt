@@ -1,11 +1,11 @@
 -- What is said where the input tells, whatever the files do, and where the files tell, whatever the input does.
-use Rattle.std.specs.Prelude.{◌≡◌, ⊤, ℕ, ◌+◌, true, false, List, [], ◌++◌, length, slice_range, All, Option}
+use Rattle.std.specs.Prelude.{◌≡◌, ◌≢◌, ⊤, ℕ, ◌+◌, true, false, List, [], ◌++◌, length, slice_range, All, Option, Some, None}
 use Rattle.block_list.specs.declared.status.Status.{Status}
 use Rattle.faulty_source.specs.Journal.{Reading}
 use Rattle.faulty_source.specs.SourceState.{SourceState}
 use Rattle.crash_site.specs.declared.site.SiteCall.{SiteCall}
 use Rattle.crash_site.specs.declared.site.SiteCall.TheVariants.{ImageOpen, ImageRead, ImageWrite, ImageSync, MapRead, DraftBegin, DraftAppend, DraftSync, DraftPublish, MapSettle, MapRemove}
-use Rattle.crash_site.specs.Files.{File}
+use Rattle.crash_site.specs.Files.{File, empty_file}
 use Rattle.rescue_rules.specs.Setting.{Setting}
 use Rattle.rescue_rules.specs.Requests.{IsSpent}
 use Rattle.rescue_rules.specs.Run.{map_after, cursor_after, IsRun}
@@ -59,6 +59,47 @@ CallPasses DraftSync output mapfile = Pass output mapfile
 CallPasses DraftPublish output mapfile = Pass output mapfile
 CallPasses MapSettle output mapfile = is_other output ≡ false
 CallPasses MapRemove output mapfile = Pass output mapfile
+
+-- every file reads as it did
+abbrev pub AllStand : (files files' : List ℕ → Option File) → Type 0
+AllStand files files' = (name : List ℕ) → files' name ≡ files name
+
+-- an absent file is made, empty
+abbrev pub made_of : Option File → Option File
+made_of None = Some empty_file
+made_of (Some f) = Some f
+
+-- every file reads as it did, but that an absent output was made, empty
+pub record OutputMade (outfile : List ℕ) (files files' : List ℕ → Option File) : Type 0 where
+  pub output : files' outfile ≡ made_of (files outfile)
+  pub others : (name : List ℕ) → name ≢ outfile → files' name ≡ files name
+
+-- what a failed call leaves; of one that may come behind a read nothing is said here
+abbrev pub CallLeaves : SiteCall → (outfile : List ℕ) → (files files' : List ℕ → Option File) → Type 0
+CallLeaves ImageOpen outfile files files' = AllStand files files'
+CallLeaves ImageRead outfile files files' = ⊤
+CallLeaves ImageWrite outfile files files' = ⊤
+CallLeaves ImageSync outfile files files' = ⊤
+CallLeaves MapRead outfile files files' = OutputMade outfile files files'
+CallLeaves DraftBegin outfile files files' = ⊤
+CallLeaves DraftAppend outfile files files' = ⊤
+CallLeaves DraftSync outfile files files' = ⊤
+CallLeaves DraftPublish outfile files files' = ⊤
+CallLeaves MapSettle outfile files files' = ⊤
+CallLeaves MapRemove outfile files files' = ⊤
+
+-- what an answer before the first read leaves of the files as they read; of others nothing is said here
+abbrev pub IsLeft : Ending → (outfile : List ℕ) → (files files' : List ℕ → Option File) → Type 0
+IsLeft Done outfile files files' = ⊤
+IsLeft (WrongNumber given) outfile files files' = AllStand files files'
+IsLeft (WrongWord word) outfile files files' = AllStand files files'
+IsLeft (SameName first second) outfile files files' = AllStand files files'
+IsLeft SourceFault outfile files files' = AllStand files files'
+IsLeft NotRegular outfile files files' = AllStand files files'
+IsLeft (MapRefused which error) outfile files files' = OutputMade outfile files files'
+IsLeft SourceLost outfile files files' = ⊤
+IsLeft (SiteFault call) outfile files files' = CallLeaves call outfile files files'
+IsLeft NoMemory outfile files files' = ⊤
 
 -- what an answer says of the files
 abbrev pub FilesAllow : Ending → (output mapfile : Option File) → Type 0

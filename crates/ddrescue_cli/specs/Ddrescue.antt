@@ -2,11 +2,11 @@
 -- files their counts and what is open.
 use Rattle.std.specs.Prelude.{◌≡◌, ◌++◌, IsTrue}
 use Rattle.faulty_source.specs.SourceState.{Keeps as SourceKeeps}
-use Rattle.crash_site.specs.SiteState.{Keeps as SiteKeeps}
+use Rattle.crash_site.specs.SiteState.{files_in, Keeps as SiteKeeps}
 use Rattle.rescue_rules.specs.Stops.{StopsSafely}
 use Rattle.ddrescue_cli.specs.Operands.{infile, outfile, mapfile, refusal_of_words}
 use Rattle.ddrescue_cli.specs.Told.{Told, AllTell, gain, behind, files_of, asked}
-use Rattle.ddrescue_cli.specs.Alone.{HasRead, FilesAllow}
+use Rattle.ddrescue_cli.specs.Alone.{HasRead, FilesAllow, IsLeft}
 use Rattle.ddrescue_cli.specs.Work.{Works}
 use Rattle.ddrescue_cli.specs.Answers.{SaysOfWords, Causes, IsOpenedAs, drafting_left}
 
@@ -27,8 +27,10 @@ pub record Ddrescue (t : Told) : Type 0 where
   -- Where the input tells, whatever the files do: the reads are a run, which gave the input's own bytes, and there is none
   -- before a refusal.
   pub read : IsTrue t.source.tells → HasRead (asked t) t.answer t.source t.source'
-  -- Where the files tell, whatever the input does: they are as the answer says.
+  -- Where the files tell, whatever the input does: they are as the answer says;
   pub files : IsTrue t.site.tells → FilesAllow t.answer (files_of t (outfile t.words)) (files_of t (mapfile t.words))
+  -- and what an answer before the first read leaves: every file as it was, but that an absent output was made.
+  pub left : IsTrue t.site.tells → IsLeft t.answer (outfile t.words) (files_of t) (files_in t.site')
   -- Where both tell: the answer is the first refusal of the work, or how its run ended; and the calls on the files and the
   -- reads are those of the work up to there.
   pub work : AllTell t → Works t.words (asked t) (files_of t) t.answer (gain t)

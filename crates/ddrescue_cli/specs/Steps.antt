@@ -20,7 +20,7 @@ use Rattle.ddrescue_cli.specs.declared.ending.Ending.{Ending}
 use Rattle.ddrescue_cli.specs.declared.ending.Ending.TheVariants.{Done, NotRegular, MapRefused, SiteFault, NoMemory}
 use Rattle.ddrescue_cli.specs.declared.ending.Which.TheVariants.{RunMap}
 use Rattle.ddrescue_cli.specs.Refusals.{is_other, MapfileRefused}
-use Rattle.ddrescue_cli.specs.Alone.{HasRead, FilesAllow}
+use Rattle.ddrescue_cli.specs.Alone.{HasRead, FilesAllow, IsLeft}
 use Rattle.ddrescue_cli.specs.Work.{answer_of, WorksOn}
 
 -- how a rescue ends whose parts returned this
@@ -79,6 +79,11 @@ pub record RanOn (s : Setting) (statuses : List Status) (shown : ℕ) (e : Endin
   pub answer : e ≡ answer_of end
   pub runs : Runs s statuses shown gain end
 
+-- an answer that doesn't name a call of the opening that a save doesn't make
+pub record IsLate (e : Ending) : Type 0 where
+  pub no_open : e ≡ SiteFault ImageOpen → ⊥
+  pub no_read : e ≡ SiteFault MapRead → ⊥
+
 -- an answer that ends a run
 abbrev pub EndsRun : Ending → Type 0
 EndsRun e = (end : RunEnd) × (e ≡ answer_of end)
@@ -88,6 +93,7 @@ pub record Ran (s : Setting) (statuses : List Status) (shown : ℕ) (e : Ending)
   pub told : IsTrue source.tells → IsTrue site.tells → RanOn s statuses shown e source source' site site'
   pub read : IsTrue source.tells → HasRead s e source source'
   pub ends : EndsRun e
+  pub late : IsLate e
 
 -- what the work behind the words did, up to its end or to where it stopped
 pub record WorkedOn (s : Setting) (files : List ℕ → Option File) (e : Ending) (source source' : SourceState) (site site' : SiteState) : Type 0 where
@@ -101,3 +107,4 @@ pub record Worked (s : Setting) (files : List ℕ → Option File) (e : Ending) 
   pub told : IsTrue source.tells → IsTrue site.tells → WorkedOn s files e source source' site site'
   pub read : IsTrue source.tells → HasRead s e source source'
   pub allowed : IsTrue site.tells → FilesAllow e (files s.outfile) (files s.names.map)
+  pub left : IsTrue site.tells → IsLeft e s.outfile files (files_in site')
