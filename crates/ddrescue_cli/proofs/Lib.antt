@@ -8,6 +8,7 @@ pub mod AnswerFacts
 pub mod AloneFacts
 pub mod LeftFacts
 pub mod GivenFacts
+pub mod VerdictFacts
 pub mod GoesFacts
 pub mod PromiseFacts
 pub mod CountFacts

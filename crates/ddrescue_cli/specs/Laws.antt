@@ -1,19 +1,23 @@
 -- What the definitions mean.
-use Rattle.std.specs.Prelude.{◌≡◌, ℕ, true, IsTrue, List, length, slice_get, Some}
+use Rattle.std.specs.Prelude.{◌≡◌, ⊤, ℕ, true, IsTrue, List, length, slice_get, Option, Some}
 use Rattle.block_list.specs.declared.status.Status.{Status}
-use Rattle.crash_site.specs.Files.{bytes_of}
+use Rattle.crash_site.specs.Files.{File, bytes_of}
 use Rattle.crash_site.specs.SiteState.{files_in}
+use Rattle.rescue_rules.specs.Setting.{Setting}
 use Rattle.rescue_rules.specs.Start.{Stands}
 use Rattle.rescue_rules.specs.Requests.{IsSpent}
 use Rattle.rescue_rules.specs.Run.{map_after, cursor_after, IsRun}
 use Rattle.rescue_rules.specs.Given.{given}
 use Rattle.rescue_rules.specs.Held.{Held}
 use Rattle.rescue_rules.specs.Saves.{text_of, snapshot}
+use Rattle.rescue_rules.specs.Work.{Gain}
 use Rattle.rescue_rules.specs.Stops.{has_barrier, IsKept}
-use Rattle.ddrescue_cli.specs.declared.ending.Ending.TheVariants.{Done}
+use Rattle.ddrescue_cli.specs.declared.ending.Ending.{Ending}
+use Rattle.ddrescue_cli.specs.declared.ending.Ending.TheVariants.{Done, WrongNumber, WrongWord, SameName, SourceFault, NotRegular, MapRefused, SourceLost, SiteFault, NoMemory}
 use Rattle.ddrescue_cli.specs.Operands.{outfile, mapfile, command_line}
 use Rattle.ddrescue_cli.specs.Asked.{default_sector}
 use Rattle.ddrescue_cli.specs.Told.{Told, AllTell, gain, behind, files_of, asked}
+use Rattle.ddrescue_cli.specs.Work.{Works}
 use Rattle.ddrescue_cli.specs.Ddrescue.{Ddrescue}
 
 -- Behind each answer that comes after the barrier, the files as they read keep the promise.
@@ -47,3 +51,21 @@ DoneIsSaved = (t : Told) → Ddrescue t → AllTell t → t.answer ≡ Done → 
 abbrev pub GivenIsInput : Type 0
 GivenIsInput = (t : Told) (x b : ℕ) → Ddrescue t → IsTrue t.source.tells → given default_sector (gain t).reads x ≡ Some b
     → slice_get t.source.bytes x ≡ Some b
+
+-- an answer that words and files bring, whatever the input, the calls and memory do
+abbrev pub IsVerdict : Ending → Type 0
+IsVerdict Done = ⊤
+IsVerdict (WrongNumber given) = ⊤
+IsVerdict (WrongWord word) = ⊤
+IsVerdict (SameName first second) = ⊤
+IsVerdict SourceFault = ⊥
+IsVerdict NotRegular = ⊤
+IsVerdict (MapRefused which error) = ⊤
+IsVerdict SourceLost = ⊥
+IsVerdict (SiteFault call) = ⊥
+IsVerdict NoMemory = ⊥
+
+-- Words and files bring one such answer at most.
+abbrev pub HasOneVerdict : Type 0
+HasOneVerdict = (words : List (List ℕ)) (s : Setting) (files : List ℕ → Option File) (e e' : Ending) (g g' : Gain)
+    → Works words s files e g → Works words s files e' g' → IsVerdict e → IsVerdict e' → e ≡ e'

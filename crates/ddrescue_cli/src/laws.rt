@@ -1,5 +1,5 @@
 //! What the definitions mean.
-ghost use Rattle.ddrescue_cli.specs.Laws.{DoneIsSaved, GivenIsInput, HoldsAtEnd};
+ghost use Rattle.ddrescue_cli.specs.Laws.{DoneIsSaved, GivenIsInput, HasOneVerdict, HoldsAtEnd};
 
 /// Behind each answer that comes after the barrier, the files as they read keep the promise.
 pub fn files_hold_at_the_end()
@@ -14,4 +14,9 @@ pub fn done_is_saved()
 /// What the reads of a rescue gave is the input's own.
 pub fn given_is_the_inputs()
     ensures { GivenIsInput }
+{}
+
+/// Words and files have one verdict at most.
+pub fn words_and_files_have_one_verdict()
+    ensures { HasOneVerdict }
 {}
