@@ -15,7 +15,7 @@ use Rattle.rescue_rules.specs.Run.{map_after, cursor_after, IsNext}
 use Rattle.rescue_rules.specs.Work.{Saved, InputLost, MemoryOut, CallFailed}
 use Rattle.ddrescue_cli.specs.declared.ending.Ending.{Ending}
 use Rattle.ddrescue_cli.specs.declared.ending.Ending.TheVariants.{Done, NotRegular, MapRefused, SourceLost, SiteFault, NoMemory}
-use Rattle.ddrescue_cli.specs.Asked.{setting, copying}
+use Rattle.ddrescue_cli.specs.Asked.{setting_with, copying}
 use Rattle.ddrescue_cli.specs.Refusals.{is_other, MapfileRefused}
 use Rattle.ddrescue_cli.specs.Alone.{IsFrom, IsRefusal, HasRead, Pass, CallPasses, FilesAllow}
 use Rattle.ddrescue_cli.specs.Copying.{Halt, Unread, Unwritten, Copied, CopiedAll, Halted}
@@ -36,7 +36,7 @@ stop_of e (inr is) = rw is (record { refused = λ r. r; done = λ d. cc })
 halted_read : (i o : List ℕ) (n : MapNames) (l : List ℕ) (e : Ending) (end pos size : ℕ) (s0 s1 s2 : SourceState) (d0 d1 d2 : SiteState)
     (m0 m1 : List Status) (cursor shown shown' : ℕ) → Copied end s0 s1 d0 d1 m0 m1 cursor shown shown' → IsTrue s0.tells
     → s1.tells ≡ s0.tells → s1.bytes ≡ s0.bytes → IsRequest (copying end) m1 cursor pos (pos + size) → Halt pos size e s1 s2 d1 d2
-    → HasRead (setting i o n l end) e s0 s2
+    → HasRead (setting_with i o n l end) e s0 s2
 halted_read i o n l e end pos size s0 s1 s2 d0 d1 d2 m0 m1 cursor shown shown' c ts same bytes asks (Unread cause untold unmade) =
     let stop : IsStop e = stop_of e cause in
     record {
@@ -65,7 +65,7 @@ halted_read i o n l e end pos size s0 s1 s2 d0 d1 d2 m0 m1 cursor shown shown' c
     }
 
 pub halted_has_read : (i o : List ℕ) (n : MapNames) (l : List ℕ) (e : Ending) (end : ℕ) (s0 s2 : SourceState) (d0 d2 : SiteState)
-    (m0 : List Status) (shown : ℕ) → Halted end e s0 s2 d0 d2 m0 shown → IsTrue s0.tells → HasRead (setting i o n l end) e s0 s2
+    (m0 : List Status) (shown : ℕ) → Halted end e s0 s2 d0 d2 m0 shown → IsTrue s0.tells → HasRead (setting_with i o n l end) e s0 s2
 halted_has_read i o n l e end s0 s2 d0 d2 m0 shown h ts =
     halted_read i o n l e end h.pos h.size s0 h.source_between s2 d0 h.site_between d2 m0 h.map_between h.cursor shown h.shown_between
     h.copied ts h.source_tells (h.source_bytes ts) h.request h.halt
@@ -73,7 +73,7 @@ halted_has_read i o n l e end s0 s2 d0 d2 m0 shown h ts =
 -- the reads of a whole copy, whatever the save answered that came behind it
 pub copied_has_read : (i o : List ℕ) (n : MapNames) (l : List ℕ) (e : Ending) (end : ℕ) (s0 s1 : SourceState) (d0 d1 : SiteState)
     (m0 m1 : List Status) (shown shown' : ℕ) → CopiedAll end s0 s1 d0 d1 m0 m1 shown shown' → (IsRefusal e → ⊥) → IsTrue s0.tells
-    → HasRead (setting i o n l end) e s0 s1
+    → HasRead (setting_with i o n l end) e s0 s1
 copied_has_read i o n l e end s0 s1 d0 d1 m0 m1 shown shown' all later ts = record {
   map = m0;
   reads = all.copied.reads;
@@ -107,10 +107,10 @@ load_stopped e faults faults' (inr (inr c)) done = let is : SiteFault c.0 ≡ Do
 
 -- the reads of a run are those of the rescue
 pub run_has_read : (i o : List ℕ) (n : MapNames) (l : List ℕ) (e : Ending) (end all : ℕ) (s0 s1 s2 : SourceState) → end ≡ all
-    → s1.journal ≡ s0.journal → s1.bytes ≡ s0.bytes → HasRead (setting i o n l end) e s1 s2 → HasRead (setting i o n l all) e s0 s2
+    → s1.journal ≡ s0.journal → s1.bytes ≡ s0.bytes → HasRead (setting_with i o n l end) e s1 s2 → HasRead (setting_with i o n l all) e s0 s2
 run_has_read i o n l e end all s0 s1 s2 whole same bytes r =
-    let P : ℕ → Type 0 = λ size. HasRead (setting i o n l size) e s0 s2 in
-    let here : HasRead (setting i o n l end) e s0 s2 = record {
+    let P : ℕ → Type 0 = λ size. HasRead (setting_with i o n l size) e s0 s2 in
+    let here : HasRead (setting_with i o n l end) e s0 s2 = record {
       map = r.map;
       reads = r.reads;
       gained = r.gained ∙ ap (λ j. j ++ r.reads) same;

@@ -17,7 +17,7 @@ use Rattle.rescue_rules.specs.Start.{Stands}
 use Rattle.rescue_rules.specs.Requests.{IsSpent}
 use Rattle.rescue_rules.specs.Run.{map_after, cursor_after, IsRun, writes_of}
 use Rattle.rescue_rules.specs.Held.{Held}
-use Rattle.rescue_rules.specs.Saves.{Snapshot, text_of, snapshot, snapshots}
+use Rattle.rescue_rules.specs.Saves.{Snapshot, text_of, snapshot_after, snapshots}
 use Rattle.rescue_rules.specs.Work.{Gain, end_calls, RunEnd, Runs, IsSaved as RunSaved, IsLost, IsStarved, IsUnwritten, IsUnsaved}
 use Rattle.rescue_rules.specs.Stops.{LeftAt, has_barrier, is_settle, is_publish, returned, published, files_before, IsSave, IsKept}
 use Rattle.ddrescue_cli.specs.declared.ending.Ending.{Ending}
@@ -25,7 +25,7 @@ use Rattle.ddrescue_cli.specs.declared.ending.Ending.TheVariants.{Done, SourceFa
 use Rattle.ddrescue_cli.specs.declared.ending.Which.TheVariants.{RunMap}
 use Rattle.ddrescue_cli.specs.Operands.{refusal_of_words}
 use Rattle.ddrescue_cli.specs.Answers.{SaysOfWords}
-use Rattle.ddrescue_cli.specs.Told.{Told, AllTell, gain, behind, files_of, asked}
+use Rattle.ddrescue_cli.specs.Told.{Told, AllTell, what_was_done, calls_before, files_of, asked}
 use Rattle.ddrescue_cli.specs.Work.{answer_of, WorksOn, Works}
 use Rattle.ddrescue_cli.specs.Ddrescue.{Ddrescue}
 use Rattle.ddrescue_cli.specs.Laws.{HoldsAtEnd, IsSaved, DoneIsSaved}
@@ -38,20 +38,20 @@ left_all start calls k all =
     let P : List Entry → Type 0 = λ r. MayBeLeft start calls k (after start r).files in
     subst P (ap (λ n. take n calls) all ∙ take-length calls) (reads_until start calls k)
 
-left_at_end : (t : Told) → Ddrescue t → AllTell t → LeftAt (behind t) (gain t) (length (gain t).calls) (files_in t.site')
+left_at_end : (t : Told) → Ddrescue t → AllTell t → LeftAt (calls_before t) (what_was_done t) (length (what_was_done t).calls) (files_in t.site')
 left_at_end t d tell =
-    let calls : List Entry = t.site.calls ++ (gain t).calls in
-    let k : ℕ = length t.site.calls + length (gain t).calls in
+    let calls : List Entry = t.site.calls ++ (what_was_done t).calls in
+    let k : ℕ = length t.site.calls + length (what_was_done t).calls in
     let P : Folder → Type 0 = λ start. MayBeLeft t.site.start calls k (after start t.site'.calls).files in
     let Q : List Entry → Type 0 = λ r. MayBeLeft t.site.start calls k (after t.site.start r).files in
     subst P (sym (d.site.start tell.site))
     (subst Q (sym (d.gains tell).calls)
-    (left_all t.site.start calls k (sym (length-append t.site.calls (gain t).calls))))
+    (left_all t.site.start calls k (sym (length-append t.site.calls (what_was_done t).calls))))
 
 pub holds_at_end : HoldsAtEnd
 holds_at_end t began shown d tell is stands =
-    let whole : take (length (gain t).calls) (gain t).calls ≡ (gain t).calls = take-length (gain t).calls in
-    (d.stops tell).kept (length (gain t).calls) (files_in t.site') began shown (omega arith)
+    let whole : take (length (what_was_done t).calls) (what_was_done t).calls ≡ (what_was_done t).calls = take-length (what_was_done t).calls in
+    (d.stops tell).kept (length (what_was_done t).calls) (files_in t.site') began shown (omega arith)
     (left_at_end t d tell) (ap has_barrier whole ∙ is) stands
 
 -- a run that ended with a save
@@ -78,7 +78,7 @@ record DoneRun (s : Setting) (files : List ℕ → Option File) (g : Gain) : Typ
   stands : Stands (files s.names.map) s.end statuses shown
   run : IsRun s statuses 0 g.reads
   spent : IsSpent s (map_after statuses g.reads) (cursor_after 0 g.reads)
-  calls : g.calls ≡ settled s ++ run_entries s load g.reads (text_of s.line (snapshot statuses shown g.reads))
+  calls : g.calls ≡ settled s ++ run_entries s load g.reads (text_of s.line (snapshot_after statuses shown g.reads))
 
 done_runs : (s : Setting) (files : List ℕ → Option File) (e : Ending) (g : Gain) → Done ≡ e → WorksOn s files e g → DoneRun s files g
 done_runs s files e g is (inl (refused, none)) = absurd (let no : Done ≡ SourceFault = is ∙ refused in cc)
@@ -133,20 +133,20 @@ number_one calls number two once older newer =
     let upper : number ≤ 1 = subst (λ (m : ℕ). number ≤ m) (ap published whole' ∙ once) newer in
     omega (arith, lower, upper)
 
-saved_by : (t : Told) (r : DoneRun (asked t) (files_of t) (gain t))
-    → IsKept (behind t) (asked t) (gain t) r.statuses r.shown (length (gain t).calls) (files_in t.site') → IsSaved t
+saved_by : (t : Told) (r : DoneRun (asked t) (files_of t) (what_was_done t))
+    → IsKept (calls_before t) (asked t) (what_was_done t) r.statuses r.shown (length (what_was_done t).calls) (files_in t.site') → IsSaved t
 saved_by t r k =
     let s : Setting = asked t in
-    let g : Gain = gain t in
-    let text : List ℕ = text_of s.line (snapshot r.statuses r.shown g.reads) in
+    let g : Gain = what_was_done t in
+    let text : List ℕ = text_of s.line (snapshot_after r.statuses r.shown g.reads) in
     let two : count_by is_settle g.calls ≡ 2 =
     ap (count_by is_settle) r.calls ∙ settles_twice s (files_of t s.names.map) r.load g.reads text r.begins in
     let once : count_by is_publish g.calls ≡ 1 =
     ap (count_by is_publish) r.calls ∙ publishes_once s (files_of t s.names.map) r.load g.reads text r.begins in
     let one : k.number ≡ 1 = number_one g.calls k.number two once k.no_older k.no_newer in
-    let P : ℕ → Type 0 = λ n. IsSave (files_before (behind t) s.names.map) r.statuses s.line (snapshots s r.statuses r.shown g.reads) n
+    let P : ℕ → Type 0 = λ n. IsSave (files_before (calls_before t) s.names.map) r.statuses s.line (snapshots s r.statuses r.shown g.reads) n
     (files_in t.site' s.names.map) k.statuses in
-    let saved = save_one (files_before (behind t) s.names.map) r.statuses s.line (snapshot r.statuses r.shown g.reads)
+    let saved = save_one (files_before (calls_before t) s.names.map) r.statuses s.line (snapshot_after r.statuses r.shown g.reads)
     (files_in t.site' s.names.map) k.statuses (subst P one k.is_save) in
     let Q : List Status → Type 0 = λ m. Held s g.reads (bytes_of (files_of t s.outfile)) m (bytes_of (files_in t.site' s.outfile)) in
     record {
@@ -163,7 +163,7 @@ pub done_is_saved : DoneIsSaved
 done_is_saved t d tell is =
     let R : Ending → Type 0 = λ e. SaysOfWords e (refusal_of_words t.words) in
     let none : refusal_of_words t.words ≡ None = subst R is d.words in
-    let r : DoneRun (asked t) (files_of t) (gain t) =
-    done_runs (asked t) (files_of t) t.answer (gain t) (sym is)
-    (works_on t.words (asked t) (files_of t) t.answer (gain t) (sym is) none (d.work tell)) in
+    let r : DoneRun (asked t) (files_of t) (what_was_done t) =
+    done_runs (asked t) (files_of t) t.answer (what_was_done t) (sym is)
+    (works_on t.words (asked t) (files_of t) t.answer (what_was_done t) (sym is) none (d.work tell)) in
     saved_by t r (holds_at_end t r.statuses r.shown d tell (ap has_barrier r.calls) r.stands)

@@ -15,8 +15,8 @@ use Rattle.rescue_rules.proofs.StopsLemmas.{goes_safely}
 use Rattle.ddrescue_cli.specs.declared.ending.Ending.{Ending}
 use Rattle.ddrescue_cli.specs.declared.ending.Ending.TheVariants.{Done, WrongNumber, WrongWord, SameName, SourceFault, NotRegular, MapRefused, SourceLost, SiteFault, NoMemory}
 use Rattle.ddrescue_cli.specs.Operands.{infile, outfile, mapfile, command_line, refusal_of_words, OfWords, AreNamedApart}
-use Rattle.ddrescue_cli.specs.Asked.{setting, setting_of}
-use Rattle.ddrescue_cli.specs.Told.{Told, AllTell, gained, gain_of, gain, behind, files_of, asked}
+use Rattle.ddrescue_cli.specs.Asked.{setting_with, setting_of}
+use Rattle.ddrescue_cli.specs.Told.{Told, AllTell, gained, gain_of, what_was_done, calls_before, files_of, asked}
 use Rattle.ddrescue_cli.specs.Refusals.{WordsRefused}
 use Rattle.ddrescue_cli.specs.Work.{WorksOn}
 use Rattle.ddrescue_cli.specs.Answers.{SaysOfWords, Causes, IsOpenedAs, drafting_left}
@@ -136,7 +136,7 @@ words_kept words e s d of none keeps keeps' =
       files = λ tells. words_allow e (refusal_of_words words) (files_of t (outfile words)) (files_of t (mapfile words)) of;
       left = λ tells. words_files e (refusal_of_words words) (outfile words) (files_of t) of;
       work = λ tell. inl (words_refuse e words of, nothing_gained s d);
-      stops = λ tell. nothing_stops (behind t) (asked t) (gain t) (nothing_gained s d);
+      stops = λ tell. nothing_stops (calls_before t) (asked t) (what_was_done t) (nothing_gained s d);
       draft = none ∙ sym (words_leave e (refusal_of_words words) of);
       source = keeps;
       site = keeps';
@@ -167,10 +167,10 @@ sensible : (words : List (List ℕ)) (end : ℕ) → IsSensible (setting_of word
 sensible words end = record { sector = omega arith; from = λ x within. omega arith }
 
 stops_by : (t : Told) (g : Gain) → AreNamedApart t.words → WorksOn (asked t) (files_of t) t.answer g
-    → IsNothing g ⊎ ((asked t).end < 2 ^ 63) → StopsSafely (behind t) (asked t) g
-stops_by t g apart works (inl none) = nothing_stops (behind t) (asked t) g none
+    → IsNothing g ⊎ ((asked t).end < 2 ^ 63) → StopsSafely (calls_before t) (asked t) g
+stops_by t g apart works (inl none) = nothing_stops (calls_before t) (asked t) g none
 stops_by t g apart works (inr short) =
-    goes_safely (behind t) (asked t) g (sensible t.words (length t.source.bytes)) (three_names t.words (length t.source.bytes) apart) short
+    goes_safely (calls_before t) (asked t) g (sensible t.words (length t.source.bytes)) (three_names t.words (length t.source.bytes) apart) short
     (goes_on (asked t) (files_of t) t.answer g works)
 
 -- what the objects gained is what the work did
@@ -185,8 +185,8 @@ pub work_kept : (t : Told) (i o : List ℕ) (n : MapNames) (l : List ℕ) → i 
     → SaysOfWords t.answer None → Causes t.answer t.source t.source' t.site t.site'
     → (IsTrue t.source.tells → IsOpenedAs t.answer i t.source t.source')
     → (IsTrue t.source.tells → IsTrue t.site.tells
-    → WorkedOn (setting i o n l (length t.source.bytes)) (files_of t) t.answer t.source t.source' t.site t.site')
-    → (IsTrue t.source.tells → HasRead (setting i o n l (length t.source.bytes)) t.answer t.source t.source')
+    → WorkedOn (setting_with i o n l (length t.source.bytes)) (files_of t) t.answer t.source t.source' t.site t.site')
+    → (IsTrue t.source.tells → HasRead (setting_with i o n l (length t.source.bytes)) t.answer t.source t.source')
     → (IsTrue t.site.tells → FilesAllow t.answer (files_of t o) (files_of t n.map))
     → (IsTrue t.site.tells → IsLeft t.answer o (files_of t) (files_in t.site'))
     → t.site'.is_drafting ≡ drafting_left t.answer → SourceKeeps t.source t.source' → SiteKeeps t.site t.site' → Ddrescue t
@@ -194,8 +194,8 @@ work_kept t i o n l is_i is_o is_n is_l apart right says cause opened worked rea
     let worked_as : AllTell t → WorkedOn (asked t) (files_of t) t.answer t.source t.source' t.site t.site' =
     λ tell. rw (is_i, is_o, is_n, is_l) at (worked tell.source tell.site) in
     let P : AllTell t → Gain → Type 0 = λ tell g. WorksOn (asked t) (files_of t) t.answer g in
-    let Q : Gain → Type 0 = λ g. StopsSafely (behind t) (asked t) g in
-    let same : (tell : AllTell t) → (worked_as tell).gain ≡ gain t =
+    let Q : Gain → Type 0 = λ g. StopsSafely (calls_before t) (asked t) g in
+    let same : (tell : AllTell t) → (worked_as tell).gain ≡ what_was_done t =
     λ tell. gain_is (asked t) (files_of t) t.answer t.source t.source' t.site t.site' (worked_as tell) in
     record {
       words = rw right says;

@@ -6,7 +6,7 @@ use Rattle.save_resume.specs.MapNames.{MapNames}
 use Rattle.rescue_rules.specs.Setting.{Setting}
 use Rattle.rescue_rules.specs.Requests.{IsWanted, IsRequest, IsSpent}
 use Rattle.rescue_rules.specs.Run.{marked_by, map_after, cursor_after, IsNext, IsRun}
-use Rattle.ddrescue_cli.specs.Asked.{setting, copying}
+use Rattle.ddrescue_cli.specs.Asked.{setting_with, copying}
 
 -- a run with one more read is a run
 pub run_more : (s : Setting) (map : List Status) (cursor : ℕ) (reads : List Reading) (r : Reading) → IsRun s map cursor reads
@@ -26,15 +26,15 @@ cursor_after_more cursor (q ∷ qs) r = cursor_after_more (q.pos + q.asked) qs r
 
 -- What is asked for doesn't depend on names.
 wanted_as : (i o : List ℕ) (n : MapNames) (l : List ℕ) (end : ℕ) (map : List Status) (x : ℕ) → IsWanted (copying end) map x
-    → IsWanted (setting i o n l end) map x
+    → IsWanted (setting_with i o n l end) map x
 wanted_as i o n l end map x w = record { within = w.within; non_tried = w.non_tried }
 
-wanted_back : (i o : List ℕ) (n : MapNames) (l : List ℕ) (end : ℕ) (map : List Status) (x : ℕ) → IsWanted (setting i o n l end) map x
+wanted_back : (i o : List ℕ) (n : MapNames) (l : List ℕ) (end : ℕ) (map : List Status) (x : ℕ) → IsWanted (setting_with i o n l end) map x
     → IsWanted (copying end) map x
 wanted_back i o n l end map x w = record { within = w.within; non_tried = w.non_tried }
 
 request_as : (i o : List ℕ) (n : MapNames) (l : List ℕ) (end : ℕ) (map : List Status) (cursor p q : ℕ)
-    → IsRequest (copying end) map cursor p q → IsRequest (setting i o n l end) map cursor p q
+    → IsRequest (copying end) map cursor p q → IsRequest (setting_with i o n l end) map cursor p q
 request_as i o n l end map cursor p q r = record {
   first = record {
     after = r.first.after;
@@ -51,18 +51,18 @@ request_as i o n l end map cursor p q r = record {
 }
 
 pub next_as : (i o : List ℕ) (n : MapNames) (l : List ℕ) (end : ℕ) (map : List Status) (cursor : ℕ) (r : Reading)
-    → IsNext (copying end) map cursor r → IsNext (setting i o n l end) map cursor r
+    → IsNext (copying end) map cursor r → IsNext (setting_with i o n l end) map cursor r
 next_as i o n l end map cursor r next = record {
   request = request_as i o n l end map cursor r.pos (r.pos + r.asked) next.request;
   few = next.few;
 }
 
 pub run_as : (i o : List ℕ) (n : MapNames) (l : List ℕ) (end : ℕ) (map : List Status) (cursor : ℕ) (reads : List Reading)
-    → IsRun (copying end) map cursor reads → IsRun (setting i o n l end) map cursor reads
+    → IsRun (copying end) map cursor reads → IsRun (setting_with i o n l end) map cursor reads
 run_as i o n l end map cursor [] run = tt
 run_as i o n l end map cursor (r ∷ rs) run =
     (next_as i o n l end map cursor r run.0, run_as i o n l end (marked_by map r) (r.pos + r.asked) rs run.1)
 
 pub spent_as : (i o : List ℕ) (n : MapNames) (l : List ℕ) (end : ℕ) (map : List Status) (cursor : ℕ)
-    → IsSpent (copying end) map cursor → IsSpent (setting i o n l end) map cursor
+    → IsSpent (copying end) map cursor → IsSpent (setting_with i o n l end) map cursor
 spent_as i o n l end map cursor spent = record { none = λ x from w. spent.none x from (wanted_back i o n l end map x w) }

@@ -15,7 +15,7 @@ use Rattle.save_resume.specs.Resuming.{barrier_calls}
 use Rattle.rescue_rules.specs.Setting.{Setting}
 use Rattle.ddrescue_cli.specs.declared.ending.Ending.{Ending}
 use Rattle.ddrescue_cli.specs.declared.ending.Ending.TheVariants.{SourceFault}
-use Rattle.ddrescue_cli.specs.Asked.{setting}
+use Rattle.ddrescue_cli.specs.Asked.{setting_with}
 use Rattle.ddrescue_cli.specs.Refusals.{is_other, OutputRefused}
 use Rattle.ddrescue_cli.specs.Steps.{OutputStop, Started, LoadStopped, InBarrier, InRead, Starved, Refused, RanOn, WorkedOn}
 use Rattle.ddrescue_cli.proofs.GainFacts.{GainsBroken, broke_gains}
@@ -54,7 +54,7 @@ worked_unopened s files s0 s1 d0 same = record {
 
 -- the output was refused
 worked_output_at : (i o : List ℕ) (n : MapNames) (l : List ℕ) (e : Ending) (end : ℕ) (s0 s1 : SourceState) (d0 d1 : SiteState)
-    → s1.journal ≡ s0.journal → IsTrue d0.tells → end < 2 ^ 63 → OutputStop e o d0 d1 → WorkedOn (setting i o n l end) (files_in d0) e s0 s1 d0 d1
+    → s1.journal ≡ s0.journal → IsTrue d0.tells → end < 2 ^ 63 → OutputStop e o d0 d1 → WorkedOn (setting_with i o n l end) (files_in d0) e s0 s1 d0 d1
 worked_output_at i o n l e end s0 s1 d0 d1 same td short (inl (is, other, makes)) = record {
   gain = record { calls = Returned (image_open o true) ∷ []; reads = [] };
   gains = record { reads = same ∙ sym (append-nil s0.journal); calls = makes.made td };
@@ -74,9 +74,9 @@ worked_output_at i o n l e end s0 s1 d0 d1 same td short (inr (is, breaks)) =
 -- the same of an input that tells its length
 pub worked_output : (i o : List ℕ) (n : MapNames) (l : List ℕ) (e : Ending) (end all : ℕ) (s0 s1 : SourceState) (d0 d1 : SiteState)
     → end ≡ all → s1.journal ≡ s0.journal → IsTrue d0.tells → end < 2 ^ 63 → OutputStop e o d0 d1
-    → WorkedOn (setting i o n l all) (files_in d0) e s0 s1 d0 d1
+    → WorkedOn (setting_with i o n l all) (files_in d0) e s0 s1 d0 d1
 worked_output i o n l e end all s0 s1 d0 d1 whole same td short stop =
-    let P : ℕ → Type 0 = λ size. WorkedOn (setting i o n l size) (files_in d0) e s0 s1 d0 d1 in
+    let P : ℕ → Type 0 = λ size. WorkedOn (setting_with i o n l size) (files_in d0) e s0 s1 d0 d1 in
     subst P whole (worked_output_at i o n l e end s0 s1 d0 d1 same td short stop)
 
 -- the calls behind the opening of the output, joined to it
@@ -99,7 +99,7 @@ broke_past names load old new (inr (inr b)) =
 -- the load stopped
 worked_stopped_at : (i o : List ℕ) (n : MapNames) (l : List ℕ) (e : Ending) (end : ℕ) (s0 s1 : SourceState) (d0 d1 d2 : SiteState)
     → s1.journal ≡ s0.journal → end < 2 ^ 63 → Made (image_open o true ∷ []) d0.calls d1.calls → is_other (files_in d0 o) ≡ false
-    → LoadStopped n (files_in d0 n.map) e d1.calls d2.calls → WorkedOn (setting i o n l end) (files_in d0) e s0 s1 d0 d2
+    → LoadStopped n (files_in d0 n.map) e d1.calls d2.calls → WorkedOn (setting_with i o n l end) (files_in d0) e s0 s1 d0 d2
 worked_stopped_at i o n l e end s0 s1 d0 d1 d2 same short made regular (InBarrier call is broke) =
     let g : GainsBroken call (barrier_calls n) d1.calls d2.calls = broke_gains call (barrier_calls n) d1.calls d2.calls broke in
     record {
@@ -179,9 +179,9 @@ worked_stopped_at i o n l e end s0 s1 d0 d1 d2 same short made regular (Refused 
 pub worked_stopped : (i o : List ℕ) (n : MapNames) (l : List ℕ) (e : Ending) (end all : ℕ) (s0 s1 : SourceState) (d0 d1 d2 : SiteState)
     → end ≡ all → s1.journal ≡ s0.journal → end < 2 ^ 63 → d1.start ≡ d0.start → bytes_eq o n.map ≡ false
     → Made (image_open o true ∷ []) d0.calls d1.calls → is_other (files_in d0 o) ≡ false
-    → LoadStopped n (files_in d1 n.map) e d1.calls d2.calls → WorkedOn (setting i o n l all) (files_in d0) e s0 s1 d0 d2
+    → LoadStopped n (files_in d1 n.map) e d1.calls d2.calls → WorkedOn (setting_with i o n l all) (files_in d0) e s0 s1 d0 d2
 worked_stopped i o n l e end all s0 s1 d0 d1 d2 whole same short began apart made regular stop =
-    let P : ℕ → Type 0 = λ size. WorkedOn (setting i o n l size) (files_in d0) e s0 s1 d0 d2 in
+    let P : ℕ → Type 0 = λ size. WorkedOn (setting_with i o n l size) (files_in d0) e s0 s1 d0 d2 in
     let Q : Option File → Type 0 = λ f. LoadStopped n f e d1.calls d2.calls in
     let here : files_in d1 n.map ≡ files_in d0 n.map = open_apart d0.start d1.start o n.map d0.calls d1.calls began apart made in
     subst P whole (worked_stopped_at i o n l e end s0 s1 d0 d1 d2 same short made regular (subst Q here stop))
@@ -189,8 +189,8 @@ worked_stopped i o n l e end all s0 s1 d0 d1 d2 whole same short began apart mad
 -- a run had begun
 worked_run_at : (i o : List ℕ) (n : MapNames) (l : List ℕ) (e : Ending) (end : ℕ) (statuses : List Status) (shown : ℕ) (s0 s1 s2 : SourceState) (d0 d1 d2 d3 : SiteState)
     → s1.journal ≡ s0.journal → end < 2 ^ 63 → Made (image_open o true ∷ []) d0.calls d1.calls → is_other (files_in d0 o) ≡ false
-    → Started n (files_in d0 n.map) end statuses shown d1.calls d2.calls → RanOn (setting i o n l end) statuses shown e s1 s2 d2 d3
-    → WorkedOn (setting i o n l end) (files_in d0) e s0 s2 d0 d3
+    → Started n (files_in d0 n.map) end statuses shown d1.calls d2.calls → RanOn (setting_with i o n l end) statuses shown e s1 s2 d2 d3
+    → WorkedOn (setting_with i o n l end) (files_in d0) e s0 s2 d0 d3
 worked_run_at i o n l e end statuses shown s0 s1 s2 d0 d1 d2 d3 same short made regular st ran =
     let loaded : List Entry = map Returned (barrier_calls n ++ st.load) in
     record {
@@ -224,10 +224,10 @@ worked_run_at i o n l e end statuses shown s0 s1 s2 d0 d1 d2 d3 same short made 
 pub worked_run : (i o : List ℕ) (n : MapNames) (l : List ℕ) (e : Ending) (end all : ℕ) (statuses : List Status) (shown : ℕ) (s0 s1 s2 : SourceState) (d0 d1 d2 d3 : SiteState)
     → end ≡ all → s1.journal ≡ s0.journal → end < 2 ^ 63 → d1.start ≡ d0.start → bytes_eq o n.map ≡ false
     → Made (image_open o true ∷ []) d0.calls d1.calls → is_other (files_in d0 o) ≡ false
-    → Started n (files_in d1 n.map) end statuses shown d1.calls d2.calls → RanOn (setting i o n l end) statuses shown e s1 s2 d2 d3
-    → WorkedOn (setting i o n l all) (files_in d0) e s0 s2 d0 d3
+    → Started n (files_in d1 n.map) end statuses shown d1.calls d2.calls → RanOn (setting_with i o n l end) statuses shown e s1 s2 d2 d3
+    → WorkedOn (setting_with i o n l all) (files_in d0) e s0 s2 d0 d3
 worked_run i o n l e end all statuses shown s0 s1 s2 d0 d1 d2 d3 whole same short began apart made regular st ran =
-    let P : ℕ → Type 0 = λ size. WorkedOn (setting i o n l size) (files_in d0) e s0 s2 d0 d3 in
+    let P : ℕ → Type 0 = λ size. WorkedOn (setting_with i o n l size) (files_in d0) e s0 s2 d0 d3 in
     let Q : Option File → Type 0 = λ f. Started n f end statuses shown d1.calls d2.calls in
     let here : files_in d1 n.map ≡ files_in d0 n.map = open_apart d0.start d1.start o n.map d0.calls d1.calls began apart made in
     subst P whole (worked_run_at i o n l e end statuses shown s0 s1 s2 d0 d1 d2 d3 same short made regular (subst Q here st) ran)

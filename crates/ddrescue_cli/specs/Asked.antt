@@ -13,8 +13,8 @@ abbrev pub inside : ℕ → ℕ → Bool
 inside end x = nat_lt x end
 
 -- what files with these names and this command line ask for of an input with this length
-abbrev pub setting : (infile outfile : List ℕ) → MapNames → (line : List ℕ) → (end : ℕ) → Setting
-setting infile outfile names line end = record {
+abbrev pub setting_with : (infile outfile : List ℕ) → MapNames → (line : List ℕ) → (end : ℕ) → Setting
+setting_with infile outfile names line end = record {
   infile = infile;
   outfile = outfile;
   names = names;
@@ -28,8 +28,8 @@ setting infile outfile names line end = record {
 
 -- what these words ask for
 abbrev pub setting_of : List (List ℕ) → (end : ℕ) → Setting
-setting_of words end = setting (infile words) (outfile words) (names_of (mapfile words)) (command_line words) end
+setting_of words end = setting_with (infile words) (outfile words) (names_of (mapfile words)) (command_line words) end
 
 -- the same for a copy, which knows no names
 abbrev pub copying : (end : ℕ) → Setting
-copying end = setting [] [] (names_of []) [] end
+copying end = setting_with [] [] (names_of []) [] end

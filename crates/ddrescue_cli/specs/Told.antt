@@ -31,12 +31,12 @@ gained before now = drop (length before) now
 abbrev pub gain_of : (source source' : SourceState) → (site site' : SiteState) → Gain
 gain_of source source' site site' = record { calls = gained site.calls site'.calls; reads = gained source.journal source'.journal }
 
-abbrev pub gain : Told → Gain
-gain t = gain_of t.source t.source' t.site t.site'
+abbrev pub what_was_done : Told → Gain
+what_was_done t = gain_of t.source t.source' t.site t.site'
 
 -- the calls stand behind those that the site had made
-abbrev pub behind : Told → Behind
-behind t = record { start = t.site.start; earlier = t.site.calls }
+abbrev pub calls_before : Told → Behind
+calls_before t = record { start = t.site.start; earlier = t.site.calls }
 
 -- the files as they read before the call
 abbrev pub files_of : Told → List ℕ → Option File

@@ -16,7 +16,7 @@ use Rattle.save_resume.specs.Saving.{save_calls}
 use Rattle.save_resume.specs.Loading.{piece_size, piece_reads}
 use Rattle.rescue_rules.specs.Setting.{Setting, place}
 use Rattle.rescue_rules.specs.Run.{write_of, writes_of}
-use Rattle.rescue_rules.specs.Saves.{text_of, snapshot}
+use Rattle.rescue_rules.specs.Saves.{text_of, snapshot_after}
 use Rattle.rescue_rules.specs.Work.{opening_calls}
 use Rattle.rescue_rules.specs.Stops.{Behind}
 use Rattle.rescue_rules.proofs.CutLemmas.{Cut, Each, at_stop}
@@ -162,8 +162,8 @@ rescue_aside s name d began shown reads given at answer other =
           h2,
           load_aside s name v 1 0 0 given at answer (at_barrier s d) (run_calls s began shown reads) h3
               (writes_aside s name v 1 0 0 reads (at_barrier s d)
-              (save_calls s.names (text_of s.line (snapshot began shown reads))) other h3 image
-              (λ w' d' h' image'. save_aside s name v 1 0 w' (text_of s.line (snapshot began shown reads)) d' other h' image')),
+              (save_calls s.names (text_of s.line (snapshot_after began shown reads))) other h3 image
+              (λ w' d' h' image'. save_aside s name v 1 0 w' (text_of s.line (snapshot_after began shown reads)) d' other h' image')),
         ),
       ),
     )

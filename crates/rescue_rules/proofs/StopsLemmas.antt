@@ -15,7 +15,7 @@ use Rattle.crash_site.proofs.LawLemmas.{found_only, left_past}
 use Rattle.rescue_rules.specs.Setting.{Setting, IsSensible}
 use Rattle.rescue_rules.specs.Start.{Stands}
 use Rattle.rescue_rules.specs.Run.{IsRun, map_after, cursor_after}
-use Rattle.rescue_rules.specs.Saves.{text_of, snapshot}
+use Rattle.rescue_rules.specs.Saves.{text_of, snapshot_after}
 use Rattle.rescue_rules.specs.Held.{Held}
 use Rattle.rescue_rules.specs.Work.{Gain, end_calls, opening_calls}
 use Rattle.rescue_rules.specs.Stops.{Behind, files_before, LeftAt, is_sync, is_settle, is_publish, is_write, has_barrier, IsKept}
@@ -38,7 +38,7 @@ scene b s began shown reads = record {
   map0 = files_before b s.names.map;
   old = opened_file (files_before b s.outfile);
   began = began;
-  text = text_of s.line (snapshot began shown reads);
+  text = text_of s.line (snapshot_after began shown reads);
   new = file_after s (opened_file (files_before b s.outfile)) reads;
 }
 
@@ -292,7 +292,7 @@ kept_new : (b : Behind) (s : Setting) (g : Gain) (began : List Status) (shown : 
     → Course s began shown g → Stands (files_before b s.names.map) s.end began shown
     → count_by is_settle (take k g.calls) ≤ 2
     → 1 ≤ count_by is_publish (take (k + 1) g.calls)
-    → files s.names.map ≡ Some (text_file (text_of s.line (snapshot began shown g.reads)))
+    → files s.names.map ≡ Some (text_file (text_of s.line (snapshot_after began shown g.reads)))
     → files s.outfile ≡ Some (file_after s (opened_file (files_before b s.outfile)) g.reads)
     → IsKept b s g began shown k files
 kept_new b s g began shown k files ok low course stands few some map_is new_is =
@@ -304,12 +304,12 @@ kept_new b s g began shown k files ok low course stands few some map_is new_is =
       no_older = omega (arith, few);
       no_newer = some;
       statuses = map_after began g.reads;
-      is_save = (snapshot began shown g.reads, refl, refl, map_is);
+      is_save = (snapshot_after began shown g.reads, refl, refl, map_is);
       shows = cursor_after shown g.reads;
       stands = subst (λ (o : Option File). Stands o s.end (map_after began g.reads) (cursor_after shown g.reads))
           (sym map_is)
-          (printed_stands s.line (text_file (text_of s.line (snapshot began shown g.reads))) s.end
-          (snapshot began shown g.reads)
+          (printed_stands s.line (text_file (text_of s.line (snapshot_after began shown g.reads))) s.end
+          (snapshot_after began shown g.reads)
           (saved_small s began shown g.reads ok course.run small) refl);
       held = subst (λ (i : List ℕ). Held s g.reads (bytes_of (files_before b s.outfile)) (map_after began g.reads) i)
           (sym (ap bytes_of new_is))

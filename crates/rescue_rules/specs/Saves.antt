@@ -28,9 +28,9 @@ abbrev pub text_of : List ℕ → Snapshot → List ℕ
 text_of line p = printed (heading_of line) (finished_at p.shown) p.map
 
 -- what a rescue that began with this map, and showed this position, would save behind these reads
-abbrev pub snapshot : List Status → (shown : ℕ) → List Reading → Snapshot
-snapshot map shown reads = record { map = map_after map reads; shown = cursor_after shown reads }
+abbrev pub snapshot_after : List Status → (shown : ℕ) → List Reading → Snapshot
+snapshot_after map shown reads = record { map = map_after map reads; shown = cursor_after shown reads }
 
 -- the saves of a run with these reads, in order: one at its end
 abbrev pub snapshots : Setting → List Status → (shown : ℕ) → List Reading → List Snapshot
-snapshots s map shown reads = snapshot map shown reads ∷ []
+snapshots s map shown reads = snapshot_after map shown reads ∷ []

@@ -13,7 +13,7 @@ use Rattle.rescue_rules.specs.Setting.{Setting, place}
 use Rattle.rescue_rules.specs.Start.{Stands}
 use Rattle.rescue_rules.specs.Requests.{IsSpent}
 use Rattle.rescue_rules.specs.Run.{IsRun, map_after, cursor_after, writes_of}
-use Rattle.rescue_rules.specs.Saves.{text_of, snapshot}
+use Rattle.rescue_rules.specs.Saves.{text_of, snapshot_after}
 
 -- what was done: the calls on the files, and the reads
 pub record Gain : Type 0 where
@@ -27,7 +27,7 @@ pub record IsNothing (g : Gain) : Type 0 where
 
 -- the calls of a save at the end of a run that began with this map, and showed this position
 abbrev pub end_calls : Setting → List Status → (shown : ℕ) → List Reading → List Call
-end_calls s statuses shown reads = save_calls s.names (text_of s.line (snapshot statuses shown reads))
+end_calls s statuses shown reads = save_calls s.names (text_of s.line (snapshot_after statuses shown reads))
 
 -- how a run over a map may end: it is saved, the input was lost, memory ran out, or a call on the files failed
 pub data RunEnd : Type 0 where

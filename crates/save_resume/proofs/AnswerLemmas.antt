@@ -17,7 +17,7 @@ use Rattle.crash_site.proofs.LawLemmas.{found_only}
 use Rattle.crash_site.specs.Disk.{Disk, Showing, only}
 use Rattle.crash_site.specs.Left.{MayShow, Leaves}
 use Rattle.save_resume.specs.MapNames.{MapNames}
-use Rattle.save_resume.specs.Resuming.{IsReadAs, IsRefusedFor, IsLikeNone, NoFile, SaysNothing, NothingPending}
+use Rattle.save_resume.specs.Resuming.{IsReadAs, IsRefusedFor, IsLikeNone, NoFile, Silent, NothingPending}
 use Rattle.save_resume.specs.Laws.{ReadAsOne, RefusedForOne, ReadIsNotRefused, NoneIsNotRead, NoneSaysNothing, HasAnswer, PendingNothingIsFound}
 use Rattle.save_resume.proofs.MapLemmas.{map_is_not_blank, blank_fault, fault_is_blank}
 
@@ -64,7 +64,7 @@ pub none_is_not_read : NoneIsNotRead
 none_is_not_read file mode m n r =
     elim n [
       | NoFile none ↦ not_there file r.there none r.is
-      | SaysNothing there is within blank ↦
+      | Silent there is within blank ↦
           let same : r.there ≡ there = one_there file r.there there r.is is in
           map_is_not_blank there.bytes mode m.state m.first m.listed m.tiles.statuses
           (subst (λ (f : File). IsMapText f.bytes mode m.state m.first m.listed m.tiles.statuses) same r.reads) blank
@@ -78,7 +78,7 @@ pub none_says_nothing : NoneSaysNothing
 none_says_nothing file mode e n r =
     elim n [
       | NoFile none ↦ absurd (not_there file r.there none r.is)
-      | SaysNothing there is within blank ↦
+      | Silent there is within blank ↦
           let same : r.there ≡ there = one_there file r.there there r.is is in
           blank_why there mode e within blank (subst (λ f. Why f mode e) same r.why)
     ]
@@ -97,7 +97,7 @@ has_answer (Some f) mode =
           inr (inr (TooLong, other, record { there = f; is = refl; why = inl (refl, long) }))
       | inr short ↦
           elim (blank_or_not (said f.bytes)) [
-            | inl blank ↦ inl (SaysNothing f refl short blank)
+            | inl blank ↦ inl (Silent f refl short blank)
             | inr says ↦
                 elim (is_map_or_has_fault f.bytes mode) [
                   | inl m ↦

@@ -18,7 +18,7 @@ use Rattle.save_resume.specs.declared.resume.Resumed.TheVariants.{Fresh, Map}
 use Rattle.save_resume.specs.MapNames.{MapNames}
 use Rattle.save_resume.specs.SaveStops.{disk_of}
 use Rattle.save_resume.specs.Loading.{BeginsLoad, IsLoad}
-use Rattle.save_resume.specs.Resuming.{IsRefusedFor, IsLikeNone, NoFile, SaysNothing, Loaded, Loads, refused_as, resumed_of, barrier_calls, Resumes, FaultCounts, Counts, IsWithinLimits, ResumedWithinLimits, NothingPending, SettlesAll}
+use Rattle.save_resume.specs.Resuming.{IsRefusedFor, IsLikeNone, NoFile, Silent, Loaded, Loads, refused_as, resumed_of, barrier_calls, Resumes, FaultCounts, Counts, IsWithinLimits, ResumedWithinLimits, NothingPending, SettlesAll}
 use Rattle.save_resume.proofs.CallLemmas.{made_more, broke_back}
 use Rattle.save_resume.proofs.MapLemmas.{fault_is_blank}
 use Rattle.save_resume.proofs.BarrierLemmas.{idle_load, made_idle, broke_idle, nothing_pending, barrier_reads}
@@ -28,7 +28,7 @@ pub says_nothing : (file : Option File) (mode : Mode) → IsRefusedFor file mode
 says_nothing file mode r =
     elim r.why [
       | inl x ↦ let no : NoStatusLine ≡ TooLong = x.0 in absurd (cc)
-      | inr x ↦ SaysNothing r.there r.is x.0 (fault_is_blank r.there.bytes mode x.1)
+      | inr x ↦ Silent r.there r.is x.0 (fault_is_blank r.there.bytes mode x.1)
     ]
 
 -- the calls of a load, behind the barrier

@@ -39,7 +39,7 @@ pub record IsRefusedFor (file : Option File) (mode : Mode) (e : MapError) : Type
 -- no file is there, or one within the limit that says nothing
 pub data IsLikeNone (file : Option File) : Type 0 where
   NoFile : file ≡ None → IsLikeNone file
-  SaysNothing : (there : File) → file ≡ Some there → length there.bytes ≤ text_limit → Blank there.bytes → IsLikeNone file
+  Silent : (there : File) → file ≡ Some there → length there.bytes ≤ text_limit → Blank there.bytes → IsLikeNone file
 
 -- the reads of a load that ended, behind other calls
 abbrev pub Loaded : List Call → List ℕ → Option File → List Entry → List Entry → Type 0
