@@ -1,7 +1,7 @@
 pub mod Places
-pub mod TileFacts
-pub mod ApartFacts
-pub mod EditFacts
-pub mod StretchFacts
-pub mod LookupFacts
-pub mod PushFacts
+pub mod TileLemmas
+pub mod ApartLemmas
+pub mod EditLemmas
+pub mod StretchLemmas
+pub mod LookupLemmas
+pub mod PushLemmas

@@ -20,4 +20,12 @@ slice_get-replicate (suc n) y zero h = refl
 slice_get-replicate (suc n) y (suc k) h = slice_get-replicate n y k (omega (arith, h))
 
 pub length-marked : (map : List Status) (pos size : ℕ) (s : Status) → pos + size ≤ length map → length (marked map pos size s) ≡ length map
-length-marked map pos size s h = omega (arith, length-append (take pos map ++ replicate size s) (drop (pos + size) map), length-append (take pos map) (replicate size s), length-take-le pos map (omega arith), length-replicate size s, length-drop (pos + size) map)
+length-marked map pos size s h =
+    omega (
+      arith,
+      length-append (take pos map ++ replicate size s) (drop (pos + size) map),
+      length-append (take pos map) (replicate size s),
+      length-take-le pos map (omega arith),
+      length-replicate size s,
+      length-drop (pos + size) map,
+    )

@@ -12,7 +12,7 @@ use Rattle.crash_site.specs.Changes.{call_in}
 use Rattle.crash_site.specs.Folder.{Folder, after}
 use Rattle.crash_site.specs.Disk.{at_rest, disk_after}
 use Rattle.crash_site.specs.Stopped.{any_byte, spoilt, IsSpoilt}
-use Rattle.crash_site.proofs.DiskLemmas.{Covers, run_reads}
+use Rattle.crash_site.proofs.DiskLemmas.{CoversRange, run_reads}
 use Rattle.crash_site.proofs.Written.{written_inside}
 
 own_put : (f : List ℕ → Option File) (name : List ℕ) (v : Option File) → put f name v name ≡ v
@@ -28,7 +28,7 @@ any_at any len x is lt = ap (λ (b : List ℕ). get_or b x 0) is ∙ get_or-repl
 
 pub spoilt_write : (reads : Folder) (firm : Bool) (f g : List ℕ → Option File) (image k m : List ℕ) (pos at : ℕ)
     (piece any : List ℕ) (len : ℕ) → reads.image ≡ Some image → k ≡ image → m ≡ image
-    → Covers pos (length piece) (length (bytes_of (f m))) at any → any ≡ replicate len any_byte
+    → CoversRange pos (length piece) (length (bytes_of (f m))) at any → any ≡ replicate len any_byte
     → g ≡ put f k (Some (written_file (f k) at any)) → IsSpoilt (image_write pos piece) reads firm g
 spoilt_write reads firm f g image k m pos at piece any len is same_k same_m c other e = λ n x is_n some ge lt.
     let same : n ≡ k = (let s : n ≡ image = cc in s ∙ sym same_k) in

@@ -9,7 +9,7 @@ use Rattle.crash_site.specs.Calls.{Call, unanswered, Entry, Done, Failed, IsDone
 use Rattle.crash_site.specs.Folder.{Folder, opened, with_piece, appended, published, after_done, after_entry, after}
 use Rattle.crash_site.specs.Disk.{at_rest, disk_after}
 use Rattle.crash_site.specs.Stopped.{ReadsOn, sure_name}
-use Rattle.crash_site.proofs.PlaceFacts.{put-same}
+use Rattle.crash_site.proofs.PlaceLemmas.{put-same}
 use Rattle.crash_site.proofs.DiskLemmas.{run_reads}
 
 -- Each call, where its effect is left as it reads.

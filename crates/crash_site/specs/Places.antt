@@ -10,8 +10,8 @@ file_of None = None
 file_of (Some f) = Some (record { bytes = f.bytes.items; regular = f.regular })
 
 -- the name of a place, and what stands there
-abbrev pub told : Place → List ℕ × Option File
-told p = (p.name.items, file_of p.file)
+abbrev pub name_and_file : Place → List ℕ × Option File
+name_and_file p = (p.name.items, file_of p.file)
 
 -- the files of a list of places: the first place with a name says what stands under it
 abbrev pub files_of : List Place → List ℕ → Option File

@@ -2,7 +2,7 @@ ghost use Rattle.std.specs.Prelude.{◌≡◌, ℕ, ◌+◌, ◌<◌, ◌-◌, �
 ghost use Rattle.std.specs.Str.{bytes_eq};
 ghost use Rattle.crash_site.specs.declared.places.Place.{Place};
 ghost use Rattle.crash_site.specs.Files.{File, bytes_of, empty_file, kind_of, put, written, written_file};
-ghost use Rattle.crash_site.specs.Places.{file_of, files_of, told, opened_file, IsPlaceOf};
+ghost use Rattle.crash_site.specs.Places.{file_of, files_of, name_and_file, opened_file, IsPlaceOf};
 
 use crate::site::ImageKind;
 use std::alloc::{AllocError, Global};
@@ -133,7 +133,7 @@ impl Place {
     }
 
     fn copy(&self, alloc: Global) -> Result<Place, AllocError>
-        ensures { IfOk result (λ copied. told copied ≡ told self.now) }
+        ensures { IfOk result (λ copied. name_and_file copied ≡ name_and_file self.now) }
     {
         let name = Vec::from_slice(alloc, self.name.as_slice())?;
         let file = match &self.file {
@@ -161,7 +161,7 @@ fn find(places: &[Place], name: &[u8]) -> Option<usize>
     None
 }
 
-#[tactic(auto, using(crate::proofs::PlaceFacts::place_facts))]
+#[tactic(auto, using(crate::proofs::PlaceLemmas::place_lemmas))]
 /// What stands under a name.
 pub(crate) fn file_at<'a>(places: &'a [Place], name: &[u8]) -> Option<&'a MemoryFile>
     ensures { MatchOption result (files_of places.now name.now ≡ None)
@@ -172,7 +172,7 @@ pub(crate) fn file_at<'a>(places: &'a [Place], name: &[u8]) -> Option<&'a Memory
     places[i].file.as_ref()
 }
 
-#[tactic(auto, using(crate::proofs::PlaceFacts::place_facts))]
+#[tactic(auto, using(crate::proofs::PlaceLemmas::place_lemmas))]
 /// The first place with a name, made where there is none.
 pub(crate) fn place_of(
     alloc: Global,
@@ -191,7 +191,7 @@ pub(crate) fn place_of(
     Ok(made)
 }
 
-#[tactic(auto, using(crate::proofs::PlaceFacts::place_facts))]
+#[tactic(auto, using(crate::proofs::PlaceLemmas::place_lemmas))]
 /// Takes away what stands under a name.
 pub(crate) fn take_file(places: &mut Vec<Place>, name: &[u8]) -> Option<MemoryFile>
     ensures value { file_of result ≡ files_of places.old.items name.now }

@@ -7,8 +7,11 @@ use Rattle.crash_site.specs.declared.site.SiteCall.{SiteCall}
 use Rattle.crash_site.specs.declared.site.SiteCall.TheVariants.{ImageOpen, ImageRead, ImageWrite, ImageSync, MapRead, DraftBegin, DraftAppend, DraftSync, DraftPublish, MapSettle, MapRemove}
 use Rattle.crash_site.specs.Files.{File, empty_file}
 use Rattle.rescue_rules.specs.Setting.{Setting}
-use Rattle.rescue_rules.specs.Requests.{IsSpent}
-use Rattle.rescue_rules.specs.Run.{map_after, cursor_after, IsRun}
+use Rattle.rescue_rules.specs.Machine.{Machine}
+use Rattle.rescue_rules.specs.Step.{Event}
+use Rattle.rescue_rules.specs.Moves.{state_after, is_over, IsRun}
+use Rattle.rescue_rules.specs.Beginning.{machine_of}
+use Rattle.rescue_rules.specs.Events.{reads_of}
 use Rattle.ddrescue_cli.specs.declared.ending.Ending.{Ending}
 use Rattle.ddrescue_cli.specs.declared.ending.Ending.TheVariants.{Done, WrongNumber, WrongWord, SameName, SourceFault, NotRegular, MapRefused, SourceLost, SiteFault, NoMemory}
 use Rattle.ddrescue_cli.specs.Refusals.{is_other, MapfileRefused}
@@ -27,19 +30,20 @@ IsRefusal SourceFault = ⊤
 IsRefusal NotRegular = ⊤
 IsRefusal (MapRefused which error) = ⊤
 IsRefusal SourceLost = ⊥
-IsRefusal (SiteFault call) = ⊥
+IsRefusal (SiteFault call earlier) = ⊥
 IsRefusal NoMemory = ⊥
 
--- The reads are a run over some map, and gave the input's own bytes; there is none before a refusal, and no request is
--- left where the rescue is done.
+-- The reads are those of a run over some map, and gave the input's own bytes; there is none before a refusal, and no pass has
+-- a request left where the rescue is done.
 pub record HasRead (s : Setting) (e : Ending) (source source' : SourceState) : Type 0 where
-  pub map : List Status
-  pub reads : List Reading
-  pub gained : source'.journal ≡ source.journal ++ reads
-  pub run : IsRun s map 0 reads
-  pub right : All (IsFrom source.bytes) reads
-  pub refused : IsRefusal e → reads ≡ []
-  pub done : e ≡ Done → IsSpent s (map_after map reads) (cursor_after 0 reads)
+  pub start : Machine
+  pub events : List Event
+  pub began : start ≡ machine_of s start.map None start.shown start.began
+  pub gained : source'.journal ≡ source.journal ++ reads_of events
+  pub run : IsRun s start events
+  pub right : All (IsFrom source.bytes) (reads_of events)
+  pub refused : IsRefusal e → events ≡ []
+  pub done : e ≡ Done → is_over s (state_after s start events) ≡ true
 
 -- the output is a regular file or absent, and the mapfile isn't refused
 pub record Pass (output mapfile : Option File) : Type 0 where
@@ -98,7 +102,7 @@ IsLeft SourceFault outfile files files' = AllStand files files'
 IsLeft NotRegular outfile files files' = AllStand files files'
 IsLeft (MapRefused which error) outfile files files' = OutputMade outfile files files'
 IsLeft SourceLost outfile files files' = ⊤
-IsLeft (SiteFault call) outfile files files' = CallLeaves call outfile files files'
+IsLeft (SiteFault call earlier) outfile files files' = CallLeaves call outfile files files'
 IsLeft NoMemory outfile files files' = ⊤
 
 -- what an answer says of the files
@@ -112,5 +116,5 @@ FilesAllow NotRegular output mapfile = is_other output ≡ true
 FilesAllow (MapRefused which error) output mapfile =
     (is_other output ≡ false) × MapfileRefused mapfile (MapRefused which error)
 FilesAllow SourceLost output mapfile = Pass output mapfile
-FilesAllow (SiteFault call) output mapfile = CallPasses call output mapfile
+FilesAllow (SiteFault call earlier) output mapfile = CallPasses call output mapfile
 FilesAllow NoMemory output mapfile = ⊤

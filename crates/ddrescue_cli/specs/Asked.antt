@@ -1,5 +1,5 @@
 -- What the words of a rescue ask for.
-use Rattle.std.specs.Prelude.{ℕ, Bool, List, [], nat_lt}
+use Rattle.std.specs.Prelude.{ℕ, Bool, false, List, [], nat_lt, None}
 use Rattle.save_resume.specs.MapNames.{MapNames, names_of}
 use Rattle.rescue_rules.specs.Setting.{Setting}
 use Rattle.ddrescue_cli.specs.Operands.{infile, outfile, mapfile, command_line}
@@ -24,12 +24,19 @@ setting_with infile outfile names line end = record {
   from = 0;
   to = 0;
   sector = default_sector;
+  cluster = default_sector;
+  skip = 0;
+  skip_max = 0;
+  min_rate = 0;
+  trims = false;
+  scrapes = false;
+  retries = 0;
+  reverse = false;
+  one_way = false;
+  max_errors = None;
+  timeout = None;
 }
 
 -- what these words ask for
 abbrev pub setting_of : List (List ℕ) → (end : ℕ) → Setting
 setting_of words end = setting_with (infile words) (outfile words) (names_of (mapfile words)) (command_line words) end
-
--- the same for a copy, which knows no names
-abbrev pub copying : (end : ℕ) → Setting
-copying end = setting_with [] [] (names_of []) [] end

@@ -1,16 +1,17 @@
 -- What the definitions mean.
 use Rattle.std.specs.Prelude.{◌≡◌, ⊤, ℕ, true, IsTrue, List, length, slice_get, Option, Some}
 use Rattle.block_list.specs.declared.status.Status.{Status}
+use Rattle.mapfile_text.specs.declared.state.MapState.{MapState}
 use Rattle.crash_site.specs.Files.{File, bytes_of}
 use Rattle.crash_site.specs.SiteState.{files_in}
 use Rattle.rescue_rules.specs.Setting.{Setting}
 use Rattle.rescue_rules.specs.Start.{Stands}
-use Rattle.rescue_rules.specs.Requests.{IsSpent}
-use Rattle.rescue_rules.specs.Run.{map_after, cursor_after, IsRun}
+use Rattle.rescue_rules.specs.Machine.{Machine}
+use Rattle.rescue_rules.specs.Moves.{state_after, is_over, IsRun}
 use Rattle.rescue_rules.specs.Given.{given}
 use Rattle.rescue_rules.specs.Held.{Held}
-use Rattle.rescue_rules.specs.Saves.{text_of, snapshot_after}
-use Rattle.rescue_rules.specs.Work.{Gain}
+use Rattle.rescue_rules.specs.Snapshots.{text_of, finished_snapshot}
+use Rattle.rescue_rules.specs.Work.{Gain, begins, events_in}
 use Rattle.rescue_rules.specs.Stops.{has_barrier, IsKept}
 use Rattle.ddrescue_cli.specs.declared.ending.Ending.{Ending}
 use Rattle.ddrescue_cli.specs.declared.ending.Ending.TheVariants.{Done, WrongNumber, WrongWord, SameName, SourceFault, NotRegular, MapRefused, SourceLost, SiteFault, NoMemory}
@@ -23,28 +24,34 @@ use Rattle.ddrescue_cli.specs.Ddrescue.{Ddrescue}
 -- Behind each answer that comes after the barrier, the files as they read keep the promise.
 abbrev pub HoldsAtEnd : Type 0
 HoldsAtEnd =
-    (t : Told) (began : List Status) (shown : ℕ) → Ddrescue t → AllTell t → has_barrier (what_was_done t).calls ≡ true
-    → Stands (files_of t (mapfile t.words)) (length t.source.bytes) began shown
-    → IsKept (calls_before t) (asked t) (what_was_done t) began shown (length (what_was_done t).calls) (files_in t.site')
+    (t : Told) (began : List Status) (state : Option MapState) → Ddrescue t → AllTell t
+    → has_barrier (what_was_done t).calls ≡ true
+    → Stands (files_of t (mapfile t.words)) (length t.source.bytes) began state
+    → IsKept (calls_before t) (asked t) (what_was_done t) began state (length (what_was_done t).calls) (files_in t.site')
+
+-- the state that a rescue came to over a map, and the state that its mapfile showed
+abbrev pub comes_to : Told → List Status → Option MapState → Machine
+comes_to t statuses state =
+    state_after (asked t) (begins (asked t) statuses state (what_was_done t)) (events_in (what_was_done t))
 
 -- What a rescue leaves that went on to its end, over the map that its mapfile stood for:
-pub record IsSaved (t : Told) : Type 0 where
+pub record IsFinished (t : Told) : Type 0 where
   pub statuses : List Status
-  pub shown : ℕ
-  pub stands : Stands (files_of t (mapfile t.words)) (length t.source.bytes) statuses shown
-  -- the reads are a run that left nothing wanted
-  pub run : IsRun (asked t) statuses 0 (what_was_done t).reads
-  pub spent : IsSpent (asked t) (map_after statuses (what_was_done t).reads) (cursor_after 0 (what_was_done t).reads)
-  -- the mapfile is the map of all reads
+  pub state : Option MapState
+  pub stands : Stands (files_of t (mapfile t.words)) (length t.source.bytes) statuses state
+  -- the reads are a run that left no request in any pass
+  pub run : IsRun (asked t) (begins (asked t) statuses state (what_was_done t)) (events_in (what_was_done t))
+  pub over : is_over (asked t) (comes_to t statuses state) ≡ true
+  -- the mapfile is the map of all reads, and says that it is finished
   pub mapfile : files_in t.site' (mapfile t.words)
-      ≡ Some (record { bytes = text_of (command_line t.words) (snapshot_after statuses shown (what_was_done t).reads); regular = true })
+      ≡ Some (record { bytes = text_of (command_line t.words) (finished_snapshot (comes_to t statuses state)); regular = true })
   -- and the output holds what that map promises
-  pub held : Held (asked t) (what_was_done t).reads (bytes_of (files_of t (outfile t.words))) (map_after statuses (what_was_done t).reads)
+  pub held : Held (asked t) (what_was_done t).reads (bytes_of (files_of t (outfile t.words))) (comes_to t statuses state).map
       (bytes_of (files_in t.site' (outfile t.words)))
 
 -- A finished rescue leaves that.
 abbrev pub DoneIsSaved : Type 0
-DoneIsSaved = (t : Told) → Ddrescue t → AllTell t → t.answer ≡ Done → IsSaved t
+DoneIsSaved = (t : Told) → Ddrescue t → AllTell t → t.answer ≡ Done → IsFinished t
 
 -- What the reads gave is the input's own, where the input tells. So what a saved map calls finished, and the reads gave,
 -- stands in the output as it stands in the input.
@@ -62,7 +69,7 @@ IsVerdict SourceFault = ⊥
 IsVerdict NotRegular = ⊤
 IsVerdict (MapRefused which error) = ⊤
 IsVerdict SourceLost = ⊥
-IsVerdict (SiteFault call) = ⊥
+IsVerdict (SiteFault call earlier) = ⊥
 IsVerdict NoMemory = ⊥
 
 -- Words and files bring one such answer at most.

@@ -81,7 +81,7 @@ OfWords SourceFault refusal = ⊥
 OfWords NotRegular refusal = ⊥
 OfWords (MapRefused which error) refusal = ⊥
 OfWords SourceLost refusal = ⊥
-OfWords (SiteFault call) refusal = ⊥
+OfWords (SiteFault call earlier) refusal = ⊥
 
 -- the command line: the program's name, and a space before each word
 abbrev pub command_line : List (List ℕ) → List ℕ

@@ -3,6 +3,8 @@ use Rattle.std.specs.Prelude.{ℕ, IsTrue, List, length, drop, Option}
 use Rattle.faulty_source.specs.SourceState.{SourceState}
 use Rattle.crash_site.specs.Files.{File}
 use Rattle.crash_site.specs.SiteState.{SiteState, files_in}
+use Rattle.rescue_console.specs.ClockState.{ClockState}
+use Rattle.rescue_console.specs.ConsoleState.{ConsoleState}
 use Rattle.rescue_rules.specs.Setting.{Setting}
 use Rattle.rescue_rules.specs.Work.{Gain}
 use Rattle.rescue_rules.specs.Stops.{Behind}
@@ -17,22 +19,28 @@ pub record Told : Type 0 where
   pub source' : SourceState
   pub site : SiteState
   pub site' : SiteState
+  pub clock : ClockState
+  pub clock' : ClockState
+  pub console : ConsoleState
+  pub console' : ConsoleState
 
--- the input and the site tell
+-- the input, the site and the clock tell, the clock also behind the call
 pub record AllTell (t : Told) : Type 0 where
   pub source : IsTrue t.source.tells
   pub site : IsTrue t.site.tells
+  pub clock : IsTrue t.clock'.tells
 
 -- what a list has gained at its end
 abbrev pub gained : {A : Type 0} → List A → List A → List A
 gained before now = drop (length before) now
 
--- what was done: the calls on the files, and the reads
-abbrev pub gain_of : (source source' : SourceState) → (site site' : SiteState) → Gain
-gain_of source source' site site' = record { calls = gained site.calls site'.calls; reads = gained source.journal source'.journal }
-
+-- what was done: the calls on the files, the reads, and the readings of the clock
 abbrev pub what_was_done : Told → Gain
-what_was_done t = gain_of t.source t.source' t.site t.site'
+what_was_done t = record {
+  calls = gained t.site.calls t.site'.calls;
+  reads = gained t.source.journal t.source'.journal;
+  times = gained t.clock.readings t.clock'.readings;
+}
 
 -- the calls stand behind those that the site had made
 abbrev pub calls_before : Told → Behind

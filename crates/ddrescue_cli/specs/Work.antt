@@ -1,7 +1,8 @@
 -- The work of a rescue: its steps in order, what each does on the files, and where it refuses. It says which answers
 -- may be given, and which calls and reads were made by then.
-use Rattle.std.specs.Prelude.{◌≡◌, ◌⊎◌, ℕ, true, List, [], ◌∷◌, ◌++◌, map, Option}
+use Rattle.std.specs.Prelude.{◌≡◌, ◌⊎◌, ℕ, ◌≤◌, true, List, [], ◌∷◌, ◌++◌, length, map, Option, None}
 use Rattle.block_list.specs.declared.status.Status.{Status}
+use Rattle.mapfile_text.specs.declared.state.MapState.{MapState}
 use Rattle.crash_site.specs.declared.site.SiteCall.{SiteCall}
 use Rattle.crash_site.specs.declared.site.SiteCall.TheVariants.{MapRead}
 use Rattle.crash_site.specs.Files.{File}
@@ -10,7 +11,10 @@ use Rattle.save_resume.specs.Loading.{BeginsLoad, IsLoad}
 use Rattle.save_resume.specs.Resuming.{barrier_calls}
 use Rattle.rescue_rules.specs.Setting.{Setting}
 use Rattle.rescue_rules.specs.Start.{Stands}
-use Rattle.rescue_rules.specs.Work.{Gain, IsNothing, RunEnd, Saved, InputLost, MemoryOut, CallFailed, Runs}
+use Rattle.rescue_rules.specs.declared.stop.Stop.TheVariants.{SourceLost as InputLost, Site, NoMemory as NoRoom}
+use Rattle.rescue_rules.specs.declared.stop.RunEnd.{RunEnd}
+use Rattle.rescue_rules.specs.declared.stop.RunEnd.TheVariants.{Done as Finished, Stopped, SaveFailed}
+use Rattle.rescue_rules.specs.Work.{Gain, IsNothing, Runs}
 use Rattle.ddrescue_cli.specs.declared.ending.Ending.{Ending}
 use Rattle.ddrescue_cli.specs.declared.ending.Ending.TheVariants.{Done, SourceLost, SiteFault, NoMemory}
 use Rattle.ddrescue_cli.specs.Refusals.{WordsRefused, InputRefused, OutputRefused, MapfileRefused}
@@ -27,31 +31,47 @@ OrRefused P Q e g = (P e × IsNothing g) ⊎ (((e' : Ending) → P e' → ⊥) �
 abbrev pub OrMay : (Ending → Type 0) → (Ending → Gain → Type 0) → Ending → Gain → Type 0
 OrMay P Q e g = (P e × IsNothing g) ⊎ Q e g
 
+-- nothing was done but calls on the files
+pub record HasOnlyCalls (g : Gain) : Type 0 where
+  pub reads : g.reads ≡ []
+  pub times : g.times ≡ []
+
 -- These calls are made, and the work goes on, unless one fails.
 abbrev pub Then : List Call → (Ending → Gain → Type 0) → Ending → Gain → Type 0
 Then calls Q e g =
-    ((call : SiteCall) × (e ≡ SiteFault call) × BrokeAt call calls [] g.calls × (g.reads ≡ []))
+    ((call : SiteCall) × (e ≡ SiteFault call None) × BrokeAt call calls [] g.calls × HasOnlyCalls g)
     ⊎ ((rest : List Entry) × (g.calls ≡ map Returned calls ++ rest) × Q e (record g { calls = rest }))
 
 -- A mapfile is read, and the work goes on, unless a read fails or memory runs out.
 abbrev pub ThenRead : List ℕ → Option File → (Ending → Gain → Type 0) → Ending → Gain → Type 0
 ThenRead name file Q e g =
-    ((load : List Call) × (e ≡ SiteFault MapRead) × BeginsLoad name file load × BrokeAt MapRead load [] g.calls × (g.reads ≡ []))
-    ⊎ ((load : List Call) × (e ≡ NoMemory) × BeginsLoad name file load × (g.calls ≡ map Returned load) × (g.reads ≡ []))
+    ((load : List Call) × (e ≡ SiteFault MapRead None) × BeginsLoad name file load × BrokeAt MapRead load [] g.calls × HasOnlyCalls g)
+    ⊎ ((load : List Call) × (e ≡ NoMemory) × BeginsLoad name file load × (g.calls ≡ map Returned load) × HasOnlyCalls g)
     ⊎ ((load : List Call) × (rest : List Entry) × IsLoad name file load × (g.calls ≡ map Returned load ++ rest) × Q e (record g { calls = rest }))
 
 -- the answer of a run that ended so
 abbrev pub answer_of : RunEnd → Ending
-answer_of Saved = Done
-answer_of InputLost = SourceLost
-answer_of MemoryOut = NoMemory
-answer_of (CallFailed call) = SiteFault call
+answer_of Finished = Done
+answer_of (Stopped InputLost) = SourceLost
+answer_of (Stopped (Site call)) = SiteFault call None
+answer_of (Stopped NoRoom) = NoMemory
+answer_of (SaveFailed call earlier) = SiteFault call earlier
+
+-- memory ran out before a run began, which reads the clock at most once
+pub record IsUnbegun (e : Ending) (g : Gain) : Type 0 where
+  pub answer : e ≡ NoMemory
+  pub calls : g.calls ≡ []
+  pub reads : g.reads ≡ []
+  pub times : length g.times ≤ 1
+
+-- a run over a map, which may not have begun
+abbrev pub RunsOver : Setting → List Status → Option MapState → Ending → Gain → Type 0
+RunsOver s statuses state e g = IsUnbegun e g ⊎ ((end : RunEnd) × (e ≡ answer_of end) × Runs s statuses state g end)
 
 -- the run over the map that a mapfile stands for
 abbrev pub ThenRun : Setting → Option File → Ending → Gain → Type 0
 ThenRun s mapfile e g =
-    (statuses : List Status) × (shown : ℕ) × Stands mapfile s.end statuses shown
-    × ((end : RunEnd) × (e ≡ answer_of end) × Runs s statuses shown g end)
+    (statuses : List Status) × (state : Option MapState) × Stands mapfile s.end statuses state × RunsOver s statuses state e g
 
 -- the work behind the words, over files as they read before it
 abbrev pub WorksOn : Setting → (List ℕ → Option File) → Ending → Gain → Type 0

@@ -1,8 +1,10 @@
 ghost use Rattle.std.specs.Prelude.{◌≡◌};
 ghost use Rattle.ddrescue_cli.specs.Answers.{status_of_ending};
+ghost use Rattle.ddrescue_cli.specs.Work.{answer_of};
 
 use crash_site::site::SiteCall;
 use mapfile_text::read::MapError;
+use rescue_rules::stop::{RunEnd, Stop};
 
 /// A file that a rescue names.
 #[derive(Clone, Copy, Debug, PartialEq, Eq)]
@@ -27,21 +29,35 @@ pub enum Ending {
     /// Everything that wasn't tried was asked for, and the map was saved.
     Done,
     /// Another number of words than three.
-    WrongNumber { given: usize },
+    WrongNumber {
+        given: usize,
+    },
     /// A word, counted from 1, that is empty, or that begins with a hyphen and is longer.
-    WrongWord { word: usize },
+    WrongWord {
+        word: usize,
+    },
     /// Two files have one name.
-    SameName { first: Operand, second: Operand },
+    SameName {
+        first: Operand,
+        second: Operand,
+    },
     /// The infile couldn't be opened.
     SourceFault,
     /// The outfile is no regular file.
     NotRegular,
     /// The mapfile's text is no map, or is too long.
-    MapRefused { which: Which, error: MapError },
+    MapRefused {
+        which: Which,
+        error: MapError,
+    },
     /// The infile was lost during a read.
     SourceLost,
     /// A call on the outfile, on the mapfile or on its folder failed. A mapfile that is no regular file fails to be read.
-    SiteFault { call: SiteCall },
+    /// Where it was a call of the save at the end of a run that had stopped before, this says why the run had stopped.
+    SiteFault {
+        call: SiteCall,
+        earlier: Option<Stop>,
+    },
     /// Memory wasn't there.
     NoMemory,
 }
@@ -58,5 +74,21 @@ impl Ending {
             Ending::NoMemory => 4,
             _ => 1,
         }
+    }
+}
+
+/// The answer of a run that ended so.
+pub(crate) fn answer(end: RunEnd) -> Ending
+    ensures { result ≡ answer_of end }
+{
+    match end {
+        RunEnd::Done => Ending::Done,
+        RunEnd::Stopped(Stop::SourceLost) => Ending::SourceLost,
+        RunEnd::Stopped(Stop::Site(call)) => Ending::SiteFault {
+            call,
+            earlier: None,
+        },
+        RunEnd::Stopped(Stop::NoMemory) => Ending::NoMemory,
+        RunEnd::SaveFailed { call, earlier } => Ending::SiteFault { call, earlier },
     }
 }

@@ -1,7 +1,7 @@
 ghost use Rattle.std.specs.Prelude.{◌≡◌, length, IfOk, IfErr, OnOk};
 ghost use Rattle.std.specs.String.{string_bytes};
 ghost use Rattle.save_resume.specs.MapNames.{names_of};
-ghost use Rattle.rescue_rules.specs.Saves.{heading_of};
+ghost use Rattle.rescue_rules.specs.Snapshots.{heading_at};
 ghost use Rattle.ddrescue_cli.specs.Operands.{is_wrong, wrong_word, first_same, refusal_of_words, infile, outfile, mapfile, command_line, OfWords, AreNamedApart};
 
 use crate::ending::{Ending, Operand};
@@ -95,7 +95,7 @@ fn joined(alloc: Global, words: &Words) -> Result<String, AllocError>
 
 /// The heading of the mapfile, with the command line.
 fn make_heading(alloc: Global, words: &Words) -> Result<Heading, NoMemory>
-    ensures { IfOk result (λ h. h ≡ heading_of (command_line words.now)) }
+    ensures { IfOk result (λ h. h ≡ heading_at (command_line words.now) 0 0) }
 {
     let Ok(line) = joined(alloc, words) else {
         return Err(NoMemory);
@@ -103,21 +103,27 @@ fn make_heading(alloc: Global, words: &Words) -> Result<Heading, NoMemory>
     Heading::new(alloc, Program::Ddrescue, line.as_str())
 }
 
+/// What the saves of a mapfile want besides the map.
+#[derive(Drop)]
+pub(crate) struct Mapfile {
+    pub names: Names,
+    pub heading: Heading,
+}
+
 /// What a rescue needs before it opens a file.
 #[derive(Drop)]
 pub(crate) struct Plan<'a> {
     pub infile: &'a str,
     pub outfile: &'a str,
-    pub names: Names,
-    pub heading: Heading,
+    pub mapfile: Mapfile,
 }
 
 /// Reads the words, and takes the memory that the save wants for its names.
 pub(crate) fn make_plan(alloc: Global, words: &Words) -> Result<Plan<'_>, Ending>
     ensures infile { IfOk result (λ p. p.infile.now ≡ infile words.now) }
     ensures outfile { IfOk result (λ p. p.outfile.now ≡ outfile words.now) }
-    ensures names { IfOk result (λ p. p.names ≡ names_of (mapfile words.now)) }
-    ensures heading { IfOk result (λ p. p.heading ≡ heading_of (command_line words.now)) }
+    ensures names { IfOk result (λ p. p.mapfile.names ≡ names_of (mapfile words.now)) }
+    ensures heading { IfOk result (λ p. p.mapfile.heading ≡ heading_at (command_line words.now) 0 0) }
     ensures right { OnOk result (refusal_of_words words.now ≡ None) }
     ensures refusal { IfErr result (λ e. OfWords e (refusal_of_words words.now)) }
     ensures apart { OnOk result (AreNamedApart words.now) }
@@ -139,7 +145,6 @@ pub(crate) fn make_plan(alloc: Global, words: &Words) -> Result<Plan<'_>, Ending
     Ok(Plan {
         infile,
         outfile,
-        names,
-        heading,
+        mapfile: Mapfile { names, heading },
     })
 }

@@ -5,6 +5,7 @@ use crate::rescue::ddrescue;
 use crate::words::Words;
 use crash_site::memory::MemorySite;
 use faulty_source::memory::MemorySource;
+use rescue_console::memory::{MemoryClock, MemoryConsole};
 use std::test::Fail;
 
 #[test]
@@ -40,7 +41,16 @@ fn with_ample_memory_a_rescue_is_done(rt: HostRuntime) -> Result<(), Fail> {
         let mut source = MemorySource::new(rt.alloc(), bytes, Vec::new(rt.alloc()), 10)?;
         let mut site = MemorySite::new(rt.alloc());
         site.put_file("map", mapfile, true)?;
-        let ending = ddrescue(rt.alloc(), &words, &mut source, &mut site);
+        let mut clock = MemoryClock::new(Vec::new(rt.alloc()));
+        let mut console = MemoryConsole::new(rt.alloc());
+        let ending = ddrescue(
+            rt.alloc(),
+            &words,
+            &mut source,
+            &mut site,
+            &mut clock,
+            &mut console,
+        );
         assert_eq!(rt; ending, Ending::Done, "{mapfile:?}");
     }
     Ok(())

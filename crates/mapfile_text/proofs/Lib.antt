@@ -1,7 +1,7 @@
-pub mod DigitFacts
+pub mod DigitLemmas
 pub mod TakenOff
-pub mod PartFacts
-pub mod PieceFacts
+pub mod PartLemmas
+pub mod PieceLemmas
 pub mod Appended
 pub mod OneReading
 pub mod OneFault
@@ -10,7 +10,7 @@ pub mod PrintedBytes
 pub mod ReadNumbers
 pub mod ReadLines
 pub mod ReadPrinted
-pub mod FieldFacts
-pub mod LineFacts
-pub mod EntryFacts
+pub mod FieldLemmas
+pub mod LineLemmas
+pub mod EntryLemmas
 pub mod Progress

@@ -14,7 +14,8 @@ use Rattle.mapfile_text.specs.Fields.{state_of, block_of}
 use Rattle.mapfile_text.specs.MapText.{IsStateLine, IsBlockLine, IsGap, Continues, Lists, AreMapLines, StateFault, BlockFault, PlaceFault, ContinuesFault, ListsFault, MapLinesFault}
 use Rattle.mapfile_text.specs.Laws.{IsMapOrHasFault}
 
-state_by_spelling : (l : Line) (spelt : Option MapState) → state_of l.fields ≡ spelt → ((state : MapState) × IsStateLine l state) ⊎ ((e : MapError) × StateFault l e)
+state_by_spelling : (l : Line) (spelt : Option MapState) → state_of l.fields ≡ spelt
+    → ((state : MapState) × IsStateLine l state) ⊎ ((e : MapError) × StateFault l e)
 state_by_spelling l None h = inr (BadStatusLine l.number, inl (refl, h))
 state_by_spelling l (Some s) h =
     elim (cases_lt s.pos (2 ^ 63)) [
@@ -34,7 +35,8 @@ block_by_spelling l (Some b) h =
       | inr large ↦ inr (TooLarge l.number, inr (refl, b, h, large))
     ]
 
-place_or_fault : (mode : Mode) (end : ℕ) (l : Line) (b : Block) → ((gap : List Status) × IsGap mode end b.pos gap) ⊎ ((e : MapError) × PlaceFault mode end l b e)
+place_or_fault : (mode : Mode) (end : ℕ) (l : Line) (b : Block) → ((gap : List Status) × IsGap mode end b.pos gap)
+    ⊎ ((e : MapError) × PlaceFault mode end l b e)
 place_or_fault Tight end l b =
     elim (cases_lt b.pos end) [
       | inl below ↦ inr (Overlap l.number, inl (refl, below))
@@ -50,7 +52,8 @@ place_or_fault (Loose status) end l b =
       | inr from ↦ inl (replicate (b.pos - end) status, (from, refl))
     ]
 
-continue_or_fault : (mode : Mode) (end : ℕ) (ls : List Line) → ((statuses : List Status) × Continues mode end ls statuses) ⊎ ((e : MapError) × ContinuesFault mode end ls e)
+continue_or_fault : (mode : Mode) (end : ℕ) (ls : List Line)
+    → ((statuses : List Status) × Continues mode end ls statuses) ⊎ ((e : MapError) × ContinuesFault mode end ls e)
 continue_or_fault mode end [] = inl ([], refl)
 continue_or_fault mode end (l ∷ ls) =
     elim (block_by_spelling l (block_of l.fields) refl) [
@@ -66,7 +69,9 @@ continue_or_fault mode end (l ∷ ls) =
           ]
     ]
 
-lists_or_fault : (mode : Mode) (ls : List Line) → ((first : ℕ) × (listed : Bool) × (statuses : List Status) × Lists mode ls first listed statuses) ⊎ ((e : MapError) × ListsFault mode ls e)
+lists_or_fault : (mode : Mode) (ls : List Line)
+    → ((first : ℕ) × (listed : Bool) × (statuses : List Status) × Lists mode ls first listed statuses)
+    ⊎ ((e : MapError) × ListsFault mode ls e)
 lists_or_fault mode [] = inl (0, false, [], (refl, refl, refl))
 lists_or_fault mode (l ∷ ls) =
     elim (block_by_spelling l (block_of l.fields) refl) [
@@ -74,12 +79,18 @@ lists_or_fault mode (l ∷ ls) =
       | inl b ↦
           elim (continue_or_fault mode (b.0.pos + b.0.size) ls) [
             | inr f ↦ inr (f.0, inr (b.0, b.1, f.1))
-            | inl rest ↦ inl (b.0.pos, true, replicate b.0.pos NonTried ++ (replicate b.0.size b.0.status ++ rest.0), (b.0, rest.0, b.1, refl, refl, refl, rest.1))
+            | inl rest ↦ inl (
+              b.0.pos,
+              true,
+              replicate b.0.pos NonTried ++ (replicate b.0.size b.0.status ++ rest.0),
+              (b.0, rest.0, b.1, refl, refl, refl, rest.1),
+            )
           ]
     ]
 
 lines_or_fault : (mode : Mode) (ls : List Line)
-    → ((state : MapState) × (first : ℕ) × (listed : Bool) × (statuses : List Status) × AreMapLines mode ls state first listed statuses) ⊎ ((e : MapError) × MapLinesFault mode ls e)
+    → ((state : MapState) × (first : ℕ) × (listed : Bool) × (statuses : List Status)
+    × AreMapLines mode ls state first listed statuses) ⊎ ((e : MapError) × MapLinesFault mode ls e)
 lines_or_fault mode [] = inr (NoStatusLine, refl)
 lines_or_fault mode (l ∷ ls) =
     elim (state_by_spelling l (state_of l.fields) refl) [

@@ -32,7 +32,8 @@ block_is_fine l b e p f =
           omega (arith, p.end, to, x.3)
     ]
 
-place_is_fine : (mode : Mode) (end end' : ℕ) (l : Line) (b c : Block) (gap : List Status) (e : MapError) → end ≡ end' → b ≡ c → IsGap mode end b.pos gap → PlaceFault mode end' l c e → ⊥
+place_is_fine : (mode : Mode) (end end' : ℕ) (l : Line) (b c : Block) (gap : List Status) (e : MapError) → end ≡ end'
+    → b ≡ c → IsGap mode end b.pos gap → PlaceFault mode end' l c e → ⊥
 place_is_fine Tight end end' l b c gap e q same p f =
     let at : b.pos ≡ c.pos = cc in
     elim f [ inl x ↦ omega arith | inr x ↦ omega arith ]
@@ -40,7 +41,8 @@ place_is_fine (Loose status) end end' l b c gap e q same p f =
     let at : b.pos ≡ c.pos = cc in
     omega arith
 
-continue_fine : (mode : Mode) (end end' : ℕ) (ls : List Line) (s : List Status) (e : MapError) → end ≡ end' → Continues mode end ls s → ContinuesFault mode end' ls e → ⊥
+continue_fine : (mode : Mode) (end end' : ℕ) (ls : List Line) (s : List Status) (e : MapError) → end ≡ end'
+    → Continues mode end ls s → ContinuesFault mode end' ls e → ⊥
 continue_fine mode end end' [] s e q p f = f
 continue_fine mode end end' (l ∷ ls) s e q p f =
     elim f [
@@ -52,7 +54,8 @@ continue_fine mode end end' (l ∷ ls) s e q p f =
           continue_fine mode (p.0.pos + p.0.size) (x.0.pos + x.0.size) ls p.2 e to p.6 x.4
     ]
 
-lists_fine : (mode : Mode) (ls : List Line) (first : ℕ) (listed : Bool) (s : List Status) (e : MapError) → Lists mode ls first listed s → ListsFault mode ls e → ⊥
+lists_fine : (mode : Mode) (ls : List Line) (first : ℕ) (listed : Bool) (s : List Status) (e : MapError)
+    → Lists mode ls first listed s → ListsFault mode ls e → ⊥
 lists_fine mode [] first listed s e p f = f
 lists_fine mode (l ∷ ls) first listed s e p f =
     elim f [
@@ -63,7 +66,8 @@ lists_fine mode (l ∷ ls) first listed s e p f =
           continue_fine mode (p.0.pos + p.0.size) (x.0.pos + x.0.size) ls p.1 e to p.6 x.2
     ]
 
-lines_fine : (mode : Mode) (ls : List Line) (state : MapState) (first : ℕ) (listed : Bool) (s : List Status) (e : MapError) → AreMapLines mode ls state first listed s → MapLinesFault mode ls e → ⊥
+lines_fine : (mode : Mode) (ls : List Line) (state : MapState) (first : ℕ) (listed : Bool) (s : List Status)
+    (e : MapError) → AreMapLines mode ls state first listed s → MapLinesFault mode ls e → ⊥
 lines_fine mode [] state first listed s e p f = p
 lines_fine mode (l ∷ ls) state first listed s e p f =
     elim f [
@@ -88,7 +92,8 @@ block_fault_once l e e' f g =
       | inr x ↦ elim g [ inl y ↦ let h = x.2 in let k = y.1 in cc | inr y ↦ x.0 ∙ sym y.0 ]
     ]
 
-place_fault_once : (mode : Mode) (end end' : ℕ) (l : Line) (b c : Block) (e e' : MapError) → end ≡ end' → b ≡ c → PlaceFault mode end l b e → PlaceFault mode end' l c e' → e ≡ e'
+place_fault_once : (mode : Mode) (end end' : ℕ) (l : Line) (b c : Block) (e e' : MapError) → end ≡ end' → b ≡ c
+    → PlaceFault mode end l b e → PlaceFault mode end' l c e' → e ≡ e'
 place_fault_once Tight end end' l b c e e' q same f g =
     let at : b.pos ≡ c.pos = cc in
     elim f [
@@ -97,7 +102,8 @@ place_fault_once Tight end end' l b c e e' q same f g =
     ]
 place_fault_once (Loose status) end end' l b c e e' q same f g = f.0 ∙ sym g.0
 
-continue_fault_once : (mode : Mode) (end end' : ℕ) (ls : List Line) (e e' : MapError) → end ≡ end' → ContinuesFault mode end ls e → ContinuesFault mode end' ls e' → e ≡ e'
+continue_fault_once : (mode : Mode) (end end' : ℕ) (ls : List Line) (e e' : MapError) → end ≡ end'
+    → ContinuesFault mode end ls e → ContinuesFault mode end' ls e' → e ≡ e'
 continue_fault_once mode end end' [] e e' q f g = absurd f
 continue_fault_once mode end end' (l ∷ ls) e e' q f g =
     elim f [

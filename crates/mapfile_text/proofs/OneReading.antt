@@ -15,7 +15,8 @@ state_is_one l s t p q = let e = p.spells in let f = q.spells in cc
 pub block_is_one : (l : Line) (b c : Block) → IsBlockLine l b → IsBlockLine l c → b ≡ c
 block_is_one l b c p q = let e = p.spells in let f = q.spells in cc
 
-pub gap_is_one : (mode : Mode) (end end' pos pos' : ℕ) (gap gap' : List Status) → end ≡ end' → pos ≡ pos' → IsGap mode end pos gap → IsGap mode end' pos' gap' → gap ≡ gap'
+pub gap_is_one : (mode : Mode) (end end' pos pos' : ℕ) (gap gap' : List Status) → end ≡ end' → pos ≡ pos'
+    → IsGap mode end pos gap → IsGap mode end' pos' gap' → gap ≡ gap'
 gap_is_one Tight end end' pos pos' gap gap' e f p q = p.1 ∙ sym q.1
 gap_is_one (Loose status) end end' pos pos' gap gap' e f p q = cc
 

@@ -14,7 +14,8 @@ use Rattle.mapfile_text.specs.MapText.{IsBlockLine, IsGap, Continues, Lists, Blo
 use Rattle.mapfile_text.specs.Reading.{gap_of, filling}
 
 -- the lines that are left make these of a map that lists these statuses so far
-abbrev Reads : Mode → (listed : Bool) → (first : ℕ) → (statuses : List Status) → List Line → (first' : ℕ) → (listed' : Bool) → (statuses' : List Status) → Type 0
+abbrev Reads : Mode → (listed : Bool) → (first : ℕ) → (statuses : List Status) → List Line → (first' : ℕ)
+    → (listed' : Bool) → (statuses' : List Status) → Type 0
 Reads mode false first statuses ls first' listed' statuses' = Lists mode ls first' listed' statuses'
 Reads mode true first statuses ls first' listed' statuses' =
     (rest : List Status) × (first' ≡ first) × (listed' ≡ true) × (statuses' ≡ statuses ++ rest) × Continues mode (length statuses) ls rest
@@ -26,32 +27,46 @@ Faults mode true statuses ls e = ContinuesFault mode (length statuses) ls e
 
 -- all lines come to what the lines that are left make of the map so far
 pub record Goes (mode : Mode) (all : List Line) (listed : Bool) (first : ℕ) (statuses : List Status) (ls : List Line) : Type 0 where
-  reads : (first' : ℕ) (listed' : Bool) (statuses' : List Status) → Reads mode listed first statuses ls first' listed' statuses' → Lists mode all first' listed' statuses'
+  reads : (first' : ℕ) (listed' : Bool) (statuses' : List Status)
+      → Reads mode listed first statuses ls first' listed' statuses' → Lists mode all first' listed' statuses'
   faults : (e : MapError) → Faults mode listed statuses ls e → ListsFault mode all e
   pub blank : listed ≡ false → (first ≡ 0) × (statuses ≡ [])
 
-pub goes-begin : (mode : Mode) (all : List Line) (listed : Bool) (first : ℕ) (statuses : List Status) → listed ≡ false → first ≡ 0 → statuses ≡ [] → Goes mode all listed first statuses all
+pub goes-begin : (mode : Mode) (all : List Line) (listed : Bool) (first : ℕ) (statuses : List Status) → listed ≡ false
+    → first ≡ 0 → statuses ≡ [] → Goes mode all listed first statuses all
 goes-begin mode all true first statuses l f s = absurd (cc)
 goes-begin mode all false first statuses l f s = record { reads = λ first' listed' statuses' h. h; faults = λ e h. h; blank = λ _. (f, s) }
 
-pub goes-end : {mode : Mode} {all : List Line} {first : ℕ} {statuses : List Status} (listed : Bool) → Goes mode all listed first statuses [] → Lists mode all first listed statuses
+pub goes-end : {mode : Mode} {all : List Line} {first : ℕ} {statuses : List Status} (listed : Bool)
+    → Goes mode all listed first statuses [] → Lists mode all first listed statuses
 goes-end {first = first} {statuses = statuses} false g = let at = g.blank refl in g.reads first false statuses (at.0, refl, at.1)
 goes-end {first = first} {statuses = statuses} true g = g.reads first true statuses ([], refl, refl, sym (append-nil statuses), refl)
 
-pub goes-bad_block : {mode : Mode} {all : List Line} {first : ℕ} {statuses : List Status} {l : Line} {ls : List Line} (e : MapError) (listed : Bool) → Goes mode all listed first statuses (l ∷ ls) → BlockFault l e → ListsFault mode all e
+pub goes-bad_block : {mode : Mode} {all : List Line} {first : ℕ} {statuses : List Status} {l : Line} {ls : List Line}
+    (e : MapError) (listed : Bool) → Goes mode all listed first statuses (l ∷ ls) → BlockFault l e
+    → ListsFault mode all e
 goes-bad_block e false g b = g.faults e (inl b)
 goes-bad_block e true g b = g.faults e (inl b)
 
-pub goes-bad_place : {mode : Mode} {all : List Line} {first : ℕ} {statuses : List Status} {l : Line} {ls : List Line} {block : Block} (e : MapError) (listed : Bool)
+pub goes-bad_place : {mode : Mode} {all : List Line} {first : ℕ} {statuses : List Status} {l : Line} {ls : List Line}
+    {block : Block} (e : MapError) (listed : Bool)
     → Goes mode all listed first statuses (l ∷ ls) → listed ≡ true → IsBlockLine l block → PlaceFault mode (length statuses) l block e → ListsFault mode all e
 goes-bad_place e false g t b p = absurd (false≢true t)
 goes-bad_place {block = block} e true g t b p = g.faults e (inr (inl (block, b, p)))
 
-end-of_gap : (mode : Mode) (end pos : ℕ) (block : Block) → pos ≡ block.pos → IsGap mode end pos (gap_of mode end pos) → (statuses : List Status) → length statuses ≡ end
+end-of_gap : (mode : Mode) (end pos : ℕ) (block : Block) → pos ≡ block.pos → IsGap mode end pos (gap_of mode end pos)
+    → (statuses : List Status) → length statuses ≡ end
     → length (statuses ++ (gap_of mode end pos ++ covered block)) ≡ block.pos + block.size
 end-of_gap Tight end pos block e g statuses long = omega (arith, length-append statuses ([] ++ covered block), length-replicate block.size block.status, g.0)
 end-of_gap (Loose status) end pos block e g statuses long =
-    omega (arith, length-append statuses (replicate (pos - end) status ++ covered block), length-append (replicate (pos - end) status) (covered block), length-replicate (pos - end) status, length-replicate block.size block.status, g.0)
+    omega (
+      arith,
+      length-append statuses (replicate (pos - end) status ++ covered block),
+      length-append (replicate (pos - end) status) (covered block),
+      length-replicate (pos - end) status,
+      length-replicate block.size block.status,
+      g.0,
+    )
 
 goes-on : {mode : Mode} {all : List Line} {l : Line} {ls : List Line} (listed : Bool) (first first' : ℕ) (statuses statuses' : List Status) (block : Block)
     → Goes mode all listed first statuses (l ∷ ls) → IsBlockLine l block
@@ -63,11 +78,17 @@ goes-on {mode = mode} {l = l} {ls = ls} false first first' statuses statuses' bl
     let none : statuses ≡ [] = (g.blank refl).1 in
     let whole : statuses' ≡ replicate block.pos NonTried ++ covered block = s ∙ ap (λ ss. ss ++ (replicate block.pos NonTried ++ covered block)) none in
     let end : length statuses' ≡ block.pos + block.size =
-    ap length whole ∙ omega (arith, length-append (replicate block.pos NonTried) (covered block), length-replicate block.pos NonTried, length-replicate block.size block.status) in
+    ap length whole ∙ omega (
+      arith,
+      length-append (replicate block.pos NonTried) (covered block),
+      length-replicate block.pos NonTried,
+      length-replicate block.size block.status,
+    ) in
     let reads = λ (first'' : ℕ) (listed'' : Bool) (statuses'' : List Status) (h : Reads mode true first' statuses' ls first'' listed'' statuses'').
     let at : first'' ≡ block.pos = h.1 ∙ f in
     let all : statuses'' ≡ replicate first'' NonTried ++ (covered block ++ h.0) =
-    h.3 ∙ ap (λ ss. ss ++ h.0) whole ∙ append_assoc (replicate block.pos NonTried) (covered block) h.0 ∙ ap (λ n. replicate n NonTried ++ (covered block ++ h.0)) (sym at) in
+    h.3 ∙ ap (λ ss. ss ++ h.0) whole ∙ append_assoc (replicate block.pos NonTried) (covered block) h.0
+    ∙ ap (λ n. replicate n NonTried ++ (covered block ++ h.0)) (sym at) in
     g.reads first'' listed'' statuses'' (block, h.0, b, at, h.2, all, subst (λ (n : ℕ). Continues mode n ls h.0) end h.4) in
     let faults = λ (e : MapError) (h : Faults mode true statuses' ls e). g.faults e (inr (block, b, subst (λ (n : ℕ). ContinuesFault mode n ls e) end h)) in
     record { reads = reads; faults = faults; blank = λ t. absurd (false≢true (sym t)) }
@@ -77,12 +98,21 @@ goes-on {mode = mode} {l = l} {ls = ls} true first first' statuses statuses' blo
     let end : length statuses' ≡ block.pos + block.size = ap length s ∙ end-of_gap mode (length statuses) block.pos block refl allowed statuses refl in
     let reads = λ (first'' : ℕ) (listed'' : Bool) (statuses'' : List Status) (h : Reads mode true first' statuses' ls first'' listed'' statuses'').
     let more : statuses'' ≡ statuses ++ (between ++ (covered block ++ h.0)) =
-    h.3 ∙ ap (λ ss. ss ++ h.0) s ∙ append_assoc statuses (between ++ covered block) h.0 ∙ ap (λ ss. statuses ++ ss) (append_assoc between (covered block) h.0) in
-    g.reads first'' listed'' statuses'' (between ++ (covered block ++ h.0), h.1 ∙ f, h.2, more, (block, between, h.0, b, allowed, refl, subst (λ (n : ℕ). Continues mode n ls h.0) end h.4)) in
-    let faults = λ (e : MapError) (h : Faults mode true statuses' ls e). g.faults e (inr (inr (block, between, b, allowed, subst (λ (n : ℕ). ContinuesFault mode n ls e) end h))) in
+    h.3 ∙ ap (λ ss. ss ++ h.0) s ∙ append_assoc statuses (between ++ covered block) h.0
+    ∙ ap (λ ss. statuses ++ ss) (append_assoc between (covered block) h.0) in
+    g.reads first'' listed'' statuses'' (
+      between ++ (covered block ++ h.0),
+      h.1 ∙ f,
+      h.2,
+      more,
+      (block, between, h.0, b, allowed, refl, subst (λ (n : ℕ). Continues mode n ls h.0) end h.4),
+    ) in
+    let faults = λ (e : MapError) (h : Faults mode true statuses' ls e). g.faults e
+    (inr (inr (block, between, b, allowed, subst (λ (n : ℕ). ContinuesFault mode n ls e) end h))) in
     record { reads = reads; faults = faults; blank = λ t. absurd (false≢true (sym t)) }
 
-pub goes-next : {mode : Mode} {all : List Line} {l : Line} {ls : List Line} (listed listed' : Bool) (first first' : ℕ) (statuses statuses' : List Status) (block : Block)
+pub goes-next : {mode : Mode} {all : List Line} {l : Line} {ls : List Line} (listed listed' : Bool) (first first' : ℕ)
+    (statuses statuses' : List Status) (block : Block)
     → listed' ≡ true → Goes mode all listed first statuses (l ∷ ls) → IsBlockLine l block
     → (listed ≡ true → IsGap mode (length statuses) block.pos (gap_of mode (length statuses) block.pos))
     → first' ≡ cond listed first block.pos

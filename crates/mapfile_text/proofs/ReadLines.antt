@@ -22,7 +22,8 @@ comment_line n x rest h e =
     ap (λ ls. filter (λ l. not (says_nothing l.fields)) (numbered n ls)) (lines_ended x rest h) ∙ ap (λ v. cond (not v) first (said_from (n + 1) rest)) e
 
 -- a line that says something is the first that does
-pub said_line : (n : ℕ) (x rest : List ℕ) (fs : List (List ℕ)) → AllFrom 11 x → fields x ≡ fs → says_nothing fs ≡ false → said_from n (ended x ++ rest) ≡ record { number = n; fields = fs } ∷ said_from (n + 1) rest
+pub said_line : (n : ℕ) (x rest : List ℕ) (fs : List (List ℕ)) → AllFrom 11 x → fields x ≡ fs → says_nothing fs ≡ false
+    → said_from n (ended x ++ rest) ≡ record { number = n; fields = fs } ∷ said_from (n + 1) rest
 said_line n x rest fs h e f =
     let with : List (List ℕ) → Bool → List Line = λ fs v. cond (not v) (record { number = n; fields = fs } ∷ said_from (n + 1) rest) (said_from (n + 1) rest) in
     ap (λ ls. filter (λ l. not (says_nothing l.fields)) (numbered n ls)) (lines_ended x rest h) ∙ ap (λ fs. with fs (says_nothing fs)) e ∙ ap (with fs) f
@@ -45,14 +46,17 @@ comments_join a b p q = record {
       (second.0, ap (said_from n) (append_assoc a b rest) ∙ first.1 ∙ second.1);
 }
 
-kept : (x : List ℕ) (parts : List (List ℕ)) → 0 < length x → filter (λ f. not (nat_eq (length f) 0)) (x ∷ parts) ≡ x ∷ filter (λ f. not (nat_eq (length f) 0)) parts
+kept : (x : List ℕ) (parts : List (List ℕ)) → 0 < length x → filter (λ f. not (nat_eq (length f) 0)) (x ∷ parts)
+    ≡ x ∷ filter (λ f. not (nat_eq (length f) 0)) parts
 kept x parts l =
     let more : List (List ℕ) = filter (λ f. not (nat_eq (length f) 0)) parts in
     ap (λ v. cond (not v) (x ∷ more) more) (ne_eqb (length x) 0 (λ e. omega arith))
 
 -- a word and a blank behind it
 first_field : (x rest : List ℕ) → AllFrom 33 x → 0 < length x → fields (x ++ 32 ∷ rest) ≡ x ∷ fields rest
-first_field x rest h l = ap (filter (λ f. not (nat_eq (length f) 0))) (slice_split_at is_blank x 32 rest (no_blanks x h) refl) ∙ kept x (slice_split is_blank rest) l
+first_field x rest h l =
+    ap (filter (λ f. not (nat_eq (length f) 0))) (slice_split_at is_blank x 32 rest (no_blanks x h) refl)
+    ∙ kept x (slice_split is_blank rest) l
 
 last_field : (x : List ℕ) → AllFrom 33 x → 0 < length x → fields x ≡ x ∷ []
 last_field x h l = ap (filter (λ f. not (nat_eq (length f) 0))) (slice_split_none is_blank x (no_blanks x h)) ∙ kept x [] l

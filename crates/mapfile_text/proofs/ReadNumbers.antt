@@ -35,7 +35,8 @@ no_other : (base : ℕ) (ds : List ℕ) → AllDigits base ds → position (is_n
 no_other base ds d = none_past_end (prefix_len (λ c. not (is_no_digit base c)) ds) (length ds) (all_digits base ds d)
 
 -- digits in the base that the text begins with are a numeral
-numeral_of_digits : (c : ℕ) (cs ds : List ℕ) (base n : ℕ) → base_of (c ∷ cs) ≡ base → digits_of_text (c ∷ cs) ≡ ds → IsNumeral base ds → digits_value base ds ≡ n → n < 2 ^ 63 → numeral (c ∷ cs) ≡ Some n
+numeral_of_digits : (c : ℕ) (cs ds : List ℕ) (base n : ℕ) → base_of (c ∷ cs) ≡ base → digits_of_text (c ∷ cs) ≡ ds
+    → IsNumeral base ds → digits_value base ds ≡ n → n < 2 ^ 63 → numeral (c ∷ cs) ≡ Some n
 numeral_of_digits c cs ds base n b t d v small =
     let text : List ℕ = c ∷ cs in
     let place : position (is_no_digit (base_of text)) (digits_of_text text) ≡ None = rw (b, t) (no_other base ds d.1) in
@@ -61,7 +62,8 @@ hexadecimal_is_read n small =
     let zeros : ℕ = 8 - length ds in
     let k : IsNumeral 16 ds × (digits_value 16 ds ≡ n) = digits_is_IsNumeral 16 true (omega arith) (omega arith) n (omega arith) in
     let some : 0 < length (replicate zeros 48 ++ ds) = omega (arith, length-append (replicate zeros 48) ds, k.0.0) in
-    numeral_of_digits 48 (120 ∷ (replicate zeros 48 ++ ds)) (replicate zeros 48 ++ ds) 16 n refl refl (some, zeros_digits zeros ds k.0.1) (zeros_value zeros ds ∙ k.1) small
+    numeral_of_digits 48 (120 ∷ (replicate zeros 48 ++ ds)) (replicate zeros 48 ++ ds) 16 n refl refl
+    (some, zeros_digits zeros ds k.0.1) (zeros_value zeros ds ∙ k.1) small
 
 decimal_digits_are_read : (ds : List ℕ) (n : ℕ) → IsNumeral 10 ds → digits_value 10 ds ≡ n → 48 < get_or ds 0 0 → n < 2 ^ 63 → numeral ds ≡ Some n
 decimal_digits_are_read [] n d v first small = absurd (omega arith)
@@ -71,7 +73,8 @@ decimal_digits_are_read (c ∷ []) n d v first small =
 decimal_digits_are_read (c ∷ e ∷ ds) n d v first small =
     let no : nat_eq c 48 ≡ false = ne_eqb c 48 (λ e. omega arith) in
     let mark : Bool = nat_eq e 120 || nat_eq e 88 in
-    numeral_of_digits c (e ∷ ds) (c ∷ e ∷ ds) 10 n (ap (λ v. cond (v && mark) 16 (cond v 8 10)) no) (ap (λ v. drop (cond (v && mark) 2 0) (c ∷ e ∷ ds)) no) d v small
+    numeral_of_digits c (e ∷ ds) (c ∷ e ∷ ds) 10 n (ap (λ v. cond (v && mark) 16 (cond v 8 10)) no)
+    (ap (λ v. drop (cond (v && mark) 2 0) (c ∷ e ∷ ds)) no) d v small
 
 begins_with : (ds : List ℕ) → IsNumeral 10 ds → begins_with_digit ds ≡ true
 begins_with [] d = absurd (omega (arith, d.0))

@@ -10,8 +10,8 @@ use Rattle.block_list.specs.declared.block.Block.{Block}
 use Rattle.block_list.specs.Status.{symbol}
 use Rattle.block_list.specs.Stretches.{covered, stretches}
 use Rattle.block_list.specs.Tiling.{AreTiles}
-use Rattle.block_list.proofs.TileFacts.{tiles_end}
-use Rattle.block_list.proofs.StretchFacts.{stretches_tiles, stretches_covered}
+use Rattle.block_list.proofs.TileLemmas.{tiles_end}
+use Rattle.block_list.proofs.StretchLemmas.{stretches_tiles, stretches_covered}
 use Rattle.mapfile_text.specs.declared.heading.Program.{Program}
 use Rattle.mapfile_text.specs.declared.heading.Program.TheVariants.{Ddrescue, Ddrescuelog}
 use Rattle.mapfile_text.specs.declared.state.MapState.{MapState}
@@ -39,8 +39,12 @@ blanks n = All-replicate (λ b. 11 ≤ b) n 32 (omega arith)
 -- The lines of the heading are comments.
 
 program_is_comment : (p : Program) → IsComment (program_line p)
-program_is_comment Ddrescue = comment (codes "# Mapfile. Created by " ++ codes "ddrescue") (from_test 11 (codes "# Mapfile. Created by " ++ codes "ddrescue") refl) refl
-program_is_comment Ddrescuelog = comment (codes "# Mapfile. Created by " ++ codes "ddrescuelog") (from_test 11 (codes "# Mapfile. Created by " ++ codes "ddrescuelog") refl) refl
+program_is_comment Ddrescue =
+    comment (codes "# Mapfile. Created by " ++ codes "ddrescue")
+    (from_test 11 (codes "# Mapfile. Created by " ++ codes "ddrescue") refl) refl
+program_is_comment Ddrescuelog =
+    comment (codes "# Mapfile. Created by " ++ codes "ddrescuelog")
+    (from_test 11 (codes "# Mapfile. Created by " ++ codes "ddrescuelog") refl) refl
 
 command_is_comment : (line : List ℕ) → IsComment (command_line line)
 command_is_comment line =
@@ -53,7 +57,8 @@ times_are_comments Ddrescue start now h k =
     let s : List ℕ = codes "# Start time:   " in
     let c : List ℕ = codes "# Current time: " in
     comments_join (ended (s ++ decimal start)) (ended (c ++ decimal now))
-    (comment (s ++ decimal start) (joined_from s (decimal start) (from_test 11 s refl) (from_lower 11 33 (decimal start) (omega arith) (decimal_from start h))) refl)
+    (comment (s ++ decimal start) (joined_from s (decimal start) (from_test 11 s refl)
+    (from_lower 11 33 (decimal start) (omega arith) (decimal_from start h))) refl)
     (comment (c ++ decimal now) (joined_from c (decimal now) (from_test 11 c refl) (from_lower 11 33 (decimal now) (omega arith) (decimal_from now k))) refl)
 
 heading_is_comment : (h : HeadingLines) → h.start_s < 2 ^ 64 → h.now_s < 2 ^ 64 → IsComment (heading_text h)
@@ -63,7 +68,9 @@ heading_is_comment h p q =
     (times_are_comments h.program h.start_s h.now_s p q)
 
 state_columns_are_comment : IsComment (ended (codes "# current_pos  current_status  current_pass"))
-state_columns_are_comment = comment (codes "# current_pos  current_status  current_pass") (from_test 11 (codes "# current_pos  current_status  current_pass") refl) refl
+state_columns_are_comment =
+    comment (codes "# current_pos  current_status  current_pass")
+    (from_test 11 (codes "# current_pos  current_status  current_pass") refl) refl
 
 block_columns_are_comment : IsComment (ended (codes "#      pos        size  status"))
 block_columns_are_comment = comment (codes "#      pos        size  status") (from_test 11 (codes "#      pos        size  status") refl) refl
@@ -72,7 +79,8 @@ block_columns_are_comment = comment (codes "#      pos        size  status") (fr
 abbrev state_parts : MapState → List (List ℕ)
 state_parts s = hexadecimal s.pos ∷ (current_symbol s.current ∷ []) ∷ decimal s.pass ∷ []
 
-state_is_said : (s : MapState) (n : ℕ) (rest : List ℕ) → s.pos < 2 ^ 63 → s.pass < 2 ^ 32 → said_from n (state_line s ++ rest) ≡ record { number = n; fields = state_parts s } ∷ said_from (n + 1) rest
+state_is_said : (s : MapState) (n : ℕ) (rest : List ℕ) → s.pos < 2 ^ 63 → s.pass < 2 ^ 32
+    → said_from n (state_line s ++ rest) ≡ record { number = n; fields = state_parts s } ∷ said_from (n + 1) rest
 state_is_said s n rest p q =
     let x : List ℕ = hexadecimal s.pos in
     let c : ℕ = current_symbol s.current in
@@ -82,7 +90,8 @@ state_is_said s n rest p q =
     let bytes : AllFrom 11 (x ++ replicate 5 32 ++ c ∷ [] ++ replicate 15 32 ++ d) =
     joined_from (x ++ replicate 5 32 ++ c ∷ [] ++ replicate 15 32) d
     (joined_from (x ++ replicate 5 32 ++ c ∷ []) (replicate 15 32)
-    (joined_from (x ++ replicate 5 32) (c ∷ []) (joined_from x (replicate 5 32) (from_lower 11 33 x (omega arith) hx) (blanks 5)) (byte_from c (current_symbol_from s.current)))
+    (joined_from (x ++ replicate 5 32) (c ∷ []) (joined_from x (replicate 5 32) (from_lower 11 33 x (omega arith) hx)
+    (blanks 5)) (byte_from c (current_symbol_from s.current)))
     (blanks 15))
     (from_lower 11 33 d (omega arith) hd) in
     said_line n (x ++ replicate 5 32 ++ c ∷ [] ++ replicate 15 32 ++ d) rest (state_parts s) bytes
@@ -100,7 +109,8 @@ state_is_read s n p some q =
 abbrev block_parts : Block → List (List ℕ)
 block_parts b = hexadecimal b.pos ∷ hexadecimal b.size ∷ (symbol b.status ∷ []) ∷ []
 
-block_is_said : (b : Block) (n : ℕ) (rest : List ℕ) → b.pos + b.size < 2 ^ 63 → said_from n (block_line b ++ rest) ≡ record { number = n; fields = block_parts b } ∷ said_from (n + 1) rest
+block_is_said : (b : Block) (n : ℕ) (rest : List ℕ) → b.pos + b.size < 2 ^ 63
+    → said_from n (block_line b ++ rest) ≡ record { number = n; fields = block_parts b } ∷ said_from (n + 1) rest
 block_is_said b n rest h =
     let x : List ℕ = hexadecimal b.pos in
     let y : List ℕ = hexadecimal b.size in
@@ -137,7 +147,8 @@ no_gap (Loose status) end pos e =
     let none : pos - end ≡ 0 = omega arith in
     (omega arith, ap (λ n. replicate n status) (sym none))
 
-blocks_continue : (mode : Mode) (low at end n : ℕ) (bs : List Block) → AreTiles low bs end → end < 2 ^ 63 → at ≡ low → Continues mode at (said_from n (flat_map block_line bs)) (flat_map covered bs)
+blocks_continue : (mode : Mode) (low at end n : ℕ) (bs : List Block) → AreTiles low bs end → end < 2 ^ 63 → at ≡ low
+    → Continues mode at (said_from n (flat_map block_line bs)) (flat_map covered bs)
 blocks_continue mode low at end n [] t h e = refl
 blocks_continue mode low at end n (b ∷ bs) t h e =
     let ends : end ≡ low + b.size + length (flat_map covered bs) = tiles_end (low + b.size) bs end t.2 in
@@ -153,7 +164,8 @@ blocks_continue mode low at end n (b ∷ bs) t h e =
       blocks_continue mode (low + b.size) (b.pos + b.size) end (n + 1) bs t.2 h (omega arith),
     )
 
-blocks_are_read : (mode : Mode) (bs : List Block) (n end : ℕ) → AreTiles 0 bs end → end < 2 ^ 63 → Lists mode (said_from n (flat_map block_line bs)) 0 (not (nat_eq end 0)) (flat_map covered bs)
+blocks_are_read : (mode : Mode) (bs : List Block) (n end : ℕ) → AreTiles 0 bs end → end < 2 ^ 63
+    → Lists mode (said_from n (flat_map block_line bs)) 0 (not (nat_eq end 0)) (flat_map covered bs)
 blocks_are_read mode [] n end t h = (refl, ap (λ m. not (nat_eq m 0)) t, refl)
 blocks_are_read mode (b ∷ bs) n end t h =
     let ends : end ≡ 0 + b.size + length (flat_map covered bs) = tiles_end (0 + b.size) bs end t.2 in
@@ -171,12 +183,14 @@ blocks_are_read mode (b ∷ bs) n end t h =
       blocks_continue mode (0 + b.size) (b.pos + b.size) end (n + 1) bs t.2 h (omega arith),
     )
 
-statuses_are_read : (mode : Mode) (statuses : List Status) (n : ℕ) → length statuses < 2 ^ 63 → Lists mode (said_from n (flat_map block_line (stretches statuses))) 0 (not (nat_eq (length statuses) 0)) statuses
+statuses_are_read : (mode : Mode) (statuses : List Status) (n : ℕ) → length statuses < 2 ^ 63
+    → Lists mode (said_from n (flat_map block_line (stretches statuses))) 0 (not (nat_eq (length statuses) 0)) statuses
 statuses_are_read mode statuses n h =
     let bs : List Block = stretches statuses in
     let same : 0 + length statuses ≡ length statuses = omega arith in
     let tiles : AreTiles 0 bs (length statuses) = subst (AreTiles 0 bs) same (stretches_tiles 0 statuses) in
-    subst (Lists mode (said_from n (flat_map block_line bs)) 0 (not (nat_eq (length statuses) 0))) (stretches_covered 0 statuses) (blocks_are_read mode bs n (length statuses) tiles h)
+    subst (Lists mode (said_from n (flat_map block_line bs)) 0 (not (nat_eq (length statuses) 0)))
+    (stretches_covered 0 statuses) (blocks_are_read mode bs n (length statuses) tiles h)
 
 -- a status line between comments, and block lines behind them
 text_is_read : (mode : Mode) (a b c d : List ℕ) (state : MapState) (listed : Bool) (statuses : List Status) → IsComment a → IsComment b → IsComment c
@@ -196,7 +210,8 @@ text_is_read mode a b c d state listed statuses p q r hp some hq lists =
 
 pub printed_is_read : PrintedIsRead
 printed_is_read heading state statuses mode start now pos some pass short = record {
-  reads = text_is_read mode (heading_text heading) (ended (codes "# current_pos  current_status  current_pass")) (ended (codes "#      pos        size  status"))
+  reads = text_is_read mode (heading_text heading) (ended (codes "# current_pos  current_status  current_pass"))
+      (ended (codes "#      pos        size  status"))
       (flat_map block_line (stretches statuses)) state (not (nat_eq (length statuses) 0)) statuses
       (heading_is_comment heading start now) state_columns_are_comment block_columns_are_comment pos some pass (λ n. statuses_are_read mode statuses n short);
 }

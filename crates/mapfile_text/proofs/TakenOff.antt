@@ -1,5 +1,5 @@
 -- What is taken off the front of a text, in as much as there is room for.
-use Rattle.std.proofs.Common.{◌≡◌, ◌⊎◌, ℕ, ◌+◌, ◌-◌, ◌<◌, ◌≤◌, List, [], ◌++◌, length, take, drop, arith, sym, ap, ◌∙◌, inl, inr, append_assoc}
+use Rattle.std.proofs.Common.{◌≡◌, ◌⊎◌, ℕ, ◌+◌, ◌-◌, ◌<◌, ◌≤◌, List, [], ◌++◌, length, take, drop, arith, sym, ap, ◌∙◌, inl, inr}
 use Rattle.std.proofs.Math.Seq.{drop-append-add}
 use Rattle.std.proofs.lemmas.List.{append-nil, take_all, drop_all, take-append-le, drop-append-le, take-append-drop, drop-drop, length-drop, take_at, drop_at}
 
@@ -41,10 +41,3 @@ rest_is out rest whole n e l (inl f) = sym (drop_at out rest n f) ∙ ap (drop n
 rest_is out rest whole n e l (inr f) =
     let g : out ≡ whole = sym (append-nil out) ∙ ap (λ r. out ++ r) (sym f) ∙ e in
     f ∙ sym (drop_all n out l) ∙ ap (drop n) g
-
--- a piece that goes from what is left to the end of what was taken
-pub piece_moved : (text text' piece left left' whole : List ℕ) (n : ℕ)
-    → text' ≡ text ++ piece → piece ≡ take n left → left' ≡ drop n left → text ++ left ≡ whole → text' ++ left' ≡ whole
-piece_moved text text' piece left left' whole n e p l w =
-    ap (λ t. t ++ left') e ∙ append_assoc text piece left' ∙ ap (λ q. text ++ (q ++ left')) p ∙ ap (λ r. text ++ (take n left ++ r)) l
-    ∙ ap (λ r. text ++ r) (take-append-drop n left) ∙ w

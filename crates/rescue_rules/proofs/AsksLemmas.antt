@@ -12,7 +12,7 @@ use Rattle.rescue_rules.specs.Setting.{Setting, IsSensible}
 use Rattle.rescue_rules.specs.Requests.{IsWanted, IsSpent}
 use Rattle.rescue_rules.specs.Run.{status_of, marked_by, map_after, cursor_after, IsNext, IsRun}
 use Rattle.rescue_rules.specs.RunLaws.{Asks, RunsOver, RunAsksOnce}
-use Rattle.rescue_rules.proofs.RunLemmas.{Within, next_within, next_inside, next_outside, wanted_before}
+use Rattle.rescue_rules.proofs.RunLemmas.{LiesWithin, next_within, next_inside, next_outside, wanted_before}
 
 -- what was wanted behind a read is wanted after it
 wanted_after : (s : Setting) (ok : IsSensible s) (map : List Status) (cursor : ℕ) (r : Reading) (x : ℕ)
@@ -26,7 +26,7 @@ reads_behind : (s : Setting) (ok : IsSensible s) (map : List Status) (cursor : �
 reads_behind s ok map cursor [] i r run is = absurd (cc)
 reads_behind s ok map cursor (q ∷ qs) zero r run is = rw (← same_Some q r is) run.0.request.first.after
 reads_behind s ok map cursor (q ∷ qs) (suc i) r run is =
-    let w : Within s map cursor q.pos (q.pos + q.asked) = next_within s ok map cursor q run.0 in
+    let w : LiesWithin s map cursor q.pos (q.pos + q.asked) = next_within s ok map cursor q run.0 in
     omega (arith, w.after, w.some, reads_behind s ok (marked_by map q) (q.pos + q.asked) qs i r run.1 is)
 
 -- a run asks for nothing before its cursor

@@ -1,17 +1,18 @@
 -- What a stop may show behind the barrier, and what one before it may have left.
-use Rattle.std.proofs.Common.{◌≡◌, ℕ, true, List, Option, Some, None, refl, sym, ◌∙◌, ap, subst, arith}
+use Rattle.std.proofs.Common.{◌≡◌, ℕ, true, List, Option, Some, None, refl, sym, ◌∙◌, ap}
 use Rattle.std.specs.Str.{bytes_eq}
 use Rattle.std.proofs.lemmas.Bool.{cond-true}
 use Rattle.crash_site.specs.Files.{File, empty_file, bytes_of}
 use Rattle.crash_site.specs.Calls.{Done, image_open, image_sync, map_settle}
 use Rattle.crash_site.specs.Folder.{Folder, opened}
-use Rattle.crash_site.specs.Disk.{Showing, Disk, only, entered}
+use Rattle.crash_site.specs.Disk.{Disk, only, entered}
 use Rattle.crash_site.specs.Left.{Leaves}
 use Rattle.crash_site.proofs.DiskLemmas.{reads_step}
 use Rattle.crash_site.proofs.LawLemmas.{Sure, own_name, done_other, sure_step, sure_synced}
 use Rattle.rescue_rules.specs.Setting.{Setting}
 use Rattle.rescue_rules.specs.Laws.{AreThreeNames}
-use Rattle.rescue_rules.proofs.DiskStages.{Scene, Stood, stood_only, Calm, put_own}
+use Rattle.rescue_rules.specs.RunStops.{Rests}
+use Rattle.rescue_rules.proofs.SaveStages.{put_own}
 
 -- an output once it was opened
 abbrev pub opened_file : Option File → File
@@ -52,25 +53,36 @@ settled_map s d three =
       reads = stood;
     }
 
-pub barrier_calm : (c : Scene) (d : Disk) → AreThreeNames c.s → Leaves d d.reads.files
-    → d.reads.files c.s.names.map ≡ c.map0
-    → opened_file (d.reads.files c.s.outfile) ≡ c.old → Calm c 0 c.old (at_barrier c.s d)
-barrier_calm c d three sound map_is old_is =
-    let image : (at_settle c.s d).reads.image ≡ Some c.s.outfile
-    = opened_image d.reads c.s.outfile (d.reads.files c.s.outfile) in
-    let reads : (at_settle c.s d).reads.files c.s.outfile ≡ Some c.old
-    = opened_own d.reads c.s.outfile (d.reads.files c.s.outfile) refl ∙ ap (λ (f : File). Some f) old_is in
-    let shows : (at_barrier c.s d).shows c.s.outfile ≡ only (Some c.old)
-    = sure_synced (at_settle c.s d) (at_settle c.s d).reads.image c.s.outfile image ∙ ap only reads in
+-- behind the barrier the output and the mapfile are durable as they read
+pub barrier_rests : (s : Setting) (d : Disk) → AreThreeNames s → Leaves d d.reads.files → Rests s (at_barrier s d)
+barrier_rests s d three sound =
+    let image : (at_settle s d).reads.image ≡ Some s.outfile
+    = opened_image d.reads s.outfile (d.reads.files s.outfile) in
+    let reads : (at_settle s d).reads.files s.outfile ≡ Some (opened_file (d.reads.files s.outfile))
+    = opened_own d.reads s.outfile (d.reads.files s.outfile) refl in
+    let map : Sure (at_barrier s d) s.names.map (d.reads.files s.names.map)
+    = sure_step (at_settle s d) (Done image_sync) s.names.map (d.reads.files s.names.map) (λ no. no)
+    (settled_map s d three) in
     record {
       image = image;
-      map = subst (λ (f : Option File). Sure (at_barrier c.s d) c.s.names.map f) map_is
-          (sure_step (at_settle c.s d) (Done image_sync) c.s.names.map (d.reads.files c.s.names.map) (λ no. no)
-          (settled_map c.s d three));
-      output = subst (λ (v : Showing). Stood c 0 v) (sym shows)
-          (stood_only c 0 c.old (record { longer = omega arith; stands = λ y lt apart. refl; unwritten = λ e. refl }));
+      mapfile = map.shows ∙ ap only (sym map.reads);
+      file = opened_file (d.reads.files s.outfile);
       reads = reads;
-      sound = reads_step (at_settle c.s d) (Done image_sync)
-          (reads_step (at_open c.s d) (Done (map_settle c.s.names.map))
-          (reads_step d (Done (image_open c.s.outfile true)) sound));
+      output = sure_synced (at_settle s d) (at_settle s d).reads.image s.outfile image ∙ ap only reads;
+      sound = reads_step (at_settle s d) (Done image_sync)
+          (reads_step (at_open s d) (Done (map_settle s.names.map))
+          (reads_step d (Done (image_open s.outfile true)) sound));
     }
+
+-- what reads behind it is what read before, but that an absent output was made
+pub barrier_mapfile : (s : Setting) (d : Disk) → AreThreeNames s
+    → (at_barrier s d).reads.files s.names.map ≡ d.reads.files s.names.map
+barrier_mapfile s d three =
+    (sure_step (at_settle s d) (Done image_sync) s.names.map (d.reads.files s.names.map) (λ no. no)
+    (settled_map s d three)).reads
+
+pub barrier_output : (s : Setting) (d : Disk)
+    → bytes_of ((at_barrier s d).reads.files s.outfile) ≡ bytes_of (d.reads.files s.outfile)
+barrier_output s d =
+    ap bytes_of (opened_own d.reads s.outfile (d.reads.files s.outfile) refl)
+    ∙ opened_bytes (d.reads.files s.outfile)

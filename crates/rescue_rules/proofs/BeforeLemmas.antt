@@ -12,7 +12,7 @@ use Rattle.rescue_rules.specs.Setting.{Setting}
 use Rattle.rescue_rules.specs.Work.{opening_calls}
 use Rattle.rescue_rules.specs.Stops.{Behind, CouldBefore, has_barrier}
 use Rattle.rescue_rules.proofs.CutLemmas.{Cut}
-use Rattle.rescue_rules.proofs.DiskStages.{put_own}
+use Rattle.rescue_rules.proofs.SaveStages.{put_own}
 use Rattle.rescue_rules.proofs.BarrierLemmas.{at_open, at_settle}
 
 -- the disk that the calls before a rescue have made

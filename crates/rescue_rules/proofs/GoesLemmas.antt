@@ -1,20 +1,28 @@
 -- The calls of a rescue are a cut of one list: its opening, its load, its writes, and its save.
-use Rattle.std.proofs.Common.{◌≡◌, ◌⊎◌, inl, inr, ⊎_elim, ℕ, true, List, [], ◌∷◌, ◌++◌, map, Option, None, sym, ◌∙◌, ap, subst, append_assoc, append-nil}
+use Rattle.std.proofs.Common.{◌≡◌, ◌⊎◌, inl, inr, ⊎_elim, ℕ, ◌+◌, ◌*◌, ◌≤◌, List, [], ◌∷◌, ◌++◌, length, drop, map, Option, None, refl, sym, ◌∙◌, ap, subst, arith, append_assoc, append-nil, length-drop}
+use Rattle.std.specs.List.{flat_map}
 use Rattle.std.proofs.lemmas.List.{map-append}
-use Rattle.std.proofs.lemmas.Bool.{cond-true}
+use Rattle.std.proofs.lemmas.List.Elements.{All-nil}
 use Rattle.std.proofs.lemmas.Grind.{flat_map-append}
 use Rattle.block_list.specs.declared.status.Status.{Status}
-use Rattle.faulty_source.specs.Journal.{Reading, is_whole}
+use Rattle.mapfile_text.specs.declared.state.MapState.{MapState}
+use Rattle.faulty_source.specs.Journal.{Reading}
 use Rattle.crash_site.specs.declared.site.SiteCall.{SiteCall}
 use Rattle.crash_site.specs.declared.site.SiteCall.TheVariants.{MapRead as MapReadName}
 use Rattle.crash_site.specs.declared.site.MapRead.{MapRead}
 use Rattle.crash_site.specs.Files.{File}
-use Rattle.crash_site.specs.Calls.{Call, Entry, Done, Lost, BrokeAt, image_write, map_read}
+use Rattle.crash_site.specs.Calls.{Call, Entry, Done, Lost, BrokeAt, map_read}
 use Rattle.save_resume.specs.Loading.{piece_size, piece_reads, BeginsLoad}
-use Rattle.rescue_rules.specs.Setting.{Setting, place}
+use Rattle.rescue_rules.specs.declared.stop.RunEnd.{RunEnd}
+use Rattle.rescue_rules.specs.Setting.{Setting}
 use Rattle.rescue_rules.specs.Start.{Stands}
-use Rattle.rescue_rules.specs.Run.{IsRun, write_of, writes_of}
-use Rattle.rescue_rules.specs.Work.{Gain, end_calls, RunEnd, Runs, IsSaved, IsLost, IsStarved, IsUnwritten, IsUnsaved, opening_calls, Goes, InOpening, InLoad, InRun}
+use Rattle.rescue_rules.specs.Machine.{Machine}
+use Rattle.rescue_rules.specs.Step.{Event}
+use Rattle.rescue_rules.specs.Moves.{Move, move_of, moves, state_after, IsMove, IsRun}
+use Rattle.rescue_rules.specs.Events.{with_times, events_of, reads_of as reads_of_events}
+use Rattle.rescue_rules.specs.RunCalls.{move_calls, run_calls, end_calls}
+use Rattle.rescue_rules.specs.Work.{Gain, begins, events_in, Ends, IsSaved, IsUnsaved, IsBroken, opening_calls, Goes, InOpening, InLoad, InRun}
+use Rattle.rescue_rules.proofs.MoveLemmas.{moves_more}
 use Rattle.rescue_rules.proofs.CutLemmas.{Cut, cut_all, cut_front, cut_more, cut_past, lost_cut}
 
 -- a list of calls that broke is a cut of it
@@ -28,96 +36,88 @@ broke_cut at pre (c ∷ cs) es (inr h) =
     (subst (λ (l : List Entry). BrokeAt at cs l es) (sym (map-append Done pre (c ∷ []))) h))
 
 -- all calls of a rescue behind its load
-abbrev pub run_calls : Setting → List Status → ℕ → List Reading → List Call
-run_calls s began shown reads = writes_of s reads ++ end_calls s began shown reads
+abbrev pub all_calls : Setting → Machine → List Event → List Call
+all_calls s m es = run_calls s m es ++ end_calls s m es
 
 -- a load's reads
 abbrev pub reads_of : Setting → List ℕ → ℕ → Option MapRead → List Call
 reads_of s given at answer = piece_reads s.names.map 0 given ++ map_read s.names.map at piece_size answer ∷ []
 
 -- a rescue over a map
-pub record Course (s : Setting) (began : List Status) (shown : ℕ) (g : Gain) : Type 0 where
+pub record Course (s : Setting) (began : List Status) (state : Option MapState) (g : Gain) : Type 0 where
   pub given : List ℕ
   pub at : ℕ
   pub answer : Option MapRead
-  pub run : IsRun s began 0 g.reads
-  pub cut : Cut (opening_calls s ++ (reads_of s given at answer ++ run_calls s began shown g.reads)) g.calls
+  pub run : IsRun s (begins s began state g) (events_in g)
+  pub reads : reads_of_events (events_in g) ≡ g.reads
+  pub cut : Cut (opening_calls s ++ (reads_of s given at answer ++ all_calls s (begins s began state g) (events_in g))) g.calls
 
 -- any map, where none was read, or the one that the mapfile stands for
 pub data Way (s : Setting) (files : List ℕ → Option File) (g : Gain) : Type 0 where
-  AnyMap : ((began : List Status) (shown : ℕ) → Course s began shown g) → Way s files g
-  OneMap : (began : List Status) (shown : ℕ) → Stands (files s.names.map) s.end began shown → Course s began shown g
-      → Way s files g
+  AnyMap : ((began : List Status) (state : Option MapState) → Course s began state g) → Way s files g
+  OneMap : (began : List Status) (state : Option MapState) → Stands (files s.names.map) s.end began state
+      → Course s began state g → Way s files g
 
-no_run : (s : Setting) (began : List Status) (reads : List Reading) → reads ≡ [] → IsRun s began 0 reads
-no_run s began reads none = subst (λ (l : List Reading). IsRun s began 0 l) (sym none) tt
+-- without a read there is no event
+no_events : (g : Gain) → g.reads ≡ [] → events_in g ≡ []
+no_events g none = ap (λ (l : List Reading). events_of l g.times) none
 
-opening_course : (s : Setting) (g : Gain) (began : List Status) (shown : ℕ) → g.reads ≡ []
-    → Cut (opening_calls s) g.calls → Course s began shown g
-opening_course s g began shown none cut = record {
-  given = [];
-  at = 0;
-  answer = None;
-  run = no_run s began g.reads none;
-  cut = cut_more (opening_calls s) (reads_of s [] 0 None ++ run_calls s began shown g.reads) g.calls cut;
-}
+no_run : (s : Setting) (m : Machine) (es : List Event) → es ≡ [] → IsRun s m es
+no_run s m es none =
+    subst (λ (l : List Event). IsRun s m l) (sym none) (record { each = All-nil (IsMove s) })
 
-load_course : (s : Setting) (file : Option File) (g : Gain) (load : List Call) (began : List Status) (shown : ℕ)
-    → BeginsLoad s.names.map file load → IsRun s began 0 g.reads
-    → Cut (opening_calls s ++ (load ++ run_calls s began shown g.reads)) g.calls → Course s began shown g
-load_course s file g load began shown b run cut = record {
-  given = b.given;
-  at = _;
-  answer = b.answer;
-  run = run;
-  cut = subst
-      (λ (l : List Call). Cut (opening_calls s ++ (l ++ run_calls s began shown g.reads)) g.calls) b.calls_are cut;
-}
+no_reads : (g : Gain) → g.reads ≡ [] → reads_of_events (events_in g) ≡ g.reads
+no_reads g none = ap (λ (l : List Event). reads_of_events l) (no_events g none) ∙ sym none
 
-whole_write : (s : Setting) (r : Reading) → is_whole r ≡ true → write_of s r ≡ image_write (place s r.pos) r.given ∷ []
-whole_write s r whole = cond-true (is_whole r) (image_write (place s r.pos) r.given ∷ []) [] whole
+opening_course : (s : Setting) (g : Gain) (began : List Status) (state : Option MapState) → g.reads ≡ []
+    → Cut (opening_calls s) g.calls → Course s began state g
+opening_course s g began state none cut =
+    let m : Machine = begins s began state g in
+    record {
+      given = [];
+      at = 0;
+      answer = None;
+      run = no_run s m (events_in g) (no_events g none);
+      reads = no_reads g none;
+      cut = cut_more (opening_calls s) (reads_of s [] 0 None ++ all_calls s m (events_in g)) g.calls cut;
+    }
 
-one_write : (s : Setting) (r : Reading) → writes_of s (r ∷ []) ≡ write_of s r
-one_write s r = append-nil (write_of s r)
+load_course : (s : Setting) (file : Option File) (g : Gain) (load : List Call) (began : List Status)
+    (state : Option MapState) → BeginsLoad s.names.map file load → IsRun s (begins s began state g) (events_in g)
+    → reads_of_events (events_in g) ≡ g.reads
+    → Cut (opening_calls s ++ (load ++ all_calls s (begins s began state g) (events_in g))) g.calls → Course s began state g
+load_course s file g load began state b run reads cut =
+    let m : Machine = begins s began state g in
+    record {
+      given = b.given;
+      at = _;
+      answer = b.answer;
+      run = run;
+      reads = reads;
+      cut = subst (λ (l : List Call). Cut (opening_calls s ++ (l ++ all_calls s m (events_in g))) g.calls) b.calls_are cut;
+    }
 
--- the writes of reads, and that of one more that was whole
-writes_more : (s : Setting) (reads before : List Reading) (last : Reading) (rest : List Call)
-    → reads ≡ before ++ last ∷ [] → is_whole last ≡ true
-    → writes_of s before ++ image_write (place s last.pos) last.given ∷ rest ≡ writes_of s reads ++ rest
-writes_more s reads before last rest is whole =
-    let w : Call = image_write (place s last.pos) last.given in
-    let all : writes_of s reads ≡ writes_of s before ++ w ∷ []
-    = ap (λ (l : List Reading). writes_of s l) is ∙ flat_map-append (write_of s) before (last ∷ [])
-    ∙ ap (λ (l : List Call). writes_of s before ++ l) (one_write s last ∙ whole_write s last whole) in
-    sym (ap (λ (l : List Call). l ++ rest) all ∙ append_assoc (writes_of s before) (w ∷ []) rest)
+run_more : (s : Setting) (m : Machine) (before : List Event) (last : Event)
+    → run_calls s m (before ++ last ∷ []) ≡ run_calls s m before ++ move_calls s (move_of s (state_after s m before) last)
+run_more s m before last =
+    let v : Move = move_of s (state_after s m before) last in
+    ap (λ (vs : List Move). flat_map (move_calls s) vs) (moves_more s m before last)
+    ∙ flat_map-append (move_calls s) (moves s m before) (v ∷ [])
+    ∙ ap (λ (l : List Call). run_calls s m before ++ l) (append-nil (move_calls s v))
 
 -- the calls of a run
-run_cut : (s : Setting) (began : List Status) (shown : ℕ) (g : Gain) (end : RunEnd) → Runs s began shown g end
-    → IsRun s began 0 g.reads × Cut (run_calls s began shown g.reads) g.calls
-run_cut s began shown g end (IsSaved run spent is) = (
-  run,
-  subst (λ (l : List Entry). Cut (run_calls s began shown g.reads) l) (sym is)
-      (cut_all (run_calls s began shown g.reads)),
-)
-run_cut s began shown g end (IsLost run is) = (
-  run,
-  subst (λ (l : List Entry). Cut (run_calls s began shown g.reads) l) (sym is)
-      (cut_front (writes_of s g.reads) (end_calls s began shown g.reads)),
-)
-run_cut s began shown g end (IsStarved run is) = (
-  run,
-  subst (λ (l : List Entry). Cut (run_calls s began shown g.reads) l) (sym is)
-      (cut_front (writes_of s g.reads) (end_calls s began shown g.reads)),
-)
-run_cut s began shown g end (IsUnwritten before last is run whole lost) = (
-  run,
-  subst (λ (l : List Call). Cut l g.calls)
-      (writes_more s g.reads before last (end_calls s began shown g.reads) is whole)
-      (lost_cut (writes_of s before) (image_write (place s last.pos) last.given)
-      (end_calls s began shown g.reads) g.calls lost),
-)
-run_cut s began shown g end (IsUnsaved call run spent broke) =
-    (run, broke_cut call (writes_of s g.reads) (end_calls s began shown g.reads) g.calls broke)
+ends_cut : (s : Setting) (m : Machine) (es : List Event) (spare : ℕ) (calls : List Entry) (end : RunEnd)
+    → Ends s m es spare calls end → Cut (all_calls s m es) calls
+ends_cut s m es spare calls end (IsSaved stop by end_is is) =
+    subst (λ (l : List Entry). Cut (all_calls s m es) l) (sym is) (cut_all (all_calls s m es))
+ends_cut s m es spare calls end (IsUnsaved stop call by end_is broke) =
+    broke_cut call (run_calls s m es) (end_calls s m es) calls broke
+ends_cut s m es spare calls end (IsBroken before last call is none end_is broke) =
+    let v : List Call = move_calls s (move_of s (state_after s m before) last) in
+    subst (λ (l : List Call). Cut (l ++ end_calls s m es) calls)
+    (sym (ap (λ (l : List Event). run_calls s m l) is ∙ run_more s m before last))
+    (cut_more (run_calls s m before ++ v) (end_calls s m es) calls
+    (broke_cut call (run_calls s m before) v calls broke))
 
 front_cut : (s : Setting) (front back : List Call) (calls : List Entry) → front ++ back ≡ opening_calls s
     → (calls ≡ map Done front) ⊎
@@ -149,15 +149,30 @@ load_cut s load more calls h =
     (λ broke. cut_more (opening_calls s ++ load) more calls
     (broke_cut MapReadName [] (opening_calls s ++ load) calls broke)) h)
 
+-- reads whose times are told are those of the events
+timed : (reads : List Reading) (times : List ℕ) → 2 * length reads ≤ length times
+    → reads_of_events (with_times reads times) ≡ reads
+timed [] times enough = refl
+timed (r ∷ rs) [] enough = absurd (omega (arith, enough))
+timed (r ∷ rs) (before ∷ []) enough = absurd (omega (arith, enough))
+timed (r ∷ rs) (before ∷ after ∷ times) enough = ap (λ (l : List Reading). r ∷ l) (timed rs times (omega (arith, enough)))
+
+runs_timed : (g : Gain) (spare : ℕ) → length g.times ≡ 1 + 2 * length g.reads + spare
+    → reads_of_events (events_in g) ≡ g.reads
+runs_timed g spare is = timed g.reads (drop 1 g.times) (omega (arith, is, length-drop 1 g.times))
+
 -- each rescue takes one way
 pub way : (s : Setting) (files : List ℕ → Option File) (g : Gain) → Goes s files g → Way s files g
 way s files g (InOpening front back is none h) =
-    AnyMap (λ began shown. opening_course s g began shown none (front_cut s front back g.calls is h))
-way s files g (InLoad load begins none h) =
-    AnyMap (λ began shown. load_course s (files s.names.map) g load began shown begins (no_run s began g.reads none)
-    (load_cut s load (run_calls s began shown g.reads) g.calls h))
-way s files g (InRun load began shown end rest loaded stands is runs) =
-    let r = run_cut s began shown (record g { calls = rest }) end runs in
-    OneMap began shown stands (load_course s (files s.names.map) g load began shown loaded.begins r.0
-    (subst (λ (l : List Entry). Cut (opening_calls s ++ (load ++ run_calls s began shown g.reads)) l) (sym is)
-    (past_load s load (run_calls s began shown g.reads) rest r.1)))
+    AnyMap (λ began state. opening_course s g began state none (front_cut s front back g.calls is h))
+way s files g (InLoad load begins_load none h) =
+    AnyMap (λ began state. load_course s (files s.names.map) g load began state begins_load
+    (no_run s (begins s began state g) (events_in g) (no_events g none)) (no_reads g none)
+    (load_cut s load (all_calls s (begins s began state g) (events_in g)) g.calls h))
+way s files g (InRun load began state end rest loaded stands is runs) =
+    let m : Machine = begins s began state g in
+    OneMap began state stands (load_course s (files s.names.map) g load began state loaded.begins runs.run
+    (runs_timed g runs.spare runs.times)
+    (subst (λ (l : List Entry). Cut (opening_calls s ++ (load ++ all_calls s m (events_in g))) l) (sym is)
+    (past_load s load (all_calls s m (events_in g)) rest
+    (ends_cut s m (events_in g) runs.spare rest end runs.ends))))

@@ -1,28 +1,34 @@
 -- A rescue leaves every other file as it could be found before.
-use Rattle.std.proofs.Common.{◌≡◌, ◌≢◌, inl, inr, ⊎_elim, ℕ, suc, ◌+◌, Bool, true, false, List, [], ◌∷◌, ◌++◌, length, map, Option, Some, if◌then◌else◌, refl, sym, ◌∙◌, subst, append_assoc}
+use Rattle.std.specs.Bool.{⊤}
+use Rattle.std.proofs.Common.{◌≡◌, ◌≢◌, inl, inr, ⊎_elim, ℕ, ◌+◌, Bool, true, false, nat_eq, if◌then◌else◌, List, [], ◌∷◌, ◌++◌, length, map, take, Option, Some, None, refl, sym, ◌∙◌, ap, subst, append_assoc, append-nil}
 use Rattle.std.specs.Str.{bytes_eq}
 use Rattle.std.proofs.lemmas.Bool.{cases_Bool, cond-true, cond-false}
-use Rattle.block_list.specs.declared.status.Status.{Status}
+use Rattle.std.proofs.lemmas.Option.{same_Some}
 use Rattle.mapfile_text.specs.Pieces.{pieces_of}
-use Rattle.faulty_source.specs.Journal.{Reading, is_whole}
+use Rattle.faulty_source.specs.Journal.{Reading, kept}
 use Rattle.crash_site.specs.declared.site.MapRead.{MapRead}
 use Rattle.crash_site.specs.Files.{File, put}
-use Rattle.crash_site.specs.Calls.{Call, Entry, Done, Failed, image_write, image_sync, map_read, draft_begin, draft_append, draft_sync, draft_publish, map_settle}
-use Rattle.crash_site.specs.Disk.{Showing, Disk, only, with_range, with_opened, with_draft, at_rest, entered, disk_after}
+use Rattle.crash_site.specs.Calls.{Call, Entry, Done, Failed, image_open, image_read, image_write, image_sync, map_read, draft_begin, draft_append, draft_sync, draft_publish, map_settle, map_remove}
+use Rattle.crash_site.specs.Folder.{Folder, appended, with_piece}
+use Rattle.crash_site.specs.Disk.{Showing, Disk, only, with_opened, at_rest, entered, disk_after}
 use Rattle.crash_site.specs.Left.{MayShow, Leaves, until, MayBeLeft}
 use Rattle.crash_site.proofs.DiskLemmas.{same_name}
-use Rattle.crash_site.proofs.LawLemmas.{at_other, some_other, publishes_other, until_all}
+use Rattle.crash_site.proofs.LawLemmas.{at_other, some_other, part_other, until_all}
 use Rattle.save_resume.specs.Saving.{save_calls}
 use Rattle.save_resume.specs.Loading.{piece_size, piece_reads}
 use Rattle.rescue_rules.specs.Setting.{Setting, place}
-use Rattle.rescue_rules.specs.Run.{write_of, writes_of}
-use Rattle.rescue_rules.specs.Saves.{text_of, snapshot_after}
+use Rattle.rescue_rules.specs.Machine.{Machine}
+use Rattle.rescue_rules.specs.Step.{Event}
+use Rattle.rescue_rules.specs.Moves.{Move, move_of}
+use Rattle.rescue_rules.specs.Snapshots.{text_of, snapshot, last_snapshot, is_due}
+use Rattle.rescue_rules.specs.RunCalls.{write_calls, due_calls, move_calls, run_calls, end_calls}
+use Rattle.rescue_rules.specs.Moves.{state_after}
 use Rattle.rescue_rules.specs.Work.{opening_calls}
-use Rattle.rescue_rules.specs.Stops.{Behind}
-use Rattle.rescue_rules.proofs.CutLemmas.{Cut, Each, at_stop}
-use Rattle.rescue_rules.proofs.DiskStages.{put_own, image_apart, piece_image, appended_draft}
+use Rattle.rescue_rules.specs.Stops.{Behind, is_settle, is_publish, is_write}
+use Rattle.rescue_rules.proofs.CutLemmas.{Cut, Each, at_stop, add}
+use Rattle.rescue_rules.proofs.SaveStages.{put_own, image_apart, image_stays}
 use Rattle.rescue_rules.proofs.BarrierLemmas.{opened_image, at_open, at_settle, at_barrier}
-use Rattle.rescue_rules.proofs.GoesLemmas.{run_calls, reads_of}
+use Rattle.rescue_rules.proofs.GoesLemmas.{all_calls, reads_of}
 use Rattle.rescue_rules.proofs.BeforeLemmas.{disk_before, sound_before}
 
 -- a name that is none of a rescue's
@@ -35,123 +41,208 @@ pub record IsOther (s : Setting) (name : List ℕ) : Type 0 where
 abbrev Shows : List ℕ → Showing → ℕ → ℕ → ℕ → Disk → Type 0
 Shows name v r p w d = d.shows name ≡ v
 
--- the settle of a mapfile
-settle_aside : (s : Setting) (name : List ℕ) (d : Disk) → IsOther s name
-    → (entered d (Done (map_settle s.names.map))).shows name ≡ d.shows name
-settle_aside s name d other = at_other d s.names.map name (λ f v. only f) other.map
+-- a call that a run behind the barrier makes, where a draft of its own is begun or not
+abbrev pub IsOfRun : Setting → (drafting : Bool) → Call → Type 0
+IsOfRun s b (image_open name make) = ⊥
+IsOfRun s b (image_read pos asked answer) = ⊥
+IsOfRun s b (image_write pos piece) = ⊤
+IsOfRun s b image_sync = ⊤
+IsOfRun s b (map_read name pos asked answer) = ⊤
+IsOfRun s b (draft_begin name) = name ≡ s.names.draft
+IsOfRun s b (draft_append piece) = b ≡ true
+IsOfRun s b draft_sync = ⊤
+IsOfRun s b (draft_publish name) = (b ≡ true) × (name ≡ s.names.map)
+IsOfRun s b (map_settle name) = name ≡ s.names.map
+IsOfRun s b (map_remove name) = ⊥
 
--- the sync of an image
-sync_aside : (s : Setting) (name : List ℕ) (d : Disk) → IsOther s name → d.reads.image ≡ Some s.outfile
-    → (entered d (Done image_sync)).shows name ≡ d.shows name
-sync_aside s name d other image =
+-- whether one is begun behind it
+abbrev pub drafts : Call → Bool → Bool
+drafts (draft_begin name) b = true
+drafts (draft_publish name) b = false
+drafts call b = b
+
+abbrev pub AreOfRun : Setting → Bool → List Call → Type 0
+AreOfRun s b [] = ⊤
+AreOfRun s b (c ∷ cs) = IsOfRun s b c × AreOfRun s (drafts c b) cs
+
+-- the image is the output, and where a draft is begun it has its own name
+record AtRun (s : Setting) (b : Bool) (d : Folder) : Type 0 where
+  image : d.image ≡ Some s.outfile
+  draft : b ≡ true → d.draft ≡ Some s.names.draft
+
+draft_is : (s : Setting) (d : Folder) (name : List ℕ) → d.draft ≡ Some s.names.draft → IsOther s name
+    → d.draft ≡ Some name → ⊥
+draft_is s d name at other is = other.draft (same_Some name s.names.draft (sym is ∙ at))
+
+-- such a call changes nothing under another name
+aside : (s : Setting) (b : Bool) (d : Disk) (call : Call) (name : List ℕ) → IsOfRun s b call → AtRun s b d.reads
+    → IsOther s name → (entered d (Done call)).shows name ≡ d.shows name
+aside s b d (image_open n make) name of at other = absurd of
+aside s b d (image_read pos asked answer) name of at other = absurd of
+aside s b d (image_write pos piece) name of at other =
+    part_other d (image_write pos piece) name (image_apart d.reads.image s.outfile name at.image (λ e. other.output (sym e)))
+aside s b d image_sync name of at other =
     some_other d d.reads.image name (λ f v. only f)
-    (image_apart d.reads.image s.outfile name image (λ e. other.output (sym e)))
+    (image_apart d.reads.image s.outfile name at.image (λ e. other.output (sym e)))
+aside s b d (map_read n pos asked answer) name of at other = refl
+aside s b d (draft_begin n) name of at other = part_other d (draft_begin n) name (λ e. other.draft (e ∙ of))
+aside s b d (draft_append piece) name of at other =
+    part_other d (draft_append piece) name (draft_is s d.reads name (at.draft of) other)
+aside s b d draft_sync name of at other = refl
+aside s b d (draft_publish n) name of at other =
+    part_other d (draft_publish n) name
+    (λ ch. ⊎_elim (λ e. draft_is s d.reads name (at.draft of.0) other e) (λ e. other.map (e ∙ of.1)) ch)
+aside s b d (map_settle n) name of at other = at_other d n name (λ f v. only f) (λ e. other.map (e ∙ of))
+aside s b d (map_remove n) name of at other = absurd of
 
-write_aside : (s : Setting) (name : List ℕ) (d : Disk) (pos : ℕ) (piece : List ℕ) → IsOther s name
-    → d.reads.image ≡ Some s.outfile → (entered d (Failed (image_write pos piece))).shows name ≡ d.shows name
-write_aside s name d pos piece other image =
-    some_other d d.reads.image name (with_range pos (length piece))
-    (image_apart d.reads.image s.outfile name image (λ e. other.output (sym e)))
+aside_failed : (s : Setting) (b : Bool) (d : Disk) (call : Call) (name : List ℕ) → IsOfRun s b call → AtRun s b d.reads
+    → IsOther s name → (entered d (Failed call)).shows name ≡ d.shows name
+aside_failed s b d (image_open n make) name of at other = absurd of
+aside_failed s b d (image_read pos asked answer) name of at other = absurd of
+aside_failed s b d (image_write pos piece) name of at other = aside s b d (image_write pos piece) name of at other
+aside_failed s b d image_sync name of at other = refl
+aside_failed s b d (map_read n pos asked answer) name of at other = refl
+aside_failed s b d (draft_begin n) name of at other = aside s b d (draft_begin n) name of at other
+aside_failed s b d (draft_append piece) name of at other = aside s b d (draft_append piece) name of at other
+aside_failed s b d draft_sync name of at other = refl
+aside_failed s b d (draft_publish n) name of at other = aside s b d (draft_publish n) name of at other
+aside_failed s b d (map_settle n) name of at other = refl
+aside_failed s b d (map_remove n) name of at other = absurd of
 
-pieces_aside : (s : Setting) (name : List ℕ) (v : Showing) (r p w : ℕ) (pos : ℕ) (given : List ℕ) (d : Disk)
-    (rest : List Call)
-    → d.shows name ≡ v → Each (Shows name v) r p w d rest
-    → Each (Shows name v) r p w d (piece_reads s.names.map pos given ++ rest)
-pieces_aside s name v r p w pos [] d rest h go = go
-pieces_aside s name v r p w pos (n ∷ ns) d rest h go = (h, h, pieces_aside s name v r p w (pos + n) ns d rest h go)
+append_draft : (d : Folder) (o : Option (List ℕ)) (piece : List ℕ) → (appended d o piece).draft ≡ d.draft
+append_draft d None piece = refl
+append_draft d (Some n) piece = refl
 
-load_aside : (s : Setting) (name : List ℕ) (v : Showing) (r p w : ℕ) (given : List ℕ) (at : ℕ) (answer : Option MapRead)
-    (d : Disk)
-    (rest : List Call) → d.shows name ≡ v → Each (Shows name v) r p w d rest
-    → Each (Shows name v) r p w d (reads_of s given at answer ++ rest)
-load_aside s name v r p w given at answer d rest h go =
-    subst (λ (l : List Call). Each (Shows name v) r p w d l)
-    (sym (append_assoc (piece_reads s.names.map 0 given) (map_read s.names.map at piece_size answer ∷ []) rest))
-    (pieces_aside s name v r p w 0 given d (map_read s.names.map at piece_size answer ∷ rest) h (h, h, go))
+-- the image and the draft behind such a call
+run_image : (s : Setting) (b : Bool) (d : Disk) (call : Call) → IsOfRun s b call → AtRun s b d.reads
+    → (entered d (Done call)).reads.image ≡ Some s.outfile
+run_image s b d (image_open n make) of at = absurd of
+run_image s b d (image_read pos asked answer) of at = absurd of
+run_image s b d (image_write pos piece) of at = image_stays d (Done (image_write pos piece)) tt ∙ at.image
+run_image s b d image_sync of at = at.image
+run_image s b d (map_read n pos asked answer) of at = at.image
+run_image s b d (draft_begin n) of at = at.image
+run_image s b d (draft_append piece) of at = image_stays d (Done (draft_append piece)) tt ∙ at.image
+run_image s b d draft_sync of at = at.image
+run_image s b d (draft_publish n) of at = image_stays d (Done (draft_publish n)) tt ∙ at.image
+run_image s b d (map_settle n) of at = at.image
+run_image s b d (map_remove n) of at = absurd of
 
--- one write, if a read was whole
-one_aside : (s : Setting) (name : List ℕ) (v : Showing) (r p w : ℕ) (q : Reading) (whole : Bool) (d : Disk)
-    (rest : List Call)
-    → IsOther s name → d.shows name ≡ v → d.reads.image ≡ Some s.outfile
-    → ((w' : ℕ) (d' : Disk) → d'.shows name ≡ v → d'.reads.image ≡ Some s.outfile → Each (Shows name v) r p w' d' rest)
-    → Each (Shows name v) r p w d ((if whole then image_write (place s q.pos) q.given ∷ [] else []) ++ rest)
-one_aside s name v r p w q true d rest other h image go =
-    let stood = write_aside s name d (place s q.pos) q.given other image ∙ h in
-    let d1 : Disk = entered d (Done (image_write (place s q.pos) q.given)) in
-    (h, stood, go (suc w) d1 stood (piece_image d.reads d.reads.image (place s q.pos) q.given ∙ image))
-one_aside s name v r p w q false d rest other h image go = go w d h image
+write_draft : (d : Folder) (o : Option (List ℕ)) (pos : ℕ) (piece : List ℕ) → (with_piece d o pos piece).draft ≡ d.draft
+write_draft d None pos piece = refl
+write_draft d (Some n) pos piece = refl
 
-writes_aside : (s : Setting) (name : List ℕ) (v : Showing) (r p w : ℕ) (reads : List Reading) (d : Disk)
-    (rest : List Call)
-    → IsOther s name → d.shows name ≡ v → d.reads.image ≡ Some s.outfile
-    → ((w' : ℕ) (d' : Disk) → d'.shows name ≡ v → d'.reads.image ≡ Some s.outfile → Each (Shows name v) r p w' d' rest)
-    → Each (Shows name v) r p w d (writes_of s reads ++ rest)
-writes_aside s name v r p w [] d rest other h image go = go w d h image
-writes_aside s name v r p w (q ∷ qs) d rest other h image go =
-    subst (λ (l : List Call). Each (Shows name v) r p w d l) (sym (append_assoc (write_of s q) (writes_of s qs) rest))
-    (one_aside s name v r p w q (is_whole q) d (writes_of s qs ++ rest) other h image
-    (λ w' d' h' image'. writes_aside s name v r p w' qs d' rest other h' image' go))
+run_draft : (s : Setting) (b : Bool) (d : Disk) (call : Call) → IsOfRun s b call → AtRun s b d.reads → drafts call b ≡ true
+    → (entered d (Done call)).reads.draft ≡ Some s.names.draft
+run_draft s b d (image_open n make) of at on = absurd of
+run_draft s b d (image_read pos asked answer) of at on = absurd of
+run_draft s b d (image_write pos piece) of at on = write_draft d.reads d.reads.image pos piece ∙ at.draft on
+run_draft s b d image_sync of at on = at.draft on
+run_draft s b d (map_read n pos asked answer) of at on = at.draft on
+run_draft s b d (draft_begin n) of at on = ap (λ (m : List ℕ). Some m) of
+run_draft s b d (draft_append piece) of at on = append_draft d.reads d.reads.draft piece ∙ at.draft on
+run_draft s b d draft_sync of at on = at.draft on
+run_draft s b d (draft_publish n) of at on = absurd (cc)
+run_draft s b d (map_settle n) of at on = at.draft on
+run_draft s b d (map_remove n) of at on = absurd of
 
-appends_aside : (s : Setting) (name : List ℕ) (v : Showing) (r p w : ℕ) (ps : List (List ℕ)) (d : Disk)
-    (rest : List Call)
-    → IsOther s name → d.shows name ≡ v → d.reads.draft ≡ Some s.names.draft
-    → ((d' : Disk) → d'.shows name ≡ v → d'.reads.draft ≡ Some s.names.draft → Each (Shows name v) r p w d' rest)
-    → Each (Shows name v) r p w d (map draft_append ps ++ rest)
-appends_aside s name v r p w [] d rest other h draft go = go d h draft
-appends_aside s name v r p w (q ∷ qs) d rest other h draft go =
-    let stood : (entered d (Failed (draft_append q))).shows name ≡ v
-    = some_other d d.reads.draft name with_draft
-    (image_apart d.reads.draft s.names.draft name draft (λ e. other.draft (sym e))) ∙ h in (
-      h,
-      stood,
-      appends_aside s name v r p w qs (entered d (Done (draft_append q))) rest other stood
-          (appended_draft d.reads d.reads.draft q ∙ draft) go,
-    )
+-- so no list of such calls does
+each_aside : (s : Setting) (b : Bool) (name : List ℕ) (v : Showing) (r p w : ℕ) (d : Disk) (calls : List Call)
+    → AreOfRun s b calls → IsOther s name → AtRun s b d.reads → d.shows name ≡ v → Each (Shows name v) r p w d calls
+each_aside s b name v r p w d [] of other at h = h
+each_aside s b name v r p w d (c ∷ cs) of other at h = (
+  h,
+  aside_failed s b d c name of.0 at other ∙ h,
+  each_aside s (drafts c b) name v (add (is_settle (Done c)) r) (add (is_publish (Failed c)) p)
+      (add (is_write (Failed c)) w) (entered d (Done c)) cs of.1 other
+      (record { image = run_image s b d c of.0 at; draft = λ on. run_draft s b d c of.0 at on })
+      (aside s b d c name of.0 at other ∙ h),
+)
 
-publish_aside : (s : Setting) (name : List ℕ) (v : Showing) (r p w : ℕ) (d : Disk) → IsOther s name → d.shows name ≡ v
-    → d.reads.draft ≡ Some s.names.draft
-    → Each (Shows name v) r p w d (draft_sync ∷ draft_publish s.names.map ∷ map_settle s.names.map ∷ [])
-publish_aside s name v r p w d other h draft =
-    let d1 : Disk = entered d (Done draft_sync) in
-    let d2 : Disk = entered d1 (Done (draft_publish s.names.map)) in
-    let stood : d2.shows name ≡ v
-    = publishes_other d1 d1.reads.draft s.names.map name
-    (λ ch. ⊎_elim (λ e. image_apart d1.reads.draft s.names.draft name draft (λ e. other.draft (sym e)) e)
-    (λ e. other.map e) ch) ∙ h in
-    (h, h, (h, stood, (stood, stood, settle_aside s name d2 other ∙ stood)))
+-- calls that may stand in front of others in a run, whether a draft is begun or not
+abbrev Leads : Setting → List Call → Type 0
+Leads s calls = (b : Bool) (rest : List Call) → ((b' : Bool) → AreOfRun s b' rest) → AreOfRun s b (calls ++ rest)
 
-save_aside : (s : Setting) (name : List ℕ) (v : Showing) (r p w : ℕ) (text : List ℕ) (d : Disk) → IsOther s name
-    → d.shows name ≡ v
-    → d.reads.image ≡ Some s.outfile → Each (Shows name v) r p w d (save_calls s.names text)
-save_aside s name v r p w text d other h image =
-    let d1 : Disk = entered d (Done image_sync) in
-    let h1 : d1.shows name ≡ v = sync_aside s name d other image ∙ h in
-    let d2 : Disk = entered d1 (Done (draft_begin s.names.draft)) in
-    let h2 : d2.shows name ≡ v = at_other d1 s.names.draft name with_draft other.draft ∙ h1 in (
-      h,
-      h,
+leads_join : (s : Setting) (xs ys : List Call) → Leads s xs → Leads s ys → Leads s (xs ++ ys)
+leads_join s xs ys x y b rest go =
+    subst (λ (l : List Call). AreOfRun s b l) (sym (append_assoc xs ys rest)) (x b (ys ++ rest) (λ b'. y b' rest go))
+
+pieces_lead : (s : Setting) (name : List ℕ) (pos : ℕ) (given : List ℕ) → Leads s (piece_reads name pos given)
+pieces_lead s name pos [] b rest go = go b
+pieces_lead s name pos (n ∷ ns) b rest go = (tt, pieces_lead s name (pos + n) ns b rest go)
+
+appends_lead : (s : Setting) (ps : List (List ℕ)) (rest : List Call) → AreOfRun s true rest
+    → AreOfRun s true (map draft_append ps ++ rest)
+appends_lead s [] rest go = go
+appends_lead s (p ∷ ps) rest go = (refl, appends_lead s ps rest go)
+
+save_leads : (s : Setting) (text : List ℕ) → Leads s (save_calls s.names text)
+save_leads s text b rest go =
+    let back : List Call = draft_sync ∷ draft_publish s.names.map ∷ map_settle s.names.map ∷ [] in (
+      tt,
       (
-        h1,
-        h2,
-        appends_aside s name v r p w (pieces_of text) d2
-            (draft_sync ∷ draft_publish s.names.map ∷ map_settle s.names.map ∷ []) other h2 refl
-            (λ d' h' draft. publish_aside s name v r p w d' other h' draft),
+        refl,
+        subst (λ (l : List Call). AreOfRun s true l) (sym (append_assoc (map draft_append (pieces_of text)) back rest))
+            (appends_lead s (pieces_of text) (back ++ rest) (tt, ((refl, refl), (refl, go false)))),
       ),
     )
 
+none_lead : (s : Setting) → Leads s []
+none_lead s b rest go = go b
+
+if_leads : (s : Setting) (on : Bool) (calls : List Call) → Leads s calls → Leads s (if on then calls else [])
+if_leads s true calls h = h
+if_leads s false calls h = none_lead s
+
+unless_leads : (s : Setting) (on : Bool) (calls : List Call) → Leads s calls → Leads s (if on then [] else calls)
+unless_leads s true calls h = none_lead s
+unless_leads s false calls h = h
+
+move_leads : (s : Setting) (v : Move) → Leads s (move_calls s v)
+move_leads s v =
+    let r : Reading = v.event.reading in
+    leads_join s (write_calls s r) (due_calls s v)
+    (unless_leads s (nat_eq (kept s.sector r) 0) (image_write (place s r.pos) (take (kept s.sector r) r.given) ∷ [])
+    (λ b rest go. (tt, go b)))
+    (if_leads s (is_due s v) (save_calls s.names (text_of s.line (snapshot v.after)))
+    (save_leads s (text_of s.line (snapshot v.after))))
+
+run_leads : (s : Setting) (m : Machine) (es : List Event) → Leads s (run_calls s m es)
+run_leads s m [] = none_lead s
+run_leads s m (e ∷ es) =
+    leads_join s (move_calls s (move_of s m e)) (run_calls s (move_of s m e).after es) (move_leads s (move_of s m e))
+    (run_leads s (move_of s m e).after es)
+
+all_of_run : (s : Setting) (m : Machine) (es : List Event) (given : List ℕ) (at : ℕ) (answer : Option MapRead)
+    → AreOfRun s false (reads_of s given at answer ++ all_calls s m es)
+all_of_run s m es given at answer =
+    subst (λ (l : List Call). AreOfRun s false (reads_of s given at answer ++ (run_calls s m es ++ l)))
+    (append-nil (end_calls s m es))
+    (subst (λ (l : List Call). AreOfRun s false l)
+    (sym (append_assoc (piece_reads s.names.map 0 given) (map_read s.names.map at piece_size answer ∷ [])
+    (run_calls s m es ++ (end_calls s m es ++ []))))
+    (pieces_lead s s.names.map 0 given false
+    (map_read s.names.map at piece_size answer ∷ (run_calls s m es ++ (end_calls s m es ++ [])))
+    (λ b. (
+      tt,
+      run_leads s m es b (end_calls s m es ++ [])
+          (λ b'. save_leads s (text_of s.line (last_snapshot s (state_after s m es))) b' [] (λ b''. tt)),
+    ))))
+
 -- over all calls of a rescue
-rescue_aside : (s : Setting) (name : List ℕ) (d : Disk) (began : List Status) (shown : ℕ) (reads : List Reading)
-    (given : List ℕ) (at : ℕ)
+rescue_aside : (s : Setting) (name : List ℕ) (d : Disk) (m : Machine) (es : List Event) (given : List ℕ) (at : ℕ)
     (answer : Option MapRead) → IsOther s name
-    → Each (Shows name (d.shows name)) 0 0 0 d
-    (opening_calls s ++ (reads_of s given at answer ++ run_calls s began shown reads))
-rescue_aside s name d began shown reads given at answer other =
+    → Each (Shows name (d.shows name)) 0 0 0 d (opening_calls s ++ (reads_of s given at answer ++ all_calls s m es))
+rescue_aside s name d m es given at answer other =
     let v : Showing = d.shows name in
     let h1 : (at_open s d).shows name ≡ v = at_other d s.outfile name (with_opened true) other.output in
     let image : (at_settle s d).reads.image ≡ Some s.outfile
     = opened_image d.reads s.outfile (d.reads.files s.outfile) in
-    let h2 : (at_settle s d).shows name ≡ v = settle_aside s name (at_open s d) other ∙ h1 in
-    let h3 : (at_barrier s d).shows name ≡ v = sync_aside s name (at_settle s d) other image ∙ h2 in (
+    let h2 : (at_settle s d).shows name ≡ v
+    = at_other (at_open s d) s.names.map name (λ f v. only f) other.map ∙ h1 in
+    let h3 : (at_barrier s d).shows name ≡ v
+    = some_other (at_settle s d) (at_settle s d).reads.image name (λ f v. only f)
+    (image_apart (at_settle s d).reads.image s.outfile name image (λ e. other.output (sym e))) ∙ h2 in (
       refl,
       h1,
       (
@@ -160,28 +251,26 @@ rescue_aside s name d began shown reads given at answer other =
         (
           h2,
           h2,
-          load_aside s name v 1 0 0 given at answer (at_barrier s d) (run_calls s began shown reads) h3
-              (writes_aside s name v 1 0 0 reads (at_barrier s d)
-              (save_calls s.names (text_of s.line (snapshot_after began shown reads))) other h3 image
-              (λ w' d' h' image'. save_aside s name v 1 0 w' (text_of s.line (snapshot_after began shown reads)) d' other h' image')),
+          each_aside s false name v 1 0 0 (at_barrier s d) (reads_of s given at answer ++ all_calls s m es)
+              (all_of_run s m es given at answer) other
+              (record { image = image; draft = λ off. absurd (let apart : false ≡ true = off in cc) }) h3,
         ),
       ),
     )
 
 -- so what is found there could be found before
-pub others_could : (b : Behind) (s : Setting) (name : List ℕ) (began : List Status) (shown : ℕ) (reads : List Reading)
-    (given : List ℕ) (at : ℕ)
-    (answer : Option MapRead) (es : List Entry) (k : ℕ) (files : List ℕ → Option File) → IsOther s name
-    → Cut (opening_calls s ++ (reads_of s given at answer ++ run_calls s began shown reads)) es
+pub others_could : (b : Behind) (s : Setting) (name : List ℕ) (m : Machine) (evs : List Event)
+    (given : List ℕ) (at : ℕ) (answer : Option MapRead) (es : List Entry) (k : ℕ) (files : List ℕ → Option File) → IsOther s name
+    → Cut (opening_calls s ++ (reads_of s given at answer ++ all_calls s m evs)) es
     → Leaves (disk_after (disk_before b) (until k es)) files
     → (before : List ℕ → Option File) × MayBeLeft b.start b.earlier (length b.earlier) before ×
     (files name ≡ before name)
-others_could b s name began shown reads given at answer es k files other cut left =
+others_could b s name m evs given at answer es k files other cut left =
     let d : Disk = disk_before b in
     let same : (disk_after d (until k es)).shows name ≡ d.shows name
     = at_stop (Shows name (d.shows name)) 0 0 0 d
-    (opening_calls s ++ (reads_of s given at answer ++ run_calls s began shown reads)) es k
-    (rescue_aside s name d began shown reads given at answer other) cut in
+    (opening_calls s ++ (reads_of s given at answer ++ all_calls s m evs)) es k
+    (rescue_aside s name d m evs given at answer other) cut in
     let here : MayShow (d.shows name) (files name) = subst (λ (v : Showing). MayShow v (files name)) same (left name) in (
       put d.reads.files name (files name),
       subst (λ (l : List Entry). Leaves (disk_after (at_rest b.start) l) (put d.reads.files name (files name)))

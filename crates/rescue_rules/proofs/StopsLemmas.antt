@@ -1,70 +1,67 @@
 -- A rescue stops safely at every moment.
-use Rattle.std.proofs.Common.{◌≡◌, ⊎_elim, ℕ, zero, suc, ◌+◌, ◌≤◌, ◌<◌, ◌^◌, Bool, true, false, ◌||◌, List, [], ◌∷◌, ◌++◌, length, take, Option, Some, refl, sym, ◌∙◌, ap, subst, arith}
+use Rattle.std.proofs.Common.{◌≡◌, ℕ, zero, suc, ◌+◌, ◌-◌, ◌≤◌, ◌<◌, ◌^◌, Bool, true, false, ◌||◌, List, [], ◌∷◌, ◌++◌, length, take, drop, map, All, Option, Some, None, refl, sym, ◌∙◌, ap, subst, arith, append_assoc}
 use Rattle.std.proofs.Math.Numerals.{add-one}
 use Rattle.std.specs.List.{list_any, count_by}
 use Rattle.block_list.specs.declared.status.Status.{Status}
+use Rattle.mapfile_text.specs.declared.state.MapState.{MapState}
 use Rattle.faulty_source.specs.Journal.{Reading}
 use Rattle.crash_site.specs.declared.site.MapRead.{MapRead}
 use Rattle.crash_site.specs.Files.{File, bytes_of}
-use Rattle.crash_site.specs.Calls.{Call, Entry, Done, Failed, image_open, image_sync, map_settle}
+use Rattle.crash_site.specs.Calls.{Call, Entry, Done, Failed, image_open, image_sync, map_read, map_settle}
 use Rattle.crash_site.specs.Folder.{Folder}
-use Rattle.crash_site.specs.Disk.{Showing, Disk, only, or_this, at_rest, disk_after}
-use Rattle.crash_site.specs.Left.{MayShow, Leaves, until}
+use Rattle.crash_site.specs.Disk.{Disk, at_rest, disk_after}
+use Rattle.crash_site.specs.Left.{Leaves, until}
 use Rattle.crash_site.proofs.DiskLemmas.{run_reads}
-use Rattle.crash_site.proofs.LawLemmas.{found_only, left_past}
+use Rattle.crash_site.proofs.LawLemmas.{left_past}
 use Rattle.rescue_rules.specs.Setting.{Setting, IsSensible}
 use Rattle.rescue_rules.specs.Start.{Stands}
-use Rattle.rescue_rules.specs.Run.{IsRun, map_after, cursor_after}
-use Rattle.rescue_rules.specs.Saves.{text_of, snapshot_after}
+use Rattle.rescue_rules.specs.Machine.{Machine}
+use Rattle.rescue_rules.specs.Step.{Event}
+use Rattle.rescue_rules.specs.Events.{began_at}
+use Rattle.rescue_rules.specs.Snapshots.{Snapshot, text_of}
 use Rattle.rescue_rules.specs.Held.{Held}
-use Rattle.rescue_rules.specs.Work.{Gain, end_calls, opening_calls}
-use Rattle.rescue_rules.specs.Stops.{Behind, files_before, LeftAt, is_sync, is_settle, is_publish, is_write, has_barrier, IsKept}
-use Rattle.rescue_rules.specs.Laws.{AreThreeNames, GoesSafely}
-use Rattle.rescue_rules.proofs.RunLemmas.{length_map_after, cursor_after_small}
-use Rattle.rescue_rules.proofs.HeldLemmas.{held_now, held_before}
+use Rattle.rescue_rules.specs.Work.{Gain, begins, events_in, opening_calls}
+use Rattle.rescue_rules.specs.Stops.{Behind, files_before, LeftAt, is_sync, is_settle, is_publish, is_write, has_barrier, IsSave, saves_of, IsKept}
+use Rattle.rescue_rules.specs.Laws.{AreThreeNames, AreTimes, GoesSafely}
+use Rattle.rescue_rules.specs.RunStops.{Promised, promised, Keeps, Rests}
+use Rattle.rescue_rules.specs.MachineLaws.{IsInOrder}
+use Rattle.rescue_rules.specs.Beginning.{shown_at_first}
+use Rattle.save_resume.specs.Loading.{piece_size, piece_reads}
+use Rattle.std.proofs.lemmas.List.Elements.{All-head, All-drop}
+use Rattle.std.proofs.lemmas.Option.{none-some}
+use Rattle.rescue_rules.proofs.ReadyLemmas.{order_begins}
 use Rattle.rescue_rules.proofs.StandsLemmas.{stands_for_one, IsSmall, stands_small, printed_stands}
 use Rattle.rescue_rules.proofs.CutLemmas.{Cut, add, tally, tally_is, Each, at_stop}
-use Rattle.rescue_rules.proofs.DiskStages.{Scene, text_file, StoodFile, stood_found, Found, Earlier, Between, Later, Calm, calm_found}
-use Rattle.rescue_rules.proofs.EachLemmas.{each_load, file_after, each_writes, each_save}
-use Rattle.rescue_rules.proofs.BarrierLemmas.{opened_file, opened_bytes, at_barrier, barrier_calm}
-use Rattle.rescue_rules.proofs.GoesLemmas.{run_calls, reads_of, Course, Way, AnyMap, OneMap, way}
-use Rattle.rescue_rules.proofs.BeforeLemmas.{disk_before, sound_before, or_found, could_before}
+use Rattle.rescue_rules.proofs.MoveStages.{Holds}
+use Rattle.rescue_rules.proofs.RunStopLemmas.{each_run, rests_hold}
+use Rattle.rescue_rules.proofs.FitLemmas.{begins_fits}
+use Rattle.rescue_rules.proofs.SnapshotLemmas.{IsReadable, IsTame, all_readable, one_of, events_timed}
+use Rattle.rescue_rules.proofs.BarrierLemmas.{at_barrier, barrier_rests, barrier_mapfile, barrier_output}
+use Rattle.rescue_rules.proofs.GoesLemmas.{all_calls, reads_of, Course, Way, AnyMap, OneMap, way}
+use Rattle.rescue_rules.proofs.BeforeLemmas.{disk_before, sound_before, could_before}
 use Rattle.rescue_rules.proofs.OthersLemmas.{others_could}
-
--- the scene of a rescue
-abbrev scene : Behind → Setting → List Status → ℕ → List Reading → Scene
-scene b s began shown reads = record {
-  s = s;
-  map0 = files_before b s.names.map;
-  old = opened_file (files_before b s.outfile);
-  began = began;
-  text = text_of s.line (snapshot_after began shown reads);
-  new = file_after s (opened_file (files_before b s.outfile)) reads;
-}
 
 -- what reads before a rescue
 reads_before : (b : Behind) (name : List ℕ) → (disk_before b).reads.files name ≡ files_before b name
 reads_before b name = ap (λ (r : Folder). r.files name) (run_reads (at_rest b.start) b.earlier)
 
-scene_calm : (b : Behind) (s : Setting) (began : List Status) (shown : ℕ) (reads : List Reading) → AreThreeNames s
-    → Calm (scene b s began shown reads) 0 (opened_file (files_before b s.outfile)) (at_barrier s (disk_before b))
-scene_calm b s began shown reads three =
-    barrier_calm (scene b s began shown reads) (disk_before b) three (sound_before b) (reads_before b s.names.map)
-    (ap opened_file (reads_before b s.outfile))
+-- what a rescue has to keep
+abbrev kept_of : Behind → Setting → List Status → Option MapState → Gain → Promised
+kept_of b s began state g = promised s (begins s began state g) (events_in g) (at_barrier s (disk_before b))
 
--- what may be found at every stop behind the barrier
-scene_each : (b : Behind) (s : Setting) (began : List Status) (shown : ℕ) (reads : List Reading) (given : List ℕ)
-    (at : ℕ) (answer : Option MapRead)
-    → IsSensible s → AreThreeNames s → IsRun s began 0 reads
-    → Each (Found (scene b s began shown reads)) 1 0 0 (at_barrier s (disk_before b))
-    (reads_of s given at answer ++ run_calls s began shown reads)
-scene_each b s began shown reads given at answer ok three run =
-    let c : Scene = scene b s began shown reads in
-    let d : Disk = at_barrier s (disk_before b) in
-    let h : Calm c 0 c.old d = scene_calm b s began shown reads three in
-    each_load c s.names.map given at answer d (run_calls s began shown reads) (calm_found c 0 0 c.old d h)
-    (each_writes c began 0 reads 0 c.old d (end_calls s began shown reads) ok three run (λ x from wanted. wanted) h
-    (λ w' d' h'. each_save c w' d' three h'))
+-- loads change nothing
+each_piece_read : (a : Promised) (name : List ℕ) (pos : ℕ) (given : List ℕ) (d : Disk) (rest : List Call)
+    → Holds a 0 0 0 d → Each (Holds a) 0 0 0 d rest → Each (Holds a) 0 0 0 d (piece_reads name pos given ++ rest)
+each_piece_read a name pos [] d rest f h = h
+each_piece_read a name pos (n ∷ ns) d rest f h = (f, f, each_piece_read a name (pos + n) ns d rest f h)
+
+each_load : (a : Promised) (name : List ℕ) (given : List ℕ) (at : ℕ) (answer : Option MapRead) (d : Disk)
+    (rest : List Call) → Holds a 0 0 0 d → Each (Holds a) 0 0 0 d rest
+    → Each (Holds a) 0 0 0 d ((piece_reads name 0 given ++ map_read name at piece_size answer ∷ []) ++ rest)
+each_load a name given at answer d rest f h =
+    subst (λ (l : List Call). Each (Holds a) 0 0 0 d l)
+    (sym (append_assoc (piece_reads name 0 given) (map_read name at piece_size answer ∷ []) rest))
+    (each_piece_read a name 0 given d (map_read name at piece_size answer ∷ rest) f (f, f, h))
 
 -- the calls behind a barrier that has returned
 record Past (s : Setting) (tail : List Call) (es : List Entry) (k : ℕ) : Type 0 where
@@ -127,72 +124,59 @@ past s tail es k cut is =
       cut = p3.cut;
     }
 
--- what may be found where so many calls have returned
-abbrev AtStop : Scene → Disk → List Entry → ℕ → Type 0
-AtStop c d es k =
-    Found c (count_by is_settle (take k es)) (count_by is_publish (take (suc k) es))
+tally_add : (f : Entry → Bool) (es : List Entry) (b : Bool) (n : ℕ) → ((m : ℕ) → tally f es (suc m) ≡ suc (tally f es m))
+    → tally f es (add b (suc n)) ≡ suc (tally f es (add b n))
+tally_add f es true n more = more (suc n)
+tally_add f es false n more = more n
+
+first_small : (times : List ℕ) → AreTimes times → began_at times < 2 ^ 64
+first_small [] h = omega arith
+first_small (t ∷ ts) h = All-head (λ (n : ℕ). n < 2 ^ 64) t ts h
+
+tally_more : (f : Entry → Bool) (es : List Entry) (n : ℕ) → tally f es (suc n) ≡ suc (tally f es n)
+tally_more f [] n = refl
+tally_more f (e ∷ es) n = tally_add f es (f e) n (λ m. tally_more f es m)
+
+-- what is kept where so many calls have returned
+abbrev AtStop : Promised → Disk → List Entry → ℕ → Type 0
+AtStop a d es k =
+    Holds a (count_by is_settle (take k es) - 1) (count_by is_publish (take (suc k) es))
     (count_by is_write (take (suc k) es)) (disk_after d (until k es))
 
-tallied : (c : Scene) (d : Disk) (es : List Entry) (k : ℕ)
-    → Found c (tally is_settle (take k es) 0) (tally is_publish (take (suc k) es) 0)
-    (tally is_write (take (suc k) es) 0) (disk_after d (until k es)) → AtStop c d es k
-tallied c d es k h =
-    subst (λ (r : ℕ). Found c r (count_by is_publish (take (suc k) es)) (count_by is_write (take (suc k) es))
-    (disk_after d (until k es))) (sym (tally_is is_settle (take k es)))
-    (subst (λ (p : ℕ). Found c (tally is_settle (take k es) 0) p (count_by is_write (take (suc k) es))
+tallied : (a : Promised) (d : Disk) (es : List Entry) (k r : ℕ) → tally is_settle (take k es) 0 ≡ suc r
+    → Holds a r (tally is_publish (take (suc k) es) 0) (tally is_write (take (suc k) es) 0) (disk_after d (until k es))
+    → AtStop a d es k
+tallied a d es k r is h =
+    let less : r ≡ count_by is_settle (take k es) - 1 = omega (arith, is, tally_is is_settle (take k es)) in
+    subst (λ (n : ℕ). Holds a n (count_by is_publish (take (suc k) es)) (count_by is_write (take (suc k) es))
+    (disk_after d (until k es))) less
+    (subst (λ (p : ℕ). Holds a r p (count_by is_write (take (suc k) es))
     (disk_after d (until k es))) (sym (tally_is is_publish (take (suc k) es)))
-    (subst (λ (w : ℕ). Found c (tally is_settle (take k es) 0) (tally is_publish (take (suc k) es) 0) w
+    (subst (λ (w : ℕ). Holds a r (tally is_publish (take (suc k) es) 0) w
     (disk_after d (until k es))) (sym (tally_is is_write (take (suc k) es))) h))
 
-found_at : (b : Behind) (s : Setting) (g : Gain) (began : List Status) (shown : ℕ) (k : ℕ) → IsSensible s
-    → AreThreeNames s → Course s began shown g
-    → has_barrier (take k g.calls) ≡ true → AtStop (scene b s began shown g.reads) (disk_before b) g.calls k
-found_at b s g began shown k ok three course is =
-    let c : Scene = scene b s began shown g.reads in
-    let tail : List Call = reads_of s course.given course.at course.answer ++ run_calls s began shown g.reads in
+kept_at : (b : Behind) (s : Setting) (g : Gain) (began : List Status) (state : Option MapState) (k : ℕ) → IsSensible s
+    → AreThreeNames s → Course s began state g
+    → has_barrier (take k g.calls) ≡ true → AtStop (kept_of b s began state g) (disk_before b) g.calls k
+kept_at b s g began state k ok three course is =
+    let m : Machine = begins s began state g in
+    let es : List Event = events_in g in
+    let a : Promised = kept_of b s began state g in
+    let d : Disk = at_barrier s (disk_before b) in
+    let rests : Rests s d = barrier_rests s (disk_before b) three (sound_before b) in
+    let order : IsInOrder s m = order_begins s began None (shown_at_first state) (began_at g.times) in
+    let tail : List Call = reads_of s course.given course.at course.answer ++ all_calls s m es in
     let p : Past s tail g.calls k = past s tail g.calls k course.cut is in
     let whole : List Entry
     = Done (image_open s.outfile true) ∷ Done (map_settle s.names.map) ∷ Done image_sync ∷ p.rest in
-    subst (λ (l : List Entry). AtStop c (disk_before b) l k) (sym p.es_is)
-    (subst (λ (m : ℕ). AtStop c (disk_before b) whole m) (sym p.k_is)
-    (tallied c (disk_before b) whole (suc (suc (suc p.j)))
-    (at_stop (Found c) 1 0 0 (at_barrier s (disk_before b)) tail p.rest p.j
-    (scene_each b s began shown g.reads course.given course.at course.answer ok three course.run) p.cut)))
-
--- the output that is found
-found_output : (c : Scene) (r p w : ℕ) (d : Disk) (files : List ℕ → Option File) → Found c r p w d → Leaves d files
-    → (g : File) × (files c.s.outfile ≡ Some g) × StoodFile c w g
-found_output c r p w d files (Earlier r_is map st) h =
-    stood_found c w (d.shows c.s.outfile) (files c.s.outfile) st (h c.s.outfile)
-found_output c r p w d files (Between r_is some map st new) h =
-    stood_found c w (d.shows c.s.outfile) (files c.s.outfile) st (h c.s.outfile)
-found_output c r p w d files (Later r_is some map st new) h =
-    stood_found c w (d.shows c.s.outfile) (files c.s.outfile) st (h c.s.outfile)
-
-shown_as : (d : Disk) (n : List ℕ) (v : Showing) (files : List ℕ → Option File) → d.shows n ≡ v → Leaves d files
-    → MayShow v (files n)
-shown_as d n v files is h = subst (λ (u : Showing). MayShow u (files n)) is (h n)
-
--- the mapfile that is found
-data FoundMap (c : Scene) (r p : ℕ) (files : List ℕ → Option File) : Type 0 where
-  OldMap : r ≡ 1 → files c.s.names.map ≡ c.map0 → FoundMap c r p files
-  NewMap : r ≤ 2 → 1 ≤ p → files c.s.names.map ≡ Some (text_file c.text) → files c.s.outfile ≡ Some c.new
-      → FoundMap c r p files
-
-found_map : (c : Scene) (r p w : ℕ) (d : Disk) (files : List ℕ → Option File) → Found c r p w d → Leaves d files
-    → FoundMap c r p files
-found_map c r p w d files (Earlier r_is map st) h =
-    OldMap r_is (found_only c.map0 (files c.s.names.map) (shown_as d c.s.names.map (only c.map0) files map h))
-found_map c r p w d files (Between r_is some map st new) h = ⊎_elim
-    (λ (was : MayShow (only c.map0) (files c.s.names.map)). OldMap r_is (found_only c.map0 (files c.s.names.map) was))
-    (λ (is : files c.s.names.map ≡ Some (text_file c.text)). NewMap (omega arith) some is
-    (found_only (Some c.new) (files c.s.outfile) (shown_as d c.s.outfile (only (Some c.new)) files new h)))
-    (or_found (Some (text_file c.text)) (only c.map0) (files c.s.names.map)
-    (shown_as d c.s.names.map (or_this (Some (text_file c.text)) (only c.map0)) files map h))
-found_map c r p w d files (Later r_is some map st new) h = NewMap (omega arith) some
-    (found_only (Some (text_file c.text)) (files c.s.names.map)
-    (shown_as d c.s.names.map (only (Some (text_file c.text))) files map h))
-    (found_only (Some c.new) (files c.s.outfile) (shown_as d c.s.outfile (only (Some c.new)) files new h))
+    let each : Each (Holds a) 0 0 0 d tail
+    = each_load a s.names.map course.given course.at course.answer d (all_calls s m es)
+    (rests_hold s ok m es d order course.run rests) (each_run s ok m es d three order course.run rests) in
+    subst (λ (l : List Entry). AtStop a (disk_before b) l k) (sym p.es_is)
+    (subst (λ (n : ℕ). AtStop a (disk_before b) whole n) (sym p.k_is)
+    (tallied a (disk_before b) whole (suc (suc (suc p.j))) (tally is_settle (take p.j p.rest) 0)
+    (tally_more is_settle (take p.j p.rest) 0)
+    (at_stop (Holds a) 0 0 0 d tail p.rest p.j each p.cut)))
 
 un_step : (f : Entry → Bool) (es : List Entry) (b : Bool) → (b || list_any f es) ≡ false
     → (list_any f es ≡ false → tally f es 0 ≡ 0) → tally f es (add b 0) ≡ 0
@@ -209,158 +193,145 @@ left_at : (b : Behind) (g : Gain) (k : ℕ) (files : List ℕ → Option File) �
     → Leaves (disk_after (disk_before b) (until k g.calls)) files
 left_at b g k files h = left_past b.start b.earlier g.calls k (length b.earlier + k) files refl h
 
-output_stands : (b : Behind) (s : Setting) (g : Gain) (began : List Status) (shown : ℕ) (k : ℕ)
+-- what is found keeps what a rescue has to
+found_keeps : (b : Behind) (s : Setting) (g : Gain) (began : List Status) (state : Option MapState) (k : ℕ)
+    (files : List ℕ → Option File) → IsSensible s → AreThreeNames s → Course s began state g → LeftAt b g k files
+    → has_barrier (take k g.calls) ≡ true
+    → Keeps (kept_of b s began state g) (count_by is_settle (take k g.calls) - 1)
+    (count_by is_publish (take (k + 1) g.calls)) (count_by is_write (take (k + 1) g.calls)) files
+found_keeps b s g began state k files ok three course left is =
+    subst (λ (n : ℕ). Keeps (kept_of b s began state g) (count_by is_settle (take k g.calls) - 1)
+    (count_by is_publish (take n g.calls)) (count_by is_write (take n g.calls)) files) (sym (add-one k))
+    (kept_at b s g began state k ok three course is files (left_at b g k files left))
+
+old_bytes : (b : Behind) (s : Setting) (began : List Status) (state : Option MapState) (g : Gain)
+    → (kept_of b s began state g).start ≡ bytes_of (files_before b s.outfile)
+old_bytes b s began state g = barrier_output s (disk_before b) ∙ ap bytes_of (reads_before b s.outfile)
+
+old_map : (b : Behind) (s : Setting) (began : List Status) (state : Option MapState) (g : Gain) → AreThreeNames s
+    → (kept_of b s began state g).mapfile ≡ files_before b s.names.map
+old_map b s began state g three = barrier_mapfile s (disk_before b) three ∙ reads_before b s.names.map
+
+output_stands : (b : Behind) (s : Setting) (g : Gain) (began : List Status) (state : Option MapState) (k : ℕ)
     (files : List ℕ → Option File) → IsSensible s → AreThreeNames s
-    → Course s began shown g → LeftAt b g k files → has_barrier (take k g.calls) ≡ true
+    → Course s began state g → LeftAt b g k files → has_barrier (take k g.calls) ≡ true
     → list_any is_write (take (k + 1) g.calls) ≡ false
     → bytes_of (files s.outfile) ≡ bytes_of (files_before b s.outfile)
-output_stands b s g began shown k files ok three course left is none =
-    let c : Scene = scene b s began shown g.reads in
-    let f
-    = found_output c (count_by is_settle (take k g.calls)) (count_by is_publish (take (suc k) g.calls))
-    (count_by is_write (take (suc k) g.calls))
-    (disk_after (disk_before b) (until k g.calls)) files (found_at b s g began shown k ok three course is)
-    (left_at b g k files left) in
-    let zero_writes : count_by is_write (take (suc k) g.calls) ≡ 0
-    = tally_is is_write (take (suc k) g.calls)
-    ∙ uncounted is_write (take (suc k) g.calls)
-    (subst (λ (m : ℕ). list_any is_write (take m g.calls) ≡ false) (add-one k) none) in
-    ap bytes_of f.1 ∙ f.2.unwritten zero_writes ∙ opened_bytes (files_before b s.outfile)
+output_stands b s g began state k files ok three course left is none =
+    (found_keeps b s g began state k files ok three course left is).unwritten
+    (tally_is is_write (take (k + 1) g.calls) ∙ uncounted is_write (take (k + 1) g.calls) none)
+    ∙ old_bytes b s began state g
 
-map_at : (b : Behind) (s : Setting) (g : Gain) (began : List Status) (shown : ℕ) (k : ℕ) (files : List ℕ → Option File)
-    → IsSensible s → AreThreeNames s
-    → Course s began shown g → LeftAt b g k files → has_barrier (take k g.calls) ≡ true
-    → FoundMap (scene b s began shown g.reads) (count_by is_settle (take k g.calls))
-    (count_by is_publish (take (k + 1) g.calls)) files
-map_at b s g began shown k files ok three course left is =
-    let c : Scene = scene b s began shown g.reads in
-    subst (λ (m : ℕ). FoundMap c (count_by is_settle (take k g.calls)) (count_by is_publish (take m g.calls)) files)
-    (sym (add-one k))
-    (found_map c (count_by is_settle (take k g.calls)) (count_by is_publish (take (suc k) g.calls))
-    (count_by is_write (take (suc k) g.calls))
-    (disk_after (disk_before b) (until k g.calls)) files (found_at b s g began shown k ok three course is)
-    (left_at b g k files left))
+no_save : (old : Option File) (began : List Status) (line : List ℕ) (saves : List Snapshot) (n : ℕ) (found : Option File)
+    (statuses : List Status) → IsSave old began line saves n found statuses → n ≤ 0 → found ≡ old
+no_save old began line saves zero found statuses h few = h.0
+no_save old began line saves (suc n) found statuses h few = absurd (omega (arith, few))
 
-map_stands : (c : Scene) (r p : ℕ) (files : List ℕ → Option File) → FoundMap c r p files → p ≡ 0
-    → files c.s.names.map ≡ c.map0
-map_stands c r p files (OldMap r_is is) none = is
-map_stands c r p files (NewMap few some is new) none = absurd (omega (arith, some, none))
-
--- the mapfile that a run began with is found
-kept_old : (b : Behind) (s : Setting) (g : Gain) (began : List Status) (shown : ℕ) (k : ℕ)
+map_stands : (b : Behind) (s : Setting) (g : Gain) (began : List Status) (state : Option MapState) (k : ℕ)
     (files : List ℕ → Option File) → IsSensible s → AreThreeNames s
-    → Course s began shown g → LeftAt b g k files → has_barrier (take k g.calls) ≡ true
-    → Stands (files_before b s.names.map) s.end began shown
-    → count_by is_settle (take k g.calls) ≡ 1 → files s.names.map ≡ files_before b s.names.map
-    → IsKept b s g began shown k files
-kept_old b s g began shown k files ok three course left is stands r_is map_is =
-    let c : Scene = scene b s began shown g.reads in
-    let f
-    = found_output c (count_by is_settle (take k g.calls)) (count_by is_publish (take (suc k) g.calls))
-    (count_by is_write (take (suc k) g.calls))
-    (disk_after (disk_before b) (until k g.calls)) files (found_at b s g began shown k ok three course is)
-    (left_at b g k files left) in
-    let held : Held s g.reads c.old.bytes began f.0.bytes
-    = held_before s ok began g.reads c.old.bytes f.0.bytes course.run f.2.stands in
+    → Course s began state g → LeftAt b g k files → has_barrier (take k g.calls) ≡ true
+    → count_by is_publish (take (k + 1) g.calls) ≡ 0 → files s.names.map ≡ files_before b s.names.map
+map_stands b s g began state k files ok three course left is none =
+    let a : Promised = kept_of b s began state g in
+    let h = found_keeps b s g began state k files ok three course left is in
+    no_save a.mapfile a.began s.line a.saves h.number (files s.names.map) h.statuses h.is_save (omega (arith, h.no_newer, none))
+    ∙ old_map b s began state g three
+
+-- the mapfile that is found stands for its map
+stands_found : (s : Setting) (old : Option File) (began : List Status) (state : Option MapState) (saves : List Snapshot)
+    (n : ℕ) (found : Option File) (statuses : List Status) → IsSave old began s.line saves n found statuses
+    → All (IsReadable s.end) saves → Stands old s.end began state
+    → (shows : Option MapState) × Stands found s.end statuses shows
+stands_found s old began state saves zero found statuses h small stands = (
+  state,
+  subst (λ (o : Option File). Stands o s.end statuses state) (sym h.0)
+      (subst (λ (l : List Status). Stands old s.end l state) (sym h.1) stands),
+)
+stands_found s old began state saves (suc n) found statuses h small stands =
+    let p : Snapshot = h.0 in
+    let r : IsReadable s.end p = one_of (IsReadable s.end) saves n p small h.1 in
+    let file : File = record { bytes = text_of s.line p; regular = true } in (
+      Some p.shown,
+      subst (λ (o : Option File). Stands o s.end statuses (Some p.shown)) (sym h.3)
+          (subst (λ (l : List Status). Stands (Some file) s.end l (Some p.shown)) (sym h.2)
+          (printed_stands s.line file s.end p r.long r.short r.shown r.began r.now refl)),
+    )
+
+-- a run begins in a state whose numbers are small
+begins_tame : (s : Setting) (ok : IsSensible s) (began : List Status) (state : Option MapState) (g : Gain)
+    → AreTimes g.times → IsSmall s.end began state → IsTame s s.end (begins s began state g)
+begins_tame s ok began state g times small =
+    let first : began_at g.times < 2 ^ 64 = first_small g.times times in
     record {
-      number = 0;
-      no_older = omega (arith, r_is);
-      no_newer = omega arith;
-      statuses = began;
-      is_save = (map_is, refl);
-      shows = shown;
-      stands = subst (λ (o : Option File). Stands o s.end began shown) (sym map_is) stands;
-      held = subst (λ (i : List ℕ). Held s g.reads (bytes_of (files_before b s.outfile)) began i)
-          (sym (ap bytes_of f.1))
-          (subst (λ (o : List ℕ). Held s g.reads o began f.0.bytes) (opened_bytes (files_before b s.outfile)) held);
+      fits = begins_fits s began None (shown_at_first state) (began_at g.times) (2 ^ 63 - 1) (2 ^ 32 - 1)
+          (omega (arith, small.short)) (omega (arith, small.shown.pos)) small.shown.some
+          (omega (arith, small.shown.pass)) (omega arith) (omega (arith, ok.retries)) (λ st is. absurd (none-some st is));
+      long = small.long;
+      began = first;
+      now = first;
     }
 
-saved_small : (s : Setting) (began : List Status) (shown : ℕ) (reads : List Reading) → IsSensible s
-    → IsRun s began 0 reads → IsSmall s.end began shown
-    → IsSmall s.end (map_after began reads) (cursor_after shown reads)
-saved_small s began shown reads ok run small =
-    let size : length (map_after began reads) ≡ length began = length_map_after s ok began 0 reads run in
+kept_by : (b : Behind) (s : Setting) (g : Gain) (began : List Status) (state : Option MapState) (k : ℕ)
+    (files : List ℕ → Option File) → IsSensible s → AreThreeNames s → s.end < 2 ^ 63 → AreTimes g.times
+    → Course s began state g → LeftAt b g k files → has_barrier (take k g.calls) ≡ true
+    → Stands (files_before b s.names.map) s.end began state → IsKept b s g began state k files
+kept_by b s g began state k files ok three low times course left is stands =
+    let m : Machine = begins s began state g in
+    let a : Promised = kept_of b s began state g in
+    let h = found_keeps b s g began state k files ok three course left is in
+    let small : IsSmall s.end began state = stands_small (files_before b s.names.map) s.end began state low stands in
+    let saved : IsSave (files_before b s.names.map) began s.line (saves_of s began state g) h.number (files s.names.map) h.statuses
+    = subst (λ (o : Option File). IsSave o began s.line (saves_of s began state g) h.number (files s.names.map) h.statuses)
+    (old_map b s began state g three) h.is_save in
+    let readable : All (IsReadable s.end) (saves_of s began state g)
+    = all_readable s ok s.end m (events_in g) (order_begins s began None (shown_at_first state) (began_at g.times))
+    course.run (events_timed g.reads (drop 1 g.times) (All-drop (λ (t : ℕ). t < 2 ^ 64) 1 g.times times))
+    (begins_tame s ok began state g times small) in
+    let shows = stands_found s (files_before b s.names.map) began state (saves_of s began state g) h.number
+    (files s.names.map) h.statuses saved readable stands in
     record {
-      long = omega (arith, size, small.long);
-      short = omega (arith, size, small.short);
-      low = cursor_after_small s ok (2 ^ 63) began 0 shown reads run small.low small.short;
+      number = h.number;
+      no_older = h.no_older;
+      no_newer = h.no_newer;
+      statuses = h.statuses;
+      is_save = saved;
+      shows = shows.0;
+      stands = shows.1;
+      held = subst (λ (r : List Reading). Held s r (bytes_of (files_before b s.outfile)) h.statuses (bytes_of (files s.outfile)))
+          course.reads
+          (subst (λ (o : List ℕ). Held s a.reads o h.statuses (bytes_of (files s.outfile))) (old_bytes b s began state g) h.held);
     }
-
--- the saved mapfile is found
-kept_new : (b : Behind) (s : Setting) (g : Gain) (began : List Status) (shown : ℕ) (k : ℕ)
-    (files : List ℕ → Option File) → IsSensible s → s.end < 2 ^ 63
-    → Course s began shown g → Stands (files_before b s.names.map) s.end began shown
-    → count_by is_settle (take k g.calls) ≤ 2
-    → 1 ≤ count_by is_publish (take (k + 1) g.calls)
-    → files s.names.map ≡ Some (text_file (text_of s.line (snapshot_after began shown g.reads)))
-    → files s.outfile ≡ Some (file_after s (opened_file (files_before b s.outfile)) g.reads)
-    → IsKept b s g began shown k files
-kept_new b s g began shown k files ok low course stands few some map_is new_is =
-    let old : List ℕ = (opened_file (files_before b s.outfile)).bytes in
-    let small : IsSmall s.end began shown = stands_small (files_before b s.names.map) s.end began shown low stands in
-    let held = held_now s ok began g.reads old course.run in
-    record {
-      number = 1;
-      no_older = omega (arith, few);
-      no_newer = some;
-      statuses = map_after began g.reads;
-      is_save = (snapshot_after began shown g.reads, refl, refl, map_is);
-      shows = cursor_after shown g.reads;
-      stands = subst (λ (o : Option File). Stands o s.end (map_after began g.reads) (cursor_after shown g.reads))
-          (sym map_is)
-          (printed_stands s.line (text_file (text_of s.line (snapshot_after began shown g.reads))) s.end
-          (snapshot_after began shown g.reads)
-          (saved_small s began shown g.reads ok course.run small) refl);
-      held = subst (λ (i : List ℕ). Held s g.reads (bytes_of (files_before b s.outfile)) (map_after began g.reads) i)
-          (sym (ap bytes_of new_is))
-          (subst (λ (o : List ℕ). Held s g.reads o (map_after began g.reads)
-          (file_after s (opened_file (files_before b s.outfile)) g.reads).bytes)
-          (opened_bytes (files_before b s.outfile)) held);
-    }
-
-kept_by : (b : Behind) (s : Setting) (g : Gain) (began : List Status) (shown : ℕ) (k : ℕ) (files : List ℕ → Option File)
-    → IsSensible s → AreThreeNames s → s.end < 2 ^ 63
-    → Course s began shown g → LeftAt b g k files → has_barrier (take k g.calls) ≡ true
-    → Stands (files_before b s.names.map) s.end began shown
-    → FoundMap (scene b s began shown g.reads) (count_by is_settle (take k g.calls))
-    (count_by is_publish (take (k + 1) g.calls)) files → IsKept b s g began shown k files
-kept_by b s g began shown k files ok three low course left is stands (OldMap r_is map_is) =
-    kept_old b s g began shown k files ok three course left is stands r_is map_is
-kept_by b s g began shown k files ok three low course left is stands (NewMap few some map_is new_is) =
-    kept_new b s g began shown k files ok low course stands few some map_is new_is
 
 -- the course of a rescue over the map that its mapfile stands for, and over some map
-course_over : (s : Setting) (files : List ℕ → Option File) (g : Gain) (began : List Status) (shown : ℕ) → Way s files g
-    → Stands (files s.names.map) s.end began shown
-    → Course s began shown g
-course_over s files g began shown (AnyMap any) stands = any began shown
-course_over s files g began shown (OneMap map at was course) stands =
-    let same = stands_for_one (files s.names.map) s.end map began at shown was stands in
-    subst (λ (n : ℕ). Course s began n g) same.1 (subst (λ (m : List Status). Course s m at g) same.0 course)
+course_over : (s : Setting) (files : List ℕ → Option File) (g : Gain) (began : List Status) (state : Option MapState)
+    → Way s files g → Stands (files s.names.map) s.end began state → Course s began state g
+course_over s files g began state (AnyMap any) stands = any began state
+course_over s files g began state (OneMap map at was course) stands =
+    let same = stands_for_one (files s.names.map) s.end map began at state was stands in
+    subst (λ (n : Option MapState). Course s began n g) same.1
+    (subst (λ (m : List Status). Course s m at g) same.0 course)
 
 some_course : (s : Setting) (files : List ℕ → Option File) (g : Gain) → Way s files g
-    → (began : List Status) × (shown : ℕ) × Course s began shown g
-some_course s files g (AnyMap any) = ([], 0, any [] 0)
+    → (began : List Status) × (state : Option MapState) × Course s began state g
+some_course s files g (AnyMap any) = ([], None, any [] None)
 some_course s files g (OneMap map at was course) = (map, at, course)
 
 -- a rescue that goes as it should stops safely
 pub goes_safely : GoesSafely
-goes_safely b s g ok three low goes =
+goes_safely b s g ok three low times goes =
     let w : Way s (files_before b) g = way s (files_before b) g goes in
     let (map, at, course) = some_course s (files_before b) g w in
+    let m : Machine = begins s map at g in
     record {
       before = λ k files le left none. could_before b s
-          (reads_of s course.given course.at course.answer ++ run_calls s map at g.reads) g.calls k files course.cut none
+          (reads_of s course.given course.at course.answer ++ all_calls s m (events_in g)) g.calls k files course.cut none
           (left_at b g k files left);
       output = λ k files le left is none. output_stands b s g map at k files ok three course left is none;
-      mapfile = λ k files le left is none. map_stands (scene b s map at g.reads) (count_by is_settle (take k g.calls))
-          (count_by is_publish (take (k + 1) g.calls)) files
-          (map_at b s g map at k files ok three course left is) none;
-      kept = λ k files began shown le left is stands.
-          let over : Course s began shown g = course_over s (files_before b) g began shown w stands in
-          kept_by b s g began shown k files ok three low over left is stands
-          (map_at b s g began shown k files ok three over left is);
-      others = λ k files name le left output mapfile draft. others_could b s name map at g.reads course.given
+      mapfile = λ k files le left is none. map_stands b s g map at k files ok three course left is none;
+      kept = λ k files began state le left is stands.
+          kept_by b s g began state k files ok three low times (course_over s (files_before b) g began state w stands) left is
+          stands;
+      others = λ k files name le left output mapfile draft. others_could b s name m (events_in g) course.given
           course.at course.answer g.calls k files
           (record { output = output; map = mapfile; draft = draft }) course.cut (left_at b g k files left);
     }

@@ -1,14 +1,13 @@
 -- What the definitions mean.
-use Rattle.std.specs.Prelude.{◌≡◌, ◌≢◌, ◌⊎◌, ◌↔◌, ℕ, ◌<◌, ◌^◌, true, List, length, slice_get, Option, Some}
+use Rattle.std.specs.Prelude.{◌≡◌, ◌≢◌, ◌↔◌, ℕ, ◌<◌, ◌^◌, true, List, length, slice_get, All, Option}
 use Rattle.block_list.specs.declared.status.Status.{Status}
 use Rattle.block_list.specs.declared.status.Status.TheVariants.{Finished}
 use Rattle.block_list.specs.Map.{Has}
 use Rattle.faulty_source.specs.Journal.{Reading}
+use Rattle.mapfile_text.specs.declared.state.MapState.{MapState}
 use Rattle.crash_site.specs.Files.{File}
 use Rattle.rescue_rules.specs.Setting.{Setting, IsSensible, place}
 use Rattle.rescue_rules.specs.Start.{Stands}
-use Rattle.rescue_rules.specs.Run.{map_after, IsRun}
-use Rattle.rescue_rules.specs.Given.{given}
 use Rattle.rescue_rules.specs.Held.{Held}
 use Rattle.rescue_rules.specs.Work.{Gain, Goes}
 use Rattle.rescue_rules.specs.Stops.{Behind, files_before, StopsSafely}
@@ -19,21 +18,20 @@ pub record AreThreeNames (s : Setting) : Type 0 where
   pub draft : s.outfile ≢ s.names.draft
   pub apart : s.names.map ≢ s.names.draft
 
+-- readings of a clock, which counts to 2^64
+abbrev pub AreTimes : List ℕ → Type 0
+AreTimes times = All (λ t. t < 2 ^ 64) times
+
 -- A rescue that goes as it should stops safely at every moment.
 abbrev pub GoesSafely : Type 0
-GoesSafely = (b : Behind) (s : Setting) (g : Gain) → IsSensible s → AreThreeNames s → s.end < 2 ^ 63
+GoesSafely = (b : Behind) (s : Setting) (g : Gain) → IsSensible s → AreThreeNames s → s.end < 2 ^ 63 → AreTimes g.times
     → Goes s (files_before b) g → StopsSafely b s g
 
--- A run calls a position finished only if it was, or if the source gave its byte.
-abbrev pub FinishedIsGiven : Type 0
-FinishedIsGiven = (s : Setting) (map : List Status) (reads : List Reading) (x : ℕ) → IsSensible s → IsRun s map 0 reads
-    → Has (map_after map reads) Finished x → Has map Finished x ⊎ ((b : ℕ) × (given s.sector reads x ≡ Some b))
-
--- a mapfile stands for one map and one position at most
+-- a mapfile stands for one map and one state at most
 abbrev pub StandsForOne : Type 0
 StandsForOne =
-    (mapfile : Option File) (end : ℕ) (map map' : List Status) (shown shown' : ℕ) → Stands mapfile end map shown
-    → Stands mapfile end map' shown' → (map ≡ map') × (shown ≡ shown')
+    (mapfile : Option File) (end : ℕ) (map map' : List Status) (state state' : Option MapState)
+    → Stands mapfile end map state → Stands mapfile end map' state' → (map ≡ map') × (state ≡ state')
 
 -- every old place that no position of the domain has stands
 abbrev pub OutsideStands : Setting → (start image : List ℕ) → Type 0

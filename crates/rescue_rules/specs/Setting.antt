@@ -1,8 +1,9 @@
 -- What a rescue is asked to do.
-use Rattle.std.specs.Prelude.{ℕ, ◌+◌, ◌-◌, ◌<◌, ◌≤◌, ◌≡◌, Bool, true, List}
+use Rattle.std.specs.Prelude.{ℕ, ◌+◌, ◌-◌, ◌*◌, ◌^◌, ◌<◌, ◌≤◌, ◌≡◌, Bool, true, List, Option}
 use Rattle.save_resume.specs.MapNames.{MapNames}
 
--- What the words of a rescue ask for, once its input's length is known. Sizes and positions are in bytes.
+-- What the words of a rescue ask for, once its input's length is known. Sizes and positions are in bytes, times in
+-- milliseconds.
 pub record Setting : Type 0 where
   -- the files: the input, the output, the mapfile with its draft
   pub infile : List ℕ
@@ -15,14 +16,33 @@ pub record Setting : Type 0 where
   pub domain : ℕ → Bool
   pub from : ℕ
   pub to : ℕ
-  -- no read crosses a multiple of this
+  -- a read is cut at a multiple of the sector; copying asks for a cluster at most, the other phases for a sector
   pub sector : ℕ
+  pub cluster : ℕ
+  -- how far copying jumps behind a failed or slow read, at first and at most; slow is below so many bytes a second
+  pub skip : ℕ
+  pub skip_max : ℕ
+  pub min_rate : ℕ
+  -- which phases there are, how often retrying goes over the bad sectors, and the directions of the passes
+  pub trims : Bool
+  pub scrapes : Bool
+  pub retries : ℕ
+  pub reverse : Bool
+  pub one_way : Bool
+  -- how many reads may fail, and how long there may be no whole one
+  pub max_errors : Option ℕ
+  pub timeout : Option ℕ
 
 -- where a position stands in the output
 abbrev pub place : Setting → ℕ → ℕ
 place s x = x - s.from + s.to
 
--- a setting that words can ask for: a sector isn't empty, and the domain begins at `from` or behind it
+-- a setting that words can ask for: a sector isn't empty, a cluster is some whole sectors, the domain begins at `from` or
+-- behind it, and the number of a pass can be printed
 pub record IsSensible (s : Setting) : Type 0 where
   pub sector : 0 < s.sector
+  pub sectors : ℕ
+  pub some : 0 < sectors
+  pub cluster : s.cluster ≡ sectors * s.sector
   pub from : (x : ℕ) → s.domain x ≡ true → s.from ≤ x
+  pub retries : s.retries < 2 ^ 32

@@ -8,32 +8,32 @@ use Rattle.mapfile_text.specs.declared.read.Mode.TheVariants.{Tight}
 use Rattle.mapfile_text.specs.MapText.{IsMapText, Blank}
 use Rattle.crash_site.specs.Files.{File}
 
--- nothing of the input was tried yet, and the rescue stands at its start
-pub record IsFresh (end : ℕ) (map : List Status) (shown : ℕ) : Type 0 where
+-- nothing of the input was tried yet, and nothing says where the rescue stands
+pub record IsFresh (end : ℕ) (map : List Status) (state : Option MapState) : Type 0 where
   pub map_is : map ≡ replicate end NonTried
-  pub shown_is : shown ≡ 0
+  pub state_is : state ≡ None
 
--- the map that a text is, followed by non-tried positions up to the input's end, and the position that the text shows
-pub record IsResumed (text : List ℕ) (end : ℕ) (map : List Status) (shown : ℕ) : Type 0 where
-  pub state : MapState
+-- the map that a text is, followed by non-tried positions up to the input's end, and the state that the text shows
+pub record IsResumed (text : List ℕ) (end : ℕ) (map : List Status) (state : Option MapState) : Type 0 where
+  pub shown : MapState
   pub first : ℕ
   pub listed : Bool
   pub statuses : List Status
-  pub reads : IsMapText text Tight state first listed statuses
+  pub reads : IsMapText text Tight shown first listed statuses
   pub map_is : map ≡ extended statuses end
-  pub shown_is : shown ≡ state.pos
+  pub state_is : state ≡ Some shown
 
 -- what a mapfile's text stands for; one of comments and blank lines alone is like no mapfile
-pub data TextStands (text : List ℕ) (end : ℕ) (map : List Status) (shown : ℕ) : Type 0 where
-  AsNone : Blank text → IsFresh end map shown → TextStands text end map shown
-  AsMap : IsResumed text end map shown → TextStands text end map shown
+pub data TextStands (text : List ℕ) (end : ℕ) (map : List Status) (state : Option MapState) : Type 0 where
+  AsNone : Blank text → IsFresh end map state → TextStands text end map state
+  AsMap : IsResumed text end map state → TextStands text end map state
 
 -- what a mapfile stands for: its text, or an input that wasn't tried where it is absent
-abbrev pub StandsFor : Option File → (end : ℕ) → List Status → (shown : ℕ) → Type 0
-StandsFor None end map shown = IsFresh end map shown
-StandsFor (Some f) end map shown = TextStands f.bytes end map shown
+abbrev pub StandsFor : Option File → (end : ℕ) → List Status → (state : Option MapState) → Type 0
+StandsFor None end map state = IsFresh end map state
+StandsFor (Some f) end map state = TextStands f.bytes end map state
 
--- A mapfile, absent or not, stands for a map of an input with a length, and for the position that it shows: the
--- current position of its status line. How long its text may be is no matter of this.
-pub record Stands (mapfile : Option File) (end : ℕ) (map : List Status) (shown : ℕ) : Type 0 where
-  pub stands : StandsFor mapfile end map shown
+-- A mapfile, absent or not, stands for a map of an input with a length, and for the state of its status line, if it has one.
+-- How long its text may be is no matter of this.
+pub record Stands (mapfile : Option File) (end : ℕ) (map : List Status) (state : Option MapState) : Type 0 where
+  pub stands : StandsFor mapfile end map state

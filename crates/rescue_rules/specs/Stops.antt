@@ -2,6 +2,7 @@
 use Rattle.std.specs.Prelude.{◌≡◌, ◌≢◌, ◌⊎◌, ℕ, zero, suc, ◌+◌, ◌-◌, ◌≤◌, Bool, true, false, List, length, take, ◌++◌, count_by, slice_get, Option, Some, None}
 use Rattle.std.specs.List.{list_any}
 use Rattle.block_list.specs.declared.status.Status.{Status}
+use Rattle.mapfile_text.specs.declared.state.MapState.{MapState}
 use Rattle.crash_site.specs.Files.{File, bytes_of, empty_file}
 use Rattle.crash_site.specs.Calls.{Entry, Done, Failed, image_write, image_sync, draft_publish, map_settle}
 use Rattle.crash_site.specs.Folder.{Folder, after}
@@ -9,8 +10,8 @@ use Rattle.crash_site.specs.Left.{MayBeLeft}
 use Rattle.rescue_rules.specs.Setting.{Setting}
 use Rattle.rescue_rules.specs.Start.{Stands}
 use Rattle.rescue_rules.specs.Held.{Held}
-use Rattle.rescue_rules.specs.Saves.{Snapshot, text_of, snapshots}
-use Rattle.rescue_rules.specs.Work.{Gain}
+use Rattle.rescue_rules.specs.Snapshots.{Snapshot, text_of, snapshots}
+use Rattle.rescue_rules.specs.Work.{Gain, begins, events_in}
 
 -- the calls of a rescue, behind earlier ones of its site: the files that this began with, and those earlier calls
 pub record Behind : Type 0 where
@@ -63,16 +64,20 @@ IsSave old began line saves (suc n) found statuses =
     (p : Snapshot) × (slice_get saves n ≡ Some p) × (statuses ≡ p.map)
     × (found ≡ Some (record { bytes = text_of line p; regular = true }))
 
+-- the saves of a run over a map, and the state that its mapfile shows
+abbrev pub saves_of : Setting → List Status → Option MapState → Gain → List Snapshot
+saves_of s began state g = snapshots s (begins s began state g) (events_in g)
+
 -- The mapfile found is the one that stood there (number 0) or one that the run saved: no older than the last save that had
 -- returned, and no newer than the last that had begun to be published. It stands for that map, and the output holds what
 -- that map promises.
-pub record IsKept (b : Behind) (s : Setting) (g : Gain) (began : List Status) (shown : ℕ) (k : ℕ) (files : List ℕ → Option File) : Type 0 where
+pub record IsKept (b : Behind) (s : Setting) (g : Gain) (began : List Status) (state : Option MapState) (k : ℕ) (files : List ℕ → Option File) : Type 0 where
   pub number : ℕ
   pub no_older : returned (take k g.calls) ≤ number
   pub no_newer : number ≤ published (take (k + 1) g.calls)
   pub statuses : List Status
-  pub is_save : IsSave (files_before b s.names.map) began s.line (snapshots s began shown g.reads) number (files s.names.map) statuses
-  pub shows : ℕ
+  pub is_save : IsSave (files_before b s.names.map) began s.line (saves_of s began state g) number (files s.names.map) statuses
+  pub shows : Option MapState
   pub stands : Stands (files s.names.map) s.end statuses shows
   pub held : Held s g.reads (bytes_of (files_before b s.outfile)) statuses (bytes_of (files s.outfile))
 
@@ -96,9 +101,9 @@ pub record StopsSafely (b : Behind) (s : Setting) (g : Gain) : Type 0 where
       → has_barrier (take k g.calls) ≡ true → published (take (k + 1) g.calls) ≡ 0
       → files s.names.map ≡ files_before b s.names.map
   -- and the mapfile that is found is one that the run saved, or the one it began with, and it holds
-  pub kept : (k : ℕ) (files : List ℕ → Option File) (began : List Status) (shown : ℕ) → k ≤ length g.calls → LeftAt b g k files
-      → has_barrier (take k g.calls) ≡ true → Stands (files_before b s.names.map) s.end began shown
-      → IsKept b s g began shown k files
+  pub kept : (k : ℕ) (files : List ℕ → Option File) (began : List Status) (state : Option MapState) → k ≤ length g.calls → LeftAt b g k files
+      → has_barrier (take k g.calls) ≡ true → Stands (files_before b s.names.map) s.end began state
+      → IsKept b s g began state k files
   -- any other file is found as it could be before the rescue, but for the draft
   pub others : (k : ℕ) (files : List ℕ → Option File) (name : List ℕ) → k ≤ length g.calls → LeftAt b g k files
       → name ≢ s.outfile → name ≢ s.names.map → name ≢ s.names.draft

@@ -1,54 +1,82 @@
 -- What a rescue does on its files, in order, and how far it comes.
-use Rattle.std.specs.Prelude.{◌≡◌, ◌⊎◌, ℕ, true, List, [], ◌∷◌, ◌++◌, map, Option}
+use Rattle.std.specs.Prelude.{◌≡◌, ◌⊎◌, ℕ, ◌+◌, ◌*◌, true, false, List, [], ◌∷◌, ◌++◌, length, map, Option, Some, None}
 use Rattle.block_list.specs.declared.status.Status.{Status}
-use Rattle.faulty_source.specs.Journal.{Reading, is_whole}
+use Rattle.mapfile_text.specs.declared.state.MapState.{MapState}
+use Rattle.faulty_source.specs.Journal.{Reading}
 use Rattle.crash_site.specs.declared.site.SiteCall.{SiteCall}
-use Rattle.crash_site.specs.declared.site.SiteCall.TheVariants.{ImageWrite, MapRead}
+use Rattle.crash_site.specs.declared.site.SiteCall.TheVariants.{MapRead}
 use Rattle.crash_site.specs.Files.{File}
-use Rattle.crash_site.specs.Calls.{Call, Entry, Done, Lost, BrokeAt, image_write, image_open}
-use Rattle.save_resume.specs.Saving.{save_calls}
+use Rattle.crash_site.specs.Calls.{Call, Entry, Done, Lost, BrokeAt, image_open}
 use Rattle.save_resume.specs.Resuming.{barrier_calls}
 use Rattle.save_resume.specs.Loading.{BeginsLoad, IsLoad}
-use Rattle.rescue_rules.specs.Setting.{Setting, place}
+use Rattle.rescue_rules.specs.declared.stop.Stop.{Stop}
+use Rattle.rescue_rules.specs.declared.stop.Stop.TheVariants.{SourceLost, Site, NoMemory}
+use Rattle.rescue_rules.specs.declared.stop.RunEnd.{RunEnd}
+use Rattle.rescue_rules.specs.declared.stop.RunEnd.TheVariants.{Done as Finished, Stopped, SaveFailed}
+use Rattle.rescue_rules.specs.Setting.{Setting}
 use Rattle.rescue_rules.specs.Start.{Stands}
-use Rattle.rescue_rules.specs.Requests.{IsSpent}
-use Rattle.rescue_rules.specs.Run.{IsRun, map_after, cursor_after, writes_of}
-use Rattle.rescue_rules.specs.Saves.{text_of, snapshot_after}
+use Rattle.rescue_rules.specs.Machine.{Machine}
+use Rattle.rescue_rules.specs.Step.{Event, limit}
+use Rattle.rescue_rules.specs.Moves.{move_of, state_after, is_over, IsRun}
+use Rattle.rescue_rules.specs.Beginning.{shown_at_first, machine_of}
+use Rattle.rescue_rules.specs.Events.{began_at, events_of}
+use Rattle.rescue_rules.specs.RunCalls.{move_calls, run_calls, end_calls}
 
--- what was done: the calls on the files, and the reads
+-- what was done: the calls on the files, the reads, and the readings of the clock
 pub record Gain : Type 0 where
   pub calls : List Entry
   pub reads : List Reading
+  pub times : List ℕ
 
 -- nothing was done
 pub record IsNothing (g : Gain) : Type 0 where
   pub calls : g.calls ≡ []
   pub reads : g.reads ≡ []
+  pub times : g.times ≡ []
 
--- the calls of a save at the end of a run that began with this map, and showed this position
-abbrev pub end_calls : Setting → List Status → (shown : ℕ) → List Reading → List Call
-end_calls s statuses shown reads = save_calls s.names (text_of s.line (snapshot_after statuses shown reads))
+-- The state that a run begins in, over a map and the state that its mapfile shows. Copying begins with its first pass.
+abbrev pub begins : Setting → List Status → Option MapState → Gain → Machine
+begins s statuses state g = machine_of s statuses None (shown_at_first state) (began_at g.times)
 
--- how a run over a map may end: it is saved, the input was lost, memory ran out, or a call on the files failed
-pub data RunEnd : Type 0 where
-  Saved : RunEnd
-  InputLost : RunEnd
-  MemoryOut : RunEnd
-  CallFailed : SiteCall → RunEnd
+-- its events
+abbrev pub events_in : Gain → List Event
+events_in g = events_of g.reads g.times
 
--- A run over a map asks for what is wanted, in order; it writes what was read whole; and where no request is left it saves.
--- Where a write failed its read is the last, and where a call of the save failed that is the last call.
-pub data Runs (s : Setting) (statuses : List Status) (shown : ℕ) (g : Gain) : RunEnd → Type 0 where
-  IsSaved : IsRun s statuses 0 g.reads → IsSpent s (map_after statuses g.reads) (cursor_after 0 g.reads)
-      → g.calls ≡ map Done (writes_of s g.reads ++ end_calls s statuses shown g.reads) → Runs s statuses shown g Saved
-  IsLost : IsRun s statuses 0 g.reads → g.calls ≡ map Done (writes_of s g.reads) → Runs s statuses shown g InputLost
-  IsStarved : IsRun s statuses 0 g.reads → g.calls ≡ map Done (writes_of s g.reads) → Runs s statuses shown g MemoryOut
-  IsUnwritten : (before : List Reading) (last : Reading) → g.reads ≡ before ++ last ∷ [] → IsRun s statuses 0 g.reads
-      → is_whole last ≡ true → Lost (image_write (place s last.pos) last.given) (map Done (writes_of s before)) g.calls
-      → Runs s statuses shown g (CallFailed ImageWrite)
-  IsUnsaved : (call : SiteCall) → IsRun s statuses 0 g.reads → IsSpent s (map_after statuses g.reads) (cursor_after 0 g.reads)
-      → BrokeAt call (end_calls s statuses shown g.reads) (map Done (writes_of s g.reads)) g.calls
-      → Runs s statuses shown g (CallFailed call)
+-- Why a run ended, by the state that it came to, and how many readings of the clock there are beyond two for each read: no
+-- request is left; or there was one, and the input was lost, or memory ran out.
+abbrev pub EndsBy : Option Stop → Setting → Machine → (spare : ℕ) → Type 0
+EndsBy None s m spare = (is_over s m ≡ true) × (spare ≡ 0)
+EndsBy (Some SourceLost) s m spare = (is_over s m ≡ false) × (limit s m ≡ None) × (spare ≡ 1)
+EndsBy (Some (Site call)) s m spare = ⊥
+EndsBy (Some NoMemory) s m spare = (is_over s m ≡ false) × (limit s m ≡ None) × (spare ≡ 0)
+
+-- how a run ends whose map was saved
+abbrev pub end_of : Option Stop → RunEnd
+end_of None = Finished
+end_of (Some stop) = Stopped stop
+
+-- The calls of a run whose reads make these events, by how it ended.
+pub data Ends (s : Setting) (m : Machine) (events : List Event) (spare : ℕ) (calls : List Entry) (end : RunEnd) : Type 0 where
+  -- it ended, and its map was saved
+  IsSaved : (stop : Option Stop) → EndsBy stop s (state_after s m events) spare → end ≡ end_of stop
+      → calls ≡ map Done (run_calls s m events ++ end_calls s m events) → Ends s m events spare calls end
+  -- it ended, and a call of its last save failed
+  IsUnsaved : (stop : Option Stop) (call : SiteCall) → EndsBy stop s (state_after s m events) spare
+      → end ≡ SaveFailed call stop → BrokeAt call (end_calls s m events) (map Done (run_calls s m events)) calls
+      → Ends s m events spare calls end
+  -- a call for the last read failed: its write, or one of the save that was due behind it
+  IsBroken : (before : List Event) (last : Event) (call : SiteCall) → events ≡ before ++ last ∷ [] → spare ≡ 0
+      → end ≡ Stopped (Site call)
+      → BrokeAt call (move_calls s (move_of s (state_after s m before) last)) (map Done (run_calls s m before)) calls
+      → Ends s m events spare calls end
+
+-- A run over a map: the clock is read once at its start, and then before and behind each read; each read asks for the request
+-- of the state that those before it led to.
+pub record Runs (s : Setting) (statuses : List Status) (state : Option MapState) (g : Gain) (end : RunEnd) : Type 0 where
+  pub spare : ℕ
+  pub times : length g.times ≡ 1 + 2 * length g.reads + spare
+  pub run : IsRun s (begins s statuses state g) (events_in g)
+  pub ends : Ends s (begins s statuses state g) (events_in g) spare g.calls end
 
 -- the calls before a mapfile is read: the output is opened, and the barrier makes durable what stands
 abbrev pub opening_calls : Setting → List Call
@@ -60,12 +88,12 @@ pub data Goes (s : Setting) (files : List ℕ → Option File) (g : Gain) : Type
   InOpening : (front : List Call) (back : List Call) → front ++ back ≡ opening_calls s → g.reads ≡ []
       → (g.calls ≡ map Done front) ⊎ ((call : Call) × (rest : List Call) × (back ≡ call ∷ rest) × Lost call (map Done front) g.calls)
       → Goes s files g
-  -- the mapfile was being read
+  -- the mapfile was being read, or was read and no run begun
   InLoad : (load : List Call) → BeginsLoad s.names.map (files s.names.map) load → g.reads ≡ []
       → (g.calls ≡ map Done (opening_calls s ++ load)) ⊎ BrokeAt MapRead (opening_calls s ++ load) [] g.calls
       → Goes s files g
   -- a run over the map that the mapfile stands for had begun
-  InRun : (load : List Call) (statuses : List Status) (shown : ℕ) (end : RunEnd) (rest : List Entry)
-      → IsLoad s.names.map (files s.names.map) load → Stands (files s.names.map) s.end statuses shown
-      → g.calls ≡ map Done (opening_calls s ++ load) ++ rest → Runs s statuses shown (record g { calls = rest }) end
+  InRun : (load : List Call) (statuses : List Status) (state : Option MapState) (end : RunEnd) (rest : List Entry)
+      → IsLoad s.names.map (files s.names.map) load → Stands (files s.names.map) s.end statuses state
+      → g.calls ≡ map Done (opening_calls s ++ load) ++ rest → Runs s statuses state (record g { calls = rest }) end
       → Goes s files g

@@ -1,4 +1,6 @@
-//! The rules of a rescue, as definitions and laws alone.
+//! The rules of a rescue, as definitions and laws, and the few types that these speak of.
 #![tactic(auto)]
 
 pub mod laws;
+pub mod phase;
+pub mod stop;

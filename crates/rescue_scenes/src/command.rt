@@ -12,6 +12,7 @@ use std::alloc::Global;
 pub(crate) enum Object {
     Source,
     Site,
+    Console,
 }
 
 /// What is asked of files.
@@ -52,6 +53,8 @@ pub(crate) enum Command {
     },
     /// A regular file, whose lines follow.
     Text(String),
+    /// The readings of the clock of each later run, in milliseconds.
+    Clock(Vec<u64>),
     /// The numbers of calls that fail.
     Fail(Object, Vec<u64>),
     /// A rescue.
@@ -81,6 +84,7 @@ pub(crate) fn read_command(alloc: Global, line: &[u8]) -> Result<Command, Refusa
         "file" => read_file(fields, true),
         "other" => read_file(fields, false),
         "text" => read_text_file(fields),
+        "clock" => Ok(Command::Clock(take_numbers(fields)?)),
         "fail" => read_fail(fields),
         "run" => Ok(Command::Run(take_words(fields)?)),
         "stop" => read_stop(fields),
@@ -122,6 +126,15 @@ fn take_texts(fields: Fields<'_>) -> Result<Vec<String>, Refusal> {
         texts.push(read_text(&field?)?)?;
     }
     Ok(texts)
+}
+
+/// All fields that are left, as numbers.
+fn take_numbers(fields: Fields<'_>) -> Result<Vec<u64>, Refusal> {
+    let mut numbers = Vec::new(fields.allocator());
+    for field in fields {
+        numbers.push(read_number(&field?.bytes)?)?;
+    }
+    Ok(numbers)
 }
 
 /// All fields that are left, as the words of a command line.
@@ -180,13 +193,10 @@ fn read_fail(mut fields: Fields<'_>) -> Result<Command, Refusal> {
     let object = match take_text(&mut fields)?.as_str() {
         "source" => Object::Source,
         "site" => Object::Site,
+        "console" => Object::Console,
         _ => return Err(Refusal::NotUnderstood),
     };
-    let mut numbers = Vec::new(fields.allocator());
-    for field in fields {
-        numbers.push(read_number(&field?.bytes)?)?;
-    }
-    Ok(Command::Fail(object, numbers))
+    Ok(Command::Fail(object, take_numbers(fields)?))
 }
 
 fn read_stop(mut fields: Fields<'_>) -> Result<Command, Refusal> {

@@ -119,6 +119,10 @@ impl Player {
                 regular,
             } => self.scene.put_file(name.as_str(), &bytes, regular),
             Command::Text(name) => self.begin_text(name),
+            Command::Clock(readings) => {
+                self.scene.set_clock(readings);
+                Ok(())
+            }
             Command::Fail(object, numbers) => self.scene.fail_calls(object, &numbers),
             Command::Run(words) => self.scene.run(&words, &mut self.out),
             Command::Stop { calls, kind } => self.scene.stop(calls, kind),

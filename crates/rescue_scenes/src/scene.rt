@@ -15,6 +15,7 @@ use ddrescue_cli::ending::Ending;
 use ddrescue_cli::rescue::ddrescue;
 use ddrescue_cli::words::Words;
 use faulty_source::memory::{BadRange, MemorySource};
+use rescue_console::memory::{MemoryClock, MemoryConsole};
 use std::alloc::Global;
 use std::io::Write;
 
@@ -29,24 +30,36 @@ pub(crate) struct Scene {
     /// The source of the runs so far. A new one is made for the next run where there is none.
     source: Option<MemorySource>,
     site: MemorySite,
+    /// The readings of the clock of each run.
+    clock: Vec<u64>,
+    /// The calls of the next run's console that fail.
+    silent: Vec<u64>,
     /// How many bytes it has stated.
     bytes: usize,
     /// How many files it has put under new names.
     files: usize,
 }
 
-/// Runs a rescue. Where it finds no memory there is no answer: a scene can't ask for that.
+/// Runs a rescue with a clock of these readings, and a console whose calls with these numbers fail. Where it finds no
+/// memory there is no answer: a scene can't ask for that.
 fn rescue(
     alloc: Global,
     words: &Words,
     source: &mut MemorySource,
     site: &mut MemorySite,
+    readings: &[u64],
+    silent: &[u64],
 ) -> Result<Ending, Refusal>
     requires { (state_of site.old).is_drafting ≡ false }
 {
+    let mut clock = MemoryClock::new(Vec::from_slice(alloc, readings)?);
+    let mut console = MemoryConsole::new(alloc);
+    for number in silent {
+        console.fail_call(*number)?;
+    }
     let starved = site.starved();
-    let ending = ddrescue(alloc, words, source, site);
-    if matches!(ending, Ending::NoMemory) || site.starved() > starved {
+    let ending = ddrescue(alloc, words, source, site, &mut clock, &mut console);
+    if matches!(ending, Ending::NoMemory) || site.starved() > starved || console.starved() > 0 {
         return Err(Refusal::NoMemory);
     }
     Ok(ending)
@@ -60,6 +73,8 @@ impl Scene {
             stated: Stated::new(alloc),
             source: None,
             site: MemorySite::new(alloc),
+            clock: Vec::new(alloc),
+            silent: Vec::new(alloc),
             bytes: 0,
             files: 0,
         }
@@ -102,7 +117,15 @@ impl Scene {
                 Ok(())
             }
             Object::Site => self.fail_site_calls(numbers),
+            Object::Console => {
+                self.silent.extend_from_slice(numbers)?;
+                Ok(())
+            }
         }
+    }
+
+    pub(crate) fn set_clock(&mut self, readings: Vec<u64>) {
+        self.clock = readings;
     }
 
     fn fail_site_calls(&mut self, numbers: &[u64]) -> Result<(), Refusal> {
@@ -158,7 +181,15 @@ impl Scene {
         };
         let read = source.journal().len();
         let made = self.site.made();
-        let ending = rescue(self.alloc, words, &mut source, &mut self.site)?;
+        let ending = rescue(
+            self.alloc,
+            words,
+            &mut source,
+            &mut self.site,
+            &self.clock,
+            &self.silent,
+        )?;
+        self.silent.clear();
         append_reads(out, source.journal().get(read..).unwrap_or(&[]))?;
         append_calls(out, &self.site, made)?;
         append_ending(out, ending)?;
@@ -206,7 +237,7 @@ impl Scene {
         let mut source = self.stated.make_source(self.alloc)?;
         write!(out, "left ")?;
         append_blocks(self.alloc, out, site.file(stops.map.as_str()))?;
-        let ending = rescue(self.alloc, &stops.words, &mut source, &mut site)?;
+        let ending = rescue(self.alloc, &stops.words, &mut source, &mut site, &[], &[])?;
         let reads = source.journal().len();
         write!(out, "; ends {ending:?}; {reads} reads; map ")?;
         append_blocks(self.alloc, out, site.file(stops.map.as_str()))?;

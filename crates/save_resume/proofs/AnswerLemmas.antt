@@ -1,5 +1,5 @@
 -- The answers of a mapfile.
-use Rattle.std.proofs.Common.{◌≡◌, ◌≢◌, ◌⊎◌, ℕ, ◌<◌, ◌≤◌, List, [], ◌∷◌, length, Option, Some, None, refl, sym, ap, ◌∙◌, subst, inl, inr, arith}
+use Rattle.std.proofs.Common.{◌≡◌, ◌≢◌, ◌⊎◌, ◌<◌, ◌≤◌, List, [], ◌∷◌, length, Option, Some, None, refl, sym, ◌∙◌, subst, inl, inr, arith}
 use Rattle.std.proofs.lemmas.Bool.{cases_lt}
 use Rattle.mapfile_text.specs.declared.read.Mode.{Mode}
 use Rattle.mapfile_text.specs.declared.read.ReadMap.{ReadMap}
@@ -7,17 +7,15 @@ use Rattle.mapfile_text.specs.declared.read.MapError.{MapError}
 use Rattle.mapfile_text.specs.declared.read.MapError.TheVariants.{NoStatusLine, TooLong}
 use Rattle.mapfile_text.specs.MapText.{text_limit}
 use Rattle.mapfile_text.specs.Lines.{Line, said}
-use Rattle.mapfile_text.specs.MapText.{IsMapText, MapFault, MapLinesFault, Blank}
-use Rattle.mapfile_text.specs.Laws.{SameReading}
+use Rattle.mapfile_text.specs.MapText.{IsMapText, MapFault, Blank}
 use Rattle.mapfile_text.proofs.OneReading.{has_one_reading}
 use Rattle.mapfile_text.proofs.OneFault.{map_has_no_fault, has_one_fault}
 use Rattle.mapfile_text.proofs.MapOrFault.{is_map_or_has_fault}
 use Rattle.crash_site.specs.Files.{File}
 use Rattle.crash_site.proofs.LawLemmas.{found_only}
-use Rattle.crash_site.specs.Disk.{Disk, Showing, only}
-use Rattle.crash_site.specs.Left.{MayShow, Leaves}
-use Rattle.save_resume.specs.MapNames.{MapNames}
-use Rattle.save_resume.specs.Resuming.{IsReadAs, IsRefusedFor, IsLikeNone, NoFile, Silent, NothingPending}
+use Rattle.crash_site.specs.Disk.{Showing}
+use Rattle.crash_site.specs.Left.{MayShow}
+use Rattle.save_resume.specs.Resuming.{NoFile, Silent}
 use Rattle.save_resume.specs.Laws.{ReadAsOne, RefusedForOne, ReadIsNotRefused, NoneIsNotRead, NoneSaysNothing, HasAnswer, PendingNothingIsFound}
 use Rattle.save_resume.proofs.MapLemmas.{map_is_not_blank, blank_fault, fault_is_blank}
 

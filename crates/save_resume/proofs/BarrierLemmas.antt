@@ -1,19 +1,17 @@
 -- What is pending behind a barrier, and behind a load.
 use Rattle.std.specs.Prelude.{⊤}
-use Rattle.std.proofs.Common.{◌≡◌, ◌⊎◌, ℕ, ◌+◌, Bool, true, false, if◌then◌else◌, IsTrue, List, [], ◌∷◌, ◌++◌, map, Option, Some, None, Result, Ok, Err, refl, sym, ap, ◌∙◌, subst, inl, inr, ⊎_elim}
+use Rattle.std.proofs.Common.{◌≡◌, ℕ, ◌+◌, Bool, true, false, if◌then◌else◌, IsTrue, List, [], ◌∷◌, ◌++◌, map, Option, Some, None, refl, sym, ap, ◌∙◌, subst, inl, inr}
 use Rattle.std.specs.Str.{bytes_eq}
-use Rattle.std.proofs.lemmas.List.{map-append}
 use Rattle.crash_site.specs.declared.site.SiteCall.{SiteCall}
-use Rattle.crash_site.specs.declared.site.SiteCall.TheVariants.{MapRead}
 use Rattle.crash_site.specs.Files.{File}
-use Rattle.crash_site.specs.Calls.{Call, Entry, Done, Failed, Made, BrokeAt, map_settle, image_sync, map_read}
+use Rattle.crash_site.specs.Calls.{Call, Entry, Done, Failed, Made, BrokeAt, map_settle}
 use Rattle.crash_site.specs.Folder.{Folder, after}
 use Rattle.crash_site.specs.Disk.{Showing, Disk, only, at_rest, under_some, entered, disk_after}
 use Rattle.crash_site.specs.SiteState.{SiteState, Keeps, Makes, files_in}
 use Rattle.crash_site.proofs.DiskLemmas.{run-append}
 use Rattle.crash_site.proofs.LawLemmas.{sure_synced, after-append}
 use Rattle.save_resume.specs.MapNames.{MapNames}
-use Rattle.save_resume.specs.Loading.{piece_size, piece_reads, BeginsLoad}
+use Rattle.save_resume.specs.Loading.{piece_reads, BeginsLoad}
 use Rattle.save_resume.specs.SaveStops.{disk_of}
 use Rattle.save_resume.specs.Resuming.{barrier_calls, NothingPending}
 

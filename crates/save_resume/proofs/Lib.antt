@@ -1,9 +1,8 @@
-pub mod CallFacts
-pub mod FillFacts
-pub mod SaveFacts
-pub mod StageFacts
-pub mod StopFacts
 pub mod CallLemmas
+pub mod FillLemmas
+pub mod SaveLemmas
+pub mod StageLemmas
+pub mod StopLemmas
 pub mod LoadLemmas
 pub mod MapLemmas
 pub mod BarrierLemmas

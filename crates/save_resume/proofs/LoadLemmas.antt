@@ -1,14 +1,12 @@
 -- A mapfile that is read piece by piece.
-use Rattle.std.proofs.Common.{◌≡◌, ◌⊎◌, Ok, Err, ℕ, zero, suc, ◌+◌, ◌-◌, ◌<◌, ◌≤◌, List, [], ◌∷◌, ◌++◌, length, take, drop, map, Option, Some, None, refl, sym, ap, ◌∙◌, subst, inl, inr, arith, length-append}
+use Rattle.std.proofs.Common.{◌≡◌, ◌⊎◌, ℕ, zero, suc, ◌+◌, ◌-◌, ◌<◌, ◌≤◌, List, [], ◌∷◌, ◌++◌, length, take, drop, map, Option, Some, None, refl, sym, ap, ◌∙◌, subst, inl, inr, arith, length-append}
 use Rattle.std.specs.List.{sum, All, slice_range}
 use Rattle.std.proofs.lemmas.List.{length-take-le, length-take, length-drop, take_all}
 use Rattle.std.proofs.lemmas.List.Elements.{All-append}
 use Rattle.std.proofs.lemmas.List.Sums.{sum_by-append, sum_by-cons}
 use Rattle.std.proofs.Math.Seq.{take-add}
 use Rattle.mapfile_text.specs.declared.read.MapError.TheVariants.{TooLong}
-use Rattle.mapfile_text.specs.declared.read.ReadMap.{ReadMap}
 use Rattle.mapfile_text.specs.MapText.{text_limit}
-use Rattle.mapfile_text.specs.MapText.{IsMapText}
 use Rattle.crash_site.specs.declared.site.MapRead.{MapRead}
 use Rattle.crash_site.specs.declared.site.MapRead.TheVariants.{Bytes, Absent}
 use Rattle.crash_site.specs.declared.site.SiteCall.TheVariants.{MapRead as ReadCall}
@@ -18,9 +16,8 @@ use Rattle.crash_site.specs.Folder.{Folder, after}
 use Rattle.save_resume.specs.declared.load.ResumeFault.{ResumeFault}
 use Rattle.save_resume.specs.declared.load.ResumeFault.TheVariants.{Site, Map as Refused, NoMemory}
 use Rattle.save_resume.specs.Loading.{piece_size, piece_reads, load_reads, IsPiece, BeginsLoad, Ends}
-use Rattle.mapfile_text.specs.declared.read.Mode.{Mode}
-use Rattle.save_resume.specs.Resuming.{Loaded, BrokeInLoad, Loads, FaultCounts}
-use Rattle.save_resume.specs.Text.{IsTextOf, TextStop, NoMapIn}
+use Rattle.save_resume.specs.Resuming.{LoadEnded, BrokeInLoad}
+use Rattle.save_resume.specs.Text.{IsTextOf, TextStop}
 use Rattle.crash_site.proofs.LawLemmas.{after-append}
 use Rattle.save_resume.proofs.CallLemmas.{made_more, broke_back}
 
@@ -81,10 +78,10 @@ begins name file text calls calls' answer p = record {
 }
 
 -- a read that ends the load
-loaded : (name : List ℕ) (file : Option File) (text : List ℕ) (calls calls' calls'' : List Entry) (pos asked : ℕ) (answer : Option MapRead)
+load_ended : (name : List ℕ) (file : Option File) (text : List ℕ) (calls calls' calls'' : List Entry) (pos asked : ℕ) (answer : Option MapRead)
     → (p : Pieces name file text calls calls') → pos ≡ length text → asked ≡ piece_size
-    → calls'' ≡ calls' ++ Done (map_read name pos asked answer) ∷ [] → Ends file (sum p.given) answer → Loaded [] name file calls calls''
-loaded name file text calls calls' calls'' pos asked answer p at size done ends = (
+    → calls'' ≡ calls' ++ Done (map_read name pos asked answer) ∷ [] → Ends file (sum p.given) answer → LoadEnded [] name file calls calls''
+load_ended name file text calls calls' calls'' pos asked answer p at size done ends = (
   load_reads name p.given answer,
   record { begins = begins name file text calls calls' answer p; ends = ends },
   made_behind name file text calls calls' calls'' pos asked answer p at size done,
@@ -98,19 +95,19 @@ no_file (Some f) pos buf r = absurd r
 -- a load that finds no file has ended
 pub loaded_none : (name : List ℕ) (file : Option File) (text : List ℕ) (calls calls' calls'' : List Entry) (pos asked : ℕ) (buf : List ℕ)
     → Pieces name file text calls calls' → pos ≡ length text → asked ≡ piece_size
-    → calls'' ≡ calls' ++ Done (map_read name pos asked (Some Absent)) ∷ [] → IsRead file pos buf Absent → Loaded [] name file calls calls''
+    → calls'' ≡ calls' ++ Done (map_read name pos asked (Some Absent)) ∷ [] → IsRead file pos buf Absent → LoadEnded [] name file calls calls''
 loaded_none name None text calls calls' calls'' pos asked buf p at size done r =
-    loaded name None text calls calls' calls'' pos asked (Some Absent) p at size done refl
+    load_ended name None text calls calls' calls'' pos asked (Some Absent) p at size done refl
 loaded_none name (Some f) text calls calls' calls'' pos asked buf p at size done r = absurd r
 
 -- so has one that comes to the file's end
 pub loaded_all : (name : List ℕ) (file : Option File) (text : List ℕ) (calls calls' calls'' : List Entry) (pos asked : ℕ) (buf : List ℕ) (n : ℕ)
     → Pieces name file text calls calls' → pos ≡ length text → asked ≡ piece_size
     → calls'' ≡ calls' ++ Done (map_read name pos asked (Some (Bytes n))) ∷ [] → IsRead file pos buf (Bytes n) → n ≡ 0
-    → Loaded [] name file calls calls''
+    → LoadEnded [] name file calls calls''
 loaded_all name None text calls calls' calls'' pos asked buf n p at size done r nothing = absurd r
 loaded_all name (Some f) text calls calls' calls'' pos asked buf n p at size done r nothing =
-    loaded name (Some f) text calls calls' calls'' pos asked (Some (Bytes n)) p at size done
+    load_ended name (Some f) text calls calls' calls'' pos asked (Some (Bytes n)) p at size done
     (inl (nothing, omega (arith, r.1 nothing, p.counted, p.within)))
 
 -- the text at the file's end
@@ -196,39 +193,7 @@ stopped name (Some f) text calls calls' calls'' pos asked buf n e p at size done
           subst (λ e'. TextStop name (Some f) e' calls calls'') (sym x.0) (
             refl,
             record { there = f; is = refl; long = long },
-            loaded name (Some f) text calls calls' calls'' pos asked (Some (Bytes n)) p at size done
+            load_ended name (Some f) text calls calls' calls'' pos asked (Some (Bytes n)) p at size done
                 (inr ((some, omega arith), omega (arith, x.1, p.counted), omega (arith, here, p.counted))),
           )
     ]
-
--- a text that couldn't be read gives no map
-pub stop_loads : (name : List ℕ) (mode : Mode) (file : Option File) (e : ResumeFault) (calls calls' : List Entry)
-    → TextStop name file e calls calls' → Loads name mode file (Err e) calls calls'
-stop_loads name mode file (Site call) calls calls' stop = stop
-stop_loads name mode file (Refused e) calls calls' stop =
-    (record { there = stop.1.there; is = stop.1.is; why = inl (stop.0, stop.1.long) }, stop.2)
-stop_loads name mode file NoMemory calls calls' stop = stop
-
--- a text that was read, and is no map
-pub no_map_loads : (name text : List ℕ) (mode : Mode) (file : Option File) (e : ResumeFault) (calls calls' : List Entry)
-    → IsTextOf file text → NoMapIn text mode e → Loaded [] name file calls calls' → Loads name mode file (Err e) calls calls'
-no_map_loads name text mode file (Site call) calls calls' t none l = absurd none
-no_map_loads name text mode file (Refused e) calls calls' t none l =
-    let same = t.bytes in
-    (record { there = t.there; is = t.is; why = inr (rw same t.within, rw same none.0) }, l)
-no_map_loads name text mode file NoMemory calls calls' t none l = (l.0, l.1.begins, l.2)
-
--- one that is a map
-pub map_loads : (name text : List ℕ) (mode : Mode) (file : Option File) (m : ReadMap) (calls calls' : List Entry)
-    → IsTextOf file text → IsMapText text mode m.state m.first m.listed m.tiles.statuses → Loaded [] name file calls calls'
-    → Loads name mode file (Ok (Some m)) calls calls'
-map_loads name text mode file m calls calls' t is l =
-    let same = t.bytes in
-    (record { there = t.there; is = t.is; within = rw same t.within; reads = rw same is }, l)
-
--- a text that is no map raises no count
-pub no_map_counts : (text : List ℕ) (mode : Mode) (e : ResumeFault) (faults faults' : ℕ) → NoMapIn text mode e → faults' ≡ faults
-    → FaultCounts e faults faults'
-no_map_counts text mode (Site call) faults faults' none same = absurd none
-no_map_counts text mode (Refused e) faults faults' none same = (same, none.1)
-no_map_counts text mode NoMemory faults faults' none same = same

@@ -1,5 +1,5 @@
 -- What is known of a text that is a map, or none.
-use Rattle.std.proofs.Common.{◌≡◌, ◌≢◌, ◌⊎◌, ℕ, zero, suc, ◌+◌, ◌<◌, ◌≤◌, ◌^◌, Bool, true, false, if◌then◌else◌, List, [], ◌∷◌, nat_eq, Option, Some, None, refl, sym, ap, ◌∙◌, subst, inl, inr, arith}
+use Rattle.std.proofs.Common.{◌≡◌, ◌≢◌, ℕ, ◌+◌, ◌<◌, ◌^◌, Bool, true, false, if◌then◌else◌, List, [], ◌∷◌, nat_eq, Option, Some, None, refl, sym, ap, ◌∙◌, subst, inl, inr, arith}
 use Rattle.block_list.specs.declared.status.Status.{Status}
 use Rattle.block_list.specs.declared.block.Block.{Block}
 use Rattle.mapfile_text.specs.declared.state.Current.{Current}
@@ -71,13 +71,25 @@ within_limits text mode m is =
 
 -- an error that names a line is none of want of a status line
 state_said : (l : Line) (e : MapError) → StateFault l e → e ≢ NoStatusLine
-state_said l e f is = elim f [ inl x ↦ let no : BadStatusLine l.number ≡ NoStatusLine = sym x.0 ∙ is in absurd (cc) | inr x ↦ let no : TooLarge l.number ≡ NoStatusLine = sym x.0 ∙ is in absurd (cc) ]
+state_said l e f is =
+    elim f [
+      | inl x ↦ let no : BadStatusLine l.number ≡ NoStatusLine = sym x.0 ∙ is in absurd (cc)
+      | inr x ↦ let no : TooLarge l.number ≡ NoStatusLine = sym x.0 ∙ is in absurd (cc)
+    ]
 
 block_said : (l : Line) (e : MapError) → BlockFault l e → e ≢ NoStatusLine
-block_said l e f is = elim f [ inl x ↦ let no : BadBlockLine l.number ≡ NoStatusLine = sym x.0 ∙ is in absurd (cc) | inr x ↦ let no : TooLarge l.number ≡ NoStatusLine = sym x.0 ∙ is in absurd (cc) ]
+block_said l e f is =
+    elim f [
+      | inl x ↦ let no : BadBlockLine l.number ≡ NoStatusLine = sym x.0 ∙ is in absurd (cc)
+      | inr x ↦ let no : TooLarge l.number ≡ NoStatusLine = sym x.0 ∙ is in absurd (cc)
+    ]
 
 place_said : (mode : Mode) (end : ℕ) (l : Line) (b : Block) (e : MapError) → PlaceFault mode end l b e → e ≢ NoStatusLine
-place_said Tight end l b e f is = elim f [ inl x ↦ let no : Overlap l.number ≡ NoStatusLine = sym x.0 ∙ is in absurd (cc) | inr x ↦ let no : Gap l.number ≡ NoStatusLine = sym x.0 ∙ is in absurd (cc) ]
+place_said Tight end l b e f is =
+    elim f [
+      | inl x ↦ let no : Overlap l.number ≡ NoStatusLine = sym x.0 ∙ is in absurd (cc)
+      | inr x ↦ let no : Gap l.number ≡ NoStatusLine = sym x.0 ∙ is in absurd (cc)
+    ]
 place_said (Loose status) end l b e f is = let no : Overlap l.number ≡ NoStatusLine = sym f.0 ∙ is in absurd (cc)
 
 continue_said : (mode : Mode) (end : ℕ) (ls : List Line) (e : MapError) → ContinuesFault mode end ls e → e ≢ NoStatusLine

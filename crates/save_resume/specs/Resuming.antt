@@ -42,23 +42,26 @@ pub data IsLikeNone (file : Option File) : Type 0 where
   Silent : (there : File) → file ≡ Some there → length there.bytes ≤ text_limit → Blank there.bytes → IsLikeNone file
 
 -- the reads of a load that ended, behind other calls
-abbrev pub Loaded : List Call → List ℕ → Option File → List Entry → List Entry → Type 0
-Loaded before name file calls calls' = (load : List Call) × IsLoad name file load × Made (before ++ load) calls calls'
+abbrev pub LoadEnded : List Call → List ℕ → Option File → List Entry → List Entry → Type 0
+LoadEnded before name file calls calls' =
+    (load : List Call) × IsLoad name file load × Made (before ++ load) calls calls'
 
 -- the first reads of a load, behind other calls, for which memory ran out
 abbrev pub Starved : List Call → List ℕ → Option File → List Entry → List Entry → Type 0
-Starved before name file calls calls' = (load : List Call) × BeginsLoad name file load × Made (before ++ load) calls calls'
+Starved before name file calls calls' =
+    (load : List Call) × BeginsLoad name file load × Made (before ++ load) calls calls'
 
 -- a read of a load failed, behind other calls
 abbrev pub BrokeInLoad : List Call → List ℕ → Option File → List Entry → List Entry → Type 0
-BrokeInLoad before name file calls calls' = (load : List Call) × BeginsLoad name file load × BrokeAt MapRead (before ++ load) calls calls'
+BrokeInLoad before name file calls calls' =
+    (load : List Call) × BeginsLoad name file load × BrokeAt MapRead (before ++ load) calls calls'
 
 -- What a load answers of a file, and its calls.
 abbrev pub Loads : List ℕ → Mode → Option File → Result (Option ReadMap) ResumeFault → List Entry → List Entry → Type 0
-Loads name mode file (Ok None) calls calls' = (file ≡ None) × Loaded [] name file calls calls'
-Loads name mode file (Ok (Some m)) calls calls' = IsReadAs file mode m × Loaded [] name file calls calls'
+Loads name mode file (Ok None) calls calls' = (file ≡ None) × LoadEnded [] name file calls calls'
+Loads name mode file (Ok (Some m)) calls calls' = IsReadAs file mode m × LoadEnded [] name file calls calls'
 Loads name mode file (Err (Site call)) calls calls' = (call ≡ MapRead) × BrokeInLoad [] name file calls calls'
-Loads name mode file (Err (Refused e)) calls calls' = IsRefusedFor file mode e × Loaded [] name file calls calls'
+Loads name mode file (Err (Refused e)) calls calls' = IsRefusedFor file mode e × LoadEnded [] name file calls calls'
 Loads name mode file (Err NoMemory) calls calls' = Starved [] name file calls calls'
 
 -- The barrier: the mapfile is settled and the image synced, so that nothing of an earlier run is pending.
@@ -86,11 +89,13 @@ resumed_of (Err NoMemory) = Err NoMemory
 
 -- What a resume answers of a mapfile, and its calls: one that says nothing is like none.
 abbrev pub Resumes : MapNames → Option File → Result Resumed ResumeFault → List Entry → List Entry → Type 0
-Resumes names file (Ok Fresh) calls calls' = IsLikeNone file × Loaded (barrier_calls names) names.map file calls calls'
-Resumes names file (Ok (Map m)) calls calls' = IsReadAs file Tight m × Loaded (barrier_calls names) names.map file calls calls'
+Resumes names file (Ok Fresh) calls calls' =
+    IsLikeNone file × LoadEnded (barrier_calls names) names.map file calls calls'
+Resumes names file (Ok (Map m)) calls calls' =
+    IsReadAs file Tight m × LoadEnded (barrier_calls names) names.map file calls calls'
 Resumes names file (Err (Site call)) calls calls' = BrokeAsResumed names file call calls calls'
 Resumes names file (Err (Refused e)) calls calls' =
-    IsRefusedFor file Tight e × (e ≢ NoStatusLine) × Loaded (barrier_calls names) names.map file calls calls'
+    IsRefusedFor file Tight e × (e ≢ NoStatusLine) × LoadEnded (barrier_calls names) names.map file calls calls'
 Resumes names file (Err NoMemory) calls calls' = Starved (barrier_calls names) names.map file calls calls'
 
 -- the calls of a resume

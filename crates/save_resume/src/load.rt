@@ -5,7 +5,7 @@ ghost use Rattle.mapfile_text.specs.MapText.{IsMapText};
 ghost use Rattle.mapfile_text.specs.declared.read.MapError.TheVariants.{TooLong as LongText};
 ghost use Rattle.crash_site.specs.SiteState.{files_in, Stays};
 ghost use Rattle.save_resume.specs.declared.load.ResumeFault.TheVariants.{Map as Refused, NoMemory as OutOfMemory};
-ghost use Rattle.save_resume.specs.Resuming.{Loaded, Loads, Counts, IsWithinLimits};
+ghost use Rattle.save_resume.specs.Resuming.{LoadEnded, Loads, Counts, IsWithinLimits};
 ghost use Rattle.save_resume.specs.Text.{IsTextOf, TextStop, NoMapIn};
 
 use crash_site::site::{MapRead, Site, SiteCall};
@@ -52,9 +52,11 @@ fn read_text<D: Site>(
         (λ t. IsTextOf (files_in (D.state site.old) name.now) t.items)) }
     ensures short { IfOk result (λ text. IfSome text (λ t. vec_len t ≤ text_limit)) }
     ensures loaded { OnOk result (IsTrue (D.state site.old).tells
-        → Loaded [] name.now (files_in (D.state site.old) name.now) (D.state site.old).calls (D.state site.new).calls) }
+        → LoadEnded [] name.now (files_in (D.state site.old) name.now)
+        (D.state site.old).calls (D.state site.new).calls) }
     ensures stop { IfErr result (λ e. IsTrue (D.state site.old).tells
-        → TextStop name.now (files_in (D.state site.old) name.now) e (D.state site.old).calls (D.state site.new).calls) }
+        → TextStop name.now (files_in (D.state site.old) name.now) e
+        (D.state site.old).calls (D.state site.new).calls) }
     ensures counts { Counts result (D.state site.old).faults (D.state site.new).faults }
     ensures stays { Stays (D.state site.old) (D.state site.new) }
 {

@@ -29,11 +29,6 @@ digits_at text = if is_hexadecimal text then 2 else 0
 abbrev pub is_no_digit : ℕ → ℕ → Bool
 is_no_digit base c = not (nat_lt (digit_value c) base)
 
--- where the first byte that is no digit stands among these, or their end where there is none
-abbrev pub first_or : Option ℕ → ℕ → ℕ
-first_or None end = end
-first_or (Some k) end = k
-
 -- the digits of the text in its base, and what follows them
 abbrev pub digits_of_text : List ℕ → List ℕ
 digits_of_text text = drop (digits_at text) text

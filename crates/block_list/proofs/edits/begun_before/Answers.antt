@@ -1,7 +1,7 @@
 use Rattle.std.proofs.Common.{ltb, rules}
 use Rattle.std.proofs.lemmas.List.Sorted.{IsPartitionPoint-from_clause, IsPartitionedBy-ltb}
 use Rattle.block_list.specs.declared.block.Block.{Block}
-use Rattle.block_list.proofs.EditFacts.{rising, place_from_point}
+use Rattle.block_list.proofs.EditLemmas.{rising, place_from_point}
 use Rattle.block_list.proofs.edits.begun_before.Goals as goal
 
 pub returns : goal.returns

@@ -1,7 +1,7 @@
 use Rattle.std.proofs.Common.{◌≡◌, ◌+◌, ◌-◌, ◌<◌, ap, arith, length}
 use Rattle.block_list.specs.Edits.{IsPlace, start_of}
-use Rattle.block_list.proofs.TileFacts.{tile_read}
-use Rattle.block_list.proofs.EditFacts.{cut_read, uncut}
+use Rattle.block_list.proofs.TileLemmas.{tile_read}
+use Rattle.block_list.proofs.EditLemmas.{cut_read, uncut}
 use Rattle.block_list.proofs.edits.cut.Goals as goal
 
 pub overflow_add-block : goal.overflow_add-block
@@ -27,7 +27,8 @@ returns-then-at-block-clause-cut c =
     let k : IsPlace c.args.blocks.now.items c.args.at c.begun_before-i.result = rw c.deref.ensures.value at c.begun_before-i.ensures in
     let h : c.begun_before-i.result - 1 < length c.args.blocks.now.items = omega (arith, k.index) in
     let r = tile_read _ _ _ c.requires.tiled h c.index-block.ensures in
-    cut_read _ _ _ _ _ c.index-block.result.now (omega arith) c.requires.tiled h c.index-block.ensures (omega (arith, r.begins, k.before (omega arith))) c.if-at-block.true c.divide.ensures.items
+    cut_read _ _ _ _ _ c.index-block.result.now (omega arith) c.requires.tiled h c.index-block.ensures
+    (omega (arith, r.begins, k.before (omega arith))) c.if-at-block.true c.divide.ensures.items
 
 pub returns-else-at-block-clause-cut : goal.returns-else-at-block-clause-cut
 returns-else-at-block-clause-cut c =

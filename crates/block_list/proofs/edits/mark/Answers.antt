@@ -2,7 +2,7 @@ use Rattle.std.proofs.Common.{List, ap, length, arith}
 use Rattle.std.specs.List.{flat_map}
 use Rattle.block_list.specs.declared.block.Block.{Block}
 use Rattle.block_list.specs.Stretches.{covered}
-use Rattle.block_list.proofs.TileFacts.{index_before}
+use Rattle.block_list.proofs.TileLemmas.{index_before}
 use Rattle.block_list.proofs.edits.mark.Goals as goal
 
 pub replace-requires-clause-order : goal.replace-requires-clause-order

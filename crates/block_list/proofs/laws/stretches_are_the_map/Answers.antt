@@ -1,4 +1,4 @@
-use Rattle.block_list.proofs.StretchFacts.{are_stretches}
+use Rattle.block_list.proofs.StretchLemmas.{are_stretches}
 use Rattle.block_list.proofs.laws.stretches_are_the_map.Goals as goal
 
 pub returns : goal.returns

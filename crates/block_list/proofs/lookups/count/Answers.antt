@@ -1,6 +1,6 @@
 use Rattle.std.proofs.Common.{◌+◌, ◌∙◌, arith}
-use Rattle.block_list.proofs.EditFacts.{no_block}
-use Rattle.block_list.proofs.LookupFacts.{counted_yes, counted_no, counted_all, counted_end}
+use Rattle.block_list.proofs.EditLemmas.{no_block}
+use Rattle.block_list.proofs.LookupLemmas.{counted_yes, counted_no, counted_all, counted_end}
 use Rattle.block_list.proofs.lookups.count.Goals as goal
 use Rattle.block_list.proofs.lookups.count.Goals.{then-is, else-is}
 
@@ -11,8 +11,20 @@ overflow_add-counted c =
 
 pub loop-block-preserved : goal.loop-block-preserved
 loop-block-preserved c = elim c.if-is.branch [
-  | then-is w ↦ omega (arith, w.counted-is, c.loop-block.invariant, counted_yes c.args.blocks.now c.loop-block.block-index c.args.status no_block c.loop-block-test.true (c.is.ensures.0 w.if-is.true))
-  | else-is w ↦ omega (arith, w.counted-is, c.loop-block.invariant, counted_no c.args.blocks.now c.loop-block.block-index c.args.status no_block c.loop-block-test.true (λ e. let t = c.is.ensures.1 e in let f = w.if-is.false in cc))
+  | then-is w ↦ omega (
+    arith,
+    w.counted-is,
+    c.loop-block.invariant,
+    counted_yes c.args.blocks.now c.loop-block.block-index c.args.status no_block c.loop-block-test.true
+        (c.is.ensures.0 w.if-is.true),
+  )
+  | else-is w ↦ omega (
+    arith,
+    w.counted-is,
+    c.loop-block.invariant,
+    counted_no c.args.blocks.now c.loop-block.block-index c.args.status no_block c.loop-block-test.true
+        (λ e. let t = c.is.ensures.1 e in let f = w.if-is.false in cc),
+  )
 ]
 
 pub returns : goal.returns

@@ -1,5 +1,5 @@
 use Rattle.std.proofs.Common.{◌≡◌}
-use Rattle.block_list.proofs.LookupFacts.{counted}
+use Rattle.block_list.proofs.LookupLemmas.{counted}
 use Rattle.block_list.proofs.lookups.count.Given as goal
 
 abbrev pub invariant-loop-block : goal.invariant-loop-block

@@ -1,7 +1,7 @@
 use Rattle.std.proofs.Common.{◌≡◌, ◌+◌, ◌-◌, ◌<◌, arith}
 use Rattle.block_list.specs.Edits.{start_of}
-use Rattle.block_list.proofs.TileFacts.{tile_read, start_mono}
-use Rattle.block_list.proofs.LookupFacts.{rest_index, rest_read, rest_end, clear_behind, clear_up, found_first, found_run_up}
+use Rattle.block_list.proofs.TileLemmas.{tile_read, start_mono}
+use Rattle.block_list.proofs.LookupLemmas.{rest_index, rest_read, rest_end, clear_behind, clear_up, found_first, found_run_up}
 use Rattle.block_list.proofs.lookups.first_with.Goals as goal
 
 pub overflow_add-result : goal.overflow_add-result
@@ -15,7 +15,13 @@ returns-then-is-clause-first c =
     let i = c.begun_before-holding.result - 1 + c.loop-block.block-index in
     let h = rest_index c.args.blocks.now (c.begun_before-holding.result - 1) c.loop-block.block-index c.loop-block-test.true in
     let e = rest_read c.args.blocks.now (c.begun_before-holding.result - 1) c.loop-block.block-index c.loop-block-test.true in
-    let u : c.args.from < start_of c.args.blocks.now (i + 1) = omega (arith, c.begun_before-holding.ensures.reaches, start_mono c.args.blocks.now c.begun_before-holding.result (i + 1) (omega arith)) in
+    let u : c.args.from < start_of c.args.blocks.now (i + 1) =
+    omega (
+      arith,
+      c.begun_before-holding.ensures.reaches,
+      start_mono c.args.blocks.now c.begun_before-holding.result
+          (i + 1) (omega arith),
+    ) in
     rw c.max.ensures (found_first _ _ _ _ _ c.requires.tiled c.requires.merged h e c.loop-block.invariant u (c.is.ensures.0 c.if-is.true))
 
 pub returns-then-is-clause-run : goal.returns-then-is-clause-run
@@ -23,7 +29,13 @@ returns-then-is-clause-run c =
     let i = c.begun_before-holding.result - 1 + c.loop-block.block-index in
     let h = rest_index c.args.blocks.now (c.begun_before-holding.result - 1) c.loop-block.block-index c.loop-block-test.true in
     let e = rest_read c.args.blocks.now (c.begun_before-holding.result - 1) c.loop-block.block-index c.loop-block-test.true in
-    let u : c.args.from < start_of c.args.blocks.now (i + 1) = omega (arith, c.begun_before-holding.ensures.reaches, start_mono c.args.blocks.now c.begun_before-holding.result (i + 1) (omega arith)) in
+    let u : c.args.from < start_of c.args.blocks.now (i + 1) =
+    omega (
+      arith,
+      c.begun_before-holding.ensures.reaches,
+      start_mono c.args.blocks.now c.begun_before-holding.result
+          (i + 1) (omega arith),
+    ) in
     rw c.max.ensures (found_run_up _ _ _ _ _ c.requires.tiled c.requires.merged h e u (c.is.ensures.0 c.if-is.true))
 
 pub loop-block-preserved : goal.loop-block-preserved

@@ -1,7 +1,7 @@
 use Rattle.std.specs.List.{flat_map}
 use Rattle.block_list.specs.Stretches.{covered}
 use Rattle.block_list.specs.Edits.{start_of}
-use Rattle.block_list.proofs.LookupFacts.{IsClear}
+use Rattle.block_list.proofs.LookupLemmas.{IsClear}
 use Rattle.block_list.proofs.lookups.last_with.Given as goal
 
 abbrev pub invariant-loop-i : goal.invariant-loop-i

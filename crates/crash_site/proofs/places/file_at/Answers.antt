@@ -1,4 +1,4 @@
-use Rattle.crash_site.proofs.PlaceFacts.{file_found}
+use Rattle.crash_site.proofs.PlaceLemmas.{file_found}
 use Rattle.crash_site.proofs.places.file_at.Goals as goal
 
 pub returns : goal.returns

@@ -1,6 +1,6 @@
 use Rattle.std.proofs.Common.{◌∙◌, ap, refl}
 use Rattle.crash_site.specs.Places.{files_of}
-use Rattle.crash_site.proofs.PlaceFacts.{files_of-push}
+use Rattle.crash_site.proofs.PlaceLemmas.{files_of-push}
 use Rattle.crash_site.proofs.places.place_of.Goals as goal
 
 pub returns-clause-files : goal.returns-clause-files

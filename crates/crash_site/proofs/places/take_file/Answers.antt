@@ -1,6 +1,6 @@
 use Rattle.std.proofs.Common.{sym, None}
 use Rattle.crash_site.specs.Places.{files_of}
-use Rattle.crash_site.proofs.PlaceFacts.{files_of-none, put-same, file_taken}
+use Rattle.crash_site.proofs.PlaceLemmas.{files_of-none, put-same, file_taken}
 use Rattle.crash_site.proofs.places.take_file.Goals as goal
 
 pub returns-in_err-i-clause-files : goal.returns-in_err-i-clause-files

@@ -2,7 +2,7 @@
 use Rattle.std.proofs.Common.{◌-◌, ◌/◌, true, drop, arith, sym, ap, ◌∙◌}
 use Rattle.std.specs.Fmt.{digits_onto}
 use Rattle.std.proofs.lemmas.List.{drop_all, take_all, length-set}
-use Rattle.mapfile_text.proofs.DigitFacts.{digits_onto_nil, digits_onto_more, front_digit, front_zeros}
+use Rattle.mapfile_text.proofs.DigitLemmas.{digits_onto_nil, digits_onto_more, front_digit, front_zeros}
 use Rattle.mapfile_text.proofs.digits.write_digits.Goals as goal
 
 pub loop-i-init : goal.loop-i-init

@@ -4,7 +4,7 @@ use Rattle.std.specs.Option.{option_map}
 use Rattle.mapfile_text.specs.declared.read.MapError.TheVariants.{TooLarge}
 use Rattle.mapfile_text.specs.Fields.{block_of}
 use Rattle.mapfile_text.specs.Reading.{capped_block}
-use Rattle.mapfile_text.proofs.EntryFacts.{large_block}
+use Rattle.mapfile_text.proofs.EntryLemmas.{large_block}
 use Rattle.mapfile_text.proofs.entries.read_block.Goals as goal
 
 pub returns-else-saturating_add-lt-LIMIT-clause-fault : goal.returns-else-saturating_add-lt-LIMIT-clause-fault

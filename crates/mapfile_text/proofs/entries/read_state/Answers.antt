@@ -4,7 +4,7 @@ use Rattle.std.specs.Option.{option_map}
 use Rattle.mapfile_text.specs.declared.read.MapError.TheVariants.{TooLarge}
 use Rattle.mapfile_text.specs.Fields.{state_of}
 use Rattle.mapfile_text.specs.Reading.{capped_state}
-use Rattle.mapfile_text.proofs.EntryFacts.{small_state, large_state}
+use Rattle.mapfile_text.proofs.EntryLemmas.{small_state, large_state}
 use Rattle.mapfile_text.proofs.entries.read_state.Goals as goal
 
 pub returns-in-Ok-clause-state : goal.returns-in-Ok-clause-state

@@ -4,7 +4,7 @@ use Rattle.std.specs.List.{position}
 use Rattle.std.proofs.lemmas.Iterator.{YieldsList-from_slice}
 use Rattle.std.proofs.lemmas.Iterator.Search.{position_from_yields_List}
 use Rattle.mapfile_text.specs.Lines.{is_blank}
-use Rattle.mapfile_text.proofs.FieldFacts.{first_place}
+use Rattle.mapfile_text.proofs.FieldLemmas.{first_place}
 use Rattle.mapfile_text.proofs.fields.field_end.Goals as goal
 
 pub returns-clause-value : goal.returns-clause-value

@@ -1,7 +1,7 @@
 -- The field stands behind the blanks in front, up to the next blank.
 use Rattle.std.proofs.Common.{◌-◌, ◌<◌, length, take, drop, List, ℕ, sym, ◌∙◌, arith, eqb-true}
 use Rattle.std.proofs.lemmas.Bool.{eqb-false}
-use Rattle.mapfile_text.proofs.FieldFacts.{rest_from, no_field, first_field_is}
+use Rattle.mapfile_text.proofs.FieldLemmas.{rest_from, no_field, first_field_is}
 use Rattle.mapfile_text.proofs.fields.first_field.Goals as goal
 
 pub returns-then-is_empty : goal.returns-then-is_empty

@@ -1,6 +1,6 @@
 use Rattle.std.proofs.Common.{subst, sym}
 use Rattle.mapfile_text.specs.Pieces.{AreTakenOff}
-use Rattle.mapfile_text.proofs.PieceFacts.{taken_are_pieces, pieces_are_taken, in_pieces}
+use Rattle.mapfile_text.proofs.PieceLemmas.{taken_are_pieces, pieces_are_taken, in_pieces}
 use Rattle.mapfile_text.proofs.laws.pieces_are_the_text.Goals as goal
 
 pub returns : goal.returns

@@ -4,8 +4,8 @@ use Rattle.std.specs.List.{position}
 use Rattle.std.proofs.lemmas.List.{drop_all}
 use Rattle.std.proofs.lemmas.Iterator.{YieldsList-from_slice}
 use Rattle.std.proofs.lemmas.Iterator.Search.{position_from_yields_List}
-use Rattle.mapfile_text.proofs.FieldFacts.{rest_from}
-use Rattle.mapfile_text.proofs.LineFacts.{said-line, said-last}
+use Rattle.mapfile_text.proofs.FieldLemmas.{rest_from}
+use Rattle.mapfile_text.proofs.LineLemmas.{said-line, said-last}
 use Rattle.mapfile_text.proofs.lines.first_line.Goals as goal
 
 pub returns-in-Some-clause-said : goal.returns-in-Some-clause-said

@@ -3,14 +3,14 @@ use Rattle.std.proofs.Common.{◌≡◌, ◌-◌, ◌++◌, [], ◌∷◌, lengt
 use Rattle.std.specs.Fmt.{digits}
 use Rattle.mapfile_text.specs.Printed.{at_least_eight}
 use Rattle.mapfile_text.proofs.Appended.{joined}
-use Rattle.mapfile_text.proofs.DigitFacts.{behind, padded_behind, length_hexadecimal}
+use Rattle.mapfile_text.proofs.DigitLemmas.{slice_from, padded_behind, length_hexadecimal}
 use Rattle.mapfile_text.proofs.made_lines.append_hexadecimal.Goals as goal
 
 pub append-requires-2 : goal.append-requires-2
 append-requires-2 c =
     let d = c.write_digits in
     let e : take (64 - c.min-begin.result) (drop c.min-begin.result d.new.out) ≡ at_least_eight (digits 16 true c.args.n) =
-    behind d.new.out c.min-begin.result d.array_long
+    slice_from d.new.out c.min-begin.result d.array_long
     ∙ ap (λ k. drop k d.new.out) c.min-begin.ensures
     ∙ padded_behind d.new.out d.result d.array_long d.ensures.within d.ensures.zeros
     ∙ ap at_least_eight d.ensures.digits in
@@ -21,7 +21,7 @@ pub returns-clause-text : goal.returns-clause-text
 returns-clause-text c =
     let d = c.write_digits in
     let e : take (64 - c.min-begin.result) (drop c.min-begin.result d.new.out) ≡ at_least_eight (digits 16 true c.args.n) =
-    behind d.new.out c.min-begin.result d.array_long
+    slice_from d.new.out c.min-begin.result d.array_long
     ∙ ap (λ k. drop k d.new.out) c.min-begin.ensures
     ∙ padded_behind d.new.out d.result d.array_long d.ensures.within d.ensures.zeros
     ∙ ap at_least_eight d.ensures.digits in

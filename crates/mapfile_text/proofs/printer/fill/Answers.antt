@@ -1,7 +1,7 @@
 -- What was appended and what is left are what was left; the piece is full, or nothing is left.
 use Rattle.std.proofs.Common.{arith, ◌∙◌, inl, inr, refl}
 use Rattle.mapfile_text.proofs.TakenOff.{piece_is, rest_is}
-use Rattle.mapfile_text.proofs.PartFacts.{GoesOn, goes_on, left_past, not_there}
+use Rattle.mapfile_text.proofs.PartLemmas.{GoesOn, goes_on, left_past, not_there}
 use Rattle.mapfile_text.proofs.printer.fill.Goals as goal
 
 went : (g : _) (c : goal.After-behind-place g)

@@ -2,7 +2,7 @@
 use Rattle.std.proofs.Common.{arith, ap, refl}
 use Rattle.std.proofs.lemmas.Bool.Decides.{nat_tests}
 use Rattle.mapfile_text.specs.LeftOf.{number_of}
-use Rattle.mapfile_text.proofs.PartFacts.{length_parts, heading_number}
+use Rattle.mapfile_text.proofs.PartLemmas.{length_parts, heading_number}
 use Rattle.mapfile_text.proofs.printer.is_there.Goals as goal
 
 pub returns-in-Block-clause-there : goal.returns-in-Block-clause-there

@@ -2,7 +2,7 @@
 use Rattle.std.proofs.Common.{◌≡◌, ℕ, List, [], ◌++◌, arith, sym, ap, ◌∙◌}
 use Rattle.mapfile_text.specs.Printed.{program_line}
 use Rattle.mapfile_text.specs.LeftOf.{number_of, parts}
-use Rattle.mapfile_text.proofs.PartFacts.{length_parts, block_part}
+use Rattle.mapfile_text.proofs.PartLemmas.{length_parts, block_part}
 use Rattle.mapfile_text.proofs.printer.make_line.Goals as goal
 
 from_empty : (new old text : List ℕ) → new ≡ old ++ text → old ≡ [] → new ≡ text

@@ -1,11 +1,11 @@
 -- What was read behind the barrier.
-use Rattle.std.proofs.Common.{rules}
-use Rattle.save_resume.proofs.ResumeLemmas.{resumed_told, resumed_settled, resumed_counts, resumed_says, resumed_limits}
+use Rattle.save_resume.proofs.ResumeLemmas.{resumed_told, resumed_settled}
 use Rattle.save_resume.proofs.resume.resume.Goals as goal
 
 pub returns-clause-told : goal.returns-clause-told
 returns-clause-told g c = λ tells.
-    rw c.answer.ensures (resumed_told c.args.names.now c.load_map.result _ _ (g.D.Site.state c.load_map.new.site) tells c.in_default.ensures.stays.keeps c.in_default.ensures.made
+    rw c.answer.ensures (resumed_told c.args.names.now c.load_map.result _ _
+    (g.D.Site.state c.load_map.new.site) tells c.in_default.ensures.stays.keeps c.in_default.ensures.made
     (rw c.map.ensures at c.load_map.ensures.told))
 
 pub returns-clause-settled : goal.returns-clause-settled

@@ -1,7 +1,7 @@
 -- The parts of a save are its calls.
 use Rattle.std.proofs.lemmas.Result.{err_from_is_err_and}
 use Rattle.mapfile_text.specs.Printed.{printed}
-use Rattle.save_resume.proofs.SaveFacts.{breaks_in_fill, breaks_in_firm, saved_or_broke}
+use Rattle.save_resume.proofs.SaveLemmas.{breaks_in_fill, breaks_in_firm, saved_or_broke}
 use Rattle.save_resume.proofs.save.make_calls.Goals as goal
 
 pub returns-in_err-filled : goal.returns-in_err-filled

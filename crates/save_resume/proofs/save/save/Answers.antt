@@ -1,5 +1,5 @@
 -- The calls of a save say what a stop within it leaves.
-use Rattle.save_resume.proofs.StopFacts.{stops_in_save, saved_where_ok}
+use Rattle.save_resume.proofs.StopLemmas.{stops_in_save, saved_where_ok}
 use Rattle.save_resume.proofs.save.save.Goals as goal
 
 pub returns-clause-stops : goal.returns-clause-stops

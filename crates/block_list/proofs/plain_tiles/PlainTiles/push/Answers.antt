@@ -3,8 +3,8 @@ use Rattle.std.specs.List.{flat_map}
 use Rattle.std.proofs.lemmas.List.{length-replicate}
 use Rattle.block_list.specs.declared.plain_tiles.PushError.TheVariants.{NoMemory}
 use Rattle.block_list.specs.Stretches.{covered}
-use Rattle.block_list.proofs.TileFacts.{tiled_from_tiling, tiling_end, tiles_up_to}
-use Rattle.block_list.proofs.PushFacts.{fault_passed, fault_was_there, no_fault, on_success}
+use Rattle.block_list.proofs.TileLemmas.{tiled_from_tiling, tiling_end, tiles_up_to}
+use Rattle.block_list.proofs.PushLemmas.{fault_passed, fault_was_there, no_fault, on_success}
 use Rattle.block_list.proofs.plain_tiles.PlainTiles.push.Goals as goal
 
 pub append-requires-clause-tiled : goal.append-requires-clause-tiled
@@ -32,7 +32,15 @@ pub invariant_of-self-then-block-gt0 : goal.invariant_of-self-then-block-gt0
 invariant_of-self-then-block-gt0 c =
     let done : IsOk c.append.result = let v = c.map_err.ensures.variant in let w = c.in_ok-map_err.was in cc in
     let added = on_success c.append.result _ done c.append.ensures.added in
-    let e : length (flat_map covered c.append.new.blocks.items) ≡ c.in_ok-end.end = ap length added ∙ omega (arith, length-append (flat_map covered c.self.inside.blocks.items) (covered c.args.block), length-replicate c.args.block.size c.args.block.status, tiling_end _ c.self.invariant, c.in_ok-end.ensures.ends, c.in_ok-end.ensures.begins) in
+    let e : length (flat_map covered c.append.new.blocks.items) ≡ c.in_ok-end.end =
+    ap length added ∙ omega (
+      arith,
+      length-append (flat_map covered c.self.inside.blocks.items) (covered c.args.block),
+      length-replicate c.args.block.size c.args.block.status,
+      tiling_end _ c.self.invariant,
+      c.in_ok-end.ensures.ends,
+      c.in_ok-end.ensures.begins,
+    ) in
     record {
       tiled = tiles_up_to _ _ c.append.ensures.tiled e;
       merged = c.append.ensures.merged;
@@ -41,8 +49,10 @@ invariant_of-self-then-block-gt0 c =
 
 pub returns-in_ok-map_err-clause-answer : goal.returns-in_ok-map_err-clause-answer
 returns-in_ok-map_err-clause-answer c =
-    rw (← c.self.view_is, ← tiling_end _ c.self.invariant) (no_fault _ c.end_behind.result _ _ _ c.end_behind.ensures.answer c.in_ok-end.was (inl (search rules)))
+    rw (← c.self.view_is, ← tiling_end _ c.self.invariant)
+    (no_fault _ c.end_behind.result _ _ _ c.end_behind.ensures.answer c.in_ok-end.was (inl (search rules)))
 
 pub returns-else-block-gt0-clause-answer : goal.returns-else-block-gt0-clause-answer
 returns-else-block-gt0-clause-answer c =
-    rw (← c.self.view_is, ← tiling_end _ c.self.invariant) (no_fault _ c.end_behind.result _ _ _ c.end_behind.ensures.answer c.in_ok-end.was (inl (search rules)))
+    rw (← c.self.view_is, ← tiling_end _ c.self.invariant)
+    (no_fault _ c.end_behind.result _ _ _ c.end_behind.ensures.answer c.in_ok-end.was (inl (search rules)))

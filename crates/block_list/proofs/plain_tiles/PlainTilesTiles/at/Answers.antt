@@ -2,8 +2,8 @@ use Rattle.std.proofs.Common.{◌+◌, ◌<◌, length, arith}
 use Rattle.std.specs.List.{flat_map}
 use Rattle.block_list.specs.Stretches.{covered}
 use Rattle.block_list.specs.Edits.{IsPlace}
-use Rattle.block_list.proofs.TileFacts.{tiled_from_tiling}
-use Rattle.block_list.proofs.EditFacts.{place_has}
+use Rattle.block_list.proofs.TileLemmas.{tiled_from_tiling}
+use Rattle.block_list.proofs.EditLemmas.{place_has}
 use Rattle.block_list.proofs.plain_tiles.PlainTilesTiles.at.Goals as goal
 
 pub overflow_add-x : goal.overflow_add-x

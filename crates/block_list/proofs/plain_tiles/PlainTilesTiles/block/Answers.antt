@@ -1,6 +1,6 @@
 use Rattle.std.proofs.Common.{◌<◌, length, refl, arith}
 use Rattle.std.proofs.lemmas.Option.{slice_get_read}
-use Rattle.block_list.proofs.StretchFacts.{stretches_of_tiling}
+use Rattle.block_list.proofs.StretchLemmas.{stretches_of_tiling}
 use Rattle.block_list.proofs.plain_tiles.PlainTilesTiles.block.Goals as goal
 
 pub index-requires : goal.index-requires

@@ -1,5 +1,5 @@
 use Rattle.std.proofs.Common.{ap, sym, ◌∙◌, ◌≡◌, length, arith}
-use Rattle.block_list.proofs.StretchFacts.{stretches_of_tiling}
+use Rattle.block_list.proofs.StretchLemmas.{stretches_of_tiling}
 use Rattle.block_list.proofs.plain_tiles.PlainTilesTiles.blocks.Goals as goal
 
 pub returns : goal.returns

@@ -1,4 +1,4 @@
-use Rattle.block_list.proofs.TileFacts.{tiled_from_tiling}
+use Rattle.block_list.proofs.TileLemmas.{tiled_from_tiling}
 use Rattle.block_list.proofs.plain_tiles.PlainTilesTiles.count.Goals as goal
 
 pub count-requires : goal.count-requires

@@ -1,4 +1,4 @@
-use Rattle.block_list.proofs.TileFacts.{tiling_end}
+use Rattle.block_list.proofs.TileLemmas.{tiling_end}
 use Rattle.block_list.proofs.plain_tiles.PlainTilesTiles.end.Goals as goal
 
 pub returns-clause-end : goal.returns-clause-end

@@ -4,8 +4,8 @@ use Rattle.std.specs.Vec.{vec_capacity}
 use Rattle.std.proofs.lemmas.List.{length-replicate}
 use Rattle.block_list.specs.declared.status.Status.TheVariants.{NonTried}
 use Rattle.block_list.specs.Stretches.{covered}
-use Rattle.block_list.proofs.TileFacts.{tiled_from_tiling, tiling_end, tiles_up_to}
-use Rattle.block_list.proofs.PushFacts.{on_success}
+use Rattle.block_list.proofs.TileLemmas.{tiled_from_tiling, tiling_end, tiles_up_to}
+use Rattle.block_list.proofs.PushLemmas.{on_success}
 use Rattle.block_list.proofs.plain_tiles.PlainTilesTiles.extend_to.Goals as goal
 
 pub append-requires-clause-tiled : goal.append-requires-clause-tiled
@@ -19,7 +19,13 @@ invariant_of-self c =
     let n = c.args.end - c.self.inside.end in
     let room : vec_len c.self.inside.blocks < vec_capacity c.self.inside.blocks = omega (arith, rw (← c.self.view_is) at c.requires.spare) in
     let added = on_success c.append.result _ (c.append.ensures.full room) c.append.ensures.added in
-    let e : length (flat_map covered c.append.new.blocks.items) ≡ c.args.end = ap length added ∙ omega (arith, length-append (flat_map covered c.self.inside.blocks.items) (replicate n NonTried), length-replicate n NonTried, tiling_end _ c.self.invariant) in
+    let e : length (flat_map covered c.append.new.blocks.items) ≡ c.args.end =
+    ap length added ∙ omega (
+      arith,
+      length-append (flat_map covered c.self.inside.blocks.items) (replicate n NonTried),
+      length-replicate n NonTried,
+      tiling_end _ c.self.invariant,
+    ) in
     record {
       tiled = tiles_up_to _ _ c.append.ensures.tiled e;
       merged = c.append.ensures.merged;

@@ -1,6 +1,6 @@
 use Rattle.std.proofs.Common.{◌∙◌, ap, min, arith}
-use Rattle.block_list.proofs.TileFacts.{tiled_from_tiling, tiling_end}
-use Rattle.block_list.proofs.LookupFacts.{last_of, none_of}
+use Rattle.block_list.proofs.TileLemmas.{tiled_from_tiling, tiling_end}
+use Rattle.block_list.proofs.LookupLemmas.{last_of, none_of}
 use Rattle.block_list.proofs.plain_tiles.PlainTilesTiles.find_backward.Goals as goal
 
 pub last_with-requires-clause-tiled : goal.last_with-requires-clause-tiled

@@ -1,6 +1,6 @@
 use Rattle.std.proofs.Common.{◌≡◌, length, arith}
 use Rattle.std.proofs.lemmas.Option.{slice_get_within}
-use Rattle.block_list.proofs.TileFacts.{tiled_from_tiling, tiling_end}
+use Rattle.block_list.proofs.TileLemmas.{tiled_from_tiling, tiling_end}
 use Rattle.block_list.proofs.plain_tiles.PlainTilesTiles.find_forward.Goals as goal
 
 pub first_with-requires-clause-tiled : goal.first_with-requires-clause-tiled

@@ -2,7 +2,7 @@ use Rattle.std.proofs.Common.{◌+◌, ◌≤◌, ap, sym, ◌∙◌, length}
 use Rattle.std.specs.List.{flat_map}
 use Rattle.block_list.specs.Stretches.{covered}
 use Rattle.block_list.proofs.Places.{length-marked}
-use Rattle.block_list.proofs.TileFacts.{tiled_from_tiling, tiling_end, tiles_up_to}
+use Rattle.block_list.proofs.TileLemmas.{tiled_from_tiling, tiling_end, tiles_up_to}
 use Rattle.block_list.proofs.plain_tiles.PlainTilesTiles.set.Goals as goal
 
 pub mark-requires-clause-tiled : goal.mark-requires-clause-tiled

@@ -3,7 +3,7 @@ use Rattle.crash_site.specs.Calls.{draft_append}
 use Rattle.crash_site.specs.Folder.{Folder, after}
 use Rattle.crash_site.specs.MemoryFolder.{folder_of}
 use Rattle.crash_site.specs.CallLog.{entries_of}
-use Rattle.crash_site.proofs.FollowFacts.{follows_lost, follows_settled, follows_step, follows_kept, follows_appended}
+use Rattle.crash_site.proofs.FollowLemmas.{follows_lost, follows_settled, follows_step, follows_kept, follows_appended}
 use Rattle.crash_site.proofs.memory.MemorySiteSite.draft_append.Goals as goal
 
 pub invariant_of-self-in-Break-1 : goal.invariant_of-self-in-Break-1

@@ -4,7 +4,7 @@ use Rattle.crash_site.specs.Folder.{Folder, after}
 use Rattle.crash_site.specs.Follows.{Follows}
 use Rattle.crash_site.specs.MemoryFolder.{name_of, folder_of}
 use Rattle.crash_site.specs.CallLog.{entries_of}
-use Rattle.crash_site.proofs.FollowFacts.{follows_lost, follows_settled, publish_step, publish_kept, follows_no_draft}
+use Rattle.crash_site.proofs.FollowLemmas.{follows_lost, follows_settled, publish_step, publish_kept, follows_no_draft}
 use Rattle.crash_site.proofs.memory.MemorySiteSite.draft_publish.Goals as goal
 
 pub invariant_of-self-in-Break-1 : goal.invariant_of-self-in-Break-1

@@ -4,7 +4,7 @@ use Rattle.crash_site.specs.Folder.{Folder, after}
 use Rattle.crash_site.specs.Follows.{Follows}
 use Rattle.crash_site.specs.MemoryFolder.{folder_of}
 use Rattle.crash_site.specs.CallLog.{entries_of}
-use Rattle.crash_site.proofs.FollowFacts.{follows_lost, follows_settled, follows_step, follows_kept, follows_opened, follows_no_image}
+use Rattle.crash_site.proofs.FollowLemmas.{follows_lost, follows_settled, follows_step, follows_kept, follows_opened, follows_no_image}
 use Rattle.crash_site.proofs.memory.MemorySiteSite.image_open.Goals as goal
 
 pub invariant_of-self-in-Break-1 : goal.invariant_of-self-in-Break-1

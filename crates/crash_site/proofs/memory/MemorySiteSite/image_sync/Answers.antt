@@ -2,7 +2,7 @@ use Rattle.std.proofs.Common.{refl}
 use Rattle.crash_site.specs.Calls.{image_sync}
 use Rattle.crash_site.specs.MemoryFolder.{folder_of}
 use Rattle.crash_site.specs.CallLog.{entries_of}
-use Rattle.crash_site.proofs.FollowFacts.{follows_entered}
+use Rattle.crash_site.proofs.FollowLemmas.{follows_entered}
 use Rattle.crash_site.proofs.memory.MemorySiteSite.image_sync.Goals as goal
 
 pub invariant_of-self : goal.invariant_of-self

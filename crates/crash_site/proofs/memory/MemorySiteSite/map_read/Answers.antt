@@ -2,7 +2,7 @@ use Rattle.std.proofs.Common.{refl, length, Some}
 use Rattle.crash_site.specs.Calls.{map_read}
 use Rattle.crash_site.specs.MemoryFolder.{folder_of}
 use Rattle.crash_site.specs.CallLog.{entries_of}
-use Rattle.crash_site.proofs.FollowFacts.{follows_entered}
+use Rattle.crash_site.proofs.FollowLemmas.{follows_entered}
 use Rattle.crash_site.proofs.memory.MemorySiteSite.map_read.Goals as goal
 
 pub invariant_of-self-2 : goal.invariant_of-self-2

@@ -2,7 +2,7 @@ use Rattle.std.proofs.Common.{refl}
 use Rattle.crash_site.specs.Calls.{map_settle}
 use Rattle.crash_site.specs.MemoryFolder.{folder_of}
 use Rattle.crash_site.specs.CallLog.{entries_of}
-use Rattle.crash_site.proofs.FollowFacts.{follows_entered}
+use Rattle.crash_site.proofs.FollowLemmas.{follows_entered}
 use Rattle.crash_site.proofs.memory.MemorySiteSite.map_settle.Goals as goal
 
 pub invariant_of-self-2 : goal.invariant_of-self-2

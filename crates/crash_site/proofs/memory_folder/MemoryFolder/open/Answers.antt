@@ -3,22 +3,22 @@ use Rattle.crash_site.specs.declared.site.ImageKind.{ImageKind}
 use Rattle.crash_site.specs.Files.{File, kind_of, is_absent}
 use Rattle.crash_site.specs.Places.{opened_file}
 use Rattle.crash_site.specs.MemoryFolder.{folder_of}
-use Rattle.crash_site.proofs.PlaceFacts.{stood, changed}
-use Rattle.crash_site.proofs.FolderFacts.{opened_is}
+use Rattle.crash_site.proofs.PlaceLemmas.{file_stood, file_changed}
+use Rattle.crash_site.proofs.FolderLemmas.{opened_is}
 use Rattle.crash_site.proofs.memory_folder.MemoryFolder.open.Goals as goal
 
 pub returns-clause-kind : goal.returns-clause-kind
 returns-clause-kind c =
-    let before = stood c.args.self.now.places.items c.place_of.new.places.items c.args.name.now c.in_ok-i.i
+    let before = file_stood c.args.self.now.places.items c.place_of.new.places.items c.args.name.now c.in_ok-i.i
     c.index_mut.result.now c.in_ok-i.ensures.place c.in_ok-i.ensures.files c.index_mut.ensures.value in
     c.open-kind.ensures.kind ∙ ap (λ (o : Option File). kind_of o c.args.make) (sym before)
 
 pub returns-clause-opened : goal.returns-clause-opened
 returns-clause-opened c =
-    let before = stood c.args.self.now.places.items c.place_of.new.places.items c.args.name.now c.in_ok-i.i
+    let before = file_stood c.args.self.now.places.items c.place_of.new.places.items c.args.name.now c.in_ok-i.i
     c.index_mut.result.now c.in_ok-i.ensures.place c.in_ok-i.ensures.files c.index_mut.ensures.value in
     opened_is (folder_of c.args.self.now) _ c.args.name.now c.args.make
-    (changed c.args.self.now.places.items c.place_of.new.places.items c.args.name.now c.in_ok-i.i
+    (file_changed c.args.self.now.places.items c.place_of.new.places.items c.args.name.now c.in_ok-i.i
     c.index_mut.result.now c.open-kind.new.self _ c.in_ok-i.ensures.place c.in_ok-i.ensures.files
     c.index_mut.ensures.value c.open-kind.ensures.name
     (c.open-kind.ensures.file ∙ ap (λ (o : Option File). opened_file o c.args.make) (sym before)))

@@ -1,5 +1,5 @@
 use Rattle.std.proofs.Common.{refl, ◌<◌, length, arith}
-use Rattle.crash_site.proofs.PlaceFacts.{moved}
+use Rattle.crash_site.proofs.PlaceLemmas.{file_moved}
 use Rattle.crash_site.proofs.memory_folder.MemoryFolder.rename.Goals as goal
 
 pub index_mut-requires : goal.index_mut-requires
@@ -11,6 +11,6 @@ index_mut-requires c =
 pub returns-clause-files : goal.returns-clause-files
 returns-clause-files c =
     let place = c.take_file-moved.ensures.kept c.args.to.now c.in_ok-i.i c.in_ok-i.ensures.place in
-    moved c.args.self.now.places.items c.place_of.new.places.items c.take_file-moved.new.places.items c.args.from.now
+    file_moved c.args.self.now.places.items c.place_of.new.places.items c.take_file-moved.new.places.items c.args.from.now
     c.args.to.now c.in_ok-i.i c.index_mut.result.now _ place c.in_ok-i.ensures.files c.take_file-moved.ensures.files
     c.index_mut.ensures.value refl c.take_file-moved.ensures.value

@@ -1,4 +1,4 @@
-use Rattle.mapfile_text.proofs.PartFacts.{begin_is_printed}
+use Rattle.mapfile_text.proofs.PartLemmas.{begin_is_printed}
 use Rattle.mapfile_text.proofs.printer.MapPrinter.begin.Goals as goal
 
 pub returns : goal.returns

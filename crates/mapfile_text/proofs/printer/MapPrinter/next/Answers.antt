@@ -1,4 +1,4 @@
-use Rattle.mapfile_text.proofs.PieceFacts.{piece_given}
+use Rattle.mapfile_text.proofs.PieceLemmas.{piece_given}
 use Rattle.mapfile_text.proofs.printer.MapPrinter.next.Goals as goal
 
 pub returns-clause-pieces : goal.returns-clause-pieces

@@ -1,0 +1,196 @@
+use Rattle.std.proofs.Common.{◌≡◌, ℕ, ◌+◌, ◌-◌, ◌*◌, ◌<◌, ◌≤◌, List, [], ◌∷◌, ◌++◌, length, take, drop, get_or, replicate, Option, Some, None, IfSome, IfNone, Bool, true, false, cond, append-nil, max, min, arith, ap, sym, ◌∙◌, ⊎_elim, refl}
+use Rattle.std.specs.List.{flat_map, count_by}
+use Rattle.std.proofs.lemmas.Bool.{cases_lt}
+use Rattle.std.proofs.lemmas.List.{take_more, take_all, get_or-take, get_or-drop, length-take-le, length-drop}
+use Rattle.std.proofs.lemmas.List.Folds.{sum_by-replicate}
+use Rattle.std.proofs.lemmas.List.Sums.{count_by-le-length, sum_by-append}
+use Rattle.std.proofs.lemmas.Option.{slice_get_read, slice_get_within}
+use Rattle.block_list.specs.declared.status.Status.{Status}
+use Rattle.block_list.specs.declared.block.Block.{Block}
+use Rattle.block_list.specs.declared.block.Run.{Run}
+use Rattle.block_list.specs.Status.{same}
+use Rattle.block_list.specs.Map.{Has}
+use Rattle.block_list.specs.Places.{IsFirst, IsLast, IsRunUp, IsRunDown}
+use Rattle.block_list.specs.Stretches.{covered, IsStretch}
+use Rattle.block_list.specs.Tiling.{IsMerged}
+use Rattle.block_list.specs.Edits.{IsTiled, start_of}
+use Rattle.block_list.proofs.TileLemmas.{covered-append, tile_read, start_all, start_le_end}
+use Rattle.block_list.proofs.EditLemmas.{no_block, read_there}
+use Rattle.block_list.proofs.ApartLemmas.{apart_from_merged}
+use Rattle.block_list.proofs.StretchLemmas.{stretch_at, same_self, other_same}
+
+-- no position from one place up to another has the status
+pub record IsClear (map : List Status) (s : Status) (from to : ℕ) : Type 0 where
+  pub clear : (x : ℕ) → from ≤ x → x < to → Has map s x → ⊥
+
+-- a block that was read is a maximal stretch
+pub stretch_read : (bs : List Block) (i : ℕ) (b : Block) → IsTiled bs → IsMerged bs → i < length bs → b ≡ get_or bs i b → IsStretch (flat_map covered bs) b
+stretch_read bs i b t m h e = stretch_at bs (length (flat_map covered bs)) i b t.tiled (apart_from_merged bs m) (slice_get_read bs (length bs) i b refl h e)
+
+-- the blocks from an index on
+abbrev pub rest_from : List Block → ℕ → List Block
+rest_from bs h = take (length bs - h) (drop h bs)
+
+pub rest_index : (bs : List Block) (h k : ℕ) → k < length (rest_from bs h) → h + k < length bs
+rest_index bs h k l = omega (arith, length-take-le (length bs - h) (drop h bs) (omega (arith, length-drop h bs)), length-drop h bs)
+
+-- a block that was read there
+pub rest_read : (bs : List Block) (h k : ℕ) → k < length (rest_from bs h)
+    → get_or (rest_from bs h) k no_block ≡ get_or bs (h + k) (get_or (rest_from bs h) k no_block)
+rest_read bs h k l =
+    let n : h + k < length bs = rest_index bs h k l in
+    let e : get_or (rest_from bs h) k no_block ≡ get_or bs (h + k) no_block =
+    get_or-take (length bs - h) (drop h bs) k no_block (omega arith) ∙ get_or-drop h bs k no_block in
+    e ∙ read_there bs (h + k) n ∙ ap (λ (d : Block). get_or bs (h + k) d) (sym e)
+
+pub rest_end : (bs : List Block) (h k : ℕ) → h ≤ length bs → length (rest_from bs h) ≤ k → length bs ≤ h + k
+rest_end bs h k n l = omega (arith, length-take-le (length bs - h) (drop h bs) (omega (arith, length-drop h bs)), length-drop h bs)
+
+other_status : (map : List Status) (s z : Status) (x : ℕ) → Has map s x → Has map z x → (z ≡ s → ⊥) → ⊥
+other_status map s z x h k o = o (cc)
+
+-- a block of another status, from its position on
+other_block : (map : List Status) (s : Status) (b : Block) (x : ℕ) → IsStretch map b → (b.status ≡ s → ⊥) → b.pos ≤ x → x < b.pos + b.size → Has map s x → ⊥
+other_block map s b x k o l u h = other_status map s b.status x h (k.has x l u) o
+
+pub clear_behind : (bs : List Block) (i from : ℕ) (s : Status) (b : Block) → IsTiled bs → IsMerged bs → i < length bs
+    → b ≡ get_or bs i b → (b.status ≡ s → ⊥) → IsClear (flat_map covered bs) s from (start_of bs i)
+    → IsClear (flat_map covered bs) s from (start_of bs (i + 1))
+clear_behind bs i from s b t m h e o c =
+    let r = tile_read bs i b t h e in
+    record {
+      clear = λ x l u k. ⊎_elim (λ (v : x < start_of bs i). c.clear x l v k)
+          (λ (v : start_of bs i ≤ x). other_block _ s b x (stretch_read bs i b t m h e) o (omega (arith, r.begins))
+          (omega (arith, r.ends)) k) (cases_lt x (start_of bs i));
+    }
+
+pub clear_before : (bs : List Block) (i to : ℕ) (s : Status) (b : Block) → IsTiled bs → IsMerged bs → i < length bs
+    → b ≡ get_or bs i b → (b.status ≡ s → ⊥) → IsClear (flat_map covered bs) s (start_of bs (i + 1)) to
+    → IsClear (flat_map covered bs) s (start_of bs i) to
+clear_before bs i to s b t m h e o c =
+    let r = tile_read bs i b t h e in
+    record {
+      clear = λ x l u k. ⊎_elim (λ (v : x < start_of bs (i + 1)).
+          other_block _ s b x (stretch_read bs i b t m h e) o (omega (arith, r.begins)) (omega (arith, r.ends)) k)
+          (λ (v : start_of bs (i + 1) ≤ x). c.clear x v u k) (cases_lt x (start_of bs (i + 1)));
+    }
+
+-- all blocks were passed
+pub clear_up : (bs : List Block) (i from : ℕ) (s : Status) → length bs ≤ i
+    → IsClear (flat_map covered bs) s from (start_of bs i) → (x : ℕ) → from ≤ x → Has (flat_map covered bs) s x → ⊥
+clear_up bs i from s h c x l k = c.clear x l (omega (arith, start_all bs i h, slice_get_within (flat_map covered bs) x s k)) k
+
+pub found_first : (bs : List Block) (i from : ℕ) (s : Status) (b : Block) → IsTiled bs → IsMerged bs → i < length bs
+    → b ≡ get_or bs i b → IsClear (flat_map covered bs) s from (start_of bs i) → from < start_of bs (i + 1)
+    → b.status ≡ s → IsFirst (Has (flat_map covered bs) s) from (max from b.pos)
+found_first bs i from s b t m h e c u q =
+    let r = tile_read bs i b t h e in
+    let k = stretch_read bs i b t m h e in
+    record {
+      after = omega arith;
+      holds = k.has (max from b.pos) (omega arith) (omega (arith, r.ends, r.sized)) ∙ ap Some q;
+      least = λ y l v. ⊎_elim (λ (o : y < b.pos). absurd (c.clear y l (omega (arith, r.begins)) v)) (λ (o : b.pos ≤ y). omega arith) (cases_lt y b.pos);
+    }
+
+pub found_run_up : (bs : List Block) (i from : ℕ) (s : Status) (b : Block) → IsTiled bs → IsMerged bs → i < length bs
+    → b ≡ get_or bs i b → from < start_of bs (i + 1) → b.status ≡ s
+    → IsRunUp (Has (flat_map covered bs) s) (max from b.pos) (b.pos + b.size)
+found_run_up bs i from s b t m h e u q =
+    let r = tile_read bs i b t h e in
+    let k = stretch_read bs i b t m h e in
+    record {
+      begun = omega (arith, r.ends, r.sized);
+      within = λ y l v. k.has y (omega arith) v ∙ ap Some q;
+      stops = λ v. k.stops (v ∙ ap Some (sym q));
+    }
+
+pub found_last : (bs : List Block) (i before : ℕ) (s : Status) (b : Block) → IsTiled bs → IsMerged bs → i < length bs
+    → b ≡ get_or bs i b → IsClear (flat_map covered bs) s (start_of bs (i + 1)) before → start_of bs i < before
+    → b.status ≡ s → IsLast (Has (flat_map covered bs) s) before (min before (b.pos + b.size))
+found_last bs i before s b t m h e c u q =
+    let r = tile_read bs i b t h e in
+    let k = stretch_read bs i b t m h e in
+    record {
+      below = omega arith;
+      some = omega (arith, r.sized);
+      holds = k.has (min before (b.pos + b.size) - 1) (omega (arith, r.begins, r.sized)) (omega (arith, r.sized)) ∙ ap Some q;
+      greatest = λ y l v. ⊎_elim (λ (o : y < b.pos + b.size). omega arith)
+          (λ (o : b.pos + b.size ≤ y). absurd (c.clear y (omega (arith, r.ends)) l v)) (cases_lt y (b.pos + b.size));
+    }
+
+pub found_run_down : (bs : List Block) (i before : ℕ) (s : Status) (b : Block) → IsTiled bs → IsMerged bs
+    → i < length bs → b ≡ get_or bs i b → start_of bs i < before → b.status ≡ s
+    → IsRunDown (Has (flat_map covered bs) s) b.pos (min before (b.pos + b.size))
+found_run_down bs i before s b t m h e u q =
+    let r = tile_read bs i b t h e in
+    let k = stretch_read bs i b t m h e in
+    record {
+      begun = omega (arith, r.begins, r.sized);
+      within = λ y l v. k.has y l (omega arith) ∙ ap Some q;
+      stops = λ y z v. k.starts y z (v ∙ ap Some (sym q));
+    }
+
+-- a place behind the map's end is as good as the end
+pub last_within : (map : List Status) (s : Status) (before end : ℕ) → IsLast (Has map s) (min before (length map)) end → IsLast (Has map s) before end
+last_within map s before end k = record {
+  below = omega (arith, k.below);
+  some = k.some;
+  holds = k.holds;
+  greatest = λ y l v. k.greatest y (omega (arith, slice_get_within map y s v)) v;
+}
+
+-- a place behind the map's end, whatever was found
+pub last_of : (map : List Status) (s : Status) (before : ℕ) (r : Option Run)
+    → IfSome r (λ run. IsLast (Has map s) (min before (length map)) run.to)
+    → IfSome r (λ run. IsLast (Has map s) before run.to)
+last_of map s before None h = h
+last_of map s before (Some run) h = last_within map s before run.to h
+
+pub none_of : (map : List Status) (s : Status) (before : ℕ) (r : Option Run)
+    → IfNone r ((x : ℕ) → x < min before (length map) → Has map s x → ⊥)
+    → IfNone r ((x : ℕ) → x < before → Has map s x → ⊥)
+none_of map s before None h = λ x l v. h x (omega (arith, slice_get_within map x s v)) v
+none_of map s before (Some run) h = h
+
+-- counts of a list's parts
+count-append : (p : Status → Bool) (xs ys : List Status) → count_by p (xs ++ ys) ≡ count_by p xs + count_by p ys
+count-append p xs ys = sum_by-append (λ x. cond (p x) 1 0) xs ys
+
+count-yes : (p : Status → Bool) (n : ℕ) (z : Status) → p z ≡ true → count_by p (replicate n z) ≡ n
+count-yes p n z h = let k = sum_by-replicate (λ x. cond (p x) 1 0) n z in k ∙ ap (λ b. n * cond b 1 0) h ∙ omega arith
+
+count-no : (p : Status → Bool) (n : ℕ) (z : Status) → p z ≡ false → count_by p (replicate n z) ≡ 0
+count-no p n z h = let k = sum_by-replicate (λ x. cond (p x) 1 0) n z in k ∙ ap (λ b. n * cond b 1 0) h ∙ omega arith
+
+-- how many positions of the first blocks have a status
+abbrev pub counted : List Block → Status → ℕ → ℕ
+counted bs s i = count_by (λ z. same z s) (flat_map covered (take i bs))
+
+counted_more : (bs : List Block) (i : ℕ) (s : Status) (d : Block) → i < length bs
+    → counted bs s (i + 1) ≡ counted bs s i + count_by (λ z. same z s) (covered (get_or bs i d))
+counted_more bs i s d h =
+    ap (λ r. count_by (λ z. same z s) (flat_map covered r)) (take_more bs i d h)
+    ∙ ap (λ r. count_by (λ z. same z s) r) (covered-append (take i bs) (get_or bs i d ∷ [])
+    ∙ ap (λ r. flat_map covered (take i bs) ++ r) (append-nil (covered (get_or bs i d))))
+    ∙ count-append (λ z. same z s) (flat_map covered (take i bs)) (covered (get_or bs i d))
+
+pub counted_yes : (bs : List Block) (i : ℕ) (s : Status) (d : Block) → i < length bs → (get_or bs i d).status ≡ s
+    → counted bs s (i + 1) ≡ counted bs s i + (get_or bs i d).size
+counted_yes bs i s d h e =
+    let z : same (get_or bs i d).status s ≡ true = rw e (same_self s) in
+    omega (arith, counted_more bs i s d h, count-yes (λ z. same z s) (get_or bs i d).size (get_or bs i d).status z)
+
+pub counted_no : (bs : List Block) (i : ℕ) (s : Status) (d : Block) → i < length bs → ((get_or bs i d).status ≡ s → ⊥) → counted bs s (i + 1) ≡ counted bs s i
+counted_no bs i s d h e =
+    omega (
+      arith,
+      counted_more bs i s d h,
+      count-no (λ z. same z s) (get_or bs i d).size (get_or bs i d).status
+          (other_same (get_or bs i d).status s e),
+    )
+
+pub counted_all : (bs : List Block) (i : ℕ) (s : Status) → length bs ≤ i → counted bs s i ≡ count_by (λ z. same z s) (flat_map covered bs)
+counted_all bs i s h = ap (λ r. count_by (λ z. same z s) (flat_map covered r)) (take_all i bs h)
+
+pub counted_end : (bs : List Block) (i : ℕ) (s : Status) → counted bs s i ≤ length (flat_map covered bs)
+counted_end bs i s = omega (arith, count_by-le-length (λ z. same z s) (flat_map covered (take i bs)), start_le_end bs i)

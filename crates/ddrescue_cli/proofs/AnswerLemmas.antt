@@ -1,0 +1,48 @@
+-- What an answer leaves open and begun.
+use Rattle.std.proofs.Common.{◌≡◌, ℕ, false, List, None, refl, inl, inr}
+use Rattle.faulty_source.specs.SourceState.{SourceState}
+use Rattle.crash_site.specs.declared.site.SiteCall.{SiteCall}
+use Rattle.crash_site.specs.SiteState.{SiteState}
+use Rattle.save_resume.specs.Saving.{drafting_after_fault}
+use Rattle.save_resume.specs.Resuming.{IsResumeCall}
+use Rattle.rescue_rules.specs.declared.stop.Stop.TheVariants.{SourceLost as InputLost, Site, NoMemory as NoRoom}
+use Rattle.rescue_rules.specs.declared.stop.RunEnd.TheVariants.{Done as Finished, Stopped, SaveFailed}
+use Rattle.ddrescue_cli.specs.declared.ending.Ending.{Ending}
+use Rattle.ddrescue_cli.specs.Answers.{SaysOfWords, IsOpenedAs, drafting_left}
+use Rattle.ddrescue_cli.specs.Steps.{EndsRun, LoadCause, OutputStop}
+
+resume_leaves : (call : SiteCall) → IsResumeCall call → drafting_after_fault call false ≡ false
+resume_leaves call (inl is) = rw is refl
+resume_leaves call (inr (inl is)) = rw is refl
+resume_leaves call (inr (inr is)) = rw is refl
+
+-- a load that stopped leaves no draft
+pub load_leaves : (e : Ending) (faults faults' : ℕ) → LoadCause e faults faults' → drafting_left e ≡ false
+load_leaves e faults faults' (inl c) = rw c.0 refl
+load_leaves e faults faults' (inr (inl c)) = rw c.1 refl
+load_leaves e faults faults' (inr (inr c)) = rw c.1 (resume_leaves c.0 c.2)
+
+-- the input that a run reads is the one that was opened
+pub run_opened : (e : Ending) (infile : List ℕ) (s0 s2 : SourceState) → EndsRun e → s2.name ≡ infile → IsOpenedAs e infile s0 s2
+run_opened e infile s0 s2 (Finished, is) named = rw is named
+run_opened e infile s0 s2 (Stopped InputLost, is) named = rw is named
+run_opened e infile s0 s2 (Stopped (Site call), is) named = rw is named
+run_opened e infile s0 s2 (Stopped NoRoom, is) named = rw is (inr named)
+run_opened e infile s0 s2 (SaveFailed call earlier, is) named = rw is named
+
+-- none of these answers speaks of the words
+pub run_says : (e : Ending) → EndsRun e → SaysOfWords e None
+run_says e (Finished, is) = rw is refl
+run_says e (Stopped InputLost, is) = rw is refl
+run_says e (Stopped (Site call), is) = rw is refl
+run_says e (Stopped NoRoom, is) = rw is tt
+run_says e (SaveFailed call earlier, is) = rw is refl
+
+pub load_says : (e : Ending) (faults faults' : ℕ) → LoadCause e faults faults' → SaysOfWords e None
+load_says e faults faults' (inl c) = rw c.0 tt
+load_says e faults faults' (inr (inl c)) = rw c.1 refl
+load_says e faults faults' (inr (inr c)) = rw c.1 refl
+
+pub output_says : (e : Ending) (out : List ℕ) (old new : SiteState) → OutputStop e out old new → SaysOfWords e None
+output_says e out old new (inl c) = rw c.0 refl
+output_says e out old new (inr c) = rw c.0 refl

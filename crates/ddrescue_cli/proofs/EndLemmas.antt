@@ -1,0 +1,352 @@
+-- How a copy ends: its last save, or the turn that it stopped in.
+use Rattle.std.proofs.Common.{◌≡◌, ◌⊎◌, ℕ, ◌+◌, ◌<◌, ◌≤◌, ◌^◌, Bool, true, false, ◌&&◌, IsTrue, if◌then◌else◌, List, [], ◌∷◌, ◌++◌, map, length, All, Option, Some, None, is_none, refl, sym, ap, ◌∙◌, arith, subst, append_assoc, append-nil, inl, inr, ⊎_elim}
+use Rattle.std.proofs.lemmas.List.{map-append}
+use Rattle.std.proofs.lemmas.List.Elements.{All-nil, All-cons, All-append}
+use Rattle.std.proofs.lemmas.Bool.{false_from_ne_true, true≢false}
+use Rattle.faulty_source.specs.SourceState.{SourceState, Stays as SourceStays}
+use Rattle.crash_site.specs.declared.site.SiteCall.{SiteCall}
+use Rattle.crash_site.specs.declared.site.SiteCall.TheVariants.{ImageOpen, ImageWrite, ImageSync, MapRead, DraftBegin, DraftAppend, DraftSync, DraftPublish, MapSettle}
+use Rattle.crash_site.specs.Calls.{Call, Entry, Done as Returned, Made, BrokeAt, draft_append, draft_sync}
+use Rattle.crash_site.specs.SiteState.{SiteState, Makes, Breaks}
+use Rattle.mapfile_text.specs.Pieces.{pieces_of}
+use Rattle.save_resume.specs.MapNames.{MapNames}
+use Rattle.save_resume.specs.Saving.{publish_calls, save_calls, IsNameIn}
+use Rattle.save_resume.proofs.CallLemmas.{made_more, broke_front, broke_back}
+use Rattle.rescue_console.specs.ClockState.{ClockState, Reads as ReadsClock}
+use Rattle.transfer_token.specs.declared.token.Request.{Request}
+use Rattle.rescue_rules.specs.declared.stop.Stop.{Stop}
+use Rattle.rescue_rules.specs.declared.stop.Stop.TheVariants.{SourceLost, Site, NoMemory}
+use Rattle.rescue_rules.specs.declared.stop.RunEnd.{RunEnd}
+use Rattle.rescue_rules.specs.declared.stop.RunEnd.TheVariants.{Done, Stopped, SaveFailed}
+use Rattle.rescue_rules.specs.Setting.{Setting}
+use Rattle.rescue_rules.specs.Machine.{Machine, IsRequest, has_request}
+use Rattle.rescue_rules.specs.Step.{Event, limit}
+use Rattle.rescue_rules.specs.Moves.{Move, move_of, ready, has_none, state_after, is_over, IsRun}
+use Rattle.rescue_rules.specs.Snapshots.{Snapshot, text_of, snapshot, finished_snapshot, last_snapshot, is_due}
+use Rattle.rescue_rules.specs.RunCalls.{write_calls, due_calls, move_calls, run_calls, end_calls}
+use Rattle.rescue_rules.specs.Events.{reads_of, times_of}
+use Rattle.rescue_rules.specs.Laws.{AreTimes}
+use Rattle.rescue_rules.specs.Work.{EndsBy, end_of, Ends, IsSaved, IsUnsaved, IsBroken}
+use Rattle.rescue_rules.proofs.ReadyLemmas.{ready_here, spent_request}
+use Rattle.rescue_rules.proofs.SearchLemmas.{request_seen}
+use Rattle.rescue_core.specs.RunState.{RunState, setting_in}
+use Rattle.rescue_core.specs.Turning.{IsEvent, stepped, move_by, Halted, Starved, Lost, Unwritten, Unsaved}
+use Rattle.rescue_core.specs.Closing.{Saves, Saved, Unsaved as UnsavedEnd, Closes, closing_snapshot, end_of as core_end}
+use Rattle.ddrescue_cli.specs.Alone.{IsFrom}
+use Rattle.ddrescue_cli.specs.Steps.{Across, IsLate}
+use Rattle.ddrescue_cli.specs.declared.ending.Ending.TheVariants.{SiteFault}
+use Rattle.ddrescue_cli.specs.Work.{answer_of}
+use Rattle.ddrescue_cli.specs.Copying.{behind, Went, WentUpTo, EndsCalls, WentToEnd}
+use Rattle.ddrescue_cli.proofs.GainLemmas.{GainsBroken, broke_gains, broke_behind}
+use Rattle.ddrescue_cli.proofs.TurnLemmas.{source_stays, timed_more, EventMore, event_more, ReadsMore, read_more}
+
+ends_as : (stop : Option Stop) → core_end stop ≡ end_of stop
+ends_as None = refl
+ends_as (Some stop) = refl
+
+-- a run that has met a request isn't over
+pub asked_on : (s : Setting) (m : Machine) (p q : ℕ) → IsRequest s m p q → is_over s m ≡ false
+asked_on s m p q asks =
+    let has : has_request s m ≡ true = request_seen s m p q asks in
+    let here : ready s m ≡ m = ready_here s m has in
+    let some : has_none (ready s m).passes ≡ false =
+    ap (λ (n : Machine). has_none n.passes) here
+    ∙ false_from_ne_true (has_none m.passes) (λ none. let never : true ≡ false = sym has ∙ spent_request s m none in cc) in
+    ap (λ (b : Bool). b && is_none (limit s m)) some
+
+last_over : (s : Setting) (m : Machine) (over : Bool) → is_over s m ≡ over → last_snapshot s m ≡ (if over then finished_snapshot m else snapshot m)
+last_over s m over is = ap (λ (b : Bool). if b then finished_snapshot m else snapshot m) is
+
+-- what was done up to the end of a run, or where it stopped
+record IsDone (r : RunState) (events : List Event) (spare : List ℕ) (o : Across) : Type 0 where
+  run : IsRun (setting_in r) r.machine events
+  read : IsTrue o.source.tells → o.source'.journal ≡ o.source.journal ++ reads_of events
+  right : IsTrue o.source.tells → All (IsFrom o.source.bytes) (reads_of events)
+  timed : ReadsClock (times_of events ++ spare) o.clock o.clock'
+  fit : AreTimes (times_of events ++ spare)
+
+to_end : (r : RunState) (end : RunEnd) (events : List Event) (spare : List ℕ) (o : Across) → IsDone r events spare o
+    → (IsTrue o.site.tells → EndsCalls r events (length spare) end o.site.calls o.site'.calls)
+    → (end ≡ Done → is_over (setting_in r) (state_after (setting_in r) r.machine events) ≡ true) → IsLate (answer_of end)
+    → WentToEnd r end o
+to_end r end events spare o d calls done late = record {
+  events = events;
+  spare = spare;
+  run = d.run;
+  read = d.read;
+  right = d.right;
+  timed = d.timed;
+  fit = d.fit;
+  calls = calls;
+  done = done;
+  late = late;
+}
+
+done_went : (r r1 : RunState) (o : Across) (site2 : SiteState) → (w : Went r r1 o) → IsDone r w.events [] (record o { site' = site2 })
+done_went r r1 o site2 w =
+    let none : times_of w.events ≡ times_of w.events ++ [] = sym (append-nil (times_of w.events)) in
+    record {
+      run = w.run;
+      read = w.read.told;
+      right = w.right;
+      timed = subst (λ (ts : List ℕ). ReadsClock ts o.clock o.clock') none w.timed;
+      fit = subst AreTimes none w.fit;
+    }
+
+-- The save at the end of a run, or a call of it that failed.
+save_ends : (r : RunState) (events : List Event) (stop : Option Stop) (spare : ℕ) (end : RunEnd) (old : List Entry) (a b : SiteState)
+    → EndsBy stop (setting_in r) (behind r events).machine spare
+    → closing_snapshot stop (behind r events) ≡ last_snapshot (setting_in r) (behind r events).machine
+    → Made (run_calls (setting_in r) r.machine events) old a.calls → IsTrue a.tells
+    → Saves stop (behind r events) end a b → EndsCalls r events spare end old b.calls
+save_ends r events stop spare end old a b by text made tells (Saved is makes rest) =
+    let s : Setting = setting_in r in
+    let P : Snapshot → Type 0 = λ p. Made (save_calls r.names (text_of r.line p)) a.calls b.calls in
+    record {
+      gained = map Returned (run_calls s r.machine events ++ end_calls s r.machine events);
+      grew = made_more old a.calls b.calls (run_calls s r.machine events) (end_calls s r.machine events) made
+          (subst P text (makes.made tells));
+      ends = IsSaved stop by (is ∙ ends_as stop) refl;
+    }
+save_ends r events stop spare end old a b by text made tells (UnsavedEnd call is named breaks rest) =
+    let s : Setting = setting_in r in
+    let P : Snapshot → Type 0 = λ p. BrokeAt call (save_calls r.names (text_of r.line p)) a.calls b.calls in
+    let g : GainsBroken call (end_calls s r.machine events) a.calls b.calls =
+    broke_gains call (end_calls s r.machine events) a.calls b.calls (subst P text (breaks.broke tells)) in
+    let calls : List Entry = map Returned (run_calls s r.machine events) in
+    let Q : List Entry → Type 0 = λ from. BrokeAt call (end_calls s r.machine events) from (calls ++ g.more) in
+    record {
+      gained = calls ++ g.more;
+      grew = g.grew ∙ ap (λ (c : List Entry). c ++ g.more) made ∙ append_assoc old calls g.more;
+      ends = IsUnsaved stop call by is
+          (subst Q (append-nil calls) (broke_behind call (end_calls s r.machine events) calls [] g.more g.broke));
+    }
+
+saves_as : (stop : Option Stop) (r q : RunState) (end : RunEnd) (a b : SiteState) → r ≡ q → Saves stop r end a b → Saves stop q end a b
+saves_as stop r q end a b is saves = subst (λ (p : RunState). Saves stop p end a b) is saves
+
+-- a call of a save is none of the opening's that a save doesn't make
+appends_named : (call : SiteCall) (ps : List (List ℕ)) (rest : List Call) → IsNameIn call (map draft_append ps ++ rest)
+    → (call ≡ DraftAppend) ⊎ IsNameIn call rest
+appends_named call [] rest h = inr h
+appends_named call (p ∷ ps) rest h = ⊎_elim (λ is. inl is) (λ later. appends_named call ps rest later) h
+
+other_call : (call name : SiteCall) → call ≡ name → (name ≡ ImageOpen → ⊥) → (name ≡ MapRead → ⊥) → (call ≡ ImageOpen) ⊎ (call ≡ MapRead) → ⊥
+other_call call name is apart read (inl at) = apart (sym is ∙ at)
+other_call call name is apart read (inr at) = read (sym is ∙ at)
+
+publish_named : (call : SiteCall) (n : MapNames) → (call ≡ DraftAppend) ⊎ IsNameIn call (draft_sync ∷ publish_calls n)
+    → (call ≡ ImageOpen) ⊎ (call ≡ MapRead) → ⊥
+publish_named call n (inl is) = other_call call DraftAppend is (λ x. cc) (λ x. cc)
+publish_named call n (inr (inl is)) = other_call call DraftSync is (λ x. cc) (λ x. cc)
+publish_named call n (inr (inr (inl is))) = other_call call DraftPublish is (λ x. cc) (λ x. cc)
+publish_named call n (inr (inr (inr (inl is)))) = other_call call MapSettle is (λ x. cc) (λ x. cc)
+publish_named call n (inr (inr (inr (inr h)))) = absurd h
+
+save_named : (call : SiteCall) (n : MapNames) (text : List ℕ) → IsNameIn call (save_calls n text) → (call ≡ ImageOpen) ⊎ (call ≡ MapRead) → ⊥
+save_named call n text (inl is) = other_call call ImageSync is (λ x. cc) (λ x. cc)
+save_named call n text (inr (inl is)) = other_call call DraftBegin is (λ x. cc) (λ x. cc)
+save_named call n text (inr (inr h)) = publish_named call n (appends_named call (pieces_of text) (draft_sync ∷ publish_calls n) h)
+
+call_late : (call : SiteCall) (earlier : Option Stop) → ((call ≡ ImageOpen) ⊎ (call ≡ MapRead) → ⊥) → IsLate (SiteFault call earlier)
+call_late call earlier other = record {
+  no_open = λ behind is. let same : call ≡ ImageOpen = cc in other (inl same);
+  no_read = λ behind is. let same : call ≡ MapRead = cc in other (inr same);
+}
+
+stop_late : (stop : Option Stop) → ((call : SiteCall) → stop ≡ Some (Site call) → ⊥) → IsLate (answer_of (end_of stop))
+stop_late None other = record { no_open = λ earlier is. cc; no_read = λ earlier is. cc }
+stop_late (Some SourceLost) other = record { no_open = λ earlier is. cc; no_read = λ earlier is. cc }
+stop_late (Some (Site call)) other = absurd (other call refl)
+stop_late (Some NoMemory) other = record { no_open = λ earlier is. cc; no_read = λ earlier is. cc }
+
+saves_late : (stop : Option Stop) (r : RunState) (end : RunEnd) (a b : SiteState) → ((call : SiteCall) → stop ≡ Some (Site call) → ⊥)
+    → Saves stop r end a b → IsLate (answer_of end)
+saves_late stop r end a b other (Saved is makes rest) =
+    subst (λ (e : RunEnd). IsLate (answer_of e)) (sym (is ∙ ends_as stop)) (stop_late stop other)
+saves_late stop r end a b other (UnsavedEnd call is named breaks rest) =
+    subst (λ (e : RunEnd). IsLate (answer_of e)) (sym is)
+    (call_late call stop (save_named call r.names (text_of r.line (closing_snapshot stop r)) named))
+
+-- only a save without a stop ends a run that is done
+saves_done : (stop : Stop) (r : RunState) (end : RunEnd) (a b : SiteState) → Saves (Some stop) r end a b → end ≡ Done → ⊥
+saves_done stop r end a b (Saved is makes rest) done = let never : Stopped stop ≡ Done = sym is ∙ done in cc
+saves_done stop r end a b (UnsavedEnd call is named breaks rest) done = let never : SaveFailed call (Some stop) ≡ Done = sym is ∙ done in cc
+
+-- a copy that went on to its end
+pub ended_done : (r r1 : RunState) (end : RunEnd) (o : Across) (site2 : SiteState) → Went r r1 o
+    → is_over (setting_in r1) r1.machine ≡ true → o.site'.tells ≡ o.site.tells → Closes None r1 end o.site' site2
+    → WentToEnd r end (record o { site' = site2 })
+ended_done r r1 end o site2 w over same saves =
+    let s : Setting = setting_in r in
+    let over' : is_over s (behind r w.events).machine ≡ true =
+    subst (λ (q : RunState). is_over (setting_in q) q.machine ≡ true) w.state over in
+    to_end r end w.events [] (record o { site' = site2 }) (done_went r r1 o site2 w)
+    (λ tells. save_ends r w.events None 0 end o.site.calls o.site' site2 (over', refl)
+    (sym (last_over s (behind r w.events).machine true over')) (w.made.made tells) (rw same tells)
+    (saves_as None r1 (behind r w.events) end o.site' site2 w.state saves))
+    (λ done. over')
+    (saves_late None r1 end o.site' site2 (λ call is. cc) saves)
+
+-- a copy that stopped before its event's calls
+stopped_saves : (r r1 r2 : RunState) (stop : Stop) (end : RunEnd) (p q : ℕ) (spare : List ℕ) (o : Across) (site2 : SiteState)
+    (source2 : SourceState) (clock2 : ClockState) → (w : Went r r1 o) → IsRequest (setting_in r1) r1.machine p q → r2 ≡ r1
+    → ((m : Machine) → is_over (setting_in r) m ≡ false → EndsBy (Some stop) (setting_in r) m (length spare))
+    → ((call : SiteCall) → Some stop ≡ Some (Site call) → ⊥)
+    → o.site'.tells ≡ o.site.tells → IsDone r w.events spare (record o { source' = source2; site' = site2; clock' = clock2 })
+    → Saves (Some stop) r2 end o.site' site2 → WentToEnd r end (record o { source' = source2; site' = site2; clock' = clock2 })
+stopped_saves r r1 r2 stop end p q spare o site2 source2 clock2 w asks still by other same d saves =
+    let s : Setting = setting_in r in
+    let on : is_over s (behind r w.events).machine ≡ false =
+    subst (λ (x : RunState). is_over (setting_in x) x.machine ≡ false) w.state (asked_on (setting_in r1) r1.machine p q asks) in
+    to_end r end w.events spare (record o { source' = source2; site' = site2; clock' = clock2 }) d
+    (λ tells. save_ends r w.events (Some stop) (length spare) end o.site.calls o.site' site2 (by (behind r w.events).machine on)
+    (sym (last_over s (behind r w.events).machine false on)) (w.made.made tells) (rw same tells)
+    (saves_as (Some stop) r2 (behind r w.events) end o.site' site2 (still ∙ w.state) saves))
+    (λ done. absurd (saves_done stop r2 end o.site' site2 saves done))
+    (saves_late (Some stop) r2 end o.site' site2 other saves)
+
+-- a copy that broke off in its event's calls
+broken_calls : (r : RunState) (es : List Event) (e : Event) (call : SiteCall) (end : RunEnd) (old a b : List Entry)
+    → EventMore r es e → end ≡ Stopped (Site call) → Made (run_calls (setting_in r) r.machine es) old a
+    → BrokeAt call (move_calls (setting_in r) (move_by (behind r es) e)) a b → EndsCalls r (es ++ e ∷ []) 0 end old b
+broken_calls r es e call end old a b more is made broke =
+    let s : Setting = setting_in r in
+    let calls : List Entry = map Returned (run_calls s r.machine es) in
+    let moves : List Call = move_calls s (move_by (behind r es) e) in
+    let g : GainsBroken call moves a b = broke_gains call moves a b broke in
+    let Q : List Entry → Type 0 = λ from. BrokeAt call moves from (calls ++ g.more) in
+    let M : Move → Type 0 = λ v. BrokeAt call (move_calls s v) calls (calls ++ g.more) in
+    record {
+      gained = calls ++ g.more;
+      grew = g.grew ∙ ap (λ (c : List Entry). c ++ g.more) made ∙ append_assoc old calls g.more;
+      ends = IsBroken es e call refl refl is
+          (subst M (sym more.move) (subst Q (append-nil calls) (broke_behind call moves calls [] g.more g.broke)));
+    }
+
+broken_end : (r r1 : RunState) (call : SiteCall) (end : RunEnd) (request : Request) (e : Event) (o : Across) (source2 : SourceState)
+    (site2 : SiteState) (clock2 : ClockState) → (w : Went r r1 o) → (more : EventMore r w.events e)
+    → IsEvent request e o.source' source2 o.clock' clock2 → SourceStays o.source o.source' → end ≡ Stopped (Site call)
+    → ((call ≡ ImageOpen) ⊎ (call ≡ MapRead) → ⊥)
+    → (IsTrue o.site.tells → BrokeAt call (move_calls (setting_in r) (move_by (behind r w.events) e)) o.site'.calls site2.calls)
+    → WentToEnd r end (record o { source' = source2; site' = site2; clock' = clock2 })
+broken_end r r1 call end request e o source2 site2 clock2 w more is stays ended other broke =
+    let m : ReadsMore r w.events e (record o { source' = source2; site' = site2; clock' = clock2 }) =
+    read_more r r1 o request source2 site2 clock2 e w is stays in
+    let times : List ℕ = times_of (w.events ++ e ∷ []) in
+    let none : times ≡ times ++ [] = sym (append-nil times) in
+    to_end r end (w.events ++ e ∷ []) [] (record o { source' = source2; site' = site2; clock' = clock2 })
+    (record {
+      run = more.run;
+      read = m.read.told;
+      right = m.right;
+      timed = subst (λ (ts : List ℕ). ReadsClock ts o.clock clock2) none m.timed;
+      fit = subst AreTimes none m.fit;
+    })
+    (λ tells. broken_calls r w.events e call end o.site.calls o.site'.calls site2.calls more ended (w.made.made tells) (broke tells))
+    (λ done. let never : Stopped (Site call) ≡ Done = sym ended ∙ done in absurd (cc))
+    (subst (λ (x : RunEnd). IsLate (answer_of x)) (sym ended) (call_late call None other))
+
+event_next : (r r1 : RunState) (request : Request) (e : Event) (o : Across) (source2 : SourceState) (clock2 : ClockState)
+    → (w : Went r r1 o) → IsRequest (setting_in r1) r1.machine request.pos (request.pos + request.len)
+    → IsEvent request e o.source' source2 o.clock' clock2 → EventMore r w.events e
+event_next r r1 request e o source2 clock2 w asks is =
+    let P : RunState → Type 0 = λ q. IsRequest (setting_in q) q.machine e.reading.pos (e.reading.pos + e.reading.asked) in
+    event_more r w.events e w.run (subst P w.state (rw (is.pos, is.asked) asks)) (omega (arith, is.few, is.asked))
+
+-- what a lost read leaves
+done_lost : (r r1 : RunState) (before : ℕ) (o : Across) (source2 : SourceState) (site2 : SiteState) (clock2 : ClockState) → (w : Went r r1 o)
+    → (IsTrue o.source.tells → source2.journal ≡ o.source'.journal) → before < 2 ^ 64 → ReadsClock (before ∷ []) o.clock' clock2
+    → IsDone r w.events (before ∷ []) (record o { source' = source2; site' = site2; clock' = clock2 })
+done_lost r r1 before o source2 site2 clock2 w untold small times =
+    let P : ℕ → Type 0 = λ t. t < 2 ^ 64 in
+    record {
+      run = w.run;
+      read = λ tells. untold tells ∙ w.read.told tells;
+      right = w.right;
+      timed = timed_more (times_of w.events) (before ∷ []) o.clock o.clock' clock2 w.timed times;
+      fit = All-append P (times_of w.events) (before ∷ []) w.fit (All-cons P before [] small (All-nil P));
+    }
+
+done_still : (r r1 : RunState) (o : Across) (source2 : SourceState) (site2 : SiteState) (clock2 : ClockState) → (w : Went r r1 o)
+    → source2 ≡ o.source' → clock2 ≡ o.clock' → IsDone r w.events [] (record o { source' = source2; site' = site2; clock' = clock2 })
+done_still r r1 o source2 site2 clock2 w untouched unread =
+    let d : IsDone r w.events [] (record o { site' = site2 }) = done_went r r1 o site2 w in
+    record {
+      run = d.run;
+      read = λ tells. ap (λ (x : SourceState). x.journal) untouched ∙ d.read tells;
+      right = d.right;
+      timed = subst (λ (k : ClockState). ReadsClock (times_of w.events ++ []) o.clock k) (sym unread) d.timed;
+      fit = d.fit;
+    }
+
+-- the write of an event, or its save, that broke off
+broken_write : (r r1 : RunState) (es : List Event) (e : Event) (a b c : SiteState) → r1 ≡ behind r es → c ≡ b
+    → Breaks ImageWrite (write_calls (setting_in r1) e.reading) a b → IsTrue a.tells
+    → BrokeAt ImageWrite (move_calls (setting_in r) (move_by (behind r es) e)) a.calls c.calls
+broken_write r r1 es e a b c is still breaks tells =
+    let s : Setting = setting_in r in
+    let P : RunState → Type 0 = λ q. BrokeAt ImageWrite (write_calls (setting_in q) e.reading) a.calls b.calls in
+    let C : SiteState → Type 0 = λ d. BrokeAt ImageWrite (move_calls s (move_by (behind r es) e)) a.calls d.calls in
+    subst C (sym still) (broke_front ImageWrite (write_calls s e.reading) (due_calls s (move_by (behind r es) e)) a.calls b.calls
+    (subst P is (breaks.broke tells)))
+
+broken_save : (r r1 r2 : RunState) (es : List Event) (e : Event) (call : SiteCall) (a b c : SiteState) → r1 ≡ behind r es → c ≡ b
+    → r2 ≡ stepped r1 e → is_due (setting_in r1) (move_by r1 e) ≡ true
+    → BrokeAt call (save_calls r1.names (text_of r1.line (snapshot r2.machine)))
+    (a.calls ++ map Returned (write_calls (setting_in r1) e.reading)) b.calls
+    → BrokeAt call (move_calls (setting_in r) (move_by (behind r es) e)) a.calls c.calls
+broken_save r r1 r2 es e call a b c is still steps due broke =
+    let s : Setting = setting_in r in
+    let v : Move = move_by (behind r es) e in
+    let writes : List Call = write_calls s e.reading in
+    let saves : List Call = save_calls s.names (text_of s.line (snapshot v.after)) in
+    let stepped' : r2 ≡ stepped (behind r es) e = steps ∙ ap (λ (q : RunState). stepped q e) is in
+    let P : RunState → Type 0 = λ q. BrokeAt call (save_calls r1.names (text_of r1.line (snapshot q.machine)))
+    (a.calls ++ map Returned (write_calls (setting_in r1) e.reading)) b.calls in
+    let Q : RunState → Type 0 = λ q. BrokeAt call (save_calls q.names (text_of q.line (snapshot v.after)))
+    (a.calls ++ map Returned (write_calls (setting_in q) e.reading)) b.calls in
+    let there : BrokeAt call saves (a.calls ++ map Returned writes) b.calls = subst Q is (subst P stepped' broke) in
+    let D : RunState → Type 0 = λ q. is_due (setting_in q) (move_by q e) ≡ true in
+    let made : due_calls s v ≡ saves = ap (λ (on : Bool). if on then saves else []) (subst D is due) in
+    let C : SiteState → Type 0 = λ d. BrokeAt call (move_calls s v) a.calls d.calls in
+    subst C (sym still) (broke_back call writes (due_calls s v) a.calls (a.calls ++ map Returned writes) b.calls refl
+    (subst (λ (cs : List Call). BrokeAt call cs (a.calls ++ map Returned writes) b.calls) (sym made) there))
+
+-- where the turn stopped
+pub halted_end : (r r1 r2 : RunState) (stop : Stop) (end : RunEnd) (request : Request) (o : Across) (source2 : SourceState)
+    (site2 site3 : SiteState) (clock2 : ClockState) → Went r r1 o → SourceStays o.source o.source' → o.site'.tells ≡ o.site.tells
+    → IsRequest (setting_in r1) r1.machine request.pos (request.pos + request.len)
+    → Halted request stop r1 r2 o.source' source2 o.site' site2 o.clock' clock2 → Closes (Some stop) r2 end site2 site3
+    → WentToEnd r end (record o { source' = source2; site' = site3; clock' = clock2 })
+halted_end r r1 r2 stop end request o source2 site2 site3 clock2 w stays same asks (Starved is still untouched unmade unread) closes =
+    let C : Stop → Type 0 = λ x. Closes (Some x) r2 end site2 site3 in
+    let S : SiteState → Type 0 = λ d. Saves (Some NoMemory) r2 end d site3 in
+    stopped_saves r r1 r2 NoMemory end request.pos (request.pos + request.len) [] o site3 source2 clock2 w asks still
+    (λ m on. (on, refl, refl)) (λ call at. cc) same (done_still r r1 o source2 site3 clock2 w untouched unread) (subst S unmade (subst C is closes))
+halted_end r r1 r2 stop end request o source2 site2 site3 clock2 w stays same asks (Lost is still loses unmade before small times) closes =
+    let C : Stop → Type 0 = λ x. Closes (Some x) r2 end site2 site3 in
+    let S : SiteState → Type 0 = λ d. Saves (Some SourceLost) r2 end d site3 in
+    stopped_saves r r1 r2 SourceLost end request.pos (request.pos + request.len) (before ∷ []) o site3 source2 clock2 w asks still
+    (λ m on. (on, refl, refl)) (λ call at. cc) same
+    (done_lost r r1 before o source2 site3 clock2 w (λ tells. loses.untold (rw stays.keeps.tells tells)) small times)
+    (subst S unmade (subst C is closes))
+halted_end r r1 r2 stop end request o source2 site2 site3 clock2 w stays same asks (Unwritten is still e event breaks) closes =
+    let C : Stop → Type 0 = λ x. Closes (Some x) r2 end site2 site3 in
+    let closed : (end ≡ Stopped (Site ImageWrite)) × (site3 ≡ site2) = subst C is closes in
+    broken_end r r1 ImageWrite end request e o source2 site3 clock2 w (event_next r r1 request e o source2 clock2 w asks event) event stays closed.0
+    (other_call ImageWrite ImageWrite refl (λ x. cc) (λ x. cc))
+    (λ tells. broken_write r r1 w.events e o.site' site2 site3 w.state closed.1 breaks (rw same tells))
+halted_end r r1 r2 stop end request o source2 site2 site3 clock2 w stays same asks (Unsaved call is e event steps due named broke rose) closes =
+    let C : Stop → Type 0 = λ x. Closes (Some x) r2 end site2 site3 in
+    let closed : (end ≡ Stopped (Site call)) × (site3 ≡ site2) = subst C is closes in
+    broken_end r r1 call end request e o source2 site3 clock2 w (event_next r r1 request e o source2 clock2 w asks event) event stays closed.0
+    (save_named call r1.names (text_of r1.line (snapshot r2.machine)) named)
+    (λ tells. broken_save r r1 r2 w.events e call o.site' site2 site3 w.state closed.1 steps due (broke (rw same tells)))
+
+pub stopped_end : (r r2 : RunState) (stop : Stop) (end : RunEnd) (o : Across) (site3 : SiteState) → WentUpTo stop r r2 o
+    → Closes (Some stop) r2 end o.site' site3 → WentToEnd r end (record o { site' = site3 })
+stopped_end r r2 stop end o site3 h closes =
+    halted_end r h.between r2 stop end h.request
+    (record o { source' = h.source_between; site' = h.site_between; clock' = h.clock_between }) o.source' o.site' site3 o.clock' h.went
+    h.source h.site_tells h.asks h.halted closes

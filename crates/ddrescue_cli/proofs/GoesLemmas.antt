@@ -1,0 +1,120 @@
+-- The work of a rescue goes as it should.
+use Rattle.std.proofs.Common.{◌≡◌, ℕ, ◌+◌, ◌≤◌, true, false, List, [], ◌∷◌, ◌++◌, map, length, take, Option, refl, sym, ap, ◌∙◌, inl, inr, subst, arith, append-nil}
+use Rattle.block_list.specs.declared.status.Status.{Status}
+use Rattle.mapfile_text.specs.declared.state.MapState.{MapState}
+use Rattle.crash_site.specs.declared.site.SiteCall.TheVariants.{MapRead}
+use Rattle.crash_site.specs.Files.{File}
+use Rattle.crash_site.specs.Calls.{Call, Entry, Done as Returned, Lost, BrokeAt, image_open, image_sync, map_settle}
+use Rattle.crash_site.specs.Left.{MayBeLeft}
+use Rattle.save_resume.specs.Loading.{IsLoad}
+use Rattle.save_resume.specs.Resuming.{barrier_calls}
+use Rattle.rescue_rules.specs.Setting.{Setting}
+use Rattle.rescue_rules.specs.Start.{Stands}
+use Rattle.rescue_rules.specs.Work.{Gain, IsNothing, opening_calls, Goes, InOpening, InLoad, InRun}
+use Rattle.rescue_rules.specs.Stops.{Behind, LeftAt, has_barrier, StopsSafely}
+use Rattle.ddrescue_cli.specs.declared.ending.Ending.{Ending}
+use Rattle.ddrescue_cli.specs.Work.{WorksOn, RunsOver}
+use Rattle.ddrescue_cli.proofs.GainLemmas.{lost_behind, broke_behind}
+
+-- the first call of a rescue, and the three of its opening
+abbrev pub opened : Setting → List Entry
+opened s = Returned (image_open s.outfile true) ∷ []
+
+abbrev pub settled : Setting → List Entry
+settled s = Returned (image_open s.outfile true) ∷ Returned (map_settle s.names.map) ∷ Returned image_sync ∷ []
+
+pub settled_more : (s : Setting) (calls rest more : List Entry) → calls ≡ opened s ++ rest → rest ≡ map Returned (barrier_calls s.names) ++ more
+    → calls ≡ settled s ++ more
+settled_more s calls rest more grew grew' = grew ∙ ap (λ r. opened s ++ r) grew'
+
+lost_settled : (s : Setting) (calls rest : List Entry) → calls ≡ opened s ++ rest → Lost (map_settle s.names.map) [] rest
+    → Lost (map_settle s.names.map) (opened s) calls
+lost_settled s calls rest grew lost =
+    let P : List Entry → Type 0 = λ r. Lost (map_settle s.names.map) (opened s) r in
+    subst P (sym grew) (lost_behind (map_settle s.names.map) (opened s) [] rest lost)
+
+lost_synced : (s : Setting) (calls rest : List Entry) → calls ≡ opened s ++ rest → Lost image_sync (Returned (map_settle s.names.map) ∷ []) rest
+    → Lost image_sync (opened s ++ Returned (map_settle s.names.map) ∷ []) calls
+lost_synced s calls rest grew lost =
+    let P : List Entry → Type 0 = λ r. Lost image_sync (opened s ++ Returned (map_settle s.names.map) ∷ []) r in
+    subst P (sym grew) (lost_behind image_sync (opened s) (Returned (map_settle s.names.map) ∷ []) rest lost)
+
+broke_settled : (s : Setting) (load : List Call) (calls more : List Entry) → calls ≡ settled s ++ more → BrokeAt MapRead load [] more
+    → BrokeAt MapRead (opening_calls s ++ load) [] calls
+broke_settled s load calls more grew broke =
+    let P : List Entry → Type 0 = λ r. BrokeAt MapRead load (settled s) r in
+    inr (inr (inr (subst P (sym grew) (broke_behind MapRead load (settled s) [] more broke))))
+
+-- the calls of a rescue that read its mapfile, and made no other behind it
+loaded_alone : (s : Setting) (load : List Call) (calls rest more run : List Entry) → calls ≡ opened s ++ rest
+    → rest ≡ map Returned (barrier_calls s.names) ++ more → more ≡ map Returned load ++ run → run ≡ []
+    → calls ≡ map Returned (opening_calls s ++ load)
+loaded_alone s load calls rest more run grew grew' all none =
+    settled_more s calls rest more grew grew' ∙ ap (λ r. settled s ++ r) all ∙ ap (λ r. settled s ++ (map Returned load ++ r)) none
+    ∙ ap (λ r. settled s ++ r) (append-nil (map Returned load))
+
+-- a run over the map that was loaded, which may not have begun
+over_goes : (s : Setting) (files : List ℕ → Option File) (e : Ending) (g : Gain) (load : List Call) (statuses : List Status)
+    (state : Option MapState) (run : List Entry) → IsLoad s.names.map (files s.names.map) load
+    → Stands (files s.names.map) s.end statuses state → g.calls ≡ map Returned (opening_calls s ++ load) ++ run
+    → RunsOver s statuses state e (record g { calls = run }) → Goes s files g
+over_goes s files e g load statuses state run loaded stands grew (inl un) =
+    InLoad load loaded.begins un.reads (inl (grew ∙ ap (λ r. map Returned (opening_calls s ++ load) ++ r) un.calls
+    ∙ append-nil (map Returned (opening_calls s ++ load))))
+over_goes s files e g load statuses state run loaded stands grew (inr (end, is, runs)) =
+    InRun load statuses state end run loaded stands grew runs
+
+pub goes_on : (s : Setting) (files : List ℕ → Option File) (e : Ending) (g : Gain) → WorksOn s files e g → Goes s files g
+goes_on s files e g (inl (refused, none)) = InOpening [] (opening_calls s) refl none.reads (inl none.calls)
+goes_on s files e g (inr (inl (call, is, inl (name, lost), only))) =
+    InOpening [] (opening_calls s) refl only.reads (inr (image_open s.outfile true, barrier_calls s.names, refl, lost))
+goes_on s files e g (inr (inl (call, is, inr broke, only))) = absurd broke
+goes_on s files e g (inr (inr (rest, grew, inl (refused, none)))) =
+    InOpening (image_open s.outfile true ∷ []) (barrier_calls s.names) refl none.reads (inl (grew ∙ ap (λ r. opened s ++ r) none.calls))
+goes_on s files e g (inr (inr (rest, grew, inr (passes, inl (call, is, inl (name, lost), only))))) =
+    InOpening (image_open s.outfile true ∷ []) (barrier_calls s.names) refl only.reads
+    (inr (map_settle s.names.map, image_sync ∷ [], refl, lost_settled s g.calls rest grew lost))
+goes_on s files e g (inr (inr (rest, grew, inr (passes, inl (call, is, inr (inl (name, lost)), only))))) =
+    InOpening (image_open s.outfile true ∷ map_settle s.names.map ∷ []) (image_sync ∷ []) refl only.reads
+    (inr (image_sync, [], refl, lost_synced s g.calls rest grew lost))
+goes_on s files e g (inr (inr (rest, grew, inr (passes, inl (call, is, inr (inr broke), only))))) = absurd broke
+goes_on s files e g (inr (inr (rest, grew, inr (passes, inr (more, grew', inl (load, is, begins, broke, only)))))) =
+    InLoad load begins only.reads (inr (broke_settled s load g.calls more (settled_more s g.calls rest more grew grew') broke))
+goes_on s files e g (inr (inr (rest, grew, inr (passes, inr (more, grew', inr (inl (load, is, begins, all, only))))))) =
+    InLoad load begins only.reads (inl (settled_more s g.calls rest more grew grew' ∙ ap (λ r. settled s ++ r) all))
+goes_on s files e g (inr (inr (rest, grew, inr (passes, inr (more, grew', inr (inr (load, run, loaded, all, inl (refused, none)))))))) =
+    InLoad load loaded.begins none.reads (inl (loaded_alone s load g.calls rest more run grew grew' all none.calls))
+goes_on s files e g (inr (inr (rest, grew, inr (passes, inr (more, grew', inr (inr (load, run, loaded, all, inr (accepted, ran)))))))) =
+    let stands = ran.2 in
+    over_goes s files e g load ran.0 ran.1 run loaded stands (settled_more s g.calls rest more grew grew' ∙ ap (λ r. settled s ++ r) all) ran.3
+
+-- where nothing was done, what is found could be found before
+nothing_left : (b : Behind) (g : Gain) (k : ℕ) (files : List ℕ → Option File) → IsNothing g → k ≤ length g.calls → LeftAt b g k files
+    → MayBeLeft b.start b.earlier (length b.earlier) files
+nothing_left b g k files none le left =
+    let empty : length g.calls ≡ 0 = ap length none.calls in
+    let here : length b.earlier + k ≡ length b.earlier = omega (arith, le, empty) in
+    let P : ℕ → Type 0 = λ n. MayBeLeft b.start (b.earlier ++ g.calls) n files in
+    let Q : List Entry → Type 0 = λ r. MayBeLeft b.start r (length b.earlier) files in
+    subst Q (ap (λ c. b.earlier ++ c) none.calls ∙ append-nil b.earlier) (subst P here left)
+
+no_barrier : (g : Gain) (k : ℕ) → IsNothing g → k ≤ length g.calls → has_barrier (take k g.calls) ≡ true → ⊥
+no_barrier g k none le is =
+    let empty : length g.calls ≡ 0 = ap length none.calls in
+    let zero : k ≡ 0 = omega (arith, le, empty) in
+    let P : ℕ → Type 0 = λ n. has_barrier (take n g.calls) ≡ true in
+    let never : false ≡ true = subst P zero is in cc
+
+pub nothing_stops : (b : Behind) (s : Setting) (g : Gain) → IsNothing g → StopsSafely b s g
+nothing_stops b s g none = record {
+  before = λ k files le left is. record {
+    before = files;
+    left = nothing_left b g k files none le left;
+    others = λ name other. refl;
+    output = inl refl;
+  };
+  output = λ k files le left is still. absurd (no_barrier g k none le is);
+  mapfile = λ k files le left is still. absurd (no_barrier g k none le is);
+  kept = λ k files began state le left is stands. absurd (no_barrier g k none le is);
+  others = λ k files name le left output mapfile draft. (files, nothing_left b g k files none le left, refl);
+}

@@ -1,0 +1,68 @@
+-- What a load behind the barrier answers.
+use Rattle.std.proofs.Common.{◌≡◌, ◌≢◌, ℕ, List, Option, Some, None, Result, Ok, Err, IfOk, inl, inr, refl, sym, subst}
+use Rattle.block_list.specs.declared.status.Status.{Status}
+use Rattle.block_list.specs.Map.{extended}
+use Rattle.mapfile_text.specs.declared.state.MapState.{MapState}
+use Rattle.mapfile_text.specs.declared.read.Mode.TheVariants.{Tight}
+use Rattle.mapfile_text.specs.declared.read.ReadMap.{ReadMap}
+use Rattle.mapfile_text.specs.declared.read.MapError.{MapError}
+use Rattle.mapfile_text.specs.declared.read.MapError.TheVariants.{NoStatusLine}
+use Rattle.crash_site.specs.declared.site.SiteCall.{SiteCall}
+use Rattle.crash_site.specs.Files.{File}
+use Rattle.crash_site.specs.Calls.{Entry}
+use Rattle.save_resume.specs.MapNames.{MapNames}
+use Rattle.save_resume.specs.Resuming.{barrier_calls, LoadEnded, Starved as StarvedIn, BrokeAsResumed, IsReadAs, IsRefusedFor}
+use Rattle.save_resume.proofs.AnswerLemmas.{read_is_not_refused}
+use Rattle.rescue_rules.specs.Start.{StandsFor, AsMap}
+use Rattle.ddrescue_cli.specs.declared.ending.Ending.{Ending}
+use Rattle.ddrescue_cli.specs.declared.ending.Ending.TheVariants.{MapRefused, SiteFault, NoMemory}
+use Rattle.ddrescue_cli.specs.declared.ending.Which.TheVariants.{RunMap}
+use Rattle.ddrescue_cli.specs.Steps.{Started, LoadStopped, InBarrier, InRead, Starved, Refused}
+
+-- what two clauses of an answer say together
+pub ok_both : {T E : Type 0} (r : Result T E) (P Q R : T → Type 0) → ((x : T) → P x → Q x → R x) → IfOk r P → IfOk r Q → IfOk r R
+ok_both (Ok x) P Q R f p q = f x p q
+ok_both (Err e) P Q R f p q = tt
+
+pub map_started : (names : MapNames) (file : Option File) (end : ℕ) (m : ReadMap) (map : List Status) (state : Option MapState)
+    (calls calls' : List Entry)
+    → IsReadAs file Tight m → LoadEnded (barrier_calls names) names.map file calls calls' → map ≡ extended m.tiles.statuses end
+    → state ≡ Some m.state → Started names file end map state calls calls'
+map_started names file end m map state calls calls' read loaded extends shows =
+    let P : Option File → Type 0 = λ f. StandsFor f end map state in
+    record {
+      load = loaded.0;
+      is_load = loaded.1;
+      made = loaded.2;
+      accepted = λ e r. read_is_not_refused file Tight m r.0 read r.1;
+      stands = record {
+        stands = subst P (sym read.is) (AsMap (record {
+          shown = m.state;
+          first = m.first;
+          listed = m.listed;
+          statuses = m.tiles.statuses;
+          reads = read.reads;
+          map_is = extends;
+          state_is = shows;
+        }));
+      };
+    }
+
+-- memory ran out behind a whole load
+pub starved_behind : (names : MapNames) (file : Option File) (e : Ending) (calls calls' : List Entry)
+    → LoadEnded (barrier_calls names) names.map file calls calls' → e ≡ NoMemory → LoadStopped names file e calls calls'
+starved_behind names file e calls calls' loaded is = Starved loaded.0 is loaded.1.begins loaded.2
+
+-- or within it
+pub starved_within : (names : MapNames) (file : Option File) (calls calls' : List Entry)
+    → StarvedIn (barrier_calls names) names.map file calls calls' → LoadStopped names file NoMemory calls calls'
+starved_within names file calls calls' starved = Starved starved.0 refl starved.1 starved.2
+
+pub broke_as : (names : MapNames) (file : Option File) (call : SiteCall) (calls calls' : List Entry)
+    → BrokeAsResumed names file call calls calls' → LoadStopped names file (SiteFault call None) calls calls'
+broke_as names file call calls calls' (inl broke) = InBarrier call refl broke
+broke_as names file call calls calls' (inr broke) = InRead broke.1.0 (cc) broke.1.1 broke.1.2
+
+pub refused_as : (names : MapNames) (file : Option File) (error : MapError) (calls calls' : List Entry) → IsRefusedFor file Tight error
+    → error ≢ NoStatusLine → LoadEnded (barrier_calls names) names.map file calls calls' → LoadStopped names file (MapRefused RunMap error) calls calls'
+refused_as names file error calls calls' refused says loaded = Refused loaded.0 (error, refused, says, refl) loaded.1 loaded.2

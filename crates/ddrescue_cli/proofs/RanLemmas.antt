@@ -1,0 +1,219 @@
+-- What a run did, whatever its input and its output are named.
+use Rattle.std.proofs.Common.{◌≡◌, ℕ, ◌+◌, ◌*◌, ◌<◌, ◌≤◌, ◌^◌, Bool, true, IsTrue, List, [], ◌∷◌, ◌++◌, length, All, Option, Some, None, refl, sym, ap, ◌∙◌, arith, subst, inl, inr, append_assoc, append-nil, length-append}
+use Rattle.std.proofs.Math.Path.{fun_ext}
+use Rattle.std.proofs.lemmas.List.Elements.{All-nil, All-cons}
+use Rattle.block_list.specs.declared.block.Run.{Run}
+use Rattle.block_list.specs.declared.status.Status.{Status}
+use Rattle.mapfile_text.specs.declared.state.MapState.{MapState}
+use Rattle.faulty_source.specs.SourceState.{SourceState}
+use Rattle.crash_site.specs.Calls.{Entry}
+use Rattle.crash_site.specs.SiteState.{SiteState}
+use Rattle.save_resume.specs.MapNames.{MapNames}
+use Rattle.rescue_console.specs.ClockState.{ClockState, Reads as ReadsClock}
+use Rattle.rescue_domain.specs.Parts.{covers}
+use Rattle.rescue_rules.specs.declared.stop.RunEnd.{RunEnd}
+use Rattle.rescue_rules.specs.declared.stop.RunEnd.TheVariants.{Done as Finished, Stopped, SaveFailed}
+use Rattle.rescue_rules.specs.declared.stop.Stop.{Stop}
+use Rattle.rescue_rules.specs.declared.stop.Stop.TheVariants.{SourceLost as InputLost, Site, NoMemory as NoRoom}
+use Rattle.rescue_rules.specs.Setting.{Setting}
+use Rattle.rescue_rules.specs.Nameless.{nameless}
+use Rattle.rescue_rules.specs.Machine.{Machine}
+use Rattle.rescue_rules.specs.Step.{Event}
+use Rattle.rescue_rules.specs.Moves.{state_after, is_over, IsMove, IsRun}
+use Rattle.rescue_rules.specs.Beginning.{shown_at_first, machine_of}
+use Rattle.rescue_rules.specs.Events.{reads_of, times_of, with_times}
+use Rattle.rescue_rules.specs.Laws.{AreTimes}
+use Rattle.rescue_rules.specs.Work.{Gain, begins, events_in, EndsBy, Ends, IsSaved, IsUnsaved, IsBroken, Runs}
+use Rattle.rescue_rules.proofs.NamelessLemmas.{run_named}
+use Rattle.rescue_core.specs.declared.settings.Settings.{Settings}
+use Rattle.rescue_core.specs.RunState.{RunState, setting_with as core_setting, setting_in}
+use Rattle.ddrescue_cli.specs.declared.ending.Ending.{Ending}
+use Rattle.ddrescue_cli.specs.declared.ending.Ending.TheVariants.{Done, SourceLost, SiteFault, NoMemory}
+use Rattle.ddrescue_cli.specs.Asked.{setting_with, inside}
+use Rattle.ddrescue_cli.specs.Alone.{IsFrom, IsRefusal, HasRead}
+use Rattle.ddrescue_cli.specs.Work.{answer_of, IsUnbegun, RunsOver}
+use Rattle.ddrescue_cli.specs.Steps.{Across, TellAll, Gains, RanOn, IsLate, EndsRun, Ran}
+use Rattle.ddrescue_cli.specs.Copying.{copy_settings, IsRunOver, EndsCalls, WentToEnd}
+use Rattle.ddrescue_cli.proofs.TurnLemmas.{timed_more}
+
+-- the setting of such a run is the rescue's, but for the names of its files
+setting_is : (i o : List ℕ) (n : MapNames) (l : List ℕ) (end : ℕ) (statuses : List Status) (state : Option MapState) (moment : ℕ)
+    (r : RunState) → IsRunOver n l end statuses state moment r → setting_in r ≡ nameless (setting_with i o n l end)
+setting_is i o n l end statuses state moment r is =
+    let positions : covers r.domain ≡ inside end = fun_ext is.domain in
+    let S : Settings → Setting = λ settings. core_setting settings r.domain r.names r.line in
+    let D : (ℕ → Bool) → Setting = λ domain. record (S copy_settings) { domain = domain } in
+    let N : MapNames → Setting = λ names. record (D (inside end)) { names = names } in
+    let L : List ℕ → Setting = λ line. record (N n) { line = line } in
+    ap S is.begun.settings ∙ ap D positions ∙ ap N is.names_are ∙ ap L is.line_is
+
+-- The readings of the clock around the events of a run, behind that of its start.
+with_own_times : (es : List Event) (spare : List ℕ) → with_times (reads_of es) (times_of es ++ spare) ≡ es
+with_own_times [] spare = refl
+with_own_times (e ∷ es) spare = ap (λ (rest : List Event). e ∷ rest) (with_own_times es spare)
+
+two_times : (es : List Event) → length (times_of es) ≡ 2 * length (reads_of es)
+two_times [] = refl
+two_times (e ∷ es) = omega (arith, two_times es)
+
+-- how a run ends doesn't depend on those names
+ends_by_named : (stop : Option Stop) (s : Setting) (m : Machine) (spare : ℕ) → EndsBy stop (nameless s) m spare → EndsBy stop s m spare
+ends_by_named None s m spare by = by
+ends_by_named (Some InputLost) s m spare by = by
+ends_by_named (Some (Site call)) s m spare by = by
+ends_by_named (Some NoRoom) s m spare by = by
+
+ends_named : (s : Setting) (m : Machine) (es : List Event) (spare : ℕ) (calls : List Entry) (end : RunEnd)
+    → Ends (nameless s) m es spare calls end → Ends s m es spare calls end
+ends_named s m es spare calls end (IsSaved stop by is all) = IsSaved stop (ends_by_named stop s (state_after s m es) spare by) is all
+ends_named s m es spare calls end (IsUnsaved stop call by is broke) =
+    IsUnsaved stop call (ends_by_named stop s (state_after s m es) spare by) is broke
+ends_named s m es spare calls end (IsBroken before last call split none is broke) = IsBroken before last call split none is broke
+
+-- a run over a map from this moment on, in the words of a rescue
+record InWords (s : Setting) (statuses : List Status) (state : Option MapState) (moment : ℕ) (end : RunEnd) (o : Across) : Type 0 where
+  events : List Event
+  spare : List ℕ
+  run : IsRun s (machine_of s statuses None (shown_at_first state) moment) events
+  calls : IsTrue o.site.tells → (gained : List Entry) × (o.site'.calls ≡ o.site.calls ++ gained)
+      × Ends s (machine_of s statuses None (shown_at_first state) moment) events (length spare) gained end
+  read : IsTrue o.source.tells → o.source'.journal ≡ o.source.journal ++ reads_of events
+  right : IsTrue o.source.tells → All (IsFrom o.source.bytes) (reads_of events)
+  timed : ReadsClock (times_of events ++ spare) o.clock o.clock'
+  fit : AreTimes (times_of events ++ spare)
+  done : end ≡ Finished → is_over s (state_after s (machine_of s statuses None (shown_at_first state) moment) events) ≡ true
+
+in_words : (i o : List ℕ) (n : MapNames) (l : List ℕ) (end : ℕ) (statuses : List Status) (state : Option MapState) (moment : ℕ)
+    (r : RunState) (at : RunEnd) (a : Across) → IsRunOver n l end statuses state moment r → WentToEnd r at a
+    → InWords (setting_with i o n l end) statuses state moment at a
+in_words i o n l end statuses state moment r at a is w =
+    let s : Setting = setting_with i o n l end in
+    let same : setting_in r ≡ nameless s = setting_is i o n l end statuses state moment r is in
+    let m : Machine = machine_of s statuses None (shown_at_first state) moment in
+    let start : r.machine ≡ m = is.machine ∙ ap (λ (t : Setting). machine_of t statuses None (shown_at_first state) moment) same in
+    let P : Setting → Machine → Type 0 = λ t n. IsRun t n w.events in
+    let E : List Entry → Setting → Machine → Type 0 = λ gained t n. Ends t n w.events (length w.spare) gained at in
+    let O : Setting → Machine → Type 0 = λ t n. is_over t (state_after t n w.events) ≡ true in
+    record {
+      events = w.events;
+      spare = w.spare;
+      run = run_named s m w.events (subst (P (nameless s)) start (subst (λ (t : Setting). P t r.machine) same w.run));
+      calls = λ tells.
+          let c : EndsCalls r w.events (length w.spare) at a.site.calls a.site'.calls = w.calls tells in (
+            c.gained,
+            c.grew,
+            ends_named s m w.events (length w.spare) c.gained at
+                (subst (E c.gained (nameless s)) start (subst (λ (t : Setting). E c.gained t r.machine) same c.ends)),
+          );
+      read = w.read;
+      right = w.right;
+      timed = w.timed;
+      fit = w.fit;
+      done = λ finished. subst (O (nameless s)) start (subst (λ (t : Setting). O t r.machine) same (w.done finished));
+    }
+
+-- the run with all its calls, reads and readings
+ran_told : (s : Setting) (statuses : List Status) (state : Option MapState) (moment : ℕ) (end : RunEnd) (o : Across) (before : ClockState)
+    → (w : InWords s statuses state moment end o) → ReadsClock (moment ∷ []) before o.clock → moment < 2 ^ 64
+    → TellAll (record o { clock = before }) → RanOn s statuses state (answer_of end) (record o { clock = before })
+ran_told s statuses state moment end o before w first small tell =
+    let c = w.calls tell.site in
+    let times : List ℕ = moment ∷ (times_of w.events ++ w.spare) in
+    let g : Gain = record { calls = c.0; reads = reads_of w.events; times = times } in
+    let m : Machine = machine_of s statuses None (shown_at_first state) moment in
+    let own : events_in g ≡ w.events = with_own_times w.events w.spare in
+    let all : ReadsClock times before o.clock' =
+    timed_more (moment ∷ []) (times_of w.events ++ w.spare) before o.clock o.clock' first w.timed in
+    record {
+      gain = g;
+      gains = record {
+        reads = w.read tell.source;
+        calls = c.1;
+        times = all.told tell.clock;
+        fit = All-cons (λ t. t < 2 ^ 64) moment (times_of w.events ++ w.spare) small w.fit;
+      };
+      runs = inr (
+        end,
+        refl,
+        record {
+          spare = length w.spare;
+          times = omega (arith, length-append (times_of w.events) w.spare, two_times w.events);
+          run = subst (λ (es : List Event). IsRun s m es) (sym own) w.run;
+          ends = subst (λ (es : List Event). Ends s m es (length w.spare) c.0 end) (sym own) c.2;
+        },
+      );
+    }
+
+-- an answer of a run is no refusal
+run_refused : (end : RunEnd) → IsRefusal (answer_of end) → ⊥
+run_refused Finished refused = refused
+run_refused (Stopped InputLost) refused = refused
+run_refused (Stopped (Site call)) refused = refused
+run_refused (Stopped NoRoom) refused = refused
+run_refused (SaveFailed call earlier) refused = refused
+
+answer_finished : (end : RunEnd) → answer_of end ≡ Done → end ≡ Finished
+answer_finished Finished is = refl
+answer_finished (Stopped InputLost) is = absurd (let no : SourceLost ≡ Done = is in cc)
+answer_finished (Stopped (Site call)) is = absurd (let no : SiteFault call None ≡ Done = is in cc)
+answer_finished (Stopped NoRoom) is = absurd (let no : NoMemory ≡ Done = is in cc)
+answer_finished (SaveFailed call earlier) is = absurd (let no : SiteFault call earlier ≡ Done = is in cc)
+
+-- the reads, where the input tells
+ran_read : (s : Setting) (statuses : List Status) (state : Option MapState) (moment : ℕ) (end : RunEnd) (o : Across)
+    → InWords s statuses state moment end o → IsTrue o.source.tells → HasRead s (answer_of end) o.source o.source'
+ran_read s statuses state moment end o w tells = record {
+  start = machine_of s statuses None (shown_at_first state) moment;
+  events = w.events;
+  began = refl;
+  gained = w.read tells;
+  run = w.run;
+  right = w.right tells;
+  refused = λ refused. absurd (run_refused end refused);
+  done = λ done. w.done (answer_finished end done);
+}
+
+-- a run that was begun
+pub ran_went : (i o : List ℕ) (n : MapNames) (l : List ℕ) (end : ℕ) (statuses : List Status) (state : Option MapState) (moment : ℕ)
+    (r : RunState) (at : RunEnd) (e : Ending) (a : Across) (before : ClockState) → IsRunOver n l end statuses state moment r → WentToEnd r at a
+    → e ≡ answer_of at → ReadsClock (moment ∷ []) before a.clock → moment < 2 ^ 64
+    → Ran (setting_with i o n l end) statuses state e (record a { clock = before })
+ran_went i o n l end statuses state moment r at e a before is w answered first small =
+    let s : Setting = setting_with i o n l end in
+    let words : InWords s statuses state moment at a = in_words i o n l end statuses state moment r at a is w in
+    subst (λ (x : Ending). Ran s statuses state x (record a { clock = before })) (sym answered)
+    (record {
+      told = λ tell. ran_told s statuses state moment at a before words first small tell;
+      read = λ tells. ran_read s statuses state moment at a words tells;
+      ends = (at, refl);
+      late = w.late;
+    })
+
+-- memory that ran out before a run began
+pub ran_unbegun : (s : Setting) (statuses : List Status) (state : Option MapState) (moment : ℕ) (a : SourceState) (d : SiteState)
+    (k k' : ClockState) → ReadsClock (moment ∷ []) k k' → moment < 2 ^ 64
+    → Ran s statuses state NoMemory (record { source = a; source' = a; site = d; site' = d; clock = k; clock' = k' })
+ran_unbegun s statuses state moment a d k k' first small = record {
+  told = λ tell. record {
+    gain = record { calls = []; reads = []; times = moment ∷ [] };
+    gains = record {
+      reads = sym (append-nil a.journal);
+      calls = sym (append-nil d.calls);
+      times = first.told tell.clock;
+      fit = All-cons (λ t. t < 2 ^ 64) moment [] small (All-nil (λ t. t < 2 ^ 64));
+    };
+    runs = inl (record { answer = refl; calls = refl; reads = refl; times = omega arith });
+  };
+  read = λ tells. record {
+    start = machine_of s statuses None (shown_at_first state) moment;
+    events = [];
+    began = refl;
+    gained = sym (append-nil a.journal);
+    run = record { each = All-nil (IsMove s) };
+    right = All-nil (IsFrom a.bytes);
+    refused = λ refused. refl;
+    done = λ done. absurd (let no : NoMemory ≡ Done = done in cc);
+  };
+  ends = (Stopped NoRoom, refl);
+  late = record { no_open = λ earlier is. cc; no_read = λ earlier is. cc };
+}

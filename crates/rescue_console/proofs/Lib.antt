@@ -1,0 +1,3 @@
+pub mod ClockLemmas
+pub mod ConsoleLemmas
+pub mod FeedLemmas

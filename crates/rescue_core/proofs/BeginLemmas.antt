@@ -1,0 +1,136 @@
+-- A run at its start, and at the start of its next pass.
+use Rattle.std.proofs.Common.{◌≡◌, ℕ, ◌<◌, ◌≤◌, min, true, false, not, nat_eq, List, ◌∷◌, ◌^◌, length, drop, Option, Some, None, refl, sym, ap, ◌∙◌, arith, ⊎_elim}
+use Rattle.std.specs.List.{slice_get}
+use Rattle.std.proofs.lemmas.Bool.{cond_both, cond-true, not-true, eq-eqb}
+use Rattle.block_list.specs.declared.block.Run.{Run}
+use Rattle.block_list.specs.declared.status.Status.{Status}
+use Rattle.mapfile_text.specs.declared.state.MapState.{MapState}
+use Rattle.save_resume.specs.MapNames.{MapNames}
+use Rattle.rescue_rules.specs.declared.phase.Phase.{Phase}
+use Rattle.rescue_rules.specs.declared.phase.Phase.TheVariants.{Copying, Trimming, Scraping}
+use Rattle.rescue_rules.specs.declared.stop.TrimMode.{TrimMode}
+use Rattle.rescue_rules.specs.declared.stop.TrimMode.TheVariants.{Lead}
+use Rattle.rescue_rules.specs.Setting.{Setting}
+use Rattle.rescue_rules.specs.Passes.{Pass, is_up, numbered, passes_from}
+use Rattle.rescue_rules.specs.Machine.{Machine, start_of}
+use Rattle.rescue_rules.specs.MachineLaws.{IsInOrder}
+use Rattle.rescue_rules.specs.Beginning.{first_pass, first_cursor}
+use Rattle.rescue_domain.specs.Parts.{covers}
+use Rattle.rescue_core.specs.declared.settings.Settings.{Settings}
+use Rattle.rescue_core.specs.declared.state.Place.{Place}
+use Rattle.rescue_core.specs.declared.state.Tally.{Tally}
+use Rattle.rescue_core.specs.RunState.{RunState, setting_with, setting_in, IsSound, Suits, run_at, IsRunning, passed}
+use Rattle.rescue_core.proofs.PassLemmas.{next_passes, IsOn, next_on, copying_leads}
+
+-- a pass begins within the map
+start_there : (s : Setting) (p : Pass) (map : List Status) → start_of s p map ≤ length map
+start_there s p map = cond_both (is_up s p) 0 (length map) (λ (x : ℕ). x ≤ length map) (λ up. omega arith) (λ down. omega arith)
+
+lead_order : (s : Setting) (m : Machine) → m.mode ≡ Lead → IsInOrder s m
+lead_order s m lead = record { tail = λ low is. absurd (cc); lead = λ _. lead }
+
+-- the phase of the next pass isn't off
+trims_on : (r : RunState) (room : ℕ) (p : Pass) → IsRunning r room → IsOn (setting_in r) r.phase p → p.phase ≡ Trimming
+    → r.settings.no_trim ≡ false
+trims_on r room p running on is =
+    ⊎_elim (λ (here : r.phase ≡ Trimming). running.trims here)
+    (λ (some : not r.settings.no_trim ≡ true). not-true r.settings.no_trim some) (on.trims is)
+
+scrapes_on : (r : RunState) (room : ℕ) (p : Pass) → IsRunning r room → IsOn (setting_in r) r.phase p → p.phase ≡ Scraping
+    → r.settings.no_scrape ≡ false
+scrapes_on r room p running on is =
+    ⊎_elim (λ (here : r.phase ≡ Scraping). running.scrapes here)
+    (λ (some : not r.settings.no_scrape ≡ true). not-true r.settings.no_scrape some) (on.scrapes is)
+
+-- a run goes on to its next pass
+pub running_passed : (r : RunState) (room : ℕ) (phase : Phase) (pass : ℕ) → r.machine.passes ≡ passes_from (setting_in r) r.phase r.pass
+    → IsRunning r room → slice_get r.machine.passes 1 ≡ Some (numbered phase pass) → IsRunning (passed r phase pass) room
+running_passed r room phase pass passes running next =
+    let on : IsOn (setting_in r) r.phase (numbered phase pass)
+    = next_on (setting_in r) r.phase r.pass (numbered phase pass) (ap (λ (ps : List Pass). slice_get ps 1) (sym passes) ∙ next) in
+    record {
+      sound = running.sound;
+      suits = running.suits;
+      short = running.short;
+      cursor = start_there (setting_in r) (numbered phase pass) r.machine.map;
+      skip = running.sound.skip;
+      order = lead_order (setting_in r) (passed r phase pass).machine refl;
+      pass = refl;
+      trims = trims_on r room (numbered phase pass) running on;
+      scrapes = scrapes_on r room (numbered phase pass) running on;
+      room_is = running.room_is;
+    }
+
+abbrev at_pass : RunState → Phase → ℕ → List Pass → ℕ → TrimMode → ℕ → RunState
+at_pass r phase pass passes cursor mode skip = record r {
+  phase = phase;
+  pass = pass;
+  machine = record r.machine { passes = passes; cursor = cursor; mode = mode; skip = skip };
+}
+
+pub passed_is : (settings : Settings) (domain : List Run) (names : MapNames) (line : List ℕ) (map : List Status) (phase : Phase)
+    (place : Place) (tally : Tally) (phase' : Phase) (pass : ℕ) (place' : Place)
+    → slice_get (passes_from (setting_with settings domain names line) phase place.pass) 1 ≡ Some (numbered phase' pass)
+    → place'.pass ≡ pass → place'.cursor ≡ start_of (setting_with settings domain names line) (numbered phase' pass) map
+    → place'.mode ≡ Lead → place'.skip ≡ settings.skip
+    → run_at settings domain names line map phase' place' tally
+    ≡ passed (run_at settings domain names line map phase place tally) phase' pass
+passed_is settings domain names line map phase place tally phase' pass place' next is begins lead skip =
+    let s : Setting = setting_with settings domain names line in
+    let r : RunState = run_at settings domain names line map phase place tally in
+    ap (λ (n : ℕ). at_pass r phase' n (passes_from s phase' n) place'.cursor place'.mode place'.skip) is
+    ∙ ap (λ (ps : List Pass). at_pass r phase' pass ps place'.cursor place'.mode place'.skip)
+    (next_passes s phase place.pass (numbered phase' pass) next)
+    ∙ ap (λ (n : ℕ). at_pass r phase' pass (numbered phase' pass ∷ drop 2 r.machine.passes) n place'.mode place'.skip) begins
+    ∙ ap (λ (mode : TrimMode). at_pass r phase' pass (numbered phase' pass ∷ drop 2 r.machine.passes)
+    (start_of s (numbered phase' pass) map) mode place'.skip) lead
+    ∙ ap (λ (n : ℕ). at_pass r phase' pass (numbered phase' pass ∷ drop 2 r.machine.passes)
+    (start_of s (numbered phase' pass) map) Lead n) skip
+
+-- where a run begins
+pub first_none : (s : Setting) (loaded : Option MapState) (map : List Status) (cursor : ℕ) → loaded ≡ None
+    → cursor ≡ start_of s (numbered Copying 1) map → cursor ≡ first_cursor s loaded map
+first_none s loaded map cursor is begins =
+    begins ∙ ap (λ (o : Option MapState). first_cursor s o map) (sym is)
+
+pub first_last : (s : Setting) (loaded : Option MapState) (state : MapState) (map : List Status) (pass cursor : ℕ)
+    → loaded ≡ Some state → pass ≡ min state.pass 5 → pass ≡ 5 → cursor ≡ start_of s (numbered Copying pass) map
+    → cursor ≡ first_cursor s loaded map
+first_last s loaded state map pass cursor is least last begins =
+    begins
+    ∙ ap (λ (n : ℕ). start_of s (numbered Copying n) map) last
+    ∙ sym (cond-true (nat_eq (min state.pass 5) 5) (start_of s (numbered Copying 5) map) (min state.pos (length map))
+    (eq-eqb (min state.pass 5) 5 (sym least ∙ last)))
+    ∙ ap (λ (o : Option MapState). first_cursor s o map) (sym is)
+
+first_there : (s : Setting) (loaded : Option MapState) (map : List Status) → first_cursor s loaded map ≤ length map
+first_there s None map = start_there s (numbered Copying 1) map
+first_there s (Some state) map =
+    cond_both (nat_eq (min state.pass 5) 5) (start_of s (numbered Copying 5) map) (min state.pos (length map))
+    (λ (x : ℕ). x ≤ length map) (λ last. start_there s (numbered Copying 5) map) (λ other. omega arith)
+
+few_passes : (loaded : Option MapState) → first_pass loaded ≤ 5
+few_passes None = omega arith
+few_passes (Some state) = omega arith
+
+pub running_started : (settings : Settings) (domain : List Run) (names : MapNames) (line : List ℕ) (map : List Status)
+    (loaded : Option MapState) (place : Place) (tally : Tally) (room : ℕ) → IsSound settings
+    → Suits settings (covers domain) (length map) → length map < 2 ^ 63 → place.pass ≡ first_pass loaded
+    → place.cursor ≡ first_cursor (setting_with settings domain names line) loaded map → place.mode ≡ Lead
+    → place.skip ≡ settings.skip → room ≡ settings.cluster
+    → IsRunning (run_at settings domain names line map Copying place tally) room
+running_started settings domain names line map loaded place tally room sound suits short pass cursor lead skip size =
+    let s : Setting = setting_with settings domain names line in
+    let m : Machine = (run_at settings domain names line map Copying place tally).machine in
+    record {
+      sound = sound;
+      suits = suits;
+      short = short;
+      cursor = omega (arith, cursor, first_there s loaded map);
+      skip = omega (arith, skip, sound.skip);
+      order = lead_order s m lead;
+      pass = copying_leads s place.pass (omega (arith, pass, few_passes loaded));
+      trims = λ is. absurd (cc);
+      scrapes = λ is. absurd (cc);
+      room_is = size;
+    }

@@ -1,0 +1,11 @@
+pub mod BeginLemmas
+pub mod ClosingLemmas
+pub mod PassLemmas
+pub mod PlaceLemmas
+pub mod RequestLemmas
+pub mod StageLemmas
+pub mod TurnCallLemmas
+pub mod TurnLemmas
+pub mod TurnMarkLemmas
+pub mod TurnedLemmas
+pub mod WantedLemmas

@@ -1,0 +1,220 @@
+-- What is known of a run stays so in a turn, and in a new pass.
+use Rattle.std.proofs.Common.{◌≡◌, ℕ, ◌+◌, true, false, List, [], ◌∷◌, drop, All, Some, None, Ok, Err, Result, IfOk, IfErr, refl, sym, ap, ◌∙◌, subst, ⊎_elim, arith}
+use Rattle.std.specs.List.{slice_get}
+use Rattle.std.proofs.lemmas.Bool.{cond-false, true_from_ne_false, true≢false}
+use Rattle.std.proofs.lemmas.Option.{same_Some}
+use Rattle.block_list.specs.declared.status.Status.TheVariants.{NonTried, NonTrimmed, NonScraped}
+use Rattle.block_list.specs.Map.{Has}
+use Rattle.faulty_source.specs.SourceState.{SourceState}
+use Rattle.crash_site.specs.SiteState.{SiteState}
+use Rattle.rescue_console.specs.ClockState.{ClockState}
+use Rattle.transfer_token.specs.declared.token.Request.{Request}
+use Rattle.rescue_rules.specs.declared.stop.Stop.{Stop}
+use Rattle.rescue_rules.specs.declared.stop.TrimMode.TheVariants.{Lead, Tail}
+use Rattle.rescue_rules.specs.declared.phase.Phase.{Phase}
+use Rattle.rescue_rules.specs.declared.phase.Phase.TheVariants.{Copying, Trimming, Scraping, Retrying}
+use Rattle.rescue_rules.specs.Setting.{Setting, IsSensible}
+use Rattle.rescue_rules.specs.Passes.{Pass, taken, numbered}
+use Rattle.rescue_rules.specs.Machine.{Machine, pass_of, is_wanted, IsRequest, has_request}
+use Rattle.rescue_rules.specs.Step.{Event, copies, trims, is_copying, is_trimming}
+use Rattle.rescue_rules.specs.Moves.{at_next, ready, has_none}
+use Rattle.rescue_rules.proofs.SearchLemmas.{request_seen}
+use Rattle.rescue_rules.proofs.StepLemmas.{Asks, request_asks, wanted_domain}
+use Rattle.rescue_rules.proofs.StatusLemmas.{non_tried_stood, non_trimmed_stood, non_scraped_stood, wanted_taken}
+use Rattle.rescue_rules.proofs.ReadyLemmas.{ready_here, ready_on, ready_end, spent_request}
+use Rattle.rescue_core.specs.RunState.{RunState, setting_in, passed, IsRunning, IsGone}
+use Rattle.rescue_core.specs.Stages.{Reached, Begun, Copied, Trimmed, Scraped, Over, IsTrimmed, IsScraped, IsOver, Known}
+use Rattle.rescue_core.specs.declared.turn.Turn.{Turn}
+use Rattle.rescue_core.specs.Turning.{stepped, IsEvent, Turned, Halted, Starved, Lost, Unwritten, Unsaved}
+
+-- its settings are sensible
+pub running_sensible : (r : RunState) (room : ℕ) → IsRunning r room → IsSensible (setting_in r)
+running_sensible r room is = record {
+  sector = is.sound.sector;
+  sectors = is.sound.sectors;
+  some = is.sound.some;
+  cluster = is.sound.cluster;
+  from = is.suits.from;
+  retries = is.sound.retries;
+}
+
+-- an event of a run's request, and a position that it asks for
+record IsTurn (r : RunState) (room : ℕ) (e : Event) : Type 0 where
+  running : IsRunning r room
+  request : IsRequest (setting_in r) r.machine e.reading.pos (e.reading.pos + e.reading.asked)
+  wanted : is_wanted (setting_in r) r.machine e.reading.pos ≡ true
+
+is_turn : (r : RunState) (room : ℕ) (e : Event) → IsRunning r room
+    → IsRequest (setting_in r) r.machine e.reading.pos (e.reading.pos + e.reading.asked) → IsTurn r room e
+is_turn r room e is request =
+    let asks : Asks (setting_in r) r.machine e.reading.pos (e.reading.pos + e.reading.asked)
+    = request_asks (setting_in r) (running_sensible r room is) r.machine e.reading.pos (e.reading.pos + e.reading.asked) request in
+    record { running = is; request = request; wanted = asks.wanted e.reading.pos (omega arith) (omega (arith, asks.some)) }
+
+-- a phase whose status is gone asks for nothing
+never_asked : (r : RunState) (room : ℕ) (e : Event) → IsTurn r room e → IsGone (taken (pass_of r.machine).phase) r → ⊥
+never_asked r room e t gone =
+    gone e.reading.pos (wanted_domain (setting_in r) r.machine e.reading.pos t.wanted)
+    (wanted_taken (setting_in r) r.machine e.reading.pos t.wanted)
+
+copies_is : (phase : Phase) → copies phase ≡ true → phase ≡ Copying
+copies_is Copying is = refl
+copies_is Trimming is = absurd (cc)
+copies_is Scraping is = absurd (cc)
+copies_is Retrying is = absurd (cc)
+
+trims_is : (phase : Phase) → trims phase ≡ true → phase ≡ Trimming
+trims_is Copying is = absurd (cc)
+trims_is Trimming is = refl
+trims_is Scraping is = absurd (cc)
+trims_is Retrying is = absurd (cc)
+
+never_copies : (r : RunState) (room : ℕ) (e : Event) → IsTurn r room e → IsGone NonTried r → is_copying r.machine ≡ true → ⊥
+never_copies r room e t gone on =
+    never_asked r room e t
+    (subst (λ (phase : Phase). IsGone (taken phase) r) (sym (copies_is (pass_of r.machine).phase on)) gone)
+
+-- trimming is on where it is at a run's back
+tail_trims : (r : RunState) (room : ℕ) (low : ℕ) → IsRunning r room → r.machine.mode ≡ Tail low
+    → (pass_of r.machine).phase ≡ Trimming
+tail_trims r room low is at =
+    trims_is (pass_of r.machine).phase
+    (true_from_ne_false (is_trimming r.machine) (λ off.
+    let e : Tail low ≡ Lead = sym at ∙ is.order.lead off in absurd (cc)))
+
+never_trims : (r : RunState) (room : ℕ) (e : Event) → IsTurn r room e → (r.settings.no_trim ≡ false → IsGone NonTrimmed r)
+    → (low : ℕ) → r.machine.mode ≡ Tail low → ⊥
+never_trims r room e t gone low at =
+    let trims : (pass_of r.machine).phase ≡ Trimming = tail_trims r room low t.running at in
+    let on : r.settings.no_trim ≡ false
+    = t.running.trims (sym (ap (λ (p : Pass). p.phase) t.running.pass) ∙ trims) in
+    never_asked r room e t (subst (λ (phase : Phase). IsGone (taken phase) r) (sym trims) (gone on))
+
+tried_steps : (r : RunState) (room : ℕ) (e : Event) → IsTurn r room e → IsGone NonTried r → IsGone NonTried (stepped r e)
+tried_steps r room e t gone x inside has =
+    gone x inside (non_tried_stood (setting_in r) r.machine e.reading x has)
+
+trimmed_steps : (r : RunState) (room : ℕ) (e : Event) → IsTurn r room e → IsTrimmed r → IsTrimmed (stepped r e)
+trimmed_steps r room e t known = record {
+  tried = tried_steps r room e t known.tried;
+  trimmed = λ on x inside has. ⊎_elim
+      (λ (was : Has r.machine.map NonTrimmed x). known.trimmed on x inside was)
+      (λ (copying : is_copying r.machine ≡ true). never_copies r room e t known.tried copying)
+      (non_trimmed_stood (setting_in r) r.machine e.reading x has);
+}
+
+scraped_steps : (r : RunState) (room : ℕ) (e : Event) → IsTurn r room e → IsScraped r → IsScraped (stepped r e)
+scraped_steps r room e t known = record {
+  trimmed = trimmed_steps r room e t known.trimmed;
+  scraped = λ on x inside has. ⊎_elim
+      (λ (was : Has r.machine.map NonScraped x). known.scraped on x inside was)
+      (λ (back : (low : ℕ) × (r.machine.mode ≡ Tail low)).
+      never_trims r room e t known.trimmed.trimmed back.0 back.1)
+      (non_scraped_stood (setting_in r) r.machine e.reading x has);
+}
+
+-- a run that is over has no request
+never_over : (r : RunState) (room : ℕ) (e : Event) → IsTurn r room e → IsOver r → ⊥
+never_over r room e t known =
+    let s : Setting = setting_in r in
+    let on : has_request s r.machine ≡ true
+    = request_seen s r.machine e.reading.pos (e.reading.pos + e.reading.asked) t.request in
+    let none : has_none r.machine.passes ≡ true
+    = sym (ap (λ (m : Machine). has_none m.passes) (ready_here s r.machine on)) ∙ known.spent in
+    true≢false (sym on ∙ spent_request s r.machine none)
+
+-- an event of the run's request keeps what is known
+pub known_steps : (reached : Reached) (r : RunState) (room : ℕ) (e : Event) → IsRunning r room
+    → IsRequest (setting_in r) r.machine e.reading.pos (e.reading.pos + e.reading.asked)
+    → Known reached r → Known reached (stepped r e)
+known_steps Begun r room e is request known = known
+known_steps Copied r room e is request known = tried_steps r room e (is_turn r room e is request) known
+known_steps Trimmed r room e is request known = trimmed_steps r room e (is_turn r room e is request) known
+known_steps Scraped r room e is request known = scraped_steps r room e (is_turn r room e is request) known
+known_steps Over r room e is request known = absurd (never_over r room e (is_turn r room e is request) known)
+
+known_event : (reached : Reached) (r : RunState) (room : ℕ) (request : Request) (e : Event)
+    (source source' : SourceState) (clock clock' : ClockState) → IsRunning r room
+    → IsRequest (setting_in r) r.machine request.pos (request.pos + request.len)
+    → IsEvent request e source source' clock clock' → Known reached r → Known reached (stepped r e)
+known_event reached r room request e source source' clock clock' is asks event known =
+    known_steps reached r room e is
+    (subst (λ (pos : ℕ). IsRequest (setting_in r) r.machine pos (pos + e.reading.asked)) (sym event.pos)
+    (subst (λ (len : ℕ). IsRequest (setting_in r) r.machine request.pos (request.pos + len)) (sym event.asked) asks))
+    known
+
+-- a turn keeps what is known, whatever its outcome
+known_halted : (reached : Reached) (request : Request) (stop : Stop) (r r' : RunState) (room : ℕ)
+    (source source' : SourceState) (site site' : SiteState) (clock clock' : ClockState) → IsRunning r room
+    → IsRequest (setting_in r) r.machine request.pos (request.pos + request.len)
+    → Halted request stop r r' source source' site site' clock clock' → Known reached r → Known reached r'
+known_halted reached request stop r r' room source source' site site' clock clock' is asks h known =
+    elim h [
+      | Starved why same read wrote told ↦ subst (Known reached) (sym same) known
+      | Lost why same read wrote before few told ↦ subst (Known reached) (sym same) known
+      | Unwritten why same e event wrote ↦ subst (Known reached) (sym same) known
+      | Unsaved call why e event same due named wrote rose ↦ subst (Known reached) (sym same)
+          (known_event reached r room request e source source' clock clock' is asks event known)
+    ]
+
+pub known_turns : (reached : Reached) (request : Request) (result : Result Turn Stop) (r r' : RunState) (room : ℕ)
+    (source source' : SourceState) (site site' : SiteState) (clock clock' : ClockState) → IsRunning r room
+    → IsRequest (setting_in r) r.machine request.pos (request.pos + request.len)
+    → IfOk result (λ turn. Turned request turn r r' source source' site site' clock clock')
+    → IfErr result (λ stop. Halted request stop r r' source source' site site' clock clock')
+    → Known reached r → Known reached r'
+known_turns reached request (Ok turn) r r' room source source' site site' clock clock' is asks t h known =
+    subst (Known reached) (sym t.steps)
+    (known_event reached r room request t.event source source' clock clock' is asks t.is known)
+known_turns reached request (Err stop) r r' room source source' site site' clock clock' is asks t h known =
+    known_halted reached request stop r r' room source source' site site' clock clock' is asks h known
+
+-- a pass behind the first one
+next_pass : (ps : List Pass) (p : Pass) → slice_get ps 1 ≡ Some p → (c : Pass) × (ps ≡ c ∷ p ∷ drop 2 ps)
+next_pass [] p is = absurd (cc)
+next_pass (c ∷ []) p is = absurd (cc)
+next_pass (c ∷ q ∷ ps) p is = (c, ap (λ (q : Pass). c ∷ q ∷ ps) (same_Some q p is))
+
+-- and so does the start of the next pass
+pub known_passes : (reached : Reached) (r : RunState) (phase : Phase) (pass : ℕ)
+    → slice_get r.machine.passes 1 ≡ Some (numbered phase pass) → has_request (setting_in r) r.machine ≡ false
+    → Known reached r → Known reached (passed r phase pass)
+known_passes Begun r phase pass next off known = known
+known_passes Copied r phase pass next off known = known
+known_passes Trimmed r phase pass next off known = record { tried = known.tried; trimmed = known.trimmed }
+known_passes Scraped r phase pass next off known = record {
+  trimmed = record { tried = known.trimmed.tried; trimmed = known.trimmed.trimmed };
+  scraped = known.scraped;
+}
+known_passes Over r phase pass next off known =
+    let s : Setting = setting_in r in
+    let there : (c : Pass) × (r.machine.passes ≡ c ∷ numbered phase pass ∷ drop 2 r.machine.passes)
+    = next_pass r.machine.passes (numbered phase pass) next in
+    record {
+      scraped = record {
+        trimmed = record { tried = known.scraped.trimmed.tried; trimmed = known.scraped.trimmed.trimmed };
+        scraped = known.scraped.scraped;
+      };
+      spent = sym (ap (λ (m : Machine). has_none m.passes)
+          (ready_on s r.machine there.0 (numbered phase pass) (drop 2 r.machine.passes) off there.1))
+          ∙ known.spent;
+    }
+
+-- No pass has a request left where no position of the domain has a status that a pass left asks for.
+pub none_left : (r : RunState) → All (λ p. IsGone (taken p.phase) r) r.machine.passes
+    → has_none (ready (setting_in r) r.machine).passes ≡ true
+none_left r gone = ap (λ (m : Machine). has_none m.passes) (ready_end (setting_in r) r.machine gone)
+
+-- Nor does one where this one has none and no pass is behind it.
+pub last_spent : (r : RunState) → slice_get r.machine.passes 1 ≡ None → has_request (setting_in r) r.machine ≡ false
+    → has_none (ready (setting_in r) r.machine).passes ≡ true
+last_spent r last off =
+    let s : Setting = setting_in r in
+    ap (λ (m : Machine). has_none m.passes)
+    (cond-false (has_request s r.machine) r.machine (at_next s r.machine (drop 1 r.machine.passes)) off
+    ∙ ap (at_next s r.machine) (none_behind r.machine.passes last))
+  where
+    none_behind : (ps : List Pass) → slice_get ps 1 ≡ None → drop 1 ps ≡ []
+    none_behind [] is = refl
+    none_behind (c ∷ []) is = refl
+    none_behind (c ∷ p ∷ ps) is = absurd (cc)

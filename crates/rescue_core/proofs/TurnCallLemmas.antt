@@ -1,0 +1,71 @@
+-- The calls that a turn makes on its files.
+use Rattle.std.proofs.Common.{◌≡◌, ℕ, true, false, ◌&&◌, IsTrue, List, [], ◌++◌, map, refl, sym, ap, subst, ◌∙◌, append_assoc, append-nil}
+use Rattle.std.proofs.lemmas.List.{map-append}
+use Rattle.std.proofs.lemmas.Bool.{cond-true, cond-false}
+use Rattle.fault_count.specs.Counts.{Rose, raised}
+use Rattle.crash_site.specs.declared.site.SiteCall.{SiteCall}
+use Rattle.crash_site.specs.Calls.{Call, Entry, Done, BrokeAt}
+use Rattle.crash_site.specs.SiteState.{SiteState, Keeps, Makes, Breaks}
+use Rattle.save_resume.specs.Saving.{save_calls}
+use Rattle.rescue_rules.specs.Setting.{Setting}
+use Rattle.rescue_rules.specs.Step.{Event, is_timely}
+use Rattle.rescue_rules.specs.Snapshots.{text_of, snapshot, is_due}
+use Rattle.rescue_rules.specs.RunCalls.{write_calls, due_calls, move_calls}
+use Rattle.rescue_core.specs.RunState.{RunState, setting_in}
+use Rattle.rescue_core.specs.Turning.{move_by, stepped}
+
+-- some calls, and then others
+makes_both : (xs ys : List Call) (a b c : SiteState) → Keeps a b → Makes xs a b → Makes ys b c → Makes (xs ++ ys) a c
+makes_both xs ys a b c keeps x y = record {
+  made = λ tells. y.made (subst (λ t. IsTrue t) (sym keeps.tells) tells)
+      ∙ ap (λ es. es ++ map Done ys) (x.made tells) ∙ append_assoc a.calls (map Done xs) (map Done ys)
+      ∙ ap (λ es. a.calls ++ es) (sym (map-append Done xs ys));
+  faults = y.faults ∙ x.faults;
+}
+
+-- a run has no limit, so a save is due where it is timely
+due_is : (r : RunState) (e : Event) → is_due (setting_in r) (move_by r e) ≡ (is_timely r.machine e && true)
+due_is r e = refl
+
+pub timely_due : (r : RunState) (e : Event) → is_timely r.machine e ≡ true → is_due (setting_in r) (move_by r e) ≡ true
+timely_due r e timely = ap (λ b. b && true) timely
+
+untimely_due : (r : RunState) (e : Event) → is_timely r.machine e ≡ false → is_due (setting_in r) (move_by r e) ≡ false
+untimely_due r e untimely = ap (λ b. b && true) untimely
+
+-- a move without a due save makes its write alone
+pub untimely_calls : (r : RunState) (e : Event) (a b : SiteState) → is_timely r.machine e ≡ false
+    → Makes (write_calls (setting_in r) e.reading) a b → Makes (move_calls (setting_in r) (move_by r e)) a b
+untimely_calls r e a b untimely writes =
+    let s : Setting = setting_in r in
+    let w : List Call = write_calls s e.reading in
+    let none : due_calls s (move_by r e) ≡ []
+    = cond-false (is_due s (move_by r e)) (save_calls s.names (text_of s.line (snapshot (move_by r e).after))) []
+    (untimely_due r e untimely) in
+    subst (λ (cs : List Call). Makes cs a b) (sym (ap (λ cs. w ++ cs) none ∙ append-nil w)) writes
+
+-- a move with one makes the save behind its write
+pub timely_calls : (r r' : RunState) (e : Event) (a b c : SiteState) → r' ≡ stepped r e → is_timely r.machine e ≡ true
+    → Keeps a b → Makes (write_calls (setting_in r) e.reading) a b
+    → Makes (save_calls r.names (text_of r.line (snapshot r'.machine))) b c
+    → Makes (move_calls (setting_in r) (move_by r e)) a c
+timely_calls r r' e a b c is timely keeps writes saves =
+    let s : Setting = setting_in r in
+    let w : List Call = write_calls s e.reading in
+    let all : List Call = save_calls s.names (text_of s.line (snapshot (move_by r e).after)) in
+    let due : due_calls s (move_by r e) ≡ all
+    = cond-true (is_due s (move_by r e)) all [] (timely_due r e timely) in
+    let saved : Makes all b c
+    = subst (λ (n : RunState). Makes (save_calls r.names (text_of r.line (snapshot n.machine))) b c) is saves in
+    subst (λ (cs : List Call). Makes (w ++ cs) a c) (sym due) (makes_both w all a b c keeps writes saved)
+
+-- and so does one whose save broke
+pub timely_breaks : (at : SiteCall) (xs ys : List Call) (a b c : SiteState) → Keeps a b → Makes xs a b → Breaks at ys b c
+    → IsTrue a.tells → BrokeAt at ys (a.calls ++ map Done xs) c.calls
+timely_breaks at xs ys a b c keeps x y tells =
+    subst (λ (es : List Entry). BrokeAt at ys es c.calls) (x.made tells)
+    (y.broke (subst (λ t. IsTrue t) (sym keeps.tells) tells))
+
+pub timely_rose : (xs : List Call) (a b : SiteState) (faults : ℕ) → Makes xs a b → Rose b.faults faults
+    → Rose a.faults faults
+timely_rose xs a b faults x rose = rose ∙ ap raised x.faults

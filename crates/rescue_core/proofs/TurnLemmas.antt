@@ -1,0 +1,182 @@
+-- What holds of a run's request, and of the run behind an event of it.
+use Rattle.std.proofs.Common.{◌≡◌, ℕ, ◌+◌, ◌-◌, ◌*◌, ◌^◌, ◌<◌, ◌≤◌, min, max, Bool, true, false, ◌&&◌, not, if◌then◌else◌, List, [], ◌∷◌, length, Option, Some, None, refl, sym, ap, ◌∙◌, arith}
+use Rattle.std.specs.List.{slice_get, slice_index_or}
+use Rattle.std.proofs.Math.Nat.{div-mul-le_self, mul-le-mul_right}
+use Rattle.std.proofs.lemmas.Bool.{cond_both, and_parts}
+use Rattle.block_list.specs.declared.block.Run.{Run}
+use Rattle.block_list.specs.declared.status.Status.{Status}
+use Rattle.block_list.specs.Status.{same}
+use Rattle.faulty_source.specs.Journal.{floor, is_whole}
+use Rattle.save_resume.specs.MapNames.{MapNames}
+use Rattle.rescue_domain.specs.Parts.{covers}
+use Rattle.rescue_rules.specs.declared.stop.TrimMode.{TrimMode}
+use Rattle.rescue_rules.specs.declared.stop.TrimMode.TheVariants.{Lead, Tail}
+use Rattle.rescue_rules.specs.declared.phase.Phase.{Phase}
+use Rattle.rescue_rules.specs.declared.phase.Phase.TheVariants.{Copying, Trimming, Scraping, Retrying}
+use Rattle.rescue_rules.specs.Setting.{Setting, IsSensible}
+use Rattle.rescue_rules.specs.Passes.{Pass, taken, is_up, numbered}
+use Rattle.rescue_rules.specs.Machine.{Machine, pass_of, has_taken, is_wanted, ceiling, Search, search_in, search_of, cut_start, cut_end, IsRequest}
+use Rattle.rescue_rules.specs.Step.{Event, is_trimming, is_slow, is_jump, map_after, cursor_after, skip_after, step}
+use Rattle.rescue_rules.specs.MachineLaws.{StepsBy}
+use Rattle.rescue_rules.proofs.RoundLemmas.{ceiling_above}
+use Rattle.rescue_rules.proofs.StepLemmas.{Asks, request_asks, wanted_domain, asks_back, move_steps}
+use Rattle.rescue_core.specs.declared.settings.Settings.{Settings}
+use Rattle.rescue_core.specs.declared.state.Place.{Place}
+use Rattle.rescue_core.specs.declared.state.Tally.{Tally}
+use Rattle.rescue_core.specs.RunState.{RunState, setting_in, HasPlaces, IsRunning, run_at}
+use Rattle.rescue_core.specs.Turning.{stepped}
+use Rattle.rescue_core.specs.TurnParts.{place_of, tally_of, IsBackOf}
+
+-- no search asks for more than a cluster
+size_most : (s : Setting) (ok : IsSensible s) (m : Machine) (phase : Phase) (mode : TrimMode) → s.sector ≤ s.cluster
+    → (search_in s m phase mode).size ≤ s.cluster
+size_most s ok m Copying mode le = omega arith
+size_most s ok m Trimming Lead le = le
+size_most s ok m Trimming (Tail low) le = le
+size_most s ok m Scraping mode le = le
+size_most s ok m Retrying mode le = le
+
+cut_few : (front : Bool) (b size start end : ℕ) → 0 < b
+    → (if front then min end (floor b (start + size)) else end)
+    ≤ (if front then start else max start (ceiling b (end - size))) + size
+cut_few true b size start end some = omega (arith, div-mul-le_self (start + size) b)
+cut_few false b size start end some = omega (arith, ceiling_above b (end - size) some)
+
+sector_in : (s : Setting) (ok : IsSensible s) → s.sector ≤ s.cluster
+sector_in s ok =
+    let up : 1 * s.sector ≤ ok.sectors * s.sector = mul-le-mul_right s.sector ok.some in omega (arith, ok.cluster, up)
+
+request_few : (s : Setting) (ok : IsSensible s) (m : Machine) (p q : ℕ) → IsRequest s m p q → q ≤ p + s.cluster
+request_few s ok m p q r =
+    let f : Search = search_of s m in
+    let few : cut_end f s.sector r.start r.end ≤ cut_start f s.sector r.start r.end + f.size
+    = cut_few f.front s.sector f.size r.start r.end ok.sector in
+    omega (arith, few, size_most s ok m (pass_of m).phase m.mode (sector_in s ok), r.starts, r.ends)
+
+-- a run's setting is a sensible one
+pub sensible_in : (r : RunState) (room : ℕ) → IsRunning r room → IsSensible (setting_in r)
+sensible_in r room i = record {
+  sector = i.sound.sector;
+  sectors = i.sound.sectors;
+  some = i.sound.some;
+  cluster = i.sound.cluster;
+  from = i.suits.from;
+  retries = i.sound.retries;
+}
+
+-- what a turn needs of its request: it fits the buffer, the map and the output
+pub record Fits (r : RunState) (room pos len : ℕ) : Type 0 where
+  pub some : 0 < len
+  pub few : len ≤ room
+  pub most : room ≤ 16777216
+  pub there : pos + len ≤ length r.machine.map
+  pub short : pos + len < 2 ^ 63
+  pub place : pos - r.settings.ipos + r.settings.opos + len < 2 ^ 63
+  pub back : IsBackOf r.machine.mode pos
+  pub wanted : is_wanted (setting_in r) r.machine pos ≡ true
+
+back_of : (mode : TrimMode) (pos : ℕ) → ((low : ℕ) → mode ≡ Tail low → low ≤ pos) → IsBackOf mode pos
+back_of Lead pos h = tt
+back_of (Tail low) pos h = h low refl
+
+pub request_fits : (r : RunState) (room pos len : ℕ) → IsRunning r room → HasPlaces r.settings (covers r.domain)
+    → IsRequest (setting_in r) r.machine pos (pos + len) → Fits r room pos len
+request_fits r room pos len i places request =
+    let s : Setting = setting_in r in
+    let ok : IsSensible s = sensible_in r room i in
+    let asks : Asks s r.machine pos (pos + len) = request_asks s ok r.machine pos (pos + len) request in
+    let some : 0 < len = omega (arith, asks.some) in
+    let first : covers r.domain pos ≡ true
+    = wanted_domain s r.machine pos (asks.wanted pos (omega arith) asks.some) in
+    let last : covers r.domain (pos + len - 1) ≡ true
+    = wanted_domain s r.machine (pos + len - 1) (asks.wanted (pos + len - 1) (omega arith) (omega arith)) in
+    record {
+      some = some;
+      few = omega (arith, request_few s ok r.machine pos (pos + len) request, i.room_is);
+      most = omega (arith, i.room_is, i.sound.cluster_max);
+      there = asks.there;
+      short = omega (arith, asks.there, i.short);
+      place = omega (arith, places.low (pos + len - 1) last, i.suits.from pos first);
+      back = back_of r.machine.mode pos
+          (λ low is. (asks_back s ok r.machine pos (pos + len) low i.order request is).after);
+      wanted = asks.wanted pos (omega arith) asks.some;
+    }
+
+-- the cursor behind an event lies within the map
+cursor_within : (s : Setting) (m : Machine) (e : Event) → e.reading.pos + e.reading.asked ≤ length m.map
+    → cursor_after s m e ≤ length m.map
+cursor_within s m e there =
+    let jump : ℕ = if is_jump s m e then m.skip else 0 in
+    let up : ℕ = min (length m.map) (e.reading.pos + e.reading.asked + jump) in
+    cond_both (is_trimming m) e.reading.pos (if is_up s (pass_of m) then up else e.reading.pos - jump)
+    (λ (x : ℕ). x ≤ length m.map)
+    (λ trims. omega arith)
+    (λ other. cond_both (is_up s (pass_of m)) up (e.reading.pos - jump) (λ (x : ℕ). x ≤ length m.map)
+    (λ upwards. omega arith) (λ down. omega arith))
+
+-- and the next jump isn't longer than the longest
+skip_within : (s : Setting) (m : Machine) (e : Event) → s.skip ≤ s.skip_max → m.skip ≤ s.skip_max
+    → skip_after s m e ≤ s.skip_max
+skip_within s m e first now =
+    cond_both (is_jump s m e) (min (2 * m.skip) s.skip_max)
+    (if is_whole e.reading && not (is_slow s e) then s.skip else m.skip) (λ (x : ℕ). x ≤ s.skip_max)
+    (λ jumps. omega arith)
+    (λ other. cond_both (is_whole e.reading && not (is_slow s e)) s.skip m.skip (λ (x : ℕ). x ≤ s.skip_max)
+    (λ good. first) (λ bad. now))
+
+-- a run stands behind an event of its request as between any turns
+pub running_steps : (r : RunState) (room : ℕ) (e : Event) → IsRunning r room
+    → IsRequest (setting_in r) r.machine e.reading.pos (e.reading.pos + e.reading.asked)
+    → length e.reading.given ≤ e.reading.asked → IsRunning (stepped r e) room
+running_steps r room e i request few =
+    let s : Setting = setting_in r in
+    let m : Machine = r.machine in
+    let by : StepsBy s m e = move_steps s m e (sensible_in r room i) i.order request few in
+    record {
+      sound = i.sound;
+      suits = record {
+        from = i.suits.from;
+        to = λ x within. omega (arith, i.suits.to x within, by.size);
+      };
+      short = omega (arith, i.short, by.size);
+      cursor = omega (arith, cursor_within s m e by.there, by.size);
+      skip = skip_within s m e i.sound.skip i.skip;
+      order = by.order;
+      pass = i.pass;
+      trims = i.trims;
+      scrapes = i.scrapes;
+      room_is = i.room_is;
+    }
+
+-- what a phase asks for, by the passes that a run is in
+taken_in : (ps : List Pass) (phase : Phase) (n k : ℕ) (status found : Option Status) → has_taken ps found ≡ true
+    → slice_index_or ps 0 (numbered Copying 1) ≡ numbered phase n
+    → has_taken (numbered phase k ∷ []) status ≡ has_taken ps status
+taken_in [] phase n k status found has is = absurd (cc)
+taken_in (p ∷ ps) phase n k None found has is = refl
+taken_in (p ∷ ps) phase n k (Some status) found has is =
+    ap (λ (x : Pass). same status (taken x.phase)) (sym is)
+
+pub wanted_in : (s : Setting) (m : Machine) (map : List Status) (phase : Phase) (n k pos x : ℕ)
+    → is_wanted s m pos ≡ true → pass_of m ≡ numbered phase n
+    → (s.domain x && has_taken (numbered phase k ∷ []) (slice_get map x))
+    ≡ (s.domain x && has_taken m.passes (slice_get map x))
+wanted_in s m map phase n k pos x wanted pass =
+    ap (λ b. s.domain x && b)
+    (taken_in m.passes phase n k (slice_get map x) (slice_get m.map pos)
+    (and_parts (s.domain pos) (has_taken m.passes (slice_get m.map pos)) wanted).1 pass)
+
+-- a run behind an event, by its parts
+pub run_steps : (settings : Settings) (domain : List Run) (names : MapNames) (line : List ℕ) (map map' : List Status)
+    (phase : Phase) (place place' : Place) (tally tally' : Tally) (e : Event)
+    → let r : RunState = run_at settings domain names line map phase place tally in
+    map' ≡ map_after (setting_in r) r.machine e.reading
+    → place' ≡ place_of place.pass (step (setting_in r) r.machine e)
+    → tally' ≡ tally_of (step (setting_in r) r.machine e)
+    → run_at settings domain names line map' phase place' tally' ≡ stepped r e
+run_steps settings domain names line map map' phase place place' tally tally' e map_is place_is tally_is =
+    let r : RunState = run_at settings domain names line map phase place tally in
+    let n : Machine = step (setting_in r) r.machine e in
+    ap (λ (l : List Status). run_at settings domain names line l phase place' tally') map_is
+    ∙ ap (λ (p : Place). run_at settings domain names line n.map phase p tally') place_is
+    ∙ ap (λ (t : Tally). run_at settings domain names line n.map phase (place_of place.pass n) t) tally_is

@@ -1,0 +1,121 @@
+-- What a pass asks for, and its request by what a search finds.
+use Rattle.std.proofs.Common.{◌≡◌, ℕ, ◌-◌, ◌<◌, ◌≤◌, Bool, true, false, if◌then◌else◌, nat_le, nat_lt, List, ◌∷◌, length, drop, Option, Some, None, sym, ap, subst, ◌∙◌, arith}
+use Rattle.std.specs.List.{slice_get}
+use Rattle.std.proofs.lemmas.Bool.{and_from, and_parts, le-leb, lt-ltb, true≢false, false_from_ne_true}
+use Rattle.std.proofs.lemmas.Option.{slice_get_within}
+use Rattle.block_list.specs.declared.status.Status.{Status}
+use Rattle.block_list.proofs.StretchLemmas.{same_self, equal_from_same}
+use Rattle.rescue_rules.specs.declared.phase.Phase.{Phase}
+use Rattle.rescue_rules.specs.Setting.{Setting}
+use Rattle.rescue_rules.specs.Passes.{Pass, taken, numbered}
+use Rattle.rescue_rules.specs.Machine.{Machine, Search, has_taken, is_wanted, IsWanted, search_of, IsNextRun, cut_start, cut_end, IsRequest, is_ahead, has_request}
+use Rattle.rescue_rules.proofs.SearchLemmas.{request_found}
+use Rattle.rescue_core.specs.declared.state.Place.{Place}
+use Rattle.rescue_core.specs.Search.{IsMarked}
+use Rattle.rescue_core.specs.Requesting.{StandsAt}
+
+-- a pass asks for what is marked with its phase's status
+marked_wanted : (s : Setting) (m : Machine) (p : Pass) (x : ℕ) → m.passes ≡ p ∷ drop 1 m.passes → IsMarked s.domain m.map (taken p.phase) x
+    → is_wanted s m x ≡ true
+marked_wanted s m p x begins marked =
+    and_from (s.domain x) (has_taken m.passes (slice_get m.map x)) marked.within
+    (ap (λ (ps : List Pass). has_taken ps (slice_get m.map x)) begins ∙ ap (has_taken (p ∷ drop 1 m.passes)) marked.has
+    ∙ same_self (taken p.phase))
+
+taken_is : (p : Pass) (ps : List Pass) (status : Option Status) → has_taken (p ∷ ps) status ≡ true → status ≡ Some (taken p.phase)
+taken_is p ps None is = absurd (true≢false (sym is))
+taken_is p ps (Some status) is = ap (λ (t : Status). Some t) (equal_from_same status (taken p.phase) is)
+
+wanted_marked : (s : Setting) (m : Machine) (p : Pass) (x : ℕ) → m.passes ≡ p ∷ drop 1 m.passes → is_wanted s m x ≡ true
+    → IsMarked s.domain m.map (taken p.phase) x
+wanted_marked s m p x begins wanted =
+    let both = and_parts (s.domain x) (has_taken m.passes (slice_get m.map x)) wanted in
+    record {
+      within = both.0;
+      has = taken_is p (drop 1 m.passes) (slice_get m.map x) (ap (λ (ps : List Pass). has_taken ps (slice_get m.map x)) (sym begins) ∙ both.1);
+    }
+
+-- a run of one property is a run of another that means the same
+run_alike : (up : Bool) (P Q : ℕ → Type 0) (from start end : ℕ) → ((x : ℕ) → P x → Q x) → ((x : ℕ) → Q x → P x)
+    → IsNextRun up P from start end → IsNextRun up Q from start end
+run_alike true P Q from start end there back r = (
+  record {
+    after = r.0.after;
+    holds = there start r.0.holds;
+    least = λ y after holds. r.0.least y after (back y holds);
+  },
+  record {
+    begun = r.1.begun;
+    within = λ y low high. there y (r.1.within y low high);
+    stops = λ holds. r.1.stops (back end holds);
+  },
+)
+run_alike false P Q from start end there back r = (
+  record {
+    below = r.0.below;
+    some = r.0.some;
+    holds = there (end - 1) r.0.holds;
+    greatest = λ y below holds. r.0.greatest y below (back y holds);
+  },
+  record {
+    begun = r.1.begun;
+    within = λ y low high. there y (r.1.within y low high);
+    stops = λ y before holds. r.1.stops y before (back y holds);
+  },
+)
+
+-- a run that was found lies in the map
+last_marked : (up : Bool) (domain : ℕ → Bool) (map : List Status) (status : Status) (from start end : ℕ)
+    → IsNextRun up (IsMarked domain map status) from start end → (start < end) × IsMarked domain map status (end - 1)
+last_marked true domain map status from start end r =
+    (r.1.begun, r.1.within (end - 1) (omega (arith, r.1.begun)) (omega (arith, r.1.begun)))
+last_marked false domain map status from start end r =
+    (r.1.begun, r.1.within (end - 1) (omega (arith, r.1.begun)) (omega (arith, r.1.begun)))
+
+pub run_there : (up : Bool) (domain : ℕ → Bool) (map : List Status) (status : Status) (from start end : ℕ)
+    → IsNextRun up (IsMarked domain map status) from start end → end ≤ length map
+run_there up domain map status from start end r =
+    let last = last_marked up domain map status from start end r in
+    omega (arith, last.0, slice_get_within map (end - 1) status last.1.has)
+
+-- what is cut from a run that a machine's search finds is its request
+pub request_is : (s : Setting) (m : Machine) (phase : Phase) (place : Place) (map : List Status) (status : Status) (f : Search)
+    (start end pos to : ℕ) → StandsAt m phase place map → status ≡ taken phase → f ≡ search_of s m
+    → IsNextRun f.up (IsMarked s.domain map status) f.from start end → pos ≡ cut_start f s.sector start end
+    → to ≡ cut_end f s.sector start end → IsRequest s m pos to
+request_is s m phase place map status f start end pos to stands asks is run starts ends =
+    let p : Pass = numbered phase place.pass in
+    let marked : IsNextRun f.up (IsMarked s.domain m.map (taken phase)) f.from start end
+    = subst (λ (statuses : List Status). IsNextRun f.up (IsMarked s.domain statuses (taken phase)) f.from start end) (sym stands.map)
+    (subst (λ (t : Status). IsNextRun f.up (IsMarked s.domain map t) f.from start end) asks run) in
+    let wanted : IsNextRun f.up (IsWanted s m) f.from start end
+    = run_alike f.up (IsMarked s.domain m.map (taken phase)) (IsWanted s m) f.from start end
+    (λ x holds. marked_wanted s m p x stands.passes holds) (λ x holds. wanted_marked s m p x stands.passes holds) marked in
+    record {
+      start = start;
+      end = end;
+      run = subst (λ (g : Search). IsNextRun g.up (IsWanted s m) g.from start end) is wanted;
+      starts = starts ∙ ap (λ (g : Search). cut_start g s.sector start end) is;
+      ends = ends ∙ ap (λ (g : Search). cut_end g s.sector start end) is;
+    }
+
+-- where a run is, something lies ahead
+some_ahead : (up : Bool) (P : ℕ → Type 0) (from start end : ℕ) → IsNextRun up P from start end
+    → ((x : ℕ) → P x → (if up then nat_le from x else nat_lt x from) ≡ true → ⊥) → ⊥
+some_ahead true P from start end r none = none start r.0.holds (le-leb from start r.0.after)
+some_ahead false P from start end r none =
+    none (end - 1) r.0.holds (lt-ltb (end - 1) from (omega (arith, r.0.some, r.0.below)))
+
+-- where nothing that is marked lies ahead a machine has no request
+pub no_request : (s : Setting) (m : Machine) (phase : Phase) (place : Place) (map : List Status) (status : Status) (f : Search)
+    → StandsAt m phase place map → status ≡ taken phase → f ≡ search_of s m
+    → ((x : ℕ) → is_ahead f x ≡ true → IsMarked s.domain map status x → ⊥) → has_request s m ≡ false
+no_request s m phase place map status f stands asks is none =
+    false_from_ne_true (has_request s m) (λ has.
+    let found = request_found s m has in
+    let g : Search = search_of s m in
+    some_ahead g.up (IsWanted s m) g.from found.2.start found.2.end found.2.run (λ x wanted ahead.
+    none x (subst (λ (h : Search). is_ahead h x ≡ true) (sym is) ahead)
+    (subst (λ (t : Status). IsMarked s.domain map t x) (sym asks)
+    (subst (λ (statuses : List Status). IsMarked s.domain statuses (taken phase) x) stands.map
+    (wanted_marked s m (numbered phase place.pass) x stands.passes wanted)))))

@@ -1,0 +1,55 @@
+-- What the end of a run does.
+use Rattle.std.specs.Prelude.{◌≡◌, ⊤, false, Bool, Option, Some, None}
+use Rattle.crash_site.specs.declared.site.SiteCall.{SiteCall}
+use Rattle.crash_site.specs.SiteState.{SiteState, Makes, Breaks}
+use Rattle.save_resume.specs.Saving.{save_calls, IsNameIn, drafting_after_fault}
+use Rattle.rescue_rules.specs.declared.stop.Stop.{Stop}
+use Rattle.rescue_rules.specs.declared.stop.Stop.TheVariants.{SourceLost, Site, NoMemory}
+use Rattle.rescue_rules.specs.declared.stop.RunEnd.{RunEnd}
+use Rattle.rescue_rules.specs.declared.stop.RunEnd.TheVariants.{Done, Stopped, SaveFailed}
+use Rattle.rescue_rules.specs.Snapshots.{Snapshot, text_of, snapshot, finished_snapshot}
+use Rattle.rescue_core.specs.RunState.{RunState}
+
+-- whether a draft is left begun behind a stop
+abbrev pub drafting_after : Stop → Bool
+drafting_after SourceLost = false
+drafting_after (Site call) = drafting_after_fault call false
+drafting_after NoMemory = false
+
+-- what is saved: a run without a stop is finished
+abbrev pub closing_snapshot : Option Stop → RunState → Snapshot
+closing_snapshot None r = finished_snapshot r.machine
+closing_snapshot (Some stop) r = snapshot r.machine
+
+-- how a run ends whose map was saved
+abbrev pub end_of : Option Stop → RunEnd
+end_of None = Done
+end_of (Some stop) = Stopped stop
+
+-- its last save went on to its end, or a call of it failed
+pub data Saves (stop : Option Stop) (r : RunState) (end : RunEnd) (site site' : SiteState) : Type 0 where
+  Saved : end ≡ end_of stop → Makes (save_calls r.names (text_of r.line (closing_snapshot stop r))) site site'
+      → site'.is_drafting ≡ false → Saves stop r end site site'
+  Unsaved : (call : SiteCall) → end ≡ SaveFailed call stop
+      → IsNameIn call (save_calls r.names (text_of r.line (closing_snapshot stop r)))
+      → Breaks call (save_calls r.names (text_of r.line (closing_snapshot stop r))) site site'
+      → site'.is_drafting ≡ drafting_after_fault call false → Saves stop r end site site'
+
+-- The end of a run saves its map; but behind a call on its files that failed it makes no further call.
+abbrev pub Closes : Option Stop → RunState → RunEnd → (site site' : SiteState) → Type 0
+Closes None r end site site' = Saves None r end site site'
+Closes (Some SourceLost) r end site site' = Saves (Some SourceLost) r end site site'
+Closes (Some (Site call)) r end site site' = (end ≡ Stopped (Site call)) × (site' ≡ site)
+Closes (Some NoMemory) r end site site' = Saves (Some NoMemory) r end site site'
+
+-- a run that stopped, and why
+pub record StoppedState : Type 0 where
+  pub run : RunState
+  pub stop : Stop
+
+-- a save needs that no draft is begun
+abbrev pub MayClose : Option Stop → SiteState → Type 0
+MayClose None site = site.is_drafting ≡ false
+MayClose (Some SourceLost) site = site.is_drafting ≡ false
+MayClose (Some (Site call)) site = ⊤
+MayClose (Some NoMemory) site = site.is_drafting ≡ false

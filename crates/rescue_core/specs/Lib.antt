@@ -1,0 +1,7 @@
+pub mod RunState
+pub mod Search
+pub mod Requesting
+pub mod Turning
+pub mod Closing
+pub mod Stages
+pub mod TurnParts

@@ -1,0 +1,19 @@
+-- How a run comes to its next request.
+use Rattle.std.specs.Prelude.{◌≡◌, List, ◌∷◌, drop}
+use Rattle.block_list.specs.declared.status.Status.{Status}
+use Rattle.rescue_rules.specs.declared.phase.Phase.{Phase}
+use Rattle.rescue_rules.specs.Passes.{numbered}
+use Rattle.rescue_rules.specs.Machine.{Machine, Search as RulesSearch}
+use Rattle.rescue_core.specs.declared.request.Search.{Search}
+use Rattle.rescue_core.specs.declared.state.Place.{Place}
+
+-- a search, as the rules have it
+abbrev pub search_by : Search → RulesSearch
+search_by f = record { up = f.up; from = f.from; front = f.front; size = f.size }
+
+-- a machine stands at a place of a phase, over a map
+pub record StandsAt (m : Machine) (phase : Phase) (place : Place) (statuses : List Status) : Type 0 where
+  pub passes : m.passes ≡ numbered phase place.pass ∷ drop 1 m.passes
+  pub cursor : m.cursor ≡ place.cursor
+  pub mode : m.mode ≡ place.mode
+  pub map : m.map ≡ statuses

@@ -1,0 +1,159 @@
+-- What is known of a run between its turns.
+use Rattle.std.specs.Prelude.{◌≡◌, ℕ, ◌+◌, ◌-◌, ◌*◌, ◌^◌, ◌<◌, ◌≤◌, Bool, true, false, not, List, [], length, drop, Option, Some, None}
+use Rattle.block_list.specs.declared.block.Run.{Run}
+use Rattle.block_list.specs.declared.status.Status.{Status}
+use Rattle.block_list.specs.Map.{Has}
+use Rattle.mapfile_text.specs.declared.state.MapState.{MapState}
+use Rattle.save_resume.specs.MapNames.{MapNames}
+use Rattle.rescue_rules.specs.declared.phase.Phase.{Phase}
+use Rattle.rescue_rules.specs.declared.phase.Phase.TheVariants.{Copying, Trimming, Scraping}
+use Rattle.rescue_rules.specs.Setting.{Setting}
+use Rattle.rescue_rules.specs.Passes.{passes_from, numbered}
+use Rattle.rescue_rules.specs.Machine.{Machine, pass_of}
+use Rattle.rescue_rules.specs.MachineLaws.{IsInOrder}
+use Rattle.rescue_rules.specs.Moves.{begun}
+use Rattle.rescue_rules.specs.Beginning.{first_pass, nothing_shown, machine_of}
+use Rattle.rescue_domain.specs.Parts.{covers}
+use Rattle.rescue_core.specs.declared.settings.Settings.{Settings}
+use Rattle.rescue_core.specs.declared.state.Place.{Place}
+use Rattle.rescue_core.specs.declared.state.Tally.{Tally}
+
+-- its settings, its domain, the names of its mapfile and its draft, the command line, the phase and the pass that it is in,
+-- and where it stands
+pub record RunState : Type 0 where
+  pub settings : Settings
+  pub domain : List Run
+  pub names : MapNames
+  pub line : List ℕ
+  pub phase : Phase
+  pub pass : ℕ
+  pub machine : Machine
+
+-- what settings, a domain by its intervals, names and a command line ask for. A run knows neither the names of the input and of the output
+-- nor the input's length.
+abbrev pub setting_with : Settings → List Run → MapNames → List ℕ → Setting
+setting_with settings domain names line = record {
+  infile = [];
+  outfile = [];
+  names = names;
+  line = line;
+  end = 0;
+  domain = covers domain;
+  from = settings.ipos;
+  to = settings.opos;
+  sector = settings.sector;
+  cluster = settings.cluster;
+  skip = settings.skip;
+  skip_max = settings.skip_max;
+  min_rate = settings.min_rate;
+  trims = not settings.no_trim;
+  scrapes = not settings.no_scrape;
+  retries = settings.retries;
+  reverse = settings.reverse;
+  one_way = settings.one_way;
+  max_errors = None;
+  timeout = None;
+}
+
+abbrev pub setting_in : RunState → Setting
+setting_in r = setting_with r.settings r.domain r.names r.line
+
+-- settings within their limits
+pub record IsSound (settings : Settings) : Type 0 where
+  pub sector : 0 < settings.sector
+  pub sector_max : settings.sector ≤ 1048576
+  pub sectors : ℕ
+  pub some : 0 < sectors
+  pub cluster : settings.cluster ≡ sectors * settings.sector
+  pub cluster_max : settings.cluster ≤ 16777216
+  pub skip : settings.skip ≤ settings.skip_max
+  pub skip_max : settings.skip_max < 2 ^ 63
+  pub ipos : settings.ipos < 2 ^ 63
+  pub opos : settings.opos < 2 ^ 63
+  pub retries : settings.retries < 2 ^ 32
+
+-- a domain for a map of so many positions: it begins at an input's position or behind it, and ends with the map
+pub record Suits (settings : Settings) (domain : ℕ → Bool) (top : ℕ) : Type 0 where
+  pub from : (x : ℕ) → domain x ≡ true → settings.ipos ≤ x
+  pub to : (x : ℕ) → domain x ≡ true → x < top
+
+-- each position of the domain has a place in the output below 2^63 - 1
+pub record HasPlaces (settings : Settings) (domain : ℕ → Bool) : Type 0 where
+  pub low : (x : ℕ) → domain x ≡ true → x - settings.ipos + settings.opos < 2 ^ 63 - 1
+
+-- the machine's state, from its parts
+abbrev pub machine_at : Setting → List Status → Phase → Place → Tally → Machine
+machine_at s map phase place tally = record {
+  map = map;
+  passes = passes_from s phase place.pass;
+  cursor = place.cursor;
+  mode = place.mode;
+  skip = place.skip;
+  failed = tally.failed;
+  began = tally.began;
+  now = tally.now;
+  whole_at = tally.whole_at;
+  due_at = tally.due_at;
+  shown = tally.shown;
+}
+
+-- the run that these parts make
+abbrev pub run_at : Settings → List Run → MapNames → List ℕ → List Status → Phase → Place → Tally → RunState
+run_at settings domain names line map phase place tally = record {
+  settings = settings;
+  domain = domain;
+  names = names;
+  line = line;
+  phase = phase;
+  pass = place.pass;
+  machine = machine_at (setting_with settings domain names line) map phase place tally;
+}
+
+-- no position of the domain has this status
+abbrev pub IsGone : Status → RunState → Type 0
+IsGone status r = (x : ℕ) → covers r.domain x ≡ true → Has r.machine.map status x → ⊥
+
+-- what holds of a run between its turns, with a buffer for so many bytes
+pub record IsRunning (r : RunState) (room : ℕ) : Type 0 where
+  pub sound : IsSound r.settings
+  pub suits : Suits r.settings (covers r.domain) (length r.machine.map)
+  pub short : length r.machine.map < 2 ^ 63
+  pub cursor : r.machine.cursor ≤ length r.machine.map
+  pub skip : r.machine.skip ≤ r.settings.skip_max
+  pub order : IsInOrder (setting_in r) r.machine
+  -- the pass that it is in is one of its phase
+  pub pass : pass_of r.machine ≡ numbered r.phase r.pass
+  -- and it isn't off
+  pub trims : r.phase ≡ Trimming → r.settings.no_trim ≡ false
+  pub scrapes : r.phase ≡ Scraping → r.settings.no_scrape ≡ false
+  -- a cluster is read at once
+  pub room_is : room ≡ r.settings.cluster
+
+-- what a run shows at first: what a mapfile showed that it goes on from, or a rescue that has done nothing
+abbrev pub first_shown : Option MapState → MapState
+first_shown None = nothing_shown
+first_shown (Some state) = state
+
+-- a run at its start
+abbrev pub started : Settings → List Run → MapNames → List ℕ → List Status → Option MapState → (moment : ℕ) → RunState
+started settings domain names line map loaded moment = record {
+  settings = settings;
+  domain = domain;
+  names = names;
+  line = line;
+  phase = Copying;
+  pass = first_pass loaded;
+  machine = machine_of (setting_with settings domain names line) map loaded (first_shown loaded) moment;
+}
+
+-- a run at the start of its next pass
+abbrev pub passed : RunState → Phase → ℕ → RunState
+passed r phase pass = record r {
+  phase = phase;
+  pass = pass;
+  machine = begun (setting_in r) r.machine (numbered phase pass) (drop 2 r.machine.passes);
+}
+
+-- a run that shows another state
+abbrev pub showing : RunState → MapState → RunState
+showing r state = record r { machine = record r.machine { shown = state } }

@@ -1,0 +1,35 @@
+-- What is known of a run by how far it has come.
+use Rattle.std.specs.Prelude.{◌≡◌, ⊤, true, false}
+use Rattle.block_list.specs.declared.status.Status.TheVariants.{NonTried, NonTrimmed, NonScraped}
+use Rattle.rescue_rules.specs.Moves.{ready, has_none}
+use Rattle.rescue_core.specs.RunState.{RunState, setting_in, IsGone}
+
+-- how far a run has come: it began, or copying, trimming or scraping is over, or all is
+pub data Reached : Type 0 where
+  Begun : Reached
+  Copied : Reached
+  Trimmed : Reached
+  Scraped : Reached
+  Over : Reached
+
+-- behind copying no position of the domain is non-tried; behind trimming none is non-trimmed either, unless trimming is off
+pub record IsTrimmed (r : RunState) : Type 0 where
+  pub tried : IsGone NonTried r
+  pub trimmed : r.settings.no_trim ≡ false → IsGone NonTrimmed r
+
+-- behind scraping none is non-scraped either, unless scraping is off
+pub record IsScraped (r : RunState) : Type 0 where
+  pub trimmed : IsTrimmed r
+  pub scraped : r.settings.no_scrape ≡ false → IsGone NonScraped r
+
+-- at the end no pass has a request left
+pub record IsOver (r : RunState) : Type 0 where
+  pub scraped : IsScraped r
+  pub spent : has_none (ready (setting_in r) r.machine).passes ≡ true
+
+abbrev pub Known : Reached → RunState → Type 0
+Known Begun r = ⊤
+Known Copied r = IsGone NonTried r
+Known Trimmed r = IsTrimmed r
+Known Scraped r = IsScraped r
+Known Over r = IsOver r

@@ -1,0 +1,94 @@
+-- What the parts of a turn take, and what they make.
+use Rattle.std.specs.Prelude.{◌≡◌, ⊤, ℕ, ◌≤◌, List, length, take}
+use Rattle.faulty_source.specs.Journal.{Reading}
+use Rattle.faulty_source.specs.SourceState.{SourceState}
+use Rattle.crash_site.specs.SiteState.{SiteState, Makes}
+use Rattle.rescue_console.specs.ClockState.{ClockState}
+use Rattle.transfer_token.specs.declared.token.Request.{Request}
+use Rattle.transfer_token.specs.declared.fetch.Fetched.{Fetched}
+use Rattle.transfer_token.specs.declared.fetch.Fetched.TheVariants.{Whole, Part, Nothing}
+use Rattle.transfer_token.specs.Tokens.{IsCut}
+use Rattle.rescue_rules.specs.declared.phase.Phase.{Phase}
+use Rattle.rescue_rules.specs.declared.stop.TrimMode.{TrimMode}
+use Rattle.rescue_rules.specs.declared.stop.TrimMode.TheVariants.{Lead, Tail}
+use Rattle.rescue_rules.specs.Setting.{Setting, place}
+use Rattle.rescue_rules.specs.Passes.{numbered}
+use Rattle.rescue_rules.specs.Machine.{Machine, pass_of}
+use Rattle.rescue_rules.specs.Step.{Event}
+use Rattle.rescue_rules.specs.RunCalls.{write_calls}
+use Rattle.rescue_core.specs.declared.gather.Gathered.{Gathered}
+use Rattle.rescue_core.specs.declared.landing.Kept.{Kept}
+use Rattle.rescue_core.specs.declared.landing.Kept.TheVariants.{Whole as WholeKept, Part as PartKept, Nothing as NothingKept}
+use Rattle.rescue_core.specs.declared.settings.Settings.{Settings}
+use Rattle.rescue_core.specs.declared.state.Place.{Place}
+use Rattle.rescue_core.specs.declared.state.Tally.{Tally}
+use Rattle.rescue_core.specs.declared.timed.Timed.{Timed}
+use Rattle.rescue_core.specs.RunState.{RunState, setting_in}
+use Rattle.rescue_core.specs.Turning.{IsEvent, turn_of}
+
+-- where a state stands, in a pass with this number
+abbrev pub place_of : (pass : ℕ) → Machine → Place
+place_of pass m = record { pass = pass; cursor = m.cursor; mode = m.mode; skip = m.skip }
+
+-- what it has come to
+abbrev pub tally_of : Machine → Tally
+tally_of m = record {
+  failed = m.failed;
+  began = m.began;
+  now = m.now;
+  whole_at = m.whole_at;
+  due_at = m.due_at;
+  shown = m.shown;
+}
+
+-- a run with these settings, in this phase and at this place
+pub record RunsAt (settings : Settings) (phase : Phase) (place : Place) (r : RunState) : Type 0 where
+  pub settings_are : r.settings ≡ settings
+  pub pass : pass_of r.machine ≡ numbered phase place.pass
+  pub mode : r.machine.mode ≡ place.mode
+  pub skip : r.machine.skip ≡ place.skip
+
+-- a read of what was requested, which gave so many bytes
+pub record IsReadOf (request : Request) (given : ℕ) (reading : Reading) : Type 0 where
+  pub pos : reading.pos ≡ request.pos
+  pub asked : reading.asked ≡ request.len
+  pub count : length reading.given ≡ given
+
+-- A read of what was requested between two readings of the clock, and what it was cut into; what it gave stands at the
+-- buffer's front.
+pub record IsTimed (request : Request) (sector : ℕ) (timed : Timed) (buf : List ℕ) (source source' : SourceState)
+    (clock clock' : ClockState) : Type 0 where
+  pub event : Event
+  pub is : IsEvent request event source source' clock clock'
+  pub count : length event.reading.given ≡ timed.given
+  pub before : event.before ≡ timed.before
+  pub after : event.after ≡ timed.after
+  pub cut : IsCut sector event.reading timed.fetched
+  pub front : take (length event.reading.given) buf ≡ event.reading.given
+
+-- what was kept of a request, as it was fetched
+abbrev pub fetched_of : Kept → Fetched
+fetched_of (WholeKept landed) = Whole landed
+fetched_of (PartKept landed missed) = Part landed missed
+fetched_of (NothingKept missed) = Nothing missed
+
+-- a read that was cut into this, whose bytes stand at the buffer's front, and whose first byte has this place
+pub record IsCutAt (fetched : Fetched) (buf : List ℕ) (at : ℕ) (s : Setting) (r : Reading) : Type 0 where
+  pub cut : IsCut s.sector r fetched
+  pub front : take (length r.given) buf ≡ r.given
+  pub at_is : at ≡ place s r.pos
+
+-- at a run's back a position isn't below the run
+abbrev pub IsBackOf : TrimMode → (pos : ℕ) → Type 0
+IsBackOf Lead pos = ⊤
+IsBackOf (Tail low) pos = low ≤ pos
+
+-- A read of what was requested whose kept part was written, and what a turn answers of it.
+pub record Gathers (request : Request) (settings : Settings) (got : Gathered) (source source' : SourceState)
+    (site site' : SiteState) (clock clock' : ClockState) : Type 0 where
+  pub event : Event
+  pub is : IsEvent request event source source' clock clock'
+  pub cut : IsCut settings.sector event.reading (fetched_of got.kept)
+  pub turn : (r : RunState) → r.settings ≡ settings → got.turn ≡ turn_of r event
+  pub after : event.after ≡ got.after
+  pub writes : (r : RunState) → r.settings ≡ settings → Makes (write_calls (setting_in r) event.reading) site site'

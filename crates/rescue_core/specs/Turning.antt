@@ -1,0 +1,81 @@
+-- What a turn does, by its outcome.
+use Rattle.std.specs.Prelude.{◌≡◌, ℕ, ◌+◌, ◌<◌, ◌≤◌, ◌^◌, true, ◌&&◌, IsTrue, [], ◌∷◌, ◌++◌, length, map, slice_range}
+use Rattle.fault_count.specs.Counts.{Rose}
+use Rattle.faulty_source.specs.Journal.{is_whole, kept}
+use Rattle.faulty_source.specs.SourceState.{SourceState, Reads, Loses}
+use Rattle.crash_site.specs.declared.site.SiteCall.{SiteCall}
+use Rattle.crash_site.specs.declared.site.SiteCall.TheVariants.{ImageWrite}
+use Rattle.crash_site.specs.Calls.{Done, BrokeAt}
+use Rattle.crash_site.specs.SiteState.{SiteState, Makes, Breaks}
+use Rattle.save_resume.specs.Saving.{save_calls, IsNameIn}
+use Rattle.rescue_console.specs.ClockState.{ClockState, Reads as ReadsClock}
+use Rattle.transfer_token.specs.declared.token.Request.{Request}
+use Rattle.rescue_rules.specs.declared.stop.Stop.{Stop}
+use Rattle.rescue_rules.specs.declared.stop.Stop.TheVariants.{SourceLost, Site, NoMemory}
+use Rattle.rescue_rules.specs.Step.{Event, is_slow, step}
+use Rattle.rescue_rules.specs.Moves.{Move}
+use Rattle.rescue_rules.specs.Snapshots.{text_of, snapshot, is_due}
+use Rattle.rescue_rules.specs.RunCalls.{write_calls, move_calls}
+use Rattle.rescue_core.specs.declared.turn.Turn.{Turn}
+use Rattle.rescue_core.specs.RunState.{RunState, setting_in}
+
+-- a read of what was requested, which gave the input's own bytes, between two readings of the clock
+pub record IsEvent (request : Request) (e : Event) (source source' : SourceState) (clock clock' : ClockState) : Type 0 where
+  pub pos : e.reading.pos ≡ request.pos
+  pub asked : e.reading.asked ≡ request.len
+  pub few : length e.reading.given ≤ request.len
+  pub right : IsTrue source.tells
+      → e.reading.given ≡ slice_range source.bytes request.pos (request.pos + length e.reading.given)
+  pub read : Reads (e.reading ∷ []) source source'
+  pub times : ReadsClock (e.before ∷ e.after ∷ []) clock clock'
+  pub before : e.before < 2 ^ 64
+  pub after : e.after < 2 ^ 64
+
+-- the state behind an event: one step of the rules; all else of the run stands
+abbrev pub stepped : RunState → Event → RunState
+stepped r e = record r { machine = step (setting_in r) r.machine e }
+
+-- the move of an event
+abbrev pub move_by : RunState → Event → Move
+move_by r e = record { before = r.machine; event = e; after = step (setting_in r) r.machine e }
+
+-- what a turn answers of its event: how much was given and kept, and whether it was whole and slow
+abbrev pub turn_of : RunState → Event → Turn
+turn_of r e = record {
+  kept = kept r.settings.sector e.reading;
+  given = length e.reading.given;
+  whole = is_whole e.reading;
+  slow = is_whole e.reading && is_slow (setting_in r) e;
+}
+
+-- A whole turn: one event of the request, its step, its write, and the save that is due behind it.
+pub record Turned (request : Request) (turn : Turn) (r r' : RunState) (source source' : SourceState)
+    (site site' : SiteState) (clock clock' : ClockState) : Type 0 where
+  pub event : Event
+  pub is : IsEvent request event source source' clock clock'
+  pub answers : turn ≡ turn_of r event
+  pub steps : r' ≡ stepped r event
+  pub calls : Makes (move_calls (setting_in r) (move_by r event)) site site'
+
+-- A turn that stopped:
+pub data Halted (request : Request) (stop : Stop) (r r' : RunState) (source source' : SourceState) (site site' : SiteState)
+    (clock clock' : ClockState) : Type 0 where
+  -- for want of memory, before it read anything
+  Starved : stop ≡ NoMemory → r' ≡ r → source' ≡ source → site' ≡ site → clock' ≡ clock
+      → Halted request stop r r' source source' site site' clock clock'
+  -- in its read, which was lost
+  Lost : stop ≡ SourceLost → r' ≡ r → Loses source source' → site' ≡ site
+      → (before : ℕ) → before < 2 ^ 64 → ReadsClock (before ∷ []) clock clock'
+      → Halted request stop r r' source source' site site' clock clock'
+  -- in the write of what was kept, and nothing is marked
+  Unwritten : stop ≡ Site ImageWrite → r' ≡ r → (event : Event) → IsEvent request event source source' clock clock'
+      → Breaks ImageWrite (write_calls (setting_in r) event.reading) site site'
+      → Halted request stop r r' source source' site site' clock clock'
+  -- in a call of the save that was due, behind the event's step
+  Unsaved : (call : SiteCall) → stop ≡ Site call → (event : Event) → IsEvent request event source source' clock clock'
+      → r' ≡ stepped r event → is_due (setting_in r) (move_by r event) ≡ true
+      → IsNameIn call (save_calls r.names (text_of r.line (snapshot r'.machine)))
+      → (IsTrue site.tells → BrokeAt call (save_calls r.names (text_of r.line (snapshot r'.machine)))
+      (site.calls ++ map Done (write_calls (setting_in r) event.reading)) site'.calls)
+      → Rose site.faults site'.faults
+      → Halted request stop r r' source source' site site' clock clock'

@@ -1,0 +1,76 @@
+//! A read whose kept part stands in the output.
+ghost use Rattle.std.specs.Prelude.{◌≡◌, ◌+◌, ◌-◌, ◌<◌, ◌≤◌, ◌^◌, true, false, length, IfOk, IfErr};
+ghost use Rattle.faulty_source.specs.SourceState.{Stays as SourceStays};
+ghost use Rattle.crash_site.specs.SiteState.{Stays as SiteStays};
+ghost use Rattle.rescue_console.specs.ClockState.{Keeps as ClockKeeps};
+ghost use Rattle.transfer_token.specs.Tokens.{Spans};
+ghost use Rattle.rescue_core.specs.RunState.{RunState, IsSound};
+ghost use Rattle.rescue_core.specs.Turning.{Halted};
+ghost use Rattle.rescue_core.specs.Closing.{drafting_after};
+ghost use Rattle.rescue_core.specs.TurnParts.{fetched_of, Gathers};
+
+use crate::landing::{Kept, land_kept};
+use crate::settings::Settings;
+use crate::tally::turn_behind;
+use crate::timed::{Timed, read_timed};
+use crate::turn::Turn;
+use crash_site::site::{Site, SiteCall};
+use faulty_source::source::Source;
+use rescue_console::clock::Clock;
+use rescue_rules::stop::Stop;
+use transfer_token::token::Request;
+
+/// What was gathered of a request.
+pub(crate) struct Gathered {
+    pub kept: Kept,
+    pub turn: Turn,
+    /// The time behind the read, in milliseconds since 1970.
+    pub after: u64,
+}
+
+/// Reads what is requested, and writes what is kept of it to its place in the output. A lost read or a failed write is a
+/// stop.
+pub(crate) fn gather<S: Source, D: Site, K: Clock>(
+    request: Request,
+    settings: &Settings,
+    buf: &mut [u8],
+    source: &mut S,
+    site: &mut D,
+    clock: &mut K,
+) -> Result<Gathered, Stop>
+    requires sound { IsSound settings.now }
+    requires some { 0 < request.len }
+    requires fits { request.len ≤ length buf.old }
+    requires cluster { length buf.old ≤ 16777216 }
+    requires short { request.pos + request.len < 2 ^ 63 }
+    requires place { request.pos - settings.now.ipos + settings.now.opos + request.len < 2 ^ 63 }
+    requires input { (S.state source.old).is_open ≡ true }
+    requires image { (D.state site.old).is_open ≡ true }
+    ensures gathered { IfOk result (λ got. Gathers request settings.now got (S.state source.old) (S.state source.new)
+        (D.state site.old) (D.state site.new) (K.state clock.old) (K.state clock.new)) }
+    ensures parts { IfOk result (λ got. Spans request (fetched_of got.kept)) }
+    ensures halted { IfErr result (λ stop. (r : RunState) → r.settings ≡ settings.now → Halted request stop r r
+        (S.state source.old) (S.state source.new) (D.state site.old) (D.state site.new) (K.state clock.old)
+        (K.state clock.new)) }
+    ensures draft { IfErr result (λ stop. drafting_after stop ≡ false) }
+    ensures same { length buf.new ≡ length buf.old }
+    ensures source { SourceStays (S.state source.old) (S.state source.new) }
+    ensures site { SiteStays (D.state site.old) (D.state site.new) }
+    ensures clock { ClockKeeps (K.state clock.old) (K.state clock.new) }
+{
+    let Ok(timed) = read_timed(source, clock, buf, request, settings.sector) else {
+        return Err(Stop::SourceLost);
+    };
+    let Timed {
+        fetched,
+        given,
+        before,
+        after,
+    } = timed;
+    let at = request.pos.saturating_sub(settings.ipos) + settings.opos;
+    let Ok(kept) = land_kept(fetched, buf, site, at) else {
+        return Err(Stop::Site(SiteCall::ImageWrite));
+    };
+    let turn = turn_behind(settings, request, given, kept.size(), before, after);
+    Ok(Gathered { kept, turn, after })
+}

@@ -1,0 +1,23 @@
+//! The run of a rescue: its state, its turns, its end. A turn is one step of the rules.
+#![tactic(auto)]
+
+mod closing;
+#[cfg(test)]
+mod closing_tests;
+mod gather;
+mod landing;
+mod mark;
+pub mod phases;
+mod place;
+mod request;
+#[cfg(test)]
+mod request_tests;
+pub mod running;
+mod save_now;
+pub mod search;
+pub mod settings;
+pub mod state;
+mod tally;
+mod timed;
+pub mod turn;
+mod wanted;

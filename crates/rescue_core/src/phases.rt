@@ -1,0 +1,351 @@
+ghost use Rattle.std.specs.Prelude.{◌≡◌, ◌+◌, ◌<◌, ◌≤◌, ◌^◌, true, false, Some, None, length, slice_get, IfOk, IfErr, IfSome, IfNone, OnOk};
+ghost use Rattle.faulty_source.specs.SourceState.{Stays as SourceStays};
+ghost use Rattle.crash_site.specs.SiteState.{Keeps as SiteKeeps};
+ghost use Rattle.rescue_console.specs.ClockState.{Keeps as ClockKeeps};
+ghost use Rattle.mapfile_text.specs.declared.heading.Program.TheVariants.{Ddrescue};
+ghost use Rattle.block_list.specs.declared.status.Status.TheVariants.{NonTried, NonTrimmed, NonScraped};
+ghost use Rattle.rescue_rules.specs.Passes.{numbered};
+ghost use Rattle.rescue_rules.specs.Machine.{IsRequest, has_request};
+ghost use Rattle.rescue_rules.specs.Moves.{ready, has_none};
+ghost use Rattle.rescue_core.specs.RunState.{RunState, setting_in, IsSound, Suits, HasPlaces, started, passed, showing, IsGone};
+ghost use Rattle.rescue_domain.specs.Parts.{covers};
+ghost use Rattle.rescue_core.specs.Turning.{Turned, Halted};
+ghost use Rattle.rescue_core.specs.Closing.{Closes, MayClose, drafting_after};
+ghost use Rattle.rescue_core.specs.Stages.{Reached, Begun, Copied, Trimmed, Scraped, Over};
+
+use crate::running::Running;
+use crate::settings::Settings;
+use crate::turn::Turn;
+use block_list::tiles::{NoMemory, Tiles};
+use crash_site::site::Site;
+use faulty_source::source::Source;
+use mapfile_text::heading::Heading;
+use mapfile_text::state::MapState;
+use rescue_console::clock::Clock;
+use rescue_console::console::Console;
+use rescue_domain::domain::Domain;
+use rescue_rules::phase::Phase;
+use rescue_rules::stop::{RunEnd, Stop, TrimMode};
+use save_resume::names::Names;
+use std::alloc::Global;
+use std::marker::Model;
+use transfer_token::token::Request;
+
+/// How far a rescue has come: what is gone from its domain.
+pub trait Stage: Drop {
+    ghost reached: { Reached };
+}
+
+/// Nothing is known yet.
+#[derive(Clone, Copy, Debug)]
+pub struct Copying;
+
+/// No position of the domain is non-tried.
+#[derive(Clone, Copy, Debug)]
+pub struct Trimming;
+
+/// None is non-trimmed either, unless trimming is off.
+#[derive(Clone, Copy, Debug)]
+pub struct Scraping;
+
+/// None is non-scraped either, unless scraping is off.
+#[derive(Clone, Copy, Debug)]
+pub struct Retrying;
+
+/// No pass has a request left.
+#[derive(Clone, Copy, Debug)]
+pub struct Finished;
+
+impl Stage for Copying {
+    ghost reached = { Begun };
+}
+
+impl Stage for Trimming {
+    ghost reached = { Copied };
+}
+
+impl Stage for Scraping {
+    ghost reached = { Trimmed };
+}
+
+impl Stage for Retrying {
+    ghost reached = { Scraped };
+}
+
+impl Stage for Finished {
+    ghost reached = { Over };
+}
+
+/// A run of a rescue between its turns, by how far it has come.
+#[derive(Drop)]
+pub struct Rescue<P: Stage, T: Tiles> {
+    stage: P,
+    running: Running<T>,
+}
+
+impl<P: Stage, T: Tiles> Model for Rescue<P, T> {
+    ghost use Rattle.rescue_core.specs.RunState.{RunState};
+
+    ghost Value = { RunState };
+
+    ghost view = { λ r. r.running };
+
+    ghost use Rattle.rescue_core.specs.Stages.{Known};
+
+    ghost invariant = { λ r. Known P.reached r.running };
+}
+
+impl<T: Tiles> Rescue<Copying, T> {
+    /// A rescue of a domain of a map, at this moment (milliseconds since 1970): in copying's first pass, or in that of a
+    /// state that a mapfile showed, where it goes on from its position. It takes memory for a cluster.
+    pub fn start(
+        alloc: Global,
+        settings: Settings,
+        domain: Domain,
+        tiles: T,
+        loaded: Option<MapState>,
+        names: Names,
+        heading: Heading,
+        moment: u64,
+    ) -> Result<Rescue<Copying, T>, NoMemory>
+        requires sound { IsSound settings }
+        requires suits { Suits settings (covers domain) (length (T.statuses tiles)) }
+        requires short { length (T.statuses tiles) < 2 ^ 63 }
+        requires program { heading.program ≡ Ddrescue }
+        requires pos { IfSome loaded (λ state. state.pos < 2 ^ 63) }
+        requires pass { IfSome loaded (λ state. 0 < state.pass) }
+        ensures { IfOk result (λ r. r ≡ started settings domain names heading.line (T.statuses tiles) loaded moment) }
+    {
+        let running = Running::start(
+            alloc, settings, domain, tiles, loaded, names, heading, moment,
+        )?;
+        Ok(Rescue {
+            stage: Copying,
+            running,
+        })
+    }
+
+    /// Has saved mapfiles show a state until the first event.
+    pub fn show_loaded(&mut self, state: MapState)
+        requires pos { state.pos < 2 ^ 63 }
+        requires pass { 0 < state.pass }
+        ensures { self.new ≡ showing self.old state }
+    {
+        self.running.show_loaded(state);
+    }
+
+    /// Copying is over, once no position of the domain is non-tried.
+    pub fn end_copying(self) -> Rescue<Trimming, T>
+        requires gone { IsGone NonTried self }
+        ensures { result ≡ self }
+    {
+        let Rescue { stage: _, running } = self;
+        Rescue {
+            stage: Trimming,
+            running,
+        }
+    }
+}
+
+impl<T: Tiles> Rescue<Trimming, T> {
+    /// Trimming is over, once no position of the domain is non-trimmed, or where it is off.
+    pub fn end_trimming(self) -> Rescue<Scraping, T>
+        requires gone { self.settings.no_trim ≡ false → IsGone NonTrimmed self }
+        ensures { result ≡ self }
+    {
+        let Rescue { stage: _, running } = self;
+        Rescue {
+            stage: Scraping,
+            running,
+        }
+    }
+}
+
+impl<T: Tiles> Rescue<Scraping, T> {
+    /// Scraping is over, once no position of the domain is non-scraped, or where it is off.
+    pub fn end_scraping(self) -> Rescue<Retrying, T>
+        requires gone { self.settings.no_scrape ≡ false → IsGone NonScraped self }
+        ensures { result ≡ self }
+    {
+        let Rescue { stage: _, running } = self;
+        Rescue {
+            stage: Retrying,
+            running,
+        }
+    }
+}
+
+impl<T: Tiles> Rescue<Retrying, T> {
+    /// The rescue is over, once no pass has a request left.
+    pub fn end_retrying(self) -> Rescue<Finished, T>
+        requires spent { has_none (ready (setting_in self) self.machine).passes ≡ true }
+        ensures { result ≡ self }
+    {
+        let Rescue { stage: _, running } = self;
+        Rescue {
+            stage: Finished,
+            running,
+        }
+    }
+}
+
+impl<T: Tiles> Rescue<Finished, T> {
+    /// Saves the map of a rescue that went on to its end.
+    pub fn close<D: Site, C: Console>(self, site: &mut D, console: &mut C) -> RunEnd
+        requires no_draft { (D.state site.old).is_drafting ≡ false }
+        ensures closes { Closes None self result (D.state site.old) (D.state site.new) }
+        ensures site { SiteKeeps (D.state site.old) (D.state site.new) }
+        ensures console { C.state console.new ≡ C.state console.old }
+    {
+        let Rescue { stage: _, running } = self;
+        running.close(None, site, console)
+    }
+}
+
+impl<P: Stage, T: Tiles> Rescue<P, T> {
+    /// What it was asked to do.
+    pub fn settings(&self) -> &Settings
+        ensures { result.now ≡ self.now.settings }
+    {
+        self.running.settings()
+    }
+
+    /// The positions that it asks for.
+    pub fn domain(&self) -> &Domain
+        ensures { result.now ≡ self.now.domain }
+    {
+        self.running.domain()
+    }
+
+    /// Its map.
+    pub fn tiles(&self) -> &T
+        ensures { T.statuses result.now ≡ self.now.machine.map }
+    {
+        self.running.tiles()
+    }
+
+    /// Where its pass stands in the map, in bytes.
+    pub fn cursor(&self) -> u64
+        ensures { result ≡ self.now.machine.cursor }
+    {
+        self.running.cursor()
+    }
+
+    /// The phase of its pass.
+    pub fn phase(&self) -> Phase
+        ensures { result ≡ self.now.phase }
+    {
+        self.running.phase()
+    }
+
+    /// The number of its pass, counted from 1 within the phase.
+    pub fn pass(&self) -> u32
+        ensures { result ≡ self.now.pass }
+    {
+        self.running.pass()
+    }
+
+    /// Whether trimming stands before a run or at its back.
+    pub fn mode(&self) -> TrimMode
+        ensures { result ≡ self.now.machine.mode }
+    {
+        self.running.mode()
+    }
+
+    /// The next request of its pass.
+    pub fn next_request(&self) -> Option<Request>
+        ensures some { IfSome result (λ q. IsRequest (setting_in self.now) self.now.machine q.pos (q.pos + q.len)) }
+        ensures none { IfNone result (has_request (setting_in self.now) self.now.machine ≡ false) }
+        ensures len { IfSome result (λ q. 0 < q.len) }
+        ensures most { IfSome result (λ q. q.len ≤ self.now.settings.cluster) }
+        ensures within { IfSome result (λ q. q.pos + q.len ≤ length self.now.machine.map) }
+        ensures short { IfSome result (λ q. q.pos + q.len < 2 ^ 63) }
+    {
+        self.running.next_request()
+    }
+
+    /// Goes on to the next pass, behind one that has no request left.
+    pub fn begin_pass(&mut self, phase: Phase, pass: u32)
+        requires next { slice_get self.old.machine.passes 1 ≡ Some (numbered phase pass) }
+        requires spent { has_request (setting_in self.old) self.old.machine ≡ false }
+        ensures { self.new ≡ passed self.old phase pass }
+    {
+        self.running.begin_pass(phase, pass);
+    }
+
+    /// One turn: room in the map, a reading of the clock, the read, another reading, the write of what was kept, the marks,
+    /// and the save if one is due. Want of memory comes before the read; a lost read or a failed write leaves the range as
+    /// it was; a call of the save may fail behind the marks.
+    pub fn turn<S: Source, D: Site, K: Clock, C: Console>(
+        &mut self,
+        request: Request,
+        source: &mut S,
+        site: &mut D,
+        clock: &mut K,
+        console: &mut C,
+    ) -> Result<Turn, Stop>
+        requires request { IsRequest (setting_in self.old) self.old.machine request.pos (request.pos + request.len) }
+        requires places { HasPlaces self.old.settings (covers self.old.domain) }
+        requires input { (S.state source.old).is_open ≡ true }
+        requires image { (D.state site.old).is_open ≡ true }
+        requires no_draft { (D.state site.old).is_drafting ≡ false }
+        ensures turned { IfOk result (λ turn. Turned request turn self.old self.new (S.state source.old) (S.state source.new)
+            (D.state site.old) (D.state site.new) (K.state clock.old) (K.state clock.new)) }
+        ensures halted { IfErr result (λ stop. Halted request stop self.old self.new (S.state source.old)
+            (S.state source.new) (D.state site.old) (D.state site.new) (K.state clock.old) (K.state clock.new)) }
+        ensures draft { OnOk result ((D.state site.new).is_drafting ≡ false) }
+        ensures draft_left { IfErr result (λ stop. (D.state site.new).is_drafting ≡ drafting_after stop) }
+        ensures image { (D.state site.new).is_open ≡ true }
+        ensures source { SourceStays (S.state source.old) (S.state source.new) }
+        ensures site { SiteKeeps (D.state site.old) (D.state site.new) }
+        ensures clock { ClockKeeps (K.state clock.old) (K.state clock.new) }
+        ensures console { C.state console.new ≡ C.state console.old }
+    {
+        let _room = self.running.room();
+        self.running.turn(request, source, site, clock, console)
+    }
+
+    /// A rescue that stopped, with its stop.
+    pub fn stopped(self, stop: Stop) -> Stopped<T>
+        ensures run { result.run ≡ self }
+        ensures stop { result.stop ≡ stop }
+    {
+        let Rescue { stage: _, running } = self;
+        Stopped { running, stop }
+    }
+}
+
+/// A rescue that stopped before its end.
+#[derive(Drop)]
+pub struct Stopped<T: Tiles> {
+    running: Running<T>,
+    stop: Stop,
+}
+
+impl<T: Tiles> Model for Stopped<T> {
+    ghost use Rattle.rescue_core.specs.Closing.{StoppedState};
+
+    ghost Value = { StoppedState };
+
+    ghost view = { λ s. record { run = s.running; stop = s.stop } };
+}
+
+impl<T: Tiles> Stopped<T> {
+    /// Why it stopped.
+    pub fn stop(&self) -> Stop
+        ensures { result ≡ self.now.stop }
+    {
+        self.stop
+    }
+
+    /// Saves the map as it is, unless it stopped at a call on its files.
+    pub fn close<D: Site, C: Console>(self, site: &mut D, console: &mut C) -> RunEnd
+        requires no_draft { MayClose (Some self.stop) (D.state site.old) }
+        ensures closes { Closes (Some self.stop) self.run result (D.state site.old) (D.state site.new) }
+        ensures site { SiteKeeps (D.state site.old) (D.state site.new) }
+        ensures console { C.state console.new ≡ C.state console.old }
+    {
+        let Stopped { running, stop } = self;
+        running.close(Some(stop), site, console)
+    }
+}

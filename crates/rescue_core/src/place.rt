@@ -1,0 +1,121 @@
+//! Where a run stands behind a read.
+ghost use Rattle.std.specs.Prelude.{◌≡◌, ◌+◌, ◌<◌, ◌≤◌, ◌^◌, length};
+ghost use Rattle.rescue_rules.specs.Passes.{numbered};
+ghost use Rattle.rescue_rules.specs.Machine.{pass_of, is_wanted};
+ghost use Rattle.rescue_rules.specs.Step.{Event, is_jump, cursor_after, mode_after, skip_after, step};
+ghost use Rattle.rescue_core.specs.RunState.{RunState, setting_in, IsSound};
+ghost use Rattle.rescue_core.specs.Turning.{turn_of};
+ghost use Rattle.rescue_core.specs.TurnParts.{RunsAt, IsReadOf, place_of};
+
+use crate::request::is_up;
+use crate::settings::Settings;
+use crate::state::Place;
+use crate::turn::Turn;
+use rescue_rules::phase::Phase;
+use rescue_rules::stop::TrimMode;
+use transfer_token::token::Request;
+
+/// Where a run stands behind a read, in a map of so many positions. `more` says whether the position behind the read is
+/// asked for.
+pub(crate) fn place_behind(
+    settings: &Settings,
+    phase: Phase,
+    place: Place,
+    top: u64,
+    request: Request,
+    turn: Turn,
+    more: bool,
+) -> Place
+    requires sound { IsSound settings.now }
+    requires skip { place.skip ≤ settings.now.skip_max }
+    requires within { request.pos + request.len ≤ top }
+    requires short { top < 2 ^ 63 }
+    ensures { (r : RunState) (e : Event) → RunsAt settings.now phase place r → IsReadOf request turn.given e.reading
+        → turn ≡ turn_of r e → length r.machine.map ≡ top
+        → more ≡ is_wanted (setting_in r) (step (setting_in r) r.machine e) (request.pos + request.len)
+        → result ≡ place_of place.pass (step (setting_in r) r.machine e) }
+{
+    let jumped = jumps(phase, place.pass, turn);
+    Place {
+        pass: place.pass,
+        cursor: cursor_behind(settings, phase, place, top, request, jumped),
+        mode: if phase == Phase::Trimming {
+            mode_behind(
+                place.mode,
+                turn.whole,
+                more,
+                request.pos,
+                request.pos + request.len as u64,
+            )
+        } else {
+            TrimMode::Lead
+        },
+        skip: skip_behind(settings, place.skip, jumped, turn),
+    }
+}
+
+/// The cursor behind a read.
+#[tactic(auto, using(crate::proofs::PlaceLemmas::cursor_is))]
+fn cursor_behind(
+    settings: &Settings,
+    phase: Phase,
+    place: Place,
+    top: u64,
+    request: Request,
+    jumped: bool,
+) -> u64
+    requires small { place.skip < 2 ^ 63 }
+    requires within { request.pos + request.len ≤ top }
+    requires short { top < 2 ^ 63 }
+    ensures { (r : RunState) (e : Event) → RunsAt settings.now phase place r → e.reading.pos ≡ request.pos
+        → e.reading.asked ≡ request.len → jumped ≡ is_jump (setting_in r) r.machine e → length r.machine.map ≡ top
+        → result ≡ cursor_after (setting_in r) r.machine e }
+{
+    let jump = if jumped { place.skip } else { 0 };
+    if phase == Phase::Trimming {
+        request.pos
+    } else if is_up(settings, place.pass) {
+        top.min(request.pos + request.len as u64 + jump)
+    } else {
+        request.pos.saturating_sub(jump)
+    }
+}
+
+/// How far copying jumps next.
+fn skip_behind(settings: &Settings, skip: u64, jumped: bool, turn: Turn) -> u64
+    requires small { skip < 2 ^ 63 }
+    ensures { (r : RunState) (e : Event) → r.settings ≡ settings.now → r.machine.skip ≡ skip → turn ≡ turn_of r e
+        → jumped ≡ is_jump (setting_in r) r.machine e → result ≡ skip_after (setting_in r) r.machine e }
+{
+    if jumped {
+        settings.skip_max.min(2 * skip)
+    } else if turn.whole && !turn.slow {
+        settings.skip
+    } else {
+        skip
+    }
+}
+
+/// Whether copying jumps behind a read.
+fn jumps(phase: Phase, pass: u32, turn: Turn) -> bool
+    ensures { (r : RunState) (e : Event) → pass_of r.machine ≡ numbered phase pass → turn ≡ turn_of r e
+        → result ≡ is_jump (setting_in r) r.machine e }
+{
+    let far = if turn.whole {
+        turn.slow && pass <= 2
+    } else {
+        pass <= 4
+    };
+    far && phase == Phase::Copying
+}
+
+/// The mode of trimming behind a read from one position up to another.
+fn mode_behind(mode: TrimMode, whole: bool, more: bool, from: u64, to: u64) -> TrimMode
+    ensures { result ≡ mode_after mode whole more from to }
+{
+    match (mode, whole) {
+        (TrimMode::Lead, false) if more => TrimMode::Tail(to),
+        (TrimMode::Tail(low), true) if low < from => TrimMode::Tail(low),
+        _ => TrimMode::Lead,
+    }
+}

@@ -1,0 +1,170 @@
+//! How a run comes to its next request: the direction of its pass, the search that it makes, and what that finds.
+ghost use Rattle.std.specs.Prelude.{◌≡◌, ℕ, ◌+◌, ◌<◌, ◌≤◌, ◌^◌, true, false, List, length, IfSome, IfNone};
+ghost use Rattle.block_list.specs.declared.block.Run.{Run};
+ghost use Rattle.block_list.specs.declared.status.Status.{Status};
+ghost use Rattle.save_resume.specs.MapNames.{MapNames};
+ghost use Rattle.rescue_domain.specs.Parts.{covers};
+ghost use Rattle.rescue_rules.specs.declared.phase.Phase.{Phase};
+ghost use Rattle.rescue_rules.specs.Passes.{taken, is_up, numbered};
+ghost use Rattle.rescue_rules.specs.Machine.{Machine, start_of, search_of, IsNextRun, is_ahead, cut_start, cut_end, IsRequest, has_request};
+ghost use Rattle.rescue_core.specs.RunState.{setting_with, IsSound};
+ghost use Rattle.rescue_core.specs.Search.{IsMarked};
+ghost use Rattle.rescue_core.specs.Requesting.{search_by, StandsAt};
+
+use crate::search::{find_down, find_up};
+use crate::settings::Settings;
+use crate::state::Place;
+use block_list::block::Run;
+use block_list::status::Status;
+use block_list::tiles::Tiles;
+use rescue_domain::domain::Domain;
+use rescue_rules::phase::Phase;
+use rescue_rules::stop::TrimMode;
+use transfer_token::token::Request;
+
+/// How a request is found. Sizes and positions are in bytes.
+#[derive(Clone, Copy, Debug, PartialEq, Eq)]
+struct Search {
+    /// Upwards: the first run at or behind `from`. Downwards: the last one that ends at or before it.
+    pub up: bool,
+    pub from: u64,
+    /// Whether it is cut from the run's front, or else from its back.
+    pub front: bool,
+    /// How much is asked for at most.
+    pub size: u64,
+}
+
+/// Whether a pass goes upwards.
+pub(crate) fn is_up(settings: &Settings, pass: u32) -> bool
+    ensures { (domain : List Run) (names : MapNames) (line : List ℕ) (phase : Phase)
+        → result ≡ is_up (setting_with settings.now domain names line) (numbered phase pass) }
+{
+    let odd = settings.one_way || pass % 2 == 1;
+    if settings.reverse { !odd } else { odd }
+}
+
+/// Where a pass begins in a map that ends at `end`.
+pub(crate) fn start_of(settings: &Settings, pass: u32, end: u64) -> u64
+    ensures { (domain : List Run) (names : MapNames) (line : List ℕ) (phase : Phase) (map : List Status) → length map ≡ end
+        → result ≡ start_of (setting_with settings.now domain names line) (numbered phase pass) map }
+{
+    if is_up(settings, pass) { 0 } else { end }
+}
+
+/// The status that a phase asks for.
+pub(crate) fn status_of(phase: Phase) -> Status
+    ensures { result ≡ taken phase }
+{
+    match phase {
+        Phase::Copying => Status::NonTried,
+        Phase::Trimming => Status::NonTrimmed,
+        Phase::Scraping => Status::NonScraped,
+        Phase::Retrying => Status::BadSector,
+    }
+}
+
+/// The search of a phase at a place, in a map that ends at `end`.
+fn search_at(settings: &Settings, phase: Phase, place: &Place, end: u64) -> Search
+    requires sound { IsSound settings.now }
+    ensures is { (domain : List Run) (names : MapNames) (line : List ℕ) (m : Machine) (map : List Status) → length map ≡ end
+        → StandsAt m phase place.now map → search_by result ≡ search_of (setting_with settings.now domain names line) m }
+    ensures least { settings.now.sector ≤ result.size }
+    ensures most { result.size ≤ settings.now.cluster }
+{
+    let up = is_up(settings, place.pass);
+    let size = settings.sector;
+    match phase {
+        Phase::Copying => Search {
+            up,
+            from: place.cursor,
+            front: up,
+            size: settings.cluster,
+        },
+        Phase::Trimming => match place.mode {
+            TrimMode::Lead => Search {
+                up,
+                from: start_of(settings, place.pass, end),
+                front: true,
+                size,
+            },
+            TrimMode::Tail(low) => Search {
+                up: true,
+                from: low,
+                front: false,
+                size,
+            },
+        },
+        Phase::Scraping | Phase::Retrying => Search {
+            up,
+            from: place.cursor,
+            front: up,
+            size,
+        },
+    }
+}
+
+/// The next run of positions of the domain that have a status, by a search.
+fn next_run<T: Tiles>(domain: &Domain, tiles: &T, search: Search, status: Status) -> Option<Run>
+    ensures run { IfSome result (λ run. IsNextRun search.up (IsMarked (covers domain.now) (T.statuses tiles.now) status)
+        search.from run.from run.to) }
+    ensures none { IfNone result ((x : ℕ) → is_ahead (search_by search) x ≡ true
+        → IsMarked (covers domain.now) (T.statuses tiles.now) status x → ⊥) }
+{
+    if search.up {
+        find_up(domain, tiles, search.from, status)
+    } else {
+        find_down(domain, tiles, search.from, status)
+    }
+}
+
+/// The part of a run that a search asks for.
+fn cut(search: Search, sector: u64, run: Run) -> Request
+    requires sector { 0 < sector }
+    requires least { sector ≤ search.size }
+    requires most { search.size ≤ 16777216 }
+    requires some { run.from < run.to }
+    requires short { run.to < 2 ^ 63 }
+    ensures starts { result.pos ≡ cut_start (search_by search) sector run.from run.to }
+    ensures ends { result.pos + result.len ≡ cut_end (search_by search) sector run.from run.to }
+    ensures some { 0 < result.len }
+    ensures few { result.len ≤ search.size }
+    ensures within { result.pos + result.len ≤ run.to }
+    ensures short { result.pos + result.len < 2 ^ 63 }
+{
+    let (pos, end) = if search.front {
+        let boundary = (run.from + search.size) / sector * sector;
+        (run.from, run.to.min(boundary))
+    } else {
+        let boundary = (run.to.saturating_sub(search.size) + (sector - 1)) / sector * sector;
+        (run.from.max(boundary), run.to)
+    };
+    Request {
+        pos,
+        len: (end - pos) as usize,
+    }
+}
+
+/// The next request of a phase at a place, of a machine that stands there.
+pub(crate) fn next_request<T: Tiles>(
+    settings: &Settings,
+    domain: &Domain,
+    tiles: &T,
+    phase: Phase,
+    place: &Place,
+) -> Option<Request>
+    requires sound { IsSound settings.now }
+    ensures some { IfSome result (λ q. (names : MapNames) (line : List ℕ) (m : Machine)
+        → StandsAt m phase place.now (T.statuses tiles.now)
+        → IsRequest (setting_with settings.now domain.now names line) m q.pos (q.pos + q.len)) }
+    ensures none { IfNone result ((names : MapNames) (line : List ℕ) (m : Machine)
+        → StandsAt m phase place.now (T.statuses tiles.now)
+        → has_request (setting_with settings.now domain.now names line) m ≡ false) }
+    ensures len { IfSome result (λ q. 0 < q.len) }
+    ensures most { IfSome result (λ q. q.len ≤ settings.now.cluster) }
+    ensures within { IfSome result (λ q. q.pos + q.len ≤ length (T.statuses tiles.now)) }
+    ensures short { IfSome result (λ q. q.pos + q.len < 2 ^ 63) }
+{
+    let search = search_at(settings, phase, place, tiles.end());
+    let run = next_run(domain, tiles, search, status_of(phase))?;
+    Some(cut(search, settings.sector, run))
+}

@@ -1,0 +1,337 @@
+ghost use Rattle.std.specs.Prelude.{◌≡◌, ◌+◌, ◌<◌, ◌≤◌, ◌^◌, true, false, Some, None, length, slice_get, IfOk, IfErr, IfSome, IfNone, OnOk};
+ghost use Rattle.faulty_source.specs.SourceState.{Stays as SourceStays};
+ghost use Rattle.crash_site.specs.SiteState.{Keeps as SiteKeeps};
+ghost use Rattle.rescue_console.specs.ClockState.{Keeps as ClockKeeps};
+ghost use Rattle.mapfile_text.specs.declared.heading.Program.TheVariants.{Ddrescue};
+ghost use Rattle.rescue_rules.specs.Passes.{numbered};
+ghost use Rattle.rescue_rules.specs.Machine.{IsRequest, has_request};
+ghost use Rattle.rescue_core.specs.RunState.{setting_in, IsRunning, IsSound, Suits, HasPlaces, started, passed, showing};
+ghost use Rattle.rescue_domain.specs.Parts.{covers};
+ghost use Rattle.rescue_core.specs.Turning.{Turned, Halted};
+ghost use Rattle.rescue_core.specs.Closing.{Closes, MayClose, Saves, drafting_after};
+
+use crate::closing::{end_saved, last_shown};
+use crate::gather::{Gathered, gather};
+use crate::mark::mark;
+use crate::place::place_behind;
+use crate::request::next_request;
+use crate::save_now::save_now;
+use crate::settings::Settings;
+use crate::state::{Place, Tally};
+use crate::tally::{is_due, shown_at, tally_behind};
+use crate::turn::Turn;
+use crate::wanted::is_wanted;
+use block_list::tiles::{NoMemory, Tiles};
+use crash_site::site::Site;
+use faulty_source::source::Source;
+use mapfile_text::heading::Heading;
+use mapfile_text::state::MapState;
+use rescue_console::clock::Clock;
+use rescue_console::console::Console;
+use rescue_domain::domain::Domain;
+use rescue_rules::phase::Phase;
+use rescue_rules::stop::{RunEnd, Stop, TrimMode};
+use save_resume::draft::SaveFault;
+use save_resume::names::Names;
+use save_resume::save::save;
+use std::alloc::Global;
+use std::marker::Model;
+use transfer_token::token::Request;
+
+/// How many blocks the marks of a turn may add to the map.
+const MOST_NEW_BLOCKS: usize = 6;
+
+/// A run of a rescue between its turns, whatever its phase.
+#[derive(Drop)]
+pub(crate) struct Running<T: Tiles> {
+    settings: Settings,
+    domain: Domain,
+    tiles: T,
+    buf: Vec<u8>,
+    names: Names,
+    heading: Heading,
+    phase: Phase,
+    place: Place,
+    tally: Tally,
+}
+
+impl<T: Tiles> Model for Running<T> {
+    ghost use Rattle.std.specs.Prelude.{◌≡◌, length};
+    ghost use Rattle.mapfile_text.specs.declared.heading.Program.TheVariants.{Ddrescue};
+    ghost use Rattle.rescue_core.specs.RunState.{RunState, run_at, IsRunning};
+
+    ghost Value = { RunState };
+
+    ghost view = { λ r. run_at r.settings r.domain r.names r.heading.line (T.statuses r.tiles) r.phase r.place r.tally };
+
+    ghost invariant = { λ r. IsRunning (run_at r.settings r.domain r.names r.heading.line (T.statuses r.tiles) r.phase
+        r.place r.tally) (length r.buf.items) × (r.heading.program ≡ Ddrescue) };
+}
+
+impl<T: Tiles> Running<T> {
+    /// A run that begins with copying: in its first pass, or where it was in the pass of a state that a mapfile showed. It
+    /// takes memory for a cluster.
+    pub fn start(
+        alloc: Global,
+        settings: Settings,
+        domain: Domain,
+        tiles: T,
+        loaded: Option<MapState>,
+        names: Names,
+        heading: Heading,
+        moment: u64,
+    ) -> Result<Running<T>, NoMemory>
+        requires sound { IsSound settings }
+        requires suits { Suits settings (covers domain) (length (T.statuses tiles)) }
+        requires short { length (T.statuses tiles) < 2 ^ 63 }
+        requires program { heading.program ≡ Ddrescue }
+        requires pos { IfSome loaded (λ state. state.pos < 2 ^ 63) }
+        requires pass { IfSome loaded (λ state. 0 < state.pass) }
+        ensures { IfOk result (λ r. r ≡ started settings domain names heading.line (T.statuses tiles) loaded moment) }
+    {
+        let Ok(buf) = vec![in alloc; 0; settings.cluster as usize] else {
+            return Err(NoMemory);
+        };
+        let place = Place::first(&settings, loaded, tiles.end());
+        Ok(Running {
+            settings,
+            domain,
+            tiles,
+            buf,
+            names,
+            heading,
+            phase: Phase::Copying,
+            place,
+            tally: Tally::first(loaded, moment),
+        })
+    }
+
+    pub fn settings(&self) -> &Settings
+        ensures { result.now ≡ self.now.settings }
+    {
+        &self.settings
+    }
+
+    pub fn domain(&self) -> &Domain
+        ensures { result.now ≡ self.now.domain }
+    {
+        &self.domain
+    }
+
+    pub fn tiles(&self) -> &T
+        ensures { T.statuses result.now ≡ self.now.machine.map }
+    {
+        &self.tiles
+    }
+
+    /// How many bytes it asks for at once at most.
+    pub fn room(&self) -> usize
+        ensures { IsRunning self.now result }
+    {
+        self.buf.len()
+    }
+
+    pub fn cursor(&self) -> u64
+        ensures { result ≡ self.now.machine.cursor }
+    {
+        self.place.cursor
+    }
+
+    pub fn phase(&self) -> Phase
+        ensures { result ≡ self.now.phase }
+    {
+        self.phase
+    }
+
+    pub fn pass(&self) -> u32
+        ensures { result ≡ self.now.pass }
+    {
+        self.place.pass
+    }
+
+    pub fn mode(&self) -> TrimMode
+        ensures { result ≡ self.now.machine.mode }
+    {
+        self.place.mode
+    }
+
+    /// The next request of this pass.
+    pub fn next_request(&self) -> Option<Request>
+        ensures some { IfSome result (λ q. IsRequest (setting_in self.now) self.now.machine q.pos (q.pos + q.len)) }
+        ensures none { IfNone result (has_request (setting_in self.now) self.now.machine ≡ false) }
+        ensures len { IfSome result (λ q. 0 < q.len) }
+        ensures most { IfSome result (λ q. q.len ≤ self.now.settings.cluster) }
+        ensures within { IfSome result (λ q. q.pos + q.len ≤ length self.now.machine.map) }
+        ensures short { IfSome result (λ q. q.pos + q.len < 2 ^ 63) }
+    {
+        next_request(
+            &self.settings,
+            &self.domain,
+            &self.tiles,
+            self.phase,
+            &self.place,
+        )
+    }
+
+    /// Goes on to the next pass.
+    pub fn begin_pass(&mut self, phase: Phase, pass: u32)
+        requires next { slice_get self.old.machine.passes 1 ≡ Some (numbered phase pass) }
+        requires spent { has_request (setting_in self.old) self.old.machine ≡ false }
+        ensures { self.new ≡ passed self.old phase pass }
+    {
+        self.phase = phase;
+        self.place = Place::at_start(&self.settings, pass, self.tiles.end());
+    }
+
+    /// Shows a state until the first event.
+    pub fn show_loaded(&mut self, state: MapState)
+        requires pos { state.pos < 2 ^ 63 }
+        requires pass { 0 < state.pass }
+        ensures { self.new ≡ showing self.old state }
+    {
+        self.tally.shown = state;
+    }
+
+    /// One turn: room in the map, a reading of the clock, the read, another reading, the write of what was kept, the marks,
+    /// and the save if one is due.
+    pub fn turn<S: Source, D: Site, K: Clock, C: Console>(
+        &mut self,
+        request: Request,
+        source: &mut S,
+        site: &mut D,
+        clock: &mut K,
+        console: &mut C,
+    ) -> Result<Turn, Stop>
+        requires request { IsRequest (setting_in self.old) self.old.machine request.pos (request.pos + request.len) }
+        requires places { HasPlaces self.old.settings (covers self.old.domain) }
+        requires input { (S.state source.old).is_open ≡ true }
+        requires image { (D.state site.old).is_open ≡ true }
+        requires no_draft { (D.state site.old).is_drafting ≡ false }
+        ensures turned { IfOk result (λ turn. Turned request turn self.old self.new (S.state source.old) (S.state source.new)
+            (D.state site.old) (D.state site.new) (K.state clock.old) (K.state clock.new)) }
+        ensures halted { IfErr result (λ stop. Halted request stop self.old self.new (S.state source.old)
+            (S.state source.new) (D.state site.old) (D.state site.new) (K.state clock.old) (K.state clock.new)) }
+        ensures draft { OnOk result ((D.state site.new).is_drafting ≡ false) }
+        ensures draft_left { IfErr result (λ stop. (D.state site.new).is_drafting ≡ drafting_after stop) }
+        ensures image { (D.state site.new).is_open ≡ true }
+        ensures source { SourceStays (S.state source.old) (S.state source.new) }
+        ensures site { SiteKeeps (D.state site.old) (D.state site.new) }
+        ensures clock { ClockKeeps (K.state clock.old) (K.state clock.new) }
+        ensures console { C.state console.new ≡ C.state console.old }
+    {
+        if self.tiles.reserve(MOST_NEW_BLOCKS).is_err() {
+            return Err(Stop::NoMemory);
+        }
+        let Gathered { kept, turn, after } = gather(
+            request,
+            &self.settings,
+            &mut self.buf,
+            source,
+            site,
+            clock,
+        )?;
+        mark(
+            &mut self.tiles,
+            kept,
+            request,
+            &self.settings,
+            self.phase,
+            self.place,
+        );
+        let end = request.pos + request.len as u64;
+        let more = is_wanted(&self.domain, &self.tiles, self.phase, end);
+        self.place = place_behind(
+            &self.settings,
+            self.phase,
+            self.place,
+            self.tiles.end(),
+            request,
+            turn,
+            more,
+        );
+        let due = is_due(self.tally, after);
+        self.tally = tally_behind(
+            self.tally,
+            turn.whole,
+            after,
+            shown_at(self.phase, self.place),
+        );
+        if due {
+            let saved = save_now(
+                site,
+                &self.names,
+                &mut self.heading,
+                &self.tiles,
+                self.tally,
+            );
+            if let Err(SaveFault { call }) = saved {
+                return Err(Stop::Site(call));
+            }
+        }
+        Ok(turn)
+    }
+
+    /// Saves the map at the run's end, which is finished where it has no stop.
+    pub fn close<D: Site, C: Console>(
+        self,
+        stop: Option<Stop>,
+        site: &mut D,
+        console: &mut C,
+    ) -> RunEnd
+        requires no_draft { MayClose stop (D.state site.old) }
+        ensures closes { Closes stop self result (D.state site.old) (D.state site.new) }
+        ensures site { SiteKeeps (D.state site.old) (D.state site.new) }
+        ensures console { C.state console.new ≡ C.state console.old }
+    {
+        match stop {
+            None => self.save_last(None, site),
+            Some(stop) => self.close_stopped(stop, site),
+        }
+    }
+
+    /// Behind a call on the files that failed it makes no further one.
+    fn close_stopped<D: Site>(self, stop: Stop, site: &mut D) -> RunEnd
+        requires no_draft { MayClose (Some stop) (D.state site.old) }
+        ensures closes { Closes (Some stop) self result (D.state site.old) (D.state site.new) }
+        ensures site { SiteKeeps (D.state site.old) (D.state site.new) }
+    {
+        match stop {
+            Stop::SourceLost => self.save_last(Some(stop), site),
+            Stop::Site(_) => RunEnd::Stopped(stop),
+            Stop::NoMemory => self.save_last(Some(stop), site),
+        }
+    }
+
+    /// Saves the map behind whatever else has stopped it, or at its end.
+    fn save_last<D: Site>(self, stop: Option<Stop>, site: &mut D) -> RunEnd
+        requires no_draft { (D.state site.old).is_drafting ≡ false }
+        ensures saves { Saves stop self result (D.state site.old) (D.state site.new) }
+        ensures site { SiteKeeps (D.state site.old) (D.state site.new) }
+    {
+        let Running {
+            settings: _,
+            domain: _,
+            tiles,
+            buf: _,
+            names,
+            mut heading,
+            phase: _,
+            place: _,
+            tally,
+        } = self;
+        heading.set_times(tally.began / 1000, tally.now / 1000);
+        match save(
+            site,
+            &names,
+            last_shown(tally.shown, stop),
+            &tiles,
+            &heading,
+        ) {
+            Ok(_saved) => end_saved(stop),
+            Err(fault) => RunEnd::SaveFailed {
+                call: fault.call,
+                earlier: stop,
+            },
+        }
+    }
+}

@@ -1,0 +1,116 @@
+use crate::request::start_of;
+use crate::settings::Settings;
+use mapfile_text::state::{Current, MapState};
+use rescue_rules::stop::TrimMode;
+
+/// How many times copying goes over the input.
+const COPYING_PASSES: u32 = 5;
+
+/// Where a run stands in its map.
+#[derive(Clone, Copy, Debug, PartialEq, Eq)]
+pub(crate) struct Place {
+    /// The pass, counted from 1 within its phase.
+    pub pass: u32,
+    pub cursor: u64,
+    pub mode: TrimMode,
+    /// How far copying jumps next.
+    pub skip: u64,
+}
+
+impl Place {
+    ghost use Rattle.std.specs.Prelude.{◌≡◌, ℕ, List, length};
+    ghost use Rattle.block_list.specs.declared.block.Run.{Run};
+    ghost use Rattle.block_list.specs.declared.status.Status.{Status};
+    ghost use Rattle.save_resume.specs.MapNames.{MapNames};
+    ghost use Rattle.rescue_rules.specs.declared.phase.Phase.{Phase};
+    ghost use Rattle.rescue_rules.specs.declared.stop.TrimMode.TheVariants.{Lead};
+    ghost use Rattle.rescue_rules.specs.Passes.{numbered};
+    ghost use Rattle.rescue_rules.specs.Machine.{start_of};
+    ghost use Rattle.rescue_rules.specs.Beginning.{first_pass, first_cursor};
+    ghost use Rattle.rescue_core.specs.RunState.{setting_with};
+
+    /// The start of a pass over a map that ends at `end`.
+    pub fn at_start(settings: &Settings, pass: u32, end: u64) -> Place
+        ensures pass { result.pass ≡ pass }
+        ensures cursor { (domain : List Run) (names : MapNames) (line : List ℕ) (phase : Phase) (map : List Status)
+            → length map ≡ end
+            → result.cursor ≡ start_of (setting_with settings.now domain names line) (numbered phase pass) map }
+        ensures mode { result.mode ≡ Lead }
+        ensures skip { result.skip ≡ settings.now.skip }
+    {
+        Place {
+            pass,
+            cursor: start_of(settings, pass, end),
+            mode: TrimMode::Lead,
+            skip: settings.skip,
+        }
+    }
+
+    /// Where a run over a map that ends at `end` begins, which may go on from a state that a mapfile showed.
+    pub fn first(settings: &Settings, loaded: Option<MapState>, end: u64) -> Place
+        ensures pass { result.pass ≡ first_pass loaded }
+        ensures cursor { (domain : List Run) (names : MapNames) (line : List ℕ) (map : List Status) → length map ≡ end
+            → result.cursor ≡ first_cursor (setting_with settings.now domain names line) loaded map }
+        ensures mode { result.mode ≡ Lead }
+        ensures skip { result.skip ≡ settings.now.skip }
+    {
+        let Some(state) = loaded else {
+            return Place::at_start(settings, 1, end);
+        };
+        let pass = state.pass.min(COPYING_PASSES);
+        let place = Place::at_start(settings, pass, end);
+        if pass == COPYING_PASSES {
+            place
+        } else {
+            Place {
+                cursor: state.pos.min(end),
+                ..place
+            }
+        }
+    }
+}
+
+/// What a run has come to. Times are in milliseconds since 1970.
+#[derive(Clone, Copy, Debug, PartialEq, Eq)]
+pub(crate) struct Tally {
+    /// How many reads failed.
+    pub failed: u64,
+    /// The start, the last event, the last whole read and the last save that was due.
+    pub began: u64,
+    pub now: u64,
+    pub whole_at: u64,
+    pub due_at: u64,
+    /// What a saved mapfile shows.
+    pub shown: MapState,
+}
+
+impl Tally {
+    ghost use Rattle.std.specs.Prelude.{◌≡◌};
+    ghost use Rattle.rescue_core.specs.RunState.{first_shown};
+
+    /// That of a run which begins at this moment, and may go on from a state that a mapfile showed.
+    pub fn first(loaded: Option<MapState>, moment: u64) -> Tally
+        ensures { result ≡ record {
+          failed = 0;
+          began = moment;
+          now = moment;
+          whole_at = moment;
+          due_at = moment;
+          shown = first_shown loaded;
+        } }
+    {
+        let nothing = MapState {
+            pos: 0,
+            current: Current::Copying,
+            pass: 1,
+        };
+        Tally {
+            failed: 0,
+            began: moment,
+            now: moment,
+            whole_at: moment,
+            due_at: moment,
+            shown: loaded.unwrap_or(nothing),
+        }
+    }
+}

@@ -1,0 +1,20 @@
+-- The domain of a rescue: a set of positions, by a test whether a position is in it.
+use Rattle.std.specs.Prelude.{◌≡◌, ℕ, ◌+◌, ◌<◌, Bool, true, ◌&&◌, nat_lt, nat_le, Option, Some, None, count_by}
+use Rattle.std.specs.List.{range_with_len}
+
+-- a position is in the set
+abbrev pub IsIn : (ℕ → Bool) → ℕ → Type 0
+IsIn domain x = domain x ≡ true
+
+-- x lies below the end of so many positions from pos on, if their number is given
+abbrev pub is_below : ℕ → Option ℕ → ℕ → Bool
+is_below pos None x = true
+is_below pos (Some size) x = nat_lt x (pos + size)
+
+-- the positions from pos on, so many if that is given, below a limit
+abbrev pub whole_domain : ℕ → Option ℕ → ℕ → ℕ → Bool
+whole_domain pos size limit x = nat_le pos x && is_below pos size x && nat_lt x limit
+
+-- n is the number of positions of the set: that of those below any end that lies behind all of them
+pub record IsSize (domain : ℕ → Bool) (n : ℕ) : Type 0 where
+  pub counts : (end : ℕ) → ((x : ℕ) → IsIn domain x → x < end) → n ≡ count_by domain (range_with_len 0 end)

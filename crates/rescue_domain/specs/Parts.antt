@@ -1,0 +1,13 @@
+-- How a domain is kept: as intervals of positions.
+use Rattle.std.specs.Prelude.{ℕ, ◌+◌, ◌<◌, ◌≤◌, Bool, false, ◌&&◌, ◌||◌, nat_lt, nat_le, List, [], ◌∷◌}
+use Rattle.block_list.specs.declared.block.Run.{Run}
+
+-- one of the intervals has x
+abbrev pub covers : List Run → ℕ → Bool
+covers [] x = false
+covers (part ∷ parts) x = (nat_le part.from x && nat_lt x part.to) || covers parts x
+
+-- the intervals ascend from low on, none is empty, and between each two lies a gap
+abbrev pub AreParts : ℕ → List Run → Type 0
+AreParts low [] = Unit {0}
+AreParts low (part ∷ parts) = (low ≤ part.from) × (part.from < part.to) × AreParts (part.to + 1) parts

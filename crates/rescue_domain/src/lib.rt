@@ -1,0 +1,4 @@
+//! The positions that a rescue asks for.
+#![tactic(auto)]
+
+pub mod domain;

@@ -1,0 +1,48 @@
+-- The state in which a run begins.
+use Rattle.std.specs.Prelude.{ℕ, min, nat_eq, List, length, Option, Some, None, if◌then◌else◌}
+use Rattle.block_list.specs.declared.status.Status.{Status}
+use Rattle.mapfile_text.specs.declared.state.MapState.{MapState}
+use Rattle.mapfile_text.specs.declared.state.Current.TheVariants.{Copying as NowCopying}
+use Rattle.rescue_rules.specs.declared.stop.TrimMode.TheVariants.{Lead}
+use Rattle.rescue_rules.specs.Setting.{Setting}
+use Rattle.rescue_rules.specs.declared.phase.Phase.TheVariants.{Copying}
+use Rattle.rescue_rules.specs.Passes.{copying_passes, passes_from, numbered}
+use Rattle.rescue_rules.specs.Machine.{Machine, start_of}
+
+-- the first pass of copying, and its cursor, where copying goes on from a state that a mapfile showed; the last pass always
+-- begins at its own start
+abbrev pub first_pass : Option MapState → ℕ
+first_pass None = 1
+first_pass (Some state) = min state.pass copying_passes
+
+abbrev pub first_cursor : Setting → Option MapState → List Status → ℕ
+first_cursor s None map = start_of s (numbered Copying 1) map
+first_cursor s (Some state) map =
+    if nat_eq (min state.pass copying_passes) copying_passes then start_of s (numbered Copying copying_passes) map
+    else min state.pos (length map)
+
+-- what a mapfile shows of a rescue that has done nothing
+abbrev pub nothing_shown : MapState
+nothing_shown = record { pos = 0; current = NowCopying; pass = 1 }
+
+-- what it shows at first: the state that its mapfile showed, if there is one
+abbrev pub shown_at_first : Option MapState → MapState
+shown_at_first None = nothing_shown
+shown_at_first (Some state) = state
+
+-- a run over a map, at this time, that goes on from such a state if there is one; what a mapfile showed stands until the first
+-- event
+abbrev pub machine_of : Setting → List Status → (from : Option MapState) → (shown : MapState) → (time : ℕ) → Machine
+machine_of s map from shown time = record {
+  map = map;
+  passes = passes_from s Copying (first_pass from);
+  cursor = first_cursor s from map;
+  mode = Lead;
+  skip = s.skip;
+  failed = 0;
+  began = time;
+  now = time;
+  whole_at = time;
+  due_at = time;
+  shown = shown;
+}

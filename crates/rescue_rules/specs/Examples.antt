@@ -1,0 +1,69 @@
+-- Small runs, computed.
+use Rattle.std.specs.Prelude.{◌≡◌, ℕ, ◌+◌, true, false, nat_lt, List, [], ◌∷◌, map, replicate, None}
+use Rattle.block_list.specs.declared.status.Status.TheVariants.{NonTried, BadSector, Finished}
+use Rattle.rescue_rules.specs.Setting.{Setting}
+use Rattle.rescue_rules.specs.declared.phase.Phase.TheVariants.{Copying}
+use Rattle.rescue_rules.specs.Passes.{Pass, numbered}
+use Rattle.rescue_rules.specs.Machine.{Machine, pass_of}
+use Rattle.rescue_rules.specs.Step.{Event}
+use Rattle.rescue_rules.specs.Moves.{moves, state_after}
+use Rattle.rescue_rules.specs.Beginning.{nothing_shown, machine_of}
+
+-- a rescue of so many bytes by sectors of two bytes
+abbrev pub small : (end cluster skip : ℕ) → Setting
+small end cluster skip = record {
+  infile = 105 ∷ [];
+  outfile = 111 ∷ [];
+  names = record { map = 109 ∷ []; draft = 100 ∷ [] };
+  line = [];
+  end = end;
+  domain = λ x. nat_lt x end;
+  from = 0;
+  to = 0;
+  sector = 2;
+  cluster = cluster;
+  skip = skip;
+  skip_max = skip + skip;
+  min_rate = 0;
+  trims = true;
+  scrapes = true;
+  retries = 0;
+  reverse = false;
+  one_way = false;
+  max_errors = None;
+  timeout = None;
+}
+
+abbrev pub small_start : (end cluster skip : ℕ) → Machine
+small_start end cluster skip = machine_of (small end cluster skip) (replicate end NonTried) None nothing_shown 0
+
+-- a read of so many bytes that gave so many
+abbrev pub event : (pos asked given : ℕ) → Event
+event pos asked given =
+    record { reading = record { pos = pos; asked = asked; given = replicate given 7 }; before = 0; after = 0 }
+
+-- the pass of each event and the cursor behind it
+abbrev pub trail : Setting → Machine → List Event → List (Pass × ℕ)
+trail s m events = map (λ v. (pass_of v.before, v.after.cursor)) (moves s m events)
+
+-- a bad sector in the middle: copying finds it, and trimming takes its run from the front and then from the back
+abbrev pub trimmed : List Event
+trimmed = event 0 6 2 ∷ event 2 2 0 ∷ event 4 2 2 ∷ []
+
+abbrev pub TrimsFrontAndBack : Type 0
+TrimsFrontAndBack =
+    (state_after (small 6 128 0) (small_start 6 128 0) trimmed).map
+    ≡ Finished ∷ Finished ∷ BadSector ∷ BadSector ∷ Finished ∷ Finished ∷ []
+
+-- bad sectors 0 and 3 of 16: the first pass jumps behind each, by two sectors and then by four, and the second comes
+-- back for what was jumped over
+abbrev pub jumping : List Event
+jumping = event 0 2 0 ∷ event 6 2 0 ∷ event 16 2 2 ∷ event 18 2 2 ∷ event 20 2 2 ∷ event 22 2 2 ∷ event 24 2 2
+    ∷ event 26 2 2 ∷ event 28 2 2 ∷ event 30 2 2 ∷ event 14 2 2 ∷ event 12 2 2 ∷ []
+
+abbrev pub JumpsAndComesBack : Type 0
+JumpsAndComesBack =
+    trail (small 32 2 4) (small_start 32 2 4) jumping
+    ≡ (numbered Copying 1, 6) ∷ (numbered Copying 1, 16) ∷ (numbered Copying 1, 18) ∷ (numbered Copying 1, 20)
+    ∷ (numbered Copying 1, 22) ∷ (numbered Copying 1, 24) ∷ (numbered Copying 1, 26) ∷ (numbered Copying 1, 28)
+    ∷ (numbered Copying 1, 30) ∷ (numbered Copying 1, 32) ∷ (numbered Copying 2, 14) ∷ (numbered Copying 2, 12) ∷ []

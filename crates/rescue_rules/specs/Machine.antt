@@ -1,0 +1,100 @@
+-- Where a rescue stands, and what it asks for there.
+use Rattle.std.specs.Prelude.{◌≡◌, ℕ, ◌+◌, ◌-◌, ◌*◌, ◌/◌, min, max, Bool, true, false, ◌&&◌, nat_le, nat_lt, List, [], ◌∷◌, length, slice_get, slice_index_or, Option, Some, None, if◌then◌else◌}
+use Rattle.std.specs.List.{list_any, range_with_len}
+use Rattle.block_list.specs.declared.status.Status.{Status}
+use Rattle.block_list.specs.Status.{same}
+use Rattle.block_list.specs.Places.{IsFirst, IsLast, IsRunUp, IsRunDown}
+use Rattle.mapfile_text.specs.declared.state.MapState.{MapState}
+use Rattle.faulty_source.specs.Journal.{floor}
+use Rattle.rescue_rules.specs.declared.stop.TrimMode.{TrimMode}
+use Rattle.rescue_rules.specs.declared.stop.TrimMode.TheVariants.{Lead, Tail}
+use Rattle.rescue_rules.specs.Setting.{Setting}
+use Rattle.rescue_rules.specs.declared.phase.Phase.{Phase}
+use Rattle.rescue_rules.specs.declared.phase.Phase.TheVariants.{Copying, Trimming, Scraping, Retrying}
+use Rattle.rescue_rules.specs.Passes.{Pass, taken, is_up, numbered}
+
+pub record Machine : Type 0 where
+  pub map : List Status
+  -- the pass that it is in, and those behind it
+  pub passes : List Pass
+  pub cursor : ℕ
+  pub mode : TrimMode
+  pub skip : ℕ
+  -- how many reads failed; the times of the start, of the last event, of the last whole read and of the last due save
+  pub failed : ℕ
+  pub began : ℕ
+  pub now : ℕ
+  pub whole_at : ℕ
+  pub due_at : ℕ
+  -- where a mapfile would say that it stands
+  pub shown : MapState
+
+-- the pass that it is in
+abbrev pub pass_of : Machine → Pass
+pass_of m = slice_index_or m.passes 0 (numbered Copying 1)
+
+-- where a pass over a map begins
+abbrev pub start_of : Setting → Pass → List Status → ℕ
+start_of s p map = if is_up s p then 0 else length map
+
+-- a pass asks for positions of the domain with its phase's status
+abbrev pub has_taken : List Pass → Option Status → Bool
+has_taken [] status = false
+has_taken (p ∷ ps) None = false
+has_taken (p ∷ ps) (Some status) = same status (taken p.phase)
+
+abbrev pub is_wanted : Setting → Machine → ℕ → Bool
+is_wanted s m x = s.domain x && has_taken m.passes (slice_get m.map x)
+
+abbrev pub IsWanted : Setting → Machine → ℕ → Type 0
+IsWanted s m x = is_wanted s m x ≡ true
+
+-- How a request is found: upwards or downwards, from where, cut from the front of the run that is found or from its
+-- back, and how long at most
+pub record Search : Type 0 where
+  pub up : Bool
+  pub from : ℕ
+  pub front : Bool
+  pub size : ℕ
+
+-- Trimming takes the front of a run, and then the back of the same run; all else goes on from the cursor.
+abbrev pub search_in : Setting → Machine → Phase → TrimMode → Search
+search_in s m Copying mode = record { up = is_up s (pass_of m); from = m.cursor; front = is_up s (pass_of m); size = s.cluster }
+search_in s m Trimming Lead = record { up = is_up s (pass_of m); from = start_of s (pass_of m) m.map; front = true; size = s.sector }
+search_in s m Trimming (Tail low) = record { up = true; from = low; front = false; size = s.sector }
+search_in s m Scraping mode = record { up = is_up s (pass_of m); from = m.cursor; front = is_up s (pass_of m); size = s.sector }
+search_in s m Retrying mode = record { up = is_up s (pass_of m); from = m.cursor; front = is_up s (pass_of m); size = s.sector }
+
+abbrev pub search_of : Setting → Machine → Search
+search_of s m = search_in s m (pass_of m).phase m.mode
+
+-- upwards the first run of wanted positions at or behind a place; downwards the last one that ends there or before
+abbrev pub IsNextRun : (up : Bool) → (ℕ → Type 0) → ℕ → (start end : ℕ) → Type 0
+IsNextRun true P from start end = IsFirst P from start × IsRunUp P start end
+IsNextRun false P from start end = IsLast P from end × IsRunDown P start end
+
+-- x rounded up to a multiple of b
+abbrev pub ceiling : ℕ → ℕ → ℕ
+ceiling b x = (x + (b - 1)) / b * b
+
+-- at most so many bytes of a run, up to a sector's boundary: from its front, or from its back
+abbrev pub cut_start : Search → (sector start end : ℕ) → ℕ
+cut_start f sector start end = if f.front then start else max start (ceiling sector (end - f.size))
+
+abbrev pub cut_end : Search → (sector start end : ℕ) → ℕ
+cut_end f sector start end = if f.front then min end (floor sector (start + f.size)) else end
+
+-- the request, from p up to q
+pub record IsRequest (s : Setting) (m : Machine) (p q : ℕ) : Type 0 where
+  pub start : ℕ
+  pub end : ℕ
+  pub run : IsNextRun (search_of s m).up (IsWanted s m) (search_of s m).from start end
+  pub starts : p ≡ cut_start (search_of s m) s.sector start end
+  pub ends : q ≡ cut_end (search_of s m) s.sector start end
+
+-- there is one: a wanted position lies ahead
+abbrev pub is_ahead : Search → ℕ → Bool
+is_ahead f x = if f.up then nat_le f.from x else nat_lt x f.from
+
+abbrev pub has_request : Setting → Machine → Bool
+has_request s m = list_any (λ x. is_wanted s m x && is_ahead (search_of s m) x) (range_with_len 0 (length m.map))

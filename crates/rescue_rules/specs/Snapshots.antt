@@ -1,0 +1,48 @@
+-- What a rescue saves, and when.
+use Rattle.std.specs.Prelude.{ℕ, ◌/◌, Bool, ◌&&◌, is_none, List, [], ◌∷◌, ◌++◌, map, filter, if◌then◌else◌}
+use Rattle.block_list.specs.declared.status.Status.{Status}
+use Rattle.mapfile_text.specs.declared.heading.Program.TheVariants.{Ddrescue}
+use Rattle.mapfile_text.specs.declared.state.Current.TheVariants.{Finished}
+use Rattle.mapfile_text.specs.declared.state.MapState.{MapState}
+use Rattle.mapfile_text.specs.HeadingLines.{HeadingLines}
+use Rattle.mapfile_text.specs.Printed.{printed}
+use Rattle.rescue_rules.specs.Setting.{Setting}
+use Rattle.rescue_rules.specs.Machine.{Machine}
+use Rattle.rescue_rules.specs.Step.{Event, is_timely, limit}
+use Rattle.rescue_rules.specs.Moves.{Move, moves, state_after, is_over}
+
+-- what a saved mapfile says: a map, where the rescue stood, and the times of the start and of the last event
+pub record Snapshot : Type 0 where
+  pub map : List Status
+  pub shown : MapState
+  pub began : ℕ
+  pub now : ℕ
+
+-- the heading of a rescue's mapfile, with these times in whole seconds
+abbrev pub heading_at : List ℕ → (began now : ℕ) → HeadingLines
+heading_at line began now = record { program = Ddrescue; line = line; start_s = began / 1000; now_s = now / 1000 }
+
+-- the text of a saved mapfile
+abbrev pub text_of : List ℕ → Snapshot → List ℕ
+text_of line p = printed (heading_at line p.began p.now) p.shown p.map
+
+-- what a save shows of a state
+abbrev pub snapshot : Machine → Snapshot
+snapshot m = record { map = m.map; shown = m.shown; began = m.began; now = m.now }
+
+-- a save is due after an event that comes long enough after the last due one, and meets no limit
+abbrev pub is_due : Setting → Move → Bool
+is_due s v = is_timely v.before v.event && is_none (limit s v.after)
+
+-- a finished run says so
+abbrev pub finished_snapshot : Machine → Snapshot
+finished_snapshot m = record (snapshot m) { shown = record m.shown { current = Finished; pass = 1 } }
+
+-- what the run's end saves
+abbrev pub last_snapshot : Setting → Machine → Snapshot
+last_snapshot s m = if is_over s m then finished_snapshot m else snapshot m
+
+-- what a run saves, in order: the due saves, and one at its end
+abbrev pub snapshots : Setting → Machine → List Event → List Snapshot
+snapshots s m events =
+    map (λ v. snapshot v.after) (filter (is_due s) (moves s m events)) ++ last_snapshot s (state_after s m events) ∷ []

@@ -1,0 +1,120 @@
+-- What a read changes: the marks, the mode of trimming, the cursor and the skip, the counts and the times.
+use Rattle.std.specs.Prelude.{ℕ, ◌+◌, ◌-◌, ◌*◌, min, Bool, true, false, ◌&&◌, not, nat_le, nat_lt, List, length, Option, Some, None, if◌then◌else◌}
+use Rattle.block_list.specs.declared.status.Status.{Status}
+use Rattle.block_list.specs.declared.status.Status.TheVariants.{NonTrimmed, NonScraped, BadSector, Finished}
+use Rattle.block_list.specs.Map.{marked}
+use Rattle.fault_count.specs.Counts.{raised}
+use Rattle.faulty_source.specs.Journal.{Reading, is_whole, kept}
+use Rattle.rescue_rules.specs.declared.stop.TrimMode.{TrimMode}
+use Rattle.rescue_rules.specs.declared.stop.TrimMode.TheVariants.{Lead, Tail}
+use Rattle.rescue_rules.specs.Setting.{Setting}
+use Rattle.rescue_rules.specs.declared.phase.Phase.{Phase}
+use Rattle.rescue_rules.specs.declared.phase.Phase.TheVariants.{Copying, Trimming}
+use Rattle.rescue_rules.specs.Passes.{current_of, is_up}
+use Rattle.rescue_rules.specs.Machine.{Machine, pass_of, is_wanted}
+
+-- a read, and the times before it and behind it
+pub record Event : Type 0 where
+  pub reading : Reading
+  pub before : ℕ
+  pub after : ℕ
+
+-- it is copying, or trimming
+abbrev pub copies : Phase → Bool
+copies Copying = true
+copies phase = false
+
+abbrev pub trims : Phase → Bool
+trims Trimming = true
+trims phase = false
+
+abbrev pub is_copying : Machine → Bool
+is_copying m = copies (pass_of m).phase
+
+abbrev pub is_trimming : Machine → Bool
+is_trimming m = trims (pass_of m).phase
+
+-- a whole read is slow that gave too few bytes a second
+abbrev pub is_slow : Setting → Event → Bool
+is_slow s e = nat_lt (length e.reading.given * 1000) (s.min_rate * (e.after - e.before))
+
+-- what isn't kept is for trimming, if copying asked for it and it is longer than a sector; else it is bad
+abbrev pub rest_status : Setting → Machine → ℕ → Status
+rest_status s m size = if is_copying m && nat_lt s.sector size then NonTrimmed else BadSector
+
+-- behind a failed read at a run's back, what lies between its front and its back is for scraping
+abbrev pub scraped : TrimMode → ℕ → List Status → List Status
+scraped Lead p map = map
+scraped (Tail low) p map = marked map low (p - low) NonScraped
+
+-- the kept part is finished, and the rest is marked as failed
+abbrev pub map_after : Setting → Machine → Reading → List Status
+map_after s m r =
+    let whole : List Status = marked m.map r.pos (kept s.sector r) Finished in
+    let rest : ℕ = r.asked - kept s.sector r in
+    if is_whole r then whole else scraped m.mode r.pos (marked whole (r.pos + kept s.sector r) rest (rest_status s m rest))
+
+-- Trimming goes from a run's front to its back where a read failed and there is more of the run; it stays there until
+-- the run has no more or a read fails.
+abbrev pub mode_after : TrimMode → (whole more : Bool) → (p q : ℕ) → TrimMode
+mode_after Lead true more p q = Lead
+mode_after Lead false more p q = if more then Tail q else Lead
+mode_after (Tail low) true more p q = if nat_lt low p then Tail low else Lead
+mode_after (Tail low) false more p q = Lead
+
+-- copying jumps behind a read that failed in its first four passes, or was slow in its first two
+abbrev pub is_jump : Setting → Machine → Event → Bool
+is_jump s m e = is_copying m && (if is_whole e.reading then is_slow s e && nat_le (pass_of m).number 2 else nat_le (pass_of m).number 4)
+
+-- the cursor goes to the read's far end, or beyond it by a jump, within the map; in trimming to the read's position
+abbrev pub cursor_after : Setting → Machine → Event → ℕ
+cursor_after s m e =
+    let jump : ℕ = if is_jump s m e then m.skip else 0 in
+    if is_trimming m then e.reading.pos
+    else if is_up s (pass_of m) then min (length m.map) (e.reading.pos + e.reading.asked + jump)
+    else e.reading.pos - jump
+
+-- a jump doubles the next one, and a whole read that isn't slow makes it small again
+abbrev pub skip_after : Setting → Machine → Event → ℕ
+skip_after s m e =
+    if is_jump s m e then min (2 * m.skip) s.skip_max
+    else if is_whole e.reading && not (is_slow s e) then s.skip else m.skip
+
+-- so many milliseconds lie between two due saves
+abbrev pub save_interval : ℕ
+save_interval = 30000
+
+abbrev pub is_timely : Machine → Event → Bool
+is_timely m e = nat_le (m.due_at + save_interval) e.after
+
+-- the state behind an event
+abbrev pub step : Setting → Machine → Event → Machine
+step s m e =
+    let r : Reading = e.reading in
+    let n : Machine = record m { map = map_after s m r } in
+    record n {
+      cursor = cursor_after s m e;
+      mode = if is_trimming m then mode_after m.mode (is_whole r) (is_wanted s n (r.pos + r.asked)) r.pos (r.pos + r.asked) else Lead;
+      skip = skip_after s m e;
+      failed = if is_whole r then m.failed else raised m.failed;
+      now = e.after;
+      whole_at = if is_whole r then e.after else m.whole_at;
+      due_at = if is_timely m e then e.after else m.due_at;
+      shown = record { pos = cursor_after s m e; current = current_of (pass_of m).phase; pass = (pass_of m).number };
+    }
+
+-- a limit that a run has met: so many reads failed, or so many milliseconds went by without a whole one
+pub data Limit : Type 0 where
+  TooManyErrors : ℕ → Limit
+  TimedOut : ℕ → Limit
+
+abbrev pub is_beyond : Option ℕ → ℕ → Bool
+is_beyond None n = false
+is_beyond (Some limit) n = nat_lt limit n
+
+-- the limit that a state has met: too many failed reads, or else too long without a whole one
+abbrev pub limit : Setting → Machine → Option Limit
+limit s m =
+    if is_beyond s.max_errors m.failed then Some (TooManyErrors m.failed)
+    else if is_beyond s.timeout (m.now - m.whole_at) then Some (TimedOut (m.now - m.whole_at))
+    else None

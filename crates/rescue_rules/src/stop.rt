@@ -1,0 +1,33 @@
+use crash_site::site::SiteCall;
+
+/// Why a run stopped before its end.
+#[derive(Clone, Copy, Debug, PartialEq, Eq)]
+pub enum Stop {
+    /// The infile was lost during a read.
+    SourceLost,
+    /// A call on the outfile, the mapfile or its folder failed.
+    Site(SiteCall),
+    /// Memory wasn't there.
+    NoMemory,
+}
+
+/// Where trimming stands: before a run's front, or at the back of the run that begins at a position.
+#[derive(Clone, Copy, Debug, PartialEq, Eq)]
+pub enum TrimMode {
+    Lead,
+    Tail(u64),
+}
+
+/// How a run ended.
+#[derive(Clone, Copy, Debug, PartialEq, Eq)]
+pub enum RunEnd {
+    /// It went on to its end, and its map was saved.
+    Done,
+    /// It stopped. Its map was saved, unless it stopped at a call on its files.
+    Stopped(Stop),
+    /// A call of its last save failed. If the run had stopped before, this says why.
+    SaveFailed {
+        call: SiteCall,
+        earlier: Option<Stop>,
+    },
+}

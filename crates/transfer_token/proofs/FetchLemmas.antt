@@ -1,0 +1,85 @@
+-- What a read that was cut leaves at the buffer's front.
+use Rattle.std.proofs.Common.{◌≡◌, ℕ, ◌+◌, ◌-◌, ◌≤◌, IsTrue, List, [], ◌∷◌, ◌++◌, length, take, drop, slice_range, sym, ap, ◌∙◌, arith, refl, take-take, length-take-le}
+use Rattle.std.proofs.lemmas.List.{take-append-le}
+use Rattle.std.proofs.Math.Nat.{div-mul-le_self}
+use Rattle.block_list.specs.declared.block.Run.{Run}
+use Rattle.faulty_source.specs.Journal.{Reading, kept}
+use Rattle.faulty_source.specs.SourceState.{SourceState, Reads}
+use Rattle.transfer_token.specs.declared.token.Request.{Request}
+use Rattle.transfer_token.specs.declared.fetch.Fetched.{Fetched}
+use Rattle.transfer_token.specs.declared.fetch.Fetched.TheVariants.{Whole, Part, Nothing}
+use Rattle.transfer_token.specs.Tokens.{between, size_of, IsCut, Spans, IfLoaded, Holds, Fetches}
+
+-- the range is the part of the read that is kept
+abbrev IsKept : ℕ → Reading → Run → Type 0
+IsKept sector r loaded = loaded ≡ between r.pos (r.pos + kept sector r)
+
+-- no more is kept than was given
+kept_few : (sector : ℕ) (r : Reading) → kept sector r ≤ length r.given
+kept_few sector r = grind (arith, div-mul-le_self)
+
+-- what was loaded is that part
+loaded_is_kept : (sector : ℕ) (r : Reading) (fetched : Fetched) → IsCut sector r fetched → IfLoaded fetched (IsKept sector r)
+loaded_is_kept sector r (Whole loaded) cut = rw cut.0 cut.1
+loaded_is_kept sector r (Part loaded missed) cut = cut.2
+loaded_is_kept sector r (Nothing missed) cut = tt
+
+-- what follows of each range follows of the loaded one
+if_loaded : (fetched : Fetched) (P Q : Run → Type 0) → ((loaded : Run) → P loaded → Q loaded) → IfLoaded fetched P → IfLoaded fetched Q
+if_loaded (Whole loaded) P Q step h = step loaded h
+if_loaded (Part loaded missed) P Q step h = step loaded h
+if_loaded (Nothing missed) P Q step h = tt
+
+-- the buffer's front has that part of what the read gave
+front_given : (sector : ℕ) (r : Reading) (buf : List ℕ) (loaded : Run) → take (length r.given) buf ≡ r.given → IsKept sector r loaded
+    → take (size_of loaded) buf ≡ take (kept sector r) r.given
+front_given sector r buf loaded front is =
+    let size : size_of loaded ≡ kept sector r = ap size_of is ∙ omega arith in
+    ap (λ n. take n buf) size ∙ sym (take-take (kept sector r) (length r.given) buf (kept_few sector r)) ∙ ap (take (kept sector r)) front
+
+-- and it is the input's own
+kept_right : (sector : ℕ) (r : Reading) (bytes : List ℕ) (loaded : Run) → r.given ≡ slice_range bytes r.pos (r.pos + length r.given) → IsKept sector r loaded
+    → take (kept sector r) r.given ≡ slice_range bytes loaded.from loaded.to
+kept_right sector r bytes loaded right is =
+    let few : kept sector r ≤ r.pos + length r.given - r.pos = omega (arith, kept_few sector r) in
+    let all : take (kept sector r) r.given ≡ take (kept sector r) (drop r.pos bytes) =
+    ap (take (kept sector r)) right ∙ take-take (kept sector r) (r.pos + length r.given - r.pos) (drop r.pos bytes) few in
+    let size : kept sector r ≡ r.pos + kept sector r - r.pos = omega arith in
+    all ∙ ap (λ n. take n (drop r.pos bytes)) size ∙ sym (ap (λ (run : Run). slice_range bytes run.from run.to) is)
+
+-- so the buffer's front holds what was loaded
+loaded_holds : (sector : ℕ) (r : Reading) (fetched : Fetched) (buf : List ℕ) (source : SourceState) → IsCut sector r fetched
+    → take (length r.given) buf ≡ r.given → (IsTrue source.tells → r.given ≡ slice_range source.bytes r.pos (r.pos + length r.given))
+    → IfLoaded fetched (Holds sector r source buf)
+loaded_holds sector r fetched buf source cut front right =
+    let holds : (loaded : Run) → IsKept sector r loaded → Holds sector r source buf loaded = λ loaded is. record {
+      given = front_given sector r buf loaded front is;
+      own = λ tells. front_given sector r buf loaded front is ∙ kept_right sector r source.bytes loaded (right tells) is;
+    } in
+    if_loaded fetched (IsKept sector r) (Holds sector r source buf) holds (loaded_is_kept sector r fetched cut)
+
+-- what a read gave into the front of a buffer was fetched, and cut
+pub fetched_so : (request : Request) (sector n : ℕ) (fetched : Fetched) (part rest : List ℕ) (old new : SourceState)
+    → n ≤ length part → n ≤ request.len → (IsTrue old.tells → take n part ≡ slice_range old.bytes request.pos (request.pos + n))
+    → Reads (record { pos = request.pos; asked = request.len; given = take n part } ∷ []) old new
+    → ((r : Reading) → r.pos ≡ request.pos → r.asked ≡ request.len → length r.given ≡ n → IsCut sector r fetched) → Spans request fetched
+    → Fetches request sector n fetched (part ++ rest) old new
+fetched_so request sector n fetched part rest old new there few right read cuts spans =
+    let reading : Reading = record { pos = request.pos; asked = request.len; given = take n part } in
+    let count : length (take n part) ≡ n = length-take-le n part there in
+    let cut : IsCut sector reading fetched = cuts reading refl refl count in
+    let front : take (length (take n part)) (part ++ rest) ≡ take n part = ap (λ k. take k (part ++ rest)) count ∙ take-append-le n part rest there in
+    let own : IsTrue old.tells → take n part ≡ slice_range old.bytes request.pos (request.pos + length (take n part)) = rw count right in
+    record {
+      reading = reading;
+      pos = refl;
+      asked = refl;
+      count = count;
+      few = rw count few;
+      right = own;
+      read = read;
+      cut = cut;
+      spans = spans;
+      front = front;
+      loaded = loaded_holds sector reading fetched (part ++ rest) old cut front own;
+    }

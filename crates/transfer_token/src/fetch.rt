@@ -1,0 +1,74 @@
+ghost use Rattle.std.specs.Prelude.{◌≡◌, ◌+◌, ◌<◌, ◌≤◌, ◌^◌, true, false, length, IfOk, IsOk, OnErr};
+ghost use Rattle.faulty_source.specs.SourceState.{Stays, Loses};
+ghost use Rattle.faulty_source.specs.Journal.{Reading};
+ghost use Rattle.transfer_token.specs.Tokens.{Fetches, IsCut, Spans};
+
+use crate::token::{Loaded, Missed, Request};
+use block_list::block::Run;
+use faulty_source::source::{Got, Source, SourceLost};
+
+/// What came of a request.
+pub enum Fetched {
+    /// All of it was read.
+    Whole(Loaded),
+    /// Whole sectors at its front were kept, and the rest was missed.
+    Part(Loaded, Missed),
+    /// Nothing of it was kept.
+    Nothing(Missed),
+}
+
+/// Reads what is requested, once, to the buffer's front, and cuts it: of a read that failed whole sectors are kept.
+/// Answers how much the read gave, and what it is cut into.
+pub fn fetch<S: Source>(
+    source: &mut S,
+    buf: &mut [u8],
+    request: Request,
+    sector: u64,
+) -> Result<(Got, Fetched), SourceLost>
+    requires some { 0 < request.len }
+    requires fits { request.len ≤ length buf.old }
+    requires sector { 0 < sector }
+    requires opened { (S.state source.old).is_open ≡ true }
+    requires short { request.pos + request.len < 2 ^ 63 }
+    ensures fetched { IfOk result (λ f. Fetches request sector f.0.0 f.1 buf.new (S.state source.old)
+        (S.state source.new)) }
+    ensures sure { (S.state source.old).may_lose ≡ false → IsOk result }
+    ensures lost { OnErr result (Loses (S.state source.old) (S.state source.new)) }
+    ensures same { length buf.new ≡ length buf.old }
+    ensures source { Stays (S.state source.old) (S.state source.new) }
+{
+    let Got(given) = source.read_at(request.pos, &mut buf[..request.len])?;
+    Ok((Got(given), cut(request, given, sector)))
+}
+
+/// Cuts what a read gave.
+fn cut(request: Request, given: usize, sector: u64) -> Fetched
+    requires some { 0 < request.len }
+    requires few { given ≤ request.len }
+    requires sector { 0 < sector }
+    requires short { request.pos + request.len < 2 ^ 63 }
+    ensures cut { (r : Reading) → r.pos ≡ request.pos → r.asked ≡ request.len → length r.given ≡ given
+        → IsCut sector r result }
+    ensures spans { Spans request result }
+{
+    let (from, to) = (request.pos, request.pos + request.len as u64);
+    let stop = from + given as u64;
+    let at = stop / sector * sector;
+    if stop == to {
+        Fetched::Whole(Loaded {
+            run: Run { from, to },
+        })
+    } else if from < at {
+        let loaded = Loaded {
+            run: Run { from, to: at },
+        };
+        let missed = Missed {
+            run: Run { from: at, to },
+        };
+        Fetched::Part(loaded, missed)
+    } else {
+        Fetched::Nothing(Missed {
+            run: Run { from, to },
+        })
+    }
+}
