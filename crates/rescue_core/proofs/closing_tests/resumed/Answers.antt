@@ -6,7 +6,7 @@ pub start-requires-clause-suits : goal.start-requires-clause-suits
 start-requires-clause-suits c = record {
   from = λ x inside. omega (arith, c.settings.ensures.start);
   to = λ x inside.
-      let whole : (nat_le 0 x && true && nat_lt x c.end.result) ≡ true = sym (c.in_ok-domain.ensures.whole x) ∙ inside in
+      let whole : (nat_le 0 x && true && nat_lt x c.end.result) ≡ true = sym (c.in_ok-domain.ensures.positions x) ∙ inside in
       let below : x < c.end.result = ltb-true x c.end.result (and_parts (nat_le 0 x && true) (nat_lt x c.end.result) whole).1 in
       omega (arith, below, c.end.ensures.end);
 }

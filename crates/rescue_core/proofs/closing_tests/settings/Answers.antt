@@ -13,4 +13,5 @@ returns-clause-sound c = record {
   skip_max = omega arith;
   ipos = omega arith;
   opos = omega arith;
+  retries = omega arith;
 }
