@@ -1,1 +1,4 @@
+pub mod Interval
 pub mod Number
+pub mod Size
+pub mod Suffixed

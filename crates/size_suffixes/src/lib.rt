@@ -2,6 +2,9 @@
 #![tactic(auto)]
 
 pub mod error;
+pub mod interval;
 pub mod number;
+pub mod size;
+mod suffixed;
 #[cfg(test)]
 mod tests;

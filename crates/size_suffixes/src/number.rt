@@ -1,7 +1,7 @@
 ghost use Rattle.std.specs.Prelude.{◌≡◌, ◌-◌, ◌^◌, ◌<◌, ◌≤◌, length, min, position, IfSome};
 ghost use Rattle.std.specs.Char.{digit_value};
 ghost use Rattle.std.specs.Str.Parse.{digits_value};
-ghost use Rattle.size_suffixes.specs.Number.{number, base_of, digits_at, is_no_digit};
+ghost use Rattle.size_suffixes.specs.Number.{number, base_of, digits_at, is_no_digit, within};
 
 use crate::error::SizeError;
 
@@ -20,7 +20,7 @@ fn base_of_text(bytes: &[u8]) -> u64
 }
 
 /// Where the digits of a number begin.
-fn start_of_digits(bytes: &[u8]) -> usize
+pub(crate) fn start_of_digits(bytes: &[u8]) -> usize
     ensures value { result ≡ digits_at bytes.now }
     ensures within { result ≤ length bytes.now }
 {
@@ -41,7 +41,7 @@ fn value_of_digit(byte: u8) -> u64
 }
 
 /// The place of the first byte that is no digit in a base.
-fn first_no_digit(base: u64, bytes: &[u8]) -> Option<usize>
+pub(crate) fn first_no_digit(base: u64, bytes: &[u8]) -> Option<usize>
     ensures place { result ≡ position (is_no_digit base) bytes.now }
     ensures within { IfSome result (λ k. k < length bytes.now) }
 {
@@ -62,6 +62,17 @@ fn saturated_value(base: u64, digits: &[u8]) -> u64
     value
 }
 
+/// A value, if it is below 2^63.
+pub(crate) fn limited(value: u64) -> Result<u64, SizeError>
+    ensures { result ≡ within value }
+{
+    if value < LIMIT {
+        Ok(value)
+    } else {
+        Err(SizeError::TooLarge)
+    }
+}
+
 /// Reads a number that stands in bytes, as a field of a line, and nothing else: decimal, or octal behind `0`, or
 /// hexadecimal behind `0x`. A number of any length is read; one of 2^63 or more is `TooLarge`.
 pub fn parse_number(bytes: &[u8]) -> Result<u64, SizeError>
@@ -80,11 +91,7 @@ pub fn parse_number(bytes: &[u8]) -> Result<u64, SizeError>
         return Err(SizeError::BadDigit { at: start });
     }
     let value = saturated_value(base, digits);
-    if value < LIMIT {
-        Ok(value)
-    } else {
-        Err(SizeError::TooLarge)
-    }
+    limited(value)
 }
 
 /// Reads a number and nothing else, as `parse_number` does.

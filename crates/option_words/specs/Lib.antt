@@ -1,0 +1,9 @@
+pub mod Forms
+pub mod Laws
+pub mod Meanings
+pub mod Reading
+pub mod Rows
+pub mod Spots
+pub mod Tables
+pub mod Taken
+pub mod Words

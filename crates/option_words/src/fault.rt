@@ -1,0 +1,42 @@
+use thiserror::Error;
+
+/// Why words can't be read by a table. Words are counted from 1. The first faulty word decides, and in a group of
+/// letters the first faulty one.
+#[derive(Clone, Copy, Debug, PartialEq, Eq, Error)]
+pub enum WordFault {
+    /// A letter of a group is no row's.
+    #[error("UnknownShort")]
+    UnknownShort { word: usize, letter: char },
+    /// No row's name begins with a long name.
+    #[error("UnknownLong")]
+    UnknownLong { word: usize },
+    /// A long name is no row's name, and two rows' names or more begin with it.
+    #[error("Ambiguous")]
+    Ambiguous { word: usize },
+    /// The last word ends with an option that takes a value, and has none for it.
+    #[error("MissingValue")]
+    MissingValue { word: usize },
+    /// A long name has a value, and its option takes none.
+    #[error("UnwantedValue")]
+    UnwantedValue { word: usize },
+    /// Memory wasn't there.
+    #[error("NoMemory")]
+    NoMemory,
+}
+
+/// Why words ask for nothing that can be done. Words are counted from 1.
+#[derive(Clone, Copy, Debug, PartialEq, Eq, Error)]
+pub enum UsageFault {
+    /// The words can't be read. Want of memory isn't among these: it is no fault of the words.
+    #[error("{0}")]
+    Word(WordFault),
+    /// The value that begins in this word is refused.
+    #[error("BadValue")]
+    BadValue { word: usize },
+    /// So many operands aren't wanted.
+    #[error("Operands")]
+    Operands { given: usize },
+    /// The output would have a place of 2^63 or more.
+    #[error("PlaceTooLarge")]
+    PlaceTooLarge,
+}

@@ -1,0 +1,33 @@
+ghost use Rattle.std.specs.Prelude.{◌≡◌};
+ghost use Rattle.option_words.specs.Rows.{is_alone};
+
+/// Whether an option takes a value.
+#[derive(Clone, Copy, Debug, PartialEq, Eq)]
+pub enum Takes {
+    /// It stands alone.
+    Never,
+    /// It has a value: behind the letter, behind `=`, or else the whole next word, whatever that is.
+    Always,
+    /// It may have a value, behind the letter or behind `=`, and never takes the next word.
+    Optional,
+}
+
+impl Takes {
+    /// Whether an option takes no value.
+    pub(crate) fn stands_alone(self) -> bool
+        ensures { result ≡ is_alone self }
+    {
+        match self {
+            Takes::Never => true,
+            Takes::Always | Takes::Optional => false,
+        }
+    }
+}
+
+/// An option: its letter, if it has one, and its long name, both without hyphens.
+#[derive(Clone, Copy, Debug)]
+pub struct Row {
+    pub short: Option<char>,
+    pub long: &'static str,
+    pub takes: Takes,
+}

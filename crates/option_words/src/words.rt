@@ -1,0 +1,81 @@
+ghost use Rattle.std.specs.Prelude.{◌≡◌, ◌↔◌, IsTrue, ◌-◌, ◌≤◌, [], ◌∷◌, ◌++◌, length, drop, OnOk, OnErr};
+ghost use Rattle.option_words.specs.Spots.{IsSpot};
+ghost use Rattle.option_words.specs.Words.{word};
+
+use crate::reading::Spot;
+use block_list::tiles::NoMemory;
+use std::alloc::Global;
+use std::marker::Model;
+
+/// The words of a command line, without the program's own name.
+#[derive(Drop)]
+pub struct Words {
+    alloc: Global,
+    words: Vec<String>,
+}
+
+impl Model for Words {
+    ghost use Rattle.std.specs.Prelude.{ℕ, List, map};
+    ghost use Rattle.std.specs.String.{string_bytes};
+
+    ghost Value = { List (List ℕ) };
+
+    ghost view = { λ w. map string_bytes w.words.items };
+}
+
+impl Words {
+    /// No words.
+    pub fn new(alloc: Global) -> Words
+        ensures { result ≡ [] }
+    {
+        Words {
+            alloc,
+            words: Vec::new(alloc),
+        }
+    }
+
+    /// Adds a word at the end.
+    pub fn push(&mut self, word: &str) -> Result<(), NoMemory>
+        ensures ok { OnOk result (self.new ≡ self.old ++ word.now ∷ []) }
+        ensures err { OnErr result (self.new ≡ self.old) }
+    {
+        let Ok(copy) = String::from_str(self.alloc, word) else {
+            return Err(NoMemory);
+        };
+        if self.words.push(copy).is_err() {
+            return Err(NoMemory);
+        }
+        Ok(())
+    }
+
+    /// A word, counted from 1.
+    pub fn get(&self, i: usize) -> &str
+        requires counted { 1 ≤ i }
+        requires within { i ≤ length self.now }
+        ensures { result.now ≡ word self.now i }
+    {
+        self.words[i - 1].as_str()
+    }
+
+    /// The text of a value.
+    pub fn text(&self, spot: Spot) -> &str
+        requires { IsSpot self.now spot }
+        ensures { result.now ≡ drop spot.from (word self.now spot.word) }
+    {
+        &self.get(spot.word)[spot.from..]
+    }
+
+    /// How many words there are.
+    pub fn len(&self) -> usize
+        ensures { result ≡ length self.now }
+    {
+        self.words.len()
+    }
+
+    /// Whether there are none.
+    pub fn is_empty(&self) -> bool
+        ensures { IsTrue result ↔ (length self.now ≡ 0) }
+    {
+        self.words.is_empty()
+    }
+}

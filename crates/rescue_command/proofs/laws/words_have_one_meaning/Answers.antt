@@ -1,0 +1,5 @@
+use Rattle.rescue_command.proofs.MeaningLemmas.{one_meaning}
+use Rattle.rescue_command.proofs.laws.words_have_one_meaning.Goals as goal
+
+pub returns : goal.returns
+returns c = one_meaning

@@ -1,0 +1,129 @@
+-- What the words of a rescue ask for, or why they are refused.
+use Rattle.std.specs.Prelude.{◌≡◌, ◌↔◌, ⊤, ℕ, ◌^◌, ◌<◌, ◌≤◌, Bool, true, false, List, [], ◌∷◌, length, map, find, nat_eq, Option, Some, None, Result, Ok, Err, IfSome, option_map}
+use Rattle.option_words.specs.Words.{word}
+use Rattle.option_words.specs.Rows.{meaning_of_row}
+use Rattle.option_words.specs.Reading.{IsReading, WordFaultAt}
+use Rattle.option_words.specs.declared.reading.Item.{Item}
+use Rattle.option_words.specs.declared.fault.WordFault.{WordFault}
+use Rattle.option_words.specs.declared.fault.WordFault.TheVariants.{UnknownShort, UnknownLong, Ambiguous, MissingValue, UnwantedValue, NoMemory as OutOfMemory}
+use Rattle.option_words.specs.declared.fault.UsageFault.{UsageFault}
+use Rattle.option_words.specs.declared.fault.UsageFault.TheVariants.{Word, BadValue, Operands}
+use Rattle.rescue_command.specs.declared.options.Options.{Options}
+use Rattle.rescue_command.specs.declared.command.Command.{Command as Told}
+use Rattle.rescue_command.specs.declared.command.CommandError.{CommandError}
+use Rattle.rescue_command.specs.declared.command.CommandError.TheVariants.{Usage, NoMemory}
+use Rattle.option_words.specs.declared.row.Row.{Row}
+use Rattle.rescue_command.specs.Options.{option_meanings, options_in, has_quiet}
+
+-- the names of the infile, the outfile and, if there is one, the mapfile; and what the options say
+pub record Command : Type 0 where
+  pub infile : List ℕ
+  pub outfile : List ℕ
+  pub mapfile : Option (List ℕ)
+  pub options : Options
+
+-- the same of what the code hands on
+abbrev pub told_by : Told → Command
+told_by c = record {
+  infile = c.infile.now;
+  outfile = c.outfile.now;
+  mapfile = option_map (λ m. m.now) c.mapfile;
+  options = c.options;
+}
+
+-- the files of two operands or three; another number is refused
+abbrev pub command_with : List (List ℕ) → Options → (operands : List ℕ) → Result Command UsageFault
+command_with words o [] = Err (Operands 0)
+command_with words o (i ∷ []) = Err (Operands 1)
+command_with words o (i ∷ out ∷ []) =
+    Ok (record { infile = word words i; outfile = word words out; mapfile = None; options = o })
+command_with words o (i ∷ out ∷ map ∷ []) =
+    Ok (record { infile = word words i; outfile = word words out; mapfile = Some (word words map); options = o })
+command_with words o (i ∷ out ∷ map ∷ n ∷ more) = Err (Operands (length (i ∷ out ∷ map ∷ n ∷ more)))
+
+-- the first operand that is empty
+abbrev pub empty_operand : List (List ℕ) → (operands : List ℕ) → Option ℕ
+empty_operand words operands = find (λ n. nat_eq (length (word words n)) 0) operands
+
+-- unless an operand is empty, which is refused behind a wrong number
+abbrev pub unless_empty : Option ℕ → Result Command UsageFault → Result Command UsageFault
+unless_empty o (Err fault) = Err fault
+unless_empty None (Ok c) = Ok c
+unless_empty (Some n) (Ok c) = Err (BadValue n)
+
+-- what a reading of the words asks for, or its first fault: a bad value, then the operands
+abbrev pub command_by : List (List ℕ) → Result Options ℕ → (operands : List ℕ) → Result Command UsageFault
+command_by words (Err n) operands = Err (BadValue n)
+command_by words (Ok o) operands = unless_empty (empty_operand words operands) (command_with words o operands)
+
+abbrev pub command_in : List (List ℕ) → List Item → (operands : List ℕ) → Result Command UsageFault
+command_in words items operands = command_by words (options_in words items) operands
+
+-- rows of a table that are the options of a rescue
+pub record AreOptions (rows : List Row) : Type 0 where
+  pub meanings : map meaning_of_row rows ≡ option_meanings
+
+-- the words ask for this
+pub record Asks (words : List (List ℕ)) (c : Command) : Type 0 where
+  pub rows : List Row
+  pub options : AreOptions rows
+  pub items : List Item
+  pub operands : List ℕ
+  pub reading : IsReading rows words items operands
+  pub is : command_in words items operands ≡ Ok c
+
+-- the words are refused: they can't be read by the options, or what was read is wrong
+pub data AreRefused (words : List (List ℕ)) (fault : UsageFault) : Type 0 where
+  Unread : (rows : List Row) (f : WordFault) → AreOptions rows → WordFaultAt rows words f → fault ≡ Word f
+      → AreRefused words fault
+  Wrong : (rows : List Row) (items : List Item) (operands : List ℕ) → AreOptions rows
+      → IsReading rows words items operands → command_in words items operands ≡ Err fault → AreRefused words fault
+
+-- the error of words that can't be read, which so don't ask that nothing be said
+abbrev pub unread_error : WordFault → CommandError
+unread_error (UnknownShort n c) = Usage (Word (UnknownShort n c)) false
+unread_error (UnknownLong n) = Usage (Word (UnknownLong n)) false
+unread_error (Ambiguous n) = Usage (Word (Ambiguous n)) false
+unread_error (MissingValue n) = Usage (Word (MissingValue n)) false
+unread_error (UnwantedValue n) = Usage (Word (UnwantedValue n)) false
+unread_error OutOfMemory = NoMemory
+
+-- they can be read, and ask that nothing be said
+pub record AskQuiet (words : List (List ℕ)) : Type 0 where
+  pub rows : List Row
+  pub options : AreOptions rows
+  pub items : List Item
+  pub operands : List ℕ
+  pub reading : IsReading rows words items operands
+  pub quiet : has_quiet items ≡ true
+
+-- the number of a word, counted from 1
+pub record IsWord (words : List (List ℕ)) (n : ℕ) : Type 0 where
+  pub counted : 1 ≤ n
+  pub within : n ≤ length words
+
+-- options within their limits
+pub record IsSound (o : Options) : Type 0 where
+  pub sector : 0 < o.sector
+  pub sector_max : o.sector ≤ 1048576
+  pub input_position : o.input_position < 2 ^ 63
+  pub output_position : IfSome o.output_position (λ n. n < 2 ^ 63)
+
+-- this is what the words ask for, and nothing else; with options within their limits
+pub record IsAsked (words : List (List ℕ)) (c : Command) : Type 0 where
+  pub asks : Asks words c
+  pub alone : (other : Command) → Asks words other → other ≡ c
+  pub accepted : (fault : UsageFault) → AreRefused words fault → ⊥
+  pub sound : IsSound c.options
+  pub quiet : AskQuiet words ↔ (c.options.quiet ≡ true)
+
+-- they are refused for this fault, and ask for nothing
+pub record IsRefusal (words : List (List ℕ)) (fault : UsageFault) (quiet : Bool) : Type 0 where
+  pub refused : AreRefused words fault
+  pub nothing : (c : Command) → Asks words c → ⊥
+  pub quiet_is : AskQuiet words ↔ (quiet ≡ true)
+
+-- why words ask for nothing; want of memory is free
+abbrev pub IsErrorOf : List (List ℕ) → CommandError → Type 0
+IsErrorOf words (Usage fault quiet) = IsRefusal words fault quiet
+IsErrorOf words NoMemory = ⊤

@@ -1,0 +1,8 @@
+//! The command line of a rescue: from its words to what is asked for.
+#![tactic(auto)]
+
+pub mod command;
+pub mod laws;
+pub mod options;
+#[cfg(test)]
+mod tests;
