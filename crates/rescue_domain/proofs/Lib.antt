@@ -1,3 +1,6 @@
+pub mod FinishedLemmas
+pub mod MadeLemmas
 pub mod PartsLemmas
 pub mod SearchLemmas
 pub mod SizeLemmas
+pub mod TestingLemmas

@@ -1,2 +1,4 @@
+pub mod Finished
 pub mod Domain
 pub mod Parts
+pub mod Testing

@@ -1,11 +1,12 @@
-ghost use Rattle.std.specs.Prelude.{◌≡◌, ℕ, ◌<◌, ◌≤◌, ◌^◌, Some, slice_get, length, false, ◌&&◌, nat_lt, IsOk, IfOk, IfSome, IfNone};
+ghost use Rattle.std.specs.Prelude.{◌≡◌, ℕ, ◌<◌, ◌≤◌, ◌^◌, min, max, Some, slice_get, length, false, ◌&&◌, nat_lt, IsOk, IfOk, OnOk, OnErr, IfSome, IfNone};
 ghost use Rattle.block_list.specs.declared.block.Run.{Run};
 ghost use Rattle.block_list.specs.Places.{IsFirst, IsLast, IsRunUp, IsRunDown};
-ghost use Rattle.rescue_domain.specs.Domain.{IsIn, is_below, whole_domain, IsSize};
+ghost use Rattle.rescue_domain.specs.Domain.{IsIn, is_below, whole_domain, finished_in, listed_in, IsSize};
 ghost use Rattle.rescue_domain.specs.Parts.{covers, AreParts};
 
 use block_list::block::Run;
-use block_list::tiles::NoMemory;
+use block_list::status::Status;
+use block_list::tiles::{NoMemory, Tiles};
 use std::alloc::Global;
 use std::marker::Model;
 
@@ -42,6 +43,24 @@ impl Domain {
                 .map_err(|_| NoMemory)?;
         }
         Ok(Domain { parts })
+    }
+
+    /// Leaves the positions that are finished in a map. It is as before where memory for the intervals of the new set
+    /// wasn't there.
+    pub fn keep_finished<T: Tiles>(&mut self, tiles: &T) -> Result<(), NoMemory>
+        ensures kept { OnOk result ((x : ℕ)
+            → covers self.new x ≡ finished_in (covers self.old) (T.statuses tiles.now) x) }
+        ensures unchanged { OnErr result (self.new ≡ self.old) }
+    {
+        self.parts = finished_parts(self, tiles)?;
+        Ok(())
+    }
+
+    /// Leaves the positions from `first` on and below `end`.
+    pub fn keep_listed(&mut self, first: u64, end: u64)
+        ensures { (x : ℕ) → covers self.new x ≡ listed_in (covers self.old) first end x }
+    {
+        self.parts.retain_mut(|part| cut_to(part, first, end));
     }
 
     /// Whether a position is in it.
@@ -106,6 +125,55 @@ fn end_of(pos: u64, size: Option<u64>, limit: u64) -> u64
     }
 }
 
+/// Cuts an interval to the positions from `first` on and below `end`, and says whether any is left.
+fn cut_to(part: &mut Run, first: u64, end: u64) -> bool
+    ensures from { part.new.from ≡ max part.old.from first }
+    ensures to { part.new.to ≡ min part.old.to end }
+    ensures left { result ≡ nat_lt part.new.from part.new.to }
+{
+    part.from = part.from.max(first);
+    part.to = part.to.min(end);
+    part.from < part.to
+}
+
+/// The intervals of the positions of a domain that are finished in a map.
+fn finished_parts<T: Tiles>(domain: &Domain, tiles: &T) -> Result<Vec<Run>, NoMemory>
+    ensures apart { IfOk result (λ parts. AreParts 0 parts.items) }
+    ensures positions { IfOk result (λ parts. (x : ℕ)
+        → covers parts.items x ≡ finished_in (covers domain.now) (T.statuses tiles.now) x) }
+{
+    let mut parts = Vec::new(*domain.parts.allocator());
+    let mut at = 0;
+    while let Some(run) = next_finished(domain, tiles, at) {
+        parts.push(run).map_err(|_| NoMemory)?;
+        at = run.to;
+    }
+    Ok(parts)
+}
+
+/// The first positions of a domain, at or after one, that are finished in a map, up to where they end.
+fn next_finished<T: Tiles>(domain: &Domain, tiles: &T, from: u64) -> Option<Run>
+    ensures first { IfSome result (λ run. IsFirst (IsIn (finished_in (covers domain.now) (T.statuses tiles.now)))
+        from run.from) }
+    ensures run { IfSome result (λ run. IsRunUp (IsIn (finished_in (covers domain.now) (T.statuses tiles.now)))
+        run.from run.to) }
+    ensures none { IfNone result ((x : ℕ) → from ≤ x
+        → IsIn (finished_in (covers domain.now) (T.statuses tiles.now)) x → ⊥) }
+{
+    let mut at = from;
+    while let Some(part) = domain.next_in(at) {
+        let found = tiles.find_forward(part.from, Status::Finished)?;
+        if found.from < part.to {
+            return Some(Run {
+                from: found.from,
+                to: found.to.min(part.to),
+            });
+        }
+        at = found.from;
+    }
+    None
+}
+
 /// How many intervals end at or before a position.
 fn ended_by(parts: &[Run], x: u64) -> usize
     requires { AreParts 0 parts.now }
@@ -128,6 +196,8 @@ fn begun_before(parts: &[Run], x: u64) -> usize
 #[cfg(test)]
 mod tests {
     use super::*;
+    use block_list::block::Block;
+    use block_list::plain_tiles::PlainTiles;
     use std::alloc::AllocError;
     use std::test::Fail;
 
@@ -264,6 +334,142 @@ mod tests {
         }
         assert!(rt; !domain.holds(u64::MAX));
         assert_eq!(rt; domain.size(), 15);
+        Ok(())
+    }
+
+    /// A map of blocks of these sizes and statuses, from 0 on.
+    fn tiles_of(alloc: Global, blocks: &[(u64, Status)]) -> Result<PlainTiles, Fail> {
+        let mut tiles = PlainTiles::new(alloc);
+        for (size, status) in blocks {
+            let pos = tiles.end();
+            tiles.push(Block {
+                pos,
+                size: *size,
+                status: *status,
+            })?;
+        }
+        Ok(tiles)
+    }
+
+    #[test]
+    fn finished_positions_are_kept(rt: HostRuntime) -> Result<(), Fail> {
+        let cases = [
+            (
+                "all of the map",
+                [
+                    (30, Status::Finished),
+                    (0, Status::Finished),
+                    (0, Status::Finished),
+                ],
+                [run(0, 4), run(5, 6), run(10, 20), None],
+            ),
+            (
+                "nothing of the map",
+                [
+                    (10, Status::NonTried),
+                    (5, Status::BadSector),
+                    (15, Status::NonTried),
+                ],
+                [None, None, None, None],
+            ),
+            (
+                "a map of no position",
+                [
+                    (0, Status::Finished),
+                    (0, Status::Finished),
+                    (0, Status::Finished),
+                ],
+                [None, None, None, None],
+            ),
+            (
+                "a map that ends inside an interval",
+                [
+                    (11, Status::Finished),
+                    (0, Status::Finished),
+                    (0, Status::Finished),
+                ],
+                [run(0, 4), run(5, 6), run(10, 11), None],
+            ),
+            (
+                "parts of two intervals",
+                [
+                    (2, Status::NonTrimmed),
+                    (11, Status::Finished),
+                    (7, Status::NonTried),
+                ],
+                [run(2, 4), run(5, 6), run(10, 13), None],
+            ),
+            (
+                "two parts of an interval",
+                [
+                    (12, Status::Finished),
+                    (2, Status::BadSector),
+                    (4, Status::Finished),
+                ],
+                [run(0, 4), run(5, 6), run(10, 12), run(14, 18)],
+            ),
+            (
+                "one position",
+                [
+                    (5, Status::NonTried),
+                    (1, Status::Finished),
+                    (90, Status::NonScraped),
+                ],
+                [run(5, 6), None, None, None],
+            ),
+            (
+                "positions between two intervals",
+                [
+                    (6, Status::NonTried),
+                    (4, Status::Finished),
+                    (90, Status::NonTried),
+                ],
+                [None, None, None, None],
+            ),
+        ];
+        for (name, blocks, want) in cases {
+            let mut domain = domain_of_three(rt.alloc())?;
+            domain.keep_finished(&tiles_of(rt.alloc(), &blocks)?)?;
+            for i in 0..4 {
+                assert_eq!(rt; domain.parts.get(i).copied(), want[i], "{name}");
+            }
+            assert!(rt; domain.parts.len() <= 4, "{name}");
+        }
+        Ok(())
+    }
+
+    #[test]
+    fn listed_positions_are_kept(rt: HostRuntime) -> Result<(), Fail> {
+        let cases = [
+            ("all", 0, 20, [run(0, 4), run(5, 6), run(10, 20)]),
+            (
+                "from a start on",
+                2,
+                99,
+                [run(2, 4), run(5, 6), run(10, 20)],
+            ),
+            ("up to an end", 0, 11, [run(0, 4), run(5, 6), run(10, 11)]),
+            ("one interval", 4, 10, [run(5, 6), None, None]),
+            ("inside an interval", 12, 13, [run(12, 13), None, None]),
+            (
+                "from a start on, up to an end",
+                3,
+                15,
+                [run(3, 4), run(5, 6), run(10, 15)],
+            ),
+            ("between two intervals", 6, 10, [None, None, None]),
+            ("behind all", 20, u64::MAX, [None, None, None]),
+            ("an end at the start", 3, 3, [None, None, None]),
+            ("an end before the start", 15, 3, [None, None, None]),
+        ];
+        for (name, first, end, want) in cases {
+            let mut domain = domain_of_three(rt.alloc())?;
+            domain.keep_listed(first, end);
+            for i in 0..3 {
+                assert_eq!(rt; domain.parts.get(i).copied(), want[i], "{name}");
+            }
+            assert!(rt; domain.parts.len() <= 3, "{name}");
+        }
         Ok(())
     }
 }

@@ -1,4 +1,6 @@
-//! The positions that a rescue asks for.
+//! The positions that a rescue asks for, and a source that gives only what a map says is finished.
 #![tactic(auto)]
 
 pub mod domain;
+pub mod laws;
+pub mod test_source;

@@ -9,9 +9,9 @@ use Rattle.crash_site.specs.Left.{MayShow, Leaves, until}
 use Rattle.crash_site.proofs.DiskLemmas.{same_name, reads_step, reads_run, rest_sound}
 use Rattle.crash_site.proofs.LawLemmas.{own_name, put_other, same_held, found_only, until_all}
 use Rattle.rescue_rules.specs.Setting.{Setting}
-use Rattle.rescue_rules.specs.Work.{opening_calls}
 use Rattle.rescue_rules.specs.Stops.{Behind, CouldBefore, has_barrier}
 use Rattle.rescue_rules.proofs.CutLemmas.{Cut}
+use Rattle.rescue_rules.proofs.MapfileLemmas.{settling_calls}
 use Rattle.rescue_rules.proofs.SaveStages.{put_own}
 use Rattle.rescue_rules.proofs.BarrierLemmas.{at_open, at_settle}
 
@@ -159,7 +159,7 @@ barrier_there s es r1 r2 r3 k k1 k2 k3 e1 n1 e2 n2 e3 n3 =
 
 -- before the barrier has returned what is found could be found before
 pub could_before : (b : Behind) (s : Setting) (tail : List Call) (es : List Entry) (k : ℕ)
-    (files : List ℕ → Option File) → Cut (opening_calls s ++ tail) es
+    (files : List ℕ → Option File) → Cut (settling_calls s ++ tail) es
     → has_barrier (take k es) ≡ false → Leaves (disk_after (disk_before b) (until k es)) files
     → CouldBefore b s.outfile files
 could_before b s tail es k files cut none =

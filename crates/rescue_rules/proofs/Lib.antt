@@ -5,6 +5,7 @@ pub mod GivenLemmas
 pub mod RunLemmas
 pub mod StandsLemmas
 pub mod CutLemmas
+pub mod MapfileLemmas
 pub mod BarrierLemmas
 pub mod GoesLemmas
 pub mod BeforeLemmas

@@ -20,12 +20,13 @@ use Rattle.rescue_rules.specs.Step.{Event}
 use Rattle.rescue_rules.specs.Moves.{Move, ready, move_of, moves, state_after, is_over, IsRun}
 use Rattle.rescue_rules.specs.Events.{reads_of}
 use Rattle.rescue_rules.specs.Snapshots.{Snapshot, text_of, snapshot, finished_snapshot, is_due, last_snapshot, snapshots}
-use Rattle.rescue_rules.specs.RunCalls.{write_calls, output_by, due_calls, move_calls, run_calls, end_calls}
+use Rattle.rescue_rules.specs.RunCalls.{write_calls, output_by, due_calls, move_calls, run_calls}
 use Rattle.rescue_rules.specs.Held.{Held}
 use Rattle.rescue_rules.specs.Laws.{AreThreeNames}
 use Rattle.rescue_rules.specs.MachineLaws.{IsInOrder, StepsBy}
 use Rattle.rescue_rules.specs.RunStops.{Promised, Keeps}
 use Rattle.rescue_rules.specs.Stops.{IsSave}
+use Rattle.rescue_rules.proofs.MapfileLemmas.{last_save}
 use Rattle.rescue_rules.proofs.CutLemmas.{Each}
 use Rattle.rescue_rules.proofs.BeforeLemmas.{or_found}
 use Rattle.rescue_rules.proofs.MoveLemmas.{run_rest}
@@ -281,13 +282,13 @@ last_map s m = either_map (is_over s m) m
 
 -- the save at a run's end
 each_end : (c : Base) (ok : IsSensible c.a.s) (m : Machine) (w : ℕ) (now : File) (d : Disk) → AreThreeNames c.a.s
-    → Going c m [] now → Calm c w now d → Each (Holds c.a) c.number c.number w d (end_calls c.a.s m [])
+    → Going c m [] now → Calm c w now d → Each (Holds c.a) c.number c.number w d (last_save c.a.s m [])
 each_end c ok m w now d three g h =
     let p : Snapshot = last_snapshot c.a.s m in
     let c1 : Base = record c { text = text_of c.a.s.line p; new = now } in
     let good : Good c1 = record { saved = g.good.saved } in
     let next : Next c1 m.map = next_of c ok m [] now p [] m.map g (sym (last_map c.a.s m)) refl refl in
-    subst (λ (l : List Call). Each (Holds c.a) c.number c.number w d l) (append-nil (end_calls c.a.s m []))
+    subst (λ (l : List Call). Each (Holds c.a) c.number c.number w d l) (append-nil (last_save c.a.s m []))
     (each_save c1 ok m.map w d [] three good next (recast c (text_of c.a.s.line p) now w now d h)
     (λ d' h'. calm_holds (saved_base c1 m.map) ok (suc c.number) w now d' (record { saved = next.saved }) (omega arith) h'))
 
@@ -390,12 +391,12 @@ due_first s m e es false is = filter_undue s m e es is
 
 -- the calls of a run behind a move
 abbrev pub rest_calls : Setting → Machine → Event → List Event → List Call
-rest_calls s m e es = run_calls s (move_of s m e).after es ++ end_calls s (move_of s m e).after es
+rest_calls s m e es = run_calls s (move_of s m e).after es ++ last_save s (move_of s m e).after es
 
 -- what holds of the rest of a run, whatever it has saved
 abbrev Goes : Promised → Machine → List Event → Type 0
 Goes a m es = (c : Base) → c.a ≡ a → (w : ℕ) (now : File) (d : Disk) → Going c m es now → Calm c w now d
-    → Each (Holds c.a) c.number c.number w d (run_calls c.a.s m es ++ end_calls c.a.s m es)
+    → Each (Holds c.a) c.number c.number w d (run_calls c.a.s m es ++ last_save c.a.s m es)
 
 -- the save that is due behind a move, if one is, and the rest of the run
 each_due : (c : Base) (ok : IsSensible c.a.s) (m : Machine) (e : Event) (es : List Event) (due : Bool) (w : ℕ)
@@ -470,9 +471,9 @@ each_move a ok three m (e ∷ es) c same w now d g h =
     let v : Move = move_of s m e in
     let due : List Call = due_calls s v in
     let rest : List Call = rest_calls s m e es in
-    let whole : (move_calls s v ++ run_calls s v.after es) ++ end_calls s v.after es
+    let whole : (move_calls s v ++ run_calls s v.after es) ++ last_save s v.after es
     ≡ write_calls s e.reading ++ (due ++ rest)
-    = append_assoc (move_calls s v) (run_calls s v.after es) (end_calls s v.after es)
+    = append_assoc (move_calls s v) (run_calls s v.after es) (last_save s v.after es)
     ∙ append_assoc (write_calls s e.reading) due rest in
     subst (λ (l : List Call). Each (Holds c.a) c.number c.number w d l) (sym whole)
     (each_write c ok' w now d e.reading (nat_eq (kept s.sector e.reading) 0) (due ++ rest) three' g.good

@@ -21,13 +21,13 @@ use Rattle.rescue_rules.specs.Machine.{Machine}
 use Rattle.rescue_rules.specs.Step.{Event}
 use Rattle.rescue_rules.specs.Moves.{Move, move_of}
 use Rattle.rescue_rules.specs.Snapshots.{text_of, snapshot, last_snapshot, is_due}
-use Rattle.rescue_rules.specs.RunCalls.{write_calls, due_calls, move_calls, run_calls, end_calls}
+use Rattle.rescue_rules.specs.RunCalls.{write_calls, due_calls, move_calls, run_calls}
 use Rattle.rescue_rules.specs.Moves.{state_after}
-use Rattle.rescue_rules.specs.Work.{opening_calls}
 use Rattle.rescue_rules.specs.Stops.{Behind, is_settle, is_publish, is_write}
 use Rattle.rescue_rules.proofs.CutLemmas.{Cut, Each, at_stop, add}
 use Rattle.rescue_rules.proofs.SaveStages.{put_own, image_apart, image_stays}
 use Rattle.rescue_rules.proofs.BarrierLemmas.{opened_image, at_open, at_settle, at_barrier}
+use Rattle.rescue_rules.proofs.MapfileLemmas.{settling_calls, last_save}
 use Rattle.rescue_rules.proofs.GoesLemmas.{all_calls, reads_of}
 use Rattle.rescue_rules.proofs.BeforeLemmas.{disk_before, sound_before}
 
@@ -217,22 +217,22 @@ all_of_run : (s : Setting) (m : Machine) (es : List Event) (given : List ℕ) (a
     → AreOfRun s false (reads_of s given at answer ++ all_calls s m es)
 all_of_run s m es given at answer =
     subst (λ (l : List Call). AreOfRun s false (reads_of s given at answer ++ (run_calls s m es ++ l)))
-    (append-nil (end_calls s m es))
+    (append-nil (last_save s m es))
     (subst (λ (l : List Call). AreOfRun s false l)
     (sym (append_assoc (piece_reads s.names.map 0 given) (map_read s.names.map at piece_size answer ∷ [])
-    (run_calls s m es ++ (end_calls s m es ++ []))))
+    (run_calls s m es ++ (last_save s m es ++ []))))
     (pieces_lead s s.names.map 0 given false
-    (map_read s.names.map at piece_size answer ∷ (run_calls s m es ++ (end_calls s m es ++ [])))
+    (map_read s.names.map at piece_size answer ∷ (run_calls s m es ++ (last_save s m es ++ [])))
     (λ b. (
       tt,
-      run_leads s m es b (end_calls s m es ++ [])
+      run_leads s m es b (last_save s m es ++ [])
           (λ b'. save_leads s (text_of s.line (last_snapshot s (state_after s m es))) b' [] (λ b''. tt)),
     ))))
 
 -- over all calls of a rescue
 rescue_aside : (s : Setting) (name : List ℕ) (d : Disk) (m : Machine) (es : List Event) (given : List ℕ) (at : ℕ)
     (answer : Option MapRead) → IsOther s name
-    → Each (Shows name (d.shows name)) 0 0 0 d (opening_calls s ++ (reads_of s given at answer ++ all_calls s m es))
+    → Each (Shows name (d.shows name)) 0 0 0 d (settling_calls s ++ (reads_of s given at answer ++ all_calls s m es))
 rescue_aside s name d m es given at answer other =
     let v : Showing = d.shows name in
     let h1 : (at_open s d).shows name ≡ v = at_other d s.outfile name (with_opened true) other.output in
@@ -261,7 +261,7 @@ rescue_aside s name d m es given at answer other =
 -- so what is found there could be found before
 pub others_could : (b : Behind) (s : Setting) (name : List ℕ) (m : Machine) (evs : List Event)
     (given : List ℕ) (at : ℕ) (answer : Option MapRead) (es : List Entry) (k : ℕ) (files : List ℕ → Option File) → IsOther s name
-    → Cut (opening_calls s ++ (reads_of s given at answer ++ all_calls s m evs)) es
+    → Cut (settling_calls s ++ (reads_of s given at answer ++ all_calls s m evs)) es
     → Leaves (disk_after (disk_before b) (until k es)) files
     → (before : List ℕ → Option File) × MayBeLeft b.start b.earlier (length b.earlier) before ×
     (files name ≡ before name)
@@ -269,7 +269,7 @@ others_could b s name m evs given at answer es k files other cut left =
     let d : Disk = disk_before b in
     let same : (disk_after d (until k es)).shows name ≡ d.shows name
     = at_stop (Shows name (d.shows name)) 0 0 0 d
-    (opening_calls s ++ (reads_of s given at answer ++ all_calls s m evs)) es k
+    (settling_calls s ++ (reads_of s given at answer ++ all_calls s m evs)) es k
     (rescue_aside s name d m evs given at answer other) cut in
     let here : MayShow (d.shows name) (files name) = subst (λ (v : Showing). MayShow v (files name)) same (left name) in (
       put d.reads.files name (files name),

@@ -12,10 +12,11 @@ use Rattle.rescue_rules.specs.Moves.{IsRun}
 use Rattle.rescue_rules.specs.Events.{reads_of}
 use Rattle.rescue_rules.specs.Held.{Held}
 use Rattle.rescue_rules.specs.Stops.{is_settle, is_publish, is_write}
-use Rattle.rescue_rules.specs.RunCalls.{run_calls, end_calls}
+use Rattle.rescue_rules.specs.RunCalls.{run_calls}
 use Rattle.rescue_rules.specs.Laws.{AreThreeNames}
 use Rattle.rescue_rules.specs.MachineLaws.{IsInOrder}
 use Rattle.rescue_rules.specs.RunStops.{ComesTo, Promised, promised, Keeps, Rests, RunStopsSafely}
+use Rattle.rescue_rules.proofs.MapfileLemmas.{last_save, end_is}
 use Rattle.rescue_rules.proofs.CutLemmas.{Cut, tally, tally_is, Each, at_stop}
 use Rattle.rescue_rules.proofs.HoldLemmas.{held_at_first, held_more}
 use Rattle.rescue_rules.proofs.FinishLemmas.{finished_stands}
@@ -86,7 +87,7 @@ first_going s m es d order run h =
 
 -- at every stop of a run, and before it
 pub each_run : (s : Setting) (ok : IsSensible s) (m : Machine) (es : List Event) (d : Disk) → AreThreeNames s → IsInOrder s m
-    → IsRun s m es → Rests s d → Each (Holds (promised s m es d)) 0 0 0 d (run_calls s m es ++ end_calls s m es)
+    → IsRun s m es → Rests s d → Each (Holds (promised s m es d)) 0 0 0 d (run_calls s m es ++ last_save s m es)
 each_run s ok m es d three order run rests =
     each_move (promised s m es d) ok three m es (first_base s m es d) refl 0 rests.file d
     (first_going s m es d order run rests) (first_calm s ok m es d order run rests)
@@ -98,13 +99,15 @@ rests_hold s ok m es d order run rests =
     (first_calm s ok m es d order run rests)
 
 pub run_stops_safely : RunStopsSafely
-run_stops_safely s m es d calls k files ok three order run rests comes leaves =
+run_stops_safely s m es d calls k files ok on three order run rests comes leaves =
     let a : Promised = promised s m es d in
-    let each : Each (Holds a) 0 0 0 d (run_calls s m es ++ end_calls s m es) = each_run s ok m es d three order run rests in
+    let all : List Call = run_calls s m es ++ last_save s m es in
+    let comes' : ComesTo all calls
+    = subst (λ (l : List Call). ComesTo (run_calls s m es ++ l) calls) (end_is s m es on) comes in
+    let each : Each (Holds a) 0 0 0 d all = each_run s ok m es d three order run rests in
     let at : Keeps a (tally is_settle (take k calls) 0) (tally is_publish (take (suc k) calls) 0)
     (tally is_write (take (suc k) calls) 0) files
-    = at_stop (Holds a) 0 0 0 d (run_calls s m es ++ end_calls s m es) calls k each
-    (comes_cut (run_calls s m es ++ end_calls s m es) calls comes) files leaves in
+    = at_stop (Holds a) 0 0 0 d all calls k each (comes_cut all calls comes') files leaves in
     subst (λ (n : ℕ). Keeps a (count_by is_settle (take k calls)) (count_by is_publish (take n calls))
     (count_by is_write (take n calls)) files) (sym (add-one k))
     (subst (λ (r : ℕ). Keeps a r (count_by is_publish (take (suc k) calls)) (count_by is_write (take (suc k) calls)) files)

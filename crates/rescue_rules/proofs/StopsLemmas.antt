@@ -20,7 +20,7 @@ use Rattle.rescue_rules.specs.Step.{Event}
 use Rattle.rescue_rules.specs.Events.{began_at}
 use Rattle.rescue_rules.specs.Snapshots.{Snapshot, text_of}
 use Rattle.rescue_rules.specs.Held.{Held}
-use Rattle.rescue_rules.specs.Work.{Gain, begins, events_in, opening_calls}
+use Rattle.rescue_rules.specs.Work.{Gain, begins, events_in}
 use Rattle.rescue_rules.specs.Stops.{Behind, files_before, LeftAt, is_sync, is_settle, is_publish, is_write, has_barrier, IsSave, saves_of, IsKept}
 use Rattle.rescue_rules.specs.Laws.{AreThreeNames, AreTimes, GoesSafely}
 use Rattle.rescue_rules.specs.RunStops.{Promised, promised, Keeps, Rests}
@@ -37,6 +37,7 @@ use Rattle.rescue_rules.proofs.RunStopLemmas.{each_run, rests_hold}
 use Rattle.rescue_rules.proofs.FitLemmas.{begins_fits}
 use Rattle.rescue_rules.proofs.SnapshotLemmas.{IsReadable, IsTame, all_readable, one_of, events_timed}
 use Rattle.rescue_rules.proofs.BarrierLemmas.{at_barrier, barrier_rests, barrier_mapfile, barrier_output}
+use Rattle.rescue_rules.proofs.MapfileLemmas.{settling_calls}
 use Rattle.rescue_rules.proofs.GoesLemmas.{all_calls, reads_of, Course, Way, AnyMap, OneMap, way}
 use Rattle.rescue_rules.proofs.BeforeLemmas.{disk_before, sound_before, could_before}
 use Rattle.rescue_rules.proofs.OthersLemmas.{others_could}
@@ -106,7 +107,7 @@ barrier_behind c tail es k off p is =
     (subst (λ (l : List Entry). has_barrier (take k l) ≡ true) p.es_is is) in
     other_test (is_sync (Done c)) (has_barrier (take p.j p.rest)) off here
 
-past : (s : Setting) (tail : List Call) (es : List Entry) (k : ℕ) → Cut (opening_calls s ++ tail) es
+past : (s : Setting) (tail : List Call) (es : List Entry) (k : ℕ) → Cut (settling_calls s ++ tail) es
     → has_barrier (take k es) ≡ true → Past s tail es k
 past s tail es k cut is =
     let p1 = peel (image_open s.outfile true) (map_settle s.names.map ∷ image_sync ∷ tail) es k cut is in
@@ -316,10 +317,10 @@ some_course : (s : Setting) (files : List ℕ → Option File) (g : Gain) → Wa
 some_course s files g (AnyMap any) = ([], None, any [] None)
 some_course s files g (OneMap map at was course) = (map, at, course)
 
--- a rescue that goes as it should stops safely
+-- a rescue with a mapfile that goes as it should stops safely
 pub goes_safely : GoesSafely
-goes_safely b s g ok three low times goes =
-    let w : Way s (files_before b) g = way s (files_before b) g goes in
+goes_safely b s g ok on three low times goes =
+    let w : Way s (files_before b) g = way s (files_before b) g on goes in
     let (map, at, course) = some_course s (files_before b) g w in
     let m : Machine = begins s map at g in
     record {

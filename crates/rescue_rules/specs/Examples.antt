@@ -14,6 +14,8 @@ abbrev pub small : (end cluster skip : ℕ) → Setting
 small end cluster skip = record {
   infile = 105 ∷ [];
   outfile = 111 ∷ [];
+  forced = false;
+  has_mapfile = true;
   names = record { map = 109 ∷ []; draft = 100 ∷ [] };
   line = [];
   end = end;

@@ -22,10 +22,10 @@ pub record AreThreeNames (s : Setting) : Type 0 where
 abbrev pub AreTimes : List ℕ → Type 0
 AreTimes times = All (λ t. t < 2 ^ 64) times
 
--- A rescue that goes as it should stops safely at every moment.
+-- A rescue with a mapfile that goes as it should stops safely at every moment.
 abbrev pub GoesSafely : Type 0
-GoesSafely = (b : Behind) (s : Setting) (g : Gain) → IsSensible s → AreThreeNames s → s.end < 2 ^ 63 → AreTimes g.times
-    → Goes s (files_before b) g → StopsSafely b s g
+GoesSafely = (b : Behind) (s : Setting) (g : Gain) → IsSensible s → s.has_mapfile ≡ true → AreThreeNames s
+    → s.end < 2 ^ 63 → AreTimes g.times → Goes s (files_before b) g → StopsSafely b s g
 
 -- a mapfile stands for one map and one state at most
 abbrev pub StandsForOne : Type 0

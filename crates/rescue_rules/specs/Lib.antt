@@ -1,4 +1,5 @@
 pub mod Setting
+pub mod Preparation
 pub mod Start
 pub mod Passes
 pub mod Machine

@@ -2,14 +2,14 @@
 use Rattle.std.specs.Prelude.{ℕ, nat_eq, List, [], ◌∷◌, ◌++◌, take, if◌then◌else◌}
 use Rattle.std.specs.List.{flat_map}
 use Rattle.faulty_source.specs.Journal.{Reading, kept}
-use Rattle.crash_site.specs.Calls.{Call, image_write}
+use Rattle.crash_site.specs.Calls.{Call, image_write, image_sync}
 use Rattle.crash_site.specs.Files.{written}
 use Rattle.save_resume.specs.Saving.{save_calls}
 use Rattle.rescue_rules.specs.Setting.{Setting, place}
 use Rattle.rescue_rules.specs.Machine.{Machine}
 use Rattle.rescue_rules.specs.Step.{Event}
 use Rattle.rescue_rules.specs.Moves.{Move, moves, state_after}
-use Rattle.rescue_rules.specs.Snapshots.{text_of, snapshot, is_due, last_snapshot}
+use Rattle.rescue_rules.specs.Snapshots.{Snapshot, text_of, snapshot, is_due, last_snapshot}
 
 -- what is kept of a read is written at its place, if it is anything
 abbrev pub write_calls : Setting → Reading → List Call
@@ -38,6 +38,10 @@ move_calls s v = write_calls s v.event.reading ++ due_calls s v
 abbrev pub run_calls : Setting → Machine → List Event → List Call
 run_calls s m events = flat_map (move_calls s) (moves s m events)
 
--- the save at the run's end
+-- a save, or without a mapfile an image sync
+abbrev pub closing_calls : Setting → Snapshot → List Call
+closing_calls s p = if s.has_mapfile then save_calls s.names (text_of s.line p) else image_sync ∷ []
+
+-- the calls at the run's end
 abbrev pub end_calls : Setting → Machine → List Event → List Call
-end_calls s m events = save_calls s.names (text_of s.line (last_snapshot s (state_after s m events)))
+end_calls s m events = closing_calls s (last_snapshot s (state_after s m events))

@@ -1,5 +1,5 @@
 -- What may be found at whatever moment a run is stopped that saves while it goes.
-use Rattle.std.specs.Prelude.{◌≡◌, ⊤, ℕ, ◌+◌, ◌≤◌, List, [], ◌∷◌, ◌++◌, take, count_by, Option, Some}
+use Rattle.std.specs.Prelude.{◌≡◌, ⊤, ℕ, ◌+◌, ◌≤◌, true, List, [], ◌∷◌, ◌++◌, take, count_by, Option, Some}
 use Rattle.block_list.specs.declared.status.Status.{Status}
 use Rattle.faulty_source.specs.Journal.{Reading}
 use Rattle.crash_site.specs.Files.{File, bytes_of}
@@ -67,10 +67,11 @@ promised s m events d = record {
   saves = snapshots s m events;
 }
 
--- A run over such a disk keeps that at whatever moment it is stopped, between or within its calls.
+-- A run with a mapfile over such a disk keeps that at whatever moment it is stopped, between or within its calls.
 abbrev pub RunStopsSafely : Type 0
 RunStopsSafely = (s : Setting) (m : Machine) (events : List Event) (d : Disk) (calls : List Entry) (k : ℕ)
-    (files : List ℕ → Option File) → IsSensible s → AreThreeNames s → IsInOrder s m → IsRun s m events → Rests s d
-    → ComesTo (run_calls s m events ++ end_calls s m events) calls → Leaves (disk_after d (until k calls)) files
+    (files : List ℕ → Option File) → IsSensible s → s.has_mapfile ≡ true → AreThreeNames s → IsInOrder s m
+    → IsRun s m events → Rests s d → ComesTo (run_calls s m events ++ end_calls s m events) calls
+    → Leaves (disk_after d (until k calls)) files
     → Keeps (promised s m events d) (count_by is_settle (take k calls)) (count_by is_publish (take (k + 1) calls))
     (count_by is_write (take (k + 1) calls)) files

@@ -5,9 +5,13 @@ use Rattle.save_resume.specs.MapNames.{MapNames}
 -- What the words of a rescue ask for, once its input's length is known. Sizes and positions are in bytes, times in
 -- milliseconds.
 pub record Setting : Type 0 where
-  -- the files: the input, the output, the mapfile with its draft
+  -- the input and the output, and whether the output may be something else than a regular file
   pub infile : List ℕ
   pub outfile : List ℕ
+  pub forced : Bool
+  -- whether there is a mapfile; without one nothing is saved, and the output is synced at the end
+  pub has_mapfile : Bool
+  -- the names of the mapfile and of its draft, which mean nothing where there is none
   pub names : MapNames
   -- the command line, as a mapfile shows it
   pub line : List ℕ

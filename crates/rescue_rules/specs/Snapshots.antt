@@ -30,9 +30,9 @@ text_of line p = printed (heading_at line p.began p.now) p.shown p.map
 abbrev pub snapshot : Machine → Snapshot
 snapshot m = record { map = m.map; shown = m.shown; began = m.began; now = m.now }
 
--- a save is due after an event that comes long enough after the last due one, and meets no limit
+-- with a mapfile, a save is due after an event that comes long enough after the last due one, and meets no limit
 abbrev pub is_due : Setting → Move → Bool
-is_due s v = is_timely v.before v.event && is_none (limit s v.after)
+is_due s v = s.has_mapfile && is_timely v.before v.event && is_none (limit s v.after)
 
 -- a finished run says so
 abbrev pub finished_snapshot : Machine → Snapshot
@@ -42,7 +42,7 @@ finished_snapshot m = record (snapshot m) { shown = record m.shown { current = F
 abbrev pub last_snapshot : Setting → Machine → Snapshot
 last_snapshot s m = if is_over s m then finished_snapshot m else snapshot m
 
--- what a run saves, in order: the due saves, and one at its end
+-- what a run with a mapfile saves, in order: the due saves, and one at its end
 abbrev pub snapshots : Setting → Machine → List Event → List Snapshot
 snapshots s m events =
     map (λ v. snapshot v.after) (filter (is_due s) (moves s m events)) ++ last_snapshot s (state_after s m events) ∷ []

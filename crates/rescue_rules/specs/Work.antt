@@ -1,5 +1,5 @@
 -- What a rescue does on its files, in order, and how far it comes.
-use Rattle.std.specs.Prelude.{◌≡◌, ◌⊎◌, ℕ, ◌+◌, ◌*◌, true, false, List, [], ◌∷◌, ◌++◌, length, map, Option, Some, None}
+use Rattle.std.specs.Prelude.{◌≡◌, ◌⊎◌, ℕ, ◌+◌, ◌*◌, true, false, List, [], ◌∷◌, ◌++◌, length, map, Option, Some, None, if◌then◌else◌}
 use Rattle.block_list.specs.declared.status.Status.{Status}
 use Rattle.mapfile_text.specs.declared.state.MapState.{MapState}
 use Rattle.faulty_source.specs.Journal.{Reading}
@@ -50,17 +50,17 @@ EndsBy (Some SourceLost) s m spare = (is_over s m ≡ false) × (limit s m ≡ N
 EndsBy (Some (Site call)) s m spare = ⊥
 EndsBy (Some NoMemory) s m spare = (is_over s m ≡ false) × (limit s m ≡ None) × (spare ≡ 0)
 
--- how a run ends whose map was saved
+-- how a run ends whose last calls returned
 abbrev pub end_of : Option Stop → RunEnd
 end_of None = Finished
 end_of (Some stop) = Stopped stop
 
 -- The calls of a run whose reads make these events, by how it ended.
 pub data Ends (s : Setting) (m : Machine) (events : List Event) (spare : ℕ) (calls : List Entry) (end : RunEnd) : Type 0 where
-  -- it ended, and its map was saved
+  -- it ended, and its last calls returned
   IsSaved : (stop : Option Stop) → EndsBy stop s (state_after s m events) spare → end ≡ end_of stop
       → calls ≡ map Done (run_calls s m events ++ end_calls s m events) → Ends s m events spare calls end
-  -- it ended, and a call of its last save failed
+  -- it ended, and one of them failed
   IsUnsaved : (stop : Option Stop) (call : SiteCall) → EndsBy stop s (state_after s m events) spare
       → end ≡ SaveFailed call stop → BrokeAt call (end_calls s m events) (map Done (run_calls s m events)) calls
       → Ends s m events spare calls end
@@ -78,9 +78,18 @@ pub record Runs (s : Setting) (statuses : List Status) (state : Option MapState)
   pub run : IsRun s (begins s statuses state g) (events_in g)
   pub ends : Ends s (begins s statuses state g) (events_in g) spare g.calls end
 
--- the calls before a mapfile is read: the output is opened, and the barrier makes durable what stands
+-- the calls before a mapfile is read: the output is opened, and with a mapfile the barrier makes durable what stands
 abbrev pub opening_calls : Setting → List Call
-opening_calls s = image_open s.outfile true ∷ barrier_calls s.names
+opening_calls s = image_open s.outfile true ∷ (if s.has_mapfile then barrier_calls s.names else [])
+
+-- the mapfile among files, if there is one
+abbrev pub mapfile_in : Setting → (List ℕ → Option File) → Option File
+mapfile_in s files = if s.has_mapfile then files s.names.map else None
+
+-- all reads of it, and none without one
+pub record IsLoadOf (s : Setting) (files : List ℕ → Option File) (load : List Call) : Type 0 where
+  pub all : s.has_mapfile ≡ true → IsLoad s.names.map (files s.names.map) load
+  pub none : s.has_mapfile ≡ false → load ≡ []
 
 -- How far a rescue came over files as they read before it, by what it did.
 pub data Goes (s : Setting) (files : List ℕ → Option File) (g : Gain) : Type 0 where
@@ -89,11 +98,11 @@ pub data Goes (s : Setting) (files : List ℕ → Option File) (g : Gain) : Type
       → (g.calls ≡ map Done front) ⊎ ((call : Call) × (rest : List Call) × (back ≡ call ∷ rest) × Lost call (map Done front) g.calls)
       → Goes s files g
   -- the mapfile was being read, or was read and no run begun
-  InLoad : (load : List Call) → BeginsLoad s.names.map (files s.names.map) load → g.reads ≡ []
+  InLoad : (load : List Call) → s.has_mapfile ≡ true → BeginsLoad s.names.map (files s.names.map) load → g.reads ≡ []
       → (g.calls ≡ map Done (opening_calls s ++ load)) ⊎ BrokeAt MapRead (opening_calls s ++ load) [] g.calls
       → Goes s files g
-  -- a run over the map that the mapfile stands for had begun
+  -- a run over the map that the mapfile stands for, or no mapfile, had begun
   InRun : (load : List Call) (statuses : List Status) (state : Option MapState) (end : RunEnd) (rest : List Entry)
-      → IsLoad s.names.map (files s.names.map) load → Stands (files s.names.map) s.end statuses state
+      → IsLoadOf s files load → Stands (mapfile_in s files) s.end statuses state
       → g.calls ≡ map Done (opening_calls s ++ load) ++ rest → Runs s statuses state (record g { calls = rest }) end
       → Goes s files g

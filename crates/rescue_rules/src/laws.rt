@@ -6,7 +6,7 @@ ghost use Rattle.rescue_rules.specs.RunStops.{RunStopsSafely};
 ghost use Rattle.rescue_rules.specs.RunLaws.{FreshRunReadsSectors, RunAsksOnce};
 ghost use Rattle.rescue_rules.specs.Nameless.{RunNeedsNoNames};
 
-/// A rescue that goes as it should stops safely at every moment.
+/// A rescue with a mapfile that goes as it should stops safely at every moment.
 pub fn a_rescue_stops_safely()
     ensures { GoesSafely }
 {}
@@ -53,7 +53,8 @@ pub fn a_run_goes_on()
     ensures { RunGoesOn }
 {}
 
-/// A run is the same without the names of its input and its output and without the input's length.
+/// A run is the same without the names of its input and its output, without the input's length, and whatever its output
+/// may be.
 pub fn a_run_needs_no_names()
     ensures { RunNeedsNoNames }
 {}
@@ -88,7 +89,8 @@ pub fn a_run_holds()
     ensures { RunHolds }
 {}
 
-/// A run that saves while it goes keeps what each of its mapfiles promises, at whatever moment it is stopped.
+/// A run with a mapfile, which saves while it goes, keeps what each of its mapfiles promises, at whatever moment it is
+/// stopped.
 pub fn a_run_stops_safely()
     ensures { RunStopsSafely }
 {}

@@ -21,11 +21,11 @@ pub enum TrimMode {
 /// How a run ended.
 #[derive(Clone, Copy, Debug, PartialEq, Eq)]
 pub enum RunEnd {
-    /// It went on to its end, and its map was saved.
+    /// It went on to its end. Its map was saved or, without a mapfile, its output synced.
     Done,
-    /// It stopped. Its map was saved, unless it stopped at a call on its files.
+    /// It stopped. The same was done, unless it stopped at a call on its files.
     Stopped(Stop),
-    /// A call of its last save failed. If the run had stopped before, this says why.
+    /// A call of its last save failed, or that sync. If the run had stopped before, this says why.
     SaveFailed {
         call: SiteCall,
         earlier: Option<Stop>,

@@ -1,0 +1,26 @@
+-- What a source gives of its reads in test mode: what a test map says is finished.
+use Rattle.std.specs.Prelude.{◌≡◌, ℕ, zero, suc, ◌+◌, ◌<◌, ◌≤◌, true, false, List, length, map, take, if◌then◌else◌}
+use Rattle.block_list.specs.declared.status.Status.{Status}
+use Rattle.faulty_source.specs.Journal.{Reading}
+use Rattle.faulty_source.specs.SourceState.{SourceState}
+use Rattle.rescue_domain.specs.Finished.{is_finished_at}
+
+-- how many of n positions from one on come before the first that isn't finished
+abbrev pub finished_front : (statuses : List Status) → (pos n : ℕ) → ℕ
+finished_front statuses pos zero = 0
+finished_front statuses pos (suc n) = if is_finished_at statuses pos then 1 + finished_front statuses (pos + 1) n else 0
+
+-- that many: each of them is finished, and the next one isn't, unless they are all
+pub record IsFront (statuses : List Status) (pos n front : ℕ) : Type 0 where
+  pub few : front ≤ n
+  pub finished : (x : ℕ) → pos ≤ x → x < pos + front → is_finished_at statuses x ≡ true
+  pub stops : front < n → is_finished_at statuses (pos + front) ≡ false
+
+-- a read as it is seen in test mode: what it gave in front of the first position that isn't finished
+abbrev pub seen : (statuses : List Status) → Reading → Reading
+seen statuses r = record r { given = take (finished_front statuses r.pos (length r.given)) r.given }
+
+-- What a source tells in test mode: what the one that it reads does, but its journal has the reads as they are seen. That
+-- one's plan isn't its own, since a failure behind the first position that isn't finished is met all the same.
+abbrev pub state_seen : (statuses : List Status) → SourceState → SourceState
+state_seen statuses s = record s { journal = map (seen statuses) s.journal; is_planned = false }
