@@ -68,7 +68,7 @@ at_pass r phase pass passes cursor mode skip = record r {
   machine = record r.machine { passes = passes; cursor = cursor; mode = mode; skip = skip };
 }
 
-pub passed_is : (settings : Settings) (domain : List Run) (names : MapNames) (line : List ℕ) (map : List Status) (phase : Phase)
+pub passed_is : (settings : Settings) (domain : List Run) (names : Option MapNames) (line : List ℕ) (map : List Status) (phase : Phase)
     (place : Place) (tally : Tally) (phase' : Phase) (pass : ℕ) (place' : Place)
     → slice_get (passes_from (setting_with settings domain names line) phase place.pass) 1 ≡ Some (numbered phase' pass)
     → place'.pass ≡ pass → place'.cursor ≡ start_of (setting_with settings domain names line) (numbered phase' pass) map
@@ -113,7 +113,7 @@ few_passes : (loaded : Option MapState) → first_pass loaded ≤ 5
 few_passes None = omega arith
 few_passes (Some state) = omega arith
 
-pub running_started : (settings : Settings) (domain : List Run) (names : MapNames) (line : List ℕ) (map : List Status)
+pub running_started : (settings : Settings) (domain : List Run) (names : Option MapNames) (line : List ℕ) (map : List Status)
     (loaded : Option MapState) (place : Place) (tally : Tally) (room : ℕ) → IsSound settings
     → Suits settings (covers domain) (length map) → length map < 2 ^ 63 → place.pass ≡ first_pass loaded
     → place.cursor ≡ first_cursor (setting_with settings domain names line) loaded map → place.mode ≡ Lead

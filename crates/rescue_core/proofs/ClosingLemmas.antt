@@ -1,58 +1,46 @@
--- What the last save of a run saves.
-use Rattle.std.proofs.Common.{◌≡◌, ℕ, ◌/◌, false, List, Option, Some, None, Ok, Err, refl, ap, subst, ◌∙◌, MatchOption}
-use Rattle.mapfile_text.specs.declared.heading.Program.{Program}
-use Rattle.mapfile_text.specs.declared.heading.Program.TheVariants.{Ddrescue}
+-- What the end of a run saves.
+use Rattle.std.proofs.Common.{◌≡◌, false, Option, Some, None, Ok, Err, refl, ap, subst, ◌∙◌, MatchOption}
 use Rattle.mapfile_text.specs.declared.state.MapState.{MapState}
 use Rattle.mapfile_text.specs.declared.state.Current.TheVariants.{Finished}
-use Rattle.mapfile_text.specs.HeadingLines.{HeadingLines}
-use Rattle.mapfile_text.specs.Printed.{printed}
 use Rattle.crash_site.specs.SiteState.{SiteState, Makes, Breaks}
 use Rattle.save_resume.specs.declared.draft.SaveFault.{SaveFault}
-use Rattle.save_resume.specs.declared.draft.Saved.{Saved as SavedMap}
-use Rattle.save_resume.specs.Saving.{save_calls, IsNameIn, drafting_after_fault, Saves as SavesMap}
+use Rattle.save_resume.specs.Saving.{IsNameIn, drafting_after_fault, Saves as SavesMap}
 use Rattle.rescue_rules.specs.declared.stop.Stop.{Stop}
 use Rattle.rescue_rules.specs.declared.stop.RunEnd.TheVariants.{SaveFailed}
-use Rattle.rescue_rules.specs.Snapshots.{heading_at, text_of}
-use Rattle.rescue_core.specs.RunState.{RunState}
+use Rattle.rescue_rules.specs.Snapshots.{Snapshot}
+use Rattle.rescue_rules.specs.RunCalls.{closing_calls}
+use Rattle.rescue_core.specs.RunState.{RunState, setting_in}
 use Rattle.rescue_core.specs.Closing.{closing_snapshot, end_of, Saves, Saved, Unsaved}
 
--- What a save prints at a run's end: its heading and its state.
-pub record Prints (stop : Option Stop) (r : RunState) (h : HeadingLines) (shown : MapState) : Type 0 where
-  pub heading : h ≡ heading_at r.line r.machine.began r.machine.now
-  pub state : MatchOption stop (shown ≡ record r.machine.shown { current = Finished; pass = 1 })
-      (λ s. shown ≡ r.machine.shown)
+-- what a save says of a run that shows this
+abbrev pub with_shown : RunState → MapState → Snapshot
+with_shown r shown = record { map = r.machine.map; shown = shown; began = r.machine.began; now = r.machine.now }
 
-pub heading_is : (program : Program) (line : List ℕ) (began now : ℕ) → program ≡ Ddrescue
-    → record { program = program; line = line; start_s = began / 1000; now_s = now / 1000 } ≡ heading_at line began now
-heading_is program line began now is =
-    let of : Program → HeadingLines
-    = λ p. record { program = p; line = line; start_s = began / 1000; now_s = now / 1000 } in
-    ap of is
+-- what a run shows last
+abbrev pub ShowsLast : Option Stop → (shown last : MapState) → Type 0
+ShowsLast stop shown last = MatchOption stop (last ≡ record shown { current = Finished; pass = 1 }) (λ _. last ≡ shown)
 
-closing_text : (stop : Option Stop) (r : RunState) (h : HeadingLines) (shown : MapState) → Prints stop r h shown
-    → printed h shown r.machine.map ≡ text_of r.line (closing_snapshot stop r)
-closing_text None r h shown p =
-    ap (λ (l : HeadingLines). printed l shown r.machine.map) p.heading
-    ∙ ap (λ (s : MapState). printed (heading_at r.line r.machine.began r.machine.now) s r.machine.map) p.state
-closing_text (Some stop) r h shown p =
-    ap (λ (l : HeadingLines). printed l shown r.machine.map) p.heading
-    ∙ ap (λ (s : MapState). printed (heading_at r.line r.machine.began r.machine.now) s r.machine.map) p.state
+closing_is : (stop : Option Stop) (r : RunState) (last : MapState) → ShowsLast stop r.machine.shown last
+    → with_shown r last ≡ closing_snapshot stop r
+closing_is None r last is = ap (with_shown r) is
+closing_is (Some stop) r last is = ap (with_shown r) is
 
-pub saves_whole : (stop : Option Stop) (r : RunState) (h : HeadingLines) (shown : MapState) (saved : SavedMap)
-    (site site' : SiteState) → Prints stop r h shown
-    → SavesMap (save_calls r.names (printed h shown r.machine.map)) false (Ok saved) site site'
+pub saves_whole : {T : Type 0} (stop : Option Stop) (r : RunState) (last : MapState) (saved : T) (site site' : SiteState)
+    → ShowsLast stop r.machine.shown last
+    → SavesMap (closing_calls (setting_in r) (with_shown r last)) false (Ok saved) site site'
     → Saves stop r (end_of stop) site site'
-saves_whole stop r h shown saved site site' p s =
+saves_whole stop r last saved site site' is s =
     Saved refl
-    (subst (λ (text : List ℕ). Makes (save_calls r.names text) site site') (closing_text stop r h shown p) s.made)
+    (subst (λ (p : Snapshot). Makes (closing_calls (setting_in r) p) site site') (closing_is stop r last is) s.made)
     s.draft
 
-pub saves_broken : (stop : Option Stop) (r : RunState) (h : HeadingLines) (shown : MapState) (fault : SaveFault)
-    (site site' : SiteState) → Prints stop r h shown → site.is_drafting ≡ false
-    → SavesMap {T = SavedMap} (save_calls r.names (printed h shown r.machine.map)) false (Err fault) site site'
+pub saves_broken : {T : Type 0} (stop : Option Stop) (r : RunState) (last : MapState) (fault : SaveFault) (site site' : SiteState)
+    → ShowsLast stop r.machine.shown last → site.is_drafting ≡ false
+    → SavesMap {T = T} (closing_calls (setting_in r) (with_shown r last)) false (Err fault) site site'
     → Saves stop r (SaveFailed fault.call stop) site site'
-saves_broken stop r h shown fault site site' p none s =
+saves_broken stop r last fault site site' is none s =
+    let closing = closing_is stop r last is in
     Unsaved fault.call refl
-    (subst (λ (text : List ℕ). IsNameIn fault.call (save_calls r.names text)) (closing_text stop r h shown p) s.named)
-    (subst (λ (text : List ℕ). Breaks fault.call (save_calls r.names text) site site') (closing_text stop r h shown p) s.broke)
+    (subst (λ (p : Snapshot). IsNameIn fault.call (closing_calls (setting_in r) p)) closing s.named)
+    (subst (λ (p : Snapshot). Breaks fault.call (closing_calls (setting_in r) p) site site') closing s.broke)
     (s.draft_left ∙ ap (drafting_after_fault fault.call) none)

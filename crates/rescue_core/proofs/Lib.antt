@@ -2,7 +2,9 @@ pub mod BeginLemmas
 pub mod ClosingLemmas
 pub mod PassLemmas
 pub mod PlaceLemmas
+pub mod PrepareLemmas
 pub mod RequestLemmas
+pub mod SaveLemmas
 pub mod StageLemmas
 pub mod TurnCallLemmas
 pub mod TurnLemmas

@@ -167,7 +167,7 @@ wanted_in s m map phase n k pos x wanted pass =
     (and_parts (s.domain pos) (has_taken m.passes (slice_get m.map pos)) wanted).1 pass)
 
 -- a run behind an event, by its parts
-pub run_steps : (settings : Settings) (domain : List Run) (names : MapNames) (line : List ℕ) (map map' : List Status)
+pub run_steps : (settings : Settings) (domain : List Run) (names : Option MapNames) (line : List ℕ) (map map' : List Status)
     (phase : Phase) (place place' : Place) (tally tally' : Tally) (e : Event)
     → let r : RunState = run_at settings domain names line map phase place tally in
     map' ≡ map_after (setting_in r) r.machine e.reading

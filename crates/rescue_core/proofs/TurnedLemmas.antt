@@ -1,5 +1,5 @@
 -- What a turn makes of a run, by what its parts say.
-use Rattle.std.proofs.Common.{◌≡◌, ℕ, ◌+◌, Bool, true, false, ◌&&◌, List, [], ◌∷◌, length, take, drop, ◌++◌, refl, sym, ap, subst, ◌∙◌, arith, length-append, length-drop, length-take-le}
+use Rattle.std.proofs.Common.{◌≡◌, ℕ, ◌+◌, Bool, true, false, ◌&&◌, if◌then◌else◌, Option, is_some, List, [], ◌∷◌, length, take, drop, ◌++◌, refl, sym, ap, subst, ◌∙◌, arith, length-append, length-drop, length-take-le}
 use Rattle.std.specs.List.{slice_get}
 use Rattle.block_list.specs.declared.block.Run.{Run}
 use Rattle.block_list.specs.declared.status.Status.{Status}
@@ -7,6 +7,7 @@ use Rattle.mapfile_text.specs.declared.state.MapState.{MapState}
 use Rattle.faulty_source.specs.Journal.{Reading, is_whole}
 use Rattle.faulty_source.specs.SourceState.{SourceState}
 use Rattle.crash_site.specs.declared.site.SiteCall.{SiteCall}
+use Rattle.crash_site.specs.Calls.{Call}
 use Rattle.crash_site.specs.SiteState.{SiteState, Keeps, Makes, Breaks}
 use Rattle.save_resume.specs.MapNames.{MapNames}
 use Rattle.save_resume.specs.Saving.{save_calls, IsNameIn}
@@ -32,11 +33,11 @@ use Rattle.rescue_core.specs.declared.settings.Settings.{Settings}
 use Rattle.rescue_core.specs.declared.state.Place.{Place}
 use Rattle.rescue_core.specs.declared.state.Tally.{Tally}
 use Rattle.rescue_core.specs.declared.turn.Turn.{Turn}
-use Rattle.rescue_core.specs.RunState.{RunState, setting_in, run_at, HasPlaces, IsRunning}
+use Rattle.rescue_core.specs.RunState.{RunState, names_in, setting_in, run_at, HasPlaces, IsRunning}
 use Rattle.rescue_core.specs.Turning.{turn_of, stepped, move_by, Turned, Halted, Unsaved}
 use Rattle.rescue_core.specs.TurnParts.{place_of, tally_of, RunsAt, IsReadOf, fetched_of, Gathers}
 use Rattle.rescue_core.proofs.TurnLemmas.{sensible_in, Fits, request_fits, running_steps, wanted_in, run_steps}
-use Rattle.rescue_core.proofs.TurnCallLemmas.{timely_due, untimely_calls, timely_calls, timely_breaks, timely_rose}
+use Rattle.rescue_core.proofs.TurnCallLemmas.{timely_due, named_there, untimely_calls, timely_calls, timely_breaks, timely_rose}
 
 -- what the marks, the place and the tally say
 abbrev pub Marks : Settings → Phase → Place → Request → Kept → List Status → List Status → Type 0
@@ -61,7 +62,7 @@ Tallies tally whole after shown tally' =
 pub record Parts : Type 0 where
   pub settings : Settings
   pub domain : List Run
-  pub names : MapNames
+  pub names : Option MapNames
   pub line : List ℕ
   pub map : List Status
   pub phase : Phase
@@ -248,7 +249,7 @@ does_turned p r room request got line' map' place' tally' source source' site si
       calls = calls;
     })
 
--- a whole turn behind which no save is due
+-- a whole turn behind which it isn't time for a save
 pub does_untimely : (p : Parts) (r : RunState) (room : ℕ) (request : Request) (got : Gathered) (line' : List ℕ)
     (map' : List Status) (place' : Place) (tally' : Tally) (source source' : SourceState) (site site' : SiteState)
     (clock clock' : ClockState) → Begins p r room request
@@ -259,15 +260,16 @@ does_untimely p r room request got line' map' place' tally' source source' site 
     does_turned p r room request got line' map' place' tally' source source' site site' clock clock' b g d site'
     (untimely_calls (run_of p) g.event site site' untimely (g.writes (run_of p) refl))
 
--- a whole turn with the save that was due
+-- a whole turn with the save for which it was time, if there is a mapfile
 pub does_saved : (p : Parts) (r : RunState) (room : ℕ) (request : Request) (got : Gathered) (line' : List ℕ)
     (map' : List Status) (place' : Place) (tally' : Tally) (source source' : SourceState) (site site' : SiteState)
     (clock clock' : ClockState) → Begins p r room request
     → (g : Gathers request p.settings got source source' site site' clock clock')
     → Does p request got line' map' place' tally' → (end : SiteState)
     → is_timely (run_of p).machine g.event ≡ true → Keeps site site'
-    → Makes (save_calls p.names (text_of p.line (snapshot (run_of (parts_behind p line' map' place' tally')).machine)))
-    site' end
+    → Makes (if is_some p.names
+    then save_calls (names_in p.names) (text_of p.line (snapshot (run_of (parts_behind p line' map' place' tally')).machine))
+    else []) site' end
     → Turned request got.turn r (run_of (parts_behind p line' map' place' tally')) source source' site end clock clock'
 does_saved p r room request got line' map' place' tally' source source' site site' clock clock' b g d end timely keeps saves =
     does_turned p r room request got line' map' place' tally' source source' site site' clock clock' b g d end
@@ -282,20 +284,26 @@ pub does_unsaved : (p : Parts) (r : RunState) (room : ℕ) (request : Request) (
     → (g : Gathers request p.settings got source source' site site' clock clock')
     → Does p request got line' map' place' tally' → (call : SiteCall) (end : SiteState)
     → is_timely (run_of p).machine g.event ≡ true → Keeps site site'
-    → IsNameIn call (save_calls p.names (text_of p.line (snapshot (run_of (parts_behind p line' map' place' tally')).machine)))
-    → Breaks call (save_calls p.names (text_of p.line (snapshot (run_of (parts_behind p line' map' place' tally')).machine)))
-    site' end
+    → IsNameIn call (if is_some p.names
+    then save_calls (names_in p.names) (text_of p.line (snapshot (run_of (parts_behind p line' map' place' tally')).machine))
+    else [])
+    → Breaks call (if is_some p.names
+    then save_calls (names_in p.names) (text_of p.line (snapshot (run_of (parts_behind p line' map' place' tally')).machine))
+    else []) site' end
     → Halted request (Site call) r (run_of (parts_behind p line' map' place' tally')) source source' site end clock clock'
 does_unsaved p r room request got line' map' place' tally' source source' site site' clock clock' b g d call end timely keeps named broke =
     let before : RunState = run_of p in
     let behind : RunState = run_of (parts_behind p line' map' place' tally') in
+    let save : List Call = save_calls (names_in p.names) (text_of p.line (snapshot behind.machine)) in
+    let there : is_some p.names ≡ true = named_there p.names call save named in
+    let all : (if is_some p.names then save else []) ≡ save = ap (λ (b : Bool). if b then save else []) there in
     let writes : Makes (write_calls (setting_in before) g.event.reading) site site' = g.writes before refl in
     subst (λ (x : RunState). Halted request (Site call) x behind source source' site end clock clock') b.is
     (Unsaved call refl g.event g.is
     (does_step p r room request got line' map' place' tally' source source' site site' clock clock' b g d)
-    (timely_due before g.event timely) named
-    (timely_breaks call (write_calls (setting_in before) g.event.reading)
-    (save_calls p.names (text_of p.line (snapshot behind.machine))) site site' end keeps writes broke)
+    (timely_due before g.event there timely) (subst (λ (cs : List Call). IsNameIn call cs) all named)
+    (timely_breaks call (write_calls (setting_in before) g.event.reading) save site site' end keeps writes
+    (subst (λ (cs : List Call). Breaks call cs site' end) all broke))
     (timely_rose (write_calls (setting_in before) g.event.reading) site site' end.faults writes broke.rose))
 
 -- a turn that stopped before its marks leaves the run

@@ -2,13 +2,14 @@
 use Rattle.std.specs.Prelude.{◌≡◌, ⊤, false, Bool, Option, Some, None}
 use Rattle.crash_site.specs.declared.site.SiteCall.{SiteCall}
 use Rattle.crash_site.specs.SiteState.{SiteState, Makes, Breaks}
-use Rattle.save_resume.specs.Saving.{save_calls, IsNameIn, drafting_after_fault}
+use Rattle.save_resume.specs.Saving.{IsNameIn, drafting_after_fault}
 use Rattle.rescue_rules.specs.declared.stop.Stop.{Stop}
 use Rattle.rescue_rules.specs.declared.stop.Stop.TheVariants.{SourceLost, Site, NoMemory}
 use Rattle.rescue_rules.specs.declared.stop.RunEnd.{RunEnd}
 use Rattle.rescue_rules.specs.declared.stop.RunEnd.TheVariants.{Done, Stopped, SaveFailed}
-use Rattle.rescue_rules.specs.Snapshots.{Snapshot, text_of, snapshot, finished_snapshot}
-use Rattle.rescue_core.specs.RunState.{RunState}
+use Rattle.rescue_rules.specs.Snapshots.{Snapshot, snapshot, finished_snapshot}
+use Rattle.rescue_rules.specs.RunCalls.{closing_calls}
+use Rattle.rescue_core.specs.RunState.{RunState, setting_in}
 
 -- whether a draft is left begun behind a stop
 abbrev pub drafting_after : Stop → Bool
@@ -21,21 +22,22 @@ abbrev pub closing_snapshot : Option Stop → RunState → Snapshot
 closing_snapshot None r = finished_snapshot r.machine
 closing_snapshot (Some stop) r = snapshot r.machine
 
--- how a run ends whose map was saved
+-- how a run ends whose last calls returned
 abbrev pub end_of : Option Stop → RunEnd
 end_of None = Done
 end_of (Some stop) = Stopped stop
 
--- its last save went on to its end, or a call of it failed
+-- its last calls returned, a save or without a mapfile an image sync, or one of them failed
 pub data Saves (stop : Option Stop) (r : RunState) (end : RunEnd) (site site' : SiteState) : Type 0 where
-  Saved : end ≡ end_of stop → Makes (save_calls r.names (text_of r.line (closing_snapshot stop r))) site site'
+  Saved : end ≡ end_of stop → Makes (closing_calls (setting_in r) (closing_snapshot stop r)) site site'
       → site'.is_drafting ≡ false → Saves stop r end site site'
   Unsaved : (call : SiteCall) → end ≡ SaveFailed call stop
-      → IsNameIn call (save_calls r.names (text_of r.line (closing_snapshot stop r)))
-      → Breaks call (save_calls r.names (text_of r.line (closing_snapshot stop r))) site site'
+      → IsNameIn call (closing_calls (setting_in r) (closing_snapshot stop r))
+      → Breaks call (closing_calls (setting_in r) (closing_snapshot stop r)) site site'
       → site'.is_drafting ≡ drafting_after_fault call false → Saves stop r end site site'
 
--- The end of a run saves its map; but behind a call on its files that failed it makes no further call.
+-- The end of a run saves its map, or without a mapfile syncs its output; but behind a call on its files that failed it
+-- makes no further call.
 abbrev pub Closes : Option Stop → RunState → RunEnd → (site site' : SiteState) → Type 0
 Closes None r end site site' = Saves None r end site site'
 Closes (Some SourceLost) r end site site' = Saves (Some SourceLost) r end site site'
@@ -47,7 +49,7 @@ pub record StoppedState : Type 0 where
   pub run : RunState
   pub stop : Stop
 
--- a save needs that no draft is begun
+-- these calls need that no draft is begun
 abbrev pub MayClose : Option Stop → SiteState → Type 0
 MayClose None site = site.is_drafting ≡ false
 MayClose (Some SourceLost) site = site.is_drafting ≡ false

@@ -1,5 +1,6 @@
 pub mod RunState
 pub mod Search
+pub mod Preparing
 pub mod Requesting
 pub mod Turning
 pub mod Closing

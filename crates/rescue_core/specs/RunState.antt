@@ -1,5 +1,5 @@
 -- What is known of a run between its turns.
-use Rattle.std.specs.Prelude.{◌≡◌, ℕ, ◌+◌, ◌-◌, ◌*◌, ◌^◌, ◌<◌, ◌≤◌, Bool, true, false, not, List, [], length, drop, Option, Some, None}
+use Rattle.std.specs.Prelude.{◌≡◌, ℕ, ◌+◌, ◌-◌, ◌*◌, ◌^◌, ◌<◌, ◌≤◌, Bool, true, false, not, List, [], length, drop, Option, Some, None, is_some}
 use Rattle.block_list.specs.declared.block.Run.{Run}
 use Rattle.block_list.specs.declared.status.Status.{Status}
 use Rattle.block_list.specs.Map.{Has}
@@ -18,24 +18,31 @@ use Rattle.rescue_core.specs.declared.settings.Settings.{Settings}
 use Rattle.rescue_core.specs.declared.state.Place.{Place}
 use Rattle.rescue_core.specs.declared.state.Tally.{Tally}
 
--- its settings, its domain, the names of its mapfile and its draft, the command line, the phase and the pass that it is in,
--- and where it stands
+-- its settings, its domain, the names of its mapfile and its draft if there is a mapfile, the command line, the phase
+-- and the pass that it is in, and where it stands
 pub record RunState : Type 0 where
   pub settings : Settings
   pub domain : List Run
-  pub names : MapNames
+  pub names : Option MapNames
   pub line : List ℕ
   pub phase : Phase
   pub pass : ℕ
   pub machine : Machine
 
--- what settings, a domain by its intervals, names and a command line ask for. A run knows neither the names of the input and of the output
--- nor the input's length.
-abbrev pub setting_with : Settings → List Run → MapNames → List ℕ → Setting
+-- those names, which mean nothing where there is no mapfile
+abbrev pub names_in : Option MapNames → MapNames
+names_in None = record { map = []; draft = [] }
+names_in (Some names) = names
+
+-- what settings, a domain by its intervals, names and a command line ask for. A run knows neither the names of the
+-- input and of the output nor the input's length, nor what the output may be.
+abbrev pub setting_with : Settings → List Run → Option MapNames → List ℕ → Setting
 setting_with settings domain names line = record {
   infile = [];
   outfile = [];
-  names = names;
+  forced = false;
+  has_mapfile = is_some names;
+  names = names_in names;
   line = line;
   end = 0;
   domain = covers domain;
@@ -98,7 +105,7 @@ machine_at s map phase place tally = record {
 }
 
 -- the run that these parts make
-abbrev pub run_at : Settings → List Run → MapNames → List ℕ → List Status → Phase → Place → Tally → RunState
+abbrev pub run_at : Settings → List Run → Option MapNames → List ℕ → List Status → Phase → Place → Tally → RunState
 run_at settings domain names line map phase place tally = record {
   settings = settings;
   domain = domain;
@@ -135,7 +142,8 @@ first_shown None = nothing_shown
 first_shown (Some state) = state
 
 -- a run at its start
-abbrev pub started : Settings → List Run → MapNames → List ℕ → List Status → Option MapState → (moment : ℕ) → RunState
+abbrev pub started : Settings → List Run → Option MapNames → List ℕ → List Status → Option MapState → (moment : ℕ)
+    → RunState
 started settings domain names line map loaded moment = record {
   settings = settings;
   domain = domain;

@@ -20,7 +20,7 @@ pub(crate) fn last_shown(shown: MapState, stop: Option<Stop>) -> MapState
     }
 }
 
-/// How a run ends whose map was saved.
+/// How a run ends whose last calls returned.
 pub(crate) fn end_saved(stop: Option<Stop>) -> RunEnd
     ensures { result ≡ end_of stop }
 {

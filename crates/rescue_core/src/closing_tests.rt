@@ -73,7 +73,7 @@ fn resumed(alloc: Global) -> Result<Rescue<Copying, PlainTiles>, Fail>
         domain,
         tiles,
         Some(shown),
-        names,
+        Some(names),
         heading,
         65_000,
     )?;

@@ -9,6 +9,7 @@ mod landing;
 mod mark;
 pub mod phases;
 mod place;
+pub mod prepare;
 mod request;
 #[cfg(test)]
 mod request_tests;
@@ -20,4 +21,6 @@ pub mod state;
 mod tally;
 mod timed;
 pub mod turn;
+#[cfg(test)]
+mod unsaved_tests;
 mod wanted;

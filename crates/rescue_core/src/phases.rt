@@ -97,14 +97,15 @@ impl<P: Stage, T: Tiles> Model for Rescue<P, T> {
 
 impl<T: Tiles> Rescue<Copying, T> {
     /// A rescue of a domain of a map, at this moment (milliseconds since 1970): in copying's first pass, or in that of a
-    /// state that a mapfile showed, where it goes on from its position. It takes memory for a cluster.
+    /// state that a mapfile showed, where it goes on from its position. Without a mapfile it saves nothing. It takes
+    /// memory for a cluster.
     pub fn start(
         alloc: Global,
         settings: Settings,
         domain: Domain,
         tiles: T,
         loaded: Option<MapState>,
-        names: Names,
+        names: Option<Names>,
         heading: Heading,
         moment: u64,
     ) -> Result<Rescue<Copying, T>, NoMemory>
@@ -190,7 +191,7 @@ impl<T: Tiles> Rescue<Retrying, T> {
 }
 
 impl<T: Tiles> Rescue<Finished, T> {
-    /// Saves the map of a rescue that went on to its end.
+    /// Saves the map of a rescue that went on to its end, or syncs the output if there is no mapfile.
     pub fn close<D: Site, C: Console>(self, site: &mut D, console: &mut C) -> RunEnd
         requires no_draft { (D.state site.old).is_drafting ≡ false }
         ensures closes { Closes None self result (D.state site.old) (D.state site.new) }
@@ -274,8 +275,8 @@ impl<P: Stage, T: Tiles> Rescue<P, T> {
     }
 
     /// One turn: room in the map, a reading of the clock, the read, another reading, the write of what was kept, the marks,
-    /// and the save if one is due. Want of memory comes before the read; a lost read or a failed write leaves the range as
-    /// it was; a call of the save may fail behind the marks.
+    /// and the save if one is due (without a mapfile none is). Want of memory comes before the read; a lost read or a
+    /// failed write leaves the range as it was; a call of the save may fail behind the marks.
     pub fn turn<S: Source, D: Site, K: Clock, C: Console>(
         &mut self,
         request: Request,
@@ -338,7 +339,8 @@ impl<T: Tiles> Stopped<T> {
         self.stop
     }
 
-    /// Saves the map as it is, unless it stopped at a call on its files.
+    /// Saves the map as it is, or syncs the output if there is no mapfile; but makes no call if it stopped at a call on
+    /// its files.
     pub fn close<D: Site, C: Console>(self, site: &mut D, console: &mut C) -> RunEnd
         requires no_draft { MayClose (Some self.stop) (D.state site.old) }
         ensures closes { Closes (Some self.stop) self.run result (D.state site.old) (D.state site.new) }

@@ -1,5 +1,5 @@
 //! How a run comes to its next request: the direction of its pass, the search that it makes, and what that finds.
-ghost use Rattle.std.specs.Prelude.{◌≡◌, ℕ, ◌+◌, ◌<◌, ◌≤◌, ◌^◌, true, false, List, length, IfSome, IfNone};
+ghost use Rattle.std.specs.Prelude.{◌≡◌, ℕ, ◌+◌, ◌<◌, ◌≤◌, ◌^◌, true, false, List, length, Option, IfSome, IfNone};
 ghost use Rattle.block_list.specs.declared.block.Run.{Run};
 ghost use Rattle.block_list.specs.declared.status.Status.{Status};
 ghost use Rattle.save_resume.specs.MapNames.{MapNames};
@@ -36,7 +36,7 @@ struct Search {
 
 /// Whether a pass goes upwards.
 pub(crate) fn is_up(settings: &Settings, pass: u32) -> bool
-    ensures { (domain : List Run) (names : MapNames) (line : List ℕ) (phase : Phase)
+    ensures { (domain : List Run) (names : Option MapNames) (line : List ℕ) (phase : Phase)
         → result ≡ is_up (setting_with settings.now domain names line) (numbered phase pass) }
 {
     let odd = settings.one_way || pass % 2 == 1;
@@ -45,8 +45,8 @@ pub(crate) fn is_up(settings: &Settings, pass: u32) -> bool
 
 /// Where a pass begins in a map that ends at `end`.
 pub(crate) fn start_of(settings: &Settings, pass: u32, end: u64) -> u64
-    ensures { (domain : List Run) (names : MapNames) (line : List ℕ) (phase : Phase) (map : List Status) → length map ≡ end
-        → result ≡ start_of (setting_with settings.now domain names line) (numbered phase pass) map }
+    ensures { (domain : List Run) (names : Option MapNames) (line : List ℕ) (phase : Phase) (map : List Status)
+        → length map ≡ end → result ≡ start_of (setting_with settings.now domain names line) (numbered phase pass) map }
 {
     if is_up(settings, pass) { 0 } else { end }
 }
@@ -66,8 +66,9 @@ pub(crate) fn status_of(phase: Phase) -> Status
 /// The search of a phase at a place, in a map that ends at `end`.
 fn search_at(settings: &Settings, phase: Phase, place: &Place, end: u64) -> Search
     requires sound { IsSound settings.now }
-    ensures is { (domain : List Run) (names : MapNames) (line : List ℕ) (m : Machine) (map : List Status) → length map ≡ end
-        → StandsAt m phase place.now map → search_by result ≡ search_of (setting_with settings.now domain names line) m }
+    ensures is { (domain : List Run) (names : Option MapNames) (line : List ℕ) (m : Machine) (map : List Status)
+        → length map ≡ end → StandsAt m phase place.now map
+        → search_by result ≡ search_of (setting_with settings.now domain names line) m }
     ensures least { settings.now.sector ≤ result.size }
     ensures most { result.size ≤ settings.now.cluster }
 {
@@ -153,10 +154,10 @@ pub(crate) fn next_request<T: Tiles>(
     place: &Place,
 ) -> Option<Request>
     requires sound { IsSound settings.now }
-    ensures some { IfSome result (λ q. (names : MapNames) (line : List ℕ) (m : Machine)
+    ensures some { IfSome result (λ q. (names : Option MapNames) (line : List ℕ) (m : Machine)
         → StandsAt m phase place.now (T.statuses tiles.now)
         → IsRequest (setting_with settings.now domain.now names line) m q.pos (q.pos + q.len)) }
-    ensures none { IfNone result ((names : MapNames) (line : List ℕ) (m : Machine)
+    ensures none { IfNone result ((names : Option MapNames) (line : List ℕ) (m : Machine)
         → StandsAt m phase place.now (T.statuses tiles.now)
         → has_request (setting_with settings.now domain.now names line) m ≡ false) }
     ensures len { IfSome result (λ q. 0 < q.len) }

@@ -15,7 +15,7 @@ use crate::gather::{Gathered, gather};
 use crate::mark::mark;
 use crate::place::place_behind;
 use crate::request::next_request;
-use crate::save_now::save_now;
+use crate::save_now::{save_now, save_or_sync};
 use crate::settings::Settings;
 use crate::state::{Place, Tally};
 use crate::tally::{is_due, shown_at, tally_behind};
@@ -33,7 +33,6 @@ use rescue_rules::phase::Phase;
 use rescue_rules::stop::{RunEnd, Stop, TrimMode};
 use save_resume::draft::SaveFault;
 use save_resume::names::Names;
-use save_resume::save::save;
 use std::alloc::Global;
 use std::marker::Model;
 use transfer_token::token::Request;
@@ -48,7 +47,7 @@ pub(crate) struct Running<T: Tiles> {
     domain: Domain,
     tiles: T,
     buf: Vec<u8>,
-    names: Names,
+    names: Option<Names>,
     heading: Heading,
     phase: Phase,
     place: Place,
@@ -77,7 +76,7 @@ impl<T: Tiles> Running<T> {
         domain: Domain,
         tiles: T,
         loaded: Option<MapState>,
-        names: Names,
+        names: Option<Names>,
         heading: Heading,
         moment: u64,
     ) -> Result<Running<T>, NoMemory>
@@ -193,7 +192,7 @@ impl<T: Tiles> Running<T> {
     }
 
     /// One turn: room in the map, a reading of the clock, the read, another reading, the write of what was kept, the marks,
-    /// and the save if one is due.
+    /// and the save if one is due: without a mapfile none is.
     pub fn turn<S: Source, D: Site, K: Clock, C: Console>(
         &mut self,
         request: Request,
@@ -271,7 +270,7 @@ impl<T: Tiles> Running<T> {
         Ok(turn)
     }
 
-    /// Saves the map at the run's end, which is finished where it has no stop.
+    /// Saves the map at the run's end, which is finished where it has no stop; without a mapfile it syncs the output.
     pub fn close<D: Site, C: Console>(
         self,
         stop: Option<Stop>,
@@ -302,7 +301,7 @@ impl<T: Tiles> Running<T> {
         }
     }
 
-    /// Saves the map behind whatever else has stopped it, or at its end.
+    /// Does so behind whatever else has stopped it, or at its end.
     fn save_last<D: Site>(self, stop: Option<Stop>, site: &mut D) -> RunEnd
         requires no_draft { (D.state site.old).is_drafting ≡ false }
         ensures saves { Saves stop self result (D.state site.old) (D.state site.new) }
@@ -319,15 +318,12 @@ impl<T: Tiles> Running<T> {
             place: _,
             tally,
         } = self;
-        heading.set_times(tally.began / 1000, tally.now / 1000);
-        match save(
-            site,
-            &names,
-            last_shown(tally.shown, stop),
-            &tiles,
-            &heading,
-        ) {
-            Ok(_saved) => end_saved(stop),
+        let tally = Tally {
+            shown: last_shown(tally.shown, stop),
+            ..tally
+        };
+        match save_or_sync(site, &names, &mut heading, &tiles, tally) {
+            Ok(()) => end_saved(stop),
             Err(fault) => RunEnd::SaveFailed {
                 call: fault.call,
                 earlier: stop,

@@ -1,35 +1,67 @@
-//! A save of a run as it stands.
-ghost use Rattle.std.specs.Prelude.{◌≡◌, false};
+//! The saves of a run, which makes none without a mapfile.
+ghost use Rattle.std.specs.Prelude.{◌≡◌, false, [], ◌∷◌, is_some, if◌then◌else◌};
 ghost use Rattle.mapfile_text.specs.declared.heading.Program.TheVariants.{Ddrescue};
+ghost use Rattle.crash_site.specs.Calls.{image_sync};
 ghost use Rattle.save_resume.specs.Saving.{save_calls, Saves};
 ghost use Rattle.rescue_rules.specs.Snapshots.{text_of};
+ghost use Rattle.rescue_core.specs.RunState.{names_in};
 
 use crate::state::Tally;
 use block_list::tiles::Tiles;
-use crash_site::site::Site;
+use crash_site::site::{Site, SiteCall};
 use mapfile_text::heading::Heading;
-use save_resume::draft::{SaveFault, Saved};
+use save_resume::draft::SaveFault;
 use save_resume::names::Names;
 use save_resume::save::save;
 
-/// Saves a map, with what a run has come to.
+/// Saves a map, with what a run has come to, if there is a mapfile.
 pub(crate) fn save_now<D: Site, T: Tiles>(
     site: &mut D,
-    names: &Names,
+    names: &Option<Names>,
     heading: &mut Heading,
     tiles: &T,
     tally: Tally,
-) -> Result<Saved, SaveFault>
+) -> Result<(), SaveFault>
     requires program { heading.old.program ≡ Ddrescue }
-    ensures call { Saves (save_calls names.now (text_of heading.old.line (record {
+    requires no_draft { (D.state site.old).is_drafting ≡ false }
+    ensures call { Saves (if is_some names.now then save_calls (names_in names.now) (text_of heading.old.line (record {
       map = T.statuses tiles.now;
       shown = tally.shown;
       began = tally.began;
       now = tally.now;
-    }))) false result (D.state site.old) (D.state site.new) }
+    })) else []) false result (D.state site.old) (D.state site.new) }
     ensures line { heading.new.line ≡ heading.old.line }
     ensures program { heading.new.program ≡ Ddrescue }
 {
+    let Some(names) = names else {
+        return Ok(());
+    };
     heading.set_times(tally.began / 1000, tally.now / 1000);
-    save(site, names, tally.shown, tiles, heading)
+    save(site, names, tally.shown, tiles, heading)?;
+    Ok(())
+}
+
+/// The same at a run's end, where the image is synced if there is no mapfile.
+pub(crate) fn save_or_sync<D: Site, T: Tiles>(
+    site: &mut D,
+    names: &Option<Names>,
+    heading: &mut Heading,
+    tiles: &T,
+    tally: Tally,
+) -> Result<(), SaveFault>
+    requires program { heading.old.program ≡ Ddrescue }
+    requires no_draft { (D.state site.old).is_drafting ≡ false }
+    ensures { Saves (if is_some names.now then save_calls (names_in names.now) (text_of heading.old.line (record {
+      map = T.statuses tiles.now;
+      shown = tally.shown;
+      began = tally.began;
+      now = tally.now;
+    })) else image_sync ∷ []) false result (D.state site.old) (D.state site.new) }
+{
+    match names {
+        Some(_) => save_now(site, names, heading, tiles, tally),
+        None => site.image_sync().map_err(|_| SaveFault {
+            call: SiteCall::ImageSync,
+        }),
+    }
 }

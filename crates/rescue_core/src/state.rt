@@ -18,7 +18,7 @@ pub(crate) struct Place {
 }
 
 impl Place {
-    ghost use Rattle.std.specs.Prelude.{◌≡◌, ℕ, List, length};
+    ghost use Rattle.std.specs.Prelude.{◌≡◌, ℕ, List, length, Option};
     ghost use Rattle.block_list.specs.declared.block.Run.{Run};
     ghost use Rattle.block_list.specs.declared.status.Status.{Status};
     ghost use Rattle.save_resume.specs.MapNames.{MapNames};
@@ -32,8 +32,8 @@ impl Place {
     /// The start of a pass over a map that ends at `end`.
     pub fn at_start(settings: &Settings, pass: u32, end: u64) -> Place
         ensures pass { result.pass ≡ pass }
-        ensures cursor { (domain : List Run) (names : MapNames) (line : List ℕ) (phase : Phase) (map : List Status)
-            → length map ≡ end
+        ensures cursor { (domain : List Run) (names : Option MapNames) (line : List ℕ) (phase : Phase)
+            (map : List Status) → length map ≡ end
             → result.cursor ≡ start_of (setting_with settings.now domain names line) (numbered phase pass) map }
         ensures mode { result.mode ≡ Lead }
         ensures skip { result.skip ≡ settings.now.skip }
@@ -49,8 +49,8 @@ impl Place {
     /// Where a run over a map that ends at `end` begins, which may go on from a state that a mapfile showed.
     pub fn first(settings: &Settings, loaded: Option<MapState>, end: u64) -> Place
         ensures pass { result.pass ≡ first_pass loaded }
-        ensures cursor { (domain : List Run) (names : MapNames) (line : List ℕ) (map : List Status) → length map ≡ end
-            → result.cursor ≡ first_cursor (setting_with settings.now domain names line) loaded map }
+        ensures cursor { (domain : List Run) (names : Option MapNames) (line : List ℕ) (map : List Status)
+            → length map ≡ end → result.cursor ≡ first_cursor (setting_with settings.now domain names line) loaded map }
         ensures mode { result.mode ≡ Lead }
         ensures skip { result.skip ≡ settings.now.skip }
     {

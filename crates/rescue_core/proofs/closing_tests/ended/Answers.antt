@@ -1,6 +1,5 @@
-use Rattle.std.proofs.Common.{◌≡◌, true, replicate, sym, ap, subst, ◌∙◌}
+use Rattle.std.proofs.Common.{◌≡◌, true, replicate, ap, subst, ◌∙◌}
 use Rattle.std.specs.List.{slice_index_or}
-use Rattle.block_list.specs.declared.status.Status.{Status}
 use Rattle.block_list.specs.declared.status.Status.TheVariants.{Finished}
 use Rattle.block_list.specs.Map.{Has}
 use Rattle.rescue_rules.specs.declared.phase.Phase.{Phase}

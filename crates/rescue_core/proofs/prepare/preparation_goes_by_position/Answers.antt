@@ -1,0 +1,6 @@
+use Rattle.rescue_rules.specs.Preparation.{prepared_status}
+use Rattle.rescue_core.proofs.PrepareLemmas.{change_is_made}
+use Rattle.rescue_core.proofs.prepare.preparation_goes_by_position.Goals as goal
+
+pub returns : goal.returns
+returns c = λ domain again retrim map. change_is_made domain (prepared_status again retrim) map

@@ -1,0 +1,13 @@
+use Rattle.std.proofs.Common.{◌-◌, length}
+use Rattle.rescue_domain.specs.Parts.{covers}
+use Rattle.rescue_rules.specs.Preparation.{IsChanged}
+use Rattle.rescue_core.specs.Preparing.{replaced}
+use Rattle.rescue_core.proofs.PrepareLemmas.{below}
+use Rattle.rescue_core.proofs.prepare.replace.Given as goal
+
+abbrev pub invariant-loop-run : goal.invariant-loop-run
+invariant-loop-run g l =
+    IsChanged (below (covers l.domain) l.at) (replaced l.from l.to) (g.T.Tiles.statuses l.fn.tiles) (g.T.Tiles.statuses l.tiles)
+
+abbrev pub decreases-loop-run : goal.decreases-loop-run
+decreases-loop-run g l = length (g.T.Tiles.statuses l.tiles) - l.at
