@@ -1,5 +1,5 @@
 -- What is said where one of the objects tells.
-use Rattle.std.proofs.Common.{◌≡◌, ℕ, false, IsTrue, List, [], ◌++◌, Option, None, refl, sym, ap, ◌∙◌, inl, inr, subst, append-nil}
+use Rattle.std.proofs.Common.{◌≡◌, ℕ, Bool, IsTrue, List, [], ◌++◌, Option, Some, None, Ok, Err, refl, sym, ap, ◌∙◌, inl, inr, subst, append-nil}
 use Rattle.std.proofs.lemmas.List.Elements.{All-nil}
 use Rattle.faulty_source.specs.SourceState.{SourceState}
 use Rattle.crash_site.specs.declared.site.SiteCall.{SiteCall}
@@ -8,6 +8,8 @@ use Rattle.crash_site.specs.Files.{File}
 use Rattle.crash_site.specs.Calls.{Entry}
 use Rattle.crash_site.specs.SiteState.{SiteState, files_in}
 use Rattle.save_resume.specs.MapNames.{MapNames}
+use Rattle.option_words.specs.declared.fault.UsageFault.TheVariants.{PlaceTooLarge}
+use Rattle.rescue_command.specs.declared.options.Options.{Options}
 use Rattle.rescue_rules.specs.declared.stop.Stop.TheVariants.{SourceLost as InputLost, Site, NoMemory as NoRoom}
 use Rattle.rescue_rules.specs.declared.stop.RunEnd.TheVariants.{Done as Finished, Stopped, SaveFailed}
 use Rattle.rescue_rules.specs.Setting.{Setting}
@@ -15,11 +17,14 @@ use Rattle.rescue_rules.specs.Moves.{IsMove}
 use Rattle.rescue_rules.specs.Beginning.{nothing_shown, machine_of}
 use Rattle.rescue_rules.specs.Events.{reads_of}
 use Rattle.ddrescue_cli.specs.declared.ending.Ending.{Ending}
-use Rattle.ddrescue_cli.specs.declared.ending.Ending.TheVariants.{Done, NotRegular, MapRefused, SiteFault, NoMemory}
-use Rattle.ddrescue_cli.specs.Asked.{setting_with}
-use Rattle.ddrescue_cli.specs.Refusals.{is_other, MapfileRefused}
-use Rattle.ddrescue_cli.specs.Alone.{IsFrom, HasRead, Pass, CallPasses, FilesAllow}
-use Rattle.ddrescue_cli.specs.Steps.{EndsRun, OutputStop, LoadStopped, InBarrier, InRead, Starved, Refused, LoadCause}
+use Rattle.ddrescue_cli.specs.declared.ending.Ending.TheVariants.{Done, Usage, NotRegular, MapRefused, SiteFault, NoMemory}
+use Rattle.ddrescue_cli.specs.declared.load.Start.{Start}
+use Rattle.ddrescue_cli.specs.Names.{AreNamedApart}
+use Rattle.ddrescue_cli.specs.Asked.{setting_with, ArePlacedBy, IsBeyond}
+use Rattle.ddrescue_cli.specs.Refusals.{MapfileRefused, PlacesRefused}
+use Rattle.ddrescue_cli.specs.Alone.{IsFrom, HasRead, MapfilePasses, CallPasses, FilesAllow, ArePlaced, PlacesAllow}
+use Rattle.ddrescue_cli.specs.Steps.{EndsRun, OutputStop, LoadStopped, InBarrier, InRead, Starved, Refused, LoadCause, Loaded}
+use Rattle.ddrescue_cli.proofs.WorkLemmas.{HasOpened, IsRegular, here, beyond_is_refused, placed_passes}
 
 -- nothing was read
 pub none_read : (s : Setting) (e : Ending) (s0 s1 : SourceState) → (e ≡ Done → ⊥) → s1.journal ≡ s0.journal → HasRead s e s0 s1
@@ -34,9 +39,9 @@ none_read s e s0 s1 stopped same = record {
   done = λ d. absurd (stopped d);
 }
 
-pub output_stopped : (e : Ending) (out : List ℕ) (old new : SiteState) → OutputStop e out old new → e ≡ Done → ⊥
-output_stopped e out old new (inl c) done = let is : NotRegular ≡ Done = sym c.0 ∙ done in cc
-output_stopped e out old new (inr c) done = let is : SiteFault ImageOpen None ≡ Done = sym c.0 ∙ done in cc
+pub output_stopped : (e : Ending) (out : List ℕ) (forced : Bool) (old new : SiteState) → OutputStop e out forced old new → e ≡ Done → ⊥
+output_stopped e out forced old new (inl c) done = let is : NotRegular ≡ Done = sym c.0 ∙ done in cc
+output_stopped e out forced old new (inr c) done = let is : SiteFault ImageOpen None ≡ Done = sym c.0 ∙ done in cc
 
 pub load_stopped : (e : Ending) (faults faults' : ℕ) → LoadCause e faults faults' → e ≡ Done → ⊥
 load_stopped e faults faults' (inl c) done = let is : NoMemory ≡ Done = sym c.0 ∙ done in cc
@@ -44,11 +49,12 @@ load_stopped e faults faults' (inr (inl c)) done = let is : MapRefused _ c.0 ≡
 load_stopped e faults faults' (inr (inr c)) done = let is : SiteFault c.0 None ≡ Done = sym c.1 ∙ done in cc
 
 -- the reads of a run are those of the rescue
-pub run_has_read : (i o : List ℕ) (n : MapNames) (l : List ℕ) (e : Ending) (end all : ℕ) (s0 s1 s2 : SourceState) → end ≡ all
-    → s1.journal ≡ s0.journal → s1.bytes ≡ s0.bytes → HasRead (setting_with i o n l end) e s1 s2 → HasRead (setting_with i o n l all) e s0 s2
-run_has_read i o n l e end all s0 s1 s2 whole same bytes r =
-    let P : ℕ → Type 0 = λ size. HasRead (setting_with i o n l size) e s0 s2 in
-    let here : HasRead (setting_with i o n l end) e s0 s2 = record {
+pub run_has_read : (i o : List ℕ) (n : Option MapNames) (l : List ℕ) (w : Options) (e : Ending) (end all : ℕ) (s0 s1 s2 : SourceState)
+    → end ≡ all → s1.journal ≡ s0.journal → s1.bytes ≡ s0.bytes → HasRead (setting_with i o n l w end) e s1 s2
+    → HasRead (setting_with i o n l w all) e s0 s2
+run_has_read i o n l w e end all s0 s1 s2 whole same bytes r =
+    let P : ℕ → Type 0 = λ size. HasRead (setting_with i o n l w size) e s0 s2 in
+    let here : HasRead (setting_with i o n l w end) e s0 s2 = record {
       start = r.start;
       events = r.events;
       began = r.began;
@@ -61,51 +67,90 @@ run_has_read i o n l e end all s0 s1 s2 whole same bytes r =
     subst P whole here
 
 -- what the files allow, by where a rescue stopped
-pub output_allows : (e : Ending) (out : List ℕ) (old new : SiteState) (mapfile : Option File) → IsTrue old.tells
-    → OutputStop e out old new → FilesAllow e (files_in old out) mapfile
-output_allows e out old new mapfile td (inl c) = rw c.0 (c.1 td)
-output_allows e out old new mapfile td (inr c) = rw c.0 tt
+pub output_allows : (s : Setting) (e : Ending) (old new : SiteState) → IsTrue old.tells → OutputStop e s.outfile s.forced old new
+    → FilesAllow e s (files_in old)
+output_allows s e old new td (inl c) = rw c.0 (c.1, c.2 td, refl)
+output_allows s e old new td (inr c) = rw c.0 tt
 
-pub load_allows : (n : MapNames) (e : Ending) (output mapfile : Option File) (calls calls' : List Entry) → is_other output ≡ false
-    → LoadStopped n mapfile e calls calls' → FilesAllow e output mapfile
-load_allows n e output mapfile calls calls' regular (InBarrier call is (inl (name, lost))) = rw (is, name) regular
-load_allows n e output mapfile calls calls' regular (InBarrier call is (inr (inl (name, lost)))) = rw (is, name) regular
-load_allows n e output mapfile calls calls' regular (InBarrier call is (inr (inr broke))) = absurd broke
-load_allows n e output mapfile calls calls' regular (InRead load is begins broke) = rw is regular
-load_allows n e output mapfile calls calls' regular (Starved load is begins made) = rw is tt
-load_allows n e output mapfile calls calls' regular (Refused load refused loaded made) =
-    let P : Ending → Type 0 = λ v. FilesAllow v output mapfile in
-    subst P (sym refused.3) (regular, (refused.0, refused.1, refused.2, refl))
+load_allows : (i o : List ℕ) (n : MapNames) (l : List ℕ) (w : Options) (e : Ending) (end : ℕ) (d : SiteState) (calls calls' : List Entry)
+    → IsRegular w.forced o d → LoadStopped n (files_in d n.map) e calls calls'
+    → FilesAllow e (setting_with i o (Some n) l w end) (files_in d)
+load_allows i o n l w e end d calls calls' regular (InBarrier call is (inl (name, lost))) = rw (is, name) (record { regular = regular })
+load_allows i o n l w e end d calls calls' regular (InBarrier call is (inr (inl (name, lost)))) = rw (is, name) (record { regular = regular })
+load_allows i o n l w e end d calls calls' regular (InBarrier call is (inr (inr broke))) = absurd broke
+load_allows i o n l w e end d calls calls' regular (InRead load is begins broke) = rw is (record { regular = regular })
+load_allows i o n l w e end d calls calls' regular (Starved load is begins made) = rw is tt
+load_allows i o n l w e end d calls calls' regular (Refused load refused loaded made) =
+    let P : Ending → Type 0 = λ v. FilesAllow v (setting_with i o (Some n) l w end) (files_in d) in
+    subst P (sym refused.3) (record { regular = regular }, (refused.0, refused.1, refused.2, refl))
 
-call_passes : (call : SiteCall) (output mapfile : Option File) → Pass output mapfile → CallPasses call output mapfile
-call_passes ImageOpen output mapfile pass = tt
-call_passes ImageRead output mapfile pass = pass
-call_passes ImageWrite output mapfile pass = pass
-call_passes ImageSync output mapfile pass = pass.regular
-call_passes MapRead output mapfile pass = pass.regular
-call_passes DraftBegin output mapfile pass = pass
-call_passes DraftAppend output mapfile pass = pass
-call_passes DraftSync output mapfile pass = pass
-call_passes DraftPublish output mapfile pass = pass
-call_passes MapSettle output mapfile pass = pass.regular
-call_passes MapRemove output mapfile pass = pass
+-- the same of a mapfile as it reads behind the open of the output, and without one
+pub load_allows_behind : (i o : List ℕ) (n : Option MapNames) (l : List ℕ) (w : Options) (e : Ending) (end all : ℕ)
+    (d0 d1 d2 : SiteState) → AreNamedApart o n → HasOpened o d0 d1 → IsRegular w.forced o d0 → Loaded n end (Err e) d1 d2
+    → FilesAllow e (setting_with i o n l w all) (files_in d0)
+load_allows_behind i o (Some n) l w e end all d0 d1 d2 apart made regular stop =
+    let P : Option File → Type 0 = λ f. LoadStopped n f e d1.calls d2.calls in
+    load_allows i o n l w e all d0 d1.calls d2.calls regular (subst P (here o n d0 d1 apart made) stop.0)
+load_allows_behind i o None l w e end all d0 d1 d2 apart made regular stop = rw stop.1 tt
 
-pub run_allows : (e : Ending) (output mapfile : Option File) → EndsRun e → Pass output mapfile → FilesAllow e output mapfile
-run_allows e output mapfile (Finished, is) pass = rw is pass
-run_allows e output mapfile (Stopped InputLost, is) pass = rw is pass
-run_allows e output mapfile (Stopped (Site call), is) pass = rw is (call_passes call output mapfile pass)
-run_allows e output mapfile (Stopped NoRoom, is) pass = rw is tt
-run_allows e output mapfile (SaveFailed call earlier, is) pass = rw is (call_passes call output mapfile pass)
-
--- the same of a mapfile as it reads behind the open of the output
-pub load_allows_behind : (n : MapNames) (e : Ending) (output mapfile mapfile' : Option File) (calls calls' : List Entry)
-    → is_other output ≡ false → mapfile' ≡ mapfile → LoadStopped n mapfile' e calls calls' → FilesAllow e output mapfile
-load_allows_behind n e output mapfile mapfile' calls calls' regular same stop =
-    let P : Option File → Type 0 = λ f. LoadStopped n f e calls calls' in
-    load_allows n e output mapfile calls calls' regular (subst P same stop)
-
-pub run_allows_behind : (e : Ending) (output mapfile mapfile' : Option File) → EndsRun e → is_other output ≡ false → mapfile' ≡ mapfile
-    → ((v : Ending) → MapfileRefused mapfile' v → ⊥) → FilesAllow e output mapfile
-run_allows_behind e output mapfile mapfile' ends regular same accepted =
+-- a load that went on to its end
+pub load_passes : (i o : List ℕ) (n : Option MapNames) (l : List ℕ) (w : Options) (end all : ℕ) (start : Start)
+    (d0 d1 d2 : SiteState) → AreNamedApart o n → HasOpened o d0 d1 → IsRegular w.forced o d0 → Loaded n end (Ok start) d1 d2
+    → MapfilePasses (setting_with i o n l w all) (files_in d0)
+load_passes i o (Some n) l w end all start d0 d1 d2 apart made regular st =
     let P : Option File → Type 0 = λ f. (v : Ending) → MapfileRefused f v → ⊥ in
-    run_allows e output mapfile ends (record { regular = regular; accepted = subst P same accepted })
+    record { output = record { regular = regular }; accepted = subst P (here o n d0 d1 apart made) st.accepted }
+load_passes i o None l w end all start d0 d1 d2 apart made regular fresh = record {
+  output = record { regular = regular };
+  accepted = λ v refused. let no : None ≡ Some _ = refused.1.is in cc;
+}
+
+call_passes : (call : SiteCall) (s : Setting) (files : List ℕ → Option File) → MapfilePasses s files → CallPasses call s files
+call_passes ImageOpen s files pass = tt
+call_passes ImageRead s files pass = pass
+call_passes ImageWrite s files pass = pass
+call_passes ImageSync s files pass = pass.output
+call_passes MapRead s files pass = pass.output
+call_passes DraftBegin s files pass = pass
+call_passes DraftAppend s files pass = pass
+call_passes DraftSync s files pass = pass
+call_passes DraftPublish s files pass = pass
+call_passes MapSettle s files pass = pass.output
+call_passes MapRemove s files pass = pass
+
+pub run_allows : (s : Setting) (files : List ℕ → Option File) (e : Ending) → EndsRun e → MapfilePasses s files → FilesAllow e s files
+run_allows s files e (Finished, is) pass = rw is pass
+run_allows s files e (Stopped InputLost, is) pass = rw is pass
+run_allows s files e (Stopped (Site call), is) pass = rw is (call_passes call s files pass)
+run_allows s files e (Stopped NoRoom, is) pass = rw is tt
+run_allows s files e (SaveFailed call earlier, is) pass = rw is (call_passes call s files pass)
+
+-- what is said of the places, by where a rescue stopped
+pub output_places : (s : Setting) (e : Ending) (out : List ℕ) (forced : Bool) (old new : SiteState) → OutputStop e out forced old new
+    → PlacesAllow e s
+output_places s e out forced old new (inl c) = rw c.0 tt
+output_places s e out forced old new (inr c) = rw c.0 tt
+
+pub load_places : (s : Setting) (e : Ending) (faults faults' : ℕ) → LoadCause e faults faults' → PlacesAllow e s
+load_places s e faults faults' (inl c) = rw c.0 tt
+load_places s e faults faults' (inr (inl c)) = rw c.1 tt
+load_places s e faults faults' (inr (inr c)) = rw c.1 tt
+
+pub beyond_places : (i o : List ℕ) (n : Option MapNames) (l : List ℕ) (w : Options) (end all : ℕ) → end ≡ all → IsBeyond w end
+    → PlacesAllow (Usage PlaceTooLarge) (setting_with i o n l w all)
+beyond_places i o n l w end all whole far =
+    let P : ℕ → Type 0 = λ size. PlacesRefused (setting_with i o n l w size) (Usage PlaceTooLarge) in
+    subst P whole (beyond_is_refused i o n l w end far)
+
+ending_places : (s : Setting) (e : Ending) → EndsRun e → ArePlaced s → PlacesAllow e s
+ending_places s e (Finished, is) placed = rw is placed
+ending_places s e (Stopped InputLost, is) placed = rw is placed
+ending_places s e (Stopped (Site call), is) placed = rw is tt
+ending_places s e (Stopped NoRoom, is) placed = rw is tt
+ending_places s e (SaveFailed call earlier, is) placed = rw is tt
+
+pub run_places : (i o : List ℕ) (n : Option MapNames) (l : List ℕ) (w : Options) (e : Ending) (end all : ℕ) → end ≡ all
+    → ArePlacedBy w end → EndsRun e → PlacesAllow e (setting_with i o n l w all)
+run_places i o n l w e end all whole placed ends =
+    let P : ℕ → Type 0 = λ size. PlacesAllow e (setting_with i o n l w size) in
+    subst P whole (ending_places (setting_with i o n l w end) e ends (placed_passes i o n l w end placed))

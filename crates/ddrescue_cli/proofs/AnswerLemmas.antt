@@ -1,5 +1,5 @@
 -- What an answer leaves open and begun.
-use Rattle.std.proofs.Common.{◌≡◌, ℕ, false, List, None, refl, inl, inr}
+use Rattle.std.proofs.Common.{◌≡◌, ℕ, Bool, false, List, refl, inl, inr}
 use Rattle.faulty_source.specs.SourceState.{SourceState}
 use Rattle.crash_site.specs.declared.site.SiteCall.{SiteCall}
 use Rattle.crash_site.specs.SiteState.{SiteState}
@@ -8,7 +8,7 @@ use Rattle.save_resume.specs.Resuming.{IsResumeCall}
 use Rattle.rescue_rules.specs.declared.stop.Stop.TheVariants.{SourceLost as InputLost, Site, NoMemory as NoRoom}
 use Rattle.rescue_rules.specs.declared.stop.RunEnd.TheVariants.{Done as Finished, Stopped, SaveFailed}
 use Rattle.ddrescue_cli.specs.declared.ending.Ending.{Ending}
-use Rattle.ddrescue_cli.specs.Answers.{SaysOfWords, IsOpenedAs, drafting_left}
+use Rattle.ddrescue_cli.specs.Answers.{IsBehindWords, IsOpenedAs, drafting_left}
 use Rattle.ddrescue_cli.specs.Steps.{EndsRun, LoadCause, OutputStop}
 
 resume_leaves : (call : SiteCall) → IsResumeCall call → drafting_after_fault call false ≡ false
@@ -30,19 +30,19 @@ run_opened e infile s0 s2 (Stopped (Site call), is) named = rw is named
 run_opened e infile s0 s2 (Stopped NoRoom, is) named = rw is (inr named)
 run_opened e infile s0 s2 (SaveFailed call earlier, is) named = rw is named
 
--- none of these answers speaks of the words
-pub run_says : (e : Ending) → EndsRun e → SaysOfWords e None
-run_says e (Finished, is) = rw is refl
-run_says e (Stopped InputLost, is) = rw is refl
-run_says e (Stopped (Site call), is) = rw is refl
+-- each of these answers comes behind the words
+pub run_says : (e : Ending) → EndsRun e → IsBehindWords e
+run_says e (Finished, is) = rw is tt
+run_says e (Stopped InputLost, is) = rw is tt
+run_says e (Stopped (Site call), is) = rw is tt
 run_says e (Stopped NoRoom, is) = rw is tt
-run_says e (SaveFailed call earlier, is) = rw is refl
+run_says e (SaveFailed call earlier, is) = rw is tt
 
-pub load_says : (e : Ending) (faults faults' : ℕ) → LoadCause e faults faults' → SaysOfWords e None
+pub load_says : (e : Ending) (faults faults' : ℕ) → LoadCause e faults faults' → IsBehindWords e
 load_says e faults faults' (inl c) = rw c.0 tt
-load_says e faults faults' (inr (inl c)) = rw c.1 refl
-load_says e faults faults' (inr (inr c)) = rw c.1 refl
+load_says e faults faults' (inr (inl c)) = rw c.1 tt
+load_says e faults faults' (inr (inr c)) = rw c.1 tt
 
-pub output_says : (e : Ending) (out : List ℕ) (old new : SiteState) → OutputStop e out old new → SaysOfWords e None
-output_says e out old new (inl c) = rw c.0 refl
-output_says e out old new (inr c) = rw c.0 refl
+pub output_says : (e : Ending) (out : List ℕ) (forced : Bool) (old new : SiteState) → OutputStop e out forced old new → IsBehindWords e
+output_says e out forced old new (inl c) = rw c.0 tt
+output_says e out forced old new (inr c) = rw c.0 tt

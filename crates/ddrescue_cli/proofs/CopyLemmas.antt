@@ -1,15 +1,14 @@
 -- A copy between two turns: it is in the first pass of copying, and below its cursor nothing is non-tried.
-use Rattle.std.proofs.Common.{◌≡◌, ◌⊎◌, ℕ, ◌+◌, ◌-◌, ◌*◌, ◌<◌, ◌≤◌, ◌^◌, min, Bool, true, false, ◌&&◌, ◌||◌, nat_le, if◌then◌else◌, List, [], ◌∷◌, length, All, Option, Some, None, refl, sym, ap, ◌∙◌, arith, subst, inl, inr, ⊎_elim, get_or}
-use Rattle.std.specs.List.{slice_get, slice_index_or, list_any, range_with_len}
-use Rattle.std.proofs.lemmas.Bool.{cond_both, cond-true, cond-false, cases_lt, true≢false}
+use Rattle.std.proofs.Common.{◌≡◌, ◌⊎◌, ℕ, ◌+◌, ◌-◌, ◌*◌, ◌<◌, ◌≤◌, min, Bool, true, false, ◌&&◌, nat_le, if◌then◌else◌, List, [], ◌∷◌, length, All, Some, refl, sym, ap, ◌∙◌, arith, subst, inl, inr, ⊎_elim, get_or}
+use Rattle.std.specs.List.{slice_get, slice_index_or, range_with_len}
+use Rattle.std.proofs.lemmas.Bool.{cond_both, cond-true, cond-false, cases_lt}
 use Rattle.std.proofs.lemmas.List.Elements.{All-nil, All-cons}
 use Rattle.std.proofs.lemmas.List.Folds.{list_any_at}
 use Rattle.std.proofs.lemmas.List.FromFn.{length-range_with_len, get_or-range_with_len}
-use Rattle.std.proofs.lemmas.Option.{slice_get_within}
 use Rattle.block_list.specs.declared.status.Status.{Status}
 use Rattle.block_list.specs.declared.status.Status.TheVariants.{NonTried, NonTrimmed, BadSector, Finished}
 use Rattle.block_list.specs.Map.{Has, marked}
-use Rattle.block_list.specs.Places.{IsFirst, IsRunUp}
+use Rattle.block_list.specs.Places.{IsFirst}
 use Rattle.block_list.proofs.Places.{length-marked}
 use Rattle.faulty_source.specs.Journal.{Reading, is_whole, kept}
 use Rattle.rescue_domain.specs.Parts.{covers}
@@ -19,22 +18,25 @@ use Rattle.rescue_rules.specs.declared.phase.Phase.{Phase}
 use Rattle.rescue_rules.specs.declared.phase.Phase.TheVariants.{Copying}
 use Rattle.rescue_rules.specs.Setting.{Setting, IsSensible}
 use Rattle.rescue_rules.specs.Passes.{Pass, is_up, numbered, passes_from}
-use Rattle.rescue_rules.specs.Machine.{Machine, pass_of, start_of, has_taken, is_wanted, IsWanted, Search, search_in, search_of, IsNextRun, cut_start, is_ahead, IsRequest, has_request}
-use Rattle.rescue_rules.specs.Step.{Event, trims, is_trimming, rest_status, scraped, map_after, is_jump, is_slow, cursor_after, skip_after, step}
-use Rattle.rescue_rules.specs.Moves.{ended, ready, has_none}
+use Rattle.rescue_rules.specs.Machine.{Machine, pass_of, has_taken, is_wanted, IsWanted, Search, search_in, search_of, IsNextRun, cut_start, is_ahead, IsRequest, has_request}
+use Rattle.rescue_rules.specs.Step.{Event, trims, is_trimming, rest_status, scraped, map_after, is_jump, cursor_after, skip_after}
+use Rattle.rescue_rules.specs.Moves.{ready, has_none}
 use Rattle.rescue_rules.specs.MachineLaws.{IsInOrder, StepsBy, HasNone}
 use Rattle.rescue_rules.proofs.GivenLemmas.{kept_whole}
 use Rattle.rescue_rules.proofs.MarkLemmas.{marked_inside, marked_outside}
 use Rattle.rescue_rules.proofs.ReadyLemmas.{order_lead, ready_end}
 use Rattle.rescue_rules.proofs.SearchLemmas.{wanted_within}
-use Rattle.rescue_rules.proofs.StepLemmas.{Asks, request_asks, move_steps}
+use Rattle.rescue_rules.proofs.StepLemmas.{move_steps}
 use Rattle.rescue_core.specs.declared.settings.Settings.{Settings}
-use Rattle.rescue_core.specs.RunState.{RunState, setting_with, setting_in, IsSound, HasPlaces, IsGone}
+use Rattle.rescue_core.specs.RunState.{RunState, setting_with, setting_in, HasPlaces, IsGone}
 use Rattle.rescue_core.specs.Turning.{stepped}
-use Rattle.ddrescue_cli.specs.Copying.{copy_settings, IsBegun}
+use Rattle.rescue_command.specs.declared.options.Options.{Options}
+use Rattle.ddrescue_cli.specs.Copying.{settings_by, IsBegun}
 
 pub record IsCopying (r : RunState) : Type 0 where
-  pub settings : r.settings ≡ copy_settings
+  pub options : Options
+  pub settings : r.settings ≡ settings_by options
+  pub sensible : IsSensible (setting_in r)
   pub places : HasPlaces r.settings (covers r.domain)
   pub passes : r.machine.passes ≡ passes_from (setting_in r) Copying 1
   pub mode : r.machine.mode ≡ Lead
@@ -46,37 +48,8 @@ pub record IsCopying (r : RunState) : Type 0 where
 abbrev setting_by : RunState → Settings → Setting
 setting_by r settings = setting_with settings r.domain r.names r.line
 
-goes_up : (r : RunState) → r.settings ≡ copy_settings → is_up (setting_in r) (numbered Copying 1) ≡ true
-goes_up r is = ap (λ (settings : Settings). is_up (setting_by r settings) (numbered Copying 1)) is
-
-pub copy_sensible : (r : RunState) → r.settings ≡ copy_settings → IsSensible (setting_in r)
-copy_sensible r is =
-    subst (λ (settings : Settings). IsSensible (setting_by r settings)) (sym is)
-    (record {
-      sector = omega arith;
-      sectors = 1;
-      some = omega arith;
-      cluster = omega arith;
-      from = λ x inside. omega arith;
-      retries = omega arith;
-    })
-
-pub copy_sound : (settings : Settings) → settings ≡ copy_settings → IsSound settings
-copy_sound settings is =
-    subst IsSound (sym is)
-    (record {
-      sector = omega arith;
-      sector_max = omega arith;
-      sectors = 1;
-      some = omega arith;
-      cluster = omega arith;
-      cluster_max = omega arith;
-      skip = omega arith;
-      skip_max = omega arith;
-      ipos = omega arith;
-      opos = omega arith;
-      retries = omega arith;
-    })
+goes_up : (r : RunState) (o : Options) → r.settings ≡ settings_by o → is_up (setting_in r) (numbered Copying 1) ≡ true
+goes_up r o is = ap (λ (settings : Settings). is_up (setting_by r settings) (numbered Copying 1)) is
 
 -- a run at its start
 pub copying_begun : (r : RunState) → IsBegun r → IsCopying r
@@ -84,9 +57,11 @@ copying_begun r b =
     let s : Setting = setting_in r in
     let first : r.machine.cursor ≡ 0 =
     ap (λ (m : Machine). m.cursor) b.machine
-    ∙ cond-true (is_up s (numbered Copying 1)) 0 (length r.machine.map) (goes_up r b.settings) in
+    ∙ cond-true (is_up s (numbered Copying 1)) 0 (length r.machine.map) (goes_up r b.options b.settings) in
     record {
+      options = b.options;
       settings = b.settings;
+      sensible = b.sensible;
       places = b.places;
       passes = ap (λ (m : Machine). m.passes) b.machine;
       mode = ap (λ (m : Machine). m.mode) b.machine;
@@ -99,7 +74,7 @@ pass_is : (r : RunState) → IsCopying r → pass_of r.machine ≡ numbered Copy
 pass_is r c = ap (λ (ps : List Pass). slice_index_or ps 0 (numbered Copying 1)) c.passes
 
 up_is : (r : RunState) → IsCopying r → is_up (setting_in r) (pass_of r.machine) ≡ true
-up_is r c = ap (is_up (setting_in r)) (pass_is r c) ∙ goes_up r c.settings
+up_is r c = ap (is_up (setting_in r)) (pass_is r c) ∙ goes_up r c.options c.settings
 
 untrimming : (r : RunState) → IsCopying r → is_trimming r.machine ≡ false
 untrimming r c = ap (λ (p : Pass). trims p.phase) (pass_is r c)
@@ -230,7 +205,7 @@ copy_steps r e c asks few =
     let s : Setting = setting_in r in
     let m : Machine = r.machine in
     let order : IsInOrder s m = order_lead s m c.mode in
-    let by : StepsBy s m e = move_steps s m e (copy_sensible r c.settings) order asks few in
+    let by : StepsBy s m e = move_steps s m e c.sensible order asks few in
     let first : IsFirst (IsWanted s m) m.cursor e.reading.pos = first_asked r e.reading.pos (e.reading.pos + e.reading.asked) c asks in
     let cursor : (stepped r e).machine.cursor ≡ e.reading.pos + e.reading.asked =
     cursor_is r e c ∙ (let least : min (length m.map) (e.reading.pos + e.reading.asked) ≡ e.reading.pos + e.reading.asked = omega (arith, by.there) in least) in
@@ -239,7 +214,9 @@ copy_steps r e c asks few =
       cursor = cursor;
       from = first.after;
       copying = record {
+        options = c.options;
         settings = c.settings;
+        sensible = c.sensible;
         places = c.places;
         passes = c.passes;
         mode = by.order.lead (untrimming r c);

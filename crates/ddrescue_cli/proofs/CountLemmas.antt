@@ -19,6 +19,7 @@ use Rattle.rescue_rules.specs.Snapshots.{is_due}
 use Rattle.rescue_rules.specs.RunCalls.{write_calls, due_calls, move_calls, run_calls, end_calls}
 use Rattle.rescue_rules.specs.Stops.{is_settle, is_publish}
 use Rattle.rescue_rules.proofs.CutLemmas.{add, tally, tally_is}
+use Rattle.rescue_rules.proofs.MapfileLemmas.{end_is}
 use Rattle.ddrescue_cli.proofs.GoesLemmas.{settled}
 
 -- none of these calls counts
@@ -112,18 +113,23 @@ adds_moves f s (v ∷ vs) c =
     (adds_due f _ v vs (is_due s v) (adds_save f s.names _ c)) (omega arith))
     (adds_moves f s vs c) (dues_more s v vs (is_due s v) (filter (is_due s) vs))
 
+-- and so do the calls of a run's end with a mapfile
+adds_end : (f : Entry → Bool) (s : Setting) (m : Machine) (events : List Event) → s.has_mapfile ≡ true → CountsSaves f
+    → Adds f (end_calls s m events) 1
+adds_end f s m events on c = subst (λ (calls : List Call). Adds f calls 1) (sym (end_is s m events on)) (adds_save f s.names _ c)
+
 -- the calls behind the barrier
 abbrev pub run_entries : Setting → (load : List Call) → Machine → List Event → List Entry
 run_entries s load m events = map Returned load ++ map Returned (run_calls s m events ++ end_calls s m events)
 
 tally_run : (f : Entry → Bool) (s : Setting) (file : Option File) (load : List Call) (m : Machine) (events : List Event) (n : ℕ)
-    → CountsSaves f → BeginsLoad s.names.map file load
+    → s.has_mapfile ≡ true → CountsSaves f → BeginsLoad s.names.map file load
     → tally f (run_entries s load m events) n ≡ n + (dues s (moves s m events) + 1)
-tally_run f s file load m events n c b =
+tally_run f s file load m events n on c b =
     let run : List Call = run_calls s m events ++ end_calls s m events in
     let k : ℕ = dues s (moves s m events) in
     let all : Adds f run (k + 1) = adds_append f (run_calls s m events) (end_calls s m events) k 1 (k + 1)
-    (adds_moves f s (moves s m events) c) (adds_save f s.names _ c) refl in
+    (adds_moves f s (moves s m events) c) (adds_end f s m events on c) refl in
     adds_quiet f load (quiet_load f s.names.map file load c.ignores b) (map Returned run) n
     ∙ ap (λ (r : List Entry). tally f r (n + 0)) (sym (append-nil (map Returned run)))
     ∙ all [] (n + 0) ∙ (let e : n + 0 + (k + 1) ≡ n + (k + 1) = omega arith in e)
@@ -144,15 +150,15 @@ publishes = record {
 
 -- one settle in the barrier, and one in each save
 pub settles_once_more : (s : Setting) (file : Option File) (load : List Call) (m : Machine) (events : List Event)
-    → BeginsLoad s.names.map file load
+    → s.has_mapfile ≡ true → BeginsLoad s.names.map file load
     → count_by is_settle (settled s ++ run_entries s load m events) ≡ 1 + (dues s (moves s m events) + 1)
-settles_once_more s file load m events b =
-    tally_is is_settle (settled s ++ run_entries s load m events) ∙ tally_run is_settle s file load m events 1 settles b
+settles_once_more s file load m events on b =
+    tally_is is_settle (settled s ++ run_entries s load m events) ∙ tally_run is_settle s file load m events 1 on settles b
 
 -- one publish in each save
 pub publishes_each : (s : Setting) (file : Option File) (load : List Call) (m : Machine) (events : List Event)
-    → BeginsLoad s.names.map file load
+    → s.has_mapfile ≡ true → BeginsLoad s.names.map file load
     → count_by is_publish (settled s ++ run_entries s load m events) ≡ dues s (moves s m events) + 1
-publishes_each s file load m events b =
-    tally_is is_publish (settled s ++ run_entries s load m events) ∙ tally_run is_publish s file load m events 0 publishes b
+publishes_each s file load m events on b =
+    tally_is is_publish (settled s ++ run_entries s load m events) ∙ tally_run is_publish s file load m events 0 on publishes b
     ∙ (let e : 0 + (dues s (moves s m events) + 1) ≡ dues s (moves s m events) + 1 = omega arith in e)

@@ -1,43 +1,55 @@
 -- What stands behind the answer of a rescue.
-use Rattle.std.proofs.Common.{◌≡◌, ℕ, ◌+◌, ◌-◌, ◌≤◌, zero, suc, Bool, true, if◌then◌else◌, refl, List, [], ◌++◌, ◌∷◌, map, filter, length, take, Option, Some, None, sym, ◌∙◌, ap, subst, arith, inl, inr, length-append}
+use Rattle.std.proofs.Common.{◌≡◌, ℕ, ◌+◌, ◌*◌, ◌-◌, ◌≤◌, zero, suc, Bool, true, false, if◌then◌else◌, refl, List, [], ◌++◌, ◌∷◌, map, filter, length, take, drop, Option, Some, None, sym, ◌∙◌, ap, subst, arith, inl, inr, ⊎_elim, length-append}
 use Rattle.std.specs.List.{count_by, slice_get}
 use Rattle.std.proofs.Math.Seq.{take-length}
-use Rattle.std.proofs.lemmas.List.{take_all, length-map}
+use Rattle.std.proofs.lemmas.Bool.{cases_Bool}
+use Rattle.std.proofs.lemmas.List.{take_all, length-map, length-drop}
 use Rattle.block_list.specs.declared.status.Status.{Status}
 use Rattle.block_list.proofs.Places.{slice_get-append_right}
 use Rattle.mapfile_text.specs.declared.state.MapState.{MapState}
 use Rattle.crash_site.specs.declared.site.SiteCall.TheVariants.{MapRead}
 use Rattle.crash_site.specs.Files.{File, bytes_of}
-use Rattle.crash_site.specs.Calls.{Call, Entry, Done as Returned}
+use Rattle.crash_site.specs.Calls.{Call, Entry, Done as Returned, image_open}
 use Rattle.crash_site.specs.Folder.{Folder, after}
 use Rattle.crash_site.specs.Left.{MayBeLeft}
 use Rattle.crash_site.specs.SiteState.{files_in}
 use Rattle.crash_site.proofs.DiskLemmas.{reads_until}
-use Rattle.save_resume.specs.Loading.{BeginsLoad}
+use Rattle.crash_site.proofs.LawLemmas.{after-append}
+use Rattle.faulty_source.specs.Journal.{Reading}
+use Rattle.option_words.specs.declared.fault.UsageFault.TheVariants.{PlaceTooLarge}
+use Rattle.save_resume.specs.Loading.{BeginsLoad, IsLoad}
+use Rattle.save_resume.specs.Resuming.{barrier_calls}
 use Rattle.rescue_rules.specs.Setting.{Setting}
 use Rattle.rescue_rules.specs.Start.{Stands}
 use Rattle.rescue_rules.specs.Held.{Held}
 use Rattle.rescue_rules.specs.Machine.{Machine}
 use Rattle.rescue_rules.specs.Step.{Event}
 use Rattle.rescue_rules.specs.Moves.{moves, state_after, is_over, IsRun}
-use Rattle.rescue_rules.specs.Snapshots.{Snapshot, text_of, snapshot, finished_snapshot, last_snapshot, is_due, snapshots}
-use Rattle.rescue_rules.specs.RunCalls.{run_calls, end_calls}
+use Rattle.rescue_rules.specs.Snapshots.{Snapshot, text_of, snapshot, finished_snapshot, last_snapshot, is_due}
+use Rattle.rescue_rules.specs.Beginning.{shown_at_first}
+use Rattle.rescue_rules.specs.Events.{began_at, with_times, reads_of}
+use Rattle.rescue_rules.specs.RunCalls.{output_after, run_calls, end_calls}
+use Rattle.rescue_rules.proofs.HoldLemmas.{run_holds}
+use Rattle.rescue_rules.proofs.MapfileLemmas.{opening_is, mapfile_is}
+use Rattle.rescue_rules.proofs.ReadyLemmas.{order_begins}
 use Rattle.rescue_rules.specs.declared.stop.Stop.{Stop}
 use Rattle.rescue_rules.specs.declared.stop.Stop.TheVariants.{SourceLost as InputLost, Site, NoMemory as NoRoom}
 use Rattle.rescue_rules.specs.declared.stop.RunEnd.{RunEnd}
-use Rattle.rescue_rules.specs.declared.stop.RunEnd.TheVariants.{Done as Finished, Stopped, SaveFailed}
-use Rattle.rescue_rules.specs.Work.{Gain, begins, events_in, EndsBy, end_of, Ends, IsSaved as RunSaved, IsUnsaved, IsBroken, Runs}
-use Rattle.rescue_rules.specs.Stops.{LeftAt, has_barrier, is_settle, is_publish, returned, published, files_before, IsSave, IsKept, saves_of}
+use Rattle.rescue_rules.specs.Work.{Gain, begins, events_in, opening_calls, mapfile_in, IsLoadOf, EndsBy, end_of, Ends, IsSaved as RunSaved, IsUnsaved, IsBroken}
+use Rattle.rescue_rules.specs.Stops.{LeftAt, has_barrier, is_settle, is_publish, returned, published, files_before, IsSave, IsKept}
 use Rattle.ddrescue_cli.specs.declared.ending.Ending.{Ending}
-use Rattle.ddrescue_cli.specs.declared.ending.Ending.TheVariants.{Done, SourceFault, NotRegular, MapRefused, SourceLost, SiteFault, NoMemory}
+use Rattle.ddrescue_cli.specs.declared.ending.Ending.TheVariants.{Done, Usage, SameName, SourceFault, NotRegular, MapRefused, SourceLost, SiteFault, NoMemory}
 use Rattle.ddrescue_cli.specs.declared.ending.Which.TheVariants.{RunMap}
-use Rattle.ddrescue_cli.specs.Operands.{refusal_of_words}
-use Rattle.ddrescue_cli.specs.Answers.{SaysOfWords}
+use Rattle.rescue_command.specs.Command.{Command, Asks}
+use Rattle.ddrescue_cli.specs.Names.{command_line}
+use Rattle.ddrescue_cli.specs.Refusals.{MapfileRefused, PlacesRefused}
 use Rattle.ddrescue_cli.specs.Told.{Told, AllTell, what_was_done, calls_before, files_of, asked}
-use Rattle.ddrescue_cli.specs.Work.{answer_of, RunsOver, WorksOn, Works}
+use Rattle.ddrescue_cli.specs.Work.{answer_of, OrRefused, ThenRead, ThenRun, RunsOver, WorksOn, Works}
 use Rattle.ddrescue_cli.specs.Ddrescue.{Ddrescue}
 use Rattle.ddrescue_cli.specs.Laws.{HoldsAtEnd, IsFinished, DoneIsSaved, comes_to}
-use Rattle.ddrescue_cli.proofs.GoesLemmas.{settled, settled_more}
+use Rattle.ddrescue_cli.proofs.AskedLemmas.{asked_sensible}
+use Rattle.ddrescue_cli.proofs.OutputLemmas.{holds_whole}
+use Rattle.ddrescue_cli.proofs.GoesLemmas.{opened, settled, settled_more}
 use Rattle.ddrescue_cli.proofs.CountLemmas.{dues, run_entries, settles_once_more, publishes_each}
 
 -- a stop behind all calls may leave the files as they read
@@ -57,9 +69,9 @@ left_at_end t d tell =
     (left_all t.site.start calls k (sym (length-append t.site.calls (what_was_done t).calls))))
 
 pub holds_at_end : HoldsAtEnd
-holds_at_end t began state d tell is stands =
+holds_at_end t c began state d asks tell on is stands =
     let whole : take (length (what_was_done t).calls) (what_was_done t).calls ≡ (what_was_done t).calls = take-length (what_was_done t).calls in
-    (d.stops tell).kept (length (what_was_done t).calls) (files_in t.site') began state (omega arith)
+    ((d.asked_for c asks).stops tell on).kept (length (what_was_done t).calls) (files_in t.site') began state (omega arith)
     (left_at_end t d tell) (ap has_barrier whole ∙ is) stands
 
 -- a run that ended with a save
@@ -84,61 +96,144 @@ saved_ends s m events spare calls end is (IsUnsaved stop call ends same broke) =
 saved_ends s m events spare calls end is (IsBroken before last call split none same broke) =
     absurd (let no : Done ≡ SiteFault call None = is ∙ ap answer_of same in cc)
 
--- what a rescue that is done did
-record DoneRun (s : Setting) (files : List ℕ → Option File) (g : Gain) : Type 0 where
-  load : List Call
-  loads : BeginsLoad s.names.map (files s.names.map) load
-  statuses : List Status
-  state : Option MapState
-  stands : Stands (files s.names.map) s.end statuses state
-  run : IsRun s (begins s statuses state g) (events_in g)
-  over : is_over s (state_after s (begins s statuses state g) (events_in g)) ≡ true
-  calls : g.calls ≡ settled s ++ run_entries s load (begins s statuses state g) (events_in g)
+-- the calls of a run, and of its end
+abbrev last_calls : Setting → Machine → List Event → List Entry
+last_calls s m es = map Returned (run_calls s m es ++ end_calls s m es)
 
 -- a run over a map, behind a load
 record DoneOver (s : Setting) (statuses : List Status) (state : Option MapState) (g : Gain) : Type 0 where
   run : IsRun s (begins s statuses state g) (events_in g)
+  reads : reads_of (events_in g) ≡ g.reads
   saved : SavedRun s (begins s statuses state g) (events_in g) g.calls
+
+-- reads whose times are told are those of the events
+timed : (reads : List Reading) (times : List ℕ) → 2 * length reads ≤ length times → reads_of (with_times reads times) ≡ reads
+timed [] times enough = refl
+timed (r ∷ rs) [] enough = absurd (omega (arith, enough))
+timed (r ∷ rs) (before ∷ []) enough = absurd (omega (arith, enough))
+timed (r ∷ rs) (before ∷ after ∷ times) enough = ap (λ (l : List Reading). r ∷ l) (timed rs times (omega (arith, enough)))
 
 done_over : (s : Setting) (statuses : List Status) (state : Option MapState) (e : Ending) (g : Gain) → Done ≡ e
     → RunsOver s statuses state e g → DoneOver s statuses state g
 done_over s statuses state e g is (inl unbegun) = absurd (let no : Done ≡ NoMemory = is ∙ unbegun.answer in cc)
 done_over s statuses state e g is (inr (end, same, runs)) = record {
   run = runs.run;
+  reads = timed g.reads (drop 1 g.times) (omega (arith, runs.times, length-drop 1 g.times));
   saved = saved_ends s (begins s statuses state g) (events_in g) runs.spare g.calls end (is ∙ same) runs.ends;
 }
+
+-- a run over the map that a mapfile stands for, or no mapfile
+record DoneRest (s : Setting) (mapfile : Option File) (g : Gain) : Type 0 where
+  statuses : List Status
+  state : Option MapState
+  stands : Stands mapfile s.end statuses state
+  over : DoneOver s statuses state g
+
+done_rest : (s : Setting) (mapfile : Option File) (e : Ending) (g : Gain) → Done ≡ e
+    → OrRefused (PlacesRefused s) (ThenRun s mapfile) e g → DoneRest s mapfile g
+done_rest s mapfile e g is (inl (refused, none)) = absurd (let no : Done ≡ Usage PlaceTooLarge = is ∙ refused.3 in cc)
+done_rest s mapfile e g is (inr (placed, ran)) = record {
+  statuses = ran.0;
+  state = ran.1;
+  stands = ran.2;
+  over = done_over s ran.0 ran.1 e g is ran.3;
+}
+
+-- a load behind the barrier, and that run
+record DoneLoad (s : Setting) (files : List ℕ → Option File) (calls : List Entry) (g : Gain) : Type 0 where
+  load : List Call
+  loaded : IsLoad s.names.map (files s.names.map) load
+  run : List Entry
+  grew : calls ≡ map Returned load ++ run
+  rest : DoneRest s (mapfile_in s files) (record g { calls = run })
+
+done_load : (s : Setting) (files : List ℕ → Option File) (e : Ending) (g : Gain) → Done ≡ e
+    → ThenRead s.names.map (files s.names.map)
+    (OrRefused (MapfileRefused (files s.names.map)) (OrRefused (PlacesRefused s) (ThenRun s (mapfile_in s files)))) e g
+    → DoneLoad s files g.calls g
+done_load s files e g is (inl (load, failed, begun, broke, only)) = absurd (let no : Done ≡ SiteFault MapRead None = is ∙ failed in cc)
+done_load s files e g is (inr (inl (load, starved, begun, all, only))) = absurd (let no : Done ≡ NoMemory = is ∙ starved in cc)
+done_load s files e g is (inr (inr (load, run, loaded, all, inl (refused, none)))) =
+    absurd (let no : Done ≡ MapRefused RunMap refused.0 = is ∙ refused.3 in cc)
+done_load s files e g is (inr (inr (load, run, loaded, all, inr (accepted, next)))) = record {
+  load = load;
+  loaded = loaded;
+  run = run;
+  grew = all;
+  rest = done_rest s (mapfile_in s files) e (record g { calls = run }) is next;
+}
+
+-- what a rescue that is done did
+record DoneRun (s : Setting) (files : List ℕ → Option File) (g : Gain) : Type 0 where
+  load : List Call
+  loads : IsLoadOf s files load
+  statuses : List Status
+  state : Option MapState
+  stands : Stands (mapfile_in s files) s.end statuses state
+  run : IsRun s (begins s statuses state g) (events_in g)
+  reads : reads_of (events_in g) ≡ g.reads
+  over : is_over s (state_after s (begins s statuses state g) (events_in g)) ≡ true
+  calls : g.calls ≡ map Returned (opening_calls s ++ load) ++ last_calls s (begins s statuses state g) (events_in g)
+
+-- with a mapfile, and without one
+done_with : (s : Setting) (files : List ℕ → Option File) (g : Gain) (rest more : List Entry) → s.has_mapfile ≡ true
+    → g.calls ≡ opened s ++ rest → rest ≡ map Returned (barrier_calls s.names) ++ more → DoneLoad s files more (record g { calls = more })
+    → DoneRun s files g
+done_with s files g rest more on grew grew' l =
+    let last : List Entry = last_calls s (begins s l.rest.statuses l.rest.state g) (events_in g) in
+    record {
+      load = l.load;
+      loads = record { all = λ there. l.loaded; none = λ off. absurd (let never : true ≡ false = sym on ∙ off in cc) };
+      statuses = l.rest.statuses;
+      state = l.rest.state;
+      stands = l.rest.stands;
+      run = l.rest.over.run;
+      reads = l.rest.over.reads;
+      over = l.rest.over.saved.over;
+      calls = settled_more s g.calls rest more grew grew' ∙ ap (λ r. settled s ++ r) l.grew
+          ∙ ap (λ r. settled s ++ (map Returned l.load ++ r)) l.rest.over.saved.all
+          ∙ ap (λ (front : List Call). map Returned (front ++ l.load) ++ last) (sym (opening_is s on));
+    }
+
+opened_alone : (s : Setting) → s.has_mapfile ≡ false → opening_calls s ≡ image_open s.outfile true ∷ []
+opened_alone s off = ap (λ (b : Bool). image_open s.outfile true ∷ (if b then barrier_calls s.names else [])) off
+
+done_without : (s : Setting) (files : List ℕ → Option File) (g : Gain) (rest : List Entry) → s.has_mapfile ≡ false
+    → g.calls ≡ opened s ++ rest → DoneRest s (mapfile_in s files) (record g { calls = rest }) → DoneRun s files g
+done_without s files g rest off grew d =
+    let last : List Entry = last_calls s (begins s d.statuses d.state g) (events_in g) in
+    record {
+      load = [];
+      loads = record { all = λ on. absurd (let never : true ≡ false = sym on ∙ off in cc); none = λ off. refl };
+      statuses = d.statuses;
+      state = d.state;
+      stands = d.stands;
+      run = d.over.run;
+      reads = d.over.reads;
+      over = d.over.saved.over;
+      calls = grew ∙ ap (λ r. opened s ++ r) d.over.saved.all
+          ∙ ap (λ (front : List Call). map Returned (front ++ []) ++ last) (sym (opened_alone s off));
+    }
 
 done_runs : (s : Setting) (files : List ℕ → Option File) (e : Ending) (g : Gain) → Done ≡ e → WorksOn s files e g → DoneRun s files g
 done_runs s files e g is (inl (refused, none)) = absurd (let no : Done ≡ SourceFault = is ∙ refused in cc)
 done_runs s files e g is (inr (inl (call, failed, broke, only))) = absurd (let no : Done ≡ SiteFault call None = is ∙ failed in cc)
-done_runs s files e g is (inr (inr (rest, grew, inl (refused, none)))) = absurd (let no : Done ≡ NotRegular = is ∙ refused.1 in cc)
-done_runs s files e g is (inr (inr (rest, grew, inr (ok, inl (call, failed, broke, only))))) =
+done_runs s files e g is (inr (inr (rest, grew, inl (refused, none)))) = absurd (let no : Done ≡ NotRegular = is ∙ refused.2 in cc)
+done_runs s files e g is (inr (inr (rest, grew, inr (ok, inl (on, inl (call, failed, broke, only)))))) =
     absurd (let no : Done ≡ SiteFault call None = is ∙ failed in cc)
-done_runs s files e g is (inr (inr (rest, grew, inr (ok, inr (more, grew', inl (load, failed, begun, broke, only)))))) =
-    absurd (let no : Done ≡ SiteFault MapRead None = is ∙ failed in cc)
-done_runs s files e g is (inr (inr (rest, grew, inr (ok, inr (more, grew', inr (inl (load, starved, begun, grew'', only))))))) =
+done_runs s files e g is (inr (inr (rest, grew, inr (ok, inl (on, inr (more, grew', read)))))) =
+    done_with s files g rest more on grew grew' (done_load s files e (record g { calls = more }) is read)
+done_runs s files e g is (inr (inr (rest, grew, inr (ok, inr (off, inl (starved, none)))))) =
     absurd (let no : Done ≡ NoMemory = is ∙ starved in cc)
-done_runs s files e g is (inr (inr (rest, grew, inr (ok, inr (more, grew', inr (inr (load, run, loaded, all, inl (refused, none)))))))) =
-    absurd (let no : Done ≡ MapRefused RunMap refused.0 = is ∙ refused.3 in cc)
-done_runs s files e g is (inr (inr (rest, grew, inr (ok, inr (more, grew', inr (inr (load, run, loaded, all, inr (accepted, ran)))))))) =
-    let over : DoneOver s ran.0 ran.1 (record g { calls = run }) = done_over s ran.0 ran.1 e (record g { calls = run }) is ran.3 in
-    record {
-      load = load;
-      loads = loaded.begins;
-      statuses = ran.0;
-      state = ran.1;
-      stands = ran.2;
-      run = over.run;
-      over = over.saved.over;
-      calls = settled_more s g.calls rest more grew grew' ∙ ap (λ r. settled s ++ r) all
-          ∙ ap (λ r. settled s ++ (map Returned load ++ r)) over.saved.all;
-    }
+done_runs s files e g is (inr (inr (rest, grew, inr (ok, inr (off, inr next))))) =
+    done_without s files g rest off grew (done_rest s (mapfile_in s files) e (record g { calls = rest }) is next)
 
-works_on : (words : List (List ℕ)) (s : Setting) (files : List ℕ → Option File) (e : Ending) (g : Gain) → Done ≡ e
-    → refusal_of_words words ≡ None → Works words s files e g → WorksOn s files e g
-works_on words s files e g is none (inl (inl refused, nothing)) = absurd (let no : None ≡ Some e = sym none ∙ refused in cc)
-works_on words s files e g is none (inl (inr starved, nothing)) = absurd (let no : Done ≡ NoMemory = is ∙ starved in cc)
-works_on words s files e g is none (inr (right, works)) = works
+works_on : (c : Command) (s : Setting) (files : List ℕ → Option File) (e : Ending) (g : Gain) → Done ≡ e
+    → Works c s files e g → WorksOn s files e g
+works_on c s files e g is (inl (inl refused, nothing)) =
+    absurd (let no : Done ≡ SameName refused.0 refused.1 = is ∙ refused.3 in cc)
+works_on c s files e g is (inl (inr starved, nothing)) = absurd (let no : Done ≡ NoMemory = is ∙ starved in cc)
+works_on c s files e g is (inr (right, works)) = works
 
 -- the last of several saves
 save_last : (old : Option File) (began : List Status) (line : List ℕ) (saves : List Snapshot) (last : Snapshot) (number : ℕ)
@@ -171,19 +266,29 @@ number_last calls number k settled published_ older newer =
 last_finished : (s : Setting) (m : Machine) → is_over s m ≡ true → last_snapshot s m ≡ finished_snapshot m
 last_finished s m over = ap (λ (b : Bool). if b then finished_snapshot m else snapshot m) over
 
-saved_by : (t : Told) (r : DoneRun (asked t) (files_of t) (what_was_done t))
-    → IsKept (calls_before t) (asked t) (what_was_done t) r.statuses r.state (length (what_was_done t).calls) (files_in t.site')
-    → IsFinished t
-saved_by t r k =
-    let s : Setting = asked t in
+-- what stands behind all calls: the mapfile, and the output
+record Left (c : Command) (t : Told) (began : List Status) (state : Option MapState) : Type 0 where
+  mapfile : files_in t.site' (asked c t).names.map
+      ≡ Some (record { bytes = text_of (command_line t.words) (finished_snapshot (comes_to c t began state)); regular = true })
+  held : Held (asked c t) (what_was_done t).reads (bytes_of (files_of t c.outfile)) (comes_to c t began state).map
+      (bytes_of (files_in t.site' c.outfile))
+
+saved_by : (c : Command) (t : Told) (r : DoneRun (asked c t) (files_of t) (what_was_done t)) → (asked c t).has_mapfile ≡ true
+    → (what_was_done t).calls ≡ settled (asked c t) ++ run_entries (asked c t) r.load (begins (asked c t) r.statuses r.state (what_was_done t))
+    (events_in (what_was_done t))
+    → IsKept (calls_before t) (asked c t) (what_was_done t) r.statuses r.state (length (what_was_done t).calls) (files_in t.site')
+    → Left c t r.statuses r.state
+saved_by c t r on calls k =
+    let s : Setting = asked c t in
     let g : Gain = what_was_done t in
     let m : Machine = begins s r.statuses r.state g in
     let es : List Event = events_in g in
     let due : List Snapshot = map (λ v. snapshot v.after) (filter (is_due s) (moves s m es)) in
     let n : ℕ = dues s (moves s m es) in
     let file : Option File = files_of t s.names.map in
-    let more : count_by is_settle g.calls ≡ 1 + (n + 1) = ap (count_by is_settle) r.calls ∙ settles_once_more s file r.load m es r.loads in
-    let each : count_by is_publish g.calls ≡ n + 1 = ap (count_by is_publish) r.calls ∙ publishes_each s file r.load m es r.loads in
+    let loads : BeginsLoad s.names.map file r.load = (r.loads.all on).begins in
+    let more : count_by is_settle g.calls ≡ 1 + (n + 1) = ap (count_by is_settle) calls ∙ settles_once_more s file r.load m es on loads in
+    let each : count_by is_publish g.calls ≡ n + 1 = ap (count_by is_publish) calls ∙ publishes_each s file r.load m es on loads in
     let all : k.number ≡ n + 1 = number_last g.calls k.number (n + 1) more each k.no_older k.no_newer in
     let last : k.number ≡ length due + 1 =
     all ∙ ap (λ (i : ℕ). i + 1) (sym (length-map (filter (is_due s) (moves s m es)) (λ v. snapshot v.after))) in
@@ -193,21 +298,60 @@ saved_by t r k =
     (save_last (files_before (calls_before t) s.names.map) r.statuses s.line due (last_snapshot s (state_after s m es)) k.number
     (files_in t.site' s.names.map) k.statuses last k.is_save) in
     let Q : List Status → Type 0 = λ x. Held s g.reads (bytes_of (files_of t s.outfile)) x (bytes_of (files_in t.site' s.outfile)) in
-    record {
-      statuses = r.statuses;
-      state = r.state;
-      stands = r.stands;
-      run = r.run;
-      over = r.over;
-      mapfile = saved.1;
-      held = subst Q saved.0 k.held;
-    }
+    record { mapfile = saved.1; held = subst Q saved.0 k.held }
+
+left_with : (c : Command) (t : Told) (d : Ddrescue t) → Asks t.words c → AllTell t
+    → (r : DoneRun (asked c t) (files_of t) (what_was_done t)) → (asked c t).has_mapfile ≡ true → Left c t r.statuses r.state
+left_with c t d asks tell r on =
+    let s : Setting = asked c t in
+    let last : List Entry = last_calls s (begins s r.statuses r.state (what_was_done t)) (events_in (what_was_done t)) in
+    let calls : (what_was_done t).calls ≡ settled s ++ (map Returned r.load ++ last) =
+    r.calls ∙ ap (λ (front : List Call). map Returned (front ++ r.load) ++ last) (opening_is s on) in
+    let stands : Stands (files_of t s.names.map) (length t.source.bytes) r.statuses r.state =
+    subst (λ (o : Option File). Stands o s.end r.statuses r.state) (mapfile_is s (files_of t) on) r.stands in
+    saved_by c t r on calls (holds_at_end t c r.statuses r.state d asks tell on (ap has_barrier calls) stands)
+
+-- without a mapfile all writes of the run stand in the output
+held_without : (c : Command) (t : Told) (d : Ddrescue t) → Asks t.words c → AllTell t
+    → (r : DoneRun (asked c t) (files_of t) (what_was_done t)) → (asked c t).has_mapfile ≡ false
+    → Held (asked c t) (what_was_done t).reads (bytes_of (files_of t c.outfile)) (comes_to c t r.statuses r.state).map
+    (bytes_of (files_in t.site' c.outfile))
+held_without c t d asks tell r off =
+    let s : Setting = asked c t in
+    let g : Gain = what_was_done t in
+    let m : Machine = begins s r.statuses r.state g in
+    let es : List Event = events_in g in
+    let start : Folder = after t.site.start t.site.calls in
+    let old : List ℕ = bytes_of (start.files c.outfile) in
+    let whole : List Entry = Returned (image_open c.outfile true) ∷ last_calls s m es in
+    let calls : g.calls ≡ whole =
+    r.calls ∙ ap (λ (front : List Call). map Returned (front ++ r.load) ++ last_calls s m es) (opened_alone s off)
+    ∙ ap (λ (load : List Call). map Returned (image_open c.outfile true ∷ load) ++ last_calls s m es) (r.loads.none off) in
+    let now : after t.site'.start t.site'.calls ≡ after start whole =
+    ap (λ (from : Folder). after from t.site'.calls) (d.site.start tell.site) ∙ ap (after t.site.start) (d.gains tell).calls
+    ∙ after-append t.site.start t.site.calls g.calls ∙ ap (after start) calls in
+    let image : bytes_of (files_in t.site' c.outfile) ≡ output_after s old es =
+    ap (λ (f : Folder). bytes_of (f.files c.outfile)) now ∙ (holds_whole s m es start off).holds in
+    let held : Held s (reads_of es) old (state_after s m es).map (output_after s old es) =
+    run_holds s m es old (asked_sensible c t asks) (order_begins s r.statuses None (shown_at_first r.state) (began_at g.times)) r.run in
+    subst (λ (bytes : List ℕ). Held s g.reads old (state_after s m es).map bytes) (sym image)
+    (subst (λ (reads : List Reading). Held s reads old (state_after s m es).map (output_after s old es)) r.reads held)
+
+finished_by : (c : Command) (t : Told) (d : Ddrescue t) → Asks t.words c → AllTell t
+    → DoneRun (asked c t) (files_of t) (what_was_done t) → IsFinished c t
+finished_by c t d asks tell r = record {
+  statuses = r.statuses;
+  state = r.state;
+  stands = r.stands;
+  run = r.run;
+  over = r.over;
+  mapfile = λ on. (left_with c t d asks tell r on).mapfile;
+  held = ⊎_elim (λ (on : (asked c t).has_mapfile ≡ true). (left_with c t d asks tell r on).held)
+      (λ (off : (asked c t).has_mapfile ≡ false). held_without c t d asks tell r off) (cases_Bool (asked c t).has_mapfile);
+}
 
 pub done_is_saved : DoneIsSaved
-done_is_saved t d tell is =
-    let R : Ending → Type 0 = λ e. SaysOfWords e (refusal_of_words t.words) in
-    let none : refusal_of_words t.words ≡ None = subst R is d.words in
-    let r : DoneRun (asked t) (files_of t) (what_was_done t) =
-    done_runs (asked t) (files_of t) t.answer (what_was_done t) (sym is)
-    (works_on t.words (asked t) (files_of t) t.answer (what_was_done t) (sym is) none (d.work tell)) in
-    saved_by t r (holds_at_end t r.statuses r.state d tell (ap has_barrier r.calls) r.stands)
+done_is_saved t c d asks tell is =
+    finished_by c t d asks tell
+    (done_runs (asked c t) (files_of t) t.answer (what_was_done t) (sym is)
+    (works_on c (asked c t) (files_of t) t.answer (what_was_done t) (sym is) ((d.asked_for c asks).work tell)))

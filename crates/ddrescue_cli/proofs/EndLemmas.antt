@@ -1,13 +1,12 @@
 -- How a copy ends: its last save, or the turn that it stopped in.
-use Rattle.std.proofs.Common.{◌≡◌, ◌⊎◌, ℕ, ◌+◌, ◌<◌, ◌≤◌, ◌^◌, Bool, true, false, ◌&&◌, IsTrue, if◌then◌else◌, List, [], ◌∷◌, ◌++◌, map, length, All, Option, Some, None, is_none, refl, sym, ap, ◌∙◌, arith, subst, append_assoc, append-nil, inl, inr, ⊎_elim}
-use Rattle.std.proofs.lemmas.List.{map-append}
+use Rattle.std.proofs.Common.{◌≡◌, ◌⊎◌, ℕ, ◌+◌, ◌<◌, ◌^◌, Bool, true, false, ◌&&◌, IsTrue, if◌then◌else◌, List, [], ◌∷◌, ◌++◌, map, length, All, Option, Some, None, is_some, is_none, refl, sym, ap, ◌∙◌, arith, subst, append_assoc, append-nil, inl, inr, ⊎_elim}
 use Rattle.std.proofs.lemmas.List.Elements.{All-nil, All-cons, All-append}
-use Rattle.std.proofs.lemmas.Bool.{false_from_ne_true, true≢false}
+use Rattle.std.proofs.lemmas.Bool.{false_from_ne_true}
 use Rattle.faulty_source.specs.SourceState.{SourceState, Stays as SourceStays}
 use Rattle.crash_site.specs.declared.site.SiteCall.{SiteCall}
 use Rattle.crash_site.specs.declared.site.SiteCall.TheVariants.{ImageOpen, ImageWrite, ImageSync, MapRead, DraftBegin, DraftAppend, DraftSync, DraftPublish, MapSettle}
-use Rattle.crash_site.specs.Calls.{Call, Entry, Done as Returned, Made, BrokeAt, draft_append, draft_sync}
-use Rattle.crash_site.specs.SiteState.{SiteState, Makes, Breaks}
+use Rattle.crash_site.specs.Calls.{Call, Entry, Done as Returned, Made, BrokeAt, image_sync, draft_append, draft_sync}
+use Rattle.crash_site.specs.SiteState.{SiteState, Breaks}
 use Rattle.mapfile_text.specs.Pieces.{pieces_of}
 use Rattle.save_resume.specs.MapNames.{MapNames}
 use Rattle.save_resume.specs.Saving.{publish_calls, save_calls, IsNameIn}
@@ -21,15 +20,15 @@ use Rattle.rescue_rules.specs.declared.stop.RunEnd.TheVariants.{Done, Stopped, S
 use Rattle.rescue_rules.specs.Setting.{Setting}
 use Rattle.rescue_rules.specs.Machine.{Machine, IsRequest, has_request}
 use Rattle.rescue_rules.specs.Step.{Event, limit}
-use Rattle.rescue_rules.specs.Moves.{Move, move_of, ready, has_none, state_after, is_over, IsRun}
+use Rattle.rescue_rules.specs.Moves.{Move, ready, has_none, state_after, is_over, IsRun}
 use Rattle.rescue_rules.specs.Snapshots.{Snapshot, text_of, snapshot, finished_snapshot, last_snapshot, is_due}
-use Rattle.rescue_rules.specs.RunCalls.{write_calls, due_calls, move_calls, run_calls, end_calls}
+use Rattle.rescue_rules.specs.RunCalls.{write_calls, due_calls, move_calls, run_calls, closing_calls, end_calls}
 use Rattle.rescue_rules.specs.Events.{reads_of, times_of}
 use Rattle.rescue_rules.specs.Laws.{AreTimes}
-use Rattle.rescue_rules.specs.Work.{EndsBy, end_of, Ends, IsSaved, IsUnsaved, IsBroken}
+use Rattle.rescue_rules.specs.Work.{EndsBy, end_of, IsSaved, IsUnsaved, IsBroken}
 use Rattle.rescue_rules.proofs.ReadyLemmas.{ready_here, spent_request}
 use Rattle.rescue_rules.proofs.SearchLemmas.{request_seen}
-use Rattle.rescue_core.specs.RunState.{RunState, setting_in}
+use Rattle.rescue_core.specs.RunState.{RunState, names_in, setting_in}
 use Rattle.rescue_core.specs.Turning.{IsEvent, stepped, move_by, Halted, Starved, Lost, Unwritten, Unsaved}
 use Rattle.rescue_core.specs.Closing.{Saves, Saved, Unsaved as UnsavedEnd, Closes, closing_snapshot, end_of as core_end}
 use Rattle.ddrescue_cli.specs.Alone.{IsFrom}
@@ -38,7 +37,7 @@ use Rattle.ddrescue_cli.specs.declared.ending.Ending.TheVariants.{SiteFault}
 use Rattle.ddrescue_cli.specs.Work.{answer_of}
 use Rattle.ddrescue_cli.specs.Copying.{behind, Went, WentUpTo, EndsCalls, WentToEnd}
 use Rattle.ddrescue_cli.proofs.GainLemmas.{GainsBroken, broke_gains, broke_behind}
-use Rattle.ddrescue_cli.proofs.TurnLemmas.{source_stays, timed_more, EventMore, event_more, ReadsMore, read_more}
+use Rattle.ddrescue_cli.proofs.TurnLemmas.{timed_more, EventMore, event_more, ReadsMore, read_more}
 
 ends_as : (stop : Option Stop) → core_end stop ≡ end_of stop
 ends_as None = refl
@@ -101,7 +100,7 @@ save_ends : (r : RunState) (events : List Event) (stop : Option Stop) (spare : �
     → Saves stop (behind r events) end a b → EndsCalls r events spare end old b.calls
 save_ends r events stop spare end old a b by text made tells (Saved is makes rest) =
     let s : Setting = setting_in r in
-    let P : Snapshot → Type 0 = λ p. Made (save_calls r.names (text_of r.line p)) a.calls b.calls in
+    let P : Snapshot → Type 0 = λ p. Made (closing_calls s p) a.calls b.calls in
     record {
       gained = map Returned (run_calls s r.machine events ++ end_calls s r.machine events);
       grew = made_more old a.calls b.calls (run_calls s r.machine events) (end_calls s r.machine events) made
@@ -110,7 +109,7 @@ save_ends r events stop spare end old a b by text made tells (Saved is makes res
     }
 save_ends r events stop spare end old a b by text made tells (UnsavedEnd call is named breaks rest) =
     let s : Setting = setting_in r in
-    let P : Snapshot → Type 0 = λ p. BrokeAt call (save_calls r.names (text_of r.line p)) a.calls b.calls in
+    let P : Snapshot → Type 0 = λ p. BrokeAt call (closing_calls s p) a.calls b.calls in
     let g : GainsBroken call (end_calls s r.machine events) a.calls b.calls =
     broke_gains call (end_calls s r.machine events) a.calls b.calls (subst P text (breaks.broke tells)) in
     let calls : List Entry = map Returned (run_calls s r.machine events) in
@@ -148,6 +147,13 @@ save_named call n text (inl is) = other_call call ImageSync is (λ x. cc) (λ x.
 save_named call n text (inr (inl is)) = other_call call DraftBegin is (λ x. cc) (λ x. cc)
 save_named call n text (inr (inr h)) = publish_named call n (appends_named call (pieces_of text) (draft_sync ∷ publish_calls n) h)
 
+-- nor is one of a run's end
+closing_named : (call : SiteCall) (there : Bool) (n : MapNames) (text : List ℕ)
+    → IsNameIn call (if there then save_calls n text else image_sync ∷ []) → (call ≡ ImageOpen) ⊎ (call ≡ MapRead) → ⊥
+closing_named call true n text h = save_named call n text h
+closing_named call false n text (inl is) = other_call call ImageSync is (λ x. cc) (λ x. cc)
+closing_named call false n text (inr h) = absurd h
+
 call_late : (call : SiteCall) (earlier : Option Stop) → ((call ≡ ImageOpen) ⊎ (call ≡ MapRead) → ⊥) → IsLate (SiteFault call earlier)
 call_late call earlier other = record {
   no_open = λ behind is. let same : call ≡ ImageOpen = cc in other (inl same);
@@ -166,7 +172,7 @@ saves_late stop r end a b other (Saved is makes rest) =
     subst (λ (e : RunEnd). IsLate (answer_of e)) (sym (is ∙ ends_as stop)) (stop_late stop other)
 saves_late stop r end a b other (UnsavedEnd call is named breaks rest) =
     subst (λ (e : RunEnd). IsLate (answer_of e)) (sym is)
-    (call_late call stop (save_named call r.names (text_of r.line (closing_snapshot stop r)) named))
+    (call_late call stop (closing_named call (is_some r.names) (names_in r.names) (text_of r.line (closing_snapshot stop r)) named))
 
 -- only a save without a stop ends a run that is done
 saves_done : (stop : Stop) (r : RunState) (end : RunEnd) (a b : SiteState) → Saves (Some stop) r end a b → end ≡ Done → ⊥
@@ -293,7 +299,7 @@ broken_write r r1 es e a b c is still breaks tells =
 
 broken_save : (r r1 r2 : RunState) (es : List Event) (e : Event) (call : SiteCall) (a b c : SiteState) → r1 ≡ behind r es → c ≡ b
     → r2 ≡ stepped r1 e → is_due (setting_in r1) (move_by r1 e) ≡ true
-    → BrokeAt call (save_calls r1.names (text_of r1.line (snapshot r2.machine)))
+    → BrokeAt call (save_calls (names_in r1.names) (text_of r1.line (snapshot r2.machine)))
     (a.calls ++ map Returned (write_calls (setting_in r1) e.reading)) b.calls
     → BrokeAt call (move_calls (setting_in r) (move_by (behind r es) e)) a.calls c.calls
 broken_save r r1 r2 es e call a b c is still steps due broke =
@@ -302,9 +308,9 @@ broken_save r r1 r2 es e call a b c is still steps due broke =
     let writes : List Call = write_calls s e.reading in
     let saves : List Call = save_calls s.names (text_of s.line (snapshot v.after)) in
     let stepped' : r2 ≡ stepped (behind r es) e = steps ∙ ap (λ (q : RunState). stepped q e) is in
-    let P : RunState → Type 0 = λ q. BrokeAt call (save_calls r1.names (text_of r1.line (snapshot q.machine)))
+    let P : RunState → Type 0 = λ q. BrokeAt call (save_calls (names_in r1.names) (text_of r1.line (snapshot q.machine)))
     (a.calls ++ map Returned (write_calls (setting_in r1) e.reading)) b.calls in
-    let Q : RunState → Type 0 = λ q. BrokeAt call (save_calls q.names (text_of q.line (snapshot v.after)))
+    let Q : RunState → Type 0 = λ q. BrokeAt call (save_calls (names_in q.names) (text_of q.line (snapshot v.after)))
     (a.calls ++ map Returned (write_calls (setting_in q) e.reading)) b.calls in
     let there : BrokeAt call saves (a.calls ++ map Returned writes) b.calls = subst Q is (subst P stepped' broke) in
     let D : RunState → Type 0 = λ q. is_due (setting_in q) (move_by q e) ≡ true in
@@ -341,7 +347,7 @@ halted_end r r1 r2 stop end request o source2 site2 site3 clock2 w stays same as
     let C : Stop → Type 0 = λ x. Closes (Some x) r2 end site2 site3 in
     let closed : (end ≡ Stopped (Site call)) × (site3 ≡ site2) = subst C is closes in
     broken_end r r1 call end request e o source2 site3 clock2 w (event_next r r1 request e o source2 clock2 w asks event) event stays closed.0
-    (save_named call r1.names (text_of r1.line (snapshot r2.machine)) named)
+    (save_named call (names_in r1.names) (text_of r1.line (snapshot r2.machine)) named)
     (λ tells. broken_save r r1 r2 w.events e call o.site' site2 site3 w.state closed.1 steps due (broke (rw same tells)))
 
 pub stopped_end : (r r2 : RunState) (stop : Stop) (end : RunEnd) (o : Across) (site3 : SiteState) → WentUpTo stop r r2 o

@@ -10,7 +10,6 @@ use Rattle.rescue_rules.specs.Given.{given, last_of_both}
 use Rattle.rescue_rules.specs.Events.{reads_of}
 use Rattle.rescue_rules.proofs.GivenLemmas.{given_covered, given_uncovered}
 use Rattle.rescue_rules.proofs.MarkLemmas.{slice_get-take, slice_get-drop}
-use Rattle.ddrescue_cli.specs.Asked.{default_sector}
 use Rattle.ddrescue_cli.specs.Told.{asked}
 use Rattle.ddrescue_cli.specs.Alone.{IsFrom, HasRead}
 use Rattle.ddrescue_cli.specs.Laws.{GivenIsInput}
@@ -61,8 +60,8 @@ from_input bytes b (r ∷ rs) x v all is =
     (from_input bytes b rs x v (All-tail (IsFrom bytes) r rs all)) is refl
 
 pub given_is_input : GivenIsInput
-given_is_input t x b kept tells is =
-    let h : HasRead (asked t) t.answer t.source t.source' = kept.read tells in
-    let P : List Reading → Type 0 = λ r. given default_sector r x ≡ Some b in
-    from_input t.source.bytes default_sector (reads_of h.events) x b h.right
+given_is_input t c x b kept asks tells is =
+    let h : HasRead (asked c t) t.answer t.source t.source' = (kept.asked_for c asks).read tells in
+    let P : List Reading → Type 0 = λ r. given c.options.sector r x ≡ Some b in
+    from_input t.source.bytes c.options.sector (reads_of h.events) x b h.right
     (subst P (gained_is t.source.journal t.source'.journal (reads_of h.events) h.gained) is)

@@ -1,19 +1,22 @@
 -- The work of a rescue goes as it should.
-use Rattle.std.proofs.Common.{◌≡◌, ℕ, ◌+◌, ◌≤◌, true, false, List, [], ◌∷◌, ◌++◌, map, length, take, Option, refl, sym, ap, ◌∙◌, inl, inr, subst, arith, append-nil}
+use Rattle.std.proofs.Common.{◌≡◌, ℕ, ◌+◌, ◌≤◌, true, false, ◌⊎◌, List, [], ◌∷◌, ◌++◌, map, length, take, Option, refl, sym, ap, ◌∙◌, inl, inr, subst, arith, append-nil}
 use Rattle.block_list.specs.declared.status.Status.{Status}
 use Rattle.mapfile_text.specs.declared.state.MapState.{MapState}
 use Rattle.crash_site.specs.declared.site.SiteCall.TheVariants.{MapRead}
 use Rattle.crash_site.specs.Files.{File}
 use Rattle.crash_site.specs.Calls.{Call, Entry, Done as Returned, Lost, BrokeAt, image_open, image_sync, map_settle}
 use Rattle.crash_site.specs.Left.{MayBeLeft}
-use Rattle.save_resume.specs.Loading.{IsLoad}
+use Rattle.save_resume.specs.Loading.{BeginsLoad, IsLoad}
 use Rattle.save_resume.specs.Resuming.{barrier_calls}
+use Rattle.rescue_rules.specs.declared.stop.RunEnd.{RunEnd}
 use Rattle.rescue_rules.specs.Setting.{Setting}
 use Rattle.rescue_rules.specs.Start.{Stands}
-use Rattle.rescue_rules.specs.Work.{Gain, IsNothing, opening_calls, Goes, InOpening, InLoad, InRun}
+use Rattle.rescue_rules.specs.Work.{Gain, IsNothing, Runs, mapfile_in, Goes, InOpening, InLoad, InRun}
 use Rattle.rescue_rules.specs.Stops.{Behind, LeftAt, has_barrier, StopsSafely}
 use Rattle.ddrescue_cli.specs.declared.ending.Ending.{Ending}
-use Rattle.ddrescue_cli.specs.Work.{WorksOn, RunsOver}
+use Rattle.ddrescue_cli.specs.Refusals.{MapfileRefused, PlacesRefused}
+use Rattle.ddrescue_cli.specs.Work.{OrRefused, ThenRead, ThenRun, WorksOn, RunsOver}
+use Rattle.rescue_rules.proofs.MapfileLemmas.{settling_calls, opening_is}
 use Rattle.ddrescue_cli.proofs.GainLemmas.{lost_behind, broke_behind}
 
 -- the first call of a rescue, and the three of its opening
@@ -40,53 +43,92 @@ lost_synced s calls rest grew lost =
     subst P (sym grew) (lost_behind image_sync (opened s) (Returned (map_settle s.names.map) ∷ []) rest lost)
 
 broke_settled : (s : Setting) (load : List Call) (calls more : List Entry) → calls ≡ settled s ++ more → BrokeAt MapRead load [] more
-    → BrokeAt MapRead (opening_calls s ++ load) [] calls
+    → BrokeAt MapRead (settling_calls s ++ load) [] calls
 broke_settled s load calls more grew broke =
     let P : List Entry → Type 0 = λ r. BrokeAt MapRead load (settled s) r in
     inr (inr (inr (subst P (sym grew) (broke_behind MapRead load (settled s) [] more broke))))
 
 -- the calls of a rescue that read its mapfile, and made no other behind it
-loaded_alone : (s : Setting) (load : List Call) (calls rest more run : List Entry) → calls ≡ opened s ++ rest
-    → rest ≡ map Returned (barrier_calls s.names) ++ more → more ≡ map Returned load ++ run → run ≡ []
-    → calls ≡ map Returned (opening_calls s ++ load)
-loaded_alone s load calls rest more run grew grew' all none =
-    settled_more s calls rest more grew grew' ∙ ap (λ r. settled s ++ r) all ∙ ap (λ r. settled s ++ (map Returned load ++ r)) none
-    ∙ ap (λ r. settled s ++ r) (append-nil (map Returned load))
+alone_behind : (s : Setting) (load : List Call) (calls run : List Entry) → calls ≡ map Returned (settling_calls s ++ load) ++ run
+    → run ≡ [] → calls ≡ map Returned (settling_calls s ++ load)
+alone_behind s load calls run grew none =
+    grew ∙ ap (λ r. map Returned (settling_calls s ++ load) ++ r) none ∙ append-nil (map Returned (settling_calls s ++ load))
+
+-- the ways of a rescue with a mapfile
+opening_goes : (s : Setting) (files : List ℕ → Option File) (g : Gain) (front back : List Call) → s.has_mapfile ≡ true
+    → front ++ back ≡ settling_calls s → g.reads ≡ []
+    → (g.calls ≡ map Returned front) ⊎ ((call : Call) × (rest : List Call) × (back ≡ call ∷ rest) × Lost call (map Returned front) g.calls)
+    → Goes s files g
+opening_goes s files g front back on is none h = InOpening front back (is ∙ sym (opening_is s on)) none h
+
+load_goes : (s : Setting) (files : List ℕ → Option File) (g : Gain) (load : List Call) → s.has_mapfile ≡ true
+    → BeginsLoad s.names.map (files s.names.map) load → g.reads ≡ []
+    → (g.calls ≡ map Returned (settling_calls s ++ load)) ⊎ BrokeAt MapRead (settling_calls s ++ load) [] g.calls → Goes s files g
+load_goes s files g load on begins none h =
+    InLoad load on begins none
+    (subst (λ (l : List Call). (g.calls ≡ map Returned (l ++ load)) ⊎ BrokeAt MapRead (l ++ load) [] g.calls) (sym (opening_is s on)) h)
+
+run_goes : (s : Setting) (files : List ℕ → Option File) (g : Gain) (load : List Call) (statuses : List Status) (state : Option MapState)
+    (end : RunEnd) (run : List Entry) → s.has_mapfile ≡ true → IsLoad s.names.map (files s.names.map) load
+    → Stands (mapfile_in s files) s.end statuses state → g.calls ≡ map Returned (settling_calls s ++ load) ++ run
+    → Runs s statuses state (record g { calls = run }) end → Goes s files g
+run_goes s files g load statuses state end run on loaded stands grew runs =
+    InRun load statuses state end run (record { all = λ _. loaded; none = λ off. absurd (let never : true ≡ false = sym on ∙ off in cc) })
+    stands
+    (subst (λ (l : List Call). g.calls ≡ map Returned (l ++ load) ++ run) (sym (opening_is s on)) grew) runs
 
 -- a run over the map that was loaded, which may not have begun
 over_goes : (s : Setting) (files : List ℕ → Option File) (e : Ending) (g : Gain) (load : List Call) (statuses : List Status)
-    (state : Option MapState) (run : List Entry) → IsLoad s.names.map (files s.names.map) load
-    → Stands (files s.names.map) s.end statuses state → g.calls ≡ map Returned (opening_calls s ++ load) ++ run
+    (state : Option MapState) (run : List Entry) → s.has_mapfile ≡ true → IsLoad s.names.map (files s.names.map) load
+    → Stands (mapfile_in s files) s.end statuses state → g.calls ≡ map Returned (settling_calls s ++ load) ++ run
     → RunsOver s statuses state e (record g { calls = run }) → Goes s files g
-over_goes s files e g load statuses state run loaded stands grew (inl un) =
-    InLoad load loaded.begins un.reads (inl (grew ∙ ap (λ r. map Returned (opening_calls s ++ load) ++ r) un.calls
-    ∙ append-nil (map Returned (opening_calls s ++ load))))
-over_goes s files e g load statuses state run loaded stands grew (inr (end, is, runs)) =
-    InRun load statuses state end run loaded stands grew runs
+over_goes s files e g load statuses state run on loaded stands grew (inl un) =
+    load_goes s files g load on loaded.begins un.reads (inl (grew ∙ ap (λ r. map Returned (settling_calls s ++ load) ++ r) un.calls
+    ∙ append-nil (map Returned (settling_calls s ++ load))))
+over_goes s files e g load statuses state run on loaded stands grew (inr (end, is, runs)) =
+    run_goes s files g load statuses state end run on loaded stands grew runs
 
-pub goes_on : (s : Setting) (files : List ℕ → Option File) (e : Ending) (g : Gain) → WorksOn s files e g → Goes s files g
-goes_on s files e g (inl (refused, none)) = InOpening [] (opening_calls s) refl none.reads (inl none.calls)
-goes_on s files e g (inr (inl (call, is, inl (name, lost), only))) =
-    InOpening [] (opening_calls s) refl only.reads (inr (image_open s.outfile true, barrier_calls s.names, refl, lost))
-goes_on s files e g (inr (inl (call, is, inr broke, only))) = absurd broke
-goes_on s files e g (inr (inr (rest, grew, inl (refused, none)))) =
-    InOpening (image_open s.outfile true ∷ []) (barrier_calls s.names) refl none.reads (inl (grew ∙ ap (λ r. opened s ++ r) none.calls))
-goes_on s files e g (inr (inr (rest, grew, inr (passes, inl (call, is, inl (name, lost), only))))) =
-    InOpening (image_open s.outfile true ∷ []) (barrier_calls s.names) refl only.reads
+-- a load behind the barrier, and what follows it
+loaded_goes : (s : Setting) (files : List ℕ → Option File) (e : Ending) (g : Gain) (load : List Call) (run : List Entry)
+    → s.has_mapfile ≡ true → IsLoad s.names.map (files s.names.map) load → g.calls ≡ map Returned (settling_calls s ++ load) ++ run
+    → OrRefused (MapfileRefused (files s.names.map)) (OrRefused (PlacesRefused s) (ThenRun s (mapfile_in s files))) e (record g { calls = run })
+    → Goes s files g
+loaded_goes s files e g load run on loaded grew (inl (refused, none)) =
+    load_goes s files g load on loaded.begins none.reads (inl (alone_behind s load g.calls run grew none.calls))
+loaded_goes s files e g load run on loaded grew (inr (accepted, inl (refused, none))) =
+    load_goes s files g load on loaded.begins none.reads (inl (alone_behind s load g.calls run grew none.calls))
+loaded_goes s files e g load run on loaded grew (inr (accepted, inr (placed, ran))) =
+    over_goes s files e g load ran.0 ran.1 run on loaded ran.2 grew ran.3
+
+read_goes : (s : Setting) (files : List ℕ → Option File) (e : Ending) (g : Gain) (rest more : List Entry) → s.has_mapfile ≡ true
+    → g.calls ≡ opened s ++ rest → rest ≡ map Returned (barrier_calls s.names) ++ more
+    → ThenRead s.names.map (files s.names.map)
+    (OrRefused (MapfileRefused (files s.names.map)) (OrRefused (PlacesRefused s) (ThenRun s (mapfile_in s files)))) e (record g { calls = more })
+    → Goes s files g
+read_goes s files e g rest more on grew grew' (inl (load, is, begins, broke, only)) =
+    load_goes s files g load on begins only.reads (inr (broke_settled s load g.calls more (settled_more s g.calls rest more grew grew') broke))
+read_goes s files e g rest more on grew grew' (inr (inl (load, is, begins, all, only))) =
+    load_goes s files g load on begins only.reads (inl (settled_more s g.calls rest more grew grew' ∙ ap (λ r. settled s ++ r) all))
+read_goes s files e g rest more on grew grew' (inr (inr (load, run, loaded, all, next))) =
+    loaded_goes s files e g load run on loaded (settled_more s g.calls rest more grew grew' ∙ ap (λ r. settled s ++ r) all) next
+
+pub goes_on : (s : Setting) (files : List ℕ → Option File) (e : Ending) (g : Gain) → s.has_mapfile ≡ true → WorksOn s files e g → Goes s files g
+goes_on s files e g on (inl (refused, none)) = opening_goes s files g [] (settling_calls s) on refl none.reads (inl none.calls)
+goes_on s files e g on (inr (inl (call, is, inl (name, lost), only))) =
+    opening_goes s files g [] (settling_calls s) on refl only.reads (inr (image_open s.outfile true, barrier_calls s.names, refl, lost))
+goes_on s files e g on (inr (inl (call, is, inr broke, only))) = absurd broke
+goes_on s files e g on (inr (inr (rest, grew, inl (refused, none)))) =
+    opening_goes s files g (image_open s.outfile true ∷ []) (barrier_calls s.names) on refl none.reads (inl (grew ∙ ap (λ r. opened s ++ r) none.calls))
+goes_on s files e g on (inr (inr (rest, grew, inr (passes, inr (off, more))))) = absurd (let never : true ≡ false = sym on ∙ off in cc)
+goes_on s files e g on (inr (inr (rest, grew, inr (passes, inl (has, inl (call, is, inl (name, lost), only)))))) =
+    opening_goes s files g (image_open s.outfile true ∷ []) (barrier_calls s.names) on refl only.reads
     (inr (map_settle s.names.map, image_sync ∷ [], refl, lost_settled s g.calls rest grew lost))
-goes_on s files e g (inr (inr (rest, grew, inr (passes, inl (call, is, inr (inl (name, lost)), only))))) =
-    InOpening (image_open s.outfile true ∷ map_settle s.names.map ∷ []) (image_sync ∷ []) refl only.reads
+goes_on s files e g on (inr (inr (rest, grew, inr (passes, inl (has, inl (call, is, inr (inl (name, lost)), only)))))) =
+    opening_goes s files g (image_open s.outfile true ∷ map_settle s.names.map ∷ []) (image_sync ∷ []) on refl only.reads
     (inr (image_sync, [], refl, lost_synced s g.calls rest grew lost))
-goes_on s files e g (inr (inr (rest, grew, inr (passes, inl (call, is, inr (inr broke), only))))) = absurd broke
-goes_on s files e g (inr (inr (rest, grew, inr (passes, inr (more, grew', inl (load, is, begins, broke, only)))))) =
-    InLoad load begins only.reads (inr (broke_settled s load g.calls more (settled_more s g.calls rest more grew grew') broke))
-goes_on s files e g (inr (inr (rest, grew, inr (passes, inr (more, grew', inr (inl (load, is, begins, all, only))))))) =
-    InLoad load begins only.reads (inl (settled_more s g.calls rest more grew grew' ∙ ap (λ r. settled s ++ r) all))
-goes_on s files e g (inr (inr (rest, grew, inr (passes, inr (more, grew', inr (inr (load, run, loaded, all, inl (refused, none)))))))) =
-    InLoad load loaded.begins none.reads (inl (loaded_alone s load g.calls rest more run grew grew' all none.calls))
-goes_on s files e g (inr (inr (rest, grew, inr (passes, inr (more, grew', inr (inr (load, run, loaded, all, inr (accepted, ran)))))))) =
-    let stands = ran.2 in
-    over_goes s files e g load ran.0 ran.1 run loaded stands (settled_more s g.calls rest more grew grew' ∙ ap (λ r. settled s ++ r) all) ran.3
+goes_on s files e g on (inr (inr (rest, grew, inr (passes, inl (has, inl (call, is, inr (inr broke), only)))))) = absurd broke
+goes_on s files e g on (inr (inr (rest, grew, inr (passes, inl (has, inr (more, grew', read)))))) =
+    read_goes s files e g rest more on grew grew' read
 
 -- where nothing was done, what is found could be found before
 nothing_left : (b : Behind) (g : Gain) (k : ℕ) (files : List ℕ → Option File) → IsNothing g → k ≤ length g.calls → LeftAt b g k files

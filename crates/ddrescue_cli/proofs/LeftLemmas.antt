@@ -1,5 +1,5 @@
 -- What an answer before the first read leaves.
-use Rattle.std.proofs.Common.{◌≡◌, ℕ, true, IsTrue, List, [], ◌∷◌, Option, Some, None, refl, sym, ap, ◌∙◌, inl, inr, subst}
+use Rattle.std.proofs.Common.{◌≡◌, ℕ, ◌+◌, Bool, true, IsTrue, List, [], ◌∷◌, ◌++◌, map, Option, Some, None, Ok, Err, refl, sym, ap, ◌∙◌, inl, inr, subst, sum}
 use Rattle.std.specs.Str.{bytes_eq}
 use Rattle.std.proofs.lemmas.Slice.Eq.{bytes_eq-Decides}
 use Rattle.crash_site.specs.declared.site.SiteCall.{SiteCall}
@@ -7,22 +7,24 @@ use Rattle.crash_site.specs.declared.site.SiteCall.TheVariants.{ImageOpen, Image
 use Rattle.crash_site.specs.Files.{File, empty_file, put}
 use Rattle.crash_site.specs.Folder.{Folder, opened, after}
 use Rattle.crash_site.specs.Disk.{at_rest}
-use Rattle.crash_site.specs.Calls.{Entry, Done as Returned, Failed, Made, BrokeAt, image_open}
+use Rattle.crash_site.specs.Calls.{Call, Entry, Done as Returned, Failed, Made, BrokeAt, image_open, map_read}
 use Rattle.crash_site.specs.SiteState.{SiteState, files_in, Keeps}
 use Rattle.crash_site.proofs.LawLemmas.{put_other}
 use Rattle.crash_site.proofs.DiskLemmas.{run_reads}
 use Rattle.save_resume.specs.MapNames.{MapNames}
 use Rattle.save_resume.specs.SaveStops.{disk_of}
-use Rattle.save_resume.specs.Resuming.{IsResumeCall, NothingPending}
+use Rattle.save_resume.specs.Loading.{BeginsLoad, piece_size, piece_reads}
+use Rattle.save_resume.specs.Resuming.{IsResumeCall, NothingPending, barrier_calls}
 use Rattle.rescue_rules.specs.declared.stop.Stop.{Stop}
 use Rattle.rescue_rules.specs.declared.stop.Stop.TheVariants.{SourceLost as InputLost, Site, NoMemory as NoRoom}
 use Rattle.rescue_rules.specs.declared.stop.RunEnd.TheVariants.{Done as Finished, Stopped, SaveFailed}
 use Rattle.ddrescue_cli.specs.declared.ending.Ending.{Ending}
 use Rattle.ddrescue_cli.specs.declared.ending.Ending.TheVariants.{SiteFault}
+use Rattle.ddrescue_cli.specs.declared.load.Start.{Start}
 use Rattle.ddrescue_cli.specs.Refusals.{is_other}
 use Rattle.ddrescue_cli.specs.Alone.{made_of, OutputMade, CallLeaves, IsLeft}
-use Rattle.ddrescue_cli.specs.Steps.{EndsRun, IsLate, OutputStop, LoadStopped, InBarrier, InRead, Starved, Refused}
-use Rattle.ddrescue_cli.proofs.WorkLemmas.{after-append}
+use Rattle.ddrescue_cli.specs.Steps.{EndsRun, IsLate, OutputStop, LoadStopped, InBarrier, InRead, Starved, Refused, Loaded}
+use Rattle.ddrescue_cli.proofs.WorkLemmas.{after-append, HasOpened}
 
 -- where nothing is pending behind a barrier, the files read as they did
 pub pending_stands : (names : MapNames) (old new : SiteState) → NothingPending names (disk_of old) (disk_of new) → files_in new ≡ files_in old
@@ -59,39 +61,72 @@ failed_is start start' out old new same (inl (name, inl lost)) =
 failed_is start start' out old new same (inl (name, inr lost)) = ap (λ s. (after s new).files) same ∙ ap (λ r. (after start r).files) lost
 failed_is start start' out old new same (inr b) = absurd b
 
-pub output_made : (out : List ℕ) (old new : SiteState) → new.start ≡ old.start → Made (image_open out true ∷ []) old.calls new.calls
-    → OutputMade out (files_in old) (files_in new)
-output_made out old new same made =
+output_made : (out : List ℕ) (old new : SiteState) → HasOpened out old new → OutputMade out (files_in old) (files_in new)
+output_made out old new made =
     let P : (List ℕ → Option File) → Type 0 = λ f. OutputMade out (files_in old) f in
-    subst P (sym (opened_is old.start new.start out old.calls new.calls same made))
+    subst P (sym (opened_is old.start new.start out old.calls new.calls made.0 made.1))
     (made_there (after old.start old.calls) out ((after old.start old.calls).files out) refl)
 
-pub output_leaves : (e : Ending) (out : List ℕ) (old new : SiteState) → Keeps old new → IsTrue old.tells → OutputStop e out old new
-    → IsLeft e out (files_in old) (files_in new)
-output_leaves e out old new keeps td (inl (is, other, makes)) =
+pub output_leaves : (e : Ending) (out : List ℕ) (forced : Bool) (old new : SiteState) → Keeps old new → IsTrue old.tells
+    → OutputStop e out forced old new → IsLeft e out (files_in old) (files_in new)
+output_leaves e out forced old new keeps td (inl (is, unforced, other, makes)) =
     let same : files_in new ≡ files_in old = opened_is old.start new.start out old.calls new.calls (keeps.start td) (makes.made td)
     ∙ other_stands (after old.start old.calls) out ((after old.start old.calls).files out) (other td) in
     rw is (λ name. ap (λ f. f name) same)
-output_leaves e out old new keeps td (inr (is, breaks)) =
+output_leaves e out forced old new keeps td (inr (is, breaks)) =
     let same : files_in new ≡ files_in old = failed_is old.start new.start out old.calls new.calls (keeps.start td) (breaks.broke td) in
     rw is (λ name. ap (λ f. f name) same)
 
 -- a load that stopped
-pub load_leaves_files : (n : MapNames) (e : Ending) (out : List ℕ) (mapfile : Option File) (calls calls' : List Entry)
+load_leaves_at : (n : MapNames) (e : Ending) (out : List ℕ) (mapfile : Option File) (calls calls' : List Entry)
     (files files1 files2 : List ℕ → Option File) → LoadStopped n mapfile e calls calls' → OutputMade out files files1
     → ((e ≡ SiteFault MapSettle None → ⊥) → (e ≡ SiteFault ImageSync None → ⊥) → files2 ≡ files1) → IsLeft e out files files2
-load_leaves_files n e out mapfile calls calls' files files1 files2 (InBarrier call is (inl (name, lost))) made stand = rw (is, name) tt
-load_leaves_files n e out mapfile calls calls' files files1 files2 (InBarrier call is (inr (inl (name, lost)))) made stand = rw (is, name) tt
-load_leaves_files n e out mapfile calls calls' files files1 files2 (InBarrier call is (inr (inr b))) made stand = absurd b
-load_leaves_files n e out mapfile calls calls' files files1 files2 (InRead load is begins broke) made stand =
+load_leaves_at n e out mapfile calls calls' files files1 files2 (InBarrier call is (inl (name, lost))) made stand = rw (is, name) tt
+load_leaves_at n e out mapfile calls calls' files files1 files2 (InBarrier call is (inr (inl (name, lost)))) made stand = rw (is, name) tt
+load_leaves_at n e out mapfile calls calls' files files1 files2 (InBarrier call is (inr (inr b))) made stand = absurd b
+load_leaves_at n e out mapfile calls calls' files files1 files2 (InRead load is begins broke) made stand =
     let P : (List ℕ → Option File) → Type 0 = λ f. OutputMade out files f in
     rw is (subst P (sym (stand (λ x. cc) (λ x. cc))) made)
-load_leaves_files n e out mapfile calls calls' files files1 files2 (Starved load is begins all) made stand = rw is tt
-load_leaves_files n e out mapfile calls calls' files files1 files2 (Refused load refused loaded all) made stand =
+load_leaves_at n e out mapfile calls calls' files files1 files2 (Starved load is begins all) made stand = rw is tt
+load_leaves_at n e out mapfile calls calls' files files1 files2 (Refused load refused loaded all) made stand =
     let P : (List ℕ → Option File) → Type 0 = λ f. OutputMade out files f in
     let Q : Ending → Type 0 = λ v. IsLeft v out files files2 in
     let is = refused.3 in
     subst Q (sym is) (subst P (sym (stand (λ x. cc) (λ x. cc))) made)
+
+pub load_leaves_files : (n : Option MapNames) (e : Ending) (out : List ℕ) (end : ℕ) (d0 d1 d2 : SiteState) → HasOpened out d0 d1
+    → Loaded n end (Err e) d1 d2 → IsLeft e out (files_in d0) (files_in d2)
+load_leaves_files (Some n) e out end d0 d1 d2 made stop =
+    load_leaves_at n e out (files_in d1 n.map) d1.calls d2.calls (files_in d0) (files_in d1) (files_in d2) stop.0
+    (output_made out d0 d1 made) stop.1
+load_leaves_files None e out end d0 d1 d2 made stop = rw stop.1 tt
+
+-- neither a barrier nor the reads of a mapfile change what files read as
+reads_stand : (d : Folder) (name : List ℕ) (pos : ℕ) (given : List ℕ) (last : Call) → after d (Returned last ∷ []) ≡ d
+    → after d (map Returned (piece_reads name pos given ++ last ∷ [])) ≡ d
+reads_stand d name pos [] last stands = stands
+reads_stand d name pos (n ∷ given) last stands = reads_stand d name (pos + n) given last stands
+
+load_stands : (d : Folder) (n : MapNames) (file : Option File) (load : List Call) → BeginsLoad n.map file load
+    → after d (map Returned (barrier_calls n ++ load)) ≡ d
+load_stands d n file load begins =
+    let P : List Call → Type 0 = λ cs. after d (map Returned (barrier_calls n ++ cs)) ≡ d in
+    subst P (sym begins.calls_are) (reads_stand d n.map 0 begins.given (map_read n.map (sum begins.given) piece_size begins.answer) refl)
+
+loaded_stands : (n : Option MapNames) (end : ℕ) (start : Start) (old new : SiteState) → new.start ≡ old.start
+    → Loaded n end (Ok start) old new → files_in new ≡ files_in old
+loaded_stands (Some n) end start old new same st =
+    ap (λ s. (after s new.calls).files) same ∙ ap (λ r. (after old.start r).files) st.made
+    ∙ ap (λ (d : Folder). d.files) (after-append old.start old.calls (map Returned (barrier_calls n ++ st.load)))
+    ∙ ap (λ (d : Folder). d.files) (load_stands (after old.start old.calls) n (files_in old n.map) st.load st.is_load.begins)
+loaded_stands None end start old new same fresh = ap files_in fresh.0
+
+-- a load that went on to its end
+pub loaded_leaves : (n : Option MapNames) (out : List ℕ) (end : ℕ) (start : Start) (d0 d1 d2 : SiteState) → HasOpened out d0 d1
+    → d2.start ≡ d1.start → Loaded n end (Ok start) d1 d2 → OutputMade out (files_in d0) (files_in d2)
+loaded_leaves n out end start d0 d1 d2 made same loaded =
+    let P : (List ℕ → Option File) → Type 0 = λ f. OutputMade out (files_in d0) f in
+    subst P (sym (loaded_stands n end start d1 d2 same loaded)) (output_made out d0 d1 made)
 
 -- a run names no open and no read of a mapfile
 call_leaves : (call : SiteCall) (earlier : Option Stop) (out : List ℕ) (files files' : List ℕ → Option File)

@@ -1,5 +1,7 @@
 pub mod AloneLemmas
 pub mod AnswerLemmas
+pub mod AskedLemmas
+pub mod BeginLemmas
 pub mod CopyLemmas
 pub mod CountLemmas
 pub mod DoneLemmas
@@ -9,8 +11,11 @@ pub mod GivenLemmas
 pub mod GoesLemmas
 pub mod LeftLemmas
 pub mod LoadLemmas
+pub mod OutputLemmas
+pub mod PlaceLemmas
 pub mod PromiseLemmas
 pub mod RanLemmas
+pub mod SaysLemmas
 pub mod TurnLemmas
 pub mod VerdictLemmas
 pub mod WorkLemmas

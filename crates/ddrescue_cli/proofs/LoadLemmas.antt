@@ -1,5 +1,5 @@
 -- What a load behind the barrier answers.
-use Rattle.std.proofs.Common.{◌≡◌, ◌≢◌, ℕ, List, Option, Some, None, Result, Ok, Err, IfOk, inl, inr, refl, sym, subst}
+use Rattle.std.proofs.Common.{◌≡◌, ◌≢◌, ℕ, IsTrue, List, Option, Some, None, Result, Ok, Err, IfOk, IfErr, inl, inr, refl, sym, subst}
 use Rattle.block_list.specs.declared.status.Status.{Status}
 use Rattle.block_list.specs.Map.{extended}
 use Rattle.mapfile_text.specs.declared.state.MapState.{MapState}
@@ -8,8 +8,10 @@ use Rattle.mapfile_text.specs.declared.read.ReadMap.{ReadMap}
 use Rattle.mapfile_text.specs.declared.read.MapError.{MapError}
 use Rattle.mapfile_text.specs.declared.read.MapError.TheVariants.{NoStatusLine}
 use Rattle.crash_site.specs.declared.site.SiteCall.{SiteCall}
+use Rattle.crash_site.specs.declared.site.SiteCall.TheVariants.{ImageSync, MapSettle}
 use Rattle.crash_site.specs.Files.{File}
 use Rattle.crash_site.specs.Calls.{Entry}
+use Rattle.crash_site.specs.SiteState.{SiteState, files_in}
 use Rattle.save_resume.specs.MapNames.{MapNames}
 use Rattle.save_resume.specs.Resuming.{barrier_calls, LoadEnded, Starved as StarvedIn, BrokeAsResumed, IsReadAs, IsRefusedFor}
 use Rattle.save_resume.proofs.AnswerLemmas.{read_is_not_refused}
@@ -17,7 +19,8 @@ use Rattle.rescue_rules.specs.Start.{StandsFor, AsMap}
 use Rattle.ddrescue_cli.specs.declared.ending.Ending.{Ending}
 use Rattle.ddrescue_cli.specs.declared.ending.Ending.TheVariants.{MapRefused, SiteFault, NoMemory}
 use Rattle.ddrescue_cli.specs.declared.ending.Which.TheVariants.{RunMap}
-use Rattle.ddrescue_cli.specs.Steps.{Started, LoadStopped, InBarrier, InRead, Starved, Refused}
+use Rattle.ddrescue_cli.specs.declared.load.Start.{Start}
+use Rattle.ddrescue_cli.specs.Steps.{Started, LoadStopped, InBarrier, InRead, Starved, Refused, Loaded}
 
 -- what two clauses of an answer say together
 pub ok_both : {T E : Type 0} (r : Result T E) (P Q R : T → Type 0) → ((x : T) → P x → Q x → R x) → IfOk r P → IfOk r Q → IfOk r R
@@ -66,3 +69,12 @@ broke_as names file call calls calls' (inr broke) = InRead broke.1.0 (cc) broke.
 pub refused_as : (names : MapNames) (file : Option File) (error : MapError) (calls calls' : List Entry) → IsRefusedFor file Tight error
     → error ≢ NoStatusLine → LoadEnded (barrier_calls names) names.map file calls calls' → LoadStopped names file (MapRefused RunMap error) calls calls'
 refused_as names file error calls calls' refused says loaded = Refused loaded.0 (error, refused, says, refl) loaded.1 loaded.2
+
+-- a load with a mapfile, by its outcome
+pub loaded_with : (names : MapNames) (end : ℕ) (r : Result Start Ending) (old new : SiteState) → IsTrue old.tells
+    → IfOk r (λ now. IsTrue old.tells → Started names (files_in old names.map) end now.tiles.statuses now.state old.calls new.calls)
+    → IfErr r (λ e. IsTrue old.tells → LoadStopped names (files_in old names.map) e old.calls new.calls)
+    → IfErr r (λ e. IsTrue old.tells → (e ≡ SiteFault MapSettle None → ⊥) → (e ≡ SiteFault ImageSync None → ⊥) → files_in new ≡ files_in old)
+    → Loaded (Some names) end r old new
+loaded_with names end (Ok start) old new t started stopped stand = started t
+loaded_with names end (Err e) old new t started stopped stand = (stopped t, stand t)

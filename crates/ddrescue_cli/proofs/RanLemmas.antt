@@ -1,8 +1,7 @@
 -- What a run did, whatever its input and its output are named.
-use Rattle.std.proofs.Common.{◌≡◌, ℕ, ◌+◌, ◌*◌, ◌<◌, ◌≤◌, ◌^◌, Bool, true, IsTrue, List, [], ◌∷◌, ◌++◌, length, All, Option, Some, None, refl, sym, ap, ◌∙◌, arith, subst, inl, inr, append_assoc, append-nil, length-append}
+use Rattle.std.proofs.Common.{◌≡◌, ℕ, ◌*◌, ◌<◌, ◌^◌, Bool, true, IsTrue, List, [], ◌∷◌, ◌++◌, length, All, Option, Some, None, is_some, refl, sym, ap, ◌∙◌, arith, subst, inl, inr, append-nil, length-append}
 use Rattle.std.proofs.Math.Path.{fun_ext}
 use Rattle.std.proofs.lemmas.List.Elements.{All-nil, All-cons}
-use Rattle.block_list.specs.declared.block.Run.{Run}
 use Rattle.block_list.specs.declared.status.Status.{Status}
 use Rattle.mapfile_text.specs.declared.state.MapState.{MapState}
 use Rattle.faulty_source.specs.SourceState.{SourceState}
@@ -10,6 +9,7 @@ use Rattle.crash_site.specs.Calls.{Entry}
 use Rattle.crash_site.specs.SiteState.{SiteState}
 use Rattle.save_resume.specs.MapNames.{MapNames}
 use Rattle.rescue_console.specs.ClockState.{ClockState, Reads as ReadsClock}
+use Rattle.rescue_domain.specs.Domain.{whole_domain}
 use Rattle.rescue_domain.specs.Parts.{covers}
 use Rattle.rescue_rules.specs.declared.stop.RunEnd.{RunEnd}
 use Rattle.rescue_rules.specs.declared.stop.RunEnd.TheVariants.{Done as Finished, Stopped, SaveFailed}
@@ -23,29 +23,31 @@ use Rattle.rescue_rules.specs.Moves.{state_after, is_over, IsMove, IsRun}
 use Rattle.rescue_rules.specs.Beginning.{shown_at_first, machine_of}
 use Rattle.rescue_rules.specs.Events.{reads_of, times_of, with_times}
 use Rattle.rescue_rules.specs.Laws.{AreTimes}
-use Rattle.rescue_rules.specs.Work.{Gain, begins, events_in, EndsBy, Ends, IsSaved, IsUnsaved, IsBroken, Runs}
+use Rattle.rescue_rules.specs.Work.{Gain, events_in, EndsBy, Ends, IsSaved, IsUnsaved, IsBroken}
 use Rattle.rescue_rules.proofs.NamelessLemmas.{run_named}
 use Rattle.rescue_core.specs.declared.settings.Settings.{Settings}
-use Rattle.rescue_core.specs.RunState.{RunState, setting_with as core_setting, setting_in}
+use Rattle.rescue_core.specs.RunState.{RunState, names_in, setting_with as core_setting, setting_in}
 use Rattle.ddrescue_cli.specs.declared.ending.Ending.{Ending}
 use Rattle.ddrescue_cli.specs.declared.ending.Ending.TheVariants.{Done, SourceLost, SiteFault, NoMemory}
-use Rattle.ddrescue_cli.specs.Asked.{setting_with, inside}
+use Rattle.rescue_command.specs.declared.options.Options.{Options}
+use Rattle.ddrescue_cli.specs.Asked.{setting_with}
 use Rattle.ddrescue_cli.specs.Alone.{IsFrom, IsRefusal, HasRead}
-use Rattle.ddrescue_cli.specs.Work.{answer_of, IsUnbegun, RunsOver}
-use Rattle.ddrescue_cli.specs.Steps.{Across, TellAll, Gains, RanOn, IsLate, EndsRun, Ran}
-use Rattle.ddrescue_cli.specs.Copying.{copy_settings, IsRunOver, EndsCalls, WentToEnd}
+use Rattle.ddrescue_cli.specs.Work.{answer_of}
+use Rattle.ddrescue_cli.specs.Steps.{Across, TellAll, RanOn, Ran}
+use Rattle.ddrescue_cli.specs.Copying.{settings_by, IsRunOver, EndsCalls, WentToEnd}
 use Rattle.ddrescue_cli.proofs.TurnLemmas.{timed_more}
 
 -- the setting of such a run is the rescue's, but for the names of its files
-setting_is : (i o : List ℕ) (n : MapNames) (l : List ℕ) (end : ℕ) (statuses : List Status) (state : Option MapState) (moment : ℕ)
-    (r : RunState) → IsRunOver n l end statuses state moment r → setting_in r ≡ nameless (setting_with i o n l end)
-setting_is i o n l end statuses state moment r is =
-    let positions : covers r.domain ≡ inside end = fun_ext is.domain in
+setting_is : (i o : List ℕ) (n : Option MapNames) (l : List ℕ) (opts : Options) (end : ℕ) (statuses : List Status) (state : Option MapState) (moment : ℕ)
+    (r : RunState) → IsRunOver n l opts end statuses state moment r → setting_in r ≡ nameless (setting_with i o n l opts end)
+setting_is i o n l opts end statuses state moment r is =
+    let domain : ℕ → Bool = whole_domain opts.input_position opts.size end in
+    let positions : covers r.domain ≡ domain = fun_ext is.domain in
     let S : Settings → Setting = λ settings. core_setting settings r.domain r.names r.line in
-    let D : (ℕ → Bool) → Setting = λ domain. record (S copy_settings) { domain = domain } in
-    let N : MapNames → Setting = λ names. record (D (inside end)) { names = names } in
+    let D : (ℕ → Bool) → Setting = λ inside. record (S (settings_by opts)) { domain = inside } in
+    let N : Option MapNames → Setting = λ names. record (D domain) { has_mapfile = is_some names; names = names_in names } in
     let L : List ℕ → Setting = λ line. record (N n) { line = line } in
-    ap S is.begun.settings ∙ ap D positions ∙ ap N is.names_are ∙ ap L is.line_is
+    ap S is.settings_are ∙ ap D positions ∙ ap N is.names_are ∙ ap L is.line_is
 
 -- The readings of the clock around the events of a run, behind that of its start.
 with_own_times : (es : List Event) (spare : List ℕ) → with_times (reads_of es) (times_of es ++ spare) ≡ es
@@ -83,12 +85,12 @@ record InWords (s : Setting) (statuses : List Status) (state : Option MapState) 
   fit : AreTimes (times_of events ++ spare)
   done : end ≡ Finished → is_over s (state_after s (machine_of s statuses None (shown_at_first state) moment) events) ≡ true
 
-in_words : (i o : List ℕ) (n : MapNames) (l : List ℕ) (end : ℕ) (statuses : List Status) (state : Option MapState) (moment : ℕ)
-    (r : RunState) (at : RunEnd) (a : Across) → IsRunOver n l end statuses state moment r → WentToEnd r at a
-    → InWords (setting_with i o n l end) statuses state moment at a
-in_words i o n l end statuses state moment r at a is w =
-    let s : Setting = setting_with i o n l end in
-    let same : setting_in r ≡ nameless s = setting_is i o n l end statuses state moment r is in
+in_words : (i o : List ℕ) (n : Option MapNames) (l : List ℕ) (opts : Options) (end : ℕ) (statuses : List Status) (state : Option MapState) (moment : ℕ)
+    (r : RunState) (at : RunEnd) (a : Across) → IsRunOver n l opts end statuses state moment r → WentToEnd r at a
+    → InWords (setting_with i o n l opts end) statuses state moment at a
+in_words i o n l opts end statuses state moment r at a is w =
+    let s : Setting = setting_with i o n l opts end in
+    let same : setting_in r ≡ nameless s = setting_is i o n l opts end statuses state moment r is in
     let m : Machine = machine_of s statuses None (shown_at_first state) moment in
     let start : r.machine ≡ m = is.machine ∙ ap (λ (t : Setting). machine_of t statuses None (shown_at_first state) moment) same in
     let P : Setting → Machine → Type 0 = λ t n. IsRun t n w.events in
@@ -174,13 +176,13 @@ ran_read s statuses state moment end o w tells = record {
 }
 
 -- a run that was begun
-pub ran_went : (i o : List ℕ) (n : MapNames) (l : List ℕ) (end : ℕ) (statuses : List Status) (state : Option MapState) (moment : ℕ)
-    (r : RunState) (at : RunEnd) (e : Ending) (a : Across) (before : ClockState) → IsRunOver n l end statuses state moment r → WentToEnd r at a
+pub ran_went : (i o : List ℕ) (n : Option MapNames) (l : List ℕ) (opts : Options) (end : ℕ) (statuses : List Status) (state : Option MapState) (moment : ℕ)
+    (r : RunState) (at : RunEnd) (e : Ending) (a : Across) (before : ClockState) → IsRunOver n l opts end statuses state moment r → WentToEnd r at a
     → e ≡ answer_of at → ReadsClock (moment ∷ []) before a.clock → moment < 2 ^ 64
-    → Ran (setting_with i o n l end) statuses state e (record a { clock = before })
-ran_went i o n l end statuses state moment r at e a before is w answered first small =
-    let s : Setting = setting_with i o n l end in
-    let words : InWords s statuses state moment at a = in_words i o n l end statuses state moment r at a is w in
+    → Ran (setting_with i o n l opts end) statuses state e (record a { clock = before })
+ran_went i o n l opts end statuses state moment r at e a before is w answered first small =
+    let s : Setting = setting_with i o n l opts end in
+    let words : InWords s statuses state moment at a = in_words i o n l opts end statuses state moment r at a is w in
     subst (λ (x : Ending). Ran s statuses state x (record a { clock = before })) (sym answered)
     (record {
       told = λ tell. ran_told s statuses state moment at a before words first small tell;

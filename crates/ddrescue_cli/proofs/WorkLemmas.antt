@@ -1,5 +1,5 @@
 -- What the work behind the words did, by where it ended.
-use Rattle.std.proofs.Common.{◌≡◌, ℕ, ◌<◌, ◌^◌, true, false, IsTrue, List, [], ◌∷◌, ◌++◌, map, Option, Some, None, refl, sym, ap, ◌∙◌, inl, inr, subst, append_assoc, append-nil}
+use Rattle.std.proofs.Common.{◌≡◌, ℕ, ◌+◌, ◌-◌, ◌<◌, ◌≤◌, ◌^◌, Bool, true, false, IsTrue, List, [], ◌∷◌, ◌++◌, map, Option, Some, None, Ok, Err, refl, sym, ap, ◌∙◌, inl, inr, subst, arith, append_assoc, append-nil}
 use Rattle.std.specs.Str.{bytes_eq}
 use Rattle.std.proofs.lemmas.Bool.{false_from_ne_true}
 use Rattle.std.proofs.lemmas.List.Elements.{All-nil}
@@ -15,14 +15,19 @@ use Rattle.crash_site.specs.SiteState.{SiteState, files_in}
 use Rattle.save_resume.specs.MapNames.{MapNames}
 use Rattle.save_resume.specs.Resuming.{barrier_calls}
 use Rattle.rescue_console.specs.ClockState.{ClockState}
-use Rattle.rescue_rules.specs.Setting.{Setting}
-use Rattle.rescue_rules.specs.Work.{Gain}
+use Rattle.rescue_rules.specs.Setting.{Setting, place}
+use Rattle.rescue_rules.specs.Start.{Stands}
+use Rattle.rescue_rules.specs.Work.{Gain, mapfile_in}
+use Rattle.option_words.specs.declared.fault.UsageFault.TheVariants.{PlaceTooLarge}
+use Rattle.rescue_command.specs.declared.options.Options.{Options}
 use Rattle.ddrescue_cli.specs.declared.ending.Ending.{Ending}
-use Rattle.ddrescue_cli.specs.declared.ending.Ending.TheVariants.{SourceFault}
-use Rattle.ddrescue_cli.specs.Asked.{setting_with}
-use Rattle.ddrescue_cli.specs.Refusals.{is_other, OutputRefused}
-use Rattle.ddrescue_cli.specs.Work.{HasOnlyCalls}
-use Rattle.ddrescue_cli.specs.Steps.{Across, Gains, OutputStop, Started, LoadStopped, InBarrier, InRead, Starved, Refused, RanOn, WorkedOn}
+use Rattle.ddrescue_cli.specs.declared.ending.Ending.TheVariants.{Usage, SourceFault, NoMemory}
+use Rattle.ddrescue_cli.specs.declared.load.Start.{Start}
+use Rattle.ddrescue_cli.specs.Names.{AreNamedApart}
+use Rattle.ddrescue_cli.specs.Asked.{setting_with, ArePlacedBy, IsBeyond}
+use Rattle.ddrescue_cli.specs.Refusals.{is_other, OutputRefused, PlacesRefused}
+use Rattle.ddrescue_cli.specs.Work.{HasOnlyCalls, OrRefused, ThenRun, WorksOn}
+use Rattle.ddrescue_cli.specs.Steps.{Across, Gains, OutputStop, Started, LoadStopped, InBarrier, InRead, Starved, Refused, Loaded, RanOn, WorkedOn}
 use Rattle.ddrescue_cli.proofs.GainLemmas.{GainsBroken, broke_gains}
 
 -- a name isn't another where the other isn't it
@@ -78,20 +83,20 @@ worked_unopened s files s0 s1 d0 k same = record {
 }
 
 -- the output was refused
-worked_output_at : (i o : List ℕ) (n : MapNames) (l : List ℕ) (e : Ending) (end : ℕ) (s0 s1 : SourceState) (d0 d1 : SiteState) (k : ClockState)
-    → s1.journal ≡ s0.journal → IsTrue d0.tells → end < 2 ^ 63 → OutputStop e o d0 d1
-    → WorkedOn (setting_with i o n l end) (files_in d0) e (across s0 s1 d0 d1 k k)
-worked_output_at i o n l e end s0 s1 d0 d1 k same td short (inl (is, other, makes)) =
-    let calls : List Entry = Returned (image_open o true) ∷ [] in
+pub worked_output : (s : Setting) (e : Ending) (s0 s1 : SourceState) (d0 d1 : SiteState) (k : ClockState)
+    → s1.journal ≡ s0.journal → IsTrue d0.tells → s.end < 2 ^ 63 → OutputStop e s.outfile s.forced d0 d1
+    → WorkedOn s (files_in d0) e (across s0 s1 d0 d1 k k)
+worked_output s e s0 s1 d0 d1 k same td short (inl (is, unforced, other, makes)) =
+    let calls : List Entry = Returned (image_open s.outfile true) ∷ [] in
     record {
       gain = calls_alone calls;
       gains = gains_alone s0 s1 d0 d1 k calls same (makes.made td);
-      works = inr (inr ([], refl, inl ((other td, is), record { calls = refl; reads = refl; times = refl })));
+      works = inr (inr ([], refl, inl ((unforced, other td, is), record { calls = refl; reads = refl; times = refl })));
       short = inr short;
     }
-worked_output_at i o n l e end s0 s1 d0 d1 k same td short (inr (is, breaks)) =
-    let g : GainsBroken ImageOpen (image_open o true ∷ []) d0.calls d1.calls =
-    broke_gains ImageOpen (image_open o true ∷ []) d0.calls d1.calls (breaks.broke td) in
+worked_output s e s0 s1 d0 d1 k same td short (inr (is, breaks)) =
+    let g : GainsBroken ImageOpen (image_open s.outfile true ∷ []) d0.calls d1.calls =
+    broke_gains ImageOpen (image_open s.outfile true ∷ []) d0.calls d1.calls (breaks.broke td) in
     record {
       gain = calls_alone g.more;
       gains = gains_alone s0 s1 d0 d1 k g.more same g.grew;
@@ -99,21 +104,18 @@ worked_output_at i o n l e end s0 s1 d0 d1 k same td short (inr (is, breaks)) =
       short = inr short;
     }
 
--- the same of an input that tells its length
-pub worked_output : (i o : List ℕ) (n : MapNames) (l : List ℕ) (e : Ending) (end all : ℕ) (s0 s1 : SourceState) (d0 d1 : SiteState)
-    (k : ClockState) → end ≡ all → s1.journal ≡ s0.journal → IsTrue d0.tells → end < 2 ^ 63 → OutputStop e o d0 d1
-    → WorkedOn (setting_with i o n l all) (files_in d0) e (across s0 s1 d0 d1 k k)
-worked_output i o n l e end all s0 s1 d0 d1 k whole same td short stop =
-    let P : ℕ → Type 0 = λ size. WorkedOn (setting_with i o n l size) (files_in d0) e (across s0 s1 d0 d1 k k) in
-    subst P whole (worked_output_at i o n l e end s0 s1 d0 d1 k same td short stop)
-
 -- the calls behind the opening of the output, joined to it
 joined : (c : Call) (d0 d1 d2 : List Entry) (more : List Entry) → Made (c ∷ []) d0 d1 → d2 ≡ d1 ++ more → d2 ≡ d0 ++ Returned c ∷ more
 joined c d0 d1 d2 more made grew = grew ∙ ap (λ r. r ++ more) made ∙ append_assoc d0 (Returned c ∷ []) more
 
--- a regular output isn't refused
-regular_passes : (output : Option File) → is_other output ≡ false → (e : Ending) → OutputRefused output e → ⊥
-regular_passes output regular e refused = let both : true ≡ false = sym refused.0 ∙ regular in cc
+-- the output, where it has to be a regular file, is one or is absent
+abbrev pub IsRegular : Bool → List ℕ → SiteState → Type 0
+IsRegular forced out d = forced ≡ false → is_other (files_in d out) ≡ false
+
+-- so it isn't refused
+regular_passes : (forced : Bool) (out : List ℕ) (d : SiteState) → IsRegular forced out d → (e : Ending)
+    → OutputRefused forced (files_in d out) e → ⊥
+regular_passes forced out d regular e refused = let both : true ≡ false = sym refused.1 ∙ regular refused.0 in cc
 
 -- the read that failed behind a barrier
 broke_past : (names : MapNames) (load : List Call) (old new : List Entry) → BrokeAt MapRead (barrier_calls names ++ load) old new
@@ -124,21 +126,22 @@ broke_past names load old new (inr (inr b)) =
     let P : List Entry → Type 0 = λ r. BrokeAt MapRead load r new in
     subst P (append_assoc old (Returned (map_settle names.map) ∷ []) (Returned image_sync ∷ [])) b
 
--- the load stopped
-worked_stopped_at : (i o : List ℕ) (n : MapNames) (l : List ℕ) (e : Ending) (end : ℕ) (s0 s1 : SourceState) (d0 d1 d2 : SiteState)
-    (k : ClockState) → s1.journal ≡ s0.journal → end < 2 ^ 63 → Made (image_open o true ∷ []) d0.calls d1.calls
-    → is_other (files_in d0 o) ≡ false → LoadStopped n (files_in d0 n.map) e d1.calls d2.calls
-    → WorkedOn (setting_with i o n l end) (files_in d0) e (across s0 s1 d0 d2 k k)
-worked_stopped_at i o n l e end s0 s1 d0 d1 d2 k same short made regular (InBarrier call is broke) =
+-- the load of a mapfile stopped
+worked_stopped_at : (i o : List ℕ) (n : MapNames) (l : List ℕ) (w : Options) (e : Ending) (end : ℕ) (s0 s1 : SourceState)
+    (d0 d1 d2 : SiteState) (k : ClockState) → s1.journal ≡ s0.journal → end < 2 ^ 63
+    → Made (image_open o true ∷ []) d0.calls d1.calls → IsRegular w.forced o d0
+    → LoadStopped n (files_in d0 n.map) e d1.calls d2.calls
+    → WorkedOn (setting_with i o (Some n) l w end) (files_in d0) e (across s0 s1 d0 d2 k k)
+worked_stopped_at i o n l w e end s0 s1 d0 d1 d2 k same short made regular (InBarrier call is broke) =
     let g : GainsBroken call (barrier_calls n) d1.calls d2.calls = broke_gains call (barrier_calls n) d1.calls d2.calls broke in
     let calls : List Entry = Returned (image_open o true) ∷ g.more in
     record {
       gain = calls_alone calls;
       gains = gains_alone s0 s1 d0 d2 k calls same (joined (image_open o true) d0.calls d1.calls d2.calls g.more made g.grew);
-      works = inr (inr (g.more, refl, inr (regular_passes (files_in d0 o) regular, inl (call, is, g.broke, alone g.more))));
+      works = inr (inr (g.more, refl, inr (regular_passes w.forced o d0 regular, inl (refl, inl (call, is, g.broke, alone g.more)))));
       short = inr short;
     }
-worked_stopped_at i o n l e end s0 s1 d0 d1 d2 k same short made regular (InRead load is begins broke) =
+worked_stopped_at i o n l w e end s0 s1 d0 d1 d2 k same short made regular (InRead load is begins broke) =
     let before : List Entry = Returned (map_settle n.map) ∷ Returned image_sync ∷ [] in
     let g : GainsBroken MapRead load (d1.calls ++ before) d2.calls =
     broke_gains MapRead load (d1.calls ++ before) d2.calls (broke_past n load d1.calls d2.calls broke) in
@@ -151,13 +154,13 @@ worked_stopped_at i o n l e end s0 s1 d0 d1 d2 k same short made regular (InRead
         before ++ g.more,
         refl,
         inr (
-          regular_passes (files_in d0 o) regular,
-          inr (g.more, refl, inl (load, is, begins, g.broke, alone g.more)),
+          regular_passes w.forced o d0 regular,
+          inl (refl, inr (g.more, refl, inl (load, is, begins, g.broke, alone g.more))),
         ),
       ));
       short = inr short;
     }
-worked_stopped_at i o n l e end s0 s1 d0 d1 d2 k same short made regular (Starved load is begins all) =
+worked_stopped_at i o n l w e end s0 s1 d0 d1 d2 k same short made regular (Starved load is begins all) =
     let calls : List Entry = Returned (image_open o true) ∷ map Returned (barrier_calls n ++ load) in
     record {
       gain = calls_alone calls;
@@ -167,13 +170,13 @@ worked_stopped_at i o n l e end s0 s1 d0 d1 d2 k same short made regular (Starve
         map Returned (barrier_calls n ++ load),
         refl,
         inr (
-          regular_passes (files_in d0 o) regular,
-          inr (map Returned load, refl, inr (inl (load, is, begins, refl, alone (map Returned load)))),
+          regular_passes w.forced o d0 regular,
+          inl (refl, inr (map Returned load, refl, inr (inl (load, is, begins, refl, alone (map Returned load))))),
         ),
       ));
       short = inr short;
     }
-worked_stopped_at i o n l e end s0 s1 d0 d1 d2 k same short made regular (Refused load refused loaded all) =
+worked_stopped_at i o n l w e end s0 s1 d0 d1 d2 k same short made regular (Refused load refused loaded all) =
     let calls : List Entry = Returned (image_open o true) ∷ map Returned (barrier_calls n ++ load) in
     record {
       gain = calls_alone calls;
@@ -183,82 +186,177 @@ worked_stopped_at i o n l e end s0 s1 d0 d1 d2 k same short made regular (Refuse
         map Returned (barrier_calls n ++ load),
         refl,
         inr (
-          regular_passes (files_in d0 o) regular,
-          inr (
-            map Returned load,
+          regular_passes w.forced o d0 regular,
+          inl (
             refl,
-            inr (inr (
-              load,
-              [],
-              loaded,
-              sym (append-nil (map Returned load)),
-              inl (refused, record { calls = refl; reads = refl; times = refl }),
-            )),
+            inr (
+              map Returned load,
+              refl,
+              inr (inr (
+                load,
+                [],
+                loaded,
+                sym (append-nil (map Returned load)),
+                inl (refused, record { calls = refl; reads = refl; times = refl }),
+              )),
+            ),
           ),
         ),
       ));
       short = inr short;
     }
 
-pub worked_stopped : (i o : List ℕ) (n : MapNames) (l : List ℕ) (e : Ending) (end all : ℕ) (s0 s1 : SourceState) (d0 d1 d2 : SiteState)
-    (k : ClockState) → end ≡ all → s1.journal ≡ s0.journal → end < 2 ^ 63 → d1.start ≡ d0.start → bytes_eq o n.map ≡ false
-    → Made (image_open o true ∷ []) d0.calls d1.calls → is_other (files_in d0 o) ≡ false
-    → LoadStopped n (files_in d1 n.map) e d1.calls d2.calls
-    → WorkedOn (setting_with i o n l all) (files_in d0) e (across s0 s1 d0 d2 k k)
-worked_stopped i o n l e end all s0 s1 d0 d1 d2 k whole same short began apart made regular stop =
-    let P : ℕ → Type 0 = λ size. WorkedOn (setting_with i o n l size) (files_in d0) e (across s0 s1 d0 d2 k k) in
+-- memory ran out for the map without a mapfile
+worked_starved : (i o l : List ℕ) (w : Options) (e : Ending) (end : ℕ) (s0 s1 : SourceState) (d0 d1 d2 : SiteState) (k : ClockState)
+    → s1.journal ≡ s0.journal → end < 2 ^ 63 → Made (image_open o true ∷ []) d0.calls d1.calls → IsRegular w.forced o d0
+    → d2 ≡ d1 → e ≡ NoMemory → WorkedOn (setting_with i o None l w end) (files_in d0) e (across s0 s1 d0 d2 k k)
+worked_starved i o l w e end s0 s1 d0 d1 d2 k same short made regular stays is =
+    let calls : List Entry = Returned (image_open o true) ∷ [] in
+    record {
+      gain = calls_alone calls;
+      gains = gains_alone s0 s1 d0 d2 k calls same (ap (λ (d : SiteState). d.calls) stays ∙ made);
+      works = inr (inr (
+        [],
+        refl,
+        inr (regular_passes w.forced o d0 regular, inr (refl, inl (is, record { calls = refl; reads = refl; times = refl }))),
+      ));
+      short = inr short;
+    }
+
+-- what a file is read as behind the opening of the output, if it has another name
+abbrev pub HasOpened : List ℕ → (old new : SiteState) → Type 0
+HasOpened o old new = (new.start ≡ old.start) × Made (image_open o true ∷ []) old.calls new.calls
+
+pub here : (o : List ℕ) (n : MapNames) (d0 d1 : SiteState) → AreNamedApart o (Some n) → HasOpened o d0 d1
+    → files_in d1 n.map ≡ files_in d0 n.map
+here o n d0 d1 apart made = open_apart d0.start d1.start o n.map d0.calls d1.calls made.0 apart.0 made.1
+
+pub worked_stopped : (i o : List ℕ) (n : Option MapNames) (l : List ℕ) (w : Options) (e : Ending) (end all : ℕ) (s0 s1 : SourceState)
+    (d0 d1 d2 : SiteState) (k : ClockState) → s1.journal ≡ s0.journal → all < 2 ^ 63 → AreNamedApart o n → HasOpened o d0 d1
+    → IsRegular w.forced o d0 → Loaded n end (Err e) d1 d2
+    → WorkedOn (setting_with i o n l w all) (files_in d0) e (across s0 s1 d0 d2 k k)
+worked_stopped i o (Some n) l w e end all s0 s1 d0 d1 d2 k same short apart made regular stop =
     let Q : Option File → Type 0 = λ f. LoadStopped n f e d1.calls d2.calls in
-    let here : files_in d1 n.map ≡ files_in d0 n.map = open_apart d0.start d1.start o n.map d0.calls d1.calls began apart made in
-    subst P whole (worked_stopped_at i o n l e end s0 s1 d0 d1 d2 k same short made regular (subst Q here stop))
+    worked_stopped_at i o n l w e all s0 s1 d0 d1 d2 k same short made.1 regular (subst Q (here o n d0 d1 apart made) stop.0)
+worked_stopped i o None l w e end all s0 s1 d0 d1 d2 k same short apart made regular stop =
+    worked_starved i o l w e all s0 s1 d0 d1 d2 k same short made.1 regular stop.0 stop.1
+
+-- the work behind a load that went on to its end
+abbrev Rest : Setting → (List ℕ → Option File) → Ending → Gain → Type 0
+Rest s files = OrRefused (PlacesRefused s) (ThenRun s (mapfile_in s files))
+
+-- the calls up to there, and what the mapfile stands for
+record Begun (s : Setting) (files : List ℕ → Option File) (statuses : List Status) (state : Option MapState) (d0 d2 : SiteState) : Type 0 where
+  entries : List Entry
+  grew : d2.calls ≡ d0.calls ++ Returned (image_open s.outfile true) ∷ entries
+  goes : (e : Ending) (g : Gain) → Rest s files e g
+      → WorksOn s files e (record g { calls = Returned (image_open s.outfile true) ∷ (entries ++ g.calls) })
+  stands : Stands (mapfile_in s files) s.end statuses state
+
+begun : (i o : List ℕ) (n : Option MapNames) (l : List ℕ) (w : Options) (end : ℕ) (start : Start) (d0 d1 d2 : SiteState)
+    → AreNamedApart o n → HasOpened o d0 d1 → IsRegular w.forced o d0 → Loaded n end (Ok start) d1 d2
+    → Begun (setting_with i o n l w end) (files_in d0) start.tiles.statuses start.state d0 d2
+begun i o (Some n) l w end start d0 d1 d2 apart made regular loaded =
+    let Q : Option File → Type 0 = λ f. Started n f end start.tiles.statuses start.state d1.calls d2.calls in
+    let st : Started n (files_in d0 n.map) end start.tiles.statuses start.state d1.calls d2.calls =
+    subst Q (here o n d0 d1 apart made) loaded in
+    let entries : List Entry = map Returned (barrier_calls n ++ st.load) in
+    record {
+      entries = entries;
+      grew = joined (image_open o true) d0.calls d1.calls d2.calls entries made.1 st.made;
+      goes = λ e g rest.
+          inr (inr (
+            entries ++ g.calls,
+            refl,
+            inr (
+              regular_passes w.forced o d0 regular,
+              inl (
+                refl,
+                inr (
+                  map Returned st.load ++ g.calls,
+                  refl,
+                  inr (inr (st.load, g.calls, st.is_load, refl, inr (st.accepted, rest))),
+                ),
+              ),
+            ),
+          ));
+      stands = st.stands;
+    }
+begun i o None l w end start d0 d1 d2 apart made regular loaded = record {
+  entries = [];
+  grew = ap (λ (d : SiteState). d.calls) loaded.0 ∙ made.1;
+  goes = λ e g rest. inr (inr (g.calls, refl, inr (regular_passes w.forced o d0 regular, inr (refl, inr rest))));
+  stands = record { stands = loaded.1 };
+}
+
+-- a position has no place in the output
+pub beyond_is_refused : (i o : List ℕ) (n : Option MapNames) (l : List ℕ) (w : Options) (end : ℕ) → IsBeyond w end
+    → PlacesRefused (setting_with i o n l w end) (Usage PlaceTooLarge)
+beyond_is_refused i o n l w end far = (far.0, far.1, far.2, refl)
+
+worked_beyond_at : (i o : List ℕ) (n : Option MapNames) (l : List ℕ) (w : Options) (end : ℕ) (start : Start) (s0 s1 : SourceState)
+    (d0 d1 d2 : SiteState) (k : ClockState) → s1.journal ≡ s0.journal → end < 2 ^ 63 → AreNamedApart o n → HasOpened o d0 d1
+    → IsRegular w.forced o d0 → Loaded n end (Ok start) d1 d2 → IsBeyond w end
+    → WorkedOn (setting_with i o n l w end) (files_in d0) (Usage PlaceTooLarge) (across s0 s1 d0 d2 k k)
+worked_beyond_at i o n l w end start s0 s1 d0 d1 d2 k same short apart made regular loaded far =
+    let b : Begun (setting_with i o n l w end) (files_in d0) start.tiles.statuses start.state d0 d2 =
+    begun i o n l w end start d0 d1 d2 apart made regular loaded in
+    let calls : List Entry = Returned (image_open o true) ∷ (b.entries ++ []) in
+    record {
+      gain = calls_alone calls;
+      gains = gains_alone s0 s1 d0 d2 k calls same
+          (b.grew ∙ ap (λ r. d0.calls ++ Returned (image_open o true) ∷ r) (sym (append-nil b.entries)));
+      works = b.goes (Usage PlaceTooLarge) (calls_alone [])
+          (inl (beyond_is_refused i o n l w end far, record { calls = refl; reads = refl; times = refl }));
+      short = inr short;
+    }
+
+pub worked_beyond : (i o : List ℕ) (n : Option MapNames) (l : List ℕ) (w : Options) (end all : ℕ) (start : Start) (s0 s1 : SourceState)
+    (d0 d1 d2 : SiteState) (k : ClockState) → end ≡ all → s1.journal ≡ s0.journal → end < 2 ^ 63 → AreNamedApart o n
+    → HasOpened o d0 d1 → IsRegular w.forced o d0 → Loaded n end (Ok start) d1 d2 → IsBeyond w end
+    → WorkedOn (setting_with i o n l w all) (files_in d0) (Usage PlaceTooLarge) (across s0 s1 d0 d2 k k)
+worked_beyond i o n l w end all start s0 s1 d0 d1 d2 k whole same short apart made regular loaded far =
+    let P : ℕ → Type 0 =
+    λ size. WorkedOn (setting_with i o n l w size) (files_in d0) (Usage PlaceTooLarge) (across s0 s1 d0 d2 k k) in
+    subst P whole (worked_beyond_at i o n l w end start s0 s1 d0 d1 d2 k same short apart made regular loaded far)
+
+-- each has one
+pub placed_passes : (i o : List ℕ) (n : Option MapNames) (l : List ℕ) (w : Options) (end : ℕ) → ArePlacedBy w end → (e : Ending)
+    → PlacesRefused (setting_with i o n l w end) e → ⊥
+placed_passes i o n l w end placed e refused =
+    let near : place (setting_with i o n l w end) refused.0 < 2 ^ 63 - 1 = placed refused.0 refused.1 in
+    let far : 2 ^ 63 ≤ place (setting_with i o n l w end) refused.0 + 1 = refused.2 in
+    omega (arith, near, far)
 
 -- a run had begun
-worked_run_at : (i o : List ℕ) (n : MapNames) (l : List ℕ) (e : Ending) (end : ℕ) (statuses : List Status) (state : Option MapState)
-    (s0 s1 s2 : SourceState) (d0 d1 d2 d3 : SiteState) (k k' : ClockState)
-    → s1.journal ≡ s0.journal → end < 2 ^ 63 → Made (image_open o true ∷ []) d0.calls d1.calls → is_other (files_in d0 o) ≡ false
-    → Started n (files_in d0 n.map) end statuses state d1.calls d2.calls
-    → RanOn (setting_with i o n l end) statuses state e (across s1 s2 d2 d3 k k')
-    → WorkedOn (setting_with i o n l end) (files_in d0) e (across s0 s2 d0 d3 k k')
-worked_run_at i o n l e end statuses state s0 s1 s2 d0 d1 d2 d3 k k' same short made regular st ran =
-    let loaded : List Entry = map Returned (barrier_calls n ++ st.load) in
+worked_run_at : (i o : List ℕ) (n : Option MapNames) (l : List ℕ) (w : Options) (e : Ending) (end : ℕ) (start : Start)
+    (s0 s1 s2 : SourceState) (d0 d1 d2 d3 : SiteState) (k k' : ClockState) → s1.journal ≡ s0.journal → end < 2 ^ 63
+    → AreNamedApart o n → HasOpened o d0 d1 → IsRegular w.forced o d0 → Loaded n end (Ok start) d1 d2 → ArePlacedBy w end
+    → RanOn (setting_with i o n l w end) start.tiles.statuses start.state e (across s1 s2 d2 d3 k k')
+    → WorkedOn (setting_with i o n l w end) (files_in d0) e (across s0 s2 d0 d3 k k')
+worked_run_at i o n l w e end start s0 s1 s2 d0 d1 d2 d3 k k' same short apart made regular loaded placed ran =
+    let b : Begun (setting_with i o n l w end) (files_in d0) start.tiles.statuses start.state d0 d2 =
+    begun i o n l w end start d0 d1 d2 apart made regular loaded in
+    let calls : List Entry = Returned (image_open o true) ∷ (b.entries ++ ran.gain.calls) in
     record {
-      gain = record { calls = Returned (image_open o true) ∷ (loaded ++ ran.gain.calls); reads = ran.gain.reads; times = ran.gain.times };
+      gain = record { calls = calls; reads = ran.gain.reads; times = ran.gain.times };
       gains = record {
         reads = ran.gains.reads ∙ ap (λ j. j ++ ran.gain.reads) same;
-        calls = joined (image_open o true) d0.calls d1.calls d3.calls (loaded ++ ran.gain.calls) made
-            (ran.gains.calls ∙ ap (λ c. c ++ ran.gain.calls) st.made ∙ append_assoc d1.calls loaded ran.gain.calls);
+        calls = ran.gains.calls ∙ ap (λ c. c ++ ran.gain.calls) b.grew
+            ∙ append_assoc d0.calls (Returned (image_open o true) ∷ b.entries) ran.gain.calls;
         times = ran.gains.times;
         fit = ran.gains.fit;
       };
-      works = inr (inr (
-        loaded ++ ran.gain.calls,
-        refl,
-        inr (
-          regular_passes (files_in d0 o) regular,
-          inr (
-            map Returned st.load ++ ran.gain.calls,
-            refl,
-            inr (inr (
-              st.load,
-              ran.gain.calls,
-              st.is_load,
-              refl,
-              inr (st.accepted, (statuses, state, st.stands, ran.runs)),
-            )),
-          ),
-        ),
-      ));
+      works = b.goes e ran.gain
+          (inr (placed_passes i o n l w end placed, (start.tiles.statuses, start.state, b.stands, ran.runs)));
       short = inr short;
     }
 
-pub worked_run : (i o : List ℕ) (n : MapNames) (l : List ℕ) (e : Ending) (end all : ℕ) (statuses : List Status)
-    (state : Option MapState) (s0 s1 s2 : SourceState) (d0 d1 d2 d3 : SiteState) (k k' : ClockState)
-    → end ≡ all → s1.journal ≡ s0.journal → end < 2 ^ 63 → d1.start ≡ d0.start → bytes_eq o n.map ≡ false
-    → Made (image_open o true ∷ []) d0.calls d1.calls → is_other (files_in d0 o) ≡ false
-    → Started n (files_in d1 n.map) end statuses state d1.calls d2.calls
-    → RanOn (setting_with i o n l end) statuses state e (across s1 s2 d2 d3 k k')
-    → WorkedOn (setting_with i o n l all) (files_in d0) e (across s0 s2 d0 d3 k k')
-worked_run i o n l e end all statuses state s0 s1 s2 d0 d1 d2 d3 k k' whole same short began apart made regular st ran =
-    let P : ℕ → Type 0 = λ size. WorkedOn (setting_with i o n l size) (files_in d0) e (across s0 s2 d0 d3 k k') in
-    let Q : Option File → Type 0 = λ f. Started n f end statuses state d1.calls d2.calls in
-    let here : files_in d1 n.map ≡ files_in d0 n.map = open_apart d0.start d1.start o n.map d0.calls d1.calls began apart made in
-    subst P whole (worked_run_at i o n l e end statuses state s0 s1 s2 d0 d1 d2 d3 k k' same short made regular (subst Q here st) ran)
+pub worked_run : (i o : List ℕ) (n : Option MapNames) (l : List ℕ) (w : Options) (e : Ending) (end all : ℕ) (start : Start)
+    (s0 s1 s2 : SourceState) (d0 d1 d2 d3 : SiteState) (k k' : ClockState) → end ≡ all → s1.journal ≡ s0.journal → end < 2 ^ 63
+    → AreNamedApart o n → HasOpened o d0 d1 → IsRegular w.forced o d0 → Loaded n end (Ok start) d1 d2 → ArePlacedBy w end
+    → RanOn (setting_with i o n l w end) start.tiles.statuses start.state e (across s1 s2 d2 d3 k k')
+    → WorkedOn (setting_with i o n l w all) (files_in d0) e (across s0 s2 d0 d3 k k')
+worked_run i o n l w e end all start s0 s1 s2 d0 d1 d2 d3 k k' whole same short apart made regular loaded placed ran =
+    let P : ℕ → Type 0 = λ size. WorkedOn (setting_with i o n l w size) (files_in d0) e (across s0 s2 d0 d3 k k') in
+    subst P whole (worked_run_at i o n l w e end start s0 s1 s2 d0 d1 d2 d3 k k' same short apart made regular loaded placed ran)

@@ -1,20 +1,21 @@
 -- What is said where the input tells, whatever the files do, and where the files tell, whatever the input does.
 use Rattle.std.specs.Prelude.{◌≡◌, ◌≢◌, ⊤, ℕ, ◌+◌, true, false, List, [], ◌++◌, length, slice_range, All, Option, Some, None}
-use Rattle.block_list.specs.declared.status.Status.{Status}
 use Rattle.faulty_source.specs.Journal.{Reading}
 use Rattle.faulty_source.specs.SourceState.{SourceState}
 use Rattle.crash_site.specs.declared.site.SiteCall.{SiteCall}
 use Rattle.crash_site.specs.declared.site.SiteCall.TheVariants.{ImageOpen, ImageRead, ImageWrite, ImageSync, MapRead, DraftBegin, DraftAppend, DraftSync, DraftPublish, MapSettle, MapRemove}
 use Rattle.crash_site.specs.Files.{File, empty_file}
+use Rattle.option_words.specs.declared.fault.UsageFault.TheVariants.{Word, BadValue, Operands, PlaceTooLarge}
 use Rattle.rescue_rules.specs.Setting.{Setting}
+use Rattle.rescue_rules.specs.Work.{mapfile_in}
 use Rattle.rescue_rules.specs.Machine.{Machine}
 use Rattle.rescue_rules.specs.Step.{Event}
 use Rattle.rescue_rules.specs.Moves.{state_after, is_over, IsRun}
 use Rattle.rescue_rules.specs.Beginning.{machine_of}
 use Rattle.rescue_rules.specs.Events.{reads_of}
 use Rattle.ddrescue_cli.specs.declared.ending.Ending.{Ending}
-use Rattle.ddrescue_cli.specs.declared.ending.Ending.TheVariants.{Done, WrongNumber, WrongWord, SameName, SourceFault, NotRegular, MapRefused, SourceLost, SiteFault, NoMemory}
-use Rattle.ddrescue_cli.specs.Refusals.{is_other, MapfileRefused}
+use Rattle.ddrescue_cli.specs.declared.ending.Ending.TheVariants.{Done, Usage, SameName, SourceFault, NotRegular, MapRefused, SourceLost, SiteFault, NoMemory}
+use Rattle.ddrescue_cli.specs.Refusals.{is_other, OutputRefused, MapfileRefused, PlacesRefused}
 
 -- a read gave the input's own bytes
 abbrev pub IsFrom : (bytes : List ℕ) → Reading → Type 0
@@ -23,8 +24,7 @@ IsFrom bytes r = r.given ≡ slice_range bytes r.pos (r.pos + length r.given)
 -- a refusal, which comes before the first read
 abbrev pub IsRefusal : Ending → Type 0
 IsRefusal Done = ⊥
-IsRefusal (WrongNumber given) = ⊤
-IsRefusal (WrongWord word) = ⊤
+IsRefusal (Usage fault) = ⊤
 IsRefusal (SameName first second) = ⊤
 IsRefusal SourceFault = ⊤
 IsRefusal NotRegular = ⊤
@@ -45,24 +45,28 @@ pub record HasRead (s : Setting) (e : Ending) (source source' : SourceState) : T
   pub refused : IsRefusal e → events ≡ []
   pub done : e ≡ Done → is_over s (state_after s start events) ≡ true
 
--- the output is a regular file or absent, and the mapfile isn't refused
-pub record Pass (output mapfile : Option File) : Type 0 where
-  pub regular : is_other output ≡ false
-  pub accepted : (e : Ending) → MapfileRefused mapfile e → ⊥
+-- the output is a regular file or absent, or something else is allowed
+pub record OutputPasses (s : Setting) (files : List ℕ → Option File) : Type 0 where
+  pub regular : s.forced ≡ false → is_other (files s.outfile) ≡ false
+
+-- and the mapfile isn't refused, if there is one
+pub record MapfilePasses (s : Setting) (files : List ℕ → Option File) : Type 0 where
+  pub output : OutputPasses s files
+  pub accepted : (e : Ending) → MapfileRefused (mapfile_in s files) e → ⊥
 
 -- a call that failed: once the output is open it is regular, and once the mapfile is read it isn't refused
-abbrev pub CallPasses : SiteCall → (output mapfile : Option File) → Type 0
-CallPasses ImageOpen output mapfile = ⊤
-CallPasses ImageRead output mapfile = Pass output mapfile
-CallPasses ImageWrite output mapfile = Pass output mapfile
-CallPasses ImageSync output mapfile = is_other output ≡ false
-CallPasses MapRead output mapfile = is_other output ≡ false
-CallPasses DraftBegin output mapfile = Pass output mapfile
-CallPasses DraftAppend output mapfile = Pass output mapfile
-CallPasses DraftSync output mapfile = Pass output mapfile
-CallPasses DraftPublish output mapfile = Pass output mapfile
-CallPasses MapSettle output mapfile = is_other output ≡ false
-CallPasses MapRemove output mapfile = Pass output mapfile
+abbrev pub CallPasses : SiteCall → Setting → (files : List ℕ → Option File) → Type 0
+CallPasses ImageOpen s files = ⊤
+CallPasses ImageRead s files = MapfilePasses s files
+CallPasses ImageWrite s files = MapfilePasses s files
+CallPasses ImageSync s files = OutputPasses s files
+CallPasses MapRead s files = OutputPasses s files
+CallPasses DraftBegin s files = MapfilePasses s files
+CallPasses DraftAppend s files = MapfilePasses s files
+CallPasses DraftSync s files = MapfilePasses s files
+CallPasses DraftPublish s files = MapfilePasses s files
+CallPasses MapSettle s files = OutputPasses s files
+CallPasses MapRemove s files = MapfilePasses s files
 
 -- every file reads as it did
 abbrev pub AllStand : (files files' : List ℕ → Option File) → Type 0
@@ -95,8 +99,10 @@ CallLeaves MapRemove outfile files files' = ⊤
 -- what an answer before the first read leaves of the files as they read; of others nothing is said here
 abbrev pub IsLeft : Ending → (outfile : List ℕ) → (files files' : List ℕ → Option File) → Type 0
 IsLeft Done outfile files files' = ⊤
-IsLeft (WrongNumber given) outfile files files' = AllStand files files'
-IsLeft (WrongWord word) outfile files files' = AllStand files files'
+IsLeft (Usage (Word fault)) outfile files files' = AllStand files files'
+IsLeft (Usage (BadValue n)) outfile files files' = AllStand files files'
+IsLeft (Usage (Operands given)) outfile files files' = AllStand files files'
+IsLeft (Usage PlaceTooLarge) outfile files files' = OutputMade outfile files files'
 IsLeft (SameName first second) outfile files files' = AllStand files files'
 IsLeft SourceFault outfile files files' = AllStand files files'
 IsLeft NotRegular outfile files files' = AllStand files files'
@@ -106,15 +112,36 @@ IsLeft (SiteFault call earlier) outfile files files' = CallLeaves call outfile f
 IsLeft NoMemory outfile files files' = ⊤
 
 -- what an answer says of the files
-abbrev pub FilesAllow : Ending → (output mapfile : Option File) → Type 0
-FilesAllow Done output mapfile = Pass output mapfile
-FilesAllow (WrongNumber given) output mapfile = ⊤
-FilesAllow (WrongWord word) output mapfile = ⊤
-FilesAllow (SameName first second) output mapfile = ⊤
-FilesAllow SourceFault output mapfile = ⊤
-FilesAllow NotRegular output mapfile = is_other output ≡ true
-FilesAllow (MapRefused which error) output mapfile =
-    (is_other output ≡ false) × MapfileRefused mapfile (MapRefused which error)
-FilesAllow SourceLost output mapfile = Pass output mapfile
-FilesAllow (SiteFault call earlier) output mapfile = CallPasses call output mapfile
-FilesAllow NoMemory output mapfile = ⊤
+abbrev pub FilesAllow : Ending → Setting → (files : List ℕ → Option File) → Type 0
+FilesAllow Done s files = MapfilePasses s files
+FilesAllow (Usage (Word fault)) s files = ⊤
+FilesAllow (Usage (BadValue n)) s files = ⊤
+FilesAllow (Usage (Operands given)) s files = ⊤
+FilesAllow (Usage PlaceTooLarge) s files = MapfilePasses s files
+FilesAllow (SameName first second) s files = ⊤
+FilesAllow SourceFault s files = ⊤
+FilesAllow NotRegular s files = OutputRefused s.forced (files s.outfile) NotRegular
+FilesAllow (MapRefused which error) s files =
+    OutputPasses s files × MapfileRefused (mapfile_in s files) (MapRefused which error)
+FilesAllow SourceLost s files = MapfilePasses s files
+FilesAllow (SiteFault call earlier) s files = CallPasses call s files
+FilesAllow NoMemory s files = ⊤
+
+-- each position of the domain has a place in the output
+abbrev pub ArePlaced : Setting → Type 0
+ArePlaced s = (e : Ending) → PlacesRefused s e → ⊥
+
+-- what an answer says of these places
+abbrev pub PlacesAllow : Ending → Setting → Type 0
+PlacesAllow Done s = ArePlaced s
+PlacesAllow (Usage (Word fault)) s = ⊤
+PlacesAllow (Usage (BadValue n)) s = ⊤
+PlacesAllow (Usage (Operands given)) s = ⊤
+PlacesAllow (Usage PlaceTooLarge) s = PlacesRefused s (Usage PlaceTooLarge)
+PlacesAllow (SameName first second) s = ⊤
+PlacesAllow SourceFault s = ⊤
+PlacesAllow NotRegular s = ⊤
+PlacesAllow (MapRefused which error) s = ⊤
+PlacesAllow SourceLost s = ArePlaced s
+PlacesAllow (SiteFault call earlier) s = ⊤
+PlacesAllow NoMemory s = ⊤

@@ -1,30 +1,43 @@
--- What the words of a rescue ask for.
-use Rattle.std.specs.Prelude.{ℕ, Bool, false, List, [], nat_lt, None}
+-- What a command asks for of an input.
+use Rattle.std.specs.Prelude.{◌≡◌, ℕ, ◌+◌, ◌-◌, ◌^◌, ◌<◌, ◌≤◌, true, false, List, Option, None, is_some, unwrap_or, option_map}
 use Rattle.save_resume.specs.MapNames.{MapNames, names_of}
+use Rattle.rescue_domain.specs.Domain.{whole_domain}
 use Rattle.rescue_rules.specs.Setting.{Setting}
-use Rattle.ddrescue_cli.specs.Operands.{infile, outfile, mapfile, command_line}
+use Rattle.rescue_core.specs.RunState.{names_in}
+use Rattle.rescue_command.specs.declared.options.Options.{Options}
+use Rattle.rescue_command.specs.Command.{Command}
 
--- the size of a sector in bytes
-abbrev pub default_sector : ℕ
-default_sector = 512
+-- where the rescue begins in the output
+abbrev pub output_from : Options → ℕ
+output_from o = unwrap_or o.output_position o.input_position
 
--- the positions below the input's length
-abbrev pub inside : ℕ → ℕ → Bool
-inside end x = nat_lt x end
+-- where a position stands there
+abbrev pub place_by : Options → ℕ → ℕ
+place_by o x = x - o.input_position + output_from o
 
--- what files with these names and this command line ask for of an input with this length
-abbrev pub setting_with : (infile outfile : List ℕ) → MapNames → (line : List ℕ) → (end : ℕ) → Setting
-setting_with infile outfile names line end = record {
+-- each position that is asked for of an input with this length ends in the output below 2^63; or one doesn't
+abbrev pub ArePlacedBy : Options → (end : ℕ) → Type 0
+ArePlacedBy o end = (x : ℕ) → whole_domain o.input_position o.size end x ≡ true → place_by o x < 2 ^ 63 - 1
+
+abbrev pub IsBeyond : Options → (end : ℕ) → Type 0
+IsBeyond o end = (x : ℕ) × (whole_domain o.input_position o.size end x ≡ true) × (2 ^ 63 ≤ place_by o x + 1)
+
+-- What files with these names, this command line and these options ask for of an input with this length: each position of
+-- the input from the input position on, and no more than the size; sector by sector, and no more than copying.
+abbrev pub setting_with : (infile outfile : List ℕ) → Option MapNames → (line : List ℕ) → Options → (end : ℕ) → Setting
+setting_with infile outfile names line o end = record {
   infile = infile;
   outfile = outfile;
-  names = names;
+  forced = o.forced;
+  has_mapfile = is_some names;
+  names = names_in names;
   line = line;
   end = end;
-  domain = inside end;
-  from = 0;
-  to = 0;
-  sector = default_sector;
-  cluster = default_sector;
+  domain = whole_domain o.input_position o.size end;
+  from = o.input_position;
+  to = output_from o;
+  sector = o.sector;
+  cluster = o.sector;
   skip = 0;
   skip_max = 0;
   min_rate = 0;
@@ -37,6 +50,9 @@ setting_with infile outfile names line end = record {
   timeout = None;
 }
 
--- what these words ask for
-abbrev pub setting_of : List (List ℕ) → (end : ℕ) → Setting
-setting_of words end = setting_with (infile words) (outfile words) (names_of (mapfile words)) (command_line words) end
+-- the names of the mapfile and its draft, if there is a mapfile
+abbrev pub names_by : Command → Option MapNames
+names_by c = option_map names_of c.mapfile
+
+abbrev pub setting_of : Command → (line : List ℕ) → (end : ℕ) → Setting
+setting_of c line end = setting_with c.infile c.outfile (names_by c) line c.options end

@@ -11,12 +11,12 @@ use Rattle.rescue_rules.specs.Moves.{state_after, is_over, IsRun}
 use Rattle.rescue_rules.specs.Given.{given}
 use Rattle.rescue_rules.specs.Held.{Held}
 use Rattle.rescue_rules.specs.Snapshots.{text_of, finished_snapshot}
-use Rattle.rescue_rules.specs.Work.{Gain, begins, events_in}
+use Rattle.rescue_rules.specs.Work.{Gain, begins, events_in, mapfile_in}
 use Rattle.rescue_rules.specs.Stops.{has_barrier, IsKept}
 use Rattle.ddrescue_cli.specs.declared.ending.Ending.{Ending}
-use Rattle.ddrescue_cli.specs.declared.ending.Ending.TheVariants.{Done, WrongNumber, WrongWord, SameName, SourceFault, NotRegular, MapRefused, SourceLost, SiteFault, NoMemory}
-use Rattle.ddrescue_cli.specs.Operands.{outfile, mapfile, command_line}
-use Rattle.ddrescue_cli.specs.Asked.{default_sector}
+use Rattle.ddrescue_cli.specs.declared.ending.Ending.TheVariants.{Done, Usage, SameName, SourceFault, NotRegular, MapRefused, SourceLost, SiteFault, NoMemory}
+use Rattle.rescue_command.specs.Command.{Command, Asks}
+use Rattle.ddrescue_cli.specs.Names.{command_line}
 use Rattle.ddrescue_cli.specs.Told.{Told, AllTell, what_was_done, calls_before, files_of, asked}
 use Rattle.ddrescue_cli.specs.Work.{Works}
 use Rattle.ddrescue_cli.specs.Ddrescue.{Ddrescue}
@@ -24,46 +24,45 @@ use Rattle.ddrescue_cli.specs.Ddrescue.{Ddrescue}
 -- Behind each answer that comes after the barrier, the files as they read keep the promise.
 abbrev pub HoldsAtEnd : Type 0
 HoldsAtEnd =
-    (t : Told) (began : List Status) (state : Option MapState) → Ddrescue t → AllTell t
-    → has_barrier (what_was_done t).calls ≡ true
-    → Stands (files_of t (mapfile t.words)) (length t.source.bytes) began state
-    → IsKept (calls_before t) (asked t) (what_was_done t) began state (length (what_was_done t).calls) (files_in t.site')
+    (t : Told) (c : Command) (began : List Status) (state : Option MapState) → Ddrescue t → Asks t.words c → AllTell t
+    → (asked c t).has_mapfile ≡ true → has_barrier (what_was_done t).calls ≡ true
+    → Stands (files_of t (asked c t).names.map) (length t.source.bytes) began state
+    → IsKept (calls_before t) (asked c t) (what_was_done t) began state (length (what_was_done t).calls) (files_in t.site')
 
 -- the state that a rescue came to over a map, and the state that its mapfile showed
-abbrev pub comes_to : Told → List Status → Option MapState → Machine
-comes_to t statuses state =
-    state_after (asked t) (begins (asked t) statuses state (what_was_done t)) (events_in (what_was_done t))
+abbrev pub comes_to : Command → Told → List Status → Option MapState → Machine
+comes_to c t statuses state =
+    state_after (asked c t) (begins (asked c t) statuses state (what_was_done t)) (events_in (what_was_done t))
 
--- What a rescue leaves that went on to its end, over the map that its mapfile stood for:
-pub record IsFinished (t : Told) : Type 0 where
+-- What a rescue leaves that went on to its end, over the map that its mapfile stood for, or no mapfile:
+pub record IsFinished (c : Command) (t : Told) : Type 0 where
   pub statuses : List Status
   pub state : Option MapState
-  pub stands : Stands (files_of t (mapfile t.words)) (length t.source.bytes) statuses state
+  pub stands : Stands (mapfile_in (asked c t) (files_of t)) (length t.source.bytes) statuses state
   -- the reads are a run that left no request in any pass
-  pub run : IsRun (asked t) (begins (asked t) statuses state (what_was_done t)) (events_in (what_was_done t))
-  pub over : is_over (asked t) (comes_to t statuses state) ≡ true
-  -- the mapfile is the map of all reads, and says that it is finished
-  pub mapfile : files_in t.site' (mapfile t.words)
-      ≡ Some (record { bytes = text_of (command_line t.words) (finished_snapshot (comes_to t statuses state)); regular = true })
+  pub run : IsRun (asked c t) (begins (asked c t) statuses state (what_was_done t)) (events_in (what_was_done t))
+  pub over : is_over (asked c t) (comes_to c t statuses state) ≡ true
+  -- the mapfile, if there is one, is the map of all reads, and says that it is finished
+  pub mapfile : (asked c t).has_mapfile ≡ true → files_in t.site' (asked c t).names.map
+      ≡ Some (record { bytes = text_of (command_line t.words) (finished_snapshot (comes_to c t statuses state)); regular = true })
   -- and the output holds what that map promises
-  pub held : Held (asked t) (what_was_done t).reads (bytes_of (files_of t (outfile t.words))) (comes_to t statuses state).map
-      (bytes_of (files_in t.site' (outfile t.words)))
+  pub held : Held (asked c t) (what_was_done t).reads (bytes_of (files_of t c.outfile)) (comes_to c t statuses state).map
+      (bytes_of (files_in t.site' c.outfile))
 
 -- A finished rescue leaves that.
 abbrev pub DoneIsSaved : Type 0
-DoneIsSaved = (t : Told) → Ddrescue t → AllTell t → t.answer ≡ Done → IsFinished t
+DoneIsSaved = (t : Told) (c : Command) → Ddrescue t → Asks t.words c → AllTell t → t.answer ≡ Done → IsFinished c t
 
 -- What the reads gave is the input's own, where the input tells. So what a saved map calls finished, and the reads gave,
 -- stands in the output as it stands in the input.
 abbrev pub GivenIsInput : Type 0
-GivenIsInput = (t : Told) (x b : ℕ) → Ddrescue t → IsTrue t.source.tells → given default_sector (what_was_done t).reads x ≡ Some b
-    → slice_get t.source.bytes x ≡ Some b
+GivenIsInput = (t : Told) (c : Command) (x b : ℕ) → Ddrescue t → Asks t.words c → IsTrue t.source.tells
+    → given c.options.sector (what_was_done t).reads x ≡ Some b → slice_get t.source.bytes x ≡ Some b
 
--- an answer that words and files bring, whatever the input, the calls and memory do
+-- an answer that a command, an input's length and files bring, whatever the calls and memory do
 abbrev pub IsVerdict : Ending → Type 0
 IsVerdict Done = ⊤
-IsVerdict (WrongNumber given) = ⊤
-IsVerdict (WrongWord word) = ⊤
+IsVerdict (Usage fault) = ⊤
 IsVerdict (SameName first second) = ⊤
 IsVerdict SourceFault = ⊥
 IsVerdict NotRegular = ⊤
@@ -72,7 +71,7 @@ IsVerdict SourceLost = ⊥
 IsVerdict (SiteFault call earlier) = ⊥
 IsVerdict NoMemory = ⊥
 
--- Words and files bring one such answer at most.
+-- They bring one such answer at most.
 abbrev pub HasOneVerdict : Type 0
-HasOneVerdict = (words : List (List ℕ)) (s : Setting) (files : List ℕ → Option File) (e e' : Ending) (g g' : Gain)
-    → Works words s files e g → Works words s files e' g' → IsVerdict e → IsVerdict e' → e ≡ e'
+HasOneVerdict = (c : Command) (s : Setting) (files : List ℕ → Option File) (e e' : Ending) (g g' : Gain)
+    → Works c s files e g → Works c s files e' g' → IsVerdict e → IsVerdict e' → e ≡ e'

@@ -1,5 +1,5 @@
 -- What the steps of a rescue did, by what the objects tell.
-use Rattle.std.specs.Prelude.{◌≡◌, ◌≢◌, ◌⊎◌, ℕ, ◌<◌, ◌≤◌, ◌^◌, true, IsTrue, List, [], ◌∷◌, ◌++◌, length, Option, None, Result, Ok, Err, IfSome}
+use Rattle.std.specs.Prelude.{◌≡◌, ◌≢◌, ◌⊎◌, ℕ, ◌<◌, ◌≤◌, ◌^◌, Bool, true, false, IsTrue, List, [], ◌∷◌, ◌++◌, length, Option, Some, None, Result, Ok, Err, IfSome}
 use Rattle.fault_count.specs.Counts.{Rose}
 use Rattle.block_list.specs.declared.status.Status.{Status}
 use Rattle.mapfile_text.specs.declared.state.MapState.{MapState}
@@ -7,7 +7,7 @@ use Rattle.mapfile_text.specs.declared.read.MapError.{MapError}
 use Rattle.mapfile_text.specs.declared.read.MapError.TheVariants.{NoStatusLine, NoMemory as OutOfMemory}
 use Rattle.faulty_source.specs.SourceState.{SourceState}
 use Rattle.crash_site.specs.declared.site.SiteCall.{SiteCall}
-use Rattle.crash_site.specs.declared.site.SiteCall.TheVariants.{ImageOpen, MapRead}
+use Rattle.crash_site.specs.declared.site.SiteCall.TheVariants.{ImageOpen, ImageSync, MapRead, MapSettle}
 use Rattle.crash_site.specs.Files.{File}
 use Rattle.crash_site.specs.Calls.{Call, Entry, Made, BrokeAt, image_open}
 use Rattle.crash_site.specs.SiteState.{SiteState, files_in, Makes, Breaks}
@@ -15,7 +15,8 @@ use Rattle.save_resume.specs.MapNames.{MapNames}
 use Rattle.save_resume.specs.Loading.{BeginsLoad, IsLoad}
 use Rattle.save_resume.specs.Resuming.{barrier_calls, IsResumeCall}
 use Rattle.rescue_rules.specs.Setting.{Setting}
-use Rattle.rescue_rules.specs.Start.{Stands}
+use Rattle.rescue_rules.specs.Start.{Stands, IsFresh}
+use Rattle.ddrescue_cli.specs.declared.load.Start.{Start}
 use Rattle.rescue_console.specs.ClockState.{ClockState}
 use Rattle.rescue_rules.specs.declared.stop.Stop.{Stop}
 use Rattle.rescue_rules.specs.declared.stop.RunEnd.{RunEnd}
@@ -25,7 +26,7 @@ use Rattle.ddrescue_cli.specs.declared.ending.Ending.{Ending}
 use Rattle.ddrescue_cli.specs.declared.ending.Ending.TheVariants.{NotRegular, MapRefused, SiteFault, NoMemory}
 use Rattle.ddrescue_cli.specs.declared.ending.Which.TheVariants.{RunMap}
 use Rattle.ddrescue_cli.specs.Refusals.{is_other, MapfileRefused}
-use Rattle.ddrescue_cli.specs.Alone.{HasRead, FilesAllow, IsLeft}
+use Rattle.ddrescue_cli.specs.Alone.{HasRead, PlacesAllow, FilesAllow, IsLeft}
 use Rattle.ddrescue_cli.specs.Work.{answer_of, RunsOver, WorksOn}
 
 -- how a rescue ends whose parts returned this
@@ -40,10 +41,10 @@ pub record Fits (end : ℕ) (map : List Status) (state : Option MapState) : Type
   pub pos : IfSome state (λ shown. shown.pos < 2 ^ 63)
   pub pass : IfSome state (λ shown. 0 < shown.pass)
 
--- why the outfile was refused: no regular file stands there, or the open failed
-abbrev pub OutputStop : Ending → List ℕ → (old new : SiteState) → Type 0
-OutputStop e out old new =
-    ((e ≡ NotRegular) × (IsTrue old.tells → is_other (files_in old out) ≡ true) × Makes (image_open out true ∷ []) old new)
+-- why the outfile was refused: no regular file stands there though one has to, or the open failed
+abbrev pub OutputStop : Ending → List ℕ → (forced : Bool) → (old new : SiteState) → Type 0
+OutputStop e out forced old new =
+    ((e ≡ NotRegular) × (forced ≡ false) × (IsTrue old.tells → is_other (files_in old out) ≡ true) × Makes (image_open out true ∷ []) old new)
     ⊎ ((e ≡ SiteFault ImageOpen None) × Breaks ImageOpen (image_open out true ∷ []) old new)
 
 -- a load behind the barrier went on to its end: the mapfile isn't refused, and stands for this map
@@ -64,6 +65,16 @@ pub data LoadStopped (names : MapNames) (file : Option File) (e : Ending) (calls
       → LoadStopped names file e calls calls'
   Refused : (load : List Call) → MapfileRefused file e → IsLoad names.map file load → Made (barrier_calls names ++ load) calls calls'
       → LoadStopped names file e calls calls'
+
+-- What a load did, by its outcome: with a mapfile it went on to its end or stopped; without one nothing was done but to
+-- take memory.
+abbrev pub Loaded : Option MapNames → (end : ℕ) → Result Start Ending → (old new : SiteState) → Type 0
+Loaded (Some names) end (Ok start) old new =
+    Started names (files_in old names.map) end start.tiles.statuses start.state old.calls new.calls
+Loaded (Some names) end (Err e) old new = LoadStopped names (files_in old names.map) e old.calls new.calls
+    × ((e ≢ SiteFault MapSettle None) → (e ≢ SiteFault ImageSync None) → files_in new ≡ files_in old)
+Loaded None end (Ok start) old new = (new ≡ old) × IsFresh end start.tiles.statuses start.state
+Loaded None end (Err e) old new = (new ≡ old) × (e ≡ NoMemory)
 
 -- why a load stopped, by the count of failed calls
 abbrev pub LoadCause : Ending → (faults faults' : ℕ) → Type 0
@@ -127,5 +138,6 @@ pub record WorkedOn (s : Setting) (files : List ℕ → Option File) (e : Ending
 pub record Worked (s : Setting) (files : List ℕ → Option File) (e : Ending) (o : Across) : Type 0 where
   pub told : TellAll o → WorkedOn s files e o
   pub read : IsTrue o.source.tells → HasRead s e o.source o.source'
-  pub allowed : IsTrue o.site.tells → FilesAllow e (files s.outfile) (files s.names.map)
+  pub placed : IsTrue o.source.tells → PlacesAllow e s
+  pub allowed : IsTrue o.site.tells → FilesAllow e s files
   pub left : IsTrue o.site.tells → IsLeft e s.outfile files (files_in o.site')

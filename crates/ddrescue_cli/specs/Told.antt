@@ -9,6 +9,8 @@ use Rattle.rescue_rules.specs.Setting.{Setting}
 use Rattle.rescue_rules.specs.Work.{Gain}
 use Rattle.rescue_rules.specs.Stops.{Behind}
 use Rattle.ddrescue_cli.specs.declared.ending.Ending.{Ending}
+use Rattle.rescue_command.specs.Command.{Command}
+use Rattle.ddrescue_cli.specs.Names.{command_line}
 use Rattle.ddrescue_cli.specs.Asked.{setting_of}
 
 -- the words, the answer, and what each object tells before the call and after it
@@ -50,6 +52,6 @@ calls_before t = record { start = t.site.start; earlier = t.site.calls }
 abbrev pub files_of : Told → List ℕ → Option File
 files_of t = files_in t.site
 
--- what the words ask for of the input
-abbrev pub asked : Told → Setting
-asked t = setting_of t.words (length t.source.bytes)
+-- what a command asks for of the input
+abbrev pub asked : Command → Told → Setting
+asked c t = setting_of c (command_line t.words) (length t.source.bytes)

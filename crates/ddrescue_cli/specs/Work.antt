@@ -1,6 +1,6 @@
 -- The work of a rescue: its steps in order, what each does on the files, and where it refuses. It says which answers
 -- may be given, and which calls and reads were made by then.
-use Rattle.std.specs.Prelude.{◌≡◌, ◌⊎◌, ℕ, ◌≤◌, true, List, [], ◌∷◌, ◌++◌, length, map, Option, None}
+use Rattle.std.specs.Prelude.{◌≡◌, ◌⊎◌, ℕ, ◌≤◌, true, false, List, [], ◌∷◌, ◌++◌, length, map, Option, None}
 use Rattle.block_list.specs.declared.status.Status.{Status}
 use Rattle.mapfile_text.specs.declared.state.MapState.{MapState}
 use Rattle.crash_site.specs.declared.site.SiteCall.{SiteCall}
@@ -14,10 +14,11 @@ use Rattle.rescue_rules.specs.Start.{Stands}
 use Rattle.rescue_rules.specs.declared.stop.Stop.TheVariants.{SourceLost as InputLost, Site, NoMemory as NoRoom}
 use Rattle.rescue_rules.specs.declared.stop.RunEnd.{RunEnd}
 use Rattle.rescue_rules.specs.declared.stop.RunEnd.TheVariants.{Done as Finished, Stopped, SaveFailed}
-use Rattle.rescue_rules.specs.Work.{Gain, IsNothing, Runs}
+use Rattle.rescue_rules.specs.Work.{Gain, IsNothing, Runs, mapfile_in}
 use Rattle.ddrescue_cli.specs.declared.ending.Ending.{Ending}
 use Rattle.ddrescue_cli.specs.declared.ending.Ending.TheVariants.{Done, SourceLost, SiteFault, NoMemory}
-use Rattle.ddrescue_cli.specs.Refusals.{WordsRefused, InputRefused, OutputRefused, MapfileRefused}
+use Rattle.rescue_command.specs.Command.{Command}
+use Rattle.ddrescue_cli.specs.Refusals.{NamesRefused, InputRefused, OutputRefused, MapfileRefused, PlacesRefused}
 
 -- Where there is a refusal it is the answer, or memory ran out; else the work goes on, unless memory ran out.
 abbrev pub OrElse : (Ending → Type 0) → (Ending → Gain → Type 0) → Ending → Gain → Type 0
@@ -68,7 +69,15 @@ pub record IsUnbegun (e : Ending) (g : Gain) : Type 0 where
 abbrev pub RunsOver : Setting → List Status → Option MapState → Ending → Gain → Type 0
 RunsOver s statuses state e g = IsUnbegun e g ⊎ ((end : RunEnd) × (e ≡ answer_of end) × Runs s statuses state g end)
 
--- the run over the map that a mapfile stands for
+-- With a mapfile the barrier makes durable what stands, and the mapfile is read and may be refused; without one memory
+-- may run out. Then the work goes on.
+abbrev pub ThenLoad : Setting → (List ℕ → Option File) → (Ending → Gain → Type 0) → Ending → Gain → Type 0
+ThenLoad s files Q e g =
+    ((s.has_mapfile ≡ true) × Then (barrier_calls s.names)
+    (ThenRead s.names.map (files s.names.map) (OrRefused (MapfileRefused (files s.names.map)) Q)) e g)
+    ⊎ ((s.has_mapfile ≡ false) × OrMay (λ v. v ≡ NoMemory) Q e g)
+
+-- the run over the map that the mapfile stands for, or no mapfile
 abbrev pub ThenRun : Setting → Option File → Ending → Gain → Type 0
 ThenRun s mapfile e g =
     (statuses : List Status) × (state : Option MapState) × Stands mapfile s.end statuses state × RunsOver s statuses state e g
@@ -78,12 +87,11 @@ abbrev pub WorksOn : Setting → (List ℕ → Option File) → Ending → Gain 
 WorksOn s files =
     OrMay InputRefused
     (Then (image_open s.outfile true ∷ [])
-    (OrRefused (OutputRefused (files s.outfile))
-    (Then (barrier_calls s.names)
-    (ThenRead s.names.map (files s.names.map)
-    (OrRefused (MapfileRefused (files s.names.map))
-    (ThenRun s (files s.names.map)))))))
+    (OrRefused (OutputRefused s.forced (files s.outfile))
+    (ThenLoad s files
+    (OrRefused (PlacesRefused s)
+    (ThenRun s (mapfile_in s files))))))
 
--- the whole work
-abbrev pub Works : List (List ℕ) → Setting → (List ℕ → Option File) → Ending → Gain → Type 0
-Works words s files = OrElse (WordsRefused words) (WorksOn s files)
+-- the whole work for a command
+abbrev pub Works : Command → Setting → (List ℕ → Option File) → Ending → Gain → Type 0
+Works c s files = OrElse (NamesRefused c) (WorksOn s files)

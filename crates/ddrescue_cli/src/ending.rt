@@ -4,6 +4,7 @@ ghost use Rattle.ddrescue_cli.specs.Work.{answer_of};
 
 use crash_site::site::SiteCall;
 use mapfile_text::read::MapError;
+use option_words::fault::UsageFault;
 use rescue_rules::stop::{RunEnd, Stop};
 
 /// A file that a rescue names.
@@ -28,14 +29,8 @@ pub enum Which {
 pub enum Ending {
     /// Everything that wasn't tried was asked for, and the map was saved.
     Done,
-    /// Another number of words than three.
-    WrongNumber {
-        given: usize,
-    },
-    /// A word, counted from 1, that is empty, or that begins with a hyphen and is longer.
-    WrongWord {
-        word: usize,
-    },
+    /// The words ask for nothing that can be done.
+    Usage(UsageFault),
     /// Two files have one name.
     SameName {
         first: Operand,
@@ -43,7 +38,7 @@ pub enum Ending {
     },
     /// The infile couldn't be opened.
     SourceFault,
-    /// The outfile is no regular file.
+    /// The outfile is no regular file, and it wasn't forced to be taken.
     NotRegular,
     /// The mapfile's text is no map, or is too long.
     MapRefused {

@@ -3,8 +3,8 @@ use crate::fields::{Field, Fields};
 use crate::kinds::{Left, read_kind};
 use crate::refusal::Refusal;
 use crate::values::{read_bytes, read_number, read_text};
-use ddrescue_cli::words::Words;
 use faulty_source::memory::BadRange;
+use option_words::words::Words;
 use std::alloc::Global;
 
 /// An object whose calls may fail.

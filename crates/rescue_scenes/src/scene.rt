@@ -13,8 +13,9 @@ use crate::values::BYTES_LIMIT;
 use crash_site::memory::MemorySite;
 use ddrescue_cli::ending::Ending;
 use ddrescue_cli::rescue::ddrescue;
-use ddrescue_cli::words::Words;
 use faulty_source::memory::{BadRange, MemorySource};
+use option_words::words::Words;
+use rescue_console::console::Channel;
 use rescue_console::memory::{MemoryClock, MemoryConsole};
 use std::alloc::Global;
 use std::io::Write;
@@ -40,25 +41,20 @@ pub(crate) struct Scene {
     files: usize,
 }
 
-/// Runs a rescue with a clock of these readings, and a console whose calls with these numbers fail. Where it finds no
-/// memory there is no answer: a scene can't ask for that.
+/// Runs a rescue with a clock of these readings. Where it finds no memory there is no answer: a scene can't ask for that.
 fn rescue(
     alloc: Global,
     words: &Words,
     source: &mut MemorySource,
     site: &mut MemorySite,
     readings: &[u64],
-    silent: &[u64],
+    console: &mut MemoryConsole,
 ) -> Result<Ending, Refusal>
     requires { (state_of site.old).is_drafting ≡ false }
 {
     let mut clock = MemoryClock::new(Vec::from_slice(alloc, readings)?);
-    let mut console = MemoryConsole::new(alloc);
-    for number in silent {
-        console.fail_call(*number)?;
-    }
     let starved = site.starved();
-    let ending = ddrescue(alloc, words, source, site, &mut clock, &mut console);
+    let ending = ddrescue(alloc, words, source, site, &mut clock, console);
     if matches!(ending, Ending::NoMemory) || site.starved() > starved || console.starved() > 0 {
         return Err(Refusal::NoMemory);
     }
@@ -179,6 +175,10 @@ impl Scene {
             Some(source) => source,
             None => self.stated.make_source(self.alloc)?,
         };
+        let mut console = MemoryConsole::new(self.alloc);
+        for number in &self.silent {
+            console.fail_call(*number)?;
+        }
         let read = source.journal().len();
         let made = self.site.made();
         let ending = rescue(
@@ -187,11 +187,13 @@ impl Scene {
             &mut source,
             &mut self.site,
             &self.clock,
-            &self.silent,
+            &mut console,
         )?;
         self.silent.clear();
         append_reads(out, source.journal().get(read..).unwrap_or(&[]))?;
         append_calls(out, &self.site, made)?;
+        append_lines(out, console.text(Channel::Out), b"  out", b"  out~")?;
+        append_lines(out, console.text(Channel::Err), b"  err", b"  err~")?;
         append_ending(out, ending)?;
         self.source = Some(source);
         Ok(())
@@ -237,7 +239,15 @@ impl Scene {
         let mut source = self.stated.make_source(self.alloc)?;
         write!(out, "left ")?;
         append_blocks(self.alloc, out, site.file(stops.map.as_str()))?;
-        let ending = rescue(self.alloc, &stops.words, &mut source, &mut site, &[], &[])?;
+        let mut console = MemoryConsole::new(self.alloc);
+        let ending = rescue(
+            self.alloc,
+            &stops.words,
+            &mut source,
+            &mut site,
+            &[],
+            &mut console,
+        )?;
         let reads = source.journal().len();
         write!(out, "; ends {ending:?}; {reads} reads; map ")?;
         append_blocks(self.alloc, out, site.file(stops.map.as_str()))?;
@@ -265,7 +275,7 @@ impl Scene {
         if let (View::Print, Some(text)) = (view, file)
             && !text.is_empty()
         {
-            return append_lines(out, text);
+            return append_lines(out, text, b"  |", b"  ~");
         }
         out.extend_from_slice(b"  ")?;
         append_escaped(out, name.as_bytes())?;

@@ -108,12 +108,17 @@ fn append_piece(out: &mut Vec<u8>, last: Option<Piece>, piece: Piece) -> Result<
     Ok(())
 }
 
-/// Adds a text that is not empty, a line for each of its lines, and one for a rest without a newline.
-pub(crate) fn append_lines(out: &mut Vec<u8>, text: &[u8]) -> Result<(), Refusal> {
+/// Adds a line for each line of a text, behind a word, and one for a rest without a newline, behind another word.
+pub(crate) fn append_lines(
+    out: &mut Vec<u8>,
+    text: &[u8],
+    word: &[u8],
+    rest: &[u8],
+) -> Result<(), Refusal> {
     for line in text.split_inclusive(|byte| *byte == b'\n') {
         match line.strip_suffix(b"\n") {
-            Some(whole) => append_line(out, b"  |", whole)?,
-            None => append_line(out, b"  ~", line)?,
+            Some(whole) => append_line(out, word, whole)?,
+            None => append_line(out, rest, line)?,
         }
     }
     Ok(())

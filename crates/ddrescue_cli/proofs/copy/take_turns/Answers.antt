@@ -1,6 +1,7 @@
-use Rattle.std.proofs.Common.{refl, ◌∙◌}
+use Rattle.std.proofs.Common.{refl, ◌∙◌, ap}
 use Rattle.std.proofs.lemmas.Result.{err_from_is_err_and}
 use Rattle.save_resume.proofs.FillLemmas.{keeps_more}
+use Rattle.rescue_core.specs.RunState.{RunState}
 use Rattle.ddrescue_cli.proofs.CopyLemmas.{none_left, copied_spent}
 use Rattle.ddrescue_cli.proofs.TurnLemmas.{turning_begun, turning_on, turning_less, turning_halted, source_stays, clock_keeps}
 use Rattle.ddrescue_cli.proofs.copy.take_turns.Goals as goal
@@ -51,7 +52,7 @@ returns g c =
       went = c.turns.invariant.0.went;
       gone = gone;
       spent = copied_spent _ c.turns.invariant.0.copying gone;
-      settings = c.turns.invariant.0.copying.settings;
+      settings = ap (λ (q : RunState). q.settings) c.turns.invariant.0.went.state;
       halted = tt;
       draft = c.turns.invariant.0.no_draft;
       draft_left = tt;

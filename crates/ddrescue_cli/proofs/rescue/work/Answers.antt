@@ -1,0 +1,43 @@
+use Rattle.std.proofs.Common.{ap, subst}
+use Rattle.mapfile_text.specs.HeadingLines.{HeadingLines}
+use Rattle.rescue_command.specs.declared.command.CommandError.{CommandError}
+use Rattle.rescue_command.specs.declared.command.CommandError.TheVariants.{Usage}
+use Rattle.rescue_command.specs.Command.{told_by, IsErrorOf}
+use Rattle.ddrescue_cli.proofs.PromiseLemmas.{starved_kept, refused_kept, plan_kept, work_kept}
+use Rattle.ddrescue_cli.proofs.rescue.work.Goals as goal
+
+pub returns-in-Err-NoMemory-clause-promise : goal.returns-in-Err-NoMemory-clause-promise
+returns-in-Err-NoMemory-clause-promise g c = λ now says. starved_kept _ _ _ _ _ _ c.requires says
+
+pub returns-in-Err-Usage-clause-promise : goal.returns-in-Err-Usage-clause-promise
+returns-in-Err-Usage-clause-promise g c =
+    let refused : IsErrorOf c.args.words.now (Usage c.in-Err-Usage.fault c.in-Err-Usage.quiet) =
+    subst (λ (e : CommandError). IsErrorOf c.args.words.now e) c.in-Err-Usage.field-0-is c.in-Err-Usage.ensures.refused in
+    rw c.in-Err-Usage.fault-is
+    (λ now says. refused_kept _ c.in-Err-Usage.fault c.in-Err-Usage.quiet _ _ _ _ _ refused c.requires says)
+
+pub returns-in-Err-clause-promise : goal.returns-in-Err-clause-promise
+returns-in-Err-clause-promise g c = λ now says.
+    plan_kept _ _ _ _ _ _ _ (told_by c.in-Ok.command) c.in-Ok.ensures.asked c.in-Err.ensures.refused c.requires says
+
+pub returns-in-Ok-rescue-clause-promise : goal.returns-in-Ok-rescue-clause-promise
+returns-in-Ok-rescue-clause-promise g c = λ now says.
+    work_kept _ (told_by c.in-Ok.command) _ _ _ _ _ c.in-Ok.ensures.asked c.in-Ok-make_plan.ensures.infile c.in-Ok-make_plan.ensures.outfile
+    c.in-Ok-make_plan.ensures.names (ap (λ (h : HeadingLines). h.line) c.in-Ok-make_plan.ensures.heading) c.in-Ok-make_plan.ensures.options
+    c.in-Ok-make_plan.ensures.different c.in-Ok-rescue.ensures.words c.in-Ok-rescue.ensures.cause c.in-Ok-rescue.ensures.input
+    c.in-Ok-rescue.ensures.worked c.in-Ok-rescue.ensures.draft c.in-Ok-rescue.ensures.source c.in-Ok-rescue.ensures.site
+    c.in-Ok-rescue.ensures.clock says
+
+pub returns-in-Ok-rescue-clause-untouched : goal.returns-in-Ok-rescue-clause-untouched
+returns-in-Ok-rescue-clause-untouched g c = λ fault refused. absurd (c.in-Ok.ensures.asked.accepted fault refused)
+
+pub returns-in-Err-rescue-clause-promise : goal.returns-in-Err-rescue-clause-promise
+returns-in-Err-rescue-clause-promise g c = λ now says.
+    work_kept _ (told_by c.in-Ok.command) _ _ _ _ _ c.in-Ok.ensures.asked c.in-Ok-make_plan.ensures.infile c.in-Ok-make_plan.ensures.outfile
+    c.in-Ok-make_plan.ensures.names (ap (λ (h : HeadingLines). h.line) c.in-Ok-make_plan.ensures.heading) c.in-Ok-make_plan.ensures.options
+    c.in-Ok-make_plan.ensures.different c.in-Err-rescue.ensures.words c.in-Err-rescue.ensures.cause c.in-Err-rescue.ensures.input
+    c.in-Err-rescue.ensures.worked c.in-Err-rescue.ensures.draft c.in-Err-rescue.ensures.source c.in-Err-rescue.ensures.site
+    c.in-Err-rescue.ensures.clock says
+
+pub returns-in-Err-rescue-clause-untouched : goal.returns-in-Err-rescue-clause-untouched
+returns-in-Err-rescue-clause-untouched g c = λ fault refused. absurd (c.in-Ok.ensures.asked.accepted fault refused)

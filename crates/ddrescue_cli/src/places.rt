@@ -1,0 +1,33 @@
+//! Whether each position of the domain has a place in the output.
+ghost use Rattle.std.specs.Prelude.{◌≡◌, ◌<◌, ◌^◌, true, false};
+ghost use Rattle.rescue_command.specs.Command.{IsSound};
+ghost use Rattle.ddrescue_cli.specs.Asked.{output_from, ArePlacedBy, IsBeyond};
+
+use rescue_command::options::Options;
+
+/// The largest end of a place in the output.
+const LIMIT: u64 = 1 << 63;
+
+/// Where the rescue begins in the output.
+pub(crate) fn output_from(options: &Options) -> u64
+    ensures { result ≡ output_from options.now }
+{
+    match options.output_position {
+        Some(position) => position,
+        None => options.input_position,
+    }
+}
+
+/// Whether the positions that are asked for of an input of this length all end in the output below 2^63.
+pub(crate) fn places_fit(options: &Options, end: u64) -> bool
+    requires sound { IsSound options.now }
+    requires end { end < 2 ^ 63 }
+    ensures fit { result ≡ true → ArePlacedBy options.now end }
+    ensures beyond { result ≡ false → IsBeyond options.now end }
+{
+    let last = match options.size {
+        Some(size) => end.min(options.input_position.saturating_add(size)),
+        None => end,
+    };
+    last <= options.input_position || last - options.input_position + output_from(options) < LIMIT
+}
