@@ -8,6 +8,7 @@ use Rattle.crash_site.specs.Files.{File}
 use Rattle.crash_site.specs.Calls.{Entry}
 use Rattle.crash_site.specs.SiteState.{SiteState, files_in}
 use Rattle.save_resume.specs.MapNames.{MapNames}
+use Rattle.save_resume.specs.Resuming.{IsResumeCall}
 use Rattle.option_words.specs.declared.fault.UsageFault.TheVariants.{PlaceTooLarge}
 use Rattle.rescue_command.specs.declared.options.Options.{Options}
 use Rattle.rescue_rules.specs.declared.stop.Stop.TheVariants.{SourceLost as InputLost, Site, NoMemory as NoRoom}
@@ -22,7 +23,7 @@ use Rattle.ddrescue_cli.specs.declared.load.Start.{Start}
 use Rattle.ddrescue_cli.specs.Names.{AreNamedApart}
 use Rattle.ddrescue_cli.specs.Asked.{setting_with, ArePlacedBy, IsBeyond}
 use Rattle.ddrescue_cli.specs.Refusals.{MapfileRefused, PlacesRefused}
-use Rattle.ddrescue_cli.specs.Alone.{IsFrom, HasRead, MapfilePasses, CallPasses, FilesAllow, ArePlaced, PlacesAllow}
+use Rattle.ddrescue_cli.specs.Alone.{IsFrom, HasRead, MapfilePasses, CallPasses, FilesAllow, ArePlaced, CallPlaced, PlacesAllow}
 use Rattle.ddrescue_cli.specs.Steps.{EndsRun, OutputStop, LoadStopped, InBarrier, InRead, Starved, Refused, LoadCause, Loaded}
 use Rattle.ddrescue_cli.proofs.WorkLemmas.{HasOpened, IsRegular, here, beyond_is_refused, placed_passes}
 
@@ -131,10 +132,16 @@ pub output_places : (s : Setting) (e : Ending) (out : List ℕ) (forced : Bool) 
 output_places s e out forced old new (inl c) = rw c.0 tt
 output_places s e out forced old new (inr c) = rw c.0 tt
 
+-- a call of a load comes before the places are looked at
+load_placed : (s : Setting) (call : SiteCall) → IsResumeCall call → CallPlaced call s
+load_placed s call (inl is) = rw is tt
+load_placed s call (inr (inl is)) = rw is tt
+load_placed s call (inr (inr is)) = rw is tt
+
 pub load_places : (s : Setting) (e : Ending) (faults faults' : ℕ) → LoadCause e faults faults' → PlacesAllow e s
 load_places s e faults faults' (inl c) = rw c.0 tt
 load_places s e faults faults' (inr (inl c)) = rw c.1 tt
-load_places s e faults faults' (inr (inr c)) = rw c.1 tt
+load_places s e faults faults' (inr (inr c)) = rw c.1 (load_placed s c.0 c.2)
 
 pub beyond_places : (i o : List ℕ) (n : Option MapNames) (l : List ℕ) (w : Options) (end all : ℕ) → end ≡ all → IsBeyond w end
     → PlacesAllow (Usage PlaceTooLarge) (setting_with i o n l w all)
@@ -142,12 +149,25 @@ beyond_places i o n l w end all whole far =
     let P : ℕ → Type 0 = λ size. PlacesRefused (setting_with i o n l w size) (Usage PlaceTooLarge) in
     subst P whole (beyond_is_refused i o n l w end far)
 
+call_placed : (call : SiteCall) (s : Setting) → ArePlaced s → CallPlaced call s
+call_placed ImageOpen s placed = tt
+call_placed ImageRead s placed = placed
+call_placed ImageWrite s placed = placed
+call_placed ImageSync s placed = tt
+call_placed MapRead s placed = tt
+call_placed DraftBegin s placed = placed
+call_placed DraftAppend s placed = placed
+call_placed DraftSync s placed = placed
+call_placed DraftPublish s placed = placed
+call_placed MapSettle s placed = tt
+call_placed MapRemove s placed = placed
+
 ending_places : (s : Setting) (e : Ending) → EndsRun e → ArePlaced s → PlacesAllow e s
 ending_places s e (Finished, is) placed = rw is placed
 ending_places s e (Stopped InputLost, is) placed = rw is placed
-ending_places s e (Stopped (Site call), is) placed = rw is tt
+ending_places s e (Stopped (Site call), is) placed = rw is (call_placed call s placed)
 ending_places s e (Stopped NoRoom, is) placed = rw is tt
-ending_places s e (SaveFailed call earlier, is) placed = rw is tt
+ending_places s e (SaveFailed call earlier, is) placed = rw is (call_placed call s placed)
 
 pub run_places : (i o : List ℕ) (n : Option MapNames) (l : List ℕ) (w : Options) (e : Ending) (end all : ℕ) → end ≡ all
     → ArePlacedBy w end → EndsRun e → PlacesAllow e (setting_with i o n l w all)

@@ -50,14 +50,15 @@ set_has (Some n) f has = has n
 row_has : (o : Options) (row : ℕ) (text : List ℕ) → HasSector o → IfSome (with_row o row text) HasSector
 row_has o row text has =
     let P : Option Options → Type 0 = λ x. IfSome x HasSector in
-    cond_both (nat_eq row 1) (Some (record o { forced = true })) _ P (λ on. has)
+    cond_both (nat_eq row sector_row) (Some o) _ P (λ on. has)
+    (λ off. cond_both (nat_eq row 1) (Some (record o { forced = true })) _ P (λ on. has)
     (λ off. cond_both (nat_eq row 2) (option_map (λ n. record o { input_position = n }) (size_by o text)) _ P
     (λ on. set_has (size_by o text) (λ n. record o { input_position = n }) (λ n. has))
     (λ off. cond_both (nat_eq row 3) (option_map (λ n. record o { output_position = Some n }) (size_by o text)) _ P
     (λ on. set_has (size_by o text) (λ n. record o { output_position = Some n }) (λ n. has))
     (λ off. cond_both (nat_eq row 4) (Some (record o { quiet = true })) _ P (λ on. has)
-    (λ off. cond_both (nat_eq row 5) (option_map (λ n. record o { size = Some n }) (size_by o text)) (Some o) P
-    (λ on. set_has (size_by o text) (λ n. record o { size = Some n }) (λ n. has)) (λ off. has)))))
+    (λ off. cond_both (nat_eq row 5) (option_map (λ n. record o { size = Some n }) (size_by o text)) None P
+    (λ on. set_has (size_by o text) (λ n. record o { size = Some n }) (λ n. has)) (λ off. tt))))))
 
 item_has : (words : List (List ℕ)) (o : Options) (i : Item) → HasSector o → IfOk (with_item words o i) HasSector
 item_has words o i has =

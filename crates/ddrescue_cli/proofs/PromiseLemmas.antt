@@ -5,11 +5,16 @@ use Rattle.std.specs.Prelude.{codes, option_map}
 use Rattle.std.specs.Str.{bytes_eq}
 use Rattle.std.proofs.lemmas.Bool.{cond_both}
 use Rattle.std.proofs.lemmas.Slice.Eq.{bytes_eq-Decides}
+use Rattle.fault_count.specs.Counts.{raised}
 use Rattle.faulty_source.specs.SourceState.{SourceState, Keeps as SourceKeeps}
 use Rattle.crash_site.specs.Files.{File}
 use Rattle.crash_site.specs.SiteState.{SiteState, Keeps as SiteKeeps}
+use Rattle.option_words.specs.declared.fault.WordFault.{WordFault}
+use Rattle.option_words.specs.declared.fault.WordFault.TheVariants.{NoMemory as WordNoMemory}
 use Rattle.option_words.specs.declared.fault.UsageFault.{UsageFault}
 use Rattle.option_words.specs.declared.fault.UsageFault.TheVariants.{Word, BadValue, Operands, PlaceTooLarge}
+use Rattle.option_words.specs.Reading.{WordFaultAt}
+use Rattle.option_words.proofs.MemoryLemmas.{never_memory}
 use Rattle.save_resume.specs.MapNames.{MapNames, names_of}
 use Rattle.rescue_console.specs.ClockState.{ClockState, Keeps as ClockKeeps}
 use Rattle.rescue_console.specs.ConsoleState.{ConsoleState}
@@ -31,7 +36,7 @@ use Rattle.ddrescue_cli.specs.Asked.{setting_with, names_by}
 use Rattle.ddrescue_cli.specs.Told.{Told, AllTell, gained, what_was_done, calls_before, files_of, asked}
 use Rattle.ddrescue_cli.specs.Refusals.{NamesRefused}
 use Rattle.ddrescue_cli.specs.Work.{WorksOn}
-use Rattle.ddrescue_cli.specs.Answers.{AreAccepted, SaysOfWords, Causes, IsOpenedAs, IsBehindWords, MaySay, drafting_left}
+use Rattle.ddrescue_cli.specs.Answers.{AreAccepted, SaysOfWords, Causes, IsOpenedAs, OpensOnce, IsRefusedByPlan, IsBehindWords, MaySay, drafting_left, NameOneFileTwice}
 use Rattle.ddrescue_cli.specs.Alone.{PlacesAllow, FilesAllow, IsLeft}
 use Rattle.ddrescue_cli.specs.Steps.{Across, WorkedOn, Worked}
 use Rattle.ddrescue_cli.specs.Ddrescue.{HasGained, Says, Promise, Ddrescue}
@@ -84,6 +89,20 @@ early_opens NotRegular infile s early = absurd early
 early_opens (MapRefused which error) infile s early = absurd early
 early_opens SourceLost infile s early = absurd early
 early_opens (SiteFault call earlier) infile s early = absurd early
+
+early_opens_none : (e : Ending) (s : SourceState) → IsEarly e → OpensOnce e s s
+early_opens_none NoMemory s early = inl refl
+early_opens_none (Usage (Word f)) s early = refl
+early_opens_none (Usage (BadValue n)) s early = refl
+early_opens_none (Usage (Operands n)) s early = refl
+early_opens_none (Usage PlaceTooLarge) s early = absurd early
+early_opens_none (SameName a b) s early = refl
+early_opens_none Done s early = absurd early
+early_opens_none SourceFault s early = absurd early
+early_opens_none NotRegular s early = absurd early
+early_opens_none (MapRefused which error) s early = absurd early
+early_opens_none SourceLost s early = absurd early
+early_opens_none (SiteFault call earlier) s early = absurd early
 
 early_drafts : (e : Ending) → IsEarly e → drafting_left e ≡ false
 early_drafts NoMemory early = refl
@@ -144,6 +163,9 @@ early_leaves (SiteFault call earlier) outfile files early = absurd early
 early_stops : (e : Ending) → IsEarly e → e ≡ Done → ⊥
 early_stops e early is = let P : Ending → Type 0 = IsEarly in subst P is early
 
+early_passes : (e : Ending) → IsEarly e → e ≡ SourceFault → ⊥
+early_passes e early is = let P : Ending → Type 0 = IsEarly in subst P is early
+
 -- nothing was gained
 gained_none : {A : Type 0} (xs : List A) → gained xs xs ≡ []
 gained_none xs = gained_is xs xs [] (sym (append-nil xs))
@@ -182,6 +204,8 @@ still_promised words e s d k p p' c early refused =
     let nothing : IsNothing (what_was_done t) = nothing_gained words e s d k p p' in
     record {
       input = λ tells. early_opens e c.infile s early;
+      opened = early_opens_none e s early;
+      refused = λ planned is. absurd (early_passes e early is);
       read = λ tells. none_read (asked c t) e s s (early_stops e early) refl;
       places = λ tells. early_places e (asked c t) early;
       files = λ tells. early_allows e (asked c t) (files_of t) early;
@@ -204,6 +228,7 @@ still_kept words e s d k p p' early says_words refused none says = record {
     may_lose = refl;
     planned = refl;
     bytes = λ tells. refl;
+    opens = omega arith;
     faults = omega arith;
     losses = omega arith;
   };
@@ -217,28 +242,44 @@ pub starved_kept : (words : List (List ℕ)) (s : SourceState) (d : SiteState) (
     → Says (told_still words NoMemory s d k p p') → Ddrescue (told_still words NoMemory s d k p p')
 starved_kept words s d k p p' none says = still_kept words NoMemory s d k p p' tt tt (λ c asks. inr refl) none says
 
+-- a fault that isn't one of what was read
+record IsElse (fault : UsageFault) : Type 0 where
+  value : (n : ℕ) → BadValue n ≡ fault → ⊥
+  number : (n : ℕ) → Operands n ≡ fault → ⊥
+
+-- words that were read have none such
+unless_else : (fault : UsageFault) (e : Option ℕ) (words : List (List ℕ)) (o : Options) (operands : List ℕ) → IsElse fault
+    → unless_empty e (command_with words o operands) ≡ Err fault → ⊥
+unless_else fault e words o [] other is = other.number 0 (cc)
+unless_else fault e words o (i ∷ []) other is = other.number 1 (cc)
+unless_else fault None words o (i ∷ out ∷ []) other is = absurd (cc)
+unless_else fault (Some n) words o (i ∷ out ∷ []) other is = other.value n (cc)
+unless_else fault None words o (i ∷ out ∷ map ∷ []) other is = absurd (cc)
+unless_else fault (Some n) words o (i ∷ out ∷ map ∷ []) other is = other.value n (cc)
+unless_else fault e words o (i ∷ out ∷ map ∷ n ∷ more) other is = other.number (length (i ∷ out ∷ map ∷ n ∷ more)) (cc)
+
+by_else : (fault : UsageFault) (words : List (List ℕ)) (r : Result Options ℕ) (operands : List ℕ) → IsElse fault
+    → command_by words r operands ≡ Err fault → ⊥
+by_else fault words (Err n) operands other is = other.value n (cc)
+by_else fault words (Ok o) operands other is = unless_else fault (empty_operand words operands) words o operands other is
+
 -- no words are refused for a place
-unless_place : (e : Option ℕ) (words : List (List ℕ)) (o : Options) (operands : List ℕ)
-    → unless_empty e (command_with words o operands) ≡ Err PlaceTooLarge → ⊥
-unless_place e words o [] is = absurd (cc)
-unless_place e words o (i ∷ []) is = absurd (cc)
-unless_place None words o (i ∷ out ∷ []) is = absurd (cc)
-unless_place (Some n) words o (i ∷ out ∷ []) is = absurd (cc)
-unless_place None words o (i ∷ out ∷ map ∷ []) is = absurd (cc)
-unless_place (Some n) words o (i ∷ out ∷ map ∷ []) is = absurd (cc)
-unless_place e words o (i ∷ out ∷ map ∷ n ∷ more) is = absurd (cc)
-
-by_place : (words : List (List ℕ)) (r : Result Options ℕ) (operands : List ℕ) → command_by words r operands ≡ Err PlaceTooLarge → ⊥
-by_place words (Err n) operands is = absurd (cc)
-by_place words (Ok o) operands is = unless_place (empty_operand words operands) words o operands is
-
 never_place : (words : List (List ℕ)) → AreRefused words PlaceTooLarge → ⊥
 never_place words (Unread rows f options at is) = absurd (cc)
-never_place words (Wrong rows items operands options reading is) = by_place words (options_in words items) operands is
+never_place words (Wrong rows items operands options reading is) =
+    by_else PlaceTooLarge words (options_in words items) operands (record { value = λ n same. cc; number = λ n same. cc }) is
+
+-- nor for want of memory
+never_starved : (words : List (List ℕ)) (f : WordFault) → AreRefused words (Word f) → f ≢ WordNoMemory
+never_starved words f (Unread rows g options at is) none =
+    let same : g ≡ WordNoMemory = let of : f ≡ g = cc in sym of ∙ none in
+    never_memory rows words (subst (λ (h : WordFault). WordFaultAt rows words h) same at)
+never_starved words f (Wrong rows items operands options reading is) none =
+    by_else (Word f) words (options_in words items) operands (record { value = λ n same. cc; number = λ n same. cc }) is
 
 refused_says : (words : List (List ℕ)) (fault : UsageFault) → AreRefused words fault
     → IsEarly (Usage fault) × SaysOfWords (Usage fault) words
-refused_says words (Word f) refused = (tt, refused)
+refused_says words (Word f) refused = (tt, (refused, never_starved words f refused))
 refused_says words (BadValue n) refused = (tt, refused)
 refused_says words (Operands n) refused = (tt, refused)
 refused_says words PlaceTooLarge refused = absurd (never_place words refused)
@@ -367,20 +408,44 @@ behind_says SourceLost words behind accepted = accepted
 behind_says (SiteFault call earlier) words behind accepted = accepted
 behind_says NoMemory words behind accepted = tt
 
+behind_opens : (e : Ending) (s s' : SourceState) → IsBehindWords e → s'.opens ≡ raised s.opens → OpensOnce e s s'
+behind_opens Done s s' behind once = once
+behind_opens (Usage (Word f)) s s' behind once = absurd behind
+behind_opens (Usage (BadValue n)) s s' behind once = absurd behind
+behind_opens (Usage (Operands n)) s s' behind once = absurd behind
+behind_opens (Usage PlaceTooLarge) s s' behind once = once
+behind_opens (SameName a b) s s' behind once = absurd behind
+behind_opens SourceFault s s' behind once = once
+behind_opens NotRegular s s' behind once = once
+behind_opens (MapRefused which error) s s' behind once = once
+behind_opens SourceLost s s' behind once = once
+behind_opens (SiteFault call earlier) s s' behind once = once
+behind_opens NoMemory s s' behind once = inr once
+
 -- no two files have one name
 names_pass : (c : Command) → first_same c.infile c.outfile (names_by c) ≡ None → (e : Ending) → NamesRefused c e → ⊥
 names_pass c different e (first, second, same, is) =
     let pair : Operand × Operand = (first, second) in
     let never : None ≡ Some pair = sym different ∙ same in absurd (cc)
 
+pub named_apart : (words : List (List ℕ)) (c : Command) → IsAsked words c → first_same c.infile c.outfile (names_by c) ≡ None
+    → (first second : Operand) → NameOneFileTwice words first second → ⊥
+named_apart words c a different first second twice =
+    let P : Command → Type 0 = λ x. first_same x.infile x.outfile (names_by x) ≡ Some (first, second) in
+    names_pass c different (SameName first second)
+    (first, second, subst P (a.alone twice.command twice.asks) twice.same, refl)
+
 work_promised : (c : Command) (t : Told) → Asks t.words c → first_same c.infile c.outfile (names_by c) ≡ None
-    → (IsTrue t.source.tells → IsOpenedAs t.answer c.infile t.source t.source')
+    → (IsTrue t.source.tells → IsOpenedAs t.answer c.infile t.source t.source') → OpensOnce t.answer t.source t.source'
+    → (IsTrue t.source.is_planned → IsRefusedByPlan t.answer c.infile t.source.plan)
     → Worked (asked c t) (files_of t) t.answer (across_of t) → Promise c t
-work_promised c t asks different opened w =
+work_promised c t asks different input opened refused w =
     let on : AllTell t → WorkedOn (asked c t) (files_of t) t.answer (across_of t) =
     λ tell. w.told (record { source = tell.source; site = tell.site; clock = tell.clock }) in
     record {
-      input = opened;
+      input = input;
+      opened = opened;
+      refused = refused;
       read = w.read;
       places = w.placed;
       files = w.allowed;
@@ -393,13 +458,16 @@ work_promised c t asks different opened w =
 pub work_kept : (t : Told) (c : Command) (i o : List ℕ) (n : Option MapNames) (l : List ℕ) (w : Options) → IsAsked t.words c → i ≡ c.infile
     → o ≡ c.outfile → n ≡ names_by c → l ≡ command_line t.words → w ≡ c.options → first_same c.infile c.outfile (names_by c) ≡ None
     → IsBehindWords t.answer → Causes t.answer t.source t.source' t.site t.site'
-    → (IsTrue t.source.tells → IsOpenedAs t.answer i t.source t.source')
+    → (IsTrue t.source.tells → IsOpenedAs t.answer i t.source t.source') → t.source'.opens ≡ raised t.source.opens
+    → (IsTrue t.source.is_planned → IsRefusedByPlan t.answer i t.source.plan)
     → Worked (setting_with i o n l w (length t.source.bytes)) (files_of t) t.answer (across_of t)
     → t.site'.is_drafting ≡ drafting_left t.answer → SourceKeeps t.source t.source' → SiteKeeps t.site t.site'
     → ClockKeeps t.clock t.clock' → Says t → Ddrescue t
-work_kept t c i o n l w a is_i is_o is_n is_l is_w different behind cause opened worked draft keeps keeps' keeps_clock says =
+work_kept t c i o n l w a is_i is_o is_n is_l is_w different behind cause input once refused worked draft keeps keeps' keeps_clock says =
     let done : Worked (asked c t) (files_of t) t.answer (across_of t) = rw (is_i, is_o, is_n, is_l, is_w) at worked in
-    let kept : Promise c t = work_promised c t a.asks different (λ tells. rw is_i at (opened tells)) done in
+    let kept : Promise c t =
+    work_promised c t a.asks different (λ tells. rw is_i at (input tells)) (behind_opens t.answer t.source t.source' behind once)
+    (λ planned. rw is_i at (refused planned)) done in
     record {
       words = behind_says t.answer t.words behind (record { command = c; asks = a.asks; apart = different });
       cause = cause;
@@ -413,11 +481,15 @@ work_kept t c i o n l w a is_i is_o is_n is_l is_w different behind cause opened
     }
 
 -- whether something is to be said
-pub may_say : (words : List (List ℕ)) (e : Ending) (quiet : Bool) → (AskQuiet words ↔ (quiet ≡ true)) → MaySay words e quiet
-may_say words e quiet asks = record {
+pub may_say : (words : List (List ℕ)) (e : Ending) (quiet : Bool) (untouched : Type 0) → (AskQuiet words ↔ (quiet ≡ true))
+    → MaySay words e quiet untouched
+may_say words e quiet untouched asks = record {
   silent = λ on. asks.1 on;
   loud = λ off is. absurd (let never : true ≡ false = sym (asks.0 is) ∙ off in cc);
 }
 
-pub may_starve : (words : List (List ℕ)) → MaySay words NoMemory false
-may_starve words = record { silent = λ on. absurd (let never : false ≡ true = on in cc); loud = λ off is. refl }
+pub may_starve : (words : List (List ℕ)) (untouched : Type 0) → untouched → MaySay words NoMemory false untouched
+may_starve words untouched holds = record {
+  silent = λ on. absurd (let never : false ≡ true = on in cc);
+  loud = λ off is. (refl, holds);
+}

@@ -31,7 +31,7 @@ use Rattle.ddrescue_cli.specs.declared.ending.Ending.{Ending}
 use Rattle.ddrescue_cli.specs.declared.ending.Ending.TheVariants.{Done, SourceLost, SiteFault, NoMemory}
 use Rattle.rescue_command.specs.declared.options.Options.{Options}
 use Rattle.ddrescue_cli.specs.Asked.{setting_with}
-use Rattle.ddrescue_cli.specs.Alone.{IsFrom, IsRefusal, HasRead}
+use Rattle.ddrescue_cli.specs.Alone.{IsFrom, IsBeforeReads, HasRead}
 use Rattle.ddrescue_cli.specs.Work.{answer_of}
 use Rattle.ddrescue_cli.specs.Steps.{Across, TellAll, RanOn, Ran}
 use Rattle.ddrescue_cli.specs.Copying.{settings_by, IsRunOver, EndsCalls, WentToEnd}
@@ -147,7 +147,7 @@ ran_told s statuses state moment end o before w first small tell =
     }
 
 -- an answer of a run is no refusal
-run_refused : (end : RunEnd) → IsRefusal (answer_of end) → ⊥
+run_refused : (end : RunEnd) → IsBeforeReads (answer_of end) → ⊥
 run_refused Finished refused = refused
 run_refused (Stopped InputLost) refused = refused
 run_refused (Stopped (Site call)) refused = refused

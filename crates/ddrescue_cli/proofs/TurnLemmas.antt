@@ -39,11 +39,13 @@ source_stays a b c f g = record {
     may_lose = g.keeps.may_lose ∙ f.keeps.may_lose;
     planned = g.keeps.planned ∙ f.keeps.planned;
     bytes = λ tells. g.keeps.bytes (rw f.keeps.tells tells) ∙ f.keeps.bytes tells;
+    opens = omega (arith, f.keeps.opens, g.keeps.opens);
     faults = omega (arith, f.keeps.faults, g.keeps.faults);
     losses = omega (arith, f.keeps.losses, g.keeps.losses);
   };
   input = g.input ∙ f.input;
   name = λ tells. g.name (rw f.keeps.tells tells) ∙ f.name tells;
+  opens = g.opens ∙ f.opens;
   faults = g.faults ∙ f.faults;
 }
 
@@ -227,11 +229,13 @@ turning_begun r a d k begun input image no_draft = record {
       may_lose = refl;
       planned = refl;
       bytes = λ tells. refl;
+      opens = omega arith;
       faults = omega arith;
       losses = omega arith;
     };
     input = refl;
     name = λ tells. refl;
+    opens = refl;
     faults = refl;
   };
   site = record { tells = refl; start = λ tells. refl; planned = refl; later = omega arith };

@@ -22,19 +22,19 @@ abbrev pub IsFrom : (bytes : List ℕ) → Reading → Type 0
 IsFrom bytes r = r.given ≡ slice_range bytes r.pos (r.pos + length r.given)
 
 -- a refusal, which comes before the first read
-abbrev pub IsRefusal : Ending → Type 0
-IsRefusal Done = ⊥
-IsRefusal (Usage fault) = ⊤
-IsRefusal (SameName first second) = ⊤
-IsRefusal SourceFault = ⊤
-IsRefusal NotRegular = ⊤
-IsRefusal (MapRefused which error) = ⊤
-IsRefusal SourceLost = ⊥
-IsRefusal (SiteFault call earlier) = ⊥
-IsRefusal NoMemory = ⊥
+abbrev pub IsBeforeReads : Ending → Type 0
+IsBeforeReads Done = ⊥
+IsBeforeReads (Usage fault) = ⊤
+IsBeforeReads (SameName first second) = ⊤
+IsBeforeReads SourceFault = ⊤
+IsBeforeReads NotRegular = ⊤
+IsBeforeReads (MapRefused which error) = ⊤
+IsBeforeReads SourceLost = ⊥
+IsBeforeReads (SiteFault call earlier) = ⊥
+IsBeforeReads NoMemory = ⊥
 
--- The reads are those of a run over some map, and gave the input's own bytes; there is none before a refusal, and no pass has
--- a request left where the rescue is done.
+-- The reads are those of a run over some map, and gave the input's own bytes; there is none before a refusal, and no
+-- pass has a request left where the rescue is done.
 pub record HasRead (s : Setting) (e : Ending) (source source' : SourceState) : Type 0 where
   pub start : Machine
   pub events : List Event
@@ -42,19 +42,21 @@ pub record HasRead (s : Setting) (e : Ending) (source source' : SourceState) : T
   pub gained : source'.journal ≡ source.journal ++ reads_of events
   pub run : IsRun s start events
   pub right : All (IsFrom source.bytes) (reads_of events)
-  pub refused : IsRefusal e → events ≡ []
+  pub refused : IsBeforeReads e → events ≡ []
   pub done : e ≡ Done → is_over s (state_after s start events) ≡ true
 
--- the output is a regular file or absent, or something else is allowed
+-- what the failure of a call shows of the files, where it comes once the output is open: the output is a regular file
+-- or absent, or something else is allowed
 pub record OutputPasses (s : Setting) (files : List ℕ → Option File) : Type 0 where
   pub regular : s.forced ≡ false → is_other (files s.outfile) ≡ false
 
--- and the mapfile isn't refused, if there is one
+-- and where it comes once the mapfile is read, too: nor is the mapfile refused, if there is one
 pub record MapfilePasses (s : Setting) (files : List ℕ → Option File) : Type 0 where
   pub output : OutputPasses s files
   pub accepted : (e : Ending) → MapfileRefused (mapfile_in s files) e → ⊥
 
--- a call that failed: once the output is open it is regular, and once the mapfile is read it isn't refused
+-- what the failure of a call shows of the files, by when such a call comes first: nothing at the open of the output,
+-- something of the output up to the reads of the mapfile, and of both files behind them
 abbrev pub CallPasses : SiteCall → Setting → (files : List ℕ → Option File) → Type 0
 CallPasses ImageOpen s files = ⊤
 CallPasses ImageRead s files = MapfilePasses s files
@@ -131,6 +133,21 @@ FilesAllow NoMemory s files = ⊤
 abbrev pub ArePlaced : Setting → Type 0
 ArePlaced s = (e : Ending) → PlacesRefused s e → ⊥
 
+-- what the failure of a call shows of these places: each has been looked at before the first read and write, and before
+-- the first draft
+abbrev pub CallPlaced : SiteCall → Setting → Type 0
+CallPlaced ImageOpen s = ⊤
+CallPlaced ImageRead s = ArePlaced s
+CallPlaced ImageWrite s = ArePlaced s
+CallPlaced ImageSync s = ⊤
+CallPlaced MapRead s = ⊤
+CallPlaced DraftBegin s = ArePlaced s
+CallPlaced DraftAppend s = ArePlaced s
+CallPlaced DraftSync s = ArePlaced s
+CallPlaced DraftPublish s = ArePlaced s
+CallPlaced MapSettle s = ⊤
+CallPlaced MapRemove s = ArePlaced s
+
 -- what an answer says of these places
 abbrev pub PlacesAllow : Ending → Setting → Type 0
 PlacesAllow Done s = ArePlaced s
@@ -143,5 +160,5 @@ PlacesAllow SourceFault s = ⊤
 PlacesAllow NotRegular s = ⊤
 PlacesAllow (MapRefused which error) s = ⊤
 PlacesAllow SourceLost s = ArePlaced s
-PlacesAllow (SiteFault call earlier) s = ⊤
+PlacesAllow (SiteFault call earlier) s = CallPlaced call s
 PlacesAllow NoMemory s = ⊤

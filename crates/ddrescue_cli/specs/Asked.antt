@@ -15,15 +15,16 @@ output_from o = unwrap_or o.output_position o.input_position
 abbrev pub place_by : Options → ℕ → ℕ
 place_by o x = x - o.input_position + output_from o
 
--- each position that is asked for of an input with this length ends in the output below 2^63; or one doesn't
+-- each position that is asked for of an input with this length ends in the output below 2^63
 abbrev pub ArePlacedBy : Options → (end : ℕ) → Type 0
 ArePlacedBy o end = (x : ℕ) → whole_domain o.input_position o.size end x ≡ true → place_by o x < 2 ^ 63 - 1
 
+-- one of these positions would end there at 2^63 or behind it
 abbrev pub IsBeyond : Options → (end : ℕ) → Type 0
 IsBeyond o end = (x : ℕ) × (whole_domain o.input_position o.size end x ≡ true) × (2 ^ 63 ≤ place_by o x + 1)
 
--- What files with these names, this command line and these options ask for of an input with this length: each position of
--- the input from the input position on, and no more than the size; sector by sector, and no more than copying.
+-- What files with these names, this command line and these options ask for of an input with this length: each position
+-- of the input from the input position on, and no more than the size; sector by sector, and no more than copying.
 abbrev pub setting_with : (infile outfile : List ℕ) → Option MapNames → (line : List ℕ) → Options → (end : ℕ) → Setting
 setting_with infile outfile names line o end = record {
   infile = infile;

@@ -1,9 +1,10 @@
--- The promise of `ddrescue`, field by field. What an object tells is its own: the forms in memory tell all, those for real
--- files their counts and what is open.
+-- The promise of `ddrescue`, field by field. What an object tells is its own: the forms in memory tell all, those for
+-- real files their counts and what is open.
 use Rattle.std.specs.Prelude.{◌≡◌, ◌≢◌, ◌⊎◌, ◌++◌, true, IsTrue}
 use Rattle.faulty_source.specs.SourceState.{Keeps as SourceKeeps}
 use Rattle.crash_site.specs.SiteState.{files_in, Keeps as SiteKeeps}
 use Rattle.rescue_console.specs.ClockState.{Keeps as ClockKeeps}
+use Rattle.fault_count.specs.Plan.{counted}
 use Rattle.rescue_console.specs.ConsoleState.{Puts, PutsPart}
 use Rattle.rescue_console.specs.declared.console.Channel.TheVariants.{Err}
 use Rattle.rescue_rules.specs.Stops.{StopsSafely}
@@ -13,7 +14,7 @@ use Rattle.ddrescue_cli.specs.Messages.{message}
 use Rattle.ddrescue_cli.specs.Told.{Told, AllTell, what_was_done, calls_before, files_of, asked}
 use Rattle.ddrescue_cli.specs.Alone.{HasRead, PlacesAllow, FilesAllow, IsLeft}
 use Rattle.ddrescue_cli.specs.Work.{Works}
-use Rattle.ddrescue_cli.specs.Answers.{SaysOfWords, Causes, IsOpenedAs, drafting_left}
+use Rattle.ddrescue_cli.specs.Answers.{SaysOfWords, Causes, IsOpenedAs, OpensOnce, IsRefusedByPlan, drafting_left, IsUntouched}
 
 -- journal, record and readings have only gained at their ends
 pub record HasGained (t : Told) : Type 0 where
@@ -21,19 +22,26 @@ pub record HasGained (t : Told) : Type 0 where
   pub calls : t.site'.calls ≡ t.site.calls ++ (what_was_done t).calls
   pub times : t.clock'.readings ≡ t.clock.readings ++ (what_was_done t).times
 
--- What is said on the console: nothing of a finished rescue, nor where that is asked for, unless the words couldn't be read
--- for want of memory; else the message of the answer, or where the console failed a beginning of it.
+-- What is said on the console: nothing of a finished rescue, nor where the words ask for that; else the message of the
+-- answer, or where the console failed a beginning of it, and it is one put. Where the words ask for that, a message
+-- comes only if memory ran out before they were read, and then nothing else was touched.
 pub data Says (t : Told) : Type 0 where
   Nothing : (t.answer ≡ Done) ⊎ AskQuiet t.words → t.console' ≡ t.console → Says t
-  Message : t.answer ≢ Done → (AskQuiet t.words → t.answer ≡ NoMemory)
-      → Puts Err (message t.answer) t.console t.console' ⊎ PutsPart Err (message t.answer) t.console t.console' → Says t
+  Message : t.answer ≢ Done
+      → (AskQuiet t.words → (t.answer ≡ NoMemory) × IsUntouched t.source t.source' t.site t.site' t.clock t.clock')
+      → Puts Err (message t.answer) t.console t.console' ⊎ PutsPart Err (message t.answer) t.console t.console'
+      → (IsTrue t.console.is_planned → t.console'.plan ≡ counted t.console.plan) → Says t
 
 -- What `ddrescue` promises of a call whose words ask for this
 pub record Promise (c : Command) (t : Told) : Type 0 where
   -- Where the input tells: what is opened is the infile.
   pub input : IsTrue t.source.tells → IsOpenedAs t.answer c.infile t.source t.source'
-  -- Where the input tells, whatever the files do: the reads are a run, which gave the input's own bytes, and there is none
-  -- before a refusal;
+  -- Whether the input tells or not: it is opened once, and no other is.
+  pub opened : OpensOnce t.answer t.source t.source'
+  -- Where the input fails by a plan: an infile that is refused is one whose own opening fails by that.
+  pub refused : IsTrue t.source.is_planned → IsRefusedByPlan t.answer c.infile t.source.plan
+  -- Where the input tells, whatever the files do: the reads are a run, which gave the input's own bytes, and there is
+  -- none before a refusal;
   pub read : IsTrue t.source.tells → HasRead (asked c t) t.answer t.source t.source'
   -- and each position has its place in the output, unless the answer says that one has none.
   pub places : IsTrue t.source.tells → PlacesAllow t.answer (asked c t)
@@ -41,18 +49,18 @@ pub record Promise (c : Command) (t : Told) : Type 0 where
   pub files : IsTrue t.site.tells → FilesAllow t.answer (asked c t) (files_of t)
   -- and what an answer before the first read leaves: every file as it was, but that an absent output was made.
   pub left : IsTrue t.site.tells → IsLeft t.answer c.outfile (files_of t) (files_in t.site')
-  -- Where all tell: the answer is the first refusal of the work, or how its run ended; and the calls on the files, the reads
-  -- and the readings of the clock are those of the work up to there.
+  -- Where all tell: the answer is the first refusal of the work, or how its run ended; and the calls on the files, the
+  -- reads and the readings of the clock are those of the work up to there.
   pub work : AllTell t → Works c (asked c t) (files_of t) t.answer (what_was_done t)
-  -- Where all tell: at whatever moment a rescue with a mapfile is stopped, what is found could be found before, until the
-  -- barrier has returned; from then on the mapfile found is the one it began with or one that it saved, no older than the
-  -- last save that had returned, and the output holds what that mapfile promises.
+  -- Where all tell: at whatever moment a rescue with a mapfile is stopped, what is found could be found before, until
+  -- the barrier has returned; from then on the mapfile found is the one it began with or one that it saved, no older
+  -- than the last save that had returned, and the output holds what that mapfile promises.
   pub stops : AllTell t → (asked c t).has_mapfile ≡ true → StopsSafely (calls_before t) (asked c t) (what_was_done t)
 
 -- What `ddrescue` promises of a call, by all that is told of it
 pub record Ddrescue (t : Told) : Type 0 where
-  -- Words that ask for no rescue, or name two files of one name, are refused, whatever the objects tell; only memory may
-  -- run out before.
+  -- Words that ask for no rescue, or name two files of one name, are refused, whatever the objects tell; only memory
+  -- may run out before.
   pub words : SaysOfWords t.answer t.words
   -- Each answer has its cause: a fault is answered exactly where its count rose, and no other answer hides one.
   pub cause : Causes t.answer t.source t.source' t.site t.site'
@@ -63,7 +71,8 @@ pub record Ddrescue (t : Told) : Type 0 where
   pub draft : t.site'.is_drafting ≡ drafting_left t.answer
   -- What is said on the console is the message of the answer.
   pub says : Says t
-  -- What was told before stays; and where all tell, the journal, the record and the readings have only gained at their ends.
+  -- What was told before stays; and where all tell, the journal, the record and the readings have only gained at their
+  -- ends.
   pub source : SourceKeeps t.source t.source'
   pub site : SiteKeeps t.site t.site'
   pub clock : ClockKeeps t.clock t.clock'

@@ -27,7 +27,8 @@ HoldsAtEnd =
     (t : Told) (c : Command) (began : List Status) (state : Option MapState) → Ddrescue t → Asks t.words c → AllTell t
     → (asked c t).has_mapfile ≡ true → has_barrier (what_was_done t).calls ≡ true
     → Stands (files_of t (asked c t).names.map) (length t.source.bytes) began state
-    → IsKept (calls_before t) (asked c t) (what_was_done t) began state (length (what_was_done t).calls) (files_in t.site')
+    → IsKept (calls_before t) (asked c t) (what_was_done t) began state (length (what_was_done t).calls)
+    (files_in t.site')
 
 -- the state that a rescue came to over a map, and the state that its mapfile showed
 abbrev pub comes_to : Command → Told → List Status → Option MapState → Machine
@@ -44,17 +45,21 @@ pub record IsFinished (c : Command) (t : Told) : Type 0 where
   pub over : is_over (asked c t) (comes_to c t statuses state) ≡ true
   -- the mapfile, if there is one, is the map of all reads, and says that it is finished
   pub mapfile : (asked c t).has_mapfile ≡ true → files_in t.site' (asked c t).names.map
-      ≡ Some (record { bytes = text_of (command_line t.words) (finished_snapshot (comes_to c t statuses state)); regular = true })
+      ≡ Some (record {
+        bytes = text_of (command_line t.words) (finished_snapshot (comes_to c t statuses state));
+        regular = true;
+      })
   -- and the output holds what that map promises
-  pub held : Held (asked c t) (what_was_done t).reads (bytes_of (files_of t c.outfile)) (comes_to c t statuses state).map
+  pub held : Held (asked c t) (what_was_done t).reads (bytes_of (files_of t c.outfile))
+      (comes_to c t statuses state).map
       (bytes_of (files_in t.site' c.outfile))
 
 -- A finished rescue leaves that.
 abbrev pub DoneIsSaved : Type 0
 DoneIsSaved = (t : Told) (c : Command) → Ddrescue t → Asks t.words c → AllTell t → t.answer ≡ Done → IsFinished c t
 
--- What the reads gave is the input's own, where the input tells. So what a saved map calls finished, and the reads gave,
--- stands in the output as it stands in the input.
+-- What the reads gave is the input's own, where the input tells. So what a saved map calls finished, and the reads
+-- gave, stands in the output as it stands in the input.
 abbrev pub GivenIsInput : Type 0
 GivenIsInput = (t : Told) (c : Command) (x b : ℕ) → Ddrescue t → Asks t.words c → IsTrue t.source.tells
     → given c.options.sector (what_was_done t).reads x ≡ Some b → slice_get t.source.bytes x ≡ Some b

@@ -18,9 +18,10 @@ use Rattle.ddrescue_cli.specs.Asked.{names_by}
 -- two files have one name
 abbrev pub NamesRefused : Command → Ending → Type 0
 NamesRefused c e =
-    (first second : Operand) × (first_same c.infile c.outfile (names_by c) ≡ Some (first, second)) × (e ≡ SameName first second)
+    (first second : Operand) × (first_same c.infile c.outfile (names_by c) ≡ Some (first, second))
+    × (e ≡ SameName first second)
 
--- the infile can't be opened: the count of its faults says so
+-- the infile can't be opened, which is no matter of the words or the files
 abbrev pub InputRefused : Ending → Type 0
 InputRefused e = e ≡ SourceFault
 

@@ -44,11 +44,13 @@ pub record Fits (end : ℕ) (map : List Status) (state : Option MapState) : Type
 -- why the outfile was refused: no regular file stands there though one has to, or the open failed
 abbrev pub OutputStop : Ending → List ℕ → (forced : Bool) → (old new : SiteState) → Type 0
 OutputStop e out forced old new =
-    ((e ≡ NotRegular) × (forced ≡ false) × (IsTrue old.tells → is_other (files_in old out) ≡ true) × Makes (image_open out true ∷ []) old new)
+    ((e ≡ NotRegular) × (forced ≡ false) × (IsTrue old.tells → is_other (files_in old out) ≡ true)
+    × Makes (image_open out true ∷ []) old new)
     ⊎ ((e ≡ SiteFault ImageOpen None) × Breaks ImageOpen (image_open out true ∷ []) old new)
 
 -- a load behind the barrier went on to its end: the mapfile isn't refused, and stands for this map
-pub record Started (names : MapNames) (file : Option File) (end : ℕ) (map : List Status) (state : Option MapState) (calls calls' : List Entry) : Type 0 where
+pub record Started (names : MapNames) (file : Option File) (end : ℕ) (map : List Status) (state : Option MapState)
+    (calls calls' : List Entry) : Type 0 where
   pub load : List Call
   pub is_load : IsLoad names.map file load
   pub made : Made (barrier_calls names ++ load) calls calls'
@@ -61,10 +63,10 @@ pub data LoadStopped (names : MapNames) (file : Option File) (e : Ending) (calls
       → LoadStopped names file e calls calls'
   InRead : (load : List Call) → e ≡ SiteFault MapRead None → BeginsLoad names.map file load
       → BrokeAt MapRead (barrier_calls names ++ load) calls calls' → LoadStopped names file e calls calls'
-  Starved : (load : List Call) → e ≡ NoMemory → BeginsLoad names.map file load → Made (barrier_calls names ++ load) calls calls'
-      → LoadStopped names file e calls calls'
-  Refused : (load : List Call) → MapfileRefused file e → IsLoad names.map file load → Made (barrier_calls names ++ load) calls calls'
-      → LoadStopped names file e calls calls'
+  Starved : (load : List Call) → e ≡ NoMemory → BeginsLoad names.map file load
+      → Made (barrier_calls names ++ load) calls calls' → LoadStopped names file e calls calls'
+  Refused : (load : List Call) → MapfileRefused file e → IsLoad names.map file load
+      → Made (barrier_calls names ++ load) calls calls' → LoadStopped names file e calls calls'
 
 -- What a load did, by its outcome: with a mapfile it went on to its end or stopped; without one nothing was done but to
 -- take memory.
@@ -80,7 +82,8 @@ Loaded None end (Err e) old new = (new ≡ old) × (e ≡ NoMemory)
 abbrev pub LoadCause : Ending → (faults faults' : ℕ) → Type 0
 LoadCause e faults faults' =
     ((e ≡ NoMemory) × (faults' ≡ faults))
-    ⊎ ((error : MapError) × (e ≡ MapRefused RunMap error) × (error ≢ NoStatusLine) × (error ≢ OutOfMemory) × (faults' ≡ faults))
+    ⊎ ((error : MapError) × (e ≡ MapRefused RunMap error) × (error ≢ NoStatusLine) × (error ≢ OutOfMemory)
+    × (faults' ≡ faults))
     ⊎ ((call : SiteCall) × (e ≡ SiteFault call None) × IsResumeCall call × Rose faults faults')
 
 -- what the objects tell before something was done, and behind it
@@ -106,7 +109,8 @@ pub record Gains (o : Across) (g : Gain) : Type 0 where
   pub fit : AreTimes g.times
 
 -- what a run did over a map that it began with, up to its end or to where it stopped
-pub record RanOn (s : Setting) (statuses : List Status) (state : Option MapState) (e : Ending) (o : Across) : Type 0 where
+pub record RanOn (s : Setting) (statuses : List Status) (state : Option MapState) (e : Ending)
+    (o : Across) : Type 0 where
   pub gain : Gain
   pub gains : Gains o gain
   pub runs : RunsOver s statuses state e gain

@@ -46,9 +46,11 @@ Then calls Q e g =
 -- A mapfile is read, and the work goes on, unless a read fails or memory runs out.
 abbrev pub ThenRead : List ℕ → Option File → (Ending → Gain → Type 0) → Ending → Gain → Type 0
 ThenRead name file Q e g =
-    ((load : List Call) × (e ≡ SiteFault MapRead None) × BeginsLoad name file load × BrokeAt MapRead load [] g.calls × HasOnlyCalls g)
+    ((load : List Call) × (e ≡ SiteFault MapRead None) × BeginsLoad name file load × BrokeAt MapRead load [] g.calls
+    × HasOnlyCalls g)
     ⊎ ((load : List Call) × (e ≡ NoMemory) × BeginsLoad name file load × (g.calls ≡ map Returned load) × HasOnlyCalls g)
-    ⊎ ((load : List Call) × (rest : List Entry) × IsLoad name file load × (g.calls ≡ map Returned load ++ rest) × Q e (record g { calls = rest }))
+    ⊎ ((load : List Call) × (rest : List Entry) × IsLoad name file load × (g.calls ≡ map Returned load ++ rest)
+    × Q e (record g { calls = rest }))
 
 -- the answer of a run that ended so
 abbrev pub answer_of : RunEnd → Ending
@@ -80,7 +82,8 @@ ThenLoad s files Q e g =
 -- the run over the map that the mapfile stands for, or no mapfile
 abbrev pub ThenRun : Setting → Option File → Ending → Gain → Type 0
 ThenRun s mapfile e g =
-    (statuses : List Status) × (state : Option MapState) × Stands mapfile s.end statuses state × RunsOver s statuses state e g
+    (statuses : List Status) × (state : Option MapState) × Stands mapfile s.end statuses state
+    × RunsOver s statuses state e g
 
 -- the work behind the words, over files as they read before it
 abbrev pub WorksOn : Setting → (List ℕ → Option File) → Ending → Gain → Type 0

@@ -1,5 +1,6 @@
 pub mod LawLemmas
 pub mod MeantLemmas
+pub mod MemoryLemmas
 pub mod OperandLemmas
 pub mod ReadLemmas
 pub mod ResultLemmas

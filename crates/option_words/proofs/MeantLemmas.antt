@@ -1,5 +1,5 @@
 -- What words mean depends on the letters and names of the rows and on whether they take a value, and on nothing else.
-use Rattle.std.proofs.Common.{◌≡◌, ◌⊎◌, inl, inr, ℕ, ◌+◌, Bool, cond, List, [], ◌∷◌, length, map, drop, nat_eq, count_by, Option, Some, None, Result, Ok, Err, refl, sym, ◌∙◌, ap}
+use Rattle.std.proofs.Common.{◌≡◌, inl, inr, ℕ, ◌+◌, Bool, cond, List, [], ◌∷◌, map, drop, nat_eq, count_by, Option, Some, None, refl, sym, ◌∙◌, ap}
 use Rattle.std.specs.Char.{len_utf8}
 use Rattle.std.specs.Str.{bytes_eq, chars}
 use Rattle.std.specs.List.{starts_with, fold}
@@ -14,7 +14,7 @@ use Rattle.option_words.specs.declared.reader.Next.TheVariants.{Anything, Value,
 use Rattle.option_words.specs.declared.fault.WordFault.{WordFault}
 use Rattle.option_words.specs.Forms.{form_of}
 use Rattle.option_words.specs.Rows.{meaning_of_row, is_letter, has_letter, has_name, begins_with, first_row, chosen_of, chosen_by_name}
-use Rattle.option_words.specs.Meanings.{Brought, letter_meaning, letters_meaning, equals_sign, name_before, value_after, choice_meaning, name_meaning, form_meaning, meaning}
+use Rattle.option_words.specs.Meanings.{letter_meaning, letters_meaning, equals_sign, name_before, value_after, choice_meaning, name_meaning, form_meaning, meaning}
 use Rattle.option_words.specs.Reading.{Bring, Breaks}
 use Rattle.option_words.specs.Laws.{ReadingDependsOnMeanings, FaultDependsOnMeanings}
 

@@ -1,5 +1,5 @@
 -- The operands of a reading are words.
-use Rattle.std.proofs.Common.{◌≡◌, ◌⊎◌, inl, inr, ℕ, ◌+◌, ◌<◌, ◌≤◌, List, [], ◌∷◌, ◌++◌, length, drop, All, Option, Some, None, Result, Ok, Err, refl, sym, ◌∙◌, ap, subst, arith}
+use Rattle.std.proofs.Common.{◌≡◌, ◌⊎◌, inl, inr, ℕ, ◌+◌, ◌<◌, ◌≤◌, List, [], ◌∷◌, length, drop, All, Option, Some, None, Result, Ok, Err, refl, sym, ◌∙◌, ap, subst, arith}
 use Rattle.std.proofs.lemmas.List.Elements.{All-nil, All-cons, All-append, All-weaker}
 use Rattle.std.specs.Char.{len_utf8}
 use Rattle.std.specs.Str.{chars}
@@ -103,7 +103,8 @@ words_bring rows next n (w ∷ ws) is os p =
     let behind : All (Between (n + 1) (n + 1 + length ws)) p.2 = words_bring rows p.0.next (n + 1) ws p.1 p.2 p.6 in
     let wider : (k : ℕ) → Between (n + 1) (n + 1 + length ws) k → Between n m k = λ k b.
     let from = b.from in let below = b.below in record { from = omega arith; below = omega arith } in
-    subst (All (Between n m)) (sym p.5) (All-append (Between n m) p.0.operands p.2 first (All-weaker (Between (n + 1) (n + 1 + length ws)) (Between n m) wider p.2 behind))
+    let all : All (Between n m) p.2 = All-weaker (Between (n + 1) (n + 1 + length ws)) (Between n m) wider p.2 behind in
+    subst (All (Between n m)) (sym p.5) (All-append (Between n m) p.0.operands p.2 first all)
 
 pub operands_words : OperandsAreWords
 operands_words rows words is os p =

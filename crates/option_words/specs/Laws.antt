@@ -2,6 +2,7 @@ use Rattle.std.specs.Prelude.{◌≡◌, ◌⊎◌, ℕ, ◌<◌, ◌≤◌, tru
 use Rattle.option_words.specs.declared.row.Row.{Row}
 use Rattle.option_words.specs.declared.reading.Item.{Item}
 use Rattle.option_words.specs.declared.fault.WordFault.{WordFault}
+use Rattle.option_words.specs.declared.fault.WordFault.TheVariants.{NoMemory}
 use Rattle.option_words.specs.Reading.{IsReading, WordFaultAt}
 use Rattle.option_words.specs.Rows.{meaning_of_row}
 use Rattle.option_words.specs.Tables.{is_table}
@@ -22,6 +23,10 @@ abbrev pub ReadingHasNoFault : Type 0
 ReadingHasNoFault =
     (rows : List Row) (words : List (List ℕ)) (items : List Item) (operands : List ℕ) (fault : WordFault)
     → IsReading rows words items operands → WordFaultAt rows words fault → ⊥
+
+-- no words have want of memory as their fault
+abbrev pub NoWordsLackMemory : Type 0
+NoWordsLackMemory = (rows : List Row) (words : List (List ℕ)) → WordFaultAt rows words NoMemory → ⊥
 
 -- words have a reading or a fault
 abbrev pub IsReadOrHasFault : Type 0

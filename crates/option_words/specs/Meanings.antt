@@ -67,6 +67,7 @@ letter_by Never row n at rest further = with_flag row n further
 letter_by Always row n at rest further = option_meaning Always row n (value_behind n at rest)
 letter_by Optional row n at rest further = option_meaning Optional row n (value_behind n at rest)
 
+-- a letter by the row that has it
 abbrev pub letter_meaning :
     Option Chosen → (n c at : ℕ) → (rest : List ℕ) → Result Brought WordFault → Result Brought WordFault
 letter_meaning None n c at rest further = Err (UnknownShort n c)
@@ -93,6 +94,7 @@ abbrev pub value_after : ℕ → Option ℕ → Option Spot
 value_after n None = None
 value_after n (Some k) = Some (record { word = n; from = k + 3 })
 
+-- a long name by the row that it means
 abbrev pub choice_meaning : Choice → ℕ → Option Spot → Result Brought WordFault
 choice_meaning (One chosen) n value = option_meaning chosen.takes chosen.row n value
 choice_meaning Unknown n value = Err (UnknownLong n)

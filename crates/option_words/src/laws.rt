@@ -1,5 +1,5 @@
 //! What the definitions mean.
-ghost use Rattle.option_words.specs.Laws.{FaultDependsOnMeanings, HasOneFault, HasOneReading, IsReadOrHasFault, OperandsAreWords, ReadingDependsOnMeanings, ReadingHasNoFault, TableRowsAreApart, TableRowsFit};
+ghost use Rattle.option_words.specs.Laws.{FaultDependsOnMeanings, HasOneFault, HasOneReading, IsReadOrHasFault, NoWordsLackMemory, OperandsAreWords, ReadingDependsOnMeanings, ReadingHasNoFault, TableRowsAreApart, TableRowsFit};
 
 /// No words have two readings.
 pub fn words_have_one_reading()
@@ -14,6 +14,11 @@ pub fn words_have_one_fault()
 /// Words that have a reading are never refused.
 pub fn words_that_are_read_have_no_fault()
     ensures { ReadingHasNoFault }
+{}
+
+/// Want of memory is no fault of words.
+pub fn words_never_lack_memory()
+    ensures { NoWordsLackMemory }
 {}
 
 /// All words have a reading or a fault.

@@ -136,42 +136,45 @@ output_keeps o n b = record { sound = output_limits o n b; quiet = or_false o.qu
 size_keeps : (o : Options) (n : ℕ) → Keeps o 5 (size_in o n)
 size_keeps o n = record { sound = same_limits o (size_in o n) refl refl refl; quiet = or_false o.quiet }
 
-none_keeps : (o : Options) (row : ℕ) → nat_eq row 4 ≡ false → Keeps o row o
-none_keeps o row e = record { sound = λ h. h; quiet = or_false o.quiet ∙ ap (λ b. o.quiet || b) (sym e) }
+none_keeps : (o : Options) → Keeps o 0 o
+none_keeps o = record { sound = λ h. h; quiet = or_false o.quiet }
 
 -- an option by which of the tests its row passes
-row_keeps_by : (o o' : Options) (row : ℕ) (text : List ℕ) (b1 b2 b3 b4 b5 : Bool)
+row_keeps_by : (o o' : Options) (row : ℕ) (text : List ℕ) (b0 b1 b2 b3 b4 b5 : Bool) → (b0 ≡ true → row ≡ 0)
     → (b1 ≡ true → row ≡ 1) → (b2 ≡ true → row ≡ 2) → (b3 ≡ true → row ≡ 3) → (b4 ≡ true → row ≡ 4) → (b5 ≡ true → row ≡ 5)
-    → nat_eq row 4 ≡ b4
-    → cond b1 (Some (forced_in o)) (cond b2 (option_map (input_in o) (size_by o text)) (cond b3 (option_map (output_in o) (size_by o text))
-    (cond b4 (Some (quiet_in o)) (cond b5 (option_map (size_in o) (size_by o text)) (Some o))))) ≡ Some o'
+    → cond b0 (Some o) (cond b1 (Some (forced_in o)) (cond b2 (option_map (input_in o) (size_by o text))
+    (cond b3 (option_map (output_in o) (size_by o text)) (cond b4 (Some (quiet_in o))
+    (cond b5 (option_map (size_in o) (size_by o text)) None))))) ≡ Some o'
     → Keeps o row o'
-row_keeps_by o o' row text true b2 b3 b4 b5 is1 is2 is3 is4 is5 t e =
+row_keeps_by o o' row text true b1 b2 b3 b4 b5 is0 is1 is2 is3 is4 is5 e =
+    let same : o ≡ o' = cc in
+    subst (Keeps o row) same (subst (λ r. Keeps o r o) (sym (is0 refl)) (none_keeps o))
+row_keeps_by o o' row text false true b2 b3 b4 b5 is0 is1 is2 is3 is4 is5 e =
     let same : forced_in o ≡ o' = cc in
     subst (Keeps o row) same (subst (λ r. Keeps o r (forced_in o)) (sym (is1 refl)) (forced_keeps o))
-row_keeps_by o o' row text false true b3 b4 b5 is1 is2 is3 is4 is5 t e =
+row_keeps_by o o' row text false false true b3 b4 b5 is0 is1 is2 is3 is4 is5 e =
     let p = map_part (input_in o) (size_by o text) o' e in
     let b : p.0 < 2 ^ 63 = size_by_below o text p.0 p.1 in
     subst (Keeps o row) p.2 (subst (λ r. Keeps o r (input_in o p.0)) (sym (is2 refl)) (input_keeps o p.0 b))
-row_keeps_by o o' row text false false true b4 b5 is1 is2 is3 is4 is5 t e =
+row_keeps_by o o' row text false false false true b4 b5 is0 is1 is2 is3 is4 is5 e =
     let p = map_part (output_in o) (size_by o text) o' e in
     let b : p.0 < 2 ^ 63 = size_by_below o text p.0 p.1 in
     subst (Keeps o row) p.2 (subst (λ r. Keeps o r (output_in o p.0)) (sym (is3 refl)) (output_keeps o p.0 b))
-row_keeps_by o o' row text false false false true b5 is1 is2 is3 is4 is5 t e =
+row_keeps_by o o' row text false false false false true b5 is0 is1 is2 is3 is4 is5 e =
     let same : quiet_in o ≡ o' = cc in
     subst (Keeps o row) same (subst (λ r. Keeps o r (quiet_in o)) (sym (is4 refl)) (quiet_keeps o))
-row_keeps_by o o' row text false false false false true is1 is2 is3 is4 is5 t e =
+row_keeps_by o o' row text false false false false false true is0 is1 is2 is3 is4 is5 e =
     let p = map_part (size_in o) (size_by o text) o' e in
     subst (Keeps o row) p.2 (subst (λ r. Keeps o r (size_in o p.0)) (sym (is5 refl)) (size_keeps o p.0))
-row_keeps_by o o' row text false false false false false is1 is2 is3 is4 is5 t e =
-    let same : o ≡ o' = cc in subst (Keeps o row) same (none_keeps o row t)
+row_keeps_by o o' row text false false false false false false is0 is1 is2 is3 is4 is5 e = absurd (cc)
 
 eq_true : (a b : ℕ) → nat_eq a b ≡ true → a ≡ b
 eq_true a b e = grind (arith, nat_tests)
 
 pub row_keeps : (o o' : Options) (row : ℕ) (text : List ℕ) → with_row o row text ≡ Some o' → Keeps o row o'
-row_keeps o o' row text e = row_keeps_by o o' row text (nat_eq row 1) (nat_eq row 2) (nat_eq row 3) (nat_eq row 4) (nat_eq row 5)
-    (eq_true row 1) (eq_true row 2) (eq_true row 3) (eq_true row 4) (eq_true row 5) refl e
+row_keeps o o' row text e =
+    row_keeps_by o o' row text (nat_eq row 0) (nat_eq row 1) (nat_eq row 2) (nat_eq row 3) (nat_eq row 4) (nat_eq row 5)
+    (eq_true row 0) (eq_true row 1) (eq_true row 2) (eq_true row 3) (eq_true row 4) (eq_true row 5) e
 
 or_part : {T E : Type 0} (o : Option T) (e : E) (x : T) → ok_or o e ≡ Ok x → o ≡ Some x
 or_part (Some y) e x h = cc

@@ -4,12 +4,13 @@ use Rattle.option_words.specs.Words.{word}
 use Rattle.option_words.specs.Rows.{meaning_of_row}
 use Rattle.option_words.specs.Reading.{IsReading, WordFaultAt}
 use Rattle.option_words.specs.declared.reading.Item.{Item}
+use Rattle.option_words.specs.declared.reading.Reading.{Reading}
 use Rattle.option_words.specs.declared.fault.WordFault.{WordFault}
 use Rattle.option_words.specs.declared.fault.WordFault.TheVariants.{UnknownShort, UnknownLong, Ambiguous, MissingValue, UnwantedValue, NoMemory as OutOfMemory}
 use Rattle.option_words.specs.declared.fault.UsageFault.{UsageFault}
 use Rattle.option_words.specs.declared.fault.UsageFault.TheVariants.{Word, BadValue, Operands}
 use Rattle.rescue_command.specs.declared.options.Options.{Options}
-use Rattle.rescue_command.specs.declared.command.Command.{Command as Told}
+use Rattle.rescue_command.specs.declared.command.Command.{Command as CommandCode}
 use Rattle.rescue_command.specs.declared.command.CommandError.{CommandError}
 use Rattle.rescue_command.specs.declared.command.CommandError.TheVariants.{Usage, NoMemory}
 use Rattle.option_words.specs.declared.row.Row.{Row}
@@ -23,7 +24,7 @@ pub record Command : Type 0 where
   pub options : Options
 
 -- the same of what the code hands on
-abbrev pub told_by : Told → Command
+abbrev pub told_by : CommandCode → Command
 told_by c = record {
   infile = c.infile.now;
   outfile = c.outfile.now;
@@ -58,6 +59,10 @@ command_by words (Ok o) operands = unless_empty (empty_operand words operands) (
 
 abbrev pub command_in : List (List ℕ) → List Item → (operands : List ℕ) → Result Command UsageFault
 command_in words items operands = command_by words (options_in words items) operands
+
+-- the same of a reading that the code has
+abbrev pub command_read : List (List ℕ) → Reading → Result Command UsageFault
+command_read words r = command_in words r.items.items r.operands.items
 
 -- rows of a table that are the options of a rescue
 pub record AreOptions (rows : List Row) : Type 0 where

@@ -55,15 +55,17 @@ sector_of text = option_and_then (within_range 1 1048576) (result_ok (size defau
 abbrev pub size_by : Options → List ℕ → Option ℕ
 size_by o text = result_ok (size o.sector text)
 
--- What the option of a row sets by its value's text, unless that is a bad one. The sector is set before all others.
+-- What the option of a row sets by its value's text, unless that is a bad one. The sector is set before all others. A
+-- number that is no row's sets nothing.
 abbrev pub with_row : Options → (row : ℕ) → (text : List ℕ) → Option Options
 with_row o row text =
-    if nat_eq row 1 then Some (record o { forced = true })
+    if nat_eq row sector_row then Some o
+    else if nat_eq row 1 then Some (record o { forced = true })
     else if nat_eq row 2 then option_map (λ n. record o { input_position = n }) (size_by o text)
     else if nat_eq row 3 then option_map (λ n. record o { output_position = Some n }) (size_by o text)
     else if nat_eq row 4 then Some (record o { quiet = true })
     else if nat_eq row 5 then option_map (λ n. record o { size = Some n }) (size_by o text)
-    else Some o
+    else None
 
 -- the text of an option's value, and the word in which it begins
 abbrev pub text_at : List (List ℕ) → Option Spot → List ℕ
@@ -84,7 +86,8 @@ with_sector o sector = option_map (λ n. record o { sector = n }) sector
 
 abbrev pub with_sector_item : List (List ℕ) → Options → Item → Result Options ℕ
 with_sector_item words o i =
-    if nat_eq i.row sector_row then ok_or (with_sector o (sector_of (text_at words i.value))) (word_at i.value) else Ok o
+    if nat_eq i.row sector_row then ok_or (with_sector o (sector_of (text_at words i.value))) (word_at i.value)
+    else Ok o
 
 -- what options set one after the other, up to the first bad value
 abbrev pub set_in_turn : (Options → Item → Result Options ℕ) → Result Options ℕ → List Item → Result Options ℕ
@@ -92,9 +95,10 @@ set_in_turn f (Err n) items = Err n
 set_in_turn f (Ok o) [] = Ok o
 set_in_turn f (Ok o) (i ∷ items) = set_in_turn f (f o i) items
 
--- what all of them ask for, or the word of the first bad value: first those that give the sector, then the others
+-- what all of them ask for, or the word of the first bad value: those that give the sector, then the others
 abbrev pub options_in : List (List ℕ) → List Item → Result Options ℕ
-options_in words items = set_in_turn (with_item words) (set_in_turn (with_sector_item words) (Ok no_options) items) items
+options_in words items =
+    set_in_turn (with_item words) (set_in_turn (with_sector_item words) (Ok no_options) items) items
 
 -- one of them asks that nothing be said
 abbrev pub has_quiet : List Item → Bool

@@ -1,8 +1,8 @@
 //! What the words of a command line ask for.
-ghost use Rattle.std.specs.Prelude.{◌≡◌, ◌<◌, ◌≤◌, All, Ok, Err, IfOk, IfErr};
+ghost use Rattle.std.specs.Prelude.{◌≡◌, All, Ok, Err, IfOk, IfErr};
 ghost use Rattle.option_words.specs.Spots.{HasSpot};
 ghost use Rattle.rescue_command.specs.Options.{no_options, text_at, word_at, with_item, with_sector_item, set_in_turn, options_in, has_quiet};
-ghost use Rattle.rescue_command.specs.Command.{IsAsked, IsErrorOf, IsSound, IsWord, command_in, command_with, empty_operand, told_by, unread_error};
+ghost use Rattle.rescue_command.specs.Command.{IsAsked, IsErrorOf, IsSound, IsWord, command_read, command_with, empty_operand, told_by, unread_error};
 
 use crate::options::{Options, QUIET, SECTOR_SIZE, option_table, read_sector, with_row};
 use option_words::fault::{UsageFault, WordFault};
@@ -144,8 +144,8 @@ fn name_files<'a>(
 fn command_of<'a>(words: &'a Words, reading: &Reading) -> Result<Command<'a>, UsageFault>
     requires spots { All (HasSpot words.now) reading.now.items.items }
     requires operands { All (IsWord words.now) reading.now.operands.items }
-    ensures asked { IfOk result (λ c. command_in words.now reading.now.items.items reading.now.operands.items ≡ Ok (told_by c)) }
-    ensures refused { IfErr result (λ fault. command_in words.now reading.now.items.items reading.now.operands.items ≡ Err fault) }
+    ensures asked { IfOk result (λ c. command_read words.now reading.now ≡ Ok (told_by c)) }
+    ensures refused { IfErr result (λ fault. command_read words.now reading.now ≡ Err fault) }
 {
     let options = match read_options(words, &reading.items) {
         Ok(options) => options,

@@ -13,9 +13,10 @@ const DEFAULT_SECTOR: u64 = 512;
 /// The largest sector in bytes.
 const MOST_SECTOR: u64 = 1_048_576;
 
-/// The rows of `-b` and `-q` in the table.
+/// The row of `-b` in the table.
 pub(crate) const SECTOR_SIZE: usize = 0;
 
+/// The row of `-q`.
 pub(crate) const QUIET: usize = 4;
 
 /// The options. A later one is a row here and an arm in `with_row`.
@@ -107,17 +108,18 @@ pub(crate) fn read_sector(text: &str) -> Option<u64>
     }
 }
 
-/// Writes the arms of a `match` over the rows: each sets one field.
+/// Writes the arms of a `match` over the rows: each sets one field, but that of the sector, which is set before.
 macro_rules! set_by_row {
     ($options:ident, $row:ident; $($number:literal => $field:ident = $value:expr,)*) => {
         match $row {
+            0 => Some($options),
             $($number => Some(Options { $field: $value, ..$options }),)*
-            _ => Some($options),
+            _ => None,
         }
     };
 }
 
-/// What the option of a row sets by its value's text; nothing where that is a bad one.
+/// What the option of a row sets by its value's text; nothing where that is a bad one, or where there is no such row.
 pub(crate) fn with_row(options: Options, row: usize, text: &str) -> Option<Options>
     requires low { 0 < options.sector }
     requires high { options.sector ≤ 1048576 }

@@ -93,11 +93,13 @@ module _ (statuses : List Status) (pos asked given : ℕ) (buf : List ℕ) (l : 
             may_lose = a.stays.keeps.may_lose;
             planned = refl;
             bytes = a.stays.keeps.bytes;
+            opens = a.stays.keeps.opens;
             faults = a.stays.keeps.faults;
             losses = a.stays.keeps.losses;
           };
           input = a.stays.input;
           name = a.stays.name;
+          opens = a.stays.opens;
           faults = a.stays.faults;
         };
         right = λ t.

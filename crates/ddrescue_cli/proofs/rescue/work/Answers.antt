@@ -3,7 +3,7 @@ use Rattle.mapfile_text.specs.HeadingLines.{HeadingLines}
 use Rattle.rescue_command.specs.declared.command.CommandError.{CommandError}
 use Rattle.rescue_command.specs.declared.command.CommandError.TheVariants.{Usage}
 use Rattle.rescue_command.specs.Command.{told_by, IsErrorOf}
-use Rattle.ddrescue_cli.proofs.PromiseLemmas.{starved_kept, refused_kept, plan_kept, work_kept}
+use Rattle.ddrescue_cli.proofs.PromiseLemmas.{starved_kept, refused_kept, plan_kept, work_kept, named_apart}
 use Rattle.ddrescue_cli.proofs.rescue.work.Goals as goal
 
 pub returns-in-Err-NoMemory-clause-promise : goal.returns-in-Err-NoMemory-clause-promise
@@ -25,19 +25,27 @@ returns-in-Ok-rescue-clause-promise g c = λ now says.
     work_kept _ (told_by c.in-Ok.command) _ _ _ _ _ c.in-Ok.ensures.asked c.in-Ok-make_plan.ensures.infile c.in-Ok-make_plan.ensures.outfile
     c.in-Ok-make_plan.ensures.names (ap (λ (h : HeadingLines). h.line) c.in-Ok-make_plan.ensures.heading) c.in-Ok-make_plan.ensures.options
     c.in-Ok-make_plan.ensures.different c.in-Ok-rescue.ensures.words c.in-Ok-rescue.ensures.cause c.in-Ok-rescue.ensures.input
-    c.in-Ok-rescue.ensures.worked c.in-Ok-rescue.ensures.draft c.in-Ok-rescue.ensures.source c.in-Ok-rescue.ensures.site
+    c.in-Ok-rescue.ensures.once c.in-Ok-rescue.ensures.refused c.in-Ok-rescue.ensures.worked c.in-Ok-rescue.ensures.draft c.in-Ok-rescue.ensures.source c.in-Ok-rescue.ensures.site
     c.in-Ok-rescue.ensures.clock says
 
 pub returns-in-Ok-rescue-clause-untouched : goal.returns-in-Ok-rescue-clause-untouched
 returns-in-Ok-rescue-clause-untouched g c = λ fault refused. absurd (c.in-Ok.ensures.asked.accepted fault refused)
+
+pub returns-in-Ok-rescue-clause-unopened : goal.returns-in-Ok-rescue-clause-unopened
+returns-in-Ok-rescue-clause-unopened g c = λ first second twice.
+    absurd (named_apart c.args.words.now (told_by c.in-Ok.command) c.in-Ok.ensures.asked c.in-Ok-make_plan.ensures.different first second twice)
 
 pub returns-in-Err-rescue-clause-promise : goal.returns-in-Err-rescue-clause-promise
 returns-in-Err-rescue-clause-promise g c = λ now says.
     work_kept _ (told_by c.in-Ok.command) _ _ _ _ _ c.in-Ok.ensures.asked c.in-Ok-make_plan.ensures.infile c.in-Ok-make_plan.ensures.outfile
     c.in-Ok-make_plan.ensures.names (ap (λ (h : HeadingLines). h.line) c.in-Ok-make_plan.ensures.heading) c.in-Ok-make_plan.ensures.options
     c.in-Ok-make_plan.ensures.different c.in-Err-rescue.ensures.words c.in-Err-rescue.ensures.cause c.in-Err-rescue.ensures.input
-    c.in-Err-rescue.ensures.worked c.in-Err-rescue.ensures.draft c.in-Err-rescue.ensures.source c.in-Err-rescue.ensures.site
+    c.in-Err-rescue.ensures.once c.in-Err-rescue.ensures.refused c.in-Err-rescue.ensures.worked c.in-Err-rescue.ensures.draft c.in-Err-rescue.ensures.source c.in-Err-rescue.ensures.site
     c.in-Err-rescue.ensures.clock says
 
 pub returns-in-Err-rescue-clause-untouched : goal.returns-in-Err-rescue-clause-untouched
 returns-in-Err-rescue-clause-untouched g c = λ fault refused. absurd (c.in-Ok.ensures.asked.accepted fault refused)
+
+pub returns-in-Err-rescue-clause-unopened : goal.returns-in-Err-rescue-clause-unopened
+returns-in-Err-rescue-clause-unopened g c = λ first second twice.
+    absurd (named_apart c.args.words.now (told_by c.in-Ok.command) c.in-Ok.ensures.asked c.in-Ok-make_plan.ensures.different first second twice)
