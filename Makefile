@@ -23,6 +23,7 @@ check:
 
 install: bin/ddrescue bin/rescue_scenes
 	install -D bin/ddrescue $(DESTDIR)$(PREFIX)/bin/ddrescue
+	install -D -m 644 man/ddrescue.1 $(DESTDIR)$(PREFIX)/share/man/man1/ddrescue.1
 
 clean:
 	rm -rf bin crates/*/out

@@ -1,0 +1,6 @@
+pub mod AlikeLemmas
+pub mod CopyingLemmas
+pub mod OnceLemmas
+pub mod StartLemmas
+pub mod TriedLemmas
+pub mod TurnLemmas

@@ -1,0 +1,97 @@
+-- A position is asked at most once in copying.
+use Rattle.std.proofs.Common.{◌≡◌, ◌⊎◌, ℕ, zero, suc, ◌+◌, ◌<◌, ◌≤◌, true, List, [], ◌∷◌, Some, refl, sym, ap, ◌∙◌, arith, subst, ⊎_elim}
+use Rattle.std.specs.List.{slice_get}
+use Rattle.std.proofs.lemmas.Option.{same_Some}
+use Rattle.block_list.specs.declared.status.Status.{Status}
+use Rattle.block_list.specs.declared.status.Status.TheVariants.{NonTried}
+use Rattle.block_list.specs.Map.{Has}
+use Rattle.rescue_rules.specs.declared.phase.Phase.{Phase}
+use Rattle.rescue_rules.specs.declared.phase.Phase.TheVariants.{Copying, Trimming, Scraping, Retrying}
+use Rattle.rescue_rules.specs.declared.stop.TrimMode.TheVariants.{Lead}
+use Rattle.rescue_rules.specs.Setting.{Setting, IsSensible}
+use Rattle.rescue_rules.specs.Passes.{taken}
+use Rattle.rescue_rules.specs.Machine.{Machine, pass_of}
+use Rattle.rescue_rules.specs.Step.{Event, copies, trims, is_copying}
+use Rattle.rescue_rules.specs.Moves.{Move, move_of, moves, ready, IsMove, IsRun}
+use Rattle.rescue_rules.specs.MachineLaws.{IsInOrder, StepsBy}
+use Rattle.rescue_rules.specs.RunLaws.{Asks}
+use Rattle.rescue_rules.proofs.MoveLemmas.{run_first, run_rest}
+use Rattle.rescue_rules.proofs.ReadyLemmas.{order_ready, stays_ready}
+use Rattle.rescue_rules.proofs.StatusLemmas.{non_tried_stood, wanted_taken}
+use Rattle.rescue_rules.proofs.StepLemmas.{move_steps}
+use Rattle.copy_passes.specs.Laws.{CopyingAsksOnce}
+use Rattle.copy_passes.proofs.TriedLemmas.{untried}
+
+copies_is : (phase : Phase) → copies phase ≡ true → phase ≡ Copying
+copies_is Copying is = refl
+copies_is Trimming is = absurd (cc)
+copies_is Scraping is = absurd (cc)
+copies_is Retrying is = absurd (cc)
+
+-- what an event of a run does, from the state that is ready for it
+steps : (s : Setting) (m : Machine) (e : Event) → IsSensible s → IsInOrder s m → IsMove s (move_of s m e)
+    → StepsBy s (ready s m) e
+steps s m e ok order is = move_steps s (ready s m) e ok (order_ready s m order) is.request is.few
+
+-- copying asks for non-tried positions alone
+asked_non_tried : (s : Setting) (m : Machine) (e : Event) (x : ℕ) → StepsBy s (ready s m) e → is_copying (ready s m) ≡ true
+    → Asks e.reading x → Has m.map NonTried x
+asked_non_tried s m e x by on asks =
+    let phase : (pass_of (ready s m)).phase ≡ Copying = copies_is (pass_of (ready s m)).phase on in
+    let has : Has (ready s m).map (taken (pass_of (ready s m)).phase) x =
+    wanted_taken s (ready s m) x (by.wanted x asks.from asks.to) in
+    subst (λ (map : List Status). Has map NonTried x) (stays_ready s m).map
+    (subst (λ (p : Phase). Has (ready s m).map (taken p) x) phase has)
+
+-- and leaves none of them so
+asked_tried : (s : Setting) (m : Machine) (e : Event) (x : ℕ) → IsInOrder s m → StepsBy s (ready s m) e → is_copying (ready s m) ≡ true
+    → Asks e.reading x → Has (move_of s m e).after.map NonTried x → ⊥
+asked_tried s m e x order by on asks has =
+    let phase : (pass_of (ready s m)).phase ≡ Copying = copies_is (pass_of (ready s m)).phase on in
+    let lead : (ready s m).mode ≡ Lead = (order_ready s m order).lead (ap trims phase) in
+    let apart : Has (ready s m).map NonTried x × ((x < e.reading.pos) ⊎ (e.reading.pos + e.reading.asked ≤ x)) =
+    untried s (ready s m) e.reading x lead by.there by.kept_asked has in
+    ⊎_elim (λ (low : x < e.reading.pos). omega (arith, low, asks.from))
+    (λ (high : e.reading.pos + e.reading.asked ≤ x). omega (arith, high, asks.to)) apart.1
+
+-- what isn't non-tried stays so
+tried_stays : (s : Setting) (m : Machine) (e : Event) (x : ℕ) → (Has m.map NonTried x → ⊥)
+    → Has (move_of s m e).after.map NonTried x → ⊥
+tried_stays s m e x tried has =
+    tried (subst (λ (map : List Status). Has map NonTried x) (stays_ready s m).map (non_tried_stood s (ready s m) e.reading x has))
+
+-- so it is never asked for in copying
+never_again : (s : Setting) (m : Machine) (es : List Event) (j x : ℕ) (w : Move) → IsSensible s → IsInOrder s m → IsRun s m es
+    → (Has m.map NonTried x → ⊥) → slice_get (moves s m es) j ≡ Some w → is_copying w.before ≡ true → Asks w.event.reading x → ⊥
+never_again s m [] j x w ok order run tried is on asks = absurd (cc)
+never_again s m (e ∷ es) zero x w ok order run tried is on asks =
+    let same : move_of s m e ≡ w = same_Some (move_of s m e) w is in
+    let here : is_copying (ready s m) ≡ true = ap (λ (v : Move). is_copying v.before) same ∙ on in
+    let asks' : Asks e.reading x = subst (λ (v : Move). Asks v.event.reading x) (sym same) asks in
+    tried (asked_non_tried s m e x (steps s m e ok order (run_first s m e es run)) here asks')
+never_again s m (e ∷ es) (suc j) x w ok order run tried is on asks =
+    let by : StepsBy s (ready s m) e = steps s m e ok order (run_first s m e es run) in
+    never_again s (move_of s m e).after es j x w ok by.order (run_rest s m e es run)
+    (λ has. tried_stays s m e x tried has) is on asks
+
+-- a position that the first event asks for in copying is asked for by no later one
+once_first : (s : Setting) (m : Machine) (e : Event) (es : List Event) (j x : ℕ) (v w : Move) → IsSensible s → IsInOrder s m
+    → IsRun s m (e ∷ es) → move_of s m e ≡ v → slice_get (moves s (move_of s m e).after es) j ≡ Some w
+    → is_copying v.before ≡ true → is_copying w.before ≡ true → Asks v.event.reading x → Asks w.event.reading x → ⊥
+once_first s m e es j x v w ok order run same is on on' asks asks' =
+    let by : StepsBy s (ready s m) e = steps s m e ok order (run_first s m e es run) in
+    let here : is_copying (ready s m) ≡ true = ap (λ (u : Move). is_copying u.before) same ∙ on in
+    let asked : Asks e.reading x = subst (λ (u : Move). Asks u.event.reading x) (sym same) asks in
+    never_again s (move_of s m e).after es j x w ok by.order (run_rest s m e es run)
+    (λ has. asked_tried s m e x order by here asked has) is on' asks'
+
+pub copying_asks_once : CopyingAsksOnce
+copying_asks_once s m [] i j x v w ok order run is is' on on' asks asks' = absurd (cc)
+copying_asks_once s m (e ∷ es) zero zero x v w ok order run is is' on on' asks asks' = refl
+copying_asks_once s m (e ∷ es) zero (suc j) x v w ok order run is is' on on' asks asks' =
+    absurd (once_first s m e es j x v w ok order run (same_Some (move_of s m e) v is) is' on on' asks asks')
+copying_asks_once s m (e ∷ es) (suc i) zero x v w ok order run is is' on on' asks asks' =
+    absurd (once_first s m e es i x w v ok order run (same_Some (move_of s m e) w is') is on' on asks' asks)
+copying_asks_once s m (e ∷ es) (suc i) (suc j) x v w ok order run is is' on on' asks asks' =
+    let by : StepsBy s (ready s m) e = steps s m e ok order (run_first s m e es run) in
+    ap suc (copying_asks_once s (move_of s m e).after es i j x v w ok by.order (run_rest s m e es run) is is' on on' asks asks')

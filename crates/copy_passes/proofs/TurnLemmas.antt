@@ -1,0 +1,348 @@
+-- Turns of copying, one after another, and one that stops.
+use Rattle.std.proofs.Common.{◌≡◌, ℕ, ◌+◌, ◌<◌, ◌≤◌, ◌^◌, true, false, IsTrue, List, [], ◌∷◌, ◌++◌, length, drop, All, refl, sym, ap, ◌∙◌, arith, subst, append_assoc, append-nil}
+use Rattle.std.specs.List.{slice_range}
+use Rattle.std.proofs.lemmas.List.Elements.{All-nil, All-cons, All-append}
+use Rattle.faulty_source.specs.Journal.{Reading}
+use Rattle.faulty_source.specs.SourceState.{SourceState, Stays as SourceStays, Reads}
+use Rattle.crash_site.specs.Calls.{Call}
+use Rattle.crash_site.specs.SiteState.{SiteState, Keeps as SiteKeeps, Makes}
+use Rattle.save_resume.proofs.CallLemmas.{made_more}
+use Rattle.save_resume.proofs.FillLemmas.{keeps_more}
+use Rattle.rescue_console.specs.ClockState.{ClockState, Keeps as ClockKeeps, Reads as ReadsClock}
+use Rattle.transfer_token.specs.declared.token.Request.{Request}
+use Rattle.rescue_rules.specs.declared.phase.Phase.TheVariants.{Copying}
+use Rattle.rescue_rules.specs.declared.stop.Stop.{Stop}
+use Rattle.rescue_rules.specs.Setting.{Setting}
+use Rattle.rescue_rules.specs.Passes.{Pass, numbered, copying_passes}
+use Rattle.rescue_rules.specs.Machine.{Machine, IsRequest, has_request}
+use Rattle.rescue_rules.specs.Step.{Event, step}
+use Rattle.rescue_rules.specs.Moves.{Move, move_of, ready, state_after, IsMove, IsRun}
+use Rattle.rescue_rules.specs.Events.{reads_of, times_of}
+use Rattle.rescue_rules.specs.RunCalls.{move_calls, run_calls}
+use Rattle.rescue_rules.specs.Laws.{AreTimes}
+use Rattle.rescue_rules.proofs.MoveLemmas.{reads_append}
+use Rattle.rescue_rules.proofs.ReadyLemmas.{ready_here}
+use Rattle.rescue_rules.proofs.SearchLemmas.{request_seen}
+use Rattle.rescue_domain.specs.Parts.{covers}
+use Rattle.rescue_core.specs.declared.turn.Turn.{Turn}
+use Rattle.rescue_core.specs.RunState.{RunState, setting_in, passed, HasPlaces}
+use Rattle.rescue_core.specs.Turning.{IsEvent, stepped, move_by, Turned, Halted}
+use Rattle.copy_passes.specs.Turns.{Across, IsFrom, IsAlike, moved_to, Went, WentUpTo}
+use Rattle.copy_passes.specs.Copying.{IsCopying, CopiesOn}
+use Rattle.copy_passes.proofs.AlikeLemmas.{alike_by, alike_on, next_pass_is_alike, RunMore, run_more}
+use Rattle.copy_passes.proofs.CopyingLemmas.{ahead_of, CopyStep, copy_steps, two_of, copying_passed}
+
+-- What the objects tell, across two things done one after the other.
+pub source_stays : (a b c : SourceState) → SourceStays a b → SourceStays b c → SourceStays a c
+source_stays a b c f g = record {
+  keeps = record {
+    tells = g.keeps.tells ∙ f.keeps.tells;
+    may_lose = g.keeps.may_lose ∙ f.keeps.may_lose;
+    planned = g.keeps.planned ∙ f.keeps.planned;
+    bytes = λ tells. g.keeps.bytes (rw f.keeps.tells tells) ∙ f.keeps.bytes tells;
+    opens = omega (arith, f.keeps.opens, g.keeps.opens);
+    faults = omega (arith, f.keeps.faults, g.keeps.faults);
+    losses = omega (arith, f.keeps.losses, g.keeps.losses);
+  };
+  input = g.input ∙ f.input;
+  name = λ tells. g.name (rw f.keeps.tells tells) ∙ f.name tells;
+  opens = g.opens ∙ f.opens;
+  faults = g.faults ∙ f.faults;
+}
+
+pub clock_keeps : (a b c : ClockState) → ClockKeeps a b → ClockKeeps b c → ClockKeeps a c
+clock_keeps a b c f g = record { planned = g.planned ∙ f.planned; plan = g.plan ∙ f.plan }
+
+timed_more : (xs ys : List ℕ) (a b c : ClockState) → ReadsClock xs a b → ReadsClock ys b c → ReadsClock (xs ++ ys) a c
+timed_more xs ys a b c f g = record {
+  tells = λ now. f.tells (g.tells now);
+  told = λ now. g.told now ∙ ap (λ (r : List ℕ). r ++ ys) (f.told (g.tells now)) ∙ append_assoc a.readings xs ys;
+}
+
+reads_more : (xs ys : List Reading) (a b c : SourceState) → b.tells ≡ a.tells → Reads xs a b → Reads ys b c → Reads (xs ++ ys) a c
+reads_more xs ys a b c same f g = record {
+  told = λ tells. g.told (rw same tells) ∙ ap (λ (r : List Reading). r ++ ys) (f.told tells) ∙ append_assoc a.journal xs ys;
+  losses = g.losses ∙ f.losses;
+}
+
+makes_more : (xs ys : List Call) (a b c : SiteState) → b.tells ≡ a.tells → Makes xs a b → Makes ys b c → Makes (xs ++ ys) a c
+makes_more xs ys a b c same f g = record {
+  made = λ tells. made_more a.calls b.calls c.calls xs ys (f.made tells) (g.made (rw same tells));
+  faults = g.faults ∙ f.faults;
+}
+
+times_append : (front back : List Event) → times_of (front ++ back) ≡ times_of front ++ times_of back
+times_append [] back = refl
+times_append (e ∷ front) back = ap (λ (ts : List ℕ). e.before ∷ e.after ∷ ts) (times_append front back)
+
+-- no turn
+went_none : (r : RunState) (a : SourceState) (d : SiteState) (k : ClockState)
+    → Went r r (record { source = a; source' = a; site = d; site' = d; clock = k; clock' = k })
+went_none r a d k = record {
+  events = [];
+  run = record { each = All-nil (IsMove (setting_in r)) };
+  stands = refl;
+  state = alike_by (setting_in r) r.machine r.machine refl;
+  read = record { told = λ tells. sym (append-nil a.journal); losses = refl };
+  right = λ tells. All-nil (IsFrom a.bytes);
+  timed = record { tells = λ now. now; told = λ now. sym (append-nil k.readings) };
+  fit = All-nil (λ t. t < 2 ^ 64);
+  made = record { made = λ tells. sym (append-nil d.calls); faults = refl };
+}
+
+-- an event of a run's request is a run
+record IsOneMove (r : RunState) (e : Event) : Type 0 where
+  asks : IsRequest (setting_in r) r.machine e.reading.pos (e.reading.pos + e.reading.asked)
+  few : length e.reading.given ≤ e.reading.asked
+  run : IsRun (setting_in r) r.machine (e ∷ [])
+  state : IsAlike (setting_in r) (state_after (setting_in r) r.machine (e ∷ [])) (stepped r e).machine
+  calls : run_calls (setting_in r) r.machine (e ∷ []) ≡ move_calls (setting_in r) (move_by r e)
+
+one_move : (r : RunState) (request : Request) (e : Event) (a a2 : SourceState) (k k2 : ClockState)
+    → IsRequest (setting_in r) r.machine request.pos (request.pos + request.len) → IsEvent request e a a2 k k2 → IsOneMove r e
+one_move r request e a a2 k k2 asks is =
+    let s : Setting = setting_in r in
+    let m : Machine = r.machine in
+    let asks' : IsRequest s m e.reading.pos (e.reading.pos + e.reading.asked) = rw (is.pos, is.asked) asks in
+    let few : length e.reading.given ≤ e.reading.asked = omega (arith, is.few, is.asked) in
+    let here : ready s m ≡ m = ready_here s m (request_seen s m e.reading.pos (e.reading.pos + e.reading.asked) asks') in
+    let M : Machine → Move = λ n. record { before = n; event = e; after = step s n e } in
+    let moved : move_of s m e ≡ move_by r e = ap M here in
+    let one : IsMove s (move_of s m e) = subst (λ (v : Move). IsMove s v) (sym moved) (record { request = asks'; few = few; within = refl }) in
+    record {
+      asks = asks';
+      few = few;
+      run = record { each = All-cons (IsMove s) (move_of s m e) [] one (All-nil (IsMove s)) };
+      state = alike_by s (move_of s m e).after (stepped r e).machine (ap (λ (v : Move). ready s v.after) (sym moved));
+      calls = append-nil (move_calls s (move_of s m e)) ∙ ap (λ (v : Move). move_calls s v) moved;
+    }
+
+own_bytes : (request : Request) (e : Event) (a a2 : SourceState) (k k2 : ClockState) → IsEvent request e a a2 k k2
+    → IsTrue a.tells → IsFrom a.bytes e.reading
+own_bytes request e a a2 k k2 is tells =
+    is.right tells ∙ ap (λ (pos : ℕ). slice_range a.bytes pos (pos + length e.reading.given)) (sym is.pos)
+
+-- one turn
+went_one : (r r2 : RunState) (request : Request) (turn : Turn) (a a2 : SourceState) (d d2 : SiteState) (k k2 : ClockState)
+    → IsRequest (setting_in r) r.machine request.pos (request.pos + request.len) → Turned request turn r r2 a a2 d d2 k k2
+    → Went r r2 (record { source = a; source' = a2; site = d; site' = d2; clock = k; clock' = k2 })
+went_one r r2 request turn a a2 d d2 k k2 asks t =
+    let e : Event = t.event in
+    let s : Setting = setting_in r in
+    let one : IsOneMove r e = one_move r request e a a2 k k2 asks t.is in
+    let small : ℕ → Type 0 = λ n. n < 2 ^ 64 in
+    record {
+      events = e ∷ [];
+      run = one.run;
+      stands = subst (λ (q : RunState). q ≡ moved_to r q) (sym t.steps) refl;
+      state = subst (λ (q : RunState). IsAlike s (state_after s r.machine (e ∷ [])) q.machine) (sym t.steps) one.state;
+      read = t.is.read;
+      right = λ tells. All-cons (IsFrom a.bytes) e.reading [] (own_bytes request e a a2 k k2 t.is tells) (All-nil (IsFrom a.bytes));
+      timed = t.is.times;
+      fit = All-cons small e.before (e.after ∷ []) t.is.before (All-cons small e.after [] t.is.after (All-nil small));
+      made = subst (λ (cs : List Call). Makes cs d d2) (sym one.calls) t.calls;
+    }
+
+-- the setting of a run stands
+setting_stands : (r q : RunState) → q ≡ moved_to r q → setting_in q ≡ setting_in r
+setting_stands r q stands = ap setting_in stands
+
+-- turns behind turns
+pub went_on : (r r1 r2 : RunState) (a b c : SourceState) (d e f : SiteState) (k l n : ClockState)
+    → Went r r1 (record { source = a; source' = b; site = d; site' = e; clock = k; clock' = l })
+    → SourceStays a b → SiteKeeps d e
+    → Went r1 r2 (record { source = b; source' = c; site = e; site' = f; clock = l; clock' = n })
+    → Went r r2 (record { source = a; source' = c; site = d; site' = f; clock = k; clock' = n })
+went_on r r1 r2 a b c d e f k l n w stays keeps v =
+    let s : Setting = setting_in r in
+    let same : setting_in r1 ≡ s = setting_stands r r1 w.stands in
+    let run : IsRun s r1.machine v.events = subst (λ (t : Setting). IsRun t r1.machine v.events) same v.run in
+    let state : IsAlike s (state_after s r1.machine v.events) r2.machine =
+    subst (λ (t : Setting). IsAlike t (state_after t r1.machine v.events) r2.machine) same v.state in
+    let made : Makes (run_calls s r1.machine v.events) e f =
+    subst (λ (t : Setting). Makes (run_calls t r1.machine v.events) e f) same v.made in
+    let more : RunMore s r.machine r1.machine w.events v.events =
+    run_more s r.machine r1.machine w.events v.events w.run w.state run in
+    let reads : reads_of w.events ++ reads_of v.events ≡ reads_of (w.events ++ v.events) = sym (reads_append w.events v.events) in
+    let times : times_of w.events ++ times_of v.events ≡ times_of (w.events ++ v.events) = sym (times_append w.events v.events) in
+    let small : ℕ → Type 0 = λ t. t < 2 ^ 64 in
+    record {
+      events = w.events ++ v.events;
+      run = more.run;
+      stands = v.stands ∙ ap (λ (q : RunState). moved_to q r2) w.stands;
+      state = alike_on s (state_after s r.machine (w.events ++ v.events)) (state_after s r1.machine v.events) r2.machine more.state state;
+      read = subst (λ (xs : List Reading). Reads xs a c) reads
+          (reads_more (reads_of w.events) (reads_of v.events) a b c stays.keeps.tells w.read v.read);
+      right = λ tells. subst (λ (xs : List Reading). All (IsFrom a.bytes) xs) reads
+          (All-append (IsFrom a.bytes) (reads_of w.events) (reads_of v.events) (w.right tells)
+          (subst (λ (bytes : List ℕ). All (IsFrom bytes) (reads_of v.events)) (stays.keeps.bytes tells)
+          (v.right (rw stays.keeps.tells tells))));
+      timed = subst (λ (ts : List ℕ). ReadsClock ts k n) times
+          (timed_more (times_of w.events) (times_of v.events) k l n w.timed v.timed);
+      fit = subst AreTimes times (All-append small (times_of w.events) (times_of v.events) w.fit v.fit);
+      made = subst (λ (cs : List Call). Makes cs d f) (sym more.calls)
+          (makes_more (run_calls s r.machine w.events) (run_calls s r1.machine v.events) d e f keeps.tells w.made made);
+    }
+
+-- a turn that stopped behind turns behind turns
+pub went_up_to_on : (stop : Stop) (r r1 r2 : RunState) (a b c : SourceState) (d e f : SiteState) (k l n : ClockState)
+    → Went r r1 (record { source = a; source' = b; site = d; site' = e; clock = k; clock' = l })
+    → SourceStays a b → SiteKeeps d e
+    → WentUpTo stop r1 r2 (record { source = b; source' = c; site = e; site' = f; clock = l; clock' = n })
+    → WentUpTo stop r r2 (record { source = a; source' = c; site = d; site' = f; clock = k; clock' = n })
+went_up_to_on stop r r1 r2 a b c d e f k l n w stays keeps u = record {
+  between = u.between;
+  source_between = u.source_between;
+  site_between = u.site_between;
+  clock_between = u.clock_between;
+  went = went_on r r1 u.between a b u.source_between d e u.site_between k l u.clock_between w stays keeps u.went;
+  source = source_stays a b u.source_between stays u.source;
+  site_tells = u.site_tells ∙ keeps.tells;
+  request = u.request;
+  asks = u.asks;
+  halted = u.halted;
+}
+
+-- Copying begins,
+pub begins : (r : RunState) (a : SourceState) (d : SiteState) (k : ClockState) → IsCopying r
+    → HasPlaces r.settings (covers r.domain) → a.is_open ≡ true → d.is_open ≡ true → d.is_drafting ≡ false
+    → CopiesOn r r (record { source = a; source' = a; site = d; site' = d; clock = k; clock' = k })
+begins r a d k copying places input image no_draft = record {
+  copying = copying;
+  places = places;
+  went = went_none r a d k;
+  input = input;
+  image = image;
+  no_draft = no_draft;
+  source = record {
+    keeps = record {
+      tells = refl;
+      may_lose = refl;
+      planned = refl;
+      bytes = λ tells. refl;
+      opens = omega arith;
+      faults = omega arith;
+      losses = omega arith;
+    };
+    input = refl;
+    name = λ tells. refl;
+    opens = refl;
+    faults = refl;
+  };
+  site = record { tells = refl; start = λ tells. refl; planned = refl; later = omega arith };
+  clock = record { planned = refl; plan = refl };
+}
+
+-- goes on by what goes on from there,
+pub goes_on : (r r1 r2 : RunState) (a b c : SourceState) (d e f : SiteState) (k l n : ClockState)
+    → CopiesOn r r1 (record { source = a; source' = b; site = d; site' = e; clock = k; clock' = l })
+    → CopiesOn r1 r2 (record { source = b; source' = c; site = e; site' = f; clock = l; clock' = n })
+    → CopiesOn r r2 (record { source = a; source' = c; site = d; site' = f; clock = k; clock' = n })
+goes_on r r1 r2 a b c d e f k l n i j = record {
+  copying = j.copying;
+  places = j.places;
+  went = went_on r r1 r2 a b c d e f k l n i.went i.source i.site j.went;
+  input = j.input;
+  image = j.image;
+  no_draft = j.no_draft;
+  source = source_stays a b c i.source j.source;
+  site = keeps_more d e f i.site j.site;
+  clock = clock_keeps k l n i.clock j.clock;
+}
+
+-- by a turn,
+pub turn_step : (r r2 : RunState) (request : Request) (turn : Turn) (a a2 : SourceState) (d d2 : SiteState) (k k2 : ClockState)
+    → IsCopying r → IsRequest (setting_in r) r.machine request.pos (request.pos + request.len)
+    → (t : Turned request turn r r2 a a2 d d2 k k2) → CopyStep r t.event
+turn_step r r2 request turn a a2 d d2 k k2 copying asks t =
+    let one : IsOneMove r t.event = one_move r request t.event a a2 k k2 asks t.is in
+    copy_steps r t.event copying one.asks one.few
+
+pub goes_on_by_turn : (r r1 r2 : RunState) (request : Request) (turn : Turn) (a b c : SourceState) (d e f : SiteState) (k l n : ClockState)
+    → CopiesOn r r1 (record { source = a; source' = b; site = d; site' = e; clock = k; clock' = l })
+    → IsRequest (setting_in r1) r1.machine request.pos (request.pos + request.len)
+    → Turned request turn r1 r2 b c e f l n → SourceStays b c → SiteKeeps e f → ClockKeeps l n → f.is_open ≡ true
+    → f.is_drafting ≡ false → CopiesOn r r2 (record { source = a; source' = c; site = d; site' = f; clock = k; clock' = n })
+goes_on_by_turn r r1 r2 request turn a b c d e f k l n i asks t source site clock image no_draft =
+    let by : CopyStep r1 t.event = turn_step r1 r2 request turn b c e f l n i.copying asks t in
+    goes_on r r1 r2 a b c d e f k l n i (record {
+      copying = subst IsCopying (sym t.steps) by.copying;
+      places = subst (λ (q : RunState). HasPlaces q.settings (covers q.domain)) (sym t.steps) i.places;
+      went = went_one r1 r2 request turn b c e f l n asks t;
+      input = source.input ∙ i.input;
+      image = image;
+      no_draft = no_draft;
+      source = source;
+      site = site;
+      clock = clock;
+    })
+
+-- which leaves less of the map ahead, in the same pass,
+pub less_ahead : (r r2 : RunState) (request : Request) (turn : Turn) (a a2 : SourceState) (d d2 : SiteState) (k k2 : ClockState)
+    → IsCopying r → IsRequest (setting_in r) r.machine request.pos (request.pos + request.len)
+    → Turned request turn r r2 a a2 d d2 k k2 → ahead_of r2 < ahead_of r
+less_ahead r r2 request turn a a2 d d2 k k2 copying asks t =
+    subst (λ (q : RunState). ahead_of q < ahead_of r) (sym t.steps) (turn_step r r2 request turn a a2 d d2 k k2 copying asks t).less
+
+-- or by the start of the next pass.
+pub goes_on_by_pass : (r r1 : RunState) (o : Across) → CopiesOn r r1 o → has_request (setting_in r1) r1.machine ≡ false
+    → r1.pass < copying_passes → CopiesOn r (passed r1 Copying (r1.pass + 1)) o
+goes_on_by_pass r r1 o i spent few =
+    let s : Setting = setting_in r1 in
+    let p : Pass = numbered Copying (r1.pass + 1) in
+    let n : RunState = passed r1 Copying (r1.pass + 1) in
+    let two : (ps : List Pass) × (r1.machine.passes ≡ numbered Copying r1.pass ∷ p ∷ ps) =
+    ((two_of s r1.pass few).0, i.copying.passes ∙ (two_of s r1.pass few).1) in
+    let same : s ≡ setting_in r = setting_stands r r1 i.went.stands in
+    let c : Pass = numbered Copying r1.pass in
+    let are : r1.machine.passes ≡ c ∷ p ∷ drop 2 r1.machine.passes =
+    two.1 ∙ ap (λ (ps : List Pass). c ∷ p ∷ ps) (sym (ap (λ (ps : List Pass). drop 2 ps) two.1)) in
+    let next : IsAlike (setting_in r) r1.machine n.machine =
+    subst (λ (t : Setting). IsAlike t r1.machine n.machine) same
+    (next_pass_is_alike s r1.machine c p (drop 2 r1.machine.passes) spent are) in
+    record {
+      copying = copying_passed r1 i.copying few;
+      places = i.places;
+      went = record {
+        events = i.went.events;
+        run = i.went.run;
+        stands = ap (λ (q : RunState). moved_to q n) i.went.stands;
+        state = alike_on (setting_in r) (state_after (setting_in r) r.machine i.went.events) r1.machine n.machine i.went.state next;
+        read = i.went.read;
+        right = i.went.right;
+        timed = i.went.timed;
+        fit = i.went.fit;
+        made = i.went.made;
+      };
+      input = i.input;
+      image = i.image;
+      no_draft = i.no_draft;
+      source = i.source;
+      site = i.site;
+      clock = i.clock;
+    }
+
+pub goes_on_by_next : (r r1 r2 : RunState) (o : Across) (pass : ℕ) → CopiesOn r r1 o → has_request (setting_in r1) r1.machine ≡ false
+    → r1.pass < copying_passes → pass ≡ r1.pass → r2 ≡ passed r1 Copying (pass + 1) → CopiesOn r r2 o
+goes_on_by_next r r1 r2 o pass i spent few same is =
+    subst (λ (q : RunState). CopiesOn r q o) (sym (is ∙ ap (λ (n : ℕ). passed r1 Copying (n + 1)) same))
+    (goes_on_by_pass r r1 o i spent few)
+
+-- A turn stops.
+pub halts : (stop : Stop) (r r1 r2 : RunState) (request : Request) (a b c : SourceState) (d e f : SiteState) (k l n : ClockState)
+    → CopiesOn r r1 (record { source = a; source' = b; site = d; site' = e; clock = k; clock' = l })
+    → IsRequest (setting_in r1) r1.machine request.pos (request.pos + request.len)
+    → Halted request stop r1 r2 b c e f l n
+    → WentUpTo stop r r2 (record { source = a; source' = c; site = d; site' = f; clock = k; clock' = n })
+halts stop r r1 r2 request a b c d e f k l n i asks h = record {
+  between = r1;
+  source_between = b;
+  site_between = e;
+  clock_between = l;
+  went = i.went;
+  source = i.source;
+  site_tells = i.site.tells;
+  request = request;
+  asks = asks;
+  halted = h;
+}

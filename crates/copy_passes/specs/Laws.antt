@@ -1,0 +1,50 @@
+-- What the definitions mean.
+use Rattle.std.specs.Prelude.{◌≡◌, ℕ, true, false, List, ◌∷◌, length, slice_get, Option, Some}
+use Rattle.block_list.specs.declared.block.Run.{Run}
+use Rattle.block_list.specs.declared.status.Status.{Status}
+use Rattle.mapfile_text.specs.declared.state.MapState.{MapState}
+use Rattle.save_resume.specs.MapNames.{MapNames}
+use Rattle.rescue_rules.specs.Setting.{Setting, IsSensible}
+use Rattle.rescue_rules.specs.Passes.{Pass}
+use Rattle.rescue_rules.specs.Machine.{Machine, has_request}
+use Rattle.rescue_rules.specs.MachineLaws.{IsInOrder}
+use Rattle.rescue_rules.specs.Step.{Event, is_copying}
+use Rattle.rescue_rules.specs.Moves.{Move, moves, state_after, begun, IsRun}
+use Rattle.rescue_rules.specs.RunLaws.{Asks}
+use Rattle.rescue_domain.specs.Parts.{covers}
+use Rattle.rescue_core.specs.declared.settings.Settings.{Settings}
+use Rattle.rescue_core.specs.RunState.{RunState, IsSound, Suits, started, showing}
+use Rattle.copy_passes.specs.Turns.{IsAlike}
+use Rattle.copy_passes.specs.Copying.{IsCopying}
+
+-- A position is asked at most once in copying: two moves of copying that ask for it are one.
+abbrev pub CopyingAsksOnce : Type 0
+CopyingAsksOnce = (s : Setting) (m : Machine) (events : List Event) (i j x : ℕ) (v w : Move)
+    → IsSensible s → IsInOrder s m → IsRun s m events
+    → slice_get (moves s m events) i ≡ Some v → slice_get (moves s m events) j ≡ Some w
+    → is_copying v.before ≡ true → is_copying w.before ≡ true → Asks v.event.reading x → Asks w.event.reading x
+    → i ≡ j
+
+-- alike states have the same runs, by the same moves, which lead to alike states
+pub record GoesAlike (s : Setting) (m n : Machine) (events : List Event) : Type 0 where
+  pub moves_are : moves s n events ≡ moves s m events
+  pub run : IsRun s m events → IsRun s n events
+  pub state : IsAlike s (state_after s m events) (state_after s n events)
+
+abbrev pub AlikeGoAlike : Type 0
+AlikeGoAlike = (s : Setting) (m n : Machine) (events : List Event) → IsAlike s m n → GoesAlike s m n events
+
+-- the start of the next pass is alike, where the present one has no request
+abbrev pub NextPassIsAlike : Type 0
+NextPassIsAlike = (s : Setting) (m : Machine) (c p : Pass) (ps : List Pass) → has_request s m ≡ false
+    → m.passes ≡ c ∷ p ∷ ps → IsAlike s m (begun s m p ps)
+
+-- a run at its start may go on with copying
+abbrev pub StartMayCopy : Type 0
+StartMayCopy = (settings : Settings) (domain : List Run) (names : Option MapNames) (line : List ℕ) (map : List Status)
+    (loaded : Option MapState) (moment : ℕ) → IsSound settings → Suits settings (covers domain) (length map)
+    → IsCopying (started settings domain names line map loaded moment)
+
+-- and so may one that shows another state
+abbrev pub ShownMayCopy : Type 0
+ShownMayCopy = (r : RunState) (state : MapState) → IsCopying r → IsCopying (showing r state)

@@ -1,0 +1,164 @@
+//! The copying of a rescue: its passes, each of which goes on until it has no request left.
+ghost use Rattle.std.specs.Prelude.{◌≡◌, true, false, IfOk, IfErr, OnOk};
+ghost use Rattle.faulty_source.specs.SourceState.{Stays as SourceStays};
+ghost use Rattle.crash_site.specs.SiteState.{Keeps as SiteKeeps};
+ghost use Rattle.rescue_console.specs.ClockState.{Keeps as ClockKeeps};
+ghost use Rattle.rescue_domain.specs.Parts.{covers};
+ghost use Rattle.rescue_rules.specs.Passes.{copying_passes};
+ghost use Rattle.rescue_rules.specs.Machine.{has_request};
+ghost use Rattle.rescue_core.specs.RunState.{setting_in, HasPlaces};
+ghost use Rattle.rescue_core.specs.Closing.{drafting_after};
+ghost use Rattle.copy_passes.specs.Turns.{Went, WentUpTo};
+ghost use Rattle.copy_passes.specs.Copying.{IsCopying, CopiesOn};
+
+use block_list::tiles::Tiles;
+use crash_site::site::Site;
+use faulty_source::source::Source;
+use rescue_console::clock::Clock;
+use rescue_console::console::Console;
+use rescue_core::phases::{Copying, Rescue, Stopped, Trimming};
+use rescue_rules::phase::Phase;
+use rescue_rules::stop::Stop;
+
+/// How many times copying goes over the input.
+const COPYING_PASSES: u32 = 5;
+
+/// Takes turns until the pass has no request left.
+fn run_pass<S: Source, D: Site, K: Clock, C: Console, T: Tiles>(
+    rescue: &mut Rescue<Copying, T>,
+    source: &mut S,
+    site: &mut D,
+    clock: &mut K,
+    console: &mut C,
+) -> Result<(), Stop>
+    requires copying { IsCopying rescue.old }
+    requires places { HasPlaces rescue.old.settings (covers rescue.old.domain) }
+    requires input { (S.state source.old).is_open ≡ true }
+    requires image { (D.state site.old).is_open ≡ true }
+    requires no_draft { (D.state site.old).is_drafting ≡ false }
+    ensures copies { OnOk result (CopiesOn rescue.old rescue.new (record {
+      source = S.state source.old;
+      source' = S.state source.new;
+      site = D.state site.old;
+      site' = D.state site.new;
+      clock = K.state clock.old;
+      clock' = K.state clock.new;
+    })) }
+    ensures pass { OnOk result (rescue.new.pass ≡ rescue.old.pass) }
+    ensures spent { OnOk result (has_request (setting_in rescue.new) rescue.new.machine ≡ false) }
+    ensures halted { IfErr result (λ stop. WentUpTo stop rescue.old rescue.new (record {
+      source = S.state source.old;
+      source' = S.state source.new;
+      site = D.state site.old;
+      site' = D.state site.new;
+      clock = K.state clock.old;
+      clock' = K.state clock.new;
+    })) }
+    ensures draft_left { IfErr result (λ stop. (D.state site.new).is_drafting ≡ drafting_after stop) }
+    ensures image { (D.state site.new).is_open ≡ true }
+    ensures source { SourceStays (S.state source.old) (S.state source.new) }
+    ensures site { SiteKeeps (D.state site.old) (D.state site.new) }
+    ensures clock { ClockKeeps (K.state clock.old) (K.state clock.new) }
+    ensures console { C.state console.new ≡ C.state console.old }
+{
+    'turns: while let Some(request) = rescue.next_request() {
+        rescue.turn(request, source, site, clock, console)?;
+    }
+    Ok(())
+}
+
+/// Runs this pass of copying and those behind it.
+fn run_passes<S: Source, D: Site, K: Clock, C: Console, T: Tiles>(
+    rescue: &mut Rescue<Copying, T>,
+    source: &mut S,
+    site: &mut D,
+    clock: &mut K,
+    console: &mut C,
+) -> Result<(), Stop>
+    requires copying { IsCopying rescue.old }
+    requires places { HasPlaces rescue.old.settings (covers rescue.old.domain) }
+    requires input { (S.state source.old).is_open ≡ true }
+    requires image { (D.state site.old).is_open ≡ true }
+    requires no_draft { (D.state site.old).is_drafting ≡ false }
+    ensures copies { OnOk result (CopiesOn rescue.old rescue.new (record {
+      source = S.state source.old;
+      source' = S.state source.new;
+      site = D.state site.old;
+      site' = D.state site.new;
+      clock = K.state clock.old;
+      clock' = K.state clock.new;
+    })) }
+    ensures pass { OnOk result (rescue.new.pass ≡ copying_passes) }
+    ensures spent { OnOk result (has_request (setting_in rescue.new) rescue.new.machine ≡ false) }
+    ensures halted { IfErr result (λ stop. WentUpTo stop rescue.old rescue.new (record {
+      source = S.state source.old;
+      source' = S.state source.new;
+      site = D.state site.old;
+      site' = D.state site.new;
+      clock = K.state clock.old;
+      clock' = K.state clock.new;
+    })) }
+    ensures draft_left { IfErr result (λ stop. (D.state site.new).is_drafting ≡ drafting_after stop) }
+    ensures image { (D.state site.new).is_open ≡ true }
+    ensures source { SourceStays (S.state source.old) (S.state source.new) }
+    ensures site { SiteKeeps (D.state site.old) (D.state site.new) }
+    ensures clock { ClockKeeps (K.state clock.old) (K.state clock.new) }
+    ensures console { C.state console.new ≡ C.state console.old }
+{
+    'passes: loop {
+        run_pass(rescue, source, site, clock, console)?;
+        let pass = rescue.pass();
+        if pass >= COPYING_PASSES {
+            return Ok(());
+        }
+        rescue.begin_pass(Phase::Copying, pass + 1);
+    }
+}
+
+/// Copies all that is non-tried, in this pass and those behind it, up to the end of the fifth. It stops where a turn
+/// does: for want of memory, at a read that was lost, or at a call on the output or the mapfile that failed.
+pub fn run_copying<S: Source, D: Site, K: Clock, C: Console, T: Tiles>(
+    rescue: Rescue<Copying, T>,
+    source: &mut S,
+    site: &mut D,
+    clock: &mut K,
+    console: &mut C,
+) -> Result<Rescue<Trimming, T>, Stopped<T>>
+    requires copying { IsCopying rescue }
+    requires places { HasPlaces rescue.settings (covers rescue.domain) }
+    requires input { (S.state source.old).is_open ≡ true }
+    requires image { (D.state site.old).is_open ≡ true }
+    requires no_draft { (D.state site.old).is_drafting ≡ false }
+    ensures went { IfOk result (λ r. Went rescue r (record {
+      source = S.state source.old;
+      source' = S.state source.new;
+      site = D.state site.old;
+      site' = D.state site.new;
+      clock = K.state clock.old;
+      clock' = K.state clock.new;
+    })) }
+    ensures copying { IfOk result (λ r. IsCopying r) }
+    ensures pass { IfOk result (λ r. r.pass ≡ copying_passes) }
+    ensures spent { IfOk result (λ r. has_request (setting_in r) r.machine ≡ false) }
+    ensures halted { IfErr result (λ s. WentUpTo s.stop rescue s.run (record {
+      source = S.state source.old;
+      source' = S.state source.new;
+      site = D.state site.old;
+      site' = D.state site.new;
+      clock = K.state clock.old;
+      clock' = K.state clock.new;
+    })) }
+    ensures draft { OnOk result ((D.state site.new).is_drafting ≡ false) }
+    ensures draft_left { IfErr result (λ s. (D.state site.new).is_drafting ≡ drafting_after s.stop) }
+    ensures image { (D.state site.new).is_open ≡ true }
+    ensures source { SourceStays (S.state source.old) (S.state source.new) }
+    ensures site { SiteKeeps (D.state site.old) (D.state site.new) }
+    ensures clock { ClockKeeps (K.state clock.old) (K.state clock.new) }
+    ensures console { C.state console.new ≡ C.state console.old }
+{
+    let mut rescue = rescue;
+    match run_passes(&mut rescue, source, site, clock, console) {
+        Ok(()) => Ok(rescue.end_copying()),
+        Err(stop) => Err(rescue.stopped(stop)),
+    }
+}
