@@ -23,7 +23,8 @@ use Rattle.ddrescue_cli.specs.declared.load.Start.{Start}
 use Rattle.ddrescue_cli.specs.Names.{AreNamedApart}
 use Rattle.ddrescue_cli.specs.Asked.{setting_with, ArePlacedBy, IsBeyond}
 use Rattle.ddrescue_cli.specs.Refusals.{MapfileRefused, PlacesRefused}
-use Rattle.ddrescue_cli.specs.Alone.{IsFrom, HasRead, MapfilePasses, CallPasses, FilesAllow, ArePlaced, CallPlaced, PlacesAllow}
+use Rattle.copy_passes.specs.Turns.{IsFrom}
+use Rattle.ddrescue_cli.specs.Alone.{HasRead, MapfilePasses, CallPasses, FilesAllow, ArePlaced, CallPlaced, PlacesAllow}
 use Rattle.ddrescue_cli.specs.Steps.{EndsRun, OutputStop, LoadStopped, InBarrier, InRead, Starved, Refused, LoadCause, Loaded}
 use Rattle.ddrescue_cli.proofs.WorkLemmas.{HasOpened, IsRegular, here, beyond_is_refused, placed_passes}
 

@@ -73,14 +73,16 @@ pub begun_over : (settings : Settings) (domain : List Run) (names : Option MapNa
 begun_over settings domain names line o end statuses state moment r sound placed is whole made =
     subst (IsRunOver names line o end statuses state moment) (sym made)
     (record {
-      begun = record {
-        options = o;
-        settings = is;
-        machine = refl;
-        places = subst (λ (t : Settings). HasPlaces t (covers domain)) (sym is)
-            (record { low = λ x inside. placed x (sym (whole x) ∙ inside) });
+      copying = record {
         sensible = run_sensible settings domain names line o end sound is whole;
+        phase = refl;
+        few = omega arith;
+        passes = refl;
+        lead = refl;
+        last = λ last. absurd (omega (arith, last));
       };
+      places = subst (λ (t : Settings). HasPlaces t (covers domain)) (sym is)
+          (record { low = λ x inside. placed x (sym (whole x) ∙ inside) });
       settings_are = is;
       names_are = refl;
       line_is = refl;

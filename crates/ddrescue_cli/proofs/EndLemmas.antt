@@ -2,11 +2,14 @@
 use Rattle.std.proofs.Common.{◌≡◌, ◌⊎◌, ℕ, ◌+◌, ◌<◌, ◌^◌, Bool, true, false, ◌&&◌, IsTrue, if◌then◌else◌, List, [], ◌∷◌, ◌++◌, map, length, All, Option, Some, None, is_some, is_none, refl, sym, ap, ◌∙◌, arith, subst, append_assoc, append-nil, inl, inr, ⊎_elim}
 use Rattle.std.proofs.lemmas.List.Elements.{All-nil, All-cons, All-append}
 use Rattle.std.proofs.lemmas.Bool.{false_from_ne_true}
+use Rattle.block_list.specs.declared.status.Status.{Status}
 use Rattle.faulty_source.specs.SourceState.{SourceState, Stays as SourceStays}
 use Rattle.crash_site.specs.declared.site.SiteCall.{SiteCall}
 use Rattle.crash_site.specs.declared.site.SiteCall.TheVariants.{ImageOpen, ImageWrite, ImageSync, MapRead, DraftBegin, DraftAppend, DraftSync, DraftPublish, MapSettle}
 use Rattle.crash_site.specs.Calls.{Call, Entry, Done as Returned, Made, BrokeAt, image_sync, draft_append, draft_sync}
 use Rattle.crash_site.specs.SiteState.{SiteState, Breaks}
+use Rattle.mapfile_text.specs.declared.state.Current.TheVariants.{Finished}
+use Rattle.mapfile_text.specs.declared.state.MapState.{MapState}
 use Rattle.mapfile_text.specs.Pieces.{pieces_of}
 use Rattle.save_resume.specs.MapNames.{MapNames}
 use Rattle.save_resume.specs.Saving.{publish_calls, save_calls, IsNameIn}
@@ -18,6 +21,7 @@ use Rattle.rescue_rules.specs.declared.stop.Stop.TheVariants.{SourceLost, Site, 
 use Rattle.rescue_rules.specs.declared.stop.RunEnd.{RunEnd}
 use Rattle.rescue_rules.specs.declared.stop.RunEnd.TheVariants.{Done, Stopped, SaveFailed}
 use Rattle.rescue_rules.specs.Setting.{Setting}
+use Rattle.rescue_rules.specs.Passes.{copying_passes}
 use Rattle.rescue_rules.specs.Machine.{Machine, IsRequest, has_request}
 use Rattle.rescue_rules.specs.Step.{Event, limit}
 use Rattle.rescue_rules.specs.Moves.{Move, ready, has_none, state_after, is_over, IsRun}
@@ -31,11 +35,13 @@ use Rattle.rescue_rules.proofs.SearchLemmas.{request_seen}
 use Rattle.rescue_core.specs.RunState.{RunState, names_in, setting_in}
 use Rattle.rescue_core.specs.Turning.{IsEvent, stepped, move_by, Halted, Starved, Lost, Unwritten, Unsaved}
 use Rattle.rescue_core.specs.Closing.{Saves, Saved, Unsaved as UnsavedEnd, Closes, closing_snapshot, end_of as core_end}
-use Rattle.ddrescue_cli.specs.Alone.{IsFrom}
-use Rattle.ddrescue_cli.specs.Steps.{Across, IsLate}
+use Rattle.copy_passes.specs.Turns.{Across, IsFrom, IsAlike, moved_to, Went, WentUpTo}
+use Rattle.copy_passes.specs.Copying.{IsCopying}
+use Rattle.ddrescue_cli.specs.Steps.{IsLate}
 use Rattle.ddrescue_cli.specs.declared.ending.Ending.TheVariants.{SiteFault}
 use Rattle.ddrescue_cli.specs.Work.{answer_of}
-use Rattle.ddrescue_cli.specs.Copying.{behind, Went, WentUpTo, EndsCalls, WentToEnd}
+use Rattle.ddrescue_cli.specs.Copying.{CopiesOnly, EndsCalls, WentToEnd}
+use Rattle.ddrescue_cli.proofs.CopyLemmas.{copied_over, still_only}
 use Rattle.ddrescue_cli.proofs.GainLemmas.{GainsBroken, broke_gains, broke_behind}
 use Rattle.ddrescue_cli.proofs.TurnLemmas.{timed_more, EventMore, event_more, ReadsMore, read_more}
 
@@ -55,6 +61,55 @@ asked_on s m p q asks =
 
 last_over : (s : Setting) (m : Machine) (over : Bool) → is_over s m ≡ over → last_snapshot s m ≡ (if over then finished_snapshot m else snapshot m)
 last_over s m over is = ap (λ (b : Bool). if b then finished_snapshot m else snapshot m) is
+
+-- Alike states are over alike, and are saved alike.
+over_alike : (r : RunState) (m n : Machine) (over : Bool) → IsAlike (setting_in r) m n → is_over (setting_in r) n ≡ over
+    → is_over (setting_in r) m ≡ over
+over_alike r m n over alike is =
+    ap (λ (k : Machine). has_none k.passes && is_none (limit (setting_in r) n)) (sym alike.next) ∙ is
+
+snapshot_alike : (s : Setting) (m n : Machine) → IsAlike s m n → snapshot n ≡ snapshot m
+snapshot_alike s m n alike =
+    let P : List Status → MapState → ℕ → ℕ → Snapshot = λ map shown began now.
+    record { map = map; shown = shown; began = began; now = now } in
+    ap (λ (map : List Status). P map n.shown n.began n.now) alike.map
+    ∙ ap (λ (shown : MapState). P m.map shown n.began n.now) alike.shown
+    ∙ ap (λ (began : ℕ). P m.map m.shown began n.now) alike.began
+    ∙ ap (P m.map m.shown m.began) alike.now
+
+finished_alike : (s : Setting) (m n : Machine) → IsAlike s m n → finished_snapshot n ≡ finished_snapshot m
+finished_alike s m n alike =
+    ap (λ (p : Snapshot). record p { shown = record p.shown { current = Finished; pass = 1 } }) (snapshot_alike s m n alike)
+
+-- the setting of a run stands
+setting_stands : (r q : RunState) → q ≡ moved_to r q → setting_in q ≡ setting_in r
+setting_stands r q stands = ap setting_in stands
+
+-- the state that a run of events led to, and the one that a run came to
+abbrev behind : RunState → List Event → Machine
+behind r events = state_after (setting_in r) r.machine events
+
+behind_over : (r r1 : RunState) (events : List Event) (over : Bool) → r1 ≡ moved_to r r1
+    → IsAlike (setting_in r) (behind r events) r1.machine → is_over (setting_in r1) r1.machine ≡ over
+    → is_over (setting_in r) (behind r events) ≡ over
+behind_over r r1 events over stands alike is =
+    over_alike r (behind r events) r1.machine over alike
+    (subst (λ (t : Setting). is_over t r1.machine ≡ over) (setting_stands r r1 stands) is)
+
+-- what the end of that one saves is what the run's end saves
+saves_over : (r r1 : RunState) (events : List Event) → IsAlike (setting_in r) (behind r events) r1.machine
+    → is_over (setting_in r) (behind r events) ≡ true
+    → closing_snapshot None r1 ≡ last_snapshot (setting_in r) (behind r events)
+saves_over r r1 events alike over =
+    let m : Machine = behind r events in
+    finished_alike (setting_in r) m r1.machine alike ∙ sym (last_over (setting_in r) m true over)
+
+saves_on : (r r1 : RunState) (events : List Event) (stop : Stop) → IsAlike (setting_in r) (behind r events) r1.machine
+    → is_over (setting_in r) (behind r events) ≡ false
+    → closing_snapshot (Some stop) r1 ≡ last_snapshot (setting_in r) (behind r events)
+saves_on r r1 events stop alike on =
+    let m : Machine = behind r events in
+    snapshot_alike (setting_in r) m r1.machine alike ∙ sym (last_over (setting_in r) m false on)
 
 -- what was done up to the end of a run, or where it stopped
 record IsDone (r : RunState) (events : List Event) (spare : List ℕ) (o : Across) : Type 0 where
@@ -93,25 +148,28 @@ done_went r r1 o site2 w =
     }
 
 -- The save at the end of a run, or a call of it that failed.
-save_ends : (r : RunState) (events : List Event) (stop : Option Stop) (spare : ℕ) (end : RunEnd) (old : List Entry) (a b : SiteState)
-    → EndsBy stop (setting_in r) (behind r events).machine spare
-    → closing_snapshot stop (behind r events) ≡ last_snapshot (setting_in r) (behind r events).machine
+save_ends : (r r1 : RunState) (events : List Event) (stop : Option Stop) (spare : ℕ) (end : RunEnd) (old : List Entry) (a b : SiteState)
+    → EndsBy stop (setting_in r) (behind r events) spare → setting_in r1 ≡ setting_in r
+    → closing_snapshot stop r1 ≡ last_snapshot (setting_in r) (behind r events)
     → Made (run_calls (setting_in r) r.machine events) old a.calls → IsTrue a.tells
-    → Saves stop (behind r events) end a b → EndsCalls r events spare end old b.calls
-save_ends r events stop spare end old a b by text made tells (Saved is makes rest) =
+    → Saves stop r1 end a b → EndsCalls r events spare end old b.calls
+save_ends r r1 events stop spare end old a b by same text made tells (Saved is makes rest) =
     let s : Setting = setting_in r in
-    let P : Snapshot → Type 0 = λ p. Made (closing_calls s p) a.calls b.calls in
+    let are : closing_calls (setting_in r1) (closing_snapshot stop r1) ≡ end_calls s r.machine events =
+    ap (λ (t : Setting). closing_calls t (closing_snapshot stop r1)) same ∙ ap (closing_calls s) text in
     record {
       gained = map Returned (run_calls s r.machine events ++ end_calls s r.machine events);
       grew = made_more old a.calls b.calls (run_calls s r.machine events) (end_calls s r.machine events) made
-          (subst P text (makes.made tells));
+          (subst (λ (cs : List Call). Made cs a.calls b.calls) are (makes.made tells));
       ends = IsSaved stop by (is ∙ ends_as stop) refl;
     }
-save_ends r events stop spare end old a b by text made tells (UnsavedEnd call is named breaks rest) =
+save_ends r r1 events stop spare end old a b by same text made tells (UnsavedEnd call is named breaks rest) =
     let s : Setting = setting_in r in
-    let P : Snapshot → Type 0 = λ p. BrokeAt call (closing_calls s p) a.calls b.calls in
+    let are : closing_calls (setting_in r1) (closing_snapshot stop r1) ≡ end_calls s r.machine events =
+    ap (λ (t : Setting). closing_calls t (closing_snapshot stop r1)) same ∙ ap (closing_calls s) text in
     let g : GainsBroken call (end_calls s r.machine events) a.calls b.calls =
-    broke_gains call (end_calls s r.machine events) a.calls b.calls (subst P text (breaks.broke tells)) in
+    broke_gains call (end_calls s r.machine events) a.calls b.calls
+    (subst (λ (cs : List Call). BrokeAt call cs a.calls b.calls) are (breaks.broke tells)) in
     let calls : List Entry = map Returned (run_calls s r.machine events) in
     let Q : List Entry → Type 0 = λ from. BrokeAt call (end_calls s r.machine events) from (calls ++ g.more) in
     record {
@@ -180,19 +238,24 @@ saves_done stop r end a b (Saved is makes rest) done = let never : Stopped stop 
 saves_done stop r end a b (UnsavedEnd call is named breaks rest) done = let never : SaveFailed call (Some stop) ≡ Done = sym is ∙ done in cc
 
 -- a copy that went on to its end
-pub ended_done : (r r1 : RunState) (end : RunEnd) (o : Across) (site2 : SiteState) → Went r r1 o
+ended_done : (r r1 : RunState) (end : RunEnd) (o : Across) (site2 : SiteState) → Went r r1 o
     → is_over (setting_in r1) r1.machine ≡ true → o.site'.tells ≡ o.site.tells → Closes None r1 end o.site' site2
     → WentToEnd r end (record o { site' = site2 })
 ended_done r r1 end o site2 w over same saves =
-    let s : Setting = setting_in r in
-    let over' : is_over s (behind r w.events).machine ≡ true =
-    subst (λ (q : RunState). is_over (setting_in q) q.machine ≡ true) w.state over in
+    let over' : is_over (setting_in r) (behind r w.events) ≡ true = behind_over r r1 w.events true w.stands w.state over in
     to_end r end w.events [] (record o { site' = site2 }) (done_went r r1 o site2 w)
-    (λ tells. save_ends r w.events None 0 end o.site.calls o.site' site2 (over', refl)
-    (sym (last_over s (behind r w.events).machine true over')) (w.made.made tells) (rw same tells)
-    (saves_as None r1 (behind r w.events) end o.site' site2 w.state saves))
+    (λ tells. save_ends r r1 w.events None 0 end o.site.calls o.site' site2 (over', refl) (setting_stands r r1 w.stands)
+    (saves_over r r1 w.events w.state over') (w.made.made tells) (rw same tells) saves)
     (λ done. over')
     (saves_late None r1 end o.site' site2 (λ call is. cc) saves)
+
+-- a copy that went through its last pass, and was asked for no more
+pub copied_end : (r r1 r2 : RunState) (end : RunEnd) (o : Across) (site2 : SiteState) → Went r r1 o → IsCopying r1
+    → CopiesOnly r.settings → r1.pass ≡ copying_passes → has_request (setting_in r1) r1.machine ≡ false → r2 ≡ r1
+    → o.site'.tells ≡ o.site.tells → Closes None r2 end o.site' site2 → WentToEnd r end (record o { site' = site2 })
+copied_end r r1 r2 end o site2 w copying only last spent still same saves =
+    ended_done r r1 end o site2 w (copied_over r1 copying (still_only r.settings r1.settings (ap (λ (q : RunState). q.settings) w.stands) only) last spent) same
+    (saves_as None r2 r1 end o.site' site2 still saves)
 
 -- a copy that stopped before its event's calls
 stopped_saves : (r r1 r2 : RunState) (stop : Stop) (end : RunEnd) (p q : ℕ) (spare : List ℕ) (o : Across) (site2 : SiteState)
@@ -202,39 +265,37 @@ stopped_saves : (r r1 r2 : RunState) (stop : Stop) (end : RunEnd) (p q : ℕ) (s
     → o.site'.tells ≡ o.site.tells → IsDone r w.events spare (record o { source' = source2; site' = site2; clock' = clock2 })
     → Saves (Some stop) r2 end o.site' site2 → WentToEnd r end (record o { source' = source2; site' = site2; clock' = clock2 })
 stopped_saves r r1 r2 stop end p q spare o site2 source2 clock2 w asks still by other same d saves =
-    let s : Setting = setting_in r in
-    let on : is_over s (behind r w.events).machine ≡ false =
-    subst (λ (x : RunState). is_over (setting_in x) x.machine ≡ false) w.state (asked_on (setting_in r1) r1.machine p q asks) in
+    let on : is_over (setting_in r) (behind r w.events) ≡ false =
+    behind_over r r1 w.events false w.stands w.state (asked_on (setting_in r1) r1.machine p q asks) in
     to_end r end w.events spare (record o { source' = source2; site' = site2; clock' = clock2 }) d
-    (λ tells. save_ends r w.events (Some stop) (length spare) end o.site.calls o.site' site2 (by (behind r w.events).machine on)
-    (sym (last_over s (behind r w.events).machine false on)) (w.made.made tells) (rw same tells)
-    (saves_as (Some stop) r2 (behind r w.events) end o.site' site2 (still ∙ w.state) saves))
+    (λ tells. save_ends r r1 w.events (Some stop) (length spare) end o.site.calls o.site' site2 (by (behind r w.events) on)
+    (setting_stands r r1 w.stands) (saves_on r r1 w.events stop w.state on) (w.made.made tells) (rw same tells)
+    (saves_as (Some stop) r2 r1 end o.site' site2 still saves))
     (λ done. absurd (saves_done stop r2 end o.site' site2 saves done))
     (saves_late (Some stop) r2 end o.site' site2 other saves)
 
 -- a copy that broke off in its event's calls
-broken_calls : (r : RunState) (es : List Event) (e : Event) (call : SiteCall) (end : RunEnd) (old a b : List Entry)
-    → EventMore r es e → end ≡ Stopped (Site call) → Made (run_calls (setting_in r) r.machine es) old a
-    → BrokeAt call (move_calls (setting_in r) (move_by (behind r es) e)) a b → EndsCalls r (es ++ e ∷ []) 0 end old b
-broken_calls r es e call end old a b more is made broke =
-    let s : Setting = setting_in r in
-    let calls : List Entry = map Returned (run_calls s r.machine es) in
-    let moves : List Call = move_calls s (move_by (behind r es) e) in
+broken_calls : (r r1 : RunState) (es : List Event) (e : Event) (call : SiteCall) (end : RunEnd) (old a b : List Entry)
+    → EventMore r r1 es e → end ≡ Stopped (Site call) → Made (run_calls (setting_in r) r.machine es) old a
+    → BrokeAt call (move_calls (setting_in r1) (move_by r1 e)) a b → EndsCalls r (es ++ e ∷ []) 0 end old b
+broken_calls r r1 es e call end old a b more is made broke =
+    let calls : List Entry = map Returned (run_calls (setting_in r) r.machine es) in
+    let moves : List Call = move_calls (setting_in r1) (move_by r1 e) in
     let g : GainsBroken call moves a b = broke_gains call moves a b broke in
     let Q : List Entry → Type 0 = λ from. BrokeAt call moves from (calls ++ g.more) in
-    let M : Move → Type 0 = λ v. BrokeAt call (move_calls s v) calls (calls ++ g.more) in
+    let M : List Call → Type 0 = λ cs. BrokeAt call cs calls (calls ++ g.more) in
     record {
       gained = calls ++ g.more;
       grew = g.grew ∙ ap (λ (c : List Entry). c ++ g.more) made ∙ append_assoc old calls g.more;
       ends = IsBroken es e call refl refl is
-          (subst M (sym more.move) (subst Q (append-nil calls) (broke_behind call moves calls [] g.more g.broke)));
+          (subst M (sym more.calls) (subst Q (append-nil calls) (broke_behind call moves calls [] g.more g.broke)));
     }
 
 broken_end : (r r1 : RunState) (call : SiteCall) (end : RunEnd) (request : Request) (e : Event) (o : Across) (source2 : SourceState)
-    (site2 : SiteState) (clock2 : ClockState) → (w : Went r r1 o) → (more : EventMore r w.events e)
+    (site2 : SiteState) (clock2 : ClockState) → (w : Went r r1 o) → (more : EventMore r r1 w.events e)
     → IsEvent request e o.source' source2 o.clock' clock2 → SourceStays o.source o.source' → end ≡ Stopped (Site call)
     → ((call ≡ ImageOpen) ⊎ (call ≡ MapRead) → ⊥)
-    → (IsTrue o.site.tells → BrokeAt call (move_calls (setting_in r) (move_by (behind r w.events) e)) o.site'.calls site2.calls)
+    → (IsTrue o.site.tells → BrokeAt call (move_calls (setting_in r1) (move_by r1 e)) o.site'.calls site2.calls)
     → WentToEnd r end (record o { source' = source2; site' = site2; clock' = clock2 })
 broken_end r r1 call end request e o source2 site2 clock2 w more is stays ended other broke =
     let m : ReadsMore r w.events e (record o { source' = source2; site' = site2; clock' = clock2 }) =
@@ -249,16 +310,15 @@ broken_end r r1 call end request e o source2 site2 clock2 w more is stays ended 
       timed = subst (λ (ts : List ℕ). ReadsClock ts o.clock clock2) none m.timed;
       fit = subst AreTimes none m.fit;
     })
-    (λ tells. broken_calls r w.events e call end o.site.calls o.site'.calls site2.calls more ended (w.made.made tells) (broke tells))
+    (λ tells. broken_calls r r1 w.events e call end o.site.calls o.site'.calls site2.calls more ended (w.made.made tells) (broke tells))
     (λ done. let never : Stopped (Site call) ≡ Done = sym ended ∙ done in absurd (cc))
     (subst (λ (x : RunEnd). IsLate (answer_of x)) (sym ended) (call_late call None other))
 
 event_next : (r r1 : RunState) (request : Request) (e : Event) (o : Across) (source2 : SourceState) (clock2 : ClockState)
     → (w : Went r r1 o) → IsRequest (setting_in r1) r1.machine request.pos (request.pos + request.len)
-    → IsEvent request e o.source' source2 o.clock' clock2 → EventMore r w.events e
+    → IsEvent request e o.source' source2 o.clock' clock2 → EventMore r r1 w.events e
 event_next r r1 request e o source2 clock2 w asks is =
-    let P : RunState → Type 0 = λ q. IsRequest (setting_in q) q.machine e.reading.pos (e.reading.pos + e.reading.asked) in
-    event_more r w.events e w.run (subst P w.state (rw (is.pos, is.asked) asks)) (omega (arith, is.few, is.asked))
+    event_more r r1 w.events e w.run (setting_stands r r1 w.stands) w.state (rw (is.pos, is.asked) asks) (omega (arith, is.few, is.asked))
 
 -- what a lost read leaves
 done_lost : (r r1 : RunState) (before : ℕ) (o : Across) (source2 : SourceState) (site2 : SiteState) (clock2 : ClockState) → (w : Went r r1 o)
@@ -287,34 +347,29 @@ done_still r r1 o source2 site2 clock2 w untouched unread =
     }
 
 -- the write of an event, or its save, that broke off
-broken_write : (r r1 : RunState) (es : List Event) (e : Event) (a b c : SiteState) → r1 ≡ behind r es → c ≡ b
-    → Breaks ImageWrite (write_calls (setting_in r1) e.reading) a b → IsTrue a.tells
-    → BrokeAt ImageWrite (move_calls (setting_in r) (move_by (behind r es) e)) a.calls c.calls
-broken_write r r1 es e a b c is still breaks tells =
+broken_write : (r : RunState) (e : Event) (a b c : SiteState) → c ≡ b
+    → Breaks ImageWrite (write_calls (setting_in r) e.reading) a b → IsTrue a.tells
+    → BrokeAt ImageWrite (move_calls (setting_in r) (move_by r e)) a.calls c.calls
+broken_write r e a b c still breaks tells =
     let s : Setting = setting_in r in
-    let P : RunState → Type 0 = λ q. BrokeAt ImageWrite (write_calls (setting_in q) e.reading) a.calls b.calls in
-    let C : SiteState → Type 0 = λ d. BrokeAt ImageWrite (move_calls s (move_by (behind r es) e)) a.calls d.calls in
-    subst C (sym still) (broke_front ImageWrite (write_calls s e.reading) (due_calls s (move_by (behind r es) e)) a.calls b.calls
-    (subst P is (breaks.broke tells)))
+    let C : SiteState → Type 0 = λ d. BrokeAt ImageWrite (move_calls s (move_by r e)) a.calls d.calls in
+    subst C (sym still)
+    (broke_front ImageWrite (write_calls s e.reading) (due_calls s (move_by r e)) a.calls b.calls (breaks.broke tells))
 
-broken_save : (r r1 r2 : RunState) (es : List Event) (e : Event) (call : SiteCall) (a b c : SiteState) → r1 ≡ behind r es → c ≡ b
-    → r2 ≡ stepped r1 e → is_due (setting_in r1) (move_by r1 e) ≡ true
-    → BrokeAt call (save_calls (names_in r1.names) (text_of r1.line (snapshot r2.machine)))
-    (a.calls ++ map Returned (write_calls (setting_in r1) e.reading)) b.calls
-    → BrokeAt call (move_calls (setting_in r) (move_by (behind r es) e)) a.calls c.calls
-broken_save r r1 r2 es e call a b c is still steps due broke =
+broken_save : (r r2 : RunState) (e : Event) (call : SiteCall) (a b c : SiteState) → c ≡ b → r2 ≡ stepped r e
+    → is_due (setting_in r) (move_by r e) ≡ true
+    → BrokeAt call (save_calls (names_in r.names) (text_of r.line (snapshot r2.machine)))
+    (a.calls ++ map Returned (write_calls (setting_in r) e.reading)) b.calls
+    → BrokeAt call (move_calls (setting_in r) (move_by r e)) a.calls c.calls
+broken_save r r2 e call a b c still steps due broke =
     let s : Setting = setting_in r in
-    let v : Move = move_by (behind r es) e in
+    let v : Move = move_by r e in
     let writes : List Call = write_calls s e.reading in
     let saves : List Call = save_calls s.names (text_of s.line (snapshot v.after)) in
-    let stepped' : r2 ≡ stepped (behind r es) e = steps ∙ ap (λ (q : RunState). stepped q e) is in
-    let P : RunState → Type 0 = λ q. BrokeAt call (save_calls (names_in r1.names) (text_of r1.line (snapshot q.machine)))
-    (a.calls ++ map Returned (write_calls (setting_in r1) e.reading)) b.calls in
-    let Q : RunState → Type 0 = λ q. BrokeAt call (save_calls (names_in q.names) (text_of q.line (snapshot v.after)))
-    (a.calls ++ map Returned (write_calls (setting_in q) e.reading)) b.calls in
-    let there : BrokeAt call saves (a.calls ++ map Returned writes) b.calls = subst Q is (subst P stepped' broke) in
-    let D : RunState → Type 0 = λ q. is_due (setting_in q) (move_by q e) ≡ true in
-    let made : due_calls s v ≡ saves = ap (λ (on : Bool). if on then saves else []) (subst D is due) in
+    let P : RunState → Type 0 = λ q. BrokeAt call (save_calls (names_in r.names) (text_of r.line (snapshot q.machine)))
+    (a.calls ++ map Returned writes) b.calls in
+    let there : BrokeAt call saves (a.calls ++ map Returned writes) b.calls = subst P steps broke in
+    let made : due_calls s v ≡ saves = ap (λ (on : Bool). if on then saves else []) due in
     let C : SiteState → Type 0 = λ d. BrokeAt call (move_calls s v) a.calls d.calls in
     subst C (sym still) (broke_back call writes (due_calls s v) a.calls (a.calls ++ map Returned writes) b.calls refl
     (subst (λ (cs : List Call). BrokeAt call cs (a.calls ++ map Returned writes) b.calls) (sym made) there))
@@ -342,13 +397,13 @@ halted_end r r1 r2 stop end request o source2 site2 site3 clock2 w stays same as
     let closed : (end ≡ Stopped (Site ImageWrite)) × (site3 ≡ site2) = subst C is closes in
     broken_end r r1 ImageWrite end request e o source2 site3 clock2 w (event_next r r1 request e o source2 clock2 w asks event) event stays closed.0
     (other_call ImageWrite ImageWrite refl (λ x. cc) (λ x. cc))
-    (λ tells. broken_write r r1 w.events e o.site' site2 site3 w.state closed.1 breaks (rw same tells))
+    (λ tells. broken_write r1 e o.site' site2 site3 closed.1 breaks (rw same tells))
 halted_end r r1 r2 stop end request o source2 site2 site3 clock2 w stays same asks (Unsaved call is e event steps due named broke rose) closes =
     let C : Stop → Type 0 = λ x. Closes (Some x) r2 end site2 site3 in
     let closed : (end ≡ Stopped (Site call)) × (site3 ≡ site2) = subst C is closes in
     broken_end r r1 call end request e o source2 site3 clock2 w (event_next r r1 request e o source2 clock2 w asks event) event stays closed.0
     (save_named call (names_in r1.names) (text_of r1.line (snapshot r2.machine)) named)
-    (λ tells. broken_save r r1 r2 w.events e call o.site' site2 site3 w.state closed.1 steps due (broke (rw same tells)))
+    (λ tells. broken_save r1 r2 e call o.site' site2 site3 closed.1 steps due (broke (rw same tells)))
 
 pub stopped_end : (r r2 : RunState) (stop : Stop) (end : RunEnd) (o : Across) (site3 : SiteState) → WentUpTo stop r r2 o
     → Closes (Some stop) r2 end o.site' site3 → WentToEnd r end (record o { site' = site3 })

@@ -11,7 +11,8 @@ use Rattle.rescue_rules.specs.Events.{reads_of}
 use Rattle.rescue_rules.proofs.GivenLemmas.{given_covered, given_uncovered}
 use Rattle.rescue_rules.proofs.MarkLemmas.{slice_get-take, slice_get-drop}
 use Rattle.ddrescue_cli.specs.Told.{asked}
-use Rattle.ddrescue_cli.specs.Alone.{IsFrom, HasRead}
+use Rattle.copy_passes.specs.Turns.{IsFrom}
+use Rattle.ddrescue_cli.specs.Alone.{HasRead}
 use Rattle.ddrescue_cli.specs.Laws.{GivenIsInput}
 use Rattle.ddrescue_cli.proofs.GainLemmas.{gained_is}
 

@@ -38,7 +38,8 @@ use Rattle.ddrescue_cli.specs.Refusals.{NamesRefused}
 use Rattle.ddrescue_cli.specs.Work.{WorksOn}
 use Rattle.ddrescue_cli.specs.Answers.{AreAccepted, SaysOfWords, Causes, IsOpenedAs, OpensOnce, IsRefusedByPlan, IsBehindWords, MaySay, drafting_left, NameOneFileTwice}
 use Rattle.ddrescue_cli.specs.Alone.{PlacesAllow, FilesAllow, IsLeft}
-use Rattle.ddrescue_cli.specs.Steps.{Across, WorkedOn, Worked}
+use Rattle.copy_passes.specs.Turns.{Across}
+use Rattle.ddrescue_cli.specs.Steps.{WorkedOn, Worked}
 use Rattle.ddrescue_cli.specs.Ddrescue.{HasGained, Says, Promise, Ddrescue}
 use Rattle.ddrescue_cli.proofs.AloneLemmas.{none_read}
 use Rattle.ddrescue_cli.proofs.AskedLemmas.{asked_sensible}

@@ -31,9 +31,10 @@ use Rattle.ddrescue_cli.specs.declared.ending.Ending.{Ending}
 use Rattle.ddrescue_cli.specs.declared.ending.Ending.TheVariants.{Done, SourceLost, SiteFault, NoMemory}
 use Rattle.rescue_command.specs.declared.options.Options.{Options}
 use Rattle.ddrescue_cli.specs.Asked.{setting_with}
-use Rattle.ddrescue_cli.specs.Alone.{IsFrom, IsBeforeReads, HasRead}
+use Rattle.copy_passes.specs.Turns.{Across, IsFrom}
+use Rattle.ddrescue_cli.specs.Alone.{IsBeforeReads, HasRead}
 use Rattle.ddrescue_cli.specs.Work.{answer_of}
-use Rattle.ddrescue_cli.specs.Steps.{Across, TellAll, RanOn, Ran}
+use Rattle.ddrescue_cli.specs.Steps.{TellAll, RanOn, Ran}
 use Rattle.ddrescue_cli.specs.Copying.{settings_by, IsRunOver, EndsCalls, WentToEnd}
 use Rattle.ddrescue_cli.proofs.TurnLemmas.{timed_more}
 

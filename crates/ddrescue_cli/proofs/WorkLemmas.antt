@@ -27,7 +27,8 @@ use Rattle.ddrescue_cli.specs.Names.{AreNamedApart}
 use Rattle.ddrescue_cli.specs.Asked.{setting_with, ArePlacedBy, IsBeyond}
 use Rattle.ddrescue_cli.specs.Refusals.{is_other, OutputRefused, PlacesRefused}
 use Rattle.ddrescue_cli.specs.Work.{HasOnlyCalls, OrRefused, ThenRun, WorksOn}
-use Rattle.ddrescue_cli.specs.Steps.{Across, Gains, OutputStop, Started, LoadStopped, InBarrier, InRead, Starved, Refused, Loaded, RanOn, WorkedOn}
+use Rattle.copy_passes.specs.Turns.{Across}
+use Rattle.ddrescue_cli.specs.Steps.{Gains, OutputStop, Started, LoadStopped, InBarrier, InRead, Starved, Refused, Loaded, RanOn, WorkedOn}
 use Rattle.ddrescue_cli.proofs.GainLemmas.{GainsBroken, broke_gains}
 
 -- a name isn't another where the other isn't it

@@ -1,6 +1,5 @@
 -- What is said where the input tells, whatever the files do, and where the files tell, whatever the input does.
-use Rattle.std.specs.Prelude.{◌≡◌, ◌≢◌, ⊤, ℕ, ◌+◌, true, false, List, [], ◌++◌, length, slice_range, All, Option, Some, None}
-use Rattle.faulty_source.specs.Journal.{Reading}
+use Rattle.std.specs.Prelude.{◌≡◌, ◌≢◌, ⊤, ℕ, true, false, List, [], ◌++◌, All, Option, Some, None}
 use Rattle.faulty_source.specs.SourceState.{SourceState}
 use Rattle.crash_site.specs.declared.site.SiteCall.{SiteCall}
 use Rattle.crash_site.specs.declared.site.SiteCall.TheVariants.{ImageOpen, ImageRead, ImageWrite, ImageSync, MapRead, DraftBegin, DraftAppend, DraftSync, DraftPublish, MapSettle, MapRemove}
@@ -13,13 +12,10 @@ use Rattle.rescue_rules.specs.Step.{Event}
 use Rattle.rescue_rules.specs.Moves.{state_after, is_over, IsRun}
 use Rattle.rescue_rules.specs.Beginning.{machine_of}
 use Rattle.rescue_rules.specs.Events.{reads_of}
+use Rattle.copy_passes.specs.Turns.{IsFrom}
 use Rattle.ddrescue_cli.specs.declared.ending.Ending.{Ending}
 use Rattle.ddrescue_cli.specs.declared.ending.Ending.TheVariants.{Done, Usage, SameName, SourceFault, NotRegular, MapRefused, SourceLost, SiteFault, NoMemory}
 use Rattle.ddrescue_cli.specs.Refusals.{is_other, OutputRefused, MapfileRefused, PlacesRefused}
-
--- a read gave the input's own bytes
-abbrev pub IsFrom : (bytes : List ℕ) → Reading → Type 0
-IsFrom bytes r = r.given ≡ slice_range bytes r.pos (r.pos + length r.given)
 
 -- a refusal, which comes before the first read
 abbrev pub IsBeforeReads : Ending → Type 0

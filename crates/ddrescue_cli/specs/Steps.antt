@@ -5,7 +5,6 @@ use Rattle.block_list.specs.declared.status.Status.{Status}
 use Rattle.mapfile_text.specs.declared.state.MapState.{MapState}
 use Rattle.mapfile_text.specs.declared.read.MapError.{MapError}
 use Rattle.mapfile_text.specs.declared.read.MapError.TheVariants.{NoStatusLine, NoMemory as OutOfMemory}
-use Rattle.faulty_source.specs.SourceState.{SourceState}
 use Rattle.crash_site.specs.declared.site.SiteCall.{SiteCall}
 use Rattle.crash_site.specs.declared.site.SiteCall.TheVariants.{ImageOpen, ImageSync, MapRead, MapSettle}
 use Rattle.crash_site.specs.Files.{File}
@@ -17,11 +16,11 @@ use Rattle.save_resume.specs.Resuming.{barrier_calls, IsResumeCall}
 use Rattle.rescue_rules.specs.Setting.{Setting}
 use Rattle.rescue_rules.specs.Start.{Stands, IsFresh}
 use Rattle.ddrescue_cli.specs.declared.load.Start.{Start}
-use Rattle.rescue_console.specs.ClockState.{ClockState}
 use Rattle.rescue_rules.specs.declared.stop.Stop.{Stop}
 use Rattle.rescue_rules.specs.declared.stop.RunEnd.{RunEnd}
 use Rattle.rescue_rules.specs.Laws.{AreTimes}
 use Rattle.rescue_rules.specs.Work.{Gain, IsNothing}
+use Rattle.copy_passes.specs.Turns.{Across}
 use Rattle.ddrescue_cli.specs.declared.ending.Ending.{Ending}
 use Rattle.ddrescue_cli.specs.declared.ending.Ending.TheVariants.{NotRegular, MapRefused, SiteFault, NoMemory}
 use Rattle.ddrescue_cli.specs.declared.ending.Which.TheVariants.{RunMap}
@@ -85,15 +84,6 @@ LoadCause e faults faults' =
     ⊎ ((error : MapError) × (e ≡ MapRefused RunMap error) × (error ≢ NoStatusLine) × (error ≢ OutOfMemory)
     × (faults' ≡ faults))
     ⊎ ((call : SiteCall) × (e ≡ SiteFault call None) × IsResumeCall call × Rose faults faults')
-
--- what the objects tell before something was done, and behind it
-pub record Across : Type 0 where
-  pub source : SourceState
-  pub source' : SourceState
-  pub site : SiteState
-  pub site' : SiteState
-  pub clock : ClockState
-  pub clock' : ClockState
 
 -- the input, the site and the clock tell
 pub record TellAll (o : Across) : Type 0 where
