@@ -45,7 +45,7 @@ cut_tiles low b bs end at t l u =
     let z : low + (at - b.pos) + (b.pos + b.size - at) ≡ low + b.size = omega arith in
     (t.0, omega arith, (omega (arith, t.0), omega arith, rw z t.2))
 
-cut_same : (b : Block) (bs : List Block) (at : ℕ) → b.pos < at → at < b.pos + b.size
+pub cut_same : (b : Block) (bs : List Block) (at : ℕ) → b.pos < at → at < b.pos + b.size
     → flat_map covered (front_of b at ∷ back_of b at ∷ bs) ≡ flat_map covered (b ∷ bs)
 cut_same b bs at l u =
     let z : at - b.pos + (b.pos + b.size - at) ≡ b.size = omega arith in
@@ -132,7 +132,7 @@ uncut bs at i t h e = record {
       (cases_lt i n);
 }
 
-joined_first : (xs : List Block) (a : Block) (n : ℕ) (s : Status) → a.status ≡ s
+pub joined_first : (xs : List Block) (a : Block) (n : ℕ) (s : Status) → a.status ≡ s
     → flat_map covered xs ++ replicate (a.size + n) s ≡ flat_map covered (xs ++ a ∷ []) ++ replicate n s
 joined_first xs a n s e = sym (
     ap (λ r. r ++ replicate n s) (covered-append xs (a ∷ []) ∙ ap (λ r. flat_map covered xs ++ r) (append-nil (covered a)))

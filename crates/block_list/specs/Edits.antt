@@ -1,6 +1,7 @@
-use Rattle.std.specs.Prelude.{◌≡◌, ℕ, ◌+◌, ◌-◌, ◌<◌, ◌≤◌, ◌^◌, ◌++◌, List, [], ◌∷◌, length, take, drop, slice_set}
+use Rattle.std.specs.Prelude.{◌≡◌, ℕ, ◌+◌, ◌-◌, ◌<◌, ◌≤◌, ◌^◌, ◌++◌, List, [], ◌∷◌, length, take, drop, slice_get, slice_set, Some}
 use Rattle.std.specs.List.{flat_map, insert}
 use Rattle.block_list.specs.declared.block.Block.{Block}
+use Rattle.block_list.specs.Map.{marked}
 use Rattle.block_list.specs.Stretches.{covered}
 use Rattle.block_list.specs.Tiling.{AreTiles, IsMerged}
 
@@ -61,3 +62,13 @@ pub record IsJoinedBehind (bs : List Block) (j : ℕ) (block : Block) (high : �
   pub status : wide.status ≡ block.status
   pub same : covered wide ++ flat_map covered (drop high bs) ≡ covered block ++ flat_map covered (drop j bs)
   pub merged : IsMerged (drop j bs) → IsMerged (wide ∷ drop high bs)
+
+-- new are the blocks with the boundary in front of the one at i at another position; where it rose, what it passed has
+-- the status of the block in front of it, and where it fell, that of the block behind it
+pub record IsShifted (bs new : List Block) (i at : ℕ) : Type 0 where
+  pub tiled : IsTiled new
+  pub merged : IsMerged bs → IsMerged new
+  pub rose : (n : ℕ) (b : Block) → 0 < n → slice_get bs (i - 1) ≡ Some b → start_of bs i + n ≡ at
+      → flat_map covered new ≡ marked (flat_map covered bs) (start_of bs i) n b.status
+  pub fell : (n : ℕ) (b : Block) → 0 < n → slice_get bs i ≡ Some b → at + n ≡ start_of bs i
+      → flat_map covered new ≡ marked (flat_map covered bs) at n b.status

@@ -1,13 +1,14 @@
 //! Edits of a list of blocks that tiles a map from 0 on.
-ghost use Rattle.std.specs.Prelude.{◌≡◌, ◌+◌, ◌<◌, ◌≤◌, ◌^◌, ◌++◌, ◌∷◌, length, take, drop, vec_len, vec_capacity, OnOk, OnErr, IsOk};
+ghost use Rattle.std.specs.Prelude.{◌≡◌, ◌+◌, ◌-◌, ◌<◌, ◌≤◌, ◌^◌, ◌++◌, ◌∷◌, length, take, drop, vec_len, vec_capacity, OnOk, OnErr, IsOk};
 ghost use Rattle.std.specs.List.{flat_map};
 ghost use Rattle.block_list.specs.Map.{marked};
 ghost use Rattle.block_list.specs.Stretches.{covered};
 ghost use Rattle.block_list.specs.Tiling.{IsMerged};
 ghost use Rattle.block_list.specs.Push.{EndsWith};
-ghost use Rattle.block_list.specs.Edits.{IsTiled, IsPlace, IsCut, IsJoinedBefore, IsJoinedBehind, start_of, front_of, back_of, cut_at};
+ghost use Rattle.block_list.specs.Edits.{IsTiled, IsPlace, IsShifted, IsCut, IsJoinedBefore, IsJoinedBehind, start_of, front_of, back_of, cut_at};
 
 use crate::block::Block;
+use crate::status::Status;
 use crate::tiles::NoMemory;
 
 /// How many blocks begin before a position.
@@ -16,6 +17,16 @@ pub fn begun_before(blocks: &[Block], at: u64) -> usize
     requires within { at ≤ length (flat_map covered blocks.now) }
     ensures { IsPlace blocks.now at result }
 {
+    // A run that goes up the first time stands at the last two blocks.
+    let len = blocks.len();
+    if len > 1 {
+        if blocks[len - 1].pos < at {
+            return len;
+        }
+        if blocks[len - 2].pos < at {
+            return len - 1;
+        }
+    }
     blocks.partition_point(|block| block.pos < at)
 }
 
@@ -33,9 +44,19 @@ pub fn mark(blocks: &mut Vec<Block>, block: Block)
     ensures len { vec_len blocks.new ≤ vec_len blocks.old + 2 }
     ensures capacity { vec_capacity blocks.new ≡ vec_capacity blocks.old }
 {
-    let i = cut(blocks, block.pos);
-    let j = cut(blocks, block.pos + block.size);
-    replace(blocks, i, j, block);
+    let i = begun_before(blocks, block.pos);
+    let end = block.pos + block.size;
+    if 0 < i && i < blocks.len() {
+        let front = blocks[i - 1];
+        let back = blocks[i];
+        if back.pos == block.pos && end < back.pos + back.size && front.status.is(block.status) {
+            return shift(blocks, i, end);
+        }
+        if back.pos == end && back.status.is(block.status) {
+            return shift(blocks, i, block.pos);
+        }
+    }
+    overwrite(blocks, i, block.pos, block.size, block.status);
 }
 
 /// Adds a block behind the last one. It takes memory only where the two don't join.
@@ -60,23 +81,61 @@ pub fn append(blocks: &mut Vec<Block>, block: Block) -> Result<(), NoMemory>
     blocks.push(wide).map_err(|_| NoMemory)
 }
 
-/// Makes a block begin at a position, unless it is the end, and says which.
-fn cut(blocks: &mut Vec<Block>, at: u64) -> usize
+/// Moves the boundary in front of the block at i to a position inside that block or the one in front of it.
+fn shift(blocks: &mut Vec<Block>, i: usize, at: u64)
     requires tiled { IsTiled blocks.old.items }
-    requires within { at ≤ length (flat_map covered blocks.old.items) }
+    requires some { 0 < i }
+    requires index { i < vec_len blocks.old }
+    requires inner { start_of blocks.old.items (i - 1) < at }
+    requires reaches { at < start_of blocks.old.items (i + 1) }
+    ensures shifted { IsShifted blocks.old.items blocks.new.items i at }
+    ensures len { vec_len blocks.new ≡ vec_len blocks.old }
+    ensures capacity { vec_capacity blocks.new ≡ vec_capacity blocks.old }
+{
+    let front = &mut blocks[i - 1];
+    front.size = at - front.pos;
+    let back = &mut blocks[i];
+    back.size = back.pos + back.size - at;
+    back.pos = at;
+}
+
+/// Gives a status to the positions from `pos` up to `pos + size`, before which i blocks begin.
+#[inline(never)]
+fn overwrite(blocks: &mut Vec<Block>, i: usize, pos: u64, size: u64, status: Status)
+    requires tiled { IsTiled blocks.old.items }
+    requires merged { IsMerged blocks.old.items }
+    requires place { IsPlace blocks.old.items pos i }
+    requires some { 0 < size }
+    requires within { pos + size ≤ length (flat_map covered blocks.old.items) }
+    requires room { vec_len blocks.old + 2 ≤ vec_capacity blocks.old }
+    ensures tiled { IsTiled blocks.new.items }
+    ensures merged { IsMerged blocks.new.items }
+    ensures marked { flat_map covered blocks.new.items ≡ marked (flat_map covered blocks.old.items) pos size status }
+    ensures len { vec_len blocks.new ≤ vec_len blocks.old + 2 }
+    ensures capacity { vec_capacity blocks.new ≡ vec_capacity blocks.old }
+{
+    let end = pos + size;
+    cut(blocks, i, pos);
+    let j = begun_before(blocks, end);
+    cut(blocks, j, end);
+    replace(blocks, i, j, Block { pos, size, status });
+}
+
+/// Makes a block begin at a position, before which i blocks begin, unless it is the end.
+fn cut(blocks: &mut Vec<Block>, i: usize, at: u64)
+    requires tiled { IsTiled blocks.old.items }
+    requires place { IsPlace blocks.old.items at i }
     requires room { vec_len blocks.old < vec_capacity blocks.old }
-    ensures cut { IsCut blocks.old.items blocks.new.items at result }
+    ensures cut { IsCut blocks.old.items blocks.new.items at i }
     ensures len { vec_len blocks.new ≤ vec_len blocks.old + 1 }
     ensures capacity { vec_capacity blocks.new ≡ vec_capacity blocks.old }
 {
-    let i = begun_before(blocks, at);
     if i > 0 {
         let block = blocks[i - 1];
         if at < block.pos + block.size {
             divide(blocks, i - 1, block, at);
         }
     }
-    i
 }
 
 /// Puts two blocks in the place of one that a position divides.

@@ -1,44 +1,41 @@
 use Rattle.std.proofs.Common.{◌≡◌, ◌+◌, ◌-◌, ◌<◌, ap, arith, length}
-use Rattle.block_list.specs.Edits.{IsPlace, start_of}
+use Rattle.block_list.specs.Edits.{start_of}
 use Rattle.block_list.proofs.TileLemmas.{tile_read}
 use Rattle.block_list.proofs.EditLemmas.{cut_read, uncut}
 use Rattle.block_list.proofs.edits.cut.Goals as goal
 
 pub overflow_add-block : goal.overflow_add-block
 overflow_add-block c =
-    let k : IsPlace c.args.blocks.now.items c.args.at c.begun_before-i.result = rw c.deref.ensures.value at c.begun_before-i.ensures in
-    let r = tile_read _ _ _ c.requires.tiled (omega (arith, k.index)) c.index-block.ensures in
+    let r = tile_read _ _ _ c.requires.tiled (omega (arith, c.requires.place.index)) c.index-block.ensures in
     omega (arith, r.short)
 
 pub divide-requires-clause-inner : goal.divide-requires-clause-inner
 divide-requires-clause-inner c =
-    let k : IsPlace c.args.blocks.now.items c.args.at c.begun_before-i.result = rw c.deref.ensures.value at c.begun_before-i.ensures in
-    let r = tile_read _ _ _ c.requires.tiled (omega (arith, k.index)) c.index-block.ensures in
-    omega (arith, r.begins, k.before (omega arith))
+    let r = tile_read _ _ _ c.requires.tiled (omega (arith, c.requires.place.index)) c.index-block.ensures in
+    omega (arith, r.begins, c.requires.place.before (omega arith))
 
 pub divide-requires-clause-short : goal.divide-requires-clause-short
 divide-requires-clause-short c =
-    let k : IsPlace c.args.blocks.now.items c.args.at c.begun_before-i.result = rw c.deref.ensures.value at c.begun_before-i.ensures in
-    let r = tile_read _ _ _ c.requires.tiled (omega (arith, k.index)) c.index-block.ensures in
+    let r = tile_read _ _ _ c.requires.tiled (omega (arith, c.requires.place.index)) c.index-block.ensures in
     omega (arith, r.short)
 
 pub returns-then-at-block-clause-cut : goal.returns-then-at-block-clause-cut
 returns-then-at-block-clause-cut c =
-    let k : IsPlace c.args.blocks.now.items c.args.at c.begun_before-i.result = rw c.deref.ensures.value at c.begun_before-i.ensures in
-    let h : c.begun_before-i.result - 1 < length c.args.blocks.now.items = omega (arith, k.index) in
+    let h : c.args.i - 1 < length c.args.blocks.now.items = omega (arith, c.requires.place.index) in
     let r = tile_read _ _ _ c.requires.tiled h c.index-block.ensures in
     cut_read _ _ _ _ _ c.index-block.result.now (omega arith) c.requires.tiled h c.index-block.ensures
-    (omega (arith, r.begins, k.before (omega arith))) c.if-at-block.true c.divide.ensures.items
+    (omega (arith, r.begins, c.requires.place.before (omega arith))) c.if-at-block.true c.divide.ensures.items
 
 pub returns-else-at-block-clause-cut : goal.returns-else-at-block-clause-cut
 returns-else-at-block-clause-cut c =
-    let k : IsPlace c.args.blocks.now.items c.args.at c.begun_before-i.result = rw c.deref.ensures.value at c.begun_before-i.ensures in
-    let r = tile_read c.args.blocks.now.items (c.begun_before-i.result - 1) _ c.requires.tiled (omega (arith, k.index)) c.index-block.ensures in
-    let z : c.begun_before-i.result - 1 + 1 ≡ c.begun_before-i.result = omega arith in
-    uncut _ _ _ c.requires.tiled k.index (omega (arith, r.ends, k.reaches, ap (λ n. start_of c.args.blocks.now.items n) z))
+    let r = tile_read c.args.blocks.now.items (c.args.i - 1) _ c.requires.tiled (omega (arith, c.requires.place.index))
+    c.index-block.ensures in
+    let z : c.args.i - 1 + 1 ≡ c.args.i = omega arith in
+    uncut _ _ _ c.requires.tiled c.requires.place.index
+    (omega (arith, r.ends, c.requires.place.reaches, ap (λ n. start_of c.args.blocks.now.items n) z))
 
 pub returns-else-i-gt0-clause-cut : goal.returns-else-i-gt0-clause-cut
 returns-else-i-gt0-clause-cut c =
-    let k : IsPlace c.args.blocks.now.items c.args.at c.begun_before-i.result = rw c.deref.ensures.value at c.begun_before-i.ensures in
-    let z : c.begun_before-i.result ≡ 0 = omega arith in
-    uncut _ _ _ c.requires.tiled k.index (omega (arith, k.reaches, ap (λ n. start_of c.args.blocks.now.items n) z))
+    let z : c.args.i ≡ 0 = omega arith in
+    uncut _ _ _ c.requires.tiled c.requires.place.index
+    (omega (arith, c.requires.place.reaches, ap (λ n. start_of c.args.blocks.now.items n) z))

@@ -1,11 +1,27 @@
-use Rattle.std.proofs.Common.{List, ap, length, arith}
-use Rattle.std.specs.List.{flat_map}
-use Rattle.block_list.specs.declared.block.Block.{Block}
-use Rattle.block_list.specs.Stretches.{covered}
-use Rattle.block_list.proofs.TileLemmas.{index_before}
+use Rattle.std.proofs.Common.{arith, refl}
+use Rattle.block_list.proofs.TileLemmas.{tile_read}
+use Rattle.block_list.proofs.ShiftLemmas.{rose_over, fell_over}
 use Rattle.block_list.proofs.edits.mark.Goals as goal
 
-pub replace-requires-clause-order : goal.replace-requires-clause-order
-replace-requires-clause-order c =
-    let kept = ap (λ (r : List Block). length (flat_map covered r)) (c.cut-j.ensures.cut.kept c.cut-i.result (omega (arith, c.cut-i.ensures.cut.place))) in
-    index_before c.cut-j.new.blocks.items _ _ (omega (arith, kept, c.cut-i.ensures.cut.place, c.cut-j.ensures.cut.place))
+pub overflow_add-back : goal.overflow_add-back
+overflow_add-back c =
+    let r = tile_read _ _ _ c.requires.tiled (omega arith) c.index-back.ensures in
+    omega (arith, r.short)
+
+pub returns-then-is-clause-marked : goal.returns-then-is-clause-marked
+returns-then-is-clause-marked c =
+    rose_over _ _ _ _ c.args.block c.index-front.result.now c.index-back.result.now c.requires.tiled c.if-i-gt0.true
+    (omega arith) c.requires.some
+    c.shift.ensures.shifted c.index-front.ensures c.index-back.ensures c.if-back-block.true refl
+    (c.is.ensures.0 c.if-is.true)
+
+pub shift-requires-then-is-2-clause-reaches : goal.shift-requires-then-is-2-clause-reaches
+shift-requires-then-is-2-clause-reaches c =
+    let r = tile_read _ _ _ c.requires.tiled (omega arith) c.index-back.ensures in
+    omega (arith, r.begins, r.ends)
+
+pub returns-then-is-2-clause-marked : goal.returns-then-is-2-clause-marked
+returns-then-is-2-clause-marked c =
+    fell_over _ _ _ c.args.block c.index-back.result.now c.requires.tiled (omega arith) c.requires.some
+    c.shift-then-is-2.ensures.shifted c.index-back.ensures c.if-back-end.true
+    (c.is-then-back-end.ensures.0 c.if-is-2.true)
