@@ -1,15 +1,16 @@
 -- How many positions come before the first that isn't finished.
-use Rattle.std.proofs.Common.{◌≡◌, ℕ, zero, suc, ◌+◌, ◌-◌, ◌<◌, ◌≤◌, min, Bool, true, false, cond, List, [], ◌∷◌, ◌++◌, length, map, take, drop, Option, Some, None, Ok, refl, ap, sym, ◌∙◌, arith, ⊎_elim}
+use Rattle.std.proofs.Common.{◌≡◌, ℕ, zero, suc, ◌+◌, ◌-◌, ◌<◌, ◌≤◌, min, Bool, true, false, IsTrue, cond, List, [], ◌∷◌, ◌++◌, length, map, take, drop, Option, Some, None, Ok, refl, ap, sym, subst, ◌∙◌, arith, ⊎_elim}
 use Rattle.std.specs.List.{slice_get}
 use Rattle.std.proofs.lemmas.Bool.{cases_lt, false_from_ne_true}
 use Rattle.block_list.specs.declared.status.Status.{Status}
-use Rattle.std.proofs.lemmas.List.{length-take-le, take-take, map-append}
+use Rattle.std.proofs.lemmas.List.{length-take-le, take-take, map-append, append_cancel_left}
 use Rattle.block_list.specs.declared.status.Status.TheVariants.{NonTried, NonTrimmed, NonScraped, BadSector, Finished}
 use Rattle.block_list.specs.Map.{Has}
 use Rattle.block_list.specs.Places.{IsRunUp}
-use Rattle.faulty_source.specs.SourceState.{SourceState, AnswersRead}
+use Rattle.faulty_source.specs.Journal.{Reading, Gains}
+use Rattle.faulty_source.specs.SourceState.{SourceState, Below, Keeps, Stays, Reads, AnswersRead}
 use Rattle.rescue_domain.specs.Finished.{is_finished, is_finished_at}
-use Rattle.rescue_domain.specs.Testing.{finished_front, IsFront, seen, state_seen}
+use Rattle.rescue_domain.specs.Testing.{finished_front, IsFront, seen, state_seen, GainsSeen}
 
 front_step : (statuses : List Status) (pos n : ℕ) (b : Bool) → is_finished_at statuses pos ≡ b
     → IsFront statuses (pos + 1) n (finished_front statuses (pos + 1) n)
@@ -70,8 +71,24 @@ front_of_run statuses pos end n u = fronts_agree statuses pos n _ _ (record {
       rw z (false_from_ne_true (is_finished_at statuses end) (λ e. u.stops (some_finished (slice_get statuses end) e)));
 }) (front_is statuses pos n)
 
+-- What no call changes is so in test mode too, where the journal gained.
+keeps_seen : (reference : ℕ) (statuses : List Status) (old new : SourceState) → Keeps old new
+    → (IsTrue old.tells → Gains old.journal new.journal)
+    → Keeps (state_seen reference statuses old) (state_seen reference statuses new)
+keeps_seen reference statuses old new keeps gains = record {
+  tells = keeps.tells;
+  may_lose = keeps.may_lose;
+  planned = refl;
+  bytes = keeps.bytes;
+  opens = keeps.opens;
+  faults = keeps.faults;
+  losses = keeps.losses;
+  below = cc (keeps.planned, keeps.below);
+  journals_below = λ tells. (gains tells, keeps.journals_below tells);
+}
+
 -- a read of the source below, as it is seen
-module _ (statuses : List Status) (pos asked given : ℕ) (buf : List ℕ) (l : given ≤ length buf) where
+module _ (reference : ℕ) (statuses : List Status) (pos asked given : ℕ) (buf : List ℕ) (l : given ≤ length buf) where
   seen_read : seen statuses (record { pos = pos; asked = asked; given = take given buf })
       ≡ record { pos = pos; asked = asked; given = take (finished_front statuses pos given) buf }
   seen_read =
@@ -82,21 +99,14 @@ module _ (statuses : List Status) (pos asked given : ℕ) (buf : List ℕ) (l : 
   pub read_seen : {E : Type 0} (old new : SourceState)
       → AnswersRead {E = E} pos asked buf (Ok (record { 0 = given })) old new
       → AnswersRead {E = E} pos asked buf (Ok (record { 0 = finished_front statuses pos given }))
-      (state_seen statuses old) (state_seen statuses new)
+      (state_seen reference statuses old) (state_seen reference statuses new)
   read_seen old new a =
       let few = (front_is statuses pos given).few in
       let k : ℕ = finished_front statuses pos given in
       record {
         stays = record {
-          keeps = record {
-            tells = a.stays.keeps.tells;
-            may_lose = a.stays.keeps.may_lose;
-            planned = refl;
-            bytes = a.stays.keeps.bytes;
-            opens = a.stays.keeps.opens;
-            faults = a.stays.keeps.faults;
-            losses = a.stays.keeps.losses;
-          };
+          keeps = keeps_seen reference statuses old new a.stays.keeps
+              (λ tells. record { reads = record { pos = pos; asked = asked; given = take given buf } ∷ []; told = a.told tells });
           input = a.stays.input;
           name = a.stays.name;
           opens = a.stays.opens;
@@ -114,3 +124,62 @@ module _ (statuses : List Status) (pos asked given : ℕ) (buf : List ℕ) (l : 
         lost = a.lost;
         sure = a.sure;
       }
+
+-- What a call did to a source in test mode that was made of one in this state, and leaves it in that one:
+module _ (reference reference' : ℕ) (statuses statuses' : List Status) (old new test : SourceState)
+    (made : test ≡ state_seen reference statuses old) (kept : Keeps test (state_seen reference' statuses' new)) where
+  keeps : Keeps (state_seen reference statuses old) (state_seen reference' statuses' new)
+  keeps = subst (λ (s : SourceState). Keeps s (state_seen reference' statuses' new)) made kept
+
+  same_below : ◌≡◌ {A = Below}
+      (record { reference = reference'; test_map = statuses'; is_planned = new.is_planned })
+      (record { reference = reference; test_map = statuses; is_planned = old.is_planned })
+  same_below = cc keeps.below
+
+  same_map : statuses' ≡ statuses
+  same_map = ap (λ (b : Below). b.test_map) same_below
+
+  -- it reads the same source in the same map,
+  pub seen_alike : state_seen reference' statuses' new ≡ state_seen reference statuses new
+  seen_alike =
+      ap (λ (n : ℕ). state_seen n statuses' new) (ap (λ (b : Below). b.reference) same_below)
+      ∙ ap (λ (m : List Status). state_seen reference m new) same_map
+
+  -- so what is said of that call can be said of what the source below tells;
+  pub said_below : (P : SourceState → SourceState → Type 0) → P test (state_seen reference' statuses' new)
+      → P (state_seen reference statuses old) (state_seen reference statuses new)
+  said_below P said =
+      subst (λ (s : SourceState). P s (state_seen reference statuses new)) made
+      (subst (λ (s : SourceState). P test s) seen_alike said)
+
+  -- that one keeps what no call changes,
+  pub keeps_below : Keeps old new
+  keeps_below = record {
+    tells = keeps.tells;
+    may_lose = keeps.may_lose;
+    planned = ap (λ (b : Below). b.is_planned) same_below;
+    bytes = keeps.bytes;
+    opens = keeps.opens;
+    faults = keeps.faults;
+    losses = keeps.losses;
+    below = cc keeps.below;
+    journals_below = λ tells. (keeps.journals_below tells).1;
+  }
+
+  -- stays open if the one in test mode does,
+  pub stays_below : Stays test (state_seen reference' statuses' new) → Stays old new
+  stays_below stays =
+      let s : Stays (state_seen reference statuses old) (state_seen reference' statuses' new) =
+      subst (λ (s : SourceState). Stays s (state_seen reference' statuses' new)) made stays in
+      record { keeps = keeps_below; input = s.input; name = s.name; opens = s.opens; faults = s.faults }
+
+  -- and its journal gained reads, which were seen as those that the call answered.
+  pub gains_below : (reads : List Reading) → Reads reads test (state_seen reference' statuses' new) → IsTrue old.tells
+      → GainsSeen statuses reads old.journal new.journal
+  gains_below reads read tells =
+      let gains : Gains old.journal new.journal = (keeps.journals_below tells).0 in
+      let told : map (seen statuses) new.journal ≡ map (seen statuses) old.journal ++ reads =
+      (said_below (λ a b. Reads reads a b) read).told tells in
+      let same : map (seen statuses) old.journal ++ map (seen statuses) gains.reads ≡ map (seen statuses) old.journal ++ reads =
+      sym (map-append (seen statuses) old.journal gains.reads) ∙ ap (map (seen statuses)) (sym gains.told) ∙ told in
+      record { gains = gains; seen = append_cancel_left (map (seen statuses) old.journal) _ _ same }

@@ -1,7 +1,7 @@
 -- What a source gives of its reads in test mode: what a test map says is finished.
-use Rattle.std.specs.Prelude.{◌≡◌, ℕ, zero, suc, ◌+◌, ◌<◌, ◌≤◌, true, false, List, length, map, take, if◌then◌else◌}
+use Rattle.std.specs.Prelude.{◌≡◌, ℕ, zero, suc, ◌+◌, ◌<◌, ◌≤◌, true, false, List, ◌∷◌, length, map, take, if◌then◌else◌}
 use Rattle.block_list.specs.declared.status.Status.{Status}
-use Rattle.faulty_source.specs.Journal.{Reading}
+use Rattle.faulty_source.specs.Journal.{Reading, Gains}
 use Rattle.faulty_source.specs.SourceState.{SourceState}
 use Rattle.rescue_domain.specs.Finished.{is_finished_at}
 
@@ -20,7 +20,17 @@ pub record IsFront (statuses : List Status) (pos n front : ℕ) : Type 0 where
 abbrev pub seen : (statuses : List Status) → Reading → Reading
 seen statuses r = record r { given = take (finished_front statuses r.pos (length r.given)) r.given }
 
+-- a journal gained reads, which are seen as these
+pub record GainsSeen (statuses : List Status) (reads old new : List Reading) : Type 0 where
+  pub gains : Gains old new
+  pub seen : map (seen statuses) gains.reads ≡ reads
+
 -- What a source tells in test mode: what the one that it reads does, but its journal has the reads as they are seen. That
 -- one's plan isn't its own, since a failure behind the first position that isn't finished is met all the same.
-abbrev pub state_seen : (statuses : List Status) → SourceState → SourceState
-state_seen statuses s = record s { journal = map (seen statuses) s.journal; is_planned = false }
+abbrev pub state_seen : (reference : ℕ) (statuses : List Status) → SourceState → SourceState
+state_seen reference statuses s = record s {
+  journal = map (seen statuses) s.journal;
+  is_planned = false;
+  below = record { reference = reference; test_map = statuses; is_planned = s.is_planned } ∷ s.below;
+  journals_below = s.journal ∷ s.journals_below;
+}
