@@ -1,15 +1,16 @@
 -- What may be found before the barrier of a rescue has returned.
-use Rattle.std.proofs.Common.{◌≡◌, ◌⊎◌, inl, inr, ⊎_elim, ℕ, zero, suc, Bool, true, false, cond, List, [], ◌∷◌, ◌++◌, take, Option, Some, None, refl, sym, ◌∙◌, ap, subst}
+use Rattle.std.proofs.Common.{◌≡◌, ◌⊎◌, inl, inr, ⊎_elim, ℕ, zero, suc, ◌+◌, Bool, true, false, cond, List, [], ◌∷◌, ◌++◌, length, take, Option, Some, None, refl, sym, ◌∙◌, ap, subst}
 use Rattle.std.specs.Str.{bytes_eq}
 use Rattle.std.proofs.lemmas.Bool.{cases_Bool, cond-true, cond-false}
 use Rattle.crash_site.specs.Files.{File, empty_file, put}
 use Rattle.crash_site.specs.Calls.{Call, Entry, Done, Failed, image_open, image_sync, map_settle}
 use Rattle.crash_site.specs.Disk.{Showing, Disk, only, or_this, with_opened, at_rest, entered, disk_after}
-use Rattle.crash_site.specs.Left.{MayShow, Leaves, until}
-use Rattle.crash_site.proofs.DiskLemmas.{same_name, reads_step, reads_run, rest_sound}
-use Rattle.crash_site.proofs.LawLemmas.{own_name, put_other, same_held, found_only, until_all}
+use Rattle.crash_site.specs.Left.{MayShow, Leaves, until, MayBeLeft}
+use Rattle.crash_site.proofs.DiskLemmas.{run-append, same_name, reads_step, reads_run, rest_sound}
+use Rattle.crash_site.proofs.LawLemmas.{own_name, put_other, same_held, found_only, until_past, until_all, left_past}
 use Rattle.rescue_rules.specs.Setting.{Setting}
-use Rattle.rescue_rules.specs.Stops.{Behind, CouldBefore, has_barrier}
+use Rattle.rescue_rules.specs.Work.{Gain}
+use Rattle.rescue_rules.specs.Stops.{Behind, LeftAt, CouldBefore, has_barrier}
 use Rattle.rescue_rules.proofs.CutLemmas.{Cut}
 use Rattle.rescue_rules.proofs.MapfileLemmas.{settling_calls}
 use Rattle.rescue_rules.proofs.SaveStages.{put_own}
@@ -31,11 +32,29 @@ or_found o v found (inr (inr (inl h))) = inl (inr (inr (inl h)))
 or_found o v found (inr (inr (inr (inl h)))) = inr (same_held o found h)
 or_found o v found (inr (inr (inr (inr h)))) = inl (inr (inr (inr h)))
 
-could_same : (b : Behind) (outfile : List ℕ) (files : List ℕ → Option File) → Leaves (disk_before b) files
+-- what a stop of a rescue's calls may leave
+pub left_at : (b : Behind) (g : Gain) (k : ℕ) (files : List ℕ → Option File) → LeftAt b g k files
+    → Leaves (disk_after (disk_before b) (until k g.calls)) files
+left_at b g k files h = left_past b.start b.earlier g.calls k (length b.earlier + k) files refl h
+
+pub left_here : (b : Behind) (g : Gain) (k : ℕ) (files : List ℕ → Option File)
+    → Leaves (disk_after (disk_before b) (until k g.calls)) files → LeftAt b g k files
+left_here b g k files h =
+    subst (λ (d : Disk). Leaves d files)
+    (sym (ap (disk_after (at_rest b.start)) (until_past b.earlier g.calls k (length b.earlier + k) refl)
+    ∙ run-append (at_rest b.start) b.earlier (until k g.calls))) h
+
+-- what may be left before it
+pub left_before : (b : Behind) (files : List ℕ → Option File) → Leaves (disk_before b) files
+    → MayBeLeft b.start b.earlier (length b.earlier) files
+left_before b files h =
+    subst (λ (es : List Entry). Leaves (disk_after (at_rest b.start) es) files) (sym (until_all b.earlier)) h
+
+pub could_same : (b : Behind) (outfile : List ℕ) (files : List ℕ → Option File) → Leaves (disk_before b) files
     → CouldBefore b outfile files
 could_same b outfile files h = record {
   before = files;
-  left = subst (λ (es : List Entry). Leaves (disk_after (at_rest b.start) es) files) (sym (until_all b.earlier)) h;
+  left = left_before b files h;
   others = λ name apart. refl;
   output = inl refl;
 }
@@ -58,8 +77,7 @@ could_made : (b : Behind) (outfile : List ℕ) (files : List ℕ → Option File
     → CouldBefore b outfile files
 could_made b outfile files none is h = record {
   before = put files outfile None;
-  left = subst (λ (es : List Entry). Leaves (disk_after (at_rest b.start) es) (put files outfile None))
-      (sym (until_all b.earlier)) (unmade b outfile files none h);
+  left = left_before b (put files outfile None) (unmade b outfile files none h);
   others = λ name apart. sym (put_other files outfile name None apart);
   output = inr (put_own files outfile None, is);
 }

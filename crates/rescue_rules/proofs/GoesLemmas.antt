@@ -21,13 +21,13 @@ use Rattle.rescue_rules.specs.Step.{Event}
 use Rattle.rescue_rules.specs.Moves.{Move, move_of, moves, state_after, IsMove, IsRun}
 use Rattle.rescue_rules.specs.Events.{with_times, events_of, reads_of as reads_of_events}
 use Rattle.rescue_rules.specs.RunCalls.{move_calls, run_calls, end_calls}
-use Rattle.rescue_rules.specs.Work.{Gain, begins, events_in, Ends, IsSaved, IsUnsaved, IsBroken, Goes, InOpening, InLoad, InRun}
+use Rattle.rescue_rules.specs.Work.{Gain, begins, events_in, Ends, IsSaved, IsUnsaved, IsBroken, GoesOn, InOpening, InLoad, InRun}
 use Rattle.rescue_rules.proofs.MoveLemmas.{moves_more}
 use Rattle.rescue_rules.proofs.MapfileLemmas.{settling_calls, last_save, opening_is, end_is, mapfile_is}
 use Rattle.rescue_rules.proofs.CutLemmas.{Cut, cut_all, cut_front, cut_more, cut_past, lost_cut}
 
 -- a list of calls that broke is a cut of it
-broke_cut : (at : SiteCall) (pre cs : List Call) (es : List Entry) → BrokeAt at cs (map Done pre) es
+pub broke_cut : (at : SiteCall) (pre cs : List Call) (es : List Entry) → BrokeAt at cs (map Done pre) es
     → Cut (pre ++ cs) es
 broke_cut at pre [] es h = absurd h
 broke_cut at pre (c ∷ cs) es (inl h) = lost_cut pre c cs es h.1
@@ -162,8 +162,8 @@ runs_timed : (g : Gain) (spare : ℕ) → length g.times ≡ 1 + 2 * length g.re
     → reads_of_events (events_in g) ≡ g.reads
 runs_timed g spare is = timed g.reads (drop 1 g.times) (omega (arith, is, length-drop 1 g.times))
 
--- each rescue with a mapfile takes one way
-pub way : (s : Setting) (files : List ℕ → Option File) (g : Gain) → s.has_mapfile ≡ true → Goes s files g → Way s files g
+-- each rescue with a mapfile takes one way behind its reads of other maps
+pub way : (s : Setting) (files : List ℕ → Option File) (g : Gain) → s.has_mapfile ≡ true → GoesOn s files g → Way s files g
 way s files g on (InOpening front back is none h) =
     AnyMap (λ began state. opening_course s g began state none (front_cut s front back g.calls (is ∙ opening_is s on) h))
 way s files g on (InLoad load there begins_load none h) =

@@ -17,14 +17,14 @@ use Rattle.save_resume.specs.Saving.{save_calls}
 use Rattle.rescue_rules.specs.Setting.{Setting, IsSensible, place}
 use Rattle.rescue_rules.specs.Machine.{Machine, is_wanted}
 use Rattle.rescue_rules.specs.Step.{Event}
-use Rattle.rescue_rules.specs.Moves.{Move, ready, move_of, moves, state_after, is_over, IsRun}
+use Rattle.rescue_rules.specs.Moves.{Move, ready, move_of, moves, state_after, has_ended, IsRun}
 use Rattle.rescue_rules.specs.Events.{reads_of}
-use Rattle.rescue_rules.specs.Snapshots.{Snapshot, text_of, snapshot, finished_snapshot, is_due, last_snapshot, snapshots}
+use Rattle.rescue_rules.specs.Snapshots.{Snapshot, text_of, snapshot_of, finished_snapshot, is_due, last_snapshot, snapshots}
 use Rattle.rescue_rules.specs.RunCalls.{write_calls, output_by, due_calls, move_calls, run_calls}
 use Rattle.rescue_rules.specs.Held.{Held}
 use Rattle.rescue_rules.specs.Laws.{AreThreeNames}
 use Rattle.rescue_rules.specs.MachineLaws.{IsInOrder, StepsBy}
-use Rattle.rescue_rules.specs.RunStops.{Promised, Keeps}
+use Rattle.rescue_rules.specs.RunStops.{RunPromise, Keeps}
 use Rattle.rescue_rules.specs.Stops.{IsSave}
 use Rattle.rescue_rules.proofs.MapfileLemmas.{last_save}
 use Rattle.rescue_rules.proofs.CutLemmas.{Each}
@@ -37,7 +37,7 @@ use Rattle.rescue_rules.proofs.HoldLemmas.{Unfinished, held_by_event, held_more,
 use Rattle.rescue_rules.proofs.SaveStages.{Base, text_file, StoodFile, Stood, stood_found, stood_only, Calm, calm_written, Wrote, calm_unwritten, Synced, calm_synced, Drafting, begun, unbegun, grown, ungrown, firm, Moved, published_moved, Unmoved, unpublished, moved_unmoved, Settled, moved_settled}
 
 -- what is to be kept is kept at a stop of this disk
-abbrev pub Holds : Promised → ℕ → ℕ → ℕ → Disk → Type 0
+abbrev pub Holds : RunPromise → ℕ → ℕ → ℕ → Disk → Type 0
 Holds a r p w d = (files : List ℕ → Option File) → Leaves d files → Keeps a r p w files
 
 -- what a run has saved last
@@ -50,7 +50,7 @@ pub record Next (c : Base) (statuses : List Status) : Type 0 where
   pub held : Held c.a.s c.a.reads c.a.start statuses c.new.bytes
   pub longer : length c.a.start ≤ length c.new.bytes
 
-keeps_by : (a : Promised) (r p w n : ℕ) (statuses : List Status) (file : Option File) (g : File)
+keeps_by : (a : RunPromise) (r p w n : ℕ) (statuses : List Status) (file : Option File) (g : File)
     (files : List ℕ → Option File) → r ≤ n → n ≤ p → files a.s.names.map ≡ file
     → IsSave a.mapfile a.began a.s.line a.saves n file statuses → files a.s.outfile ≡ Some g
     → Held a.s a.reads a.start statuses g.bytes → (w ≡ 0 → g.bytes ≡ a.start) → Keeps a r p w files
@@ -247,7 +247,7 @@ slice_get_here : (before : List Snapshot) (p : Snapshot) (behind : List Snapshot
 slice_get_here [] p behind = refl
 slice_get_here (q ∷ before) p behind = slice_get_here before p behind
 
-either_map : (over : Bool) (m : Machine) → (if over then finished_snapshot m else snapshot m).map ≡ m.map
+either_map : (over : Bool) (m : Machine) → (if over then finished_snapshot m else snapshot_of m).map ≡ m.map
 either_map true m = refl
 either_map false m = refl
 
@@ -278,7 +278,7 @@ next_of c ok m es now p behind statuses g is_map map_is all = record {
 }
 
 last_map : (s : Setting) (m : Machine) → (last_snapshot s m).map ≡ m.map
-last_map s m = either_map (is_over s m) m
+last_map s m = either_map (has_ended s m) m
 
 -- the save at a run's end
 each_end : (c : Base) (ok : IsSensible c.a.s) (m : Machine) (w : ℕ) (now : File) (d : Disk) → AreThreeNames c.a.s
@@ -364,15 +364,15 @@ filter_step : (p : Move → Bool) (v : Move) (vs : List Move) (due : Bool) → p
 filter_step p v vs due is = ap (λ (b : Bool). if b then v ∷ filter p vs else filter p vs) is
 
 filter_due : (s : Setting) (m : Machine) (e : Event) (es : List Event) → is_due s (move_of s m e) ≡ true
-    → snapshots s m (e ∷ es) ≡ snapshot (move_of s m e).after ∷ snapshots s (move_of s m e).after es
+    → snapshots s m (e ∷ es) ≡ snapshot_of (move_of s m e).after ∷ snapshots s (move_of s m e).after es
 filter_due s m e es is =
-    ap (λ (vs : List Move). map (λ v. snapshot v.after) vs ++ last_snapshot s (state_after s (move_of s m e).after es) ∷ [])
+    ap (λ (vs : List Move). map (λ v. snapshot_of v.after) vs ++ last_snapshot s (state_after s (move_of s m e).after es) ∷ [])
     (filter_step (is_due s) (move_of s m e) (moves s (move_of s m e).after es) true is)
 
 filter_undue : (s : Setting) (m : Machine) (e : Event) (es : List Event) → is_due s (move_of s m e) ≡ false
     → snapshots s m (e ∷ es) ≡ snapshots s (move_of s m e).after es
 filter_undue s m e es is =
-    ap (λ (vs : List Move). map (λ v. snapshot v.after) vs ++ last_snapshot s (state_after s (move_of s m e).after es) ∷ [])
+    ap (λ (vs : List Move). map (λ v. snapshot_of v.after) vs ++ last_snapshot s (state_after s (move_of s m e).after es) ∷ [])
     (filter_step (is_due s) (move_of s m e) (moves s (move_of s m e).after es) false is)
 
 -- the output behind a write, by the case
@@ -385,7 +385,7 @@ calm_by s w now d r c h = h
 -- where a save is due it is the first of those that are left
 pub due_first : (s : Setting) (m : Machine) (e : Event) (es : List Event) (due : Bool) → is_due s (move_of s m e) ≡ due
     → snapshots s m (e ∷ es)
-    ≡ (if due then snapshot (move_of s m e).after ∷ [] else []) ++ snapshots s (move_of s m e).after es
+    ≡ (if due then snapshot_of (move_of s m e).after ∷ [] else []) ++ snapshots s (move_of s m e).after es
 due_first s m e es true is = filter_due s m e es is
 due_first s m e es false is = filter_undue s m e es is
 
@@ -394,7 +394,7 @@ abbrev pub rest_calls : Setting → Machine → Event → List Event → List Ca
 rest_calls s m e es = run_calls s (move_of s m e).after es ++ last_save s (move_of s m e).after es
 
 -- what holds of the rest of a run, whatever it has saved
-abbrev Goes : Promised → Machine → List Event → Type 0
+abbrev Goes : RunPromise → Machine → List Event → Type 0
 Goes a m es = (c : Base) → c.a ≡ a → (w : ℕ) (now : File) (d : Disk) → Going c m es now → Calm c w now d
     → Each (Holds c.a) c.number c.number w d (run_calls c.a.s m es ++ last_save c.a.s m es)
 
@@ -403,13 +403,13 @@ each_due : (c : Base) (ok : IsSensible c.a.s) (m : Machine) (e : Event) (es : Li
     (now : File) (d : Disk) → Goes c.a (move_of c.a.s m e).after es → AreThreeNames c.a.s
     → is_due c.a.s (move_of c.a.s m e) ≡ due → Going c m (e ∷ es) now → Calm c w (record { bytes = output_by c.a.s now.bytes e.reading; regular = now.regular }) d
     → Each (Holds c.a) c.number c.number w d
-    ((if due then save_calls c.a.s.names (text_of c.a.s.line (snapshot (move_of c.a.s m e).after)) else [])
+    ((if due then save_calls c.a.s.names (text_of c.a.s.line (snapshot_of (move_of c.a.s m e).after)) else [])
     ++ rest_calls c.a.s m e es)
 each_due c ok m e es true w now d go three is g h =
     let s : Setting = c.a.s in
     let n : Machine = (move_of s m e).after in
     let after : File = record { bytes = output_by s now.bytes e.reading; regular = now.regular } in
-    let p : Snapshot = snapshot n in
+    let p : Snapshot = snapshot_of n in
     let k : Comes c m e es now = comes c ok m e es now g in
     let all : c.a.saves ≡ g.before ++ p ∷ snapshots s n es
     = g.saves ∙ ap (λ (l : List Snapshot). g.before ++ l) (due_first s m e es true is) in
@@ -460,14 +460,14 @@ each_due c ok m e es false w now d go three is g h =
     go c refl w after d going h
 
 -- what a run's calls leave at each stop
-pub each_move : (a : Promised) (ok : IsSensible a.s) (three : AreThreeNames a.s) (m : Machine) (es : List Event) → Goes a m es
+pub each_move : (a : RunPromise) (ok : IsSensible a.s) (three : AreThreeNames a.s) (m : Machine) (es : List Event) → Goes a m es
 each_move a ok three m [] c same w now d g h =
-    each_end c (subst (λ (b : Promised). IsSensible b.s) (sym same) ok) m w now d
-    (subst (λ (b : Promised). AreThreeNames b.s) (sym same) three) g h
+    each_end c (subst (λ (b : RunPromise). IsSensible b.s) (sym same) ok) m w now d
+    (subst (λ (b : RunPromise). AreThreeNames b.s) (sym same) three) g h
 each_move a ok three m (e ∷ es) c same w now d g h =
     let s : Setting = c.a.s in
-    let ok' : IsSensible s = subst (λ (b : Promised). IsSensible b.s) (sym same) ok in
-    let three' : AreThreeNames s = subst (λ (b : Promised). AreThreeNames b.s) (sym same) three in
+    let ok' : IsSensible s = subst (λ (b : RunPromise). IsSensible b.s) (sym same) ok in
+    let three' : AreThreeNames s = subst (λ (b : RunPromise). AreThreeNames b.s) (sym same) three in
     let v : Move = move_of s m e in
     let due : List Call = due_calls s v in
     let rest : List Call = rest_calls s m e es in
@@ -479,5 +479,5 @@ each_move a ok three m (e ∷ es) c same w now d g h =
     (each_write c ok' w now d e.reading (nat_eq (kept s.sector e.reading) 0) (due ++ rest) three' g.good
     (event_may c ok' m e es now g) h
     (λ w' d' h'. each_due c ok' m e es (is_due s v) w' now d'
-    (subst (λ (b : Promised). Goes b (move_of s m e).after es) (sym same) (each_move a ok three (move_of s m e).after es))
+    (subst (λ (b : RunPromise). Goes b (move_of s m e).after es) (sym same) (each_move a ok three (move_of s m e).after es))
     three' refl g (calm_by s w' now d' e.reading c h')))

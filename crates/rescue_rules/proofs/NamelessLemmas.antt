@@ -3,8 +3,8 @@ use Rattle.std.proofs.Common.{◌≡◌, ℕ, ◌+◌, List, refl}
 use Rattle.std.specs.List.{slice_index_or}
 use Rattle.rescue_rules.specs.Setting.{Setting, IsSensible}
 use Rattle.rescue_rules.specs.Machine.{Machine, IsRequest, has_request}
-use Rattle.rescue_rules.specs.Step.{Event, step, limit}
-use Rattle.rescue_rules.specs.Moves.{Move, ready, moves, state_after, IsMove, IsRun, is_over}
+use Rattle.rescue_rules.specs.Step.{Event, step, limit_met}
+use Rattle.rescue_rules.specs.Moves.{Move, ready, moves, state_after, IsMove, IsRun, has_ended}
 use Rattle.rescue_rules.specs.RunCalls.{move_calls, run_calls, end_calls}
 use Rattle.rescue_rules.specs.Snapshots.{last_snapshot, snapshots, is_due}
 use Rattle.rescue_rules.specs.Nameless.{nameless, RunNeedsNoNames}
@@ -19,10 +19,10 @@ ready_nameless s m = refl
 pub step_nameless : (s : Setting) (m : Machine) (e : Event) → step (nameless s) m e ≡ step s m e
 step_nameless s m e = refl
 
-pub limit_nameless : (s : Setting) (m : Machine) → limit (nameless s) m ≡ limit s m
+pub limit_nameless : (s : Setting) (m : Machine) → limit_met (nameless s) m ≡ limit_met s m
 limit_nameless s m = refl
 
-pub is_over_nameless : (s : Setting) (m : Machine) → is_over (nameless s) m ≡ is_over s m
+pub is_over_nameless : (s : Setting) (m : Machine) → has_ended (nameless s) m ≡ has_ended s m
 is_over_nameless s m = refl
 
 pub last_snapshot_nameless : (s : Setting) (m : Machine) → last_snapshot (nameless s) m ≡ last_snapshot s m

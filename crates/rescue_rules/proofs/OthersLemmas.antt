@@ -10,17 +10,17 @@ use Rattle.crash_site.specs.declared.site.MapRead.{MapRead}
 use Rattle.crash_site.specs.Files.{File, put}
 use Rattle.crash_site.specs.Calls.{Call, Entry, Done, Failed, image_open, image_read, image_write, image_sync, map_read, draft_begin, draft_append, draft_sync, draft_publish, map_settle, map_remove}
 use Rattle.crash_site.specs.Folder.{Folder, appended, with_piece}
-use Rattle.crash_site.specs.Disk.{Showing, Disk, only, with_opened, at_rest, entered, disk_after}
+use Rattle.crash_site.specs.Disk.{Showing, Disk, only, with_opened, entered, disk_after}
 use Rattle.crash_site.specs.Left.{MayShow, Leaves, until, MayBeLeft}
 use Rattle.crash_site.proofs.DiskLemmas.{same_name}
-use Rattle.crash_site.proofs.LawLemmas.{at_other, some_other, part_other, until_all}
+use Rattle.crash_site.proofs.LawLemmas.{at_other, some_other, part_other}
 use Rattle.save_resume.specs.Saving.{save_calls}
 use Rattle.save_resume.specs.Loading.{piece_size, piece_reads}
 use Rattle.rescue_rules.specs.Setting.{Setting, place}
 use Rattle.rescue_rules.specs.Machine.{Machine}
 use Rattle.rescue_rules.specs.Step.{Event}
 use Rattle.rescue_rules.specs.Moves.{Move, move_of}
-use Rattle.rescue_rules.specs.Snapshots.{text_of, snapshot, last_snapshot, is_due}
+use Rattle.rescue_rules.specs.Snapshots.{text_of, snapshot_of, last_snapshot, is_due}
 use Rattle.rescue_rules.specs.RunCalls.{write_calls, due_calls, move_calls, run_calls}
 use Rattle.rescue_rules.specs.Moves.{state_after}
 use Rattle.rescue_rules.specs.Stops.{Behind, is_settle, is_publish, is_write}
@@ -29,7 +29,7 @@ use Rattle.rescue_rules.proofs.SaveStages.{put_own, image_apart, image_stays}
 use Rattle.rescue_rules.proofs.BarrierLemmas.{opened_image, at_open, at_settle, at_barrier}
 use Rattle.rescue_rules.proofs.MapfileLemmas.{settling_calls, last_save}
 use Rattle.rescue_rules.proofs.GoesLemmas.{all_calls, reads_of}
-use Rattle.rescue_rules.proofs.BeforeLemmas.{disk_before, sound_before}
+use Rattle.rescue_rules.proofs.BeforeLemmas.{disk_before, sound_before, left_before}
 
 -- a name that is none of a rescue's
 pub record IsOther (s : Setting) (name : List ℕ) : Type 0 where
@@ -204,8 +204,8 @@ move_leads s v =
     leads_join s (write_calls s r) (due_calls s v)
     (unless_leads s (nat_eq (kept s.sector r) 0) (image_write (place s r.pos) (take (kept s.sector r) r.given) ∷ [])
     (λ b rest go. (tt, go b)))
-    (if_leads s (is_due s v) (save_calls s.names (text_of s.line (snapshot v.after)))
-    (save_leads s (text_of s.line (snapshot v.after))))
+    (if_leads s (is_due s v) (save_calls s.names (text_of s.line (snapshot_of v.after)))
+    (save_leads s (text_of s.line (snapshot_of v.after))))
 
 run_leads : (s : Setting) (m : Machine) (es : List Event) → Leads s (run_calls s m es)
 run_leads s m [] = none_lead s
@@ -273,8 +273,7 @@ others_could b s name m evs given at answer es k files other cut left =
     (rescue_aside s name d m evs given at answer other) cut in
     let here : MayShow (d.shows name) (files name) = subst (λ (v : Showing). MayShow v (files name)) same (left name) in (
       put d.reads.files name (files name),
-      subst (λ (l : List Entry). Leaves (disk_after (at_rest b.start) l) (put d.reads.files name (files name)))
-          (sym (until_all b.earlier))
+      left_before b (put d.reads.files name (files name))
           (λ n. elim (cases_Bool (bytes_eq n name)) [
             | inl is ↦ subst (λ (f : Option File). MayShow (d.shows n) f)
                 (sym (cond-true (bytes_eq n name) (files name) (d.reads.files n) is))

@@ -10,8 +10,9 @@ use Rattle.rescue_rules.specs.declared.stop.TrimMode.TheVariants.{Lead, Tail}
 use Rattle.rescue_rules.specs.Setting.{Setting}
 use Rattle.rescue_rules.specs.Passes.{Pass, taken}
 use Rattle.rescue_rules.specs.Machine.{Machine, has_taken, is_wanted, has_request}
-use Rattle.rescue_rules.specs.Moves.{begun, ended, at_next, has_none, ready}
-use Rattle.rescue_rules.specs.Beginning.{machine_of}
+use Rattle.rescue_rules.specs.Moves.{begun, ended, at_next, no_pass_left, ready}
+use Rattle.rescue_rules.specs.Preparation.{prepared}
+use Rattle.rescue_rules.specs.Beginning.{shown_at_first, machine_of, goes_on_from, machine_over}
 use Rattle.rescue_rules.specs.MachineLaws.{IsInOrder, HasNone, StateLeadsOn}
 use Rattle.rescue_rules.proofs.SearchLemmas.{wanted_found}
 
@@ -39,6 +40,11 @@ order_ready s m order =
 pub order_begins : (s : Setting) (map : List Status) (from : Option MapState) (shown : MapState) (time : ℕ)
     → IsInOrder s (machine_of s map from shown time)
 order_begins s map from shown time = order_lead s (machine_of s map from shown time) refl
+
+pub order_over : (s : Setting) (statuses : List Status) (state : Option MapState) (time : ℕ)
+    → IsInOrder s (machine_over s statuses state time)
+order_over s statuses state time =
+    order_begins s (prepared s.domain s.again s.retrim statuses) (goes_on_from s.again state) (shown_at_first state) time
 
 -- What stands in a state that goes on: all but the passes, the cursor, the mode and the skip.
 pub record Stays (m n : Machine) : Type 0 where
@@ -144,18 +150,18 @@ ready_leads s m =
     (λ on. inl on) (λ off. next_leads s m (drop 1 m.passes))
 
 -- A state that has gone on has no request where no pass is left, and one where a pass is.
-none_is : (ps : List Pass) → has_none ps ≡ true → ps ≡ []
+none_is : (ps : List Pass) → no_pass_left ps ≡ true → ps ≡ []
 none_is [] none = refl
 none_is (p ∷ ps) none = absurd (cc)
 
-pub spent_request : (s : Setting) (m : Machine) → has_none m.passes ≡ true → has_request s m ≡ false
+pub spent_request : (s : Setting) (m : Machine) → no_pass_left m.passes ≡ true → has_request s m ≡ false
 spent_request s m none =
     no_request s m (subst (All (HasNone s m.map)) (sym (none_is m.passes none)) (All-nil (HasNone s m.map)))
 
-pub ready_request : (s : Setting) (m : Machine) → has_none (ready s m).passes ≡ false → has_request s (ready s m) ≡ true
+pub ready_request : (s : Setting) (m : Machine) → no_pass_left (ready s m).passes ≡ false → has_request s (ready s m) ≡ true
 ready_request s m some =
     ⊎_elim (λ (on : has_request s (ready s m) ≡ true). on)
-    (λ (over : ready s m ≡ ended m). absurd (true≢false (sym (ap (λ n. has_none n.passes) over) ∙ some)))
+    (λ (over : ready s m ≡ ended m). absurd (true≢false (sym (ap (λ n. no_pass_left n.passes) over) ∙ some)))
     (ready_leads s m)
 
 pub state_leads_on : StateLeadsOn

@@ -2,6 +2,7 @@
 use Rattle.std.proofs.Common.{◌≡◌, ℕ, suc, List, [], ◌∷◌, ◌++◌, length, take, refl, sym, ap, subst, arith}
 use Rattle.std.proofs.Math.Numerals.{add-one}
 use Rattle.std.specs.List.{count_by}
+use Rattle.block_list.specs.declared.status.Status.{Status}
 use Rattle.crash_site.specs.Files.{bytes_of, empty_file}
 use Rattle.crash_site.specs.Calls.{Call, Entry, Done, Failed}
 use Rattle.crash_site.specs.Disk.{Showing, Disk}
@@ -13,9 +14,10 @@ use Rattle.rescue_rules.specs.Events.{reads_of}
 use Rattle.rescue_rules.specs.Held.{Held}
 use Rattle.rescue_rules.specs.Stops.{is_settle, is_publish, is_write}
 use Rattle.rescue_rules.specs.RunCalls.{run_calls}
+use Rattle.rescue_rules.specs.Preparation.{AreFinishedAlike}
 use Rattle.rescue_rules.specs.Laws.{AreThreeNames}
 use Rattle.rescue_rules.specs.MachineLaws.{IsInOrder}
-use Rattle.rescue_rules.specs.RunStops.{ComesTo, Promised, promised, Keeps, Rests, RunStopsSafely}
+use Rattle.rescue_rules.specs.RunStops.{ComesTo, RunPromise, promise_of_run, Keeps, Rests, RunStopsSafely}
 use Rattle.rescue_rules.proofs.MapfileLemmas.{last_save, end_is}
 use Rattle.rescue_rules.proofs.CutLemmas.{Cut, tally, tally_is, Each, at_stop}
 use Rattle.rescue_rules.proofs.HoldLemmas.{held_at_first, held_more}
@@ -30,35 +32,36 @@ comes_cut (c ∷ cs) (Done x ∷ es) h = (h.0, comes_cut cs es h.1)
 comes_cut (c ∷ cs) (Failed x ∷ es) h = h
 
 -- what a run has saved before its first save
-abbrev first_base : Setting → Machine → List Event → Disk → Base
-first_base s m es d = record {
-  a = promised s m es d;
+abbrev first_base : Setting → List Status → Machine → List Event → Disk → Base
+first_base s began m es d = record {
+  a = promise_of_run s began m es d;
   number = 0;
   mapfile = d.reads.files s.names.map;
-  statuses = m.map;
+  statuses = began;
   text = [];
   new = empty_file;
 }
 
--- the map that a run begins with holds by all of its reads
-held_first : (s : Setting) (ok : IsSensible s) (m : Machine) (es : List Event) (old : List ℕ) → IsInOrder s m → IsRun s m es
-    → Held s (reads_of es) old m.map old
-held_first s ok m es old order run =
-    held_more s [] (reads_of es) old m.map old (λ x inside is. (finished_stands s m es x ok order run is).0)
-    (held_at_first s m.map old)
+-- the map of the mapfile that a run begins with holds by all of its reads
+held_first : (s : Setting) (ok : IsSensible s) (began : List Status) (m : Machine) (es : List Event) (old : List ℕ)
+    → IsInOrder s m → AreFinishedAlike began m.map → IsRun s m es → Held s (reads_of es) old began old
+held_first s ok began m es old order alike run =
+    held_more s [] (reads_of es) old began old
+    (λ x inside is. (finished_stands s m es x ok order run ((alike.each x).0 is)).0) (held_at_first s began old)
 
-first_calm : (s : Setting) (ok : IsSensible s) (m : Machine) (es : List Event) (d : Disk) → IsInOrder s m → IsRun s m es
-    → (h : Rests s d) → Calm (first_base s m es d) 0 h.file d
-first_calm s ok m es d order run h =
-    let c : Base = first_base s m es d in
+first_calm : (s : Setting) (ok : IsSensible s) (began : List Status) (m : Machine) (es : List Event) (d : Disk)
+    → IsInOrder s m → AreFinishedAlike began m.map → IsRun s m es → (h : Rests s d)
+    → Calm (first_base s began m es d) 0 h.file d
+first_calm s ok began m es d order alike run h =
+    let c : Base = first_base s began m es d in
     let bytes : h.file.bytes ≡ c.a.start = sym (ap bytes_of h.reads) in
     record {
       image = h.image;
       map = record { shows = h.mapfile; reads = refl };
       output = subst (λ (v : Showing). Stood c 0 v) (sym h.output)
           (stood_only c 0 h.file (record {
-            held = subst (λ (i : List ℕ). Held s (reads_of es) c.a.start m.map i) (sym bytes)
-                (held_first s ok m es c.a.start order run);
+            held = subst (λ (i : List ℕ). Held s (reads_of es) c.a.start began i) (sym bytes)
+                (held_first s ok began m es c.a.start order alike run);
             longer = omega (arith, ap length bytes);
             unwritten = λ none. bytes;
           }));
@@ -66,10 +69,10 @@ first_calm s ok m es d order run h =
       sound = h.sound;
     }
 
-first_going : (s : Setting) (m : Machine) (es : List Event) (d : Disk) → IsInOrder s m → IsRun s m es
-    → (h : Rests s d) → Going (first_base s m es d) m es h.file
-first_going s m es d order run h =
-    let c : Base = first_base s m es d in
+first_going : (s : Setting) (began : List Status) (m : Machine) (es : List Event) (d : Disk) → IsInOrder s m
+    → AreFinishedAlike began m.map → IsRun s m es → (h : Rests s d) → Going (first_base s began m es d) m es h.file
+first_going s began m es d order alike run h =
+    let c : Base = first_base s began m es d in
     let bytes : h.file.bytes ≡ c.a.start = sym (ap bytes_of h.reads) in
     record {
       front = [];
@@ -79,32 +82,34 @@ first_going s m es d order run h =
       good = record { saved = (refl, refl) };
       held = subst (λ (i : List ℕ). Held s [] c.a.start m.map i) (sym bytes) (held_at_first s m.map c.a.start);
       longer = omega (arith, ap length bytes);
-      fewer = λ x is. is;
+      fewer = λ x is. (alike.each x).0 is;
       before = [];
       number = refl;
       saves = refl;
     }
 
 -- at every stop of a run, and before it
-pub each_run : (s : Setting) (ok : IsSensible s) (m : Machine) (es : List Event) (d : Disk) → AreThreeNames s → IsInOrder s m
-    → IsRun s m es → Rests s d → Each (Holds (promised s m es d)) 0 0 0 d (run_calls s m es ++ last_save s m es)
-each_run s ok m es d three order run rests =
-    each_move (promised s m es d) ok three m es (first_base s m es d) refl 0 rests.file d
-    (first_going s m es d order run rests) (first_calm s ok m es d order run rests)
+pub each_run : (s : Setting) (ok : IsSensible s) (began : List Status) (m : Machine) (es : List Event) (d : Disk)
+    → AreThreeNames s → IsInOrder s m → AreFinishedAlike began m.map → IsRun s m es → Rests s d
+    → Each (Holds (promise_of_run s began m es d)) 0 0 0 d (run_calls s m es ++ last_save s m es)
+each_run s ok began m es d three order alike run rests =
+    each_move (promise_of_run s began m es d) ok three m es (first_base s began m es d) refl 0 rests.file d
+    (first_going s began m es d order alike run rests) (first_calm s ok began m es d order alike run rests)
 
-pub rests_hold : (s : Setting) (ok : IsSensible s) (m : Machine) (es : List Event) (d : Disk) → IsInOrder s m
-    → IsRun s m es → Rests s d → Holds (promised s m es d) 0 0 0 d
-rests_hold s ok m es d order run rests =
-    calm_holds (first_base s m es d) ok 0 0 rests.file d (record { saved = (refl, refl) }) (omega arith)
-    (first_calm s ok m es d order run rests)
+pub rests_hold : (s : Setting) (ok : IsSensible s) (began : List Status) (m : Machine) (es : List Event) (d : Disk)
+    → IsInOrder s m → AreFinishedAlike began m.map → IsRun s m es → Rests s d
+    → Holds (promise_of_run s began m es d) 0 0 0 d
+rests_hold s ok began m es d order alike run rests =
+    calm_holds (first_base s began m es d) ok 0 0 rests.file d (record { saved = (refl, refl) }) (omega arith)
+    (first_calm s ok began m es d order alike run rests)
 
 pub run_stops_safely : RunStopsSafely
-run_stops_safely s m es d calls k files ok on three order run rests comes leaves =
-    let a : Promised = promised s m es d in
+run_stops_safely s began m es d calls k files ok on three order alike run rests comes leaves =
+    let a : RunPromise = promise_of_run s began m es d in
     let all : List Call = run_calls s m es ++ last_save s m es in
     let comes' : ComesTo all calls
     = subst (λ (l : List Call). ComesTo (run_calls s m es ++ l) calls) (end_is s m es on) comes in
-    let each : Each (Holds a) 0 0 0 d all = each_run s ok m es d three order run rests in
+    let each : Each (Holds a) 0 0 0 d all = each_run s ok began m es d three order alike run rests in
     let at : Keeps a (tally is_settle (take k calls) 0) (tally is_publish (take (suc k) calls) 0)
     (tally is_write (take (suc k) calls) 0) files
     = at_stop (Holds a) 0 0 0 d all calls k each (comes_cut all calls comes') files leaves in

@@ -16,12 +16,12 @@ use Rattle.crash_site.proofs.LawLemmas.{Sure, own_name, at_other, sure_step, sam
 use Rattle.rescue_rules.specs.Setting.{IsSensible}
 use Rattle.rescue_rules.specs.Laws.{AreThreeNames}
 use Rattle.rescue_rules.specs.Held.{Held}
-use Rattle.rescue_rules.specs.RunStops.{Promised}
+use Rattle.rescue_rules.specs.RunStops.{RunPromise}
 use Rattle.rescue_rules.proofs.HoldLemmas.{Unfinished, held_loose}
 
 -- What a run has saved: how often, and the mapfile with its map; and what it saves next, with the output then
 pub record Base : Type 0 where
-  pub a : Promised
+  pub a : RunPromise
   pub number : ℕ
   pub mapfile : Option File
   pub statuses : List Status

@@ -7,9 +7,9 @@ use Rattle.faulty_source.specs.Journal.{Reading}
 use Rattle.rescue_rules.specs.Setting.{Setting, IsSensible}
 use Rattle.rescue_rules.specs.Machine.{Machine}
 use Rattle.rescue_rules.specs.Step.{Event}
-use Rattle.rescue_rules.specs.Moves.{ready, move_of, is_over, IsRun}
+use Rattle.rescue_rules.specs.Moves.{ready, move_of, has_ended, IsRun}
 use Rattle.rescue_rules.specs.Events.{with_times}
-use Rattle.rescue_rules.specs.Snapshots.{Snapshot, snapshot, finished_snapshot, is_due, last_snapshot, snapshots}
+use Rattle.rescue_rules.specs.Snapshots.{Snapshot, snapshot_of, finished_snapshot, is_due, last_snapshot, snapshots}
 use Rattle.rescue_rules.specs.Laws.{AreTimes}
 use Rattle.rescue_rules.specs.MachineLaws.{IsInOrder, StepsBy}
 use Rattle.rescue_rules.proofs.MoveLemmas.{run_rest}
@@ -41,7 +41,7 @@ pub record IsTame (s : Setting) (end : ℕ) (m : Machine) : Type 0 where
   pub began : m.began < 2 ^ 64
   pub now : m.now < 2 ^ 64
 
-tame_readable : (s : Setting) (end : ℕ) (m : Machine) → IsTame s end m → IsReadable end (snapshot m)
+tame_readable : (s : Setting) (end : ℕ) (m : Machine) → IsTame s end m → IsReadable end (snapshot_of m)
 tame_readable s end m h = record {
   long = h.long;
   short = omega (arith, h.fits.size);
@@ -64,7 +64,7 @@ tame_finished s end m h = record {
 }
 
 tame_either : (s : Setting) (end : ℕ) (m : Machine) (over : Bool) → IsTame s end m
-    → IsReadable end (if over then finished_snapshot m else snapshot m)
+    → IsReadable end (if over then finished_snapshot m else snapshot_of m)
 tame_either s end m true h = tame_finished s end m h
 tame_either s end m false h = tame_readable s end m h
 
@@ -93,14 +93,14 @@ if_all end false p h = All-nil (IsReadable end)
 pub all_readable : (s : Setting) (ok : IsSensible s) (end : ℕ) (m : Machine) (es : List Event) → IsInOrder s m → IsRun s m es
     → All IsTimed es → IsTame s end m → All (IsReadable end) (snapshots s m es)
 all_readable s ok end m [] order run timed h =
-    All-cons (IsReadable end) (last_snapshot s m) [] (tame_either s end m (is_over s m) h) (All-nil (IsReadable end))
+    All-cons (IsReadable end) (last_snapshot s m) [] (tame_either s end m (has_ended s m) h) (All-nil (IsReadable end))
 all_readable s ok end m (e ∷ es) order run timed h =
     let n : Machine = (move_of s m e).after in
     let b : StepsBy s (ready s m) e = run_steps s ok m e es order run in
     let next : IsTame s end n = tame_move s ok end m e es order run (All-head IsTimed e es timed) h in
     subst (λ (l : List Snapshot). All (IsReadable end) l) (sym (due_first s m e es (is_due s (move_of s m e)) refl))
-    (All-append (IsReadable end) (if is_due s (move_of s m e) then snapshot n ∷ [] else []) (snapshots s n es)
-    (if_all end (is_due s (move_of s m e)) (snapshot n) (tame_readable s end n next))
+    (All-append (IsReadable end) (if is_due s (move_of s m e) then snapshot_of n ∷ [] else []) (snapshots s n es)
+    (if_all end (is_due s (move_of s m e)) (snapshot_of n) (tame_readable s end n next))
     (all_readable s ok end n es b.order (run_rest s m e es run) (All-tail IsTimed e es timed) next))
 
 -- one of them

@@ -1,18 +1,18 @@
 -- A rescue stops safely at every moment.
-use Rattle.std.proofs.Common.{◌≡◌, ℕ, zero, suc, ◌+◌, ◌-◌, ◌≤◌, ◌<◌, ◌^◌, Bool, true, false, ◌||◌, List, [], ◌∷◌, ◌++◌, length, take, drop, map, All, Option, Some, None, refl, sym, ◌∙◌, ap, subst, arith, append_assoc}
+use Rattle.std.proofs.Common.{◌≡◌, ℕ, zero, suc, ◌+◌, ◌-◌, ◌≤◌, ◌<◌, ◌^◌, Bool, true, false, ◌||◌, if◌then◌else◌, List, [], ◌∷◌, ◌++◌, length, take, drop, map, All, Option, Some, None, refl, sym, ◌∙◌, ap, subst, arith, append_assoc}
 use Rattle.std.proofs.Math.Numerals.{add-one}
 use Rattle.std.specs.List.{list_any, count_by}
 use Rattle.block_list.specs.declared.status.Status.{Status}
 use Rattle.mapfile_text.specs.declared.state.MapState.{MapState}
 use Rattle.faulty_source.specs.Journal.{Reading}
+use Rattle.crash_site.specs.declared.site.SiteCall.TheVariants.{MapRead as MapReadName}
 use Rattle.crash_site.specs.declared.site.MapRead.{MapRead}
 use Rattle.crash_site.specs.Files.{File, bytes_of}
 use Rattle.crash_site.specs.Calls.{Call, Entry, Done, Failed, image_open, image_sync, map_read, map_settle}
 use Rattle.crash_site.specs.Folder.{Folder}
 use Rattle.crash_site.specs.Disk.{Disk, at_rest, disk_after}
-use Rattle.crash_site.specs.Left.{Leaves, until}
+use Rattle.crash_site.specs.Left.{until}
 use Rattle.crash_site.proofs.DiskLemmas.{run_reads}
-use Rattle.crash_site.proofs.LawLemmas.{left_past}
 use Rattle.rescue_rules.specs.Setting.{Setting, IsSensible}
 use Rattle.rescue_rules.specs.Start.{Stands}
 use Rattle.rescue_rules.specs.Machine.{Machine}
@@ -20,17 +20,19 @@ use Rattle.rescue_rules.specs.Step.{Event}
 use Rattle.rescue_rules.specs.Events.{began_at}
 use Rattle.rescue_rules.specs.Snapshots.{Snapshot, text_of}
 use Rattle.rescue_rules.specs.Held.{Held}
-use Rattle.rescue_rules.specs.Work.{Gain, begins, events_in}
-use Rattle.rescue_rules.specs.Stops.{Behind, files_before, LeftAt, is_sync, is_settle, is_publish, is_write, has_barrier, IsSave, saves_of, IsKept}
+use Rattle.rescue_rules.specs.Work.{Gain, begins, events_in, GoesOn, InMaps, BehindMaps}
+use Rattle.rescue_rules.specs.Stops.{Behind, files_before, LeftAt, is_sync, is_settle, is_publish, is_write, has_barrier, IsSave, saves_of, IsKept, StopsSafely}
 use Rattle.rescue_rules.specs.Laws.{AreThreeNames, AreTimes, GoesSafely}
-use Rattle.rescue_rules.specs.RunStops.{Promised, promised, Keeps, Rests}
+use Rattle.rescue_rules.specs.RunStops.{RunPromise, promise_of_run, Keeps, Rests}
 use Rattle.rescue_rules.specs.MachineLaws.{IsInOrder}
-use Rattle.rescue_rules.specs.Beginning.{shown_at_first}
+use Rattle.rescue_rules.specs.Beginning.{shown_at_first, was_copying, goes_on_from}
+use Rattle.rescue_rules.specs.Preparation.{prepared_status, prepared, AreFinishedAlike}
 use Rattle.save_resume.specs.Loading.{piece_size, piece_reads}
 use Rattle.std.proofs.lemmas.List.Elements.{All-head, All-drop}
 use Rattle.std.proofs.lemmas.Option.{none-some}
-use Rattle.rescue_rules.proofs.ReadyLemmas.{order_begins}
-use Rattle.rescue_rules.proofs.StandsLemmas.{stands_for_one, IsSmall, stands_small, printed_stands}
+use Rattle.rescue_rules.proofs.ReadyLemmas.{order_over}
+use Rattle.rescue_rules.proofs.PreparationLemmas.{length_changed, prepares_no_finished}
+use Rattle.rescue_rules.proofs.StandsLemmas.{stands_for_one, IsPrintable, IsSmall, stands_small, printed_stands}
 use Rattle.rescue_rules.proofs.CutLemmas.{Cut, add, tally, tally_is, Each, at_stop}
 use Rattle.rescue_rules.proofs.MoveStages.{Holds}
 use Rattle.rescue_rules.proofs.RunStopLemmas.{each_run, rests_hold}
@@ -38,25 +40,26 @@ use Rattle.rescue_rules.proofs.FitLemmas.{begins_fits}
 use Rattle.rescue_rules.proofs.SnapshotLemmas.{IsReadable, IsTame, all_readable, one_of, events_timed}
 use Rattle.rescue_rules.proofs.BarrierLemmas.{at_barrier, barrier_rests, barrier_mapfile, barrier_output}
 use Rattle.rescue_rules.proofs.MapfileLemmas.{settling_calls}
-use Rattle.rescue_rules.proofs.GoesLemmas.{all_calls, reads_of, Course, Way, AnyMap, OneMap, way}
-use Rattle.rescue_rules.proofs.BeforeLemmas.{disk_before, sound_before, could_before}
+use Rattle.rescue_rules.proofs.GoesLemmas.{broke_cut, all_calls, reads_of, Course, Way, AnyMap, OneMap, way}
+use Rattle.rescue_rules.proofs.BeforeLemmas.{disk_before, sound_before, left_at, could_before}
 use Rattle.rescue_rules.proofs.OthersLemmas.{others_could}
+use Rattle.rescue_rules.proofs.MapReadLemmas.{behind_reads, cut_reads}
 
 -- what reads before a rescue
 reads_before : (b : Behind) (name : List ℕ) → (disk_before b).reads.files name ≡ files_before b name
 reads_before b name = ap (λ (r : Folder). r.files name) (run_reads (at_rest b.start) b.earlier)
 
 -- what a rescue has to keep
-abbrev kept_of : Behind → Setting → List Status → Option MapState → Gain → Promised
-kept_of b s began state g = promised s (begins s began state g) (events_in g) (at_barrier s (disk_before b))
+abbrev kept_of : Behind → Setting → List Status → Option MapState → Gain → RunPromise
+kept_of b s began state g = promise_of_run s began (begins s began state g) (events_in g) (at_barrier s (disk_before b))
 
 -- loads change nothing
-each_piece_read : (a : Promised) (name : List ℕ) (pos : ℕ) (given : List ℕ) (d : Disk) (rest : List Call)
+each_piece_read : (a : RunPromise) (name : List ℕ) (pos : ℕ) (given : List ℕ) (d : Disk) (rest : List Call)
     → Holds a 0 0 0 d → Each (Holds a) 0 0 0 d rest → Each (Holds a) 0 0 0 d (piece_reads name pos given ++ rest)
 each_piece_read a name pos [] d rest f h = h
 each_piece_read a name pos (n ∷ ns) d rest f h = (f, f, each_piece_read a name (pos + n) ns d rest f h)
 
-each_load : (a : Promised) (name : List ℕ) (given : List ℕ) (at : ℕ) (answer : Option MapRead) (d : Disk)
+each_load : (a : RunPromise) (name : List ℕ) (given : List ℕ) (at : ℕ) (answer : Option MapRead) (d : Disk)
     (rest : List Call) → Holds a 0 0 0 d → Each (Holds a) 0 0 0 d rest
     → Each (Holds a) 0 0 0 d ((piece_reads name 0 given ++ map_read name at piece_size answer ∷ []) ++ rest)
 each_load a name given at answer d rest f h =
@@ -139,12 +142,12 @@ tally_more f [] n = refl
 tally_more f (e ∷ es) n = tally_add f es (f e) n (λ m. tally_more f es m)
 
 -- what is kept where so many calls have returned
-abbrev AtStop : Promised → Disk → List Entry → ℕ → Type 0
+abbrev AtStop : RunPromise → Disk → List Entry → ℕ → Type 0
 AtStop a d es k =
     Holds a (count_by is_settle (take k es) - 1) (count_by is_publish (take (suc k) es))
     (count_by is_write (take (suc k) es)) (disk_after d (until k es))
 
-tallied : (a : Promised) (d : Disk) (es : List Entry) (k r : ℕ) → tally is_settle (take k es) 0 ≡ suc r
+tallied : (a : RunPromise) (d : Disk) (es : List Entry) (k r : ℕ) → tally is_settle (take k es) 0 ≡ suc r
     → Holds a r (tally is_publish (take (suc k) es) 0) (tally is_write (take (suc k) es) 0) (disk_after d (until k es))
     → AtStop a d es k
 tallied a d es k r is h =
@@ -162,17 +165,19 @@ kept_at : (b : Behind) (s : Setting) (g : Gain) (began : List Status) (state : O
 kept_at b s g began state k ok three course is =
     let m : Machine = begins s began state g in
     let es : List Event = events_in g in
-    let a : Promised = kept_of b s began state g in
+    let a : RunPromise = kept_of b s began state g in
     let d : Disk = at_barrier s (disk_before b) in
     let rests : Rests s d = barrier_rests s (disk_before b) three (sound_before b) in
-    let order : IsInOrder s m = order_begins s began None (shown_at_first state) (began_at g.times) in
+    let order : IsInOrder s m = order_over s began state (began_at g.times) in
+    let alike : AreFinishedAlike began m.map = prepares_no_finished s.domain s.again s.retrim began in
     let tail : List Call = reads_of s course.given course.at course.answer ++ all_calls s m es in
     let p : Past s tail g.calls k = past s tail g.calls k course.cut is in
     let whole : List Entry
     = Done (image_open s.outfile true) ∷ Done (map_settle s.names.map) ∷ Done image_sync ∷ p.rest in
     let each : Each (Holds a) 0 0 0 d tail
     = each_load a s.names.map course.given course.at course.answer d (all_calls s m es)
-    (rests_hold s ok m es d order course.run rests) (each_run s ok m es d three order course.run rests) in
+    (rests_hold s ok began m es d order alike course.run rests)
+    (each_run s ok began m es d three order alike course.run rests) in
     subst (λ (l : List Entry). AtStop a (disk_before b) l k) (sym p.es_is)
     (subst (λ (n : ℕ). AtStop a (disk_before b) whole n) (sym p.k_is)
     (tallied a (disk_before b) whole (suc (suc (suc p.j))) (tally is_settle (take p.j p.rest) 0)
@@ -188,11 +193,6 @@ un_step f es false none later = later none
 uncounted : (f : Entry → Bool) (es : List Entry) → list_any f es ≡ false → tally f es 0 ≡ 0
 uncounted f [] none = refl
 uncounted f (e ∷ es) none = un_step f es (f e) none (uncounted f es)
-
--- what a stop of the calls may leave
-left_at : (b : Behind) (g : Gain) (k : ℕ) (files : List ℕ → Option File) → LeftAt b g k files
-    → Leaves (disk_after (disk_before b) (until k g.calls)) files
-left_at b g k files h = left_past b.start b.earlier g.calls k (length b.earlier + k) files refl h
 
 -- what is found keeps what a rescue has to
 found_keeps : (b : Behind) (s : Setting) (g : Gain) (began : List Status) (state : Option MapState) (k : ℕ)
@@ -233,7 +233,7 @@ map_stands : (b : Behind) (s : Setting) (g : Gain) (began : List Status) (state 
     → Course s began state g → LeftAt b g k files → has_barrier (take k g.calls) ≡ true
     → count_by is_publish (take (k + 1) g.calls) ≡ 0 → files s.names.map ≡ files_before b s.names.map
 map_stands b s g began state k files ok three course left is none =
-    let a : Promised = kept_of b s began state g in
+    let a : RunPromise = kept_of b s began state g in
     let h = found_keeps b s g began state k files ok three course left is in
     no_save a.mapfile a.began s.line a.saves h.number (files s.names.map) h.statuses h.is_save (omega (arith, h.no_newer, none))
     ∙ old_map b s began state g three
@@ -258,16 +258,36 @@ stands_found s old began state saves (suc n) found statuses h small stands =
           (printed_stands s.line file s.end p r.long r.short r.shown r.began r.now refl)),
     )
 
+-- a state that copying goes on from is one that a mapfile showed
+gone_from : (again : Bool) (state : Option MapState) (st : MapState) → goes_on_from again state ≡ Some st
+    → state ≡ Some st
+gone_from again None st is = absurd (none-some st is)
+gone_from true (Some shown) st is = absurd (none-some st is)
+gone_from false (Some shown) st is = if_copying (was_copying shown.current) is
+  where
+    if_copying : (on : Bool) → (if on then Some shown else None) ≡ Some st → Some shown ≡ Some st
+    if_copying true h = h
+    if_copying false h = absurd (none-some st h)
+
+-- and its pass is counted
+first_counted : (end : ℕ) (map : List Status) (state : Option MapState) (st : MapState) → IsSmall end map state
+    → state ≡ Some st → 0 < st.pass
+first_counted end map state st small is =
+    (subst (λ (o : Option MapState). IsPrintable (shown_at_first o)) is small.shown).some
+
 -- a run begins in a state whose numbers are small
 begins_tame : (s : Setting) (ok : IsSensible s) (began : List Status) (state : Option MapState) (g : Gain)
     → AreTimes g.times → IsSmall s.end began state → IsTame s s.end (begins s began state g)
 begins_tame s ok began state g times small =
     let first : began_at g.times < 2 ^ 64 = first_small g.times times in
+    let map : List Status = prepared s.domain s.again s.retrim began in
+    let size : length map ≡ length began = length_changed s.domain (prepared_status s.again s.retrim) 0 began in
     record {
-      fits = begins_fits s began None (shown_at_first state) (began_at g.times) (2 ^ 63 - 1) (2 ^ 32 - 1)
-          (omega (arith, small.short)) (omega (arith, small.shown.pos)) small.shown.some
-          (omega (arith, small.shown.pass)) (omega arith) (omega (arith, ok.retries)) (λ st is. absurd (none-some st is));
-      long = small.long;
+      fits = begins_fits s map (goes_on_from s.again state) (shown_at_first state) (began_at g.times) (2 ^ 63 - 1)
+          (2 ^ 32 - 1) (omega (arith, size, small.short)) (omega (arith, small.shown.pos)) small.shown.some
+          (omega (arith, small.shown.pass)) (omega arith) (omega (arith, ok.retries))
+          (λ st is. first_counted s.end began state st small (gone_from s.again state st is));
+      long = omega (arith, size, small.long);
       began = first;
       now = first;
     }
@@ -278,14 +298,14 @@ kept_by : (b : Behind) (s : Setting) (g : Gain) (began : List Status) (state : O
     → Stands (files_before b s.names.map) s.end began state → IsKept b s g began state k files
 kept_by b s g began state k files ok three low times course left is stands =
     let m : Machine = begins s began state g in
-    let a : Promised = kept_of b s began state g in
+    let a : RunPromise = kept_of b s began state g in
     let h = found_keeps b s g began state k files ok three course left is in
     let small : IsSmall s.end began state = stands_small (files_before b s.names.map) s.end began state low stands in
     let saved : IsSave (files_before b s.names.map) began s.line (saves_of s began state g) h.number (files s.names.map) h.statuses
     = subst (λ (o : Option File). IsSave o began s.line (saves_of s began state g) h.number (files s.names.map) h.statuses)
     (old_map b s began state g three) h.is_save in
     let readable : All (IsReadable s.end) (saves_of s began state g)
-    = all_readable s ok s.end m (events_in g) (order_begins s began None (shown_at_first state) (began_at g.times))
+    = all_readable s ok s.end m (events_in g) (order_over s began state (began_at g.times))
     course.run (events_timed g.reads (drop 1 g.times) (All-drop (λ (t : ℕ). t < 2 ^ 64) 1 g.times times))
     (begins_tame s ok began state g times small) in
     let shows = stands_found s (files_before b s.names.map) began state (saves_of s began state g) h.number
@@ -317,9 +337,10 @@ some_course : (s : Setting) (files : List ℕ → Option File) (g : Gain) → Wa
 some_course s files g (AnyMap any) = ([], None, any [] None)
 some_course s files g (OneMap map at was course) = (map, at, course)
 
--- a rescue with a mapfile that goes as it should stops safely
-pub goes_safely : GoesSafely
-goes_safely b s g ok on three low times goes =
+-- a rescue with a mapfile that goes as it should behind its reads of other maps stops safely
+goes_on_safely : (b : Behind) (s : Setting) (g : Gain) → IsSensible s → s.has_mapfile ≡ true → AreThreeNames s
+    → s.end < 2 ^ 63 → AreTimes g.times → GoesOn s (files_before b) g → StopsSafely b s g
+goes_on_safely b s g ok on three low times goes =
     let w : Way s (files_before b) g = way s (files_before b) g on goes in
     let (map, at, course) = some_course s (files_before b) g w in
     let m : Machine = begins s map at g in
@@ -336,3 +357,11 @@ goes_safely b s g ok on three low times goes =
           course.at course.answer g.calls k files
           (record { output = output; map = mapfile; draft = draft }) course.cut (left_at b g k files left);
     }
+
+-- and so does one that reads them first
+pub goes_safely : GoesSafely
+goes_safely b s g ok on three low times (InMaps maps reads none broke) =
+    cut_reads b s g maps g.calls reads (broke_cut MapReadName [] maps g.calls broke)
+goes_safely b s g ok on three low times (BehindMaps maps rest reads is goes) =
+    subst (λ (l : List Entry). StopsSafely b s (record g { calls = l })) (sym is)
+    (behind_reads b s g maps rest reads (goes_on_safely b s (record g { calls = rest }) ok on three low times goes))

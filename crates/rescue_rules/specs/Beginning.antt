@@ -1,13 +1,15 @@
 -- The state in which a run begins.
-use Rattle.std.specs.Prelude.{ℕ, min, nat_eq, List, length, Option, Some, None, if◌then◌else◌}
+use Rattle.std.specs.Prelude.{ℕ, min, nat_eq, Bool, true, false, List, length, Option, Some, None, if◌then◌else◌}
 use Rattle.block_list.specs.declared.status.Status.{Status}
 use Rattle.mapfile_text.specs.declared.state.MapState.{MapState}
-use Rattle.mapfile_text.specs.declared.state.Current.TheVariants.{Copying as NowCopying}
+use Rattle.mapfile_text.specs.declared.state.Current.{Current}
+use Rattle.mapfile_text.specs.declared.state.Current.TheVariants.{Copying as NowCopying, Trimming as NowTrimming, Scraping as NowScraping, Retrying as NowRetrying, Filling as NowFilling, Generating as NowGenerating, Finished as NowFinished}
 use Rattle.rescue_rules.specs.declared.stop.TrimMode.TheVariants.{Lead}
 use Rattle.rescue_rules.specs.Setting.{Setting}
 use Rattle.rescue_rules.specs.declared.phase.Phase.TheVariants.{Copying}
 use Rattle.rescue_rules.specs.Passes.{copying_passes, passes_from, numbered}
 use Rattle.rescue_rules.specs.Machine.{Machine, start_of}
+use Rattle.rescue_rules.specs.Preparation.{prepared}
 
 -- the first pass of copying, and its cursor, where copying goes on from a state that a mapfile showed; the last pass always
 -- begins at its own start
@@ -46,3 +48,24 @@ machine_of s map from shown time = record {
   due_at = time;
   shown = shown;
 }
+
+-- a mapfile showed that its rescue was copying
+abbrev pub was_copying : Current → Bool
+was_copying NowCopying = true
+was_copying NowTrimming = false
+was_copying NowScraping = false
+was_copying NowRetrying = false
+was_copying NowFilling = false
+was_copying NowGenerating = false
+was_copying NowFinished = false
+
+-- Copying goes on from the state that a mapfile showed where that was copying, unless what failed is tried again; else it
+-- begins with its first pass.
+abbrev pub goes_on_from : (again : Bool) → Option MapState → Option MapState
+goes_on_from again None = None
+goes_on_from again (Some state) = if again then None else if was_copying state.current then Some state else None
+
+-- a run at this time over what is made of the map that a mapfile stands for, with the state that it shows
+abbrev pub machine_over : Setting → List Status → (state : Option MapState) → (time : ℕ) → Machine
+machine_over s statuses state time =
+    machine_of s (prepared s.domain s.again s.retrim statuses) (goes_on_from s.again state) (shown_at_first state) time

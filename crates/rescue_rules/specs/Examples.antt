@@ -22,6 +22,8 @@ small end cluster skip = record {
   domain = λ x. nat_lt x end;
   from = 0;
   to = 0;
+  again = false;
+  retrim = false;
   sector = 2;
   cluster = cluster;
   skip = skip;
@@ -40,8 +42,8 @@ abbrev pub small_start : (end cluster skip : ℕ) → Machine
 small_start end cluster skip = machine_of (small end cluster skip) (replicate end NonTried) None nothing_shown 0
 
 -- a read of so many bytes that gave so many
-abbrev pub event : (pos asked given : ℕ) → Event
-event pos asked given =
+abbrev pub event_at : (pos asked given : ℕ) → Event
+event_at pos asked given =
     record { reading = record { pos = pos; asked = asked; given = replicate given 7 }; before = 0; after = 0 }
 
 -- the pass of each event and the cursor behind it
@@ -50,7 +52,7 @@ trail s m events = map (λ v. (pass_of v.before, v.after.cursor)) (moves s m eve
 
 -- a bad sector in the middle: copying finds it, and trimming takes its run from the front and then from the back
 abbrev pub trimmed : List Event
-trimmed = event 0 6 2 ∷ event 2 2 0 ∷ event 4 2 2 ∷ []
+trimmed = event_at 0 6 2 ∷ event_at 2 2 0 ∷ event_at 4 2 2 ∷ []
 
 abbrev pub TrimsFrontAndBack : Type 0
 TrimsFrontAndBack =
@@ -60,8 +62,8 @@ TrimsFrontAndBack =
 -- bad sectors 0 and 3 of 16: the first pass jumps behind each, by two sectors and then by four, and the second comes
 -- back for what was jumped over
 abbrev pub jumping : List Event
-jumping = event 0 2 0 ∷ event 6 2 0 ∷ event 16 2 2 ∷ event 18 2 2 ∷ event 20 2 2 ∷ event 22 2 2 ∷ event 24 2 2
-    ∷ event 26 2 2 ∷ event 28 2 2 ∷ event 30 2 2 ∷ event 14 2 2 ∷ event 12 2 2 ∷ []
+jumping = event_at 0 2 0 ∷ event_at 6 2 0 ∷ event_at 16 2 2 ∷ event_at 18 2 2 ∷ event_at 20 2 2 ∷ event_at 22 2 2 ∷ event_at 24 2 2
+    ∷ event_at 26 2 2 ∷ event_at 28 2 2 ∷ event_at 30 2 2 ∷ event_at 14 2 2 ∷ event_at 12 2 2 ∷ []
 
 abbrev pub JumpsAndComesBack : Type 0
 JumpsAndComesBack =

@@ -18,6 +18,3 @@ pub mod Laws
 pub mod MachineLaws
 pub mod RunStops
 pub mod Examples
-pub mod Requests
-pub mod Run
-pub mod RunLaws

@@ -3,7 +3,7 @@ use Rattle.std.specs.Prelude.{◌≡◌, ◌⊎◌, ℕ, ◌+◌, ◌<◌, ◌�
 use Rattle.block_list.specs.declared.status.Status.{Status}
 use Rattle.block_list.specs.declared.status.Status.TheVariants.{Finished}
 use Rattle.block_list.specs.Map.{Has}
-use Rattle.faulty_source.specs.Journal.{kept, covers}
+use Rattle.faulty_source.specs.Journal.{Reading, kept, covers}
 use Rattle.rescue_rules.specs.declared.stop.TrimMode.TheVariants.{Lead, Tail}
 use Rattle.rescue_rules.specs.Setting.{Setting, IsSensible}
 use Rattle.rescue_rules.specs.Passes.{Pass, taken}
@@ -92,3 +92,8 @@ pub record LeadsOn (s : Setting) (m : Machine) : Type 0 where
 
 abbrev pub StateLeadsOn : Type 0
 StateLeadsOn = (s : Setting) (m : Machine) → LeadsOn s m
+
+-- a read asks for a position
+pub record AsksFor (r : Reading) (x : ℕ) : Type 0 where
+  pub from : r.pos ≤ x
+  pub to : x < r.pos + r.asked

@@ -4,7 +4,7 @@ use Rattle.rescue_rules.specs.declared.stop.TrimMode.TheVariants.{Lead}
 use Rattle.rescue_rules.specs.Setting.{Setting}
 use Rattle.rescue_rules.specs.Passes.{Pass}
 use Rattle.rescue_rules.specs.Machine.{Machine, start_of, IsRequest, has_request}
-use Rattle.rescue_rules.specs.Step.{Event, step, limit}
+use Rattle.rescue_rules.specs.Step.{Event, step, limit_met}
 
 -- the state at the start of a pass, which others follow
 abbrev pub begun : Setting → Machine → Pass → List Pass → Machine
@@ -46,16 +46,16 @@ state_after s m (e ∷ es) = state_after s (move_of s m e).after es
 pub record IsMove (s : Setting) (v : Move) : Type 0 where
   pub request : IsRequest s v.before v.event.reading.pos (v.event.reading.pos + v.event.reading.asked)
   pub few : length v.event.reading.given ≤ v.event.reading.asked
-  pub within : limit s v.before ≡ None
+  pub within : limit_met s v.before ≡ None
 
 -- events are a run from a state
 pub record IsRun (s : Setting) (m : Machine) (events : List Event) : Type 0 where
   pub each : All (IsMove s) (moves s m events)
 
-abbrev pub has_none : List Pass → Bool
-has_none [] = true
-has_none (p ∷ ps) = false
+abbrev pub no_pass_left : List Pass → Bool
+no_pass_left [] = true
+no_pass_left (p ∷ ps) = false
 
 -- no pass has a request left, and no limit was met
-abbrev pub is_over : Setting → Machine → Bool
-is_over s m = has_none (ready s m).passes && is_none (limit s m)
+abbrev pub has_ended : Setting → Machine → Bool
+has_ended s m = no_pass_left (ready s m).passes && is_none (limit_met s m)

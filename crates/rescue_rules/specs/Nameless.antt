@@ -1,4 +1,5 @@
--- A run needs neither the names of its input and its output nor the input's length, nor what its output may be.
+-- A run needs neither the names of its input and its output nor the input's length, nor what its output may be, nor how its
+-- map was prepared.
 use Rattle.std.specs.Prelude.{◌≡◌, ◌↔◌, false, List, []}
 use Rattle.rescue_rules.specs.Setting.{Setting}
 use Rattle.rescue_rules.specs.Machine.{Machine}
@@ -9,7 +10,7 @@ use Rattle.rescue_rules.specs.Snapshots.{snapshots}
 
 -- a setting without them
 abbrev pub nameless : Setting → Setting
-nameless s = record s { infile = []; outfile = []; forced = false; end = 0 }
+nameless s = record s { infile = []; outfile = []; forced = false; end = 0; again = false; retrim = false }
 
 -- events are a run with them and without, by the same moves, with the same calls and saves
 pub record RunsAlike (s : Setting) (m : Machine) (events : List Event) : Type 0 where

@@ -1,7 +1,7 @@
 -- What trying again and trimming again make of a map before a run.
-use Rattle.std.specs.Prelude.{◌≡◌, ◌⊎◌, ℕ, ◌+◌, Bool, List, [], ◌∷◌, length, if◌then◌else◌}
+use Rattle.std.specs.Prelude.{◌≡◌, ◌⊎◌, ◌↔◌, ℕ, ◌+◌, Bool, List, [], ◌∷◌, length, if◌then◌else◌}
 use Rattle.block_list.specs.declared.status.Status.{Status}
-use Rattle.block_list.specs.declared.status.Status.TheVariants.{NonTried, NonTrimmed, NonScraped, BadSector}
+use Rattle.block_list.specs.declared.status.Status.TheVariants.{NonTried, NonTrimmed, NonScraped, BadSector, Finished}
 use Rattle.block_list.specs.Map.{Has}
 
 -- what trying again makes of a status: what is left to trim or to scrape is left to copy; a bad sector stays one
@@ -43,3 +43,12 @@ pub record IsPartlyChanged (domain : ℕ → Bool) (change : Status → Status) 
   pub size : length new ≡ length old
   pub each : (x : ℕ) (status : Status) → Has old status x
       → Has new status x ⊎ Has new (if_asked (domain x) change status) x
+
+-- a position is finished in one map exactly where it is in the other
+pub record AreFinishedAlike (a b : List Status) : Type 0 where
+  pub each : (x : ℕ) → Has a Finished x ↔ Has b Finished x
+
+-- preparation makes nothing finished, and leaves what is
+abbrev pub PreparesNoFinished : Type 0
+PreparesNoFinished =
+    (domain : ℕ → Bool) (again retrim : Bool) (map : List Status) → AreFinishedAlike map (prepared domain again retrim map)

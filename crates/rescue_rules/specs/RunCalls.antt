@@ -9,7 +9,7 @@ use Rattle.rescue_rules.specs.Setting.{Setting, place}
 use Rattle.rescue_rules.specs.Machine.{Machine}
 use Rattle.rescue_rules.specs.Step.{Event}
 use Rattle.rescue_rules.specs.Moves.{Move, moves, state_after}
-use Rattle.rescue_rules.specs.Snapshots.{Snapshot, text_of, snapshot, is_due, last_snapshot}
+use Rattle.rescue_rules.specs.Snapshots.{Snapshot, text_of, snapshot_of, is_due, last_snapshot}
 
 -- what is kept of a read is written at its place, if it is anything
 abbrev pub write_calls : Setting → Reading → List Call
@@ -28,7 +28,7 @@ output_after s bytes (e ∷ es) = output_after s (output_by s bytes e.reading) e
 
 -- the save that is due behind a move, if one is
 abbrev pub due_calls : Setting → Move → List Call
-due_calls s v = if is_due s v then save_calls s.names (text_of s.line (snapshot v.after)) else []
+due_calls s v = if is_due s v then save_calls s.names (text_of s.line (snapshot_of v.after)) else []
 
 -- a move makes a write, and a due save
 abbrev pub move_calls : Setting → Move → List Call

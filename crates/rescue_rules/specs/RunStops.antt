@@ -15,6 +15,7 @@ use Rattle.rescue_rules.specs.Snapshots.{Snapshot, snapshots}
 use Rattle.rescue_rules.specs.RunCalls.{run_calls, end_calls}
 use Rattle.rescue_rules.specs.Held.{Held}
 use Rattle.rescue_rules.specs.Stops.{is_settle, is_publish, is_write, IsSave}
+use Rattle.rescue_rules.specs.Preparation.{AreFinishedAlike}
 use Rattle.rescue_rules.specs.Laws.{AreThreeNames}
 use Rattle.rescue_rules.specs.MachineLaws.{IsInOrder}
 
@@ -27,7 +28,7 @@ ComesTo (c ∷ cs) (Failed x ∷ es) = (x ≡ c) × (es ≡ [])
 
 -- what a run has to keep: its setting, the mapfile that it begins with and its map, the output's bytes then, its reads, and
 -- what it saves
-pub record Promised : Type 0 where
+pub record RunPromise : Type 0 where
   pub s : Setting
   pub mapfile : Option File
   pub began : List Status
@@ -38,7 +39,7 @@ pub record Promised : Type 0 where
 -- The mapfile found is one that the run saved, or the one that it began with: no older than the last save that had returned,
 -- and no newer than the last that had begun to be published. The output holds what that mapfile's map promises, and stands
 -- until a write has begun.
-pub record Keeps (a : Promised) (returned published written : ℕ) (files : List ℕ → Option File) : Type 0 where
+pub record Keeps (a : RunPromise) (returned published written : ℕ) (files : List ℕ → Option File) : Type 0 where
   pub number : ℕ
   pub no_older : returned ≤ number
   pub no_newer : number ≤ published
@@ -56,22 +57,22 @@ pub record Rests (s : Setting) (d : Disk) : Type 0 where
   pub output : d.shows s.outfile ≡ only (Some file)
   pub sound : Leaves d d.reads.files
 
--- what a run from a state has to keep, over a disk as it reads before it
-abbrev pub promised : Setting → Machine → List Event → Disk → Promised
-promised s m events d = record {
+-- what a run from a state has to keep, over a disk as it reads before it, where its mapfile has this map
+abbrev pub promise_of_run : Setting → (began : List Status) → Machine → List Event → Disk → RunPromise
+promise_of_run s began m events d = record {
   s = s;
   mapfile = d.reads.files s.names.map;
-  began = m.map;
+  began = began;
   start = bytes_of (d.reads.files s.outfile);
   reads = reads_of events;
   saves = snapshots s m events;
 }
 
--- A run with a mapfile over such a disk keeps that at whatever moment it is stopped, between or within its calls.
+-- A run with a mapfile over such a disk, whose map finishes what its mapfile's does, keeps that at whatever moment it is stopped, between or within its calls.
 abbrev pub RunStopsSafely : Type 0
-RunStopsSafely = (s : Setting) (m : Machine) (events : List Event) (d : Disk) (calls : List Entry) (k : ℕ)
+RunStopsSafely = (s : Setting) (began : List Status) (m : Machine) (events : List Event) (d : Disk) (calls : List Entry) (k : ℕ)
     (files : List ℕ → Option File) → IsSensible s → s.has_mapfile ≡ true → AreThreeNames s → IsInOrder s m
-    → IsRun s m events → Rests s d → ComesTo (run_calls s m events ++ end_calls s m events) calls
+    → AreFinishedAlike began m.map → IsRun s m events → Rests s d → ComesTo (run_calls s m events ++ end_calls s m events) calls
     → Leaves (disk_after d (until k calls)) files
-    → Keeps (promised s m events d) (count_by is_settle (take k calls)) (count_by is_publish (take (k + 1) calls))
+    → Keeps (promise_of_run s began m events d) (count_by is_settle (take k calls)) (count_by is_publish (take (k + 1) calls))
     (count_by is_write (take (k + 1) calls)) files

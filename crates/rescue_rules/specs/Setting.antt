@@ -20,6 +20,9 @@ pub record Setting : Type 0 where
   pub domain : ℕ → Bool
   pub from : ℕ
   pub to : ℕ
+  -- whether what a mapfile calls failed is tried again, and whether it is trimmed again
+  pub again : Bool
+  pub retrim : Bool
   -- a read is cut at a multiple of the sector; copying asks for a cluster at most, the other phases for a sector
   pub sector : ℕ
   pub cluster : ℕ

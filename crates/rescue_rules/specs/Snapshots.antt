@@ -8,8 +8,8 @@ use Rattle.mapfile_text.specs.HeadingLines.{HeadingLines}
 use Rattle.mapfile_text.specs.Printed.{printed}
 use Rattle.rescue_rules.specs.Setting.{Setting}
 use Rattle.rescue_rules.specs.Machine.{Machine}
-use Rattle.rescue_rules.specs.Step.{Event, is_timely, limit}
-use Rattle.rescue_rules.specs.Moves.{Move, moves, state_after, is_over}
+use Rattle.rescue_rules.specs.Step.{Event, is_timely, limit_met}
+use Rattle.rescue_rules.specs.Moves.{Move, moves, state_after, has_ended}
 
 -- what a saved mapfile says: a map, where the rescue stood, and the times of the start and of the last event
 pub record Snapshot : Type 0 where
@@ -27,22 +27,22 @@ abbrev pub text_of : List ℕ → Snapshot → List ℕ
 text_of line p = printed (heading_at line p.began p.now) p.shown p.map
 
 -- what a save shows of a state
-abbrev pub snapshot : Machine → Snapshot
-snapshot m = record { map = m.map; shown = m.shown; began = m.began; now = m.now }
+abbrev pub snapshot_of : Machine → Snapshot
+snapshot_of m = record { map = m.map; shown = m.shown; began = m.began; now = m.now }
 
 -- with a mapfile, a save is due after an event that comes long enough after the last due one, and meets no limit
 abbrev pub is_due : Setting → Move → Bool
-is_due s v = s.has_mapfile && is_timely v.before v.event && is_none (limit s v.after)
+is_due s v = s.has_mapfile && is_timely v.before v.event && is_none (limit_met s v.after)
 
 -- a finished run says so
 abbrev pub finished_snapshot : Machine → Snapshot
-finished_snapshot m = record (snapshot m) { shown = record m.shown { current = Finished; pass = 1 } }
+finished_snapshot m = record (snapshot_of m) { shown = record m.shown { current = Finished; pass = 1 } }
 
 -- what the run's end saves
 abbrev pub last_snapshot : Setting → Machine → Snapshot
-last_snapshot s m = if is_over s m then finished_snapshot m else snapshot m
+last_snapshot s m = if has_ended s m then finished_snapshot m else snapshot_of m
 
 -- what a run with a mapfile saves, in order: the due saves, and one at its end
 abbrev pub snapshots : Setting → Machine → List Event → List Snapshot
 snapshots s m events =
-    map (λ v. snapshot v.after) (filter (is_due s) (moves s m events)) ++ last_snapshot s (state_after s m events) ∷ []
+    map (λ v. snapshot_of v.after) (filter (is_due s) (moves s m events)) ++ last_snapshot s (state_after s m events) ∷ []

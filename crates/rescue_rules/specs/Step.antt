@@ -113,8 +113,8 @@ is_beyond None n = false
 is_beyond (Some limit) n = nat_lt limit n
 
 -- the limit that a state has met: too many failed reads, or else too long without a whole one
-abbrev pub limit : Setting → Machine → Option Limit
-limit s m =
+abbrev pub limit_met : Setting → Machine → Option Limit
+limit_met s m =
     if is_beyond s.max_errors m.failed then Some (TooManyErrors m.failed)
     else if is_beyond s.timeout (m.now - m.whole_at) then Some (TimedOut (m.now - m.whole_at))
     else None

@@ -1,12 +1,12 @@
 -- What a rescue does on its files, in order, and how far it comes.
-use Rattle.std.specs.Prelude.{◌≡◌, ◌⊎◌, ℕ, ◌+◌, ◌*◌, true, false, List, [], ◌∷◌, ◌++◌, length, map, Option, Some, None, if◌then◌else◌}
+use Rattle.std.specs.Prelude.{◌≡◌, ◌⊎◌, ℕ, ◌+◌, ◌*◌, true, false, List, [], ◌∷◌, ◌++◌, length, map, All, Bool, Option, Some, None, if◌then◌else◌}
 use Rattle.block_list.specs.declared.status.Status.{Status}
 use Rattle.mapfile_text.specs.declared.state.MapState.{MapState}
 use Rattle.faulty_source.specs.Journal.{Reading}
 use Rattle.crash_site.specs.declared.site.SiteCall.{SiteCall}
 use Rattle.crash_site.specs.declared.site.SiteCall.TheVariants.{MapRead}
 use Rattle.crash_site.specs.Files.{File}
-use Rattle.crash_site.specs.Calls.{Call, Entry, Done, Lost, BrokeAt, image_open}
+use Rattle.crash_site.specs.Calls.{Call, Entry, Done, Lost, BrokeAt, image_open, map_read}
 use Rattle.save_resume.specs.Resuming.{barrier_calls}
 use Rattle.save_resume.specs.Loading.{BeginsLoad, IsLoad}
 use Rattle.rescue_rules.specs.declared.stop.Stop.{Stop}
@@ -16,9 +16,9 @@ use Rattle.rescue_rules.specs.declared.stop.RunEnd.TheVariants.{Done as Finished
 use Rattle.rescue_rules.specs.Setting.{Setting}
 use Rattle.rescue_rules.specs.Start.{Stands}
 use Rattle.rescue_rules.specs.Machine.{Machine}
-use Rattle.rescue_rules.specs.Step.{Event, limit}
-use Rattle.rescue_rules.specs.Moves.{move_of, state_after, is_over, IsRun}
-use Rattle.rescue_rules.specs.Beginning.{shown_at_first, machine_of}
+use Rattle.rescue_rules.specs.Step.{Event, limit_met}
+use Rattle.rescue_rules.specs.Moves.{move_of, state_after, has_ended, IsRun}
+use Rattle.rescue_rules.specs.Beginning.{machine_over}
 use Rattle.rescue_rules.specs.Events.{began_at, events_of}
 use Rattle.rescue_rules.specs.RunCalls.{move_calls, run_calls, end_calls}
 
@@ -34,9 +34,9 @@ pub record IsNothing (g : Gain) : Type 0 where
   pub reads : g.reads ≡ []
   pub times : g.times ≡ []
 
--- The state that a run begins in, over a map and the state that its mapfile shows. Copying begins with its first pass.
+-- the state that a run begins in, over the map that a mapfile stands for and the state that it shows
 abbrev pub begins : Setting → List Status → Option MapState → Gain → Machine
-begins s statuses state g = machine_of s statuses None (shown_at_first state) (began_at g.times)
+begins s statuses state g = machine_over s statuses state (began_at g.times)
 
 -- its events
 abbrev pub events_in : Gain → List Event
@@ -45,10 +45,10 @@ events_in g = events_of g.reads g.times
 -- Why a run ended, by the state that it came to, and how many readings of the clock there are beyond two for each read: no
 -- request is left; or there was one, and the input was lost, or memory ran out.
 abbrev pub EndsBy : Option Stop → Setting → Machine → (spare : ℕ) → Type 0
-EndsBy None s m spare = (is_over s m ≡ true) × (spare ≡ 0)
-EndsBy (Some SourceLost) s m spare = (is_over s m ≡ false) × (limit s m ≡ None) × (spare ≡ 1)
+EndsBy None s m spare = (has_ended s m ≡ true) × (spare ≡ 0)
+EndsBy (Some SourceLost) s m spare = (has_ended s m ≡ false) × (limit_met s m ≡ None) × (spare ≡ 1)
 EndsBy (Some (Site call)) s m spare = ⊥
-EndsBy (Some NoMemory) s m spare = (is_over s m ≡ false) × (limit s m ≡ None) × (spare ≡ 0)
+EndsBy (Some NoMemory) s m spare = (has_ended s m ≡ false) × (limit_met s m ≡ None) × (spare ≡ 0)
 
 -- how a run ends whose last calls returned
 abbrev pub end_of : Option Stop → RunEnd
@@ -91,18 +91,36 @@ pub record IsLoadOf (s : Setting) (files : List ℕ → Option File) (load : Lis
   pub all : s.has_mapfile ≡ true → IsLoad s.names.map (files s.names.map) load
   pub none : s.has_mapfile ≡ false → load ≡ []
 
--- How far a rescue came over files as they read before it, by what it did.
-pub data Goes (s : Setting) (files : List ℕ → Option File) (g : Gain) : Type 0 where
+-- How far a rescue came over files as they read before it, by what it did behind the reads of other maps.
+pub data GoesOn (s : Setting) (files : List ℕ → Option File) (g : Gain) : Type 0 where
   -- some of the opening's calls returned, and perhaps one more failed
   InOpening : (front : List Call) (back : List Call) → front ++ back ≡ opening_calls s → g.reads ≡ []
       → (g.calls ≡ map Done front) ⊎ ((call : Call) × (rest : List Call) × (back ≡ call ∷ rest) × Lost call (map Done front) g.calls)
-      → Goes s files g
+      → GoesOn s files g
   -- the mapfile was being read, or was read and no run begun
   InLoad : (load : List Call) → s.has_mapfile ≡ true → BeginsLoad s.names.map (files s.names.map) load → g.reads ≡ []
       → (g.calls ≡ map Done (opening_calls s ++ load)) ⊎ BrokeAt MapRead (opening_calls s ++ load) [] g.calls
-      → Goes s files g
+      → GoesOn s files g
   -- a run over the map that the mapfile stands for, or no mapfile, had begun
   InRun : (load : List Call) (statuses : List Status) (state : Option MapState) (end : RunEnd) (rest : List Entry)
       → IsLoadOf s files load → Stands (mapfile_in s files) s.end statuses state
       → g.calls ≡ map Done (opening_calls s ++ load) ++ rest → Runs s statuses state (record g { calls = rest }) end
-      → Goes s files g
+      → GoesOn s files g
+
+-- a call that reads a mapfile
+abbrev pub is_map_read : Call → Bool
+is_map_read (map_read name at size answer) = true
+is_map_read call = false
+
+-- these calls read mapfiles alone
+abbrev pub AreMapReads : List Call → Type 0
+AreMapReads calls = All (λ c. is_map_read c ≡ true) calls
+
+-- How far a rescue came over files as they read before it, by what it did. Before it opens its output it may read maps that
+-- say what is to be rescued.
+pub data Goes (s : Setting) (files : List ℕ → Option File) (g : Gain) : Type 0 where
+  -- a read of such a map failed
+  InMaps : (maps : List Call) → AreMapReads maps → g.reads ≡ [] → BrokeAt MapRead maps [] g.calls → Goes s files g
+  -- all that were read returned, and the rescue went on
+  BehindMaps : (maps : List Call) (rest : List Entry) → AreMapReads maps → g.calls ≡ map Done maps ++ rest
+      → GoesOn s files (record g { calls = rest }) → Goes s files g

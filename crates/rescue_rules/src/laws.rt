@@ -3,7 +3,7 @@ ghost use Rattle.rescue_rules.specs.Laws.{GoesSafely, PromiseOfNothing, StandsFo
 ghost use Rattle.rescue_rules.specs.MachineLaws.{FinishedStands, HasOneRequest, MoveSteps, RequestIsFound, RequestIsSeen, RunFinishesGiven, RunGoesOn, RunHolds, StateLeadsOn};
 ghost use Rattle.rescue_rules.specs.Examples.{JumpsAndComesBack, TrimsFrontAndBack};
 ghost use Rattle.rescue_rules.specs.RunStops.{RunStopsSafely};
-ghost use Rattle.rescue_rules.specs.RunLaws.{FreshRunReadsSectors, RunAsksOnce};
+ghost use Rattle.rescue_rules.specs.Preparation.{PreparesNoFinished};
 ghost use Rattle.rescue_rules.specs.Nameless.{RunNeedsNoNames};
 
 /// A rescue with a mapfile that goes as it should stops safely at every moment.
@@ -20,17 +20,6 @@ pub fn mapfile_stands_for_one_map()
 /// stands.
 pub fn promise_of_nothing()
     ensures { PromiseOfNothing }
-{}
-
-/// A run asks for non-tried positions of the domain alone, in ascending order, and leaves none where it goes on to its
-/// end.
-pub fn run_asks_once()
-    ensures { RunAsksOnce }
-{}
-
-/// A whole run over an input that wasn't tried reads each sector once, in order.
-pub fn fresh_run_reads_each_sector()
-    ensures { FreshRunReadsSectors }
 {}
 
 /// A state has one request at most.
@@ -98,4 +87,9 @@ pub fn a_run_stops_safely()
 /// Going on over passes leads to a request, or to the end, where it leads if nothing is left to ask for.
 pub fn a_state_leads_on()
     ensures { StateLeadsOn }
+{}
+
+/// Preparation makes nothing finished, and leaves what is.
+pub fn preparation_finishes_nothing()
+    ensures { PreparesNoFinished }
 {}
