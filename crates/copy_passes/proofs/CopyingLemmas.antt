@@ -36,40 +36,40 @@ pass_is r c =
 untrimming : (r : RunState) → IsCopying r → is_trimming r.machine ≡ false
 untrimming r c = ap (λ (p : Pass). trims p.phase) (pass_is r c)
 
--- how copying finds its requests: from the cursor on, in its pass's direction
-abbrev searched : Setting → (up : Bool) → (cursor : ℕ) → Search
-searched s up cursor = record { up = up; from = cursor; front = up; size = s.cluster }
+-- how all phases but trimming find their requests: from the cursor on, in the pass's direction
+abbrev pub searched : (up : Bool) → (cursor size : ℕ) → Search
+searched up cursor size = record { up = up; from = cursor; front = up; size = size }
 
 pub search_is : (s : Setting) (m : Machine) (number : ℕ) → pass_of m ≡ numbered Copying number
-    → search_of s m ≡ searched s (is_up s (pass_of m)) m.cursor
+    → search_of s m ≡ searched (is_up s (pass_of m)) m.cursor s.cluster
 search_is s m number is = ap (λ (phase : Phase). search_in s m phase m.mode) (ap (λ (p : Pass). p.phase) is)
 
 -- a request takes the nearest positions ahead of a cursor for which P holds
-record IsNearestUp (P : ℕ → Type 0) (cursor p q : ℕ) : Type 0 where
-  ahead : cursor ≤ p
-  least : (y : ℕ) → cursor ≤ y → P y → p ≤ y
+pub record IsNearestUp (P : ℕ → Type 0) (cursor p q : ℕ) : Type 0 where
+  pub ahead : cursor ≤ p
+  pub least : (y : ℕ) → cursor ≤ y → P y → p ≤ y
 
-record IsNearestDown (P : ℕ → Type 0) (cursor p q : ℕ) : Type 0 where
-  ahead : q ≤ cursor
-  greatest : (y : ℕ) → y < cursor → P y → y < q
+pub record IsNearestDown (P : ℕ → Type 0) (cursor p q : ℕ) : Type 0 where
+  pub ahead : q ≤ cursor
+  pub greatest : (y : ℕ) → y < cursor → P y → y < q
 
-abbrev IsNearest : Bool → (ℕ → Type 0) → (cursor p q : ℕ) → Type 0
+abbrev pub IsNearest : Bool → (ℕ → Type 0) → (cursor p q : ℕ) → Type 0
 IsNearest true P cursor p q = IsNearestUp P cursor p q
 IsNearest false P cursor p q = IsNearestDown P cursor p q
 
-abbrev IsFoundBy : Search → (ℕ → Type 0) → (sector start end p q : ℕ) → Type 0
+abbrev pub IsFoundBy : Search → (ℕ → Type 0) → (sector start end p q : ℕ) → Type 0
 IsFoundBy f P sector start end p q =
     IsNextRun f.up P f.from start end × (p ≡ cut_start f sector start end) × (q ≡ cut_end f sector start end)
 
-nearest_by : (up : Bool) (s : Setting) (P : ℕ → Type 0) (cursor start end p q : ℕ)
-    → IsFoundBy (searched s up cursor) P s.sector start end p q → IsNearest up P cursor p q
-nearest_by true s P cursor start end p q found =
+pub nearest_by : (up : Bool) (P : ℕ → Type 0) (cursor size sector start end p q : ℕ)
+    → IsFoundBy (searched up cursor size) P sector start end p q → IsNearest up P cursor p q
+nearest_by true P cursor size sector start end p q found =
     let is : p ≡ start = found.1 in
     record {
       ahead = omega (arith, is, found.0.0.after);
       least = λ y from holds. omega (arith, is, found.0.0.least y from holds);
     }
-nearest_by false s P cursor start end p q found =
+nearest_by false P cursor size sector start end p q found =
     let is : q ≡ end = found.2 in
     record {
       ahead = omega (arith, is, found.0.0.below);
@@ -81,12 +81,12 @@ nearest : (r : RunState) (p q : ℕ) → IsCopying r → IsRequest (setting_in r
 nearest r p q c asks =
     let s : Setting = setting_in r in
     let P : ℕ → Type 0 = IsWanted s r.machine in
-    nearest_by (is_upward r) s P r.machine.cursor asks.start asks.end p q
+    nearest_by (is_upward r) P r.machine.cursor s.cluster s.sector asks.start asks.end p q
     (subst (λ (f : Search). IsFoundBy f P s.sector asks.start asks.end p q) (search_is s r.machine r.pass (pass_is r c))
     (asks.run, asks.starts, asks.ends))
 
 -- where a read from p up to q puts the cursor, with a jump
-abbrev cursor_by : Bool → (len p q jump : ℕ) → ℕ
+abbrev pub cursor_by : Bool → (len p q jump : ℕ) → ℕ
 cursor_by up len p q jump = if up then min len (q + jump) else p - jump
 
 abbrev jump_of : Setting → Machine → Event → ℕ
@@ -107,7 +107,7 @@ ahead_by false len cursor = cursor
 abbrev pub ahead_of : RunState → ℕ
 ahead_of r = ahead_by (is_upward r) (length r.machine.map) r.machine.cursor
 
-less_by : (up : Bool) (P : ℕ → Type 0) (len cursor p q jump new : ℕ) → IsNearest up P cursor p q → p < q → q ≤ len
+pub less_by : (up : Bool) (P : ℕ → Type 0) (len cursor p q jump new : ℕ) → IsNearest up P cursor p q → p < q → q ≤ len
     → new ≡ cursor_by up len p q jump → ahead_by up len new < ahead_by up len cursor
 less_by true P len cursor p q jump new near some there is =
     let at : new ≡ min len (q + jump) = is in omega (arith, at, near.ahead, some, there)
@@ -130,10 +130,10 @@ last_jump r e c last =
     cond-false (is_jump s m e) m.skip 0 (ap J number ∙ never_jumps (is_copying m) (is_whole e.reading) (is_slow s e))
 
 -- what lay ahead of the cursor, and wasn't asked for, lies ahead still
-abbrev lies_ahead : Bool → (cursor x : ℕ) → Bool
+abbrev pub lies_ahead : Bool → (cursor x : ℕ) → Bool
 lies_ahead up cursor x = if up then nat_le cursor x else nat_lt x cursor
 
-still_ahead : (up : Bool) (P : ℕ → Type 0) (len cursor p q new x : ℕ) → IsNearest up P cursor p q → p < q → q ≤ len
+pub still_ahead : (up : Bool) (P : ℕ → Type 0) (len cursor p q new x : ℕ) → IsNearest up P cursor p q → p < q → q ≤ len
     → new ≡ cursor_by up len p q 0 → lies_ahead up cursor x ≡ true → P x → (x < p) ⊎ (q ≤ x) → lies_ahead up new x ≡ true
 still_ahead true P len cursor p q new x near some there is ahead holds apart =
     let at : new ≡ min len (q + 0) = is in
@@ -241,7 +241,7 @@ copy_steps r e c asks few =
     }
 
 -- a wanted position ahead is a request
-wanted_seen : (s : Setting) (m : Machine) (x : ℕ) → is_wanted s m x ≡ true → is_ahead (search_of s m) x ≡ true
+pub wanted_seen : (s : Setting) (m : Machine) (x : ℕ) → is_wanted s m x ≡ true → is_ahead (search_of s m) x ≡ true
     → has_request s m ≡ true
 wanted_seen s m x wanted ahead =
     let P : ℕ → Bool = λ y. is_wanted s m y && is_ahead (search_of s m) y in
@@ -261,7 +261,7 @@ none_left r c last none x inside has =
     cc
 
 -- a pass at its start has left nothing behind
-start_ahead : (up : Bool) (len x : ℕ) → x < len → lies_ahead up (if up then 0 else len) x ≡ true
+pub start_ahead : (up : Bool) (len x : ℕ) → x < len → lies_ahead up (if up then 0 else len) x ≡ true
 start_ahead true len x lt = le-leb 0 x (omega arith)
 start_ahead false len x lt = lt-ltb x len lt
 

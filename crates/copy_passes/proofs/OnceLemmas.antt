@@ -13,8 +13,7 @@ use Rattle.rescue_rules.specs.Passes.{taken}
 use Rattle.rescue_rules.specs.Machine.{Machine, pass_of}
 use Rattle.rescue_rules.specs.Step.{Event, copies, trims, is_copying}
 use Rattle.rescue_rules.specs.Moves.{Move, move_of, moves, ready, IsMove, IsRun}
-use Rattle.rescue_rules.specs.MachineLaws.{IsInOrder, StepsBy}
-use Rattle.rescue_rules.specs.RunLaws.{Asks}
+use Rattle.rescue_rules.specs.MachineLaws.{IsInOrder, StepsBy, AsksFor}
 use Rattle.rescue_rules.proofs.MoveLemmas.{run_first, run_rest}
 use Rattle.rescue_rules.proofs.ReadyLemmas.{order_ready, stays_ready}
 use Rattle.rescue_rules.proofs.StatusLemmas.{non_tried_stood, wanted_taken}
@@ -35,7 +34,7 @@ steps s m e ok order is = move_steps s (ready s m) e ok (order_ready s m order) 
 
 -- copying asks for non-tried positions alone
 asked_non_tried : (s : Setting) (m : Machine) (e : Event) (x : ℕ) → StepsBy s (ready s m) e → is_copying (ready s m) ≡ true
-    → Asks e.reading x → Has m.map NonTried x
+    → AsksFor e.reading x → Has m.map NonTried x
 asked_non_tried s m e x by on asks =
     let phase : (pass_of (ready s m)).phase ≡ Copying = copies_is (pass_of (ready s m)).phase on in
     let has : Has (ready s m).map (taken (pass_of (ready s m)).phase) x =
@@ -45,7 +44,7 @@ asked_non_tried s m e x by on asks =
 
 -- and leaves none of them so
 asked_tried : (s : Setting) (m : Machine) (e : Event) (x : ℕ) → IsInOrder s m → StepsBy s (ready s m) e → is_copying (ready s m) ≡ true
-    → Asks e.reading x → Has (move_of s m e).after.map NonTried x → ⊥
+    → AsksFor e.reading x → Has (move_of s m e).after.map NonTried x → ⊥
 asked_tried s m e x order by on asks has =
     let phase : (pass_of (ready s m)).phase ≡ Copying = copies_is (pass_of (ready s m)).phase on in
     let lead : (ready s m).mode ≡ Lead = (order_ready s m order).lead (ap trims phase) in
@@ -62,12 +61,12 @@ tried_stays s m e x tried has =
 
 -- so it is never asked for in copying
 never_again : (s : Setting) (m : Machine) (es : List Event) (j x : ℕ) (w : Move) → IsSensible s → IsInOrder s m → IsRun s m es
-    → (Has m.map NonTried x → ⊥) → slice_get (moves s m es) j ≡ Some w → is_copying w.before ≡ true → Asks w.event.reading x → ⊥
+    → (Has m.map NonTried x → ⊥) → slice_get (moves s m es) j ≡ Some w → is_copying w.before ≡ true → AsksFor w.event.reading x → ⊥
 never_again s m [] j x w ok order run tried is on asks = absurd (cc)
 never_again s m (e ∷ es) zero x w ok order run tried is on asks =
     let same : move_of s m e ≡ w = same_Some (move_of s m e) w is in
     let here : is_copying (ready s m) ≡ true = ap (λ (v : Move). is_copying v.before) same ∙ on in
-    let asks' : Asks e.reading x = subst (λ (v : Move). Asks v.event.reading x) (sym same) asks in
+    let asks' : AsksFor e.reading x = subst (λ (v : Move). AsksFor v.event.reading x) (sym same) asks in
     tried (asked_non_tried s m e x (steps s m e ok order (run_first s m e es run)) here asks')
 never_again s m (e ∷ es) (suc j) x w ok order run tried is on asks =
     let by : StepsBy s (ready s m) e = steps s m e ok order (run_first s m e es run) in
@@ -77,11 +76,11 @@ never_again s m (e ∷ es) (suc j) x w ok order run tried is on asks =
 -- a position that the first event asks for in copying is asked for by no later one
 once_first : (s : Setting) (m : Machine) (e : Event) (es : List Event) (j x : ℕ) (v w : Move) → IsSensible s → IsInOrder s m
     → IsRun s m (e ∷ es) → move_of s m e ≡ v → slice_get (moves s (move_of s m e).after es) j ≡ Some w
-    → is_copying v.before ≡ true → is_copying w.before ≡ true → Asks v.event.reading x → Asks w.event.reading x → ⊥
+    → is_copying v.before ≡ true → is_copying w.before ≡ true → AsksFor v.event.reading x → AsksFor w.event.reading x → ⊥
 once_first s m e es j x v w ok order run same is on on' asks asks' =
     let by : StepsBy s (ready s m) e = steps s m e ok order (run_first s m e es run) in
     let here : is_copying (ready s m) ≡ true = ap (λ (u : Move). is_copying u.before) same ∙ on in
-    let asked : Asks e.reading x = subst (λ (u : Move). Asks u.event.reading x) (sym same) asks in
+    let asked : AsksFor e.reading x = subst (λ (u : Move). AsksFor u.event.reading x) (sym same) asks in
     never_again s (move_of s m e).after es j x w ok by.order (run_rest s m e es run)
     (λ has. asked_tried s m e x order by here asked has) is on' asks'
 

@@ -4,10 +4,11 @@ use Rattle.std.specs.List.{slice_range}
 use Rattle.std.proofs.lemmas.List.Elements.{All-nil, All-cons, All-append}
 use Rattle.faulty_source.specs.Journal.{Reading}
 use Rattle.faulty_source.specs.SourceState.{SourceState, Stays as SourceStays, Reads}
+use Rattle.faulty_source.proofs.Keeping.{stays_self, stays_more, reads_more}
 use Rattle.crash_site.specs.Calls.{Call}
 use Rattle.crash_site.specs.SiteState.{SiteState, Keeps as SiteKeeps, Makes}
 use Rattle.save_resume.proofs.CallLemmas.{made_more}
-use Rattle.save_resume.proofs.FillLemmas.{keeps_more}
+use Rattle.save_resume.proofs.FillLemmas.{keeps_self, keeps_more}
 use Rattle.rescue_console.specs.ClockState.{ClockState, Keeps as ClockKeeps, Reads as ReadsClock}
 use Rattle.transfer_token.specs.declared.token.Request.{Request}
 use Rattle.rescue_rules.specs.declared.phase.Phase.TheVariants.{Copying}
@@ -33,22 +34,14 @@ use Rattle.copy_passes.proofs.AlikeLemmas.{alike_by, alike_on, next_pass_is_alik
 use Rattle.copy_passes.proofs.CopyingLemmas.{ahead_of, CopyStep, copy_steps, two_of, copying_passed}
 
 -- What the objects tell, across two things done one after the other.
+pub source_self : (a : SourceState) → SourceStays a a
+source_self = stays_self
+
 pub source_stays : (a b c : SourceState) → SourceStays a b → SourceStays b c → SourceStays a c
-source_stays a b c f g = record {
-  keeps = record {
-    tells = g.keeps.tells ∙ f.keeps.tells;
-    may_lose = g.keeps.may_lose ∙ f.keeps.may_lose;
-    planned = g.keeps.planned ∙ f.keeps.planned;
-    bytes = λ tells. g.keeps.bytes (rw f.keeps.tells tells) ∙ f.keeps.bytes tells;
-    opens = omega (arith, f.keeps.opens, g.keeps.opens);
-    faults = omega (arith, f.keeps.faults, g.keeps.faults);
-    losses = omega (arith, f.keeps.losses, g.keeps.losses);
-  };
-  input = g.input ∙ f.input;
-  name = λ tells. g.name (rw f.keeps.tells tells) ∙ f.name tells;
-  opens = g.opens ∙ f.opens;
-  faults = g.faults ∙ f.faults;
-}
+source_stays = stays_more
+
+pub clock_self : (a : ClockState) → ClockKeeps a a
+clock_self a = record { planned = refl; plan = refl }
 
 pub clock_keeps : (a b c : ClockState) → ClockKeeps a b → ClockKeeps b c → ClockKeeps a c
 clock_keeps a b c f g = record { planned = g.planned ∙ f.planned; plan = g.plan ∙ f.plan }
@@ -57,12 +50,6 @@ timed_more : (xs ys : List ℕ) (a b c : ClockState) → ReadsClock xs a b → R
 timed_more xs ys a b c f g = record {
   tells = λ now. f.tells (g.tells now);
   told = λ now. g.told now ∙ ap (λ (r : List ℕ). r ++ ys) (f.told (g.tells now)) ∙ append_assoc a.readings xs ys;
-}
-
-reads_more : (xs ys : List Reading) (a b c : SourceState) → b.tells ≡ a.tells → Reads xs a b → Reads ys b c → Reads (xs ++ ys) a c
-reads_more xs ys a b c same f g = record {
-  told = λ tells. g.told (rw same tells) ∙ ap (λ (r : List Reading). r ++ ys) (f.told tells) ∙ append_assoc a.journal xs ys;
-  losses = g.losses ∙ f.losses;
 }
 
 makes_more : (xs ys : List Call) (a b c : SiteState) → b.tells ≡ a.tells → Makes xs a b → Makes ys b c → Makes (xs ++ ys) a c
@@ -76,7 +63,7 @@ times_append [] back = refl
 times_append (e ∷ front) back = ap (λ (ts : List ℕ). e.before ∷ e.after ∷ ts) (times_append front back)
 
 -- no turn
-went_none : (r : RunState) (a : SourceState) (d : SiteState) (k : ClockState)
+pub went_none : (r : RunState) (a : SourceState) (d : SiteState) (k : ClockState)
     → Went r r (record { source = a; source' = a; site = d; site' = d; clock = k; clock' = k })
 went_none r a d k = record {
   events = [];
@@ -91,14 +78,14 @@ went_none r a d k = record {
 }
 
 -- an event of a run's request is a run
-record IsOneMove (r : RunState) (e : Event) : Type 0 where
-  asks : IsRequest (setting_in r) r.machine e.reading.pos (e.reading.pos + e.reading.asked)
-  few : length e.reading.given ≤ e.reading.asked
-  run : IsRun (setting_in r) r.machine (e ∷ [])
-  state : IsAlike (setting_in r) (state_after (setting_in r) r.machine (e ∷ [])) (stepped r e).machine
-  calls : run_calls (setting_in r) r.machine (e ∷ []) ≡ move_calls (setting_in r) (move_by r e)
+pub record IsOneMove (r : RunState) (e : Event) : Type 0 where
+  pub asks : IsRequest (setting_in r) r.machine e.reading.pos (e.reading.pos + e.reading.asked)
+  pub few : length e.reading.given ≤ e.reading.asked
+  pub run : IsRun (setting_in r) r.machine (e ∷ [])
+  pub state : IsAlike (setting_in r) (state_after (setting_in r) r.machine (e ∷ [])) (stepped r e).machine
+  pub calls : run_calls (setting_in r) r.machine (e ∷ []) ≡ move_calls (setting_in r) (move_by r e)
 
-one_move : (r : RunState) (request : Request) (e : Event) (a a2 : SourceState) (k k2 : ClockState)
+pub one_move : (r : RunState) (request : Request) (e : Event) (a a2 : SourceState) (k k2 : ClockState)
     → IsRequest (setting_in r) r.machine request.pos (request.pos + request.len) → IsEvent request e a a2 k k2 → IsOneMove r e
 one_move r request e a a2 k k2 asks is =
     let s : Setting = setting_in r in
@@ -123,7 +110,7 @@ own_bytes request e a a2 k k2 is tells =
     is.right tells ∙ ap (λ (pos : ℕ). slice_range a.bytes pos (pos + length e.reading.given)) (sym is.pos)
 
 -- one turn
-went_one : (r r2 : RunState) (request : Request) (turn : Turn) (a a2 : SourceState) (d d2 : SiteState) (k k2 : ClockState)
+pub went_one : (r r2 : RunState) (request : Request) (turn : Turn) (a a2 : SourceState) (d d2 : SiteState) (k k2 : ClockState)
     → IsRequest (setting_in r) r.machine request.pos (request.pos + request.len) → Turned request turn r r2 a a2 d d2 k k2
     → Went r r2 (record { source = a; source' = a2; site = d; site' = d2; clock = k; clock' = k2 })
 went_one r r2 request turn a a2 d d2 k k2 asks t =
@@ -144,16 +131,16 @@ went_one r r2 request turn a a2 d d2 k k2 asks t =
     }
 
 -- the setting of a run stands
-setting_stands : (r q : RunState) → q ≡ moved_to r q → setting_in q ≡ setting_in r
+pub setting_stands : (r q : RunState) → q ≡ moved_to r q → setting_in q ≡ setting_in r
 setting_stands r q stands = ap setting_in stands
 
 -- turns behind turns
 pub went_on : (r r1 r2 : RunState) (a b c : SourceState) (d e f : SiteState) (k l n : ClockState)
     → Went r r1 (record { source = a; source' = b; site = d; site' = e; clock = k; clock' = l })
-    → SourceStays a b → SiteKeeps d e
+    → SourceStays a b → e.tells ≡ d.tells
     → Went r1 r2 (record { source = b; source' = c; site = e; site' = f; clock = l; clock' = n })
     → Went r r2 (record { source = a; source' = c; site = d; site' = f; clock = k; clock' = n })
-went_on r r1 r2 a b c d e f k l n w stays keeps v =
+went_on r r1 r2 a b c d e f k l n w stays tells_site v =
     let s : Setting = setting_in r in
     let same : setting_in r1 ≡ s = setting_stands r r1 w.stands in
     let run : IsRun s r1.machine v.events = subst (λ (t : Setting). IsRun t r1.machine v.events) same v.run in
@@ -181,23 +168,23 @@ went_on r r1 r2 a b c d e f k l n w stays keeps v =
           (timed_more (times_of w.events) (times_of v.events) k l n w.timed v.timed);
       fit = subst AreTimes times (All-append small (times_of w.events) (times_of v.events) w.fit v.fit);
       made = subst (λ (cs : List Call). Makes cs d f) (sym more.calls)
-          (makes_more (run_calls s r.machine w.events) (run_calls s r1.machine v.events) d e f keeps.tells w.made made);
+          (makes_more (run_calls s r.machine w.events) (run_calls s r1.machine v.events) d e f tells_site w.made made);
     }
 
 -- a turn that stopped behind turns behind turns
 pub went_up_to_on : (stop : Stop) (r r1 r2 : RunState) (a b c : SourceState) (d e f : SiteState) (k l n : ClockState)
     → Went r r1 (record { source = a; source' = b; site = d; site' = e; clock = k; clock' = l })
-    → SourceStays a b → SiteKeeps d e
+    → SourceStays a b → e.tells ≡ d.tells
     → WentUpTo stop r1 r2 (record { source = b; source' = c; site = e; site' = f; clock = l; clock' = n })
     → WentUpTo stop r r2 (record { source = a; source' = c; site = d; site' = f; clock = k; clock' = n })
-went_up_to_on stop r r1 r2 a b c d e f k l n w stays keeps u = record {
+went_up_to_on stop r r1 r2 a b c d e f k l n w stays tells_site u = record {
   between = u.between;
   source_between = u.source_between;
   site_between = u.site_between;
   clock_between = u.clock_between;
-  went = went_on r r1 u.between a b u.source_between d e u.site_between k l u.clock_between w stays keeps u.went;
+  went = went_on r r1 u.between a b u.source_between d e u.site_between k l u.clock_between w stays tells_site u.went;
   source = source_stays a b u.source_between stays u.source;
-  site_tells = u.site_tells ∙ keeps.tells;
+  site_tells = u.site_tells ∙ tells_site;
   request = u.request;
   asks = u.asks;
   halted = u.halted;
@@ -214,23 +201,9 @@ begins r a d k copying places input image no_draft = record {
   input = input;
   image = image;
   no_draft = no_draft;
-  source = record {
-    keeps = record {
-      tells = refl;
-      may_lose = refl;
-      planned = refl;
-      bytes = λ tells. refl;
-      opens = omega arith;
-      faults = omega arith;
-      losses = omega arith;
-    };
-    input = refl;
-    name = λ tells. refl;
-    opens = refl;
-    faults = refl;
-  };
-  site = record { tells = refl; start = λ tells. refl; planned = refl; later = omega arith };
-  clock = record { planned = refl; plan = refl };
+  source = source_self a;
+  site = keeps_self d;
+  clock = clock_self k;
 }
 
 -- goes on by what goes on from there,
@@ -241,7 +214,7 @@ pub goes_on : (r r1 r2 : RunState) (a b c : SourceState) (d e f : SiteState) (k 
 goes_on r r1 r2 a b c d e f k l n i j = record {
   copying = j.copying;
   places = j.places;
-  went = went_on r r1 r2 a b c d e f k l n i.went i.source i.site j.went;
+  went = went_on r r1 r2 a b c d e f k l n i.went i.source i.site.tells j.went;
   input = j.input;
   image = j.image;
   no_draft = j.no_draft;

@@ -7,10 +7,9 @@ use Rattle.save_resume.specs.MapNames.{MapNames}
 use Rattle.rescue_rules.specs.Setting.{Setting, IsSensible}
 use Rattle.rescue_rules.specs.Passes.{Pass}
 use Rattle.rescue_rules.specs.Machine.{Machine, has_request}
-use Rattle.rescue_rules.specs.MachineLaws.{IsInOrder}
+use Rattle.rescue_rules.specs.MachineLaws.{IsInOrder, AsksFor}
 use Rattle.rescue_rules.specs.Step.{Event, is_copying}
 use Rattle.rescue_rules.specs.Moves.{Move, moves, state_after, begun, IsRun}
-use Rattle.rescue_rules.specs.RunLaws.{Asks}
 use Rattle.rescue_domain.specs.Parts.{covers}
 use Rattle.rescue_core.specs.declared.settings.Settings.{Settings}
 use Rattle.rescue_core.specs.RunState.{RunState, IsSound, Suits, started, showing}
@@ -22,7 +21,7 @@ abbrev pub CopyingAsksOnce : Type 0
 CopyingAsksOnce = (s : Setting) (m : Machine) (events : List Event) (i j x : ℕ) (v w : Move)
     → IsSensible s → IsInOrder s m → IsRun s m events
     → slice_get (moves s m events) i ≡ Some v → slice_get (moves s m events) j ≡ Some w
-    → is_copying v.before ≡ true → is_copying w.before ≡ true → Asks v.event.reading x → Asks w.event.reading x
+    → is_copying v.before ≡ true → is_copying w.before ≡ true → AsksFor v.event.reading x → AsksFor w.event.reading x
     → i ≡ j
 
 -- alike states have the same runs, by the same moves, which lead to alike states

@@ -13,6 +13,7 @@ use Rattle.block_list.proofs.Places.{length-marked}
 use Rattle.block_list.proofs.StretchLemmas.{equal_from_same}
 use Rattle.rescue_rules.specs.Preparation.{tried_again, trimmed_again, if_asked, prepared_status, changed_from, IsChanged, IsPartlyChanged}
 use Rattle.rescue_rules.proofs.MarkLemmas.{marked_inside, marked_outside}
+use Rattle.rescue_rules.proofs.PreparationLemmas.{length_changed}
 use Rattle.rescue_core.specs.Search.{IsMarked}
 use Rattle.rescue_core.specs.Preparing.{replaced}
 
@@ -34,11 +35,6 @@ pub changed_is : (domain : ℕ → Bool) (change : Status → Status) (old new :
     → new ≡ changed_from domain change 0 old
 changed_is domain change old new c =
     same_changed domain change 0 old new c.size (λ k s h. let z : 0 + k ≡ k = omega arith in rw z (c.each k s h))
-
-length_changed : (domain : ℕ → Bool) (change : Status → Status) (at : ℕ) (map : List Status)
-    → length (changed_from domain change at map) ≡ length map
-length_changed domain change at [] = refl
-length_changed domain change at (s ∷ map) = let k = length_changed domain change (at + 1) map in omega (arith, k)
 
 has_changed : (domain : ℕ → Bool) (change : Status → Status) (at : ℕ) (map : List Status) (k : ℕ) (s : Status)
     → slice_get map k ≡ Some s → slice_get (changed_from domain change at map) k ≡ Some (if_asked (domain (at + k)) change s)

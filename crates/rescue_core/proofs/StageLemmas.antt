@@ -17,7 +17,7 @@ use Rattle.rescue_rules.specs.Setting.{Setting, IsSensible}
 use Rattle.rescue_rules.specs.Passes.{Pass, taken, numbered}
 use Rattle.rescue_rules.specs.Machine.{Machine, pass_of, is_wanted, IsRequest, has_request}
 use Rattle.rescue_rules.specs.Step.{Event, copies, trims, is_copying, is_trimming}
-use Rattle.rescue_rules.specs.Moves.{at_next, ready, has_none}
+use Rattle.rescue_rules.specs.Moves.{at_next, ready, no_pass_left}
 use Rattle.rescue_rules.proofs.SearchLemmas.{request_seen}
 use Rattle.rescue_rules.proofs.StepLemmas.{Asks, request_asks, wanted_domain}
 use Rattle.rescue_rules.proofs.StatusLemmas.{non_tried_stood, non_trimmed_stood, non_scraped_stood, wanted_taken}
@@ -119,8 +119,8 @@ never_over r room e t known =
     let s : Setting = setting_in r in
     let on : has_request s r.machine ≡ true
     = request_seen s r.machine e.reading.pos (e.reading.pos + e.reading.asked) t.request in
-    let none : has_none r.machine.passes ≡ true
-    = sym (ap (λ (m : Machine). has_none m.passes) (ready_here s r.machine on)) ∙ known.spent in
+    let none : no_pass_left r.machine.passes ≡ true
+    = sym (ap (λ (m : Machine). no_pass_left m.passes) (ready_here s r.machine on)) ∙ known.spent in
     true≢false (sym on ∙ spent_request s r.machine none)
 
 -- an event of the run's request keeps what is known
@@ -195,22 +195,22 @@ known_passes Over r phase pass next off known =
         trimmed = record { tried = known.scraped.trimmed.tried; trimmed = known.scraped.trimmed.trimmed };
         scraped = known.scraped.scraped;
       };
-      spent = sym (ap (λ (m : Machine). has_none m.passes)
+      spent = sym (ap (λ (m : Machine). no_pass_left m.passes)
           (ready_on s r.machine there.0 (numbered phase pass) (drop 2 r.machine.passes) off there.1))
           ∙ known.spent;
     }
 
 -- No pass has a request left where no position of the domain has a status that a pass left asks for.
 pub none_left : (r : RunState) → All (λ p. IsGone (taken p.phase) r) r.machine.passes
-    → has_none (ready (setting_in r) r.machine).passes ≡ true
-none_left r gone = ap (λ (m : Machine). has_none m.passes) (ready_end (setting_in r) r.machine gone)
+    → no_pass_left (ready (setting_in r) r.machine).passes ≡ true
+none_left r gone = ap (λ (m : Machine). no_pass_left m.passes) (ready_end (setting_in r) r.machine gone)
 
 -- Nor does one where this one has none and no pass is behind it.
 pub last_spent : (r : RunState) → slice_get r.machine.passes 1 ≡ None → has_request (setting_in r) r.machine ≡ false
-    → has_none (ready (setting_in r) r.machine).passes ≡ true
+    → no_pass_left (ready (setting_in r) r.machine).passes ≡ true
 last_spent r last off =
     let s : Setting = setting_in r in
-    ap (λ (m : Machine). has_none m.passes)
+    ap (λ (m : Machine). no_pass_left m.passes)
     (cond-false (has_request s r.machine) r.machine (at_next s r.machine (drop 1 r.machine.passes)) off
     ∙ ap (at_next s r.machine) (none_behind r.machine.passes last))
   where

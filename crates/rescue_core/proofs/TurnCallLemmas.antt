@@ -10,7 +10,7 @@ use Rattle.save_resume.specs.MapNames.{MapNames}
 use Rattle.save_resume.specs.Saving.{save_calls, IsNameIn}
 use Rattle.rescue_rules.specs.Setting.{Setting}
 use Rattle.rescue_rules.specs.Step.{Event, is_timely}
-use Rattle.rescue_rules.specs.Snapshots.{text_of, snapshot, is_due}
+use Rattle.rescue_rules.specs.Snapshots.{text_of, snapshot_of, is_due}
 use Rattle.rescue_rules.specs.RunCalls.{write_calls, due_calls, move_calls}
 use Rattle.rescue_core.specs.RunState.{RunState, names_in, setting_in}
 use Rattle.rescue_core.specs.Turning.{move_by, stepped}
@@ -59,25 +59,25 @@ untimely_calls r e a b untimely writes =
     let s : Setting = setting_in r in
     let w : List Call = write_calls s e.reading in
     let none : due_calls s (move_by r e) ≡ []
-    = cond-false (is_due s (move_by r e)) (save_calls s.names (text_of s.line (snapshot (move_by r e).after))) []
+    = cond-false (is_due s (move_by r e)) (save_calls s.names (text_of s.line (snapshot_of (move_by r e).after))) []
     (untimely_due r e untimely) in
     subst (λ (cs : List Call). Makes cs a b) (sym (ap (λ cs. w ++ cs) none ∙ append-nil w)) writes
 
 -- a move behind which it is time for one makes the save behind its write, if there is a mapfile
 pub timely_calls : (r r' : RunState) (e : Event) (a b c : SiteState) → r' ≡ stepped r e → is_timely r.machine e ≡ true
     → Keeps a b → Makes (write_calls (setting_in r) e.reading) a b
-    → Makes (if is_some r.names then save_calls (names_in r.names) (text_of r.line (snapshot r'.machine)) else []) b c
+    → Makes (if is_some r.names then save_calls (names_in r.names) (text_of r.line (snapshot_of r'.machine)) else []) b c
     → Makes (move_calls (setting_in r) (move_by r e)) a c
 timely_calls r r' e a b c is timely keeps writes saves =
     let s : Setting = setting_in r in
     let w : List Call = write_calls s e.reading in
-    let save : List Call = save_calls s.names (text_of s.line (snapshot (move_by r e).after)) in
+    let save : List Call = save_calls s.names (text_of s.line (snapshot_of (move_by r e).after)) in
     let all : List Call = if is_some r.names then save else [] in
     let due : due_calls s (move_by r e) ≡ all
     = ap (λ (b : Bool). if is_some r.names && b && true then save else []) timely ∙ due_where r.names save in
     let saved : Makes all b c
     = subst (λ (n : RunState). Makes (if is_some r.names
-    then save_calls s.names (text_of r.line (snapshot n.machine)) else []) b c) is saves in
+    then save_calls s.names (text_of r.line (snapshot_of n.machine)) else []) b c) is saves in
     subst (λ (cs : List Call). Makes (w ++ cs) a c) (sym due) (makes_both w all a b c keeps writes saved)
 
 -- and so does one whose save broke

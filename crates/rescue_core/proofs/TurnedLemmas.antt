@@ -16,13 +16,14 @@ use Rattle.rescue_domain.specs.Parts.{covers}
 use Rattle.transfer_token.specs.declared.token.Request.{Request}
 use Rattle.transfer_token.specs.Tokens.{IsCut}
 use Rattle.rescue_rules.specs.declared.phase.Phase.{Phase}
+use Rattle.rescue_rules.specs.declared.phase.Phase.TheVariants.{Trimming}
 use Rattle.rescue_rules.specs.declared.stop.Stop.{Stop}
 use Rattle.rescue_rules.specs.declared.stop.Stop.TheVariants.{Site}
 use Rattle.rescue_rules.specs.Setting.{Setting}
 use Rattle.rescue_rules.specs.Passes.{Pass, numbered, current_of}
 use Rattle.rescue_rules.specs.Machine.{Machine, has_taken, is_wanted, IsRequest}
 use Rattle.rescue_rules.specs.Step.{Event, is_timely, map_after, step}
-use Rattle.rescue_rules.specs.Snapshots.{text_of, snapshot}
+use Rattle.rescue_rules.specs.Snapshots.{text_of, snapshot_of}
 use Rattle.rescue_rules.specs.RunCalls.{write_calls, move_calls}
 use Rattle.rescue_rules.specs.MachineLaws.{StepsBy}
 use Rattle.rescue_rules.proofs.StepLemmas.{move_steps}
@@ -50,7 +51,7 @@ abbrev pub Places : Settings → Phase → Place → Request → Turn → (top :
 Places settings phase place request turn top more place' =
     (r : RunState) (e : Event) → RunsAt settings phase place r → IsReadOf request turn.given e.reading
     → turn ≡ turn_of r e → length r.machine.map ≡ top
-    → more ≡ is_wanted (setting_in r) (step (setting_in r) r.machine e) (request.pos + request.len)
+    → (phase ≡ Trimming → more ≡ is_wanted (setting_in r) (step (setting_in r) r.machine e) (request.pos + request.len))
     → place' ≡ place_of place.pass (step (setting_in r) r.machine e)
 
 abbrev pub Tallies : Tally → (whole : Bool) → (after : ℕ) → MapState → Tally → Type 0
@@ -102,7 +103,7 @@ pub record Does (p : Parts) (request : Request) (got : Gathered) (line' : List �
   pub old_is : old ≡ p.map
   pub marks : Marks p.settings p.phase p.place request got.kept old map'
   pub more : Bool
-  pub more_is : more
+  pub more_is : p.phase ≡ Trimming → more
       ≡ (covers p.domain (request.pos + request.len)
       && has_taken (numbered p.phase 1 ∷ []) (slice_get map' (request.pos + request.len)))
   pub top : ℕ
@@ -197,8 +198,8 @@ does_step p r room request got line' map' place' tally' source source' site site
     let map_is : map' ≡ n.map
     = marks_map p r room request got d.old map' source source' site site' clock clock' b g d.old_is d.marks in
     let x : ℕ = request.pos + request.len in
-    let more : d.more ≡ is_wanted s n x
-    = d.more_is
+    let more : p.phase ≡ Trimming → d.more ≡ is_wanted s n x
+    = λ trims. d.more_is trims
     ∙ ap (λ (l : List Status). covers p.domain x && has_taken (numbered p.phase 1 ∷ []) (slice_get l x)) map_is
     ∙ wanted_in s m n.map p.phase p.place.pass 1 request.pos x (begins_fits p r room request b).wanted b.running.pass in
     let size : length m.map ≡ d.top
@@ -268,7 +269,7 @@ pub does_saved : (p : Parts) (r : RunState) (room : ℕ) (request : Request) (go
     → Does p request got line' map' place' tally' → (end : SiteState)
     → is_timely (run_of p).machine g.event ≡ true → Keeps site site'
     → Makes (if is_some p.names
-    then save_calls (names_in p.names) (text_of p.line (snapshot (run_of (parts_behind p line' map' place' tally')).machine))
+    then save_calls (names_in p.names) (text_of p.line (snapshot_of (run_of (parts_behind p line' map' place' tally')).machine))
     else []) site' end
     → Turned request got.turn r (run_of (parts_behind p line' map' place' tally')) source source' site end clock clock'
 does_saved p r room request got line' map' place' tally' source source' site site' clock clock' b g d end timely keeps saves =
@@ -285,16 +286,16 @@ pub does_unsaved : (p : Parts) (r : RunState) (room : ℕ) (request : Request) (
     → Does p request got line' map' place' tally' → (call : SiteCall) (end : SiteState)
     → is_timely (run_of p).machine g.event ≡ true → Keeps site site'
     → IsNameIn call (if is_some p.names
-    then save_calls (names_in p.names) (text_of p.line (snapshot (run_of (parts_behind p line' map' place' tally')).machine))
+    then save_calls (names_in p.names) (text_of p.line (snapshot_of (run_of (parts_behind p line' map' place' tally')).machine))
     else [])
     → Breaks call (if is_some p.names
-    then save_calls (names_in p.names) (text_of p.line (snapshot (run_of (parts_behind p line' map' place' tally')).machine))
+    then save_calls (names_in p.names) (text_of p.line (snapshot_of (run_of (parts_behind p line' map' place' tally')).machine))
     else []) site' end
     → Halted request (Site call) r (run_of (parts_behind p line' map' place' tally')) source source' site end clock clock'
 does_unsaved p r room request got line' map' place' tally' source source' site site' clock clock' b g d call end timely keeps named broke =
     let before : RunState = run_of p in
     let behind : RunState = run_of (parts_behind p line' map' place' tally') in
-    let save : List Call = save_calls (names_in p.names) (text_of p.line (snapshot behind.machine)) in
+    let save : List Call = save_calls (names_in p.names) (text_of p.line (snapshot_of behind.machine)) in
     let there : is_some p.names ≡ true = named_there p.names call save named in
     let all : (if is_some p.names then save else []) ≡ save = ap (λ (b : Bool). if b then save else []) there in
     let writes : Makes (write_calls (setting_in before) g.event.reading) site site' = g.writes before refl in

@@ -7,7 +7,7 @@ use Rattle.rescue_rules.specs.declared.stop.Stop.{Stop}
 use Rattle.rescue_rules.specs.declared.stop.Stop.TheVariants.{SourceLost, Site, NoMemory}
 use Rattle.rescue_rules.specs.declared.stop.RunEnd.{RunEnd}
 use Rattle.rescue_rules.specs.declared.stop.RunEnd.TheVariants.{Done, Stopped, SaveFailed}
-use Rattle.rescue_rules.specs.Snapshots.{Snapshot, snapshot, finished_snapshot}
+use Rattle.rescue_rules.specs.Snapshots.{Snapshot, snapshot_of, finished_snapshot}
 use Rattle.rescue_rules.specs.RunCalls.{closing_calls}
 use Rattle.rescue_core.specs.RunState.{RunState, setting_in}
 
@@ -20,7 +20,7 @@ drafting_after NoMemory = false
 -- what is saved: a run without a stop is finished
 abbrev pub closing_snapshot : Option Stop → RunState → Snapshot
 closing_snapshot None r = finished_snapshot r.machine
-closing_snapshot (Some stop) r = snapshot r.machine
+closing_snapshot (Some stop) r = snapshot_of r.machine
 
 -- how a run ends whose last calls returned
 abbrev pub end_of : Option Stop → RunEnd

@@ -35,7 +35,7 @@ names_in None = record { map = []; draft = [] }
 names_in (Some names) = names
 
 -- what settings, a domain by its intervals, names and a command line ask for. A run knows neither the names of the
--- input and of the output nor the input's length, nor what the output may be.
+-- input and of the output nor the input's length, nor what the output may be, nor how its map was prepared.
 abbrev pub setting_with : Settings → List Run → Option MapNames → List ℕ → Setting
 setting_with settings domain names line = record {
   infile = [];
@@ -48,6 +48,8 @@ setting_with settings domain names line = record {
   domain = covers domain;
   from = settings.ipos;
   to = settings.opos;
+  again = false;
+  retrim = false;
   sector = settings.sector;
   cluster = settings.cluster;
   skip = settings.skip;

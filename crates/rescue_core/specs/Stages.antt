@@ -1,7 +1,7 @@
 -- What is known of a run by how far it has come.
 use Rattle.std.specs.Prelude.{◌≡◌, ⊤, true, false}
 use Rattle.block_list.specs.declared.status.Status.TheVariants.{NonTried, NonTrimmed, NonScraped}
-use Rattle.rescue_rules.specs.Moves.{ready, has_none}
+use Rattle.rescue_rules.specs.Moves.{ready, no_pass_left}
 use Rattle.rescue_core.specs.RunState.{RunState, setting_in, IsGone}
 
 -- how far a run has come: it began, or copying, trimming or scraping is over, or all is
@@ -25,7 +25,7 @@ pub record IsScraped (r : RunState) : Type 0 where
 -- at the end no pass has a request left
 pub record IsOver (r : RunState) : Type 0 where
   pub scraped : IsScraped r
-  pub spent : has_none (ready (setting_in r) r.machine).passes ≡ true
+  pub spent : no_pass_left (ready (setting_in r) r.machine).passes ≡ true
 
 abbrev pub Known : Reached → RunState → Type 0
 Known Begun r = ⊤

@@ -14,7 +14,7 @@ use Rattle.rescue_rules.specs.declared.stop.Stop.{Stop}
 use Rattle.rescue_rules.specs.declared.stop.Stop.TheVariants.{SourceLost, Site, NoMemory}
 use Rattle.rescue_rules.specs.Step.{Event, is_slow, step}
 use Rattle.rescue_rules.specs.Moves.{Move}
-use Rattle.rescue_rules.specs.Snapshots.{text_of, snapshot, is_due}
+use Rattle.rescue_rules.specs.Snapshots.{text_of, snapshot_of, is_due}
 use Rattle.rescue_rules.specs.RunCalls.{write_calls, move_calls}
 use Rattle.rescue_core.specs.declared.turn.Turn.{Turn}
 use Rattle.rescue_core.specs.RunState.{RunState, names_in, setting_in}
@@ -74,8 +74,8 @@ pub data Halted (request : Request) (stop : Stop) (r r' : RunState) (source sour
   -- in a call of the save that was due, behind the event's step
   Unsaved : (call : SiteCall) → stop ≡ Site call → (event : Event) → IsEvent request event source source' clock clock'
       → r' ≡ stepped r event → is_due (setting_in r) (move_by r event) ≡ true
-      → IsNameIn call (save_calls (names_in r.names) (text_of r.line (snapshot r'.machine)))
-      → (IsTrue site.tells → BrokeAt call (save_calls (names_in r.names) (text_of r.line (snapshot r'.machine)))
+      → IsNameIn call (save_calls (names_in r.names) (text_of r.line (snapshot_of r'.machine)))
+      → (IsTrue site.tells → BrokeAt call (save_calls (names_in r.names) (text_of r.line (snapshot_of r'.machine)))
       (site.calls ++ map Done (write_calls (setting_in r) event.reading)) site'.calls)
       → Rose site.faults site'.faults
       → Halted request stop r r' source source' site site' clock clock'

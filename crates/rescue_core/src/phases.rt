@@ -6,7 +6,7 @@ ghost use Rattle.mapfile_text.specs.declared.heading.Program.TheVariants.{Ddresc
 ghost use Rattle.block_list.specs.declared.status.Status.TheVariants.{NonTried, NonTrimmed, NonScraped};
 ghost use Rattle.rescue_rules.specs.Passes.{numbered};
 ghost use Rattle.rescue_rules.specs.Machine.{IsRequest, has_request};
-ghost use Rattle.rescue_rules.specs.Moves.{ready, has_none};
+ghost use Rattle.rescue_rules.specs.Moves.{ready, no_pass_left};
 ghost use Rattle.rescue_core.specs.RunState.{RunState, setting_in, IsSound, Suits, HasPlaces, started, passed, showing, IsGone};
 ghost use Rattle.rescue_domain.specs.Parts.{covers};
 ghost use Rattle.rescue_core.specs.Turning.{Turned, Halted};
@@ -179,7 +179,7 @@ impl<T: Tiles> Rescue<Scraping, T> {
 impl<T: Tiles> Rescue<Retrying, T> {
     /// The rescue is over, once no pass has a request left.
     pub fn end_retrying(self) -> Rescue<Finished, T>
-        requires spent { has_none (ready (setting_in self) self.machine).passes ≡ true }
+        requires spent { no_pass_left (ready (setting_in self) self.machine).passes ≡ true }
         ensures { result ≡ self }
     {
         let Rescue { stage: _, running } = self;
@@ -302,7 +302,6 @@ impl<P: Stage, T: Tiles> Rescue<P, T> {
         ensures clock { ClockKeeps (K.state clock.old) (K.state clock.new) }
         ensures console { C.state console.new ≡ C.state console.old }
     {
-        let _room = self.running.room();
         self.running.turn(request, source, site, clock, console)
     }
 

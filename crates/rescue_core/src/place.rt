@@ -1,5 +1,6 @@
 //! Where a run stands behind a read.
 ghost use Rattle.std.specs.Prelude.{◌≡◌, ◌+◌, ◌<◌, ◌≤◌, ◌^◌, length};
+ghost use Rattle.rescue_rules.specs.declared.phase.Phase.TheVariants.{Trimming};
 ghost use Rattle.rescue_rules.specs.Passes.{numbered};
 ghost use Rattle.rescue_rules.specs.Machine.{pass_of, is_wanted};
 ghost use Rattle.rescue_rules.specs.Step.{Event, is_jump, cursor_after, mode_after, skip_after, step};
@@ -15,8 +16,8 @@ use rescue_rules::phase::Phase;
 use rescue_rules::stop::TrimMode;
 use transfer_token::token::Request;
 
-/// Where a run stands behind a read, in a map of so many positions. `more` says whether the position behind the read is
-/// asked for.
+/// Where a run stands behind a read, in a map of so many positions. While it trims, `more` says whether the position
+/// behind the read is asked for.
 pub(crate) fn place_behind(
     settings: &Settings,
     phase: Phase,
@@ -32,7 +33,8 @@ pub(crate) fn place_behind(
     requires short { top < 2 ^ 63 }
     ensures { (r : RunState) (e : Event) → RunsAt settings.now phase place r → IsReadOf request turn.given e.reading
         → turn ≡ turn_of r e → length r.machine.map ≡ top
-        → more ≡ is_wanted (setting_in r) (step (setting_in r) r.machine e) (request.pos + request.len)
+        → (phase ≡ Trimming
+        → more ≡ is_wanted (setting_in r) (step (setting_in r) r.machine e) (request.pos + request.len))
         → result ≡ place_of place.pass (step (setting_in r) r.machine e) }
 {
     let jumped = jumps(phase, place.pass, turn);

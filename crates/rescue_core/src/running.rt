@@ -1,4 +1,4 @@
-ghost use Rattle.std.specs.Prelude.{◌≡◌, ◌+◌, ◌<◌, ◌≤◌, ◌^◌, true, false, Some, None, length, slice_get, IfOk, IfErr, IfSome, IfNone, OnOk};
+ghost use Rattle.std.specs.Prelude.{◌≡◌, ℕ, ◌+◌, ◌<◌, ◌≤◌, ◌^◌, true, false, Some, None, length, slice_get, IfOk, IfErr, IfSome, IfNone, OnOk};
 ghost use Rattle.faulty_source.specs.SourceState.{Stays as SourceStays};
 ghost use Rattle.crash_site.specs.SiteState.{Keeps as SiteKeeps};
 ghost use Rattle.rescue_console.specs.ClockState.{Keeps as ClockKeeps};
@@ -20,7 +20,7 @@ use crate::settings::Settings;
 use crate::state::{Place, Tally};
 use crate::tally::{is_due, shown_at, tally_behind};
 use crate::turn::Turn;
-use crate::wanted::is_wanted;
+use crate::wanted::trims_on;
 use block_list::tiles::{NoMemory, Tiles};
 use crash_site::site::Site;
 use faulty_source::source::Source;
@@ -123,13 +123,6 @@ impl<T: Tiles> Running<T> {
         &self.tiles
     }
 
-    /// How many bytes it asks for at once at most.
-    pub fn room(&self) -> usize
-        ensures { IsRunning self.now result }
-    {
-        self.buf.len()
-    }
-
     pub fn cursor(&self) -> u64
         ensures { result ≡ self.now.machine.cursor }
     {
@@ -217,6 +210,7 @@ impl<T: Tiles> Running<T> {
         ensures site { SiteKeeps (D.state site.old) (D.state site.new) }
         ensures clock { ClockKeeps (K.state clock.old) (K.state clock.new) }
         ensures console { C.state console.new ≡ C.state console.old }
+        ensures running { (room : ℕ) × IsRunning self.old room }
     {
         if self.tiles.reserve(MOST_NEW_BLOCKS).is_err() {
             return Err(Stop::NoMemory);
@@ -238,7 +232,7 @@ impl<T: Tiles> Running<T> {
             self.place,
         );
         let end = request.pos + request.len as u64;
-        let more = is_wanted(&self.domain, &self.tiles, self.phase, end);
+        let more = trims_on(&self.domain, &self.tiles, self.phase, end);
         self.place = place_behind(
             &self.settings,
             self.phase,

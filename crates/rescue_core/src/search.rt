@@ -24,7 +24,7 @@ pub fn find_up<T: Tiles>(domain: &Domain, tiles: &T, from: u64, status: Status) 
                 to: found.to.min(part.to),
             });
         }
-        at = part.to;
+        at = found.from;
     }
     None
 }
@@ -44,7 +44,7 @@ pub fn find_down<T: Tiles>(domain: &Domain, tiles: &T, before: u64, status: Stat
                 to: found.to,
             });
         }
-        at = part.from;
+        at = found.to;
     }
     None
 }

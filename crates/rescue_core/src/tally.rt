@@ -33,10 +33,11 @@ pub(crate) fn turn_behind(
 {
     let whole = given == request.len;
     let given = given as u64;
-    let slow = given * 1000
-        < settings
-            .min_rate
-            .saturating_mul(after.saturating_sub(before));
+    let slow = settings.min_rate > 0
+        && given * 1000
+            < settings
+                .min_rate
+                .saturating_mul(after.saturating_sub(before));
     Turn {
         kept,
         given,

@@ -14,7 +14,7 @@ pub returns-in_err-run_pass-clause-halted : goal.returns-in_err-run_pass-clause-
 returns-in_err-run_pass-clause-halted g c =
     let p = err_from_is_err_and c.from_residual.result c.from_residual.ensures.1 in
     rw (p.1, p.2) (went_up_to_on _ _ _ _ _ _ _ _ _ _ _ _ _ c.passes.invariant.0.went c.passes.invariant.0.source
-    c.passes.invariant.0.site c.in_err-run_pass.ensures.halted)
+    c.passes.invariant.0.site.tells c.in_err-run_pass.ensures.halted)
 
 pub returns-in_err-run_pass-clause-source : goal.returns-in_err-run_pass-clause-source
 returns-in_err-run_pass-clause-source g c =
@@ -24,6 +24,10 @@ pub returns-then-pass-ge-COPYING_PASSES-clause-copies :
     goal.returns-then-pass-ge-COPYING_PASSES-clause-copies
 returns-then-pass-ge-COPYING_PASSES-clause-copies g c =
     goes_on _ _ _ _ _ _ _ _ _ _ _ _ c.passes.invariant.0 c.in_ok-run_pass.ensures.copies
+
+pub returns-then-pass-ge-COPYING_PASSES-clause-source : goal.returns-then-pass-ge-COPYING_PASSES-clause-source
+returns-then-pass-ge-COPYING_PASSES-clause-source g c =
+    source_stays _ _ _ c.passes.invariant.0.source c.run_pass.ensures.source
 
 pub begin_pass-requires-clause-next : goal.begin_pass-requires-clause-next
 begin_pass-requires-clause-next g c =

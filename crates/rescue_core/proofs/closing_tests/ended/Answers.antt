@@ -5,7 +5,7 @@ use Rattle.block_list.specs.Map.{Has}
 use Rattle.rescue_rules.specs.declared.phase.Phase.{Phase}
 use Rattle.rescue_rules.specs.declared.phase.Phase.TheVariants.{Copying, Trimming, Scraping, Retrying}
 use Rattle.rescue_rules.specs.Passes.{taken}
-use Rattle.rescue_rules.specs.Moves.{ready, has_none}
+use Rattle.rescue_rules.specs.Moves.{ready, no_pass_left}
 use Rattle.rescue_rules.proofs.StatusLemmas.{has_marks}
 use Rattle.rescue_core.specs.RunState.{RunState, setting_in}
 use Rattle.rescue_core.proofs.StageLemmas.{none_left}
@@ -19,7 +19,7 @@ never_taken Retrying is = absurd (cc)
 
 -- a rescue whose map is finished has nothing left
 finished_spent : (r : RunState) → r.machine.map ≡ replicate 4 Finished
-    → has_none (ready (setting_in r) r.machine).passes ≡ true
+    → no_pass_left (ready (setting_in r) r.machine).passes ≡ true
 finished_spent r is =
     none_left r (λ k d within x inside has.
     let phase : Phase = (slice_index_or r.machine.passes k d).phase in

@@ -2,6 +2,7 @@ use Rattle.std.proofs.Common.{◌∙◌, length, refl, ap, sym, subst, arith, ru
 use Rattle.std.proofs.lemmas.Result.{err_from_is_err_and, IfOk-at_ok, IfErr-at_err}
 use Rattle.rescue_core.specs.RunState.{IsRunning}
 use Rattle.rescue_core.proofs.TurnedLemmas.{Parts, parts_of, parts_behind, run_of, begins_of, Does, begins_fits, marks_size, does_running, does_untimely, does_saved, does_unsaved, halts_same, room_same}
+use Rattle.faulty_source.proofs.Keeping.{stays_self}
 use Rattle.rescue_core.proofs.running.Running.turn.Goals as goal
 
 pub gather-requires : goal.gather-requires
@@ -57,8 +58,8 @@ invariant_of-self-in-Err g c =
       old = g.T.Tiles.statuses c.reserve.new.self;
       old_is = c.reserve.ensures.statuses;
       marks = c.mark.ensures;
-      more = c.is_wanted-more.result;
-      more_is = c.is_wanted-more.ensures;
+      more = c.trims_on-more.result;
+      more_is = c.trims_on-more.ensures;
       top = c.end.result;
       top_is = c.end.ensures.end;
       places = c.place_behind-self-inside.ensures;
@@ -85,8 +86,8 @@ invariant_of-self-in_default g c =
       old = g.T.Tiles.statuses c.reserve.new.self;
       old_is = c.reserve.ensures.statuses;
       marks = c.mark.ensures;
-      more = c.is_wanted-more.result;
-      more_is = c.is_wanted-more.ensures;
+      more = c.trims_on-more.result;
+      more_is = c.trims_on-more.ensures;
       top = c.end.result;
       top_is = c.end.ensures.end;
       places = c.place_behind-self-inside.ensures;
@@ -113,8 +114,8 @@ invariant_of-self-else-due g c =
       old = g.T.Tiles.statuses c.reserve.new.self;
       old_is = c.reserve.ensures.statuses;
       marks = c.mark.ensures;
-      more = c.is_wanted-more.result;
-      more_is = c.is_wanted-more.ensures;
+      more = c.trims_on-more.result;
+      more_is = c.trims_on-more.ensures;
       top = c.end.result;
       top_is = c.end.ensures.end;
       places = c.place_behind-self-inside.ensures;
@@ -141,8 +142,8 @@ returns-else-due-clause-turned g c =
       old = g.T.Tiles.statuses c.reserve.new.self;
       old_is = c.reserve.ensures.statuses;
       marks = c.mark.ensures;
-      more = c.is_wanted-more.result;
-      more_is = c.is_wanted-more.ensures;
+      more = c.trims_on-more.result;
+      more_is = c.trims_on-more.ensures;
       top = c.end.result;
       top_is = c.end.ensures.end;
       places = c.place_behind-self-inside.ensures;
@@ -165,8 +166,8 @@ returns-in_default-clause-turned g c =
       old = g.T.Tiles.statuses c.reserve.new.self;
       old_is = c.reserve.ensures.statuses;
       marks = c.mark.ensures;
-      more = c.is_wanted-more.result;
-      more_is = c.is_wanted-more.ensures;
+      more = c.trims_on-more.result;
+      more_is = c.trims_on-more.ensures;
       top = c.end.result;
       top_is = c.end.ensures.end;
       places = c.place_behind-self-inside.ensures;
@@ -190,8 +191,8 @@ returns-in-Err-clause-halted g c =
       old = g.T.Tiles.statuses c.reserve.new.self;
       old_is = c.reserve.ensures.statuses;
       marks = c.mark.ensures;
-      more = c.is_wanted-more.result;
-      more_is = c.is_wanted-more.ensures;
+      more = c.trims_on-more.result;
+      more_is = c.trims_on-more.ensures;
       top = c.end.result;
       top_is = c.end.ensures.end;
       places = c.place_behind-self-inside.ensures;
@@ -204,3 +205,6 @@ returns-in-Err-clause-halted g c =
     c.in_ok-kept.ensures.gathered.after) ∙ c.if-due.true in
     does_unsaved p c.args.self.now _ c.args.request c.in_ok-kept.field-0 _ _ _ _ _ _ _ _ _ _ begins c.in_ok-kept.ensures.gathered does _ _ timely c.gather.ensures.site.keeps
     (IfErr-at_err _ c.in-Err.is c.save_now-saved.ensures.call.named) (IfErr-at_err _ c.in-Err.is c.save_now-saved.ensures.call.broke)
+
+pub returns-then-is_err-clause-source : goal.returns-then-is_err-clause-source
+returns-then-is_err-clause-source g c = stays_self _
