@@ -1,0 +1,203 @@
+-- What an event does to a position.
+use Rattle.std.proofs.Common.{◌≡◌, ◌⊎◌, ℕ, ◌+◌, ◌-◌, ◌<◌, ◌≤◌, true, false, ◌&&◌, nat_lt, List, length, refl, sym, subst, ◌∙◌, arith, inl, inr, ⊎_elim}
+use Rattle.std.specs.List.{slice_get}
+use Rattle.std.proofs.lemmas.Bool.{cases_lt, cond_both, and_parts, true_from_ne_false}
+use Rattle.block_list.specs.declared.status.Status.{Status}
+use Rattle.block_list.specs.declared.status.Status.TheVariants.{NonTrimmed, NonScraped, BadSector, Finished}
+use Rattle.block_list.specs.Map.{Has, marked}
+use Rattle.block_list.proofs.Places.{length-marked}
+use Rattle.faulty_source.specs.Journal.{Reading, is_whole, kept}
+use Rattle.rescue_rules.specs.declared.stop.TrimMode.{TrimMode}
+use Rattle.rescue_rules.specs.declared.stop.TrimMode.TheVariants.{Lead, Tail}
+use Rattle.rescue_rules.specs.declared.phase.Phase.{Phase}
+use Rattle.rescue_rules.specs.declared.phase.Phase.TheVariants.{Copying, Trimming, Scraping, Retrying}
+use Rattle.rescue_rules.specs.Setting.{Setting, IsSensible}
+use Rattle.rescue_rules.specs.Passes.{taken}
+use Rattle.rescue_rules.specs.Machine.{Machine, pass_of, IsRequest}
+use Rattle.rescue_rules.specs.Step.{Event, trims, is_copying, is_trimming, rest_status, scraped, step}
+use Rattle.rescue_rules.specs.MachineLaws.{IsInOrder, StepsBy, AsksFor}
+use Rattle.rescue_rules.proofs.GivenLemmas.{kept_whole}
+use Rattle.rescue_rules.proofs.MarkLemmas.{marked_inside, marked_outside}
+use Rattle.rescue_rules.proofs.StatusLemmas.{wanted_taken}
+use Rattle.rescue_rules.proofs.StepLemmas.{asks_back}
+
+pub trims_is : (phase : Phase) → trims phase ≡ true → phase ≡ Trimming
+trims_is Copying is = absurd (cc)
+trims_is Trimming is = refl
+trims_is Scraping is = absurd (cc)
+trims_is Retrying is = absurd (cc)
+
+-- what isn't kept is bad, unless copying asked for it
+pub rest_is : (s : Setting) (m : Machine) (size : ℕ)
+    → ((rest_status s m size ≡ NonTrimmed) × (is_copying m ≡ true)) ⊎ (rest_status s m size ≡ BadSector)
+rest_is s m size =
+    cond_both (is_copying m && nat_lt s.sector size) NonTrimmed BadSector
+    (λ (t : Status). ((t ≡ NonTrimmed) × (is_copying m ≡ true)) ⊎ (t ≡ BadSector))
+    (λ on. inl (refl, (and_parts (is_copying m) (nat_lt s.sector size) on).0)) (λ off. inr refl)
+
+-- only trimming is at a run's back
+tail_trims : (s : Setting) (m : Machine) (low : ℕ) → IsInOrder s m → m.mode ≡ Tail low → is_trimming m ≡ true
+tail_trims s m low order is =
+    true_from_ne_false (is_trimming m) (λ off. let e : Tail low ≡ Lead = sym is ∙ order.lead off in absurd (cc))
+
+-- A position that was asked for is finished, or was missed by a read that wasn't whole. One that wasn't asked for lies
+-- between the front and the back of a run that is trimmed, and is left for scraping, or it stands.
+pub data Change (s : Setting) (m : Machine) (r : Reading) (map : List Status) (x : ℕ) : Type 0 where
+  Kept : AsksFor r x → Has map Finished x → Change s m r map x
+  Missed : AsksFor r x → is_whole r ≡ false → (size : ℕ) → Has map (rest_status s m size) x → Change s m r map x
+  Between : (AsksFor r x → ⊥) → is_trimming m ≡ true → Has m.map NonTrimmed x → Has map NonScraped x
+      → Change s m r map x
+  Stands : (AsksFor r x → ⊥) → slice_get map x ≡ slice_get m.map x → Change s m r map x
+
+-- what is marked for scraping at a run's back lies before the read,
+scraped_behind : (mode : TrimMode) (p : ℕ) (map : List Status) (x : ℕ) → p ≤ length map
+    → ((low : ℕ) → mode ≡ Tail low → low ≤ p) → p ≤ x → slice_get (scraped mode p map) x ≡ slice_get map x
+scraped_behind Lead p map x there back from = refl
+scraped_behind (Tail low) p map x there back from =
+    let le : low ≤ p = back low refl in
+    marked_outside map low (p - low) NonScraped x (omega arith) (inr (omega arith))
+
+-- and not before the run's beginning
+scraped_before : (mode : TrimMode) (p : ℕ) (map : List Status) (x : ℕ) → p ≤ length map
+    → ((low : ℕ) → mode ≡ Tail low → low ≤ p) → x < p → (slice_get (scraped mode p map) x ≡ slice_get map x)
+    ⊎ ((low : ℕ) × (mode ≡ Tail low) × (low ≤ x) × Has (scraped mode p map) NonScraped x)
+scraped_before Lead p map x there back to = inl refl
+scraped_before (Tail low) p map x there back to =
+    let le : low ≤ p = back low refl in
+    ⊎_elim (λ (lt : x < low). inl (marked_outside map low (p - low) NonScraped x (omega arith) (inl lt)))
+    (λ (from : low ≤ x). inr (
+      low,
+      refl,
+      from,
+      marked_inside map low (p - low) NonScraped x (omega arith) from
+          (omega arith),
+    ))
+    (cases_lt x low)
+
+-- what was asked for, and what lies before it as far as the beginning of a run that is trimmed
+record Asked (s : Setting) (m : Machine) (r : Reading) : Type 0 where
+  there : r.pos + r.asked ≤ length m.map
+  few : kept s.sector r ≤ r.asked
+  back : (low : ℕ) → m.mode ≡ Tail low → low ≤ r.pos
+  between : (low x : ℕ) → m.mode ≡ Tail low → low ≤ x → x < r.pos → Has m.map NonTrimmed x
+  trims : (low : ℕ) → m.mode ≡ Tail low → is_trimming m ≡ true
+
+asked : (s : Setting) (m : Machine) (e : Event) → IsSensible s → IsInOrder s m
+    → IsRequest s m e.reading.pos (e.reading.pos + e.reading.asked) → StepsBy s m e → Asked s m e.reading
+asked s m e ok order request by =
+    let p : ℕ = e.reading.pos in
+    let q : ℕ = e.reading.pos + e.reading.asked in
+    record {
+      there = by.there;
+      few = by.kept_asked;
+      back = λ low is. (asks_back s ok m p q low order request is).after;
+      between = λ low x is from to.
+          let has : Has m.map (taken (pass_of m).phase) x =
+          wanted_taken s m x ((asks_back s ok m p q low order request is).wanted x from to) in
+          subst (λ (phase : Phase). Has m.map (taken phase) x)
+          (trims_is (pass_of m).phase (tail_trims s m low order is)) has;
+      trims = λ low is. tail_trims s m low order is;
+    }
+
+-- the map with the kept part marked, and with the rest marked too
+abbrev with_kept : Setting → Machine → Reading → List Status
+with_kept s m r = marked m.map r.pos (kept s.sector r) Finished
+
+abbrev with_rest : Setting → Machine → Reading → List Status
+with_rest s m r =
+    marked (with_kept s m r) (r.pos + kept s.sector r) (r.asked - kept s.sector r)
+    (rest_status s m (r.asked - kept s.sector r))
+
+size_kept : (s : Setting) (m : Machine) (r : Reading) → Asked s m r → length (with_kept s m r) ≡ length m.map
+size_kept s m r a = length-marked m.map r.pos (kept s.sector r) Finished (omega (arith, a.there, a.few))
+
+size_rest : (s : Setting) (m : Machine) (r : Reading) → Asked s m r → length (with_rest s m r) ≡ length m.map
+size_rest s m r a =
+    length-marked (with_kept s m r) (r.pos + kept s.sector r) (r.asked - kept s.sector r)
+    (rest_status s m (r.asked - kept s.sector r)) (omega (arith, size_kept s m r a, a.there, a.few))
+    ∙ size_kept s m r a
+
+kept_inside : (s : Setting) (m : Machine) (r : Reading) (x : ℕ) → Asked s m r → r.pos ≤ x → x < r.pos + kept s.sector r
+    → Has (with_kept s m r) Finished x
+kept_inside s m r x a from to = marked_inside m.map r.pos (kept s.sector r) Finished x (omega (arith, a.there, a.few))
+    from to
+
+kept_outside : (s : Setting) (m : Machine) (r : Reading) (x : ℕ) → Asked s m r
+    → (x < r.pos) ⊎ (r.pos + kept s.sector r ≤ x) → slice_get (with_kept s m r) x ≡ slice_get m.map x
+kept_outside s m r x a apart = marked_outside m.map r.pos (kept s.sector r) Finished x (omega (arith, a.there, a.few))
+    apart
+
+rest_inside : (s : Setting) (m : Machine) (r : Reading) (x : ℕ) → Asked s m r → r.pos + kept s.sector r ≤ x
+    → x < r.pos + r.asked → Has (with_rest s m r) (rest_status s m (r.asked - kept s.sector r)) x
+rest_inside s m r x a from to =
+    marked_inside (with_kept s m r) (r.pos + kept s.sector r) (r.asked - kept s.sector r)
+    (rest_status s m (r.asked - kept s.sector r)) x (omega (arith, size_kept s m r a, a.there, a.few)) from
+    (omega (arith, a.few))
+
+rest_outside : (s : Setting) (m : Machine) (r : Reading) (x : ℕ) → Asked s m r
+    → (x < r.pos + kept s.sector r) ⊎ (r.pos + r.asked ≤ x)
+    → slice_get (with_rest s m r) x ≡ slice_get (with_kept s m r) x
+rest_outside s m r x a apart =
+    marked_outside (with_kept s m r) (r.pos + kept s.sector r) (r.asked - kept s.sector r)
+    (rest_status s m (r.asked - kept s.sector r)) x (omega (arith, size_kept s m r a, a.there, a.few))
+    (⊎_elim (λ (lt : x < r.pos + kept s.sector r). inl lt) (λ (ge : r.pos + r.asked ≤ x). inr (omega (arith, a.few)))
+    apart)
+
+-- a whole read,
+change_whole : (s : Setting) (m : Machine) (r : Reading) (x : ℕ) → Asked s m r → is_whole r ≡ true
+    → Change s m r (with_kept s m r) x
+change_whole s m r x a whole =
+    let all : kept s.sector r ≡ r.asked = kept_whole s.sector r whole in
+    ⊎_elim (λ (lt : x < r.pos). Stands (λ asks. omega (arith, lt, asks.from)) (kept_outside s m r x a (inl lt)))
+    (λ (from : r.pos ≤ x). ⊎_elim
+    (λ (to : x < r.pos + r.asked). Kept (record { from = from; to = to })
+    (kept_inside s m r x a from (omega (arith, to, all))))
+    (λ (ge : r.pos + r.asked ≤ x). Stands (λ asks. omega (arith, ge, asks.to))
+    (kept_outside s m r x a (inr (omega (arith, ge, all)))))
+    (cases_lt x (r.pos + r.asked)))
+    (cases_lt x r.pos)
+
+-- and one that isn't whole, before what it asked for,
+change_before : (s : Setting) (m : Machine) (r : Reading) (x : ℕ) → Asked s m r → x < r.pos
+    → Change s m r (scraped m.mode r.pos (with_rest s m r)) x
+change_before s m r x a to =
+    let apart : AsksFor r x → ⊥ = λ asks. omega (arith, to, asks.from) in
+    let map : List Status = scraped m.mode r.pos (with_rest s m r) in
+    ⊎_elim
+    (λ (same : slice_get map x ≡ slice_get (with_rest s m r) x).
+    Stands apart (same ∙ rest_outside s m r x a (inl (omega arith)) ∙ kept_outside s m r x a (inl to)))
+    (λ (is : (low : ℕ) × (m.mode ≡ Tail low) × (low ≤ x) × Has map NonScraped x).
+    Between apart (a.trims is.0 is.1) (a.between is.0 x is.1 is.2 to) is.3)
+    (scraped_before m.mode r.pos (with_rest s m r) x (omega (arith, size_rest s m r a, a.there)) a.back to)
+
+-- and behind its position
+change_behind : (s : Setting) (m : Machine) (r : Reading) (x : ℕ) → Asked s m r → is_whole r ≡ false → r.pos ≤ x
+    → Change s m r (scraped m.mode r.pos (with_rest s m r)) x
+change_behind s m r x a part from =
+    let same : slice_get (scraped m.mode r.pos (with_rest s m r)) x ≡ slice_get (with_rest s m r) x =
+    scraped_behind m.mode r.pos (with_rest s m r) x (omega (arith, size_rest s m r a, a.there)) a.back from in
+    ⊎_elim
+    (λ (to : x < r.pos + kept s.sector r).
+    Kept (record { from = from; to = omega (arith, to, a.few) })
+    (same ∙ rest_outside s m r x a (inl to) ∙ kept_inside s m r x a from to))
+    (λ (late : r.pos + kept s.sector r ≤ x). ⊎_elim
+    (λ (to : x < r.pos + r.asked).
+    Missed (record { from = from; to = to }) part (r.asked - kept s.sector r) (same ∙ rest_inside s m r x a late to))
+    (λ (ge : r.pos + r.asked ≤ x).
+    Stands (λ asks. omega (arith, ge, asks.to)) (same ∙ rest_outside s m r x a (inr ge)
+    ∙ kept_outside s m r x a (inr late)))
+    (cases_lt x (r.pos + r.asked)))
+    (cases_lt x (r.pos + kept s.sector r))
+
+pub changes : (s : Setting) (m : Machine) (e : Event) (x : ℕ) → IsSensible s → IsInOrder s m
+    → IsRequest s m e.reading.pos (e.reading.pos + e.reading.asked) → StepsBy s m e
+    → Change s m e.reading (step s m e).map x
+changes s m e x ok order request by =
+    let r : Reading = e.reading in
+    let a : Asked s m r = asked s m e ok order request by in
+    cond_both (is_whole r) (with_kept s m r) (scraped m.mode r.pos (with_rest s m r))
+    (λ (map : List Status). Change s m r map x)
+    (λ whole. change_whole s m r x a whole)
+    (λ part. ⊎_elim (λ (to : x < r.pos). change_before s m r x a to)
+    (λ (from : r.pos ≤ x). change_behind s m r x a part from)
+    (cases_lt x r.pos))

@@ -1,0 +1,13 @@
+pub mod AskedLemmas
+pub mod BoundLemmas
+pub mod ChangeLemmas
+pub mod CountLemmas
+pub mod CursorLemmas
+pub mod EndingLemmas
+pub mod FailLemmas
+pub mod GoingLemmas
+pub mod OrderLemmas
+pub mod OwedLemmas
+pub mod PassingLemmas
+pub mod RunLemmas
+pub mod SweepLemmas

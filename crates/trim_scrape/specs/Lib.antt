@@ -1,0 +1,5 @@
+pub mod Behind
+pub mod Bounds
+pub mod Endings
+pub mod Laws
+pub mod Passing

@@ -1,0 +1,7 @@
+//! What a rescue does behind copying: it trims, scrapes and retries.
+#![tactic(auto)]
+
+pub mod laws;
+pub mod phases;
+#[cfg(test)]
+mod phases_tests;

@@ -1,0 +1,271 @@
+//! The phases of a rescue behind copying. Each goes on until its passes have no request left, and stops where a turn does:
+//! for want of memory, at a read that was lost, or at a call on the output or the mapfile that failed.
+ghost use Rattle.std.specs.Prelude.{◌≡◌, ◌+◌, true, false, IfOk, IfErr, OnOk};
+ghost use Rattle.faulty_source.specs.SourceState.{Stays as SourceStays};
+ghost use Rattle.crash_site.specs.SiteState.{Keeps as SiteKeeps};
+ghost use Rattle.rescue_console.specs.ClockState.{Keeps as ClockKeeps};
+ghost use Rattle.rescue_domain.specs.Parts.{covers};
+ghost use Rattle.rescue_rules.specs.declared.phase.Phase.TheVariants.{Copying as CopyingPhase, Trimming as TrimmingPhase, Scraping as ScrapingPhase, Retrying as RetryingPhase};
+ghost use Rattle.rescue_core.specs.RunState.{setting_in, HasPlaces};
+ghost use Rattle.rescue_core.specs.Closing.{drafting_after};
+ghost use Rattle.copy_passes.specs.Turns.{Went, WentUpTo};
+ghost use Rattle.trim_scrape.specs.Behind.{IsBehind};
+ghost use Rattle.trim_scrape.specs.Passing.{GoesOn, IsBefore, IsDone, IsPassOf};
+
+use block_list::tiles::Tiles;
+use crash_site::site::Site;
+use faulty_source::source::Source;
+use rescue_console::clock::Clock;
+use rescue_console::console::Console;
+use rescue_core::phases::{Finished, Rescue, Retrying, Scraping, Stage, Stopped, Trimming};
+use rescue_rules::phase::Phase;
+use rescue_rules::stop::Stop;
+
+/// Goes on to the next pass, and takes turns until that has no request left.
+fn run_pass<P: Stage, S: Source, D: Site, K: Clock, C: Console, T: Tiles>(
+    rescue: &mut Rescue<P, T>,
+    phase: Phase,
+    pass: u32,
+    source: &mut S,
+    site: &mut D,
+    clock: &mut K,
+    console: &mut C,
+) -> Result<(), Stop>
+    requires before { IsBefore phase pass rescue.old }
+    requires there { IsPassOf (setting_in rescue.old) phase pass }
+    requires places { HasPlaces rescue.old.settings (covers rescue.old.domain) }
+    requires input { (S.state source.old).is_open ≡ true }
+    requires image { (D.state site.old).is_open ≡ true }
+    requires no_draft { (D.state site.old).is_drafting ≡ false }
+    ensures goes { OnOk result (GoesOn rescue.old rescue.new (record {
+      source = S.state source.old;
+      source' = S.state source.new;
+      site = D.state site.old;
+      site' = D.state site.new;
+      clock = K.state clock.old;
+      clock' = K.state clock.new;
+    })) }
+    ensures before { OnOk result (IsBefore phase (pass + 1) rescue.new) }
+    ensures done { OnOk result (IsDone phase rescue.new) }
+    ensures halted { IfErr result (λ stop. WentUpTo stop rescue.old rescue.new (record {
+      source = S.state source.old;
+      source' = S.state source.new;
+      site = D.state site.old;
+      site' = D.state site.new;
+      clock = K.state clock.old;
+      clock' = K.state clock.new;
+    })) }
+    ensures draft_left { IfErr result (λ stop. (D.state site.new).is_drafting ≡ drafting_after stop) }
+    ensures image { (D.state site.new).is_open ≡ true }
+    ensures source { SourceStays (S.state source.old) (S.state source.new) }
+    ensures site { SiteKeeps (D.state site.old) (D.state site.new) }
+    ensures clock { ClockKeeps (K.state clock.old) (K.state clock.new) }
+    ensures console { C.state console.new ≡ C.state console.old }
+{
+    rescue.begin_pass(phase, pass);
+    'turns: while let Some(request) = rescue.next_request() {
+        rescue.turn(request, source, site, clock, console)?;
+    }
+    Ok(())
+}
+
+/// Trims: finds the edges of what copying missed, unless that is off. Each non-trimmed run is read from its front, a sector
+/// at a time, up to a failure, and then from its back; what lies between the two is left for scraping.
+pub fn run_trimming<S: Source, D: Site, K: Clock, C: Console, T: Tiles>(
+    rescue: Rescue<Trimming, T>,
+    source: &mut S,
+    site: &mut D,
+    clock: &mut K,
+    console: &mut C,
+) -> Result<Rescue<Scraping, T>, Stopped<T>>
+    requires behind { IsBehind CopyingPhase rescue }
+    requires places { HasPlaces rescue.settings (covers rescue.domain) }
+    requires input { (S.state source.old).is_open ≡ true }
+    requires image { (D.state site.old).is_open ≡ true }
+    requires no_draft { (D.state site.old).is_drafting ≡ false }
+    ensures went { IfOk result (λ r. Went rescue r (record {
+      source = S.state source.old;
+      source' = S.state source.new;
+      site = D.state site.old;
+      site' = D.state site.new;
+      clock = K.state clock.old;
+      clock' = K.state clock.new;
+    })) }
+    ensures behind { IfOk result (λ r. IsBehind TrimmingPhase r) }
+    ensures halted { IfErr result (λ s. WentUpTo s.stop rescue s.run (record {
+      source = S.state source.old;
+      source' = S.state source.new;
+      site = D.state site.old;
+      site' = D.state site.new;
+      clock = K.state clock.old;
+      clock' = K.state clock.new;
+    })) }
+    ensures draft { OnOk result ((D.state site.new).is_drafting ≡ false) }
+    ensures draft_left { IfErr result (λ s. (D.state site.new).is_drafting ≡ drafting_after s.stop) }
+    ensures image { (D.state site.new).is_open ≡ true }
+    ensures source { SourceStays (S.state source.old) (S.state source.new) }
+    ensures site { SiteKeeps (D.state site.old) (D.state site.new) }
+    ensures clock { ClockKeeps (K.state clock.old) (K.state clock.new) }
+    ensures console { C.state console.new ≡ C.state console.old }
+{
+    let mut rescue = rescue;
+    if rescue.settings().no_trim {
+        return Ok(rescue.end_trimming());
+    }
+    match run_pass(
+        &mut rescue,
+        Phase::Trimming,
+        1,
+        source,
+        site,
+        clock,
+        console,
+    ) {
+        Ok(()) => Ok(rescue.end_trimming()),
+        Err(stop) => Err(rescue.stopped(stop)),
+    }
+}
+
+/// Scrapes: reads what trimming left, a sector at a time, unless that is off.
+pub fn run_scraping<S: Source, D: Site, K: Clock, C: Console, T: Tiles>(
+    rescue: Rescue<Scraping, T>,
+    source: &mut S,
+    site: &mut D,
+    clock: &mut K,
+    console: &mut C,
+) -> Result<Rescue<Retrying, T>, Stopped<T>>
+    requires behind { IsBehind TrimmingPhase rescue }
+    requires places { HasPlaces rescue.settings (covers rescue.domain) }
+    requires input { (S.state source.old).is_open ≡ true }
+    requires image { (D.state site.old).is_open ≡ true }
+    requires no_draft { (D.state site.old).is_drafting ≡ false }
+    ensures went { IfOk result (λ r. Went rescue r (record {
+      source = S.state source.old;
+      source' = S.state source.new;
+      site = D.state site.old;
+      site' = D.state site.new;
+      clock = K.state clock.old;
+      clock' = K.state clock.new;
+    })) }
+    ensures behind { IfOk result (λ r. IsBehind ScrapingPhase r) }
+    ensures halted { IfErr result (λ s. WentUpTo s.stop rescue s.run (record {
+      source = S.state source.old;
+      source' = S.state source.new;
+      site = D.state site.old;
+      site' = D.state site.new;
+      clock = K.state clock.old;
+      clock' = K.state clock.new;
+    })) }
+    ensures draft { OnOk result ((D.state site.new).is_drafting ≡ false) }
+    ensures draft_left { IfErr result (λ s. (D.state site.new).is_drafting ≡ drafting_after s.stop) }
+    ensures image { (D.state site.new).is_open ≡ true }
+    ensures source { SourceStays (S.state source.old) (S.state source.new) }
+    ensures site { SiteKeeps (D.state site.old) (D.state site.new) }
+    ensures clock { ClockKeeps (K.state clock.old) (K.state clock.new) }
+    ensures console { C.state console.new ≡ C.state console.old }
+{
+    let mut rescue = rescue;
+    if rescue.settings().no_scrape {
+        return Ok(rescue.end_scraping());
+    }
+    match run_pass(
+        &mut rescue,
+        Phase::Scraping,
+        1,
+        source,
+        site,
+        clock,
+        console,
+    ) {
+        Ok(()) => Ok(rescue.end_scraping()),
+        Err(stop) => Err(rescue.stopped(stop)),
+    }
+}
+
+/// Runs each pass of retrying.
+fn run_retries<S: Source, D: Site, K: Clock, C: Console, T: Tiles>(
+    rescue: &mut Rescue<Retrying, T>,
+    source: &mut S,
+    site: &mut D,
+    clock: &mut K,
+    console: &mut C,
+) -> Result<(), Stop>
+    requires behind { IsBehind ScrapingPhase rescue.old }
+    requires places { HasPlaces rescue.old.settings (covers rescue.old.domain) }
+    requires input { (S.state source.old).is_open ≡ true }
+    requires image { (D.state site.old).is_open ≡ true }
+    requires no_draft { (D.state site.old).is_drafting ≡ false }
+    ensures goes { OnOk result (GoesOn rescue.old rescue.new (record {
+      source = S.state source.old;
+      source' = S.state source.new;
+      site = D.state site.old;
+      site' = D.state site.new;
+      clock = K.state clock.old;
+      clock' = K.state clock.new;
+    })) }
+    ensures behind { OnOk result (IsBehind RetryingPhase rescue.new) }
+    ensures halted { IfErr result (λ stop. WentUpTo stop rescue.old rescue.new (record {
+      source = S.state source.old;
+      source' = S.state source.new;
+      site = D.state site.old;
+      site' = D.state site.new;
+      clock = K.state clock.old;
+      clock' = K.state clock.new;
+    })) }
+    ensures draft_left { IfErr result (λ stop. (D.state site.new).is_drafting ≡ drafting_after stop) }
+    ensures image { (D.state site.new).is_open ≡ true }
+    ensures source { SourceStays (S.state source.old) (S.state source.new) }
+    ensures site { SiteKeeps (D.state site.old) (D.state site.new) }
+    ensures clock { ClockKeeps (K.state clock.old) (K.state clock.new) }
+    ensures console { C.state console.new ≡ C.state console.old }
+{
+    'passes: for pass in 1..=rescue.settings().retries {
+        run_pass(rescue, Phase::Retrying, pass, source, site, clock, console)?;
+    }
+    Ok(())
+}
+
+/// Retries: reads the bad sectors again, in as many passes as were asked for.
+pub fn run_retrying<S: Source, D: Site, K: Clock, C: Console, T: Tiles>(
+    rescue: Rescue<Retrying, T>,
+    source: &mut S,
+    site: &mut D,
+    clock: &mut K,
+    console: &mut C,
+) -> Result<Rescue<Finished, T>, Stopped<T>>
+    requires behind { IsBehind ScrapingPhase rescue }
+    requires places { HasPlaces rescue.settings (covers rescue.domain) }
+    requires input { (S.state source.old).is_open ≡ true }
+    requires image { (D.state site.old).is_open ≡ true }
+    requires no_draft { (D.state site.old).is_drafting ≡ false }
+    ensures went { IfOk result (λ r. Went rescue r (record {
+      source = S.state source.old;
+      source' = S.state source.new;
+      site = D.state site.old;
+      site' = D.state site.new;
+      clock = K.state clock.old;
+      clock' = K.state clock.new;
+    })) }
+    ensures behind { IfOk result (λ r. IsBehind RetryingPhase r) }
+    ensures halted { IfErr result (λ s. WentUpTo s.stop rescue s.run (record {
+      source = S.state source.old;
+      source' = S.state source.new;
+      site = D.state site.old;
+      site' = D.state site.new;
+      clock = K.state clock.old;
+      clock' = K.state clock.new;
+    })) }
+    ensures draft { OnOk result ((D.state site.new).is_drafting ≡ false) }
+    ensures draft_left { IfErr result (λ s. (D.state site.new).is_drafting ≡ drafting_after s.stop) }
+    ensures image { (D.state site.new).is_open ≡ true }
+    ensures source { SourceStays (S.state source.old) (S.state source.new) }
+    ensures site { SiteKeeps (D.state site.old) (D.state site.new) }
+    ensures clock { ClockKeeps (K.state clock.old) (K.state clock.new) }
+    ensures console { C.state console.new ≡ C.state console.old }
+{
+    let mut rescue = rescue;
+    match run_retries(&mut rescue, source, site, clock, console) {
+        Ok(()) => Ok(rescue.end_retrying()),
+        Err(stop) => Err(rescue.stopped(stop)),
+    }
+}
