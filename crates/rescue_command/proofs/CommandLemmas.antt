@@ -1,17 +1,18 @@
 -- What a reading asks for is what its words ask for, and nothing else.
-use Rattle.std.proofs.Common.{◌≡◌, ◌⊎◌, inl, inr, ℕ, true, false, List, [], ◌∷◌, Option, Some, None, Result, Ok, Err, refl, sym, ◌∙◌, ap}
+use Rattle.std.proofs.Common.{◌≡◌, ◌⊎◌, inl, inr, ℕ, ◌<◌, ◌≤◌, Bool, true, false, cond, nat_lt, List, [], ◌∷◌, Option, Some, None, Result, Ok, Err, IfSome, refl, sym, ◌∙◌, ap, subst, arith}
+use Rattle.std.proofs.lemmas.Bool.Decides.{nat_tests}
 use Rattle.option_words.specs.Words.{word}
 use Rattle.option_words.specs.declared.row.Row.{Row}
 use Rattle.option_words.specs.declared.reading.Item.{Item}
 use Rattle.option_words.specs.declared.fault.WordFault.{WordFault}
 use Rattle.option_words.specs.declared.fault.WordFault.TheVariants.{UnknownShort, UnknownLong, Ambiguous, MissingValue, UnwantedValue, NoMemory}
 use Rattle.option_words.specs.declared.fault.UsageFault.{UsageFault}
-use Rattle.option_words.specs.declared.fault.UsageFault.TheVariants.{Word}
+use Rattle.option_words.specs.declared.fault.UsageFault.TheVariants.{Word, BadValue}
 use Rattle.option_words.specs.Reading.{IsReading, WordFaultAt}
 use Rattle.rescue_command.specs.declared.options.Options.{Options}
-use Rattle.rescue_command.specs.Options.{options_in, has_quiet}
-use Rattle.rescue_command.specs.Command.{Command, AreOptions, Asks, AreRefused, Unread, Wrong, AskQuiet, IsAsked, IsRefusal, IsErrorOf, command_with, command_by, command_in, empty_operand, unless_empty, unread_error}
-use Rattle.rescue_command.proofs.OptionLemmas.{options_keep}
+use Rattle.rescue_command.specs.Options.{cluster_limit, cluster_of, cluster_row, has_quiet, last_of, options_in, sectors_of, word_in}
+use Rattle.rescue_command.specs.Command.{Command, AreInLimits, AreOptions, Asks, AreRefused, Unread, Wrong, AskQuiet, IsAsked, IsRefusal, IsErrorOf, command_with, command_by, command_in, empty_operand, is_too_large, unless_empty, unread_error}
+use Rattle.rescue_command.proofs.OptionLemmas.{AreInRange, options_keep}
 use Rattle.rescue_command.proofs.MeaningLemmas.{no_both, one_command, asked_or_refused, quiet_by_reading}
 
 abbrev told : Command → Result Command UsageFault
@@ -23,10 +24,8 @@ same_options c c' e = let same : c ≡ c' = cc in ap (λ (x : Command). x.option
 with_options : (words : List (List ℕ)) (o : Options) (os : List ℕ) (c : Command) → command_with words o os ≡ told c → c.options ≡ o
 with_options words o [] c e = absurd (cc)
 with_options words o (i ∷ []) c e = absurd (cc)
-with_options words o (i ∷ out ∷ []) c e =
-    same_options (record { infile = word words i; outfile = word words out; mapfile = None; options = o }) c e
-with_options words o (i ∷ out ∷ map ∷ []) c e =
-    same_options (record { infile = word words i; outfile = word words out; mapfile = Some (word words map); options = o }) c e
+with_options words o (i ∷ out ∷ []) c e = same_options _ c e
+with_options words o (i ∷ out ∷ map ∷ []) c e = same_options _ c e
 with_options words o (i ∷ out ∷ map ∷ n ∷ more) c e = absurd (cc)
 
 unless_part : (n : Option ℕ) (r : Result Command UsageFault) (c : Command) → unless_empty n r ≡ told c → r ≡ told c
@@ -35,24 +34,58 @@ unless_part (Some n) (Ok c') c e = absurd (cc)
 unless_part None (Err f) c e = absurd (cc)
 unless_part (Some n) (Err f) c e = absurd (cc)
 
-options_by : (words : List (List ℕ)) (r : Result Options ℕ) (os : List ℕ) (c : Command) → command_by words r os ≡ told c → r ≡ Ok c.options
-options_by words (Err n) os c e = absurd (cc)
-options_by words (Ok o) os c e =
-    let same : c.options ≡ o = with_options words o os c (unless_part (empty_operand words os) (command_with words o os) c e) in
-    ap (λ (x : Options). Ok x) (sym same)
+-- options that are accepted give no cluster that is too large
+record AreAccepted (r : Result Options ℕ) (o : Options) : Type 0 where
+  read : r ≡ Ok o
+  small : is_too_large o ≡ false
+
+small_part : (b : Bool) (f : UsageFault) (r : Result Command UsageFault) (c : Command) → cond b (Err f) r ≡ told c
+    → (b ≡ false) × (r ≡ told c)
+small_part true f r c e = absurd (cc)
+small_part false f r c e = (refl, e)
+
+options_by : (words : List (List ℕ)) (items : List Item) (r : Result Options ℕ) (os : List ℕ) (c : Command)
+    → command_by words items r os ≡ told c → AreAccepted r c.options
+options_by words items (Err n) os c e = absurd (cc)
+options_by words items (Ok o) os c e =
+    let p = small_part (is_too_large o) (BadValue (word_in (last_of cluster_row items)))
+    (unless_empty (empty_operand words os) (command_with words o os)) c e in
+    let same : c.options ≡ o = with_options words o os c (unless_part (empty_operand words os) (command_with words o os) c p.1) in
+    subst (AreAccepted (Ok o)) (sym same) (record { read = refl; small = p.0 })
+
+some_sectors : (o : Options) (n : Option ℕ) → IfSome n (λ k. 0 < k) → 0 < sectors_of o n
+some_sectors o None h = omega arith
+some_sectors o (Some k) h = h
+
+not_above : (m n : ℕ) → nat_lt m n ≡ false → n ≤ m
+not_above m n e = grind (arith, nat_tests)
+
+in_limits : (o : Options) → AreInRange o → is_too_large o ≡ false → AreInLimits o
+in_limits o h e = record {
+  sector = h.sector.low;
+  sector_max = h.sector.high;
+  sectors = some_sectors o o.cluster_sectors h.cluster;
+  cluster_max = not_above cluster_limit (cluster_of o) e;
+  skip = h.skips.order;
+  skip_max = h.skips.below;
+  input_position = h.input;
+  output_position = h.output;
+  retries = h.retries;
+}
 
 pub reading_asks : (words : List (List ℕ)) (rows : List Row) (is : List Item) (os : List ℕ) (c : Command) → AreOptions rows
     → IsReading rows words is os → command_in words is os ≡ Ok c → IsAsked words c
 reading_asks words rows is os c o r e =
     let asks : Asks words c = record { rows = rows; options = o; items = is; operands = os; reading = r; is = e } in
-    let keeps = options_keep words is c.options (options_by words (options_in words is) os c e) in
+    let accepted = options_by words is (options_in words is) os c e in
+    let keeps = options_keep words is c.options accepted.read in
     let quiet = keeps.1 in
     let by = quiet_by_reading words rows is os o r in
     record {
       asks = asks;
       alone = λ other p. one_command words other c p asks;
       accepted = λ fault q. asked_or_refused words c fault asks q;
-      sound = keeps.0;
+      limits = in_limits c.options keeps.0 accepted.small;
       quiet = (λ p. quiet ∙ by.0 p, λ t. by.1 (sym quiet ∙ t));
     }
 

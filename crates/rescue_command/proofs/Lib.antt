@@ -1,3 +1,5 @@
 pub mod CommandLemmas
 pub mod MeaningLemmas
 pub mod OptionLemmas
+pub mod SizeLemmas
+pub mod SkipLemmas

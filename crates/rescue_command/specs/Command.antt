@@ -1,5 +1,5 @@
 -- What the words of a rescue ask for, or why they are refused.
-use Rattle.std.specs.Prelude.{◌≡◌, ◌↔◌, ⊤, ℕ, ◌^◌, ◌<◌, ◌≤◌, Bool, true, false, List, [], ◌∷◌, length, map, find, nat_eq, Option, Some, None, Result, Ok, Err, IfSome, option_map}
+use Rattle.std.specs.Prelude.{◌≡◌, ◌↔◌, ⊤, ℕ, ◌^◌, ◌<◌, ◌≤◌, Bool, true, false, List, [], ◌∷◌, length, map, find, nat_eq, nat_lt, Option, Some, None, Result, Ok, Err, IfSome, option_map, if◌then◌else◌}
 use Rattle.option_words.specs.Words.{word}
 use Rattle.option_words.specs.Rows.{meaning_of_row}
 use Rattle.option_words.specs.Reading.{IsReading, WordFaultAt}
@@ -14,7 +14,7 @@ use Rattle.rescue_command.specs.declared.command.Command.{Command as CommandCode
 use Rattle.rescue_command.specs.declared.command.CommandError.{CommandError}
 use Rattle.rescue_command.specs.declared.command.CommandError.TheVariants.{Usage, NoMemory}
 use Rattle.option_words.specs.declared.row.Row.{Row}
-use Rattle.rescue_command.specs.Options.{option_meanings, options_in, has_quiet}
+use Rattle.rescue_command.specs.Options.{cluster_limit, cluster_of, cluster_row, has_quiet, in_sectors, last_of, option_meanings, options_in, sectors_of, word_in}
 
 -- the names of the infile, the outfile and, if there is one, the mapfile; and what the options say
 pub record Command : Type 0 where
@@ -52,13 +52,19 @@ unless_empty o (Err fault) = Err fault
 unless_empty None (Ok c) = Ok c
 unless_empty (Some n) (Ok c) = Err (BadValue n)
 
--- what a reading of the words asks for, or its first fault: a bad value, then the operands
-abbrev pub command_by : List (List ℕ) → Result Options ℕ → (operands : List ℕ) → Result Command UsageFault
-command_by words (Err n) operands = Err (BadValue n)
-command_by words (Ok o) operands = unless_empty (empty_operand words operands) (command_with words o operands)
+-- options that give a cluster that is too large
+abbrev pub is_too_large : Options → Bool
+is_too_large o = nat_lt cluster_limit (cluster_of o)
+
+-- What a reading of the words asks for, or its first fault: a bad value, then a cluster that is too large, then the operands.
+abbrev pub command_by : List (List ℕ) → List Item → Result Options ℕ → (operands : List ℕ) → Result Command UsageFault
+command_by words items (Err n) operands = Err (BadValue n)
+command_by words items (Ok o) operands =
+    if is_too_large o then Err (BadValue (word_in (last_of cluster_row items)))
+    else unless_empty (empty_operand words operands) (command_with words o operands)
 
 abbrev pub command_in : List (List ℕ) → List Item → (operands : List ℕ) → Result Command UsageFault
-command_in words items operands = command_by words (options_in words items) operands
+command_in words items operands = command_by words items (options_in words items) operands
 
 -- the same of a reading that the code has
 abbrev pub command_read : List (List ℕ) → Reading → Result Command UsageFault
@@ -108,18 +114,23 @@ pub record IsWord (words : List (List ℕ)) (n : ℕ) : Type 0 where
   pub within : n ≤ length words
 
 -- options within their limits
-pub record IsSound (o : Options) : Type 0 where
+pub record AreInLimits (o : Options) : Type 0 where
   pub sector : 0 < o.sector
   pub sector_max : o.sector ≤ 1048576
+  pub sectors : 0 < sectors_of o o.cluster_sectors
+  pub cluster_max : cluster_of o ≤ cluster_limit
+  pub skip : o.skip ≤ o.skip_max
+  pub skip_max : in_sectors o o.skip_max < 2 ^ 63
   pub input_position : o.input_position < 2 ^ 63
   pub output_position : IfSome o.output_position (λ n. n < 2 ^ 63)
+  pub retries : o.retries ≤ 65535
 
 -- this is what the words ask for, and nothing else; with options within their limits
 pub record IsAsked (words : List (List ℕ)) (c : Command) : Type 0 where
   pub asks : Asks words c
   pub alone : (other : Command) → Asks words other → other ≡ c
   pub accepted : (fault : UsageFault) → AreRefused words fault → ⊥
-  pub sound : IsSound c.options
+  pub limits : AreInLimits c.options
   pub quiet : AskQuiet words ↔ (c.options.quiet ≡ true)
 
 -- they are refused for this fault, and ask for nothing

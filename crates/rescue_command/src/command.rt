@@ -1,10 +1,12 @@
 //! What the words of a command line ask for.
-ghost use Rattle.std.specs.Prelude.{◌≡◌, All, Ok, Err, IfOk, IfErr};
+ghost use Rattle.std.specs.Prelude.{◌≡◌, ◌<◌, ◌≤◌, All, Ok, Err, IfOk, IfErr, IfSome};
 ghost use Rattle.option_words.specs.Spots.{HasSpot};
-ghost use Rattle.rescue_command.specs.Options.{no_options, text_at, word_at, with_item, with_sector_item, set_in_turn, options_in, has_quiet};
-ghost use Rattle.rescue_command.specs.Command.{IsAsked, IsErrorOf, IsSound, IsWord, command_read, command_with, empty_operand, told_by, unread_error};
+ghost use Rattle.rescue_command.specs.Options.{has_quiet, last_of, no_options, options_in, set_in_turn, text_at, with_item, with_sector_item, word_at};
+ghost use Rattle.rescue_command.specs.Command.{IsAsked, IsErrorOf, IsWord, command_read, command_with, empty_operand, told_by, unread_error};
 
-use crate::options::{Options, QUIET, SECTOR_SIZE, option_table, read_sector, with_row};
+use crate::options::{
+    CLUSTER_SIZE, Options, QUIET, SECTOR_SIZE, option_table, read_sector, with_row,
+};
 use option_words::fault::{UsageFault, WordFault};
 use option_words::reader::read_words;
 use option_words::reading::{Item, Reading};
@@ -59,7 +61,8 @@ fn set_sector(words: &Words, options: Options, item: &Item) -> Result<Options, u
 /// What one option sets where the sector is known, or the word of its bad value.
 fn set_other(words: &Words, options: Options, item: &Item) -> Result<Options, usize>
     requires spot { HasSpot words.now item.now }
-    requires sound { IsSound options }
+    requires low { 0 < options.sector }
+    requires high { options.sector ≤ 1048576 }
     ensures { result ≡ with_item words.now options item.now }
 {
     let (word, text) = value_of(words, item);
@@ -81,7 +84,8 @@ fn set_sectors(words: &Words, items: &[Item]) -> Result<Options, usize>
 /// What all others set then.
 fn set_others(words: &Words, items: &[Item], sector: Options) -> Result<Options, usize>
     requires spots { All (HasSpot words.now) items.now }
-    requires sound { IsSound sector }
+    requires low { 0 < sector.sector }
+    requires high { sector.sector ≤ 1048576 }
     ensures { result ≡ set_in_turn (with_item words.now) (Ok sector) items.now }
 {
     let mut options = sector;
@@ -98,6 +102,21 @@ fn read_options(words: &Words, items: &[Item]) -> Result<Options, usize>
 {
     let options = set_sectors(words, items)?;
     set_others(words, items, options)
+}
+
+/// The last option of a row.
+fn last_of(words: &Words, items: &[Item], row: usize) -> Option<Item>
+    requires { All (HasSpot words.now) items.now }
+    ensures last { result ≡ last_of row items.now }
+    ensures spot { IfSome result (HasSpot words.now) }
+{
+    let mut last = None;
+    for item in items {
+        if item.row == row {
+            last = Some(*item);
+        }
+    }
+    last
 }
 
 /// The first operand that is empty.
@@ -151,6 +170,10 @@ fn command_of<'a>(words: &'a Words, reading: &Reading) -> Result<Command<'a>, Us
         Ok(options) => options,
         Err(word) => return Err(UsageFault::BadValue { word }),
     };
+    if options.is_too_large() {
+        let word = last_of(words, &reading.items, CLUSTER_SIZE).map_or(0, |item| item.word);
+        return Err(UsageFault::BadValue { word });
+    }
     let command = name_files(words, &reading.operands, options)?;
     if let Some(word) = find_empty(words, &reading.operands) {
         return Err(UsageFault::BadValue { word });
@@ -179,8 +202,8 @@ fn unread(fault: WordFault) -> CommandError
 }
 
 /// Reads the words of a command line: `[options] infile outfile [mapfile]`. The words themselves come first, then the
-/// values of the options in the order of the words, those of `-b` before all others, then the number of operands and
-/// whether one is empty.
+/// values of the options in the order of the words, those of `-b` before all others, then the size of a cluster in bytes,
+/// then the number of operands and whether one is empty.
 pub fn read_command(alloc: Global, words: &Words) -> Result<Command<'_>, CommandError>
     ensures asked { IfOk result (λ c. IsAsked words.now (told_by c)) }
     ensures refused { IfErr result (λ e. IsErrorOf words.now e) }

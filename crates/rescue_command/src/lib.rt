@@ -4,5 +4,6 @@
 pub mod command;
 pub mod laws;
 pub mod options;
+mod skips;
 #[cfg(test)]
 mod tests;

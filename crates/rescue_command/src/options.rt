@@ -1,10 +1,14 @@
 //! The options of a rescue, as its manual has them.
-ghost use Rattle.std.specs.Prelude.{◌≡◌, ◌<◌, ◌≤◌, IfSome};
-ghost use Rattle.rescue_command.specs.Options.{no_options, sector_of, with_row};
-ghost use Rattle.rescue_command.specs.Command.{AreOptions};
+ghost use Rattle.std.specs.Prelude.{◌≡◌, ◌^◌, ◌<◌, ◌≤◌, option_and_then};
+ghost use Rattle.std.specs.Result.{result_ok};
+ghost use Rattle.size_suffixes.specs.Number.{number};
+ghost use Rattle.rescue_command.specs.Options.{cluster_of, in_sectors, no_options, sector_of, sectors_of, size_by, with_row, within_range};
+ghost use Rattle.rescue_command.specs.Command.{AreInLimits, AreOptions, is_too_large};
 
+use crate::skips::{DEFAULT_SKIP, DEFAULT_SKIP_MAX, in_sectors, read_skips};
 use option_words::row::{Row, Takes};
 use option_words::table::OptionTable;
+use size_suffixes::number::read_number;
 use size_suffixes::size::read_size;
 
 /// The size of a sector in bytes, where no option gives it.
@@ -13,17 +17,47 @@ const DEFAULT_SECTOR: u64 = 512;
 /// The largest sector in bytes.
 const MOST_SECTOR: u64 = 1_048_576;
 
+/// The size of a cluster in bytes, where no option gives it and no sector is larger.
+const DEFAULT_CLUSTER: u64 = 65_536;
+
+/// The most sectors of a cluster.
+const MOST_CLUSTER_SECTORS: u64 = 65_536;
+
+/// The largest cluster in bytes.
+const MOST_CLUSTER: u64 = 16_777_216;
+
+/// The most passes of retrying.
+const MOST_RETRIES: u64 = 65_535;
+
 /// The row of `-b` in the table.
-pub(crate) const SECTOR_SIZE: usize = 0;
+pub(crate) const SECTOR_SIZE: usize = 2;
+
+/// The row of `-c`.
+pub(crate) const CLUSTER_SIZE: usize = 3;
 
 /// The row of `-q`.
-pub(crate) const QUIET: usize = 4;
+pub(crate) const QUIET: usize = 11;
 
 /// The options. A later one is a row here and an arm in `with_row`.
-pub static ROWS: [Row; 6] = [
+pub static ROWS: [Row; 16] = [
+    Row {
+        short: Some('a'),
+        long: "min-read-rate",
+        takes: Takes::Always,
+    },
+    Row {
+        short: Some('A'),
+        long: "try-again",
+        takes: Takes::Never,
+    },
     Row {
         short: Some('b'),
         long: "sector-size",
+        takes: Takes::Always,
+    },
+    Row {
+        short: Some('c'),
+        long: "cluster-size",
         takes: Takes::Always,
     },
     Row {
@@ -37,6 +71,26 @@ pub static ROWS: [Row; 6] = [
         takes: Takes::Always,
     },
     Row {
+        short: Some('K'),
+        long: "skip-size",
+        takes: Takes::Always,
+    },
+    Row {
+        short: Some('M'),
+        long: "retrim",
+        takes: Takes::Never,
+    },
+    Row {
+        short: Some('n'),
+        long: "no-scrape",
+        takes: Takes::Never,
+    },
+    Row {
+        short: Some('N'),
+        long: "no-trim",
+        takes: Takes::Never,
+    },
+    Row {
         short: Some('o'),
         long: "output-position",
         takes: Takes::Always,
@@ -47,26 +101,65 @@ pub static ROWS: [Row; 6] = [
         takes: Takes::Never,
     },
     Row {
+        short: Some('r'),
+        long: "retry-passes",
+        takes: Takes::Always,
+    },
+    Row {
+        short: Some('R'),
+        long: "reverse",
+        takes: Takes::Never,
+    },
+    Row {
         short: Some('s'),
         long: "size",
         takes: Takes::Always,
+    },
+    Row {
+        short: Some('u'),
+        long: "unidirectional",
+        takes: Takes::Never,
     },
 ];
 
 /// What the options of a command line ask for.
 #[derive(Clone, Copy, Debug, PartialEq, Eq)]
 pub struct Options {
-    /// The size of a sector in bytes.
+    /// The size of a sector in bytes; 512 if it isn't given.
     pub sector: u64,
-    /// Where the rescue begins in the infile, in bytes.
+    /// The size of a cluster in sectors; if it isn't given, as many as 65,536 bytes have, but one at least.
+    pub cluster_sectors: Option<u64>,
+    /// How far copying skips at first behind a failed or slow read, in bytes and not yet rounded up to whole sectors;
+    /// 64 KiB if it isn't given, or the largest skip if that is less.
+    pub skip: u64,
+    /// How far it skips at most, in bytes and not yet rounded up to whole sectors; 1 GiB if it isn't given, or the first
+    /// skip if that is more.
+    pub skip_max: u64,
+    /// Below how many bytes a second a read of copying is slow; 0 if it isn't given, and then none is.
+    pub min_rate: u64,
+    /// Where the rescue begins in the infile, in bytes; 0 if it isn't given.
     pub input_position: u64,
-    /// Where it begins in the outfile, in bytes; as in the infile, if it isn't given.
+    /// Where it begins in the outfile, in bytes; as in the infile if it isn't given.
     pub output_position: Option<u64>,
-    /// How many bytes are rescued at most.
+    /// How many bytes are rescued at most; no limit if it isn't given.
     pub size: Option<u64>,
-    /// The outfile may be something else than a regular file.
+    /// How many passes go over the bad sectors again; 0 if it isn't given.
+    pub retries: u32,
+    /// What the mapfile leaves to trim or to scrape is copied again; by default it isn't.
+    pub try_again: bool,
+    /// What the mapfile calls failed is trimmed again; by default it isn't.
+    pub retrim: bool,
+    /// Nothing is trimmed; by default it is.
+    pub no_trim: bool,
+    /// Nothing is scraped; by default it is.
+    pub no_scrape: bool,
+    /// Each pass goes in the other direction; by default copying begins forwards.
+    pub reverse: bool,
+    /// All passes go in one direction; by default copying turns round behind each.
+    pub unidirectional: bool,
+    /// The outfile may be something else than a regular file; by default it may not.
     pub forced: bool,
-    /// Nothing is put on the console.
+    /// Nothing is put on the console; by default it is.
     pub quiet: bool,
 }
 
@@ -77,12 +170,66 @@ impl Options {
     {
         Options {
             sector: DEFAULT_SECTOR,
+            cluster_sectors: None,
+            skip: DEFAULT_SKIP,
+            skip_max: DEFAULT_SKIP_MAX,
+            min_rate: 0,
             input_position: 0,
             output_position: None,
             size: None,
+            retries: 0,
+            try_again: false,
+            retrim: false,
+            no_trim: false,
+            no_scrape: false,
+            reverse: false,
+            unidirectional: false,
             forced: false,
             quiet: false,
         }
+    }
+
+    /// The sectors of a cluster.
+    fn sectors(&self) -> u64
+        requires { 0 < self.now.sector }
+        ensures { result ≡ sectors_of self.now self.now.cluster_sectors }
+    {
+        match self.cluster_sectors {
+            Some(sectors) => sectors,
+            None => (DEFAULT_CLUSTER / self.sector).max(1),
+        }
+    }
+
+    /// Whether a cluster is too large.
+    pub(crate) fn is_too_large(&self) -> bool
+        requires { 0 < self.now.sector }
+        ensures { result ≡ is_too_large self.now }
+    {
+        self.sectors().saturating_mul(self.sector) > MOST_CLUSTER
+    }
+
+    /// The size of a cluster in bytes.
+    pub fn cluster(&self) -> u64
+        requires { AreInLimits self.now }
+        ensures { result ≡ cluster_of self.now }
+    {
+        self.sectors() * self.sector
+    }
+
+    /// How far copying skips at first, in bytes.
+    pub fn first_skip(&self) -> u64
+        requires { AreInLimits self.now }
+        ensures { result ≡ in_sectors self.now self.now.skip }
+    {
+        in_sectors(self.skip, self.sector)
+    }
+
+    /// How far it skips at most, in bytes.
+    pub fn largest_skip(&self) -> u64
+        requires { AreInLimits self.now }
+        ensures { result ≡ in_sectors self.now self.now.skip_max }
+    {
+        in_sectors(self.skip_max, self.sector)
     }
 }
 
@@ -96,24 +243,63 @@ pub(crate) fn option_table() -> OptionTable
     }
 }
 
-/// The size of a sector that a text gives, if it does.
-pub(crate) fn read_sector(text: &str) -> Option<u64>
-    ensures { result ≡ sector_of text.now }
+/// A number, if it is within a range.
+fn within_range(number: u64, least: u64, most: u64) -> Option<u64>
+    ensures { result ≡ within_range least most number }
 {
-    let sector = read_size(text, DEFAULT_SECTOR).ok()?;
-    if 1 <= sector && sector <= MOST_SECTOR {
-        Some(sector)
+    if least <= number && number <= most {
+        Some(number)
     } else {
         None
     }
 }
 
-/// Writes the arms of a `match` over the rows: each sets one field, but that of the sector, which is set before.
+/// The size of a sector that a text gives, if it does.
+pub(crate) fn read_sector(text: &str) -> Option<u64>
+    ensures { result ≡ sector_of text.now }
+{
+    let sector = read_size(text, DEFAULT_SECTOR).ok()?;
+    within_range(sector, 1, MOST_SECTOR)
+}
+
+/// The least rate that a text gives, if it does.
+fn read_min_rate(options: &Options, text: &str) -> Option<u64>
+    requires low { 0 < options.now.sector }
+    requires high { options.now.sector ≤ 1048576 }
+    ensures { result ≡ option_and_then (within_range 1 (2 ^ 63)) (size_by options.now text.now) }
+{
+    let rate = read_size(text, options.sector).ok()?;
+    within_range(rate, 1, 1 << 63)
+}
+
+/// The sectors of a cluster that a text gives, if it does.
+fn read_cluster_sectors(options: &Options, text: &str) -> Option<u64>
+    requires low { 0 < options.now.sector }
+    requires high { options.now.sector ≤ 1048576 }
+    ensures { result ≡ option_and_then (within_range 1 65536) (size_by options.now text.now) }
+{
+    let sectors = read_size(text, options.sector).ok()?;
+    within_range(sectors, 1, MOST_CLUSTER_SECTORS)
+}
+
+/// The passes of retrying that a text gives, if it does.
+fn read_retries(text: &str) -> Option<u32>
+    ensures { result ≡ option_and_then (within_range 0 65535) (result_ok (number text.now)) }
+{
+    let retries = read_number(text).ok()?;
+    if retries <= MOST_RETRIES {
+        Some(retries as u32)
+    } else {
+        None
+    }
+}
+
+/// Writes the arms of a `match` over the rows: each sets some fields. The sector is set before.
 macro_rules! set_by_row {
-    ($options:ident, $row:ident; $($number:literal => $field:ident = $value:expr,)*) => {
+    ($options:ident, $row:ident; $($number:literal => $($field:ident = $value:expr),+;)*) => {
         match $row {
-            0 => Some($options),
-            $($number => Some(Options { $field: $value, ..$options }),)*
+            SECTOR_SIZE => Some($options),
+            $($number => Some(Options { $($field: $value,)+ ..$options }),)*
             _ => None,
         }
     };
@@ -126,11 +312,22 @@ pub(crate) fn with_row(options: Options, row: usize, text: &str) -> Option<Optio
     ensures { result ≡ with_row options row text.now }
 {
     let size = read_size(text, options.sector).ok();
+    let skips = read_skips(&options, text);
     set_by_row!(options, row;
-        1 => forced = true,
-        2 => input_position = size?,
-        3 => output_position = Some(size?),
-        4 => quiet = true,
-        5 => size = Some(size?),
+        0 => min_rate = read_min_rate(&options, text)?;
+        1 => try_again = true;
+        3 => cluster_sectors = Some(read_cluster_sectors(&options, text)?);
+        4 => forced = true;
+        5 => input_position = size?;
+        6 => skip = skips?.0, skip_max = skips?.1;
+        7 => retrim = true;
+        8 => no_scrape = true;
+        9 => no_trim = true;
+        10 => output_position = Some(size?);
+        11 => quiet = true;
+        12 => retries = read_retries(text)?;
+        13 => reverse = true;
+        14 => size = Some(size?);
+        15 => unidirectional = true;
     )
 }

@@ -1,12 +1,15 @@
 use crate::command::{Command, CommandError, read_command};
+use crate::options::Options;
+use crate::skips::{DEFAULT_SKIP, DEFAULT_SKIP_MAX};
 use block_list::tiles::NoMemory;
 use option_words::fault::{UsageFault, WordFault};
 use option_words::words::Words;
 use std::alloc::{AllocError, Global};
 use std::test::Fail;
 
-// Words, and what they ask for: the files, and behind | the sector, the positions, the size and the flags.
-const ASKED: [(&[&str], &str); 33] = [
+// Words, and what they ask for: the files, and behind | the sector, the positions, the sizes and the flags. What
+// no option gives isn't shown, but for the sector and the input position.
+const ASKED: [(&[&str], &str); 79] = [
     (&["in", "out"], "in out | b512 i0"),
     (&["in", "out", "map"], "in out map | b512 i0"),
     (&["-", "out"], "- out | b512 i0"),
@@ -52,10 +55,95 @@ const ASKED: [(&[&str], &str); 33] = [
     ),
     (&["-b", "8", "in", "--", "out", "-b"], "in out -b | b8 i0"),
     (&["größe", "€", "é"], "größe € é | b512 i0"),
+    (&["-a", "1", "in", "out"], "in out | b512 i0 a1"),
+    (
+        &["--min-read-rate=9223372036854775807", "in", "out"],
+        "in out | b512 i0 a9223372036854775807",
+    ),
+    (
+        &["--min", "2s", "-b1000", "in", "out"],
+        "in out | b1000 i0 a2000",
+    ),
+    (&["-A", "in", "out"], "in out | b512 i0 A"),
+    (&["--try-again", "in", "out"], "in out | b512 i0 A"),
+    (&["--tr", "in", "out"], "in out | b512 i0 A"),
+    (&["-c", "1", "in", "out"], "in out | b512 i0 c1"),
+    (&["-c32768", "in", "out"], "in out | b512 i0 c32768"),
+    (
+        &["--cluster-size=65536", "-b256", "in", "out"],
+        "in out | b256 i0 c65536",
+    ),
+    (&["-c16", "-b1Mi", "in", "out"], "in out | b1048576 i0 c16"),
+    (
+        &["-c17", "-b1Mi", "--cl", "16", "in", "out"],
+        "in out | b1048576 i0 c16",
+    ),
+    (&["-b1Mi", "in", "out"], "in out | b1048576 i0"),
+    (&["-K", ",", "in", "out"], "in out | b512 i0"),
+    (&["-K,0", "in", "out"], "in out | b512 i0 K0,0"),
+    (&["-K0", "in", "out"], "in out | b512 i0 K0,1073741824"),
+    (
+        &["-K", "1Gi", "in", "out"],
+        "in out | b512 i0 K1073741824,1073741824",
+    ),
+    (
+        &["-K2Gi", "in", "out"],
+        "in out | b512 i0 K2147483648,2147483648",
+    ),
+    (
+        &["--skip-size=4Ki,", "in", "out"],
+        "in out | b512 i0 K4096,1073741824",
+    ),
+    (
+        &["--sk", ",1Ki", "in", "out"],
+        "in out | b512 i0 K1024,1024",
+    ),
+    (&["-K,1Mi", "in", "out"], "in out | b512 i0 K65536,1048576"),
+    (&["-K1,1", "in", "out"], "in out | b512 i0 K1,1"),
+    (
+        &["-K1s,3s", "-b100", "in", "out"],
+        "in out | b100 i0 K100,300",
+    ),
+    (&["-K1Ki,2Ki", "-K,", "in", "out"], "in out | b512 i0"),
+    (
+        &["-K9223372036854775296", "in", "out"],
+        "in out | b512 i0 K9223372036854775296,9223372036854775296",
+    ),
+    (
+        &["-K,9223372036854775807", "-b1", "in", "out"],
+        "in out | b1 i0 K65536,9223372036854775807",
+    ),
+    (&["-M", "in", "out"], "in out | b512 i0 M"),
+    (&["--retrim", "in", "out"], "in out | b512 i0 M"),
+    (&["--retri", "in", "out"], "in out | b512 i0 M"),
+    (&["-n", "in", "out"], "in out | b512 i0 n"),
+    (&["--no-scrape", "in", "out"], "in out | b512 i0 n"),
+    (&["--no-s", "in", "out"], "in out | b512 i0 n"),
+    (&["-N", "in", "out"], "in out | b512 i0 N"),
+    (&["--no-trim", "in", "out"], "in out | b512 i0 N"),
+    (&["--no-t", "in", "out"], "in out | b512 i0 N"),
+    (&["-r", "0", "in", "out"], "in out | b512 i0"),
+    (&["-r65535", "in", "out"], "in out | b512 i0 r65535"),
+    (&["--retry-passes=010", "in", "out"], "in out | b512 i0 r8"),
+    (&["--retry", "3", "-r2", "in", "out"], "in out | b512 i0 r2"),
+    (&["-R", "in", "out"], "in out | b512 i0 R"),
+    (&["--reverse", "in", "out"], "in out | b512 i0 R"),
+    (&["--rev", "in", "out"], "in out | b512 i0 R"),
+    (&["-u", "in", "out"], "in out | b512 i0 u"),
+    (&["--unidirectional", "in", "out"], "in out | b512 i0 u"),
+    (&["--un", "in", "out"], "in out | b512 i0 u"),
+    (
+        &["-uRqNnMfA", "in", "out", "map"],
+        "in out map | b512 i0 A f M n N q R u",
+    ),
+    (
+        &["-nr3", "-c1s", "-K1s", "-a1s", "-b64", "in", "out"],
+        "in out | b64 i0 c64 K64,1073741824 a64 r3 n",
+    ),
 ];
 
 // Words, why they are refused, and whether they ask that nothing be said.
-const REFUSED: [(&[&str], UsageFault, bool); 39] = [
+const REFUSED: [(&[&str], UsageFault, bool); 78] = [
     (&[], UsageFault::Operands { given: 0 }, false),
     (&["in"], UsageFault::Operands { given: 1 }, false),
     (&["-q", "in"], UsageFault::Operands { given: 1 }, true),
@@ -218,6 +306,197 @@ const REFUSED: [(&[&str], UsageFault, bool); 39] = [
         UsageFault::BadValue { word: 4 },
         false,
     ),
+    (
+        &["-a", "0", "in", "out"],
+        UsageFault::BadValue { word: 2 },
+        false,
+    ),
+    (
+        &["-a0", "in", "out"],
+        UsageFault::BadValue { word: 1 },
+        false,
+    ),
+    (
+        &["--min-read-rate", "9223372036854775808", "in", "out"],
+        UsageFault::BadValue { word: 2 },
+        false,
+    ),
+    (
+        &["-c", "0", "in", "out"],
+        UsageFault::BadValue { word: 2 },
+        false,
+    ),
+    (
+        &["-c65537", "in", "out"],
+        UsageFault::BadValue { word: 1 },
+        false,
+    ),
+    (
+        &["-c", "65537", "-b1", "in", "out"],
+        UsageFault::BadValue { word: 2 },
+        false,
+    ),
+    (
+        &["-c", "65536", "in", "out"],
+        UsageFault::BadValue { word: 1 },
+        false,
+    ),
+    (
+        &["-c32769", "in", "out"],
+        UsageFault::BadValue { word: 1 },
+        false,
+    ),
+    (
+        &["-b1Mi", "-c", "17", "in", "out"],
+        UsageFault::BadValue { word: 2 },
+        false,
+    ),
+    (
+        &["-c17", "-c1", "-b1Mi", "--cluster-size", "18", "in", "out"],
+        UsageFault::BadValue { word: 4 },
+        false,
+    ),
+    (
+        &["-c17", "-b1Mi", "-c18"],
+        UsageFault::BadValue { word: 3 },
+        false,
+    ),
+    (
+        &["-c17", "-b1Mi", "in", "out", ""],
+        UsageFault::BadValue { word: 1 },
+        false,
+    ),
+    (
+        &["-c17", "-b1Mi", "-r", "x"],
+        UsageFault::BadValue { word: 4 },
+        false,
+    ),
+    (&["-qc17", "-b1Mi"], UsageFault::BadValue { word: 1 }, true),
+    (
+        &["-K", "", "in", "out"],
+        UsageFault::BadValue { word: 2 },
+        false,
+    ),
+    (
+        &["--skip-size=", "in", "out"],
+        UsageFault::BadValue { word: 1 },
+        false,
+    ),
+    (
+        &["-K1Ki,512", "in", "out"],
+        UsageFault::BadValue { word: 1 },
+        false,
+    ),
+    (
+        &["-K", "1,2,3", "in", "out"],
+        UsageFault::BadValue { word: 2 },
+        false,
+    ),
+    (
+        &["-K,,", "in", "out"],
+        UsageFault::BadValue { word: 1 },
+        false,
+    ),
+    (
+        &["-K1,x", "in", "out"],
+        UsageFault::BadValue { word: 1 },
+        false,
+    ),
+    (
+        &["-Kx,1", "in", "out"],
+        UsageFault::BadValue { word: 1 },
+        false,
+    ),
+    (
+        &["-K-1", "in", "out"],
+        UsageFault::BadValue { word: 1 },
+        false,
+    ),
+    (
+        &["-K", "9223372036854775807", "in", "out"],
+        UsageFault::BadValue { word: 2 },
+        false,
+    ),
+    (
+        &["-K,9223372036854775297", "in", "out"],
+        UsageFault::BadValue { word: 1 },
+        false,
+    ),
+    (
+        &["-K9223372036854775296", "-b1Ki", "in", "out"],
+        UsageFault::BadValue { word: 1 },
+        false,
+    ),
+    (
+        &["-K1,9223372036854775808", "-b1", "in", "out"],
+        UsageFault::BadValue { word: 1 },
+        false,
+    ),
+    (
+        &["-r", "65536", "in", "out"],
+        UsageFault::BadValue { word: 2 },
+        false,
+    ),
+    (
+        &["-r", "-1", "in", "out"],
+        UsageFault::BadValue { word: 2 },
+        false,
+    ),
+    (
+        &["-r1k", "in", "out"],
+        UsageFault::BadValue { word: 1 },
+        false,
+    ),
+    (
+        &["--retry-passes=", "in", "out"],
+        UsageFault::BadValue { word: 1 },
+        false,
+    ),
+    (
+        &["in", "out", "--no"],
+        UsageFault::Word(WordFault::Ambiguous { word: 3 }),
+        false,
+    ),
+    (
+        &["in", "out", "--re"],
+        UsageFault::Word(WordFault::Ambiguous { word: 3 }),
+        false,
+    ),
+    (
+        &["in", "out", "--ret"],
+        UsageFault::Word(WordFault::Ambiguous { word: 3 }),
+        false,
+    ),
+    (
+        &["in", "out", "--retr"],
+        UsageFault::Word(WordFault::Ambiguous { word: 3 }),
+        false,
+    ),
+    (
+        &["in", "out", "--s"],
+        UsageFault::Word(WordFault::Ambiguous { word: 3 }),
+        false,
+    ),
+    (
+        &["--retrim=1", "in", "out"],
+        UsageFault::Word(WordFault::UnwantedValue { word: 1 }),
+        false,
+    ),
+    (
+        &["--un=", "in", "out"],
+        UsageFault::Word(WordFault::UnwantedValue { word: 1 }),
+        false,
+    ),
+    (
+        &["in", "out", "-K"],
+        UsageFault::Word(WordFault::MissingValue { word: 3 }),
+        false,
+    ),
+    (
+        &["in", "out", "-nr"],
+        UsageFault::Word(WordFault::MissingValue { word: 3 }),
+        false,
+    ),
 ];
 
 fn collect(alloc: Global, given: &[&str]) -> Result<Words, NoMemory> {
@@ -228,25 +507,75 @@ fn collect(alloc: Global, given: &[&str]) -> Result<Words, NoMemory> {
     Ok(words)
 }
 
+fn push_number(
+    alloc: Global,
+    shown: &mut String,
+    label: &str,
+    number: Option<u64>,
+) -> Result<(), AllocError> {
+    if let Some(number) = number {
+        let part = format!(in alloc; " {label}{number}")?;
+        shown.push_str(part.as_str())?;
+    }
+    Ok(())
+}
+
+fn push_name(shown: &mut String, label: &str, name: Option<&str>) -> Result<(), AllocError> {
+    if let Some(name) = name {
+        shown.push_str(label)?;
+        shown.push_str(name)?;
+    }
+    Ok(())
+}
+
+fn push_skips(alloc: Global, shown: &mut String, options: Options) -> Result<(), AllocError> {
+    if options.skip != DEFAULT_SKIP || options.skip_max != DEFAULT_SKIP_MAX {
+        let skips = format!(in alloc; " K{},{}", options.skip, options.skip_max)?;
+        shown.push_str(skips.as_str())?;
+    }
+    Ok(())
+}
+
+fn push_flags(shown: &mut String, options: Options) -> Result<(), AllocError> {
+    let flags = [
+        (options.try_again, " A"),
+        (options.forced, " f"),
+        (options.retrim, " M"),
+        (options.no_scrape, " n"),
+        (options.no_trim, " N"),
+        (options.quiet, " q"),
+        (options.reverse, " R"),
+        (options.unidirectional, " u"),
+    ];
+    for (given, letter) in flags {
+        shown.push_str(if given { letter } else { "" })?;
+    }
+    Ok(())
+}
+
+fn if_not_zero(number: u64) -> Option<u64> {
+    if number == 0 { None } else { Some(number) }
+}
+
 fn show(alloc: Global, command: Command<'_>) -> Result<String, AllocError> {
-    let mut shown = format!(in alloc; "{} {}", command.infile, command.outfile)?;
-    if let Some(mapfile) = command.mapfile {
-        shown.push(' ')?;
-        shown.push_str(mapfile)?;
-    }
     let options = command.options;
-    let numbers = format!(in alloc; " | b{} i{}", options.sector, options.input_position)?;
-    shown.push_str(numbers.as_str())?;
-    if let Some(position) = options.output_position {
-        let position = format!(in alloc; " o{position}")?;
-        shown.push_str(position.as_str())?;
-    }
-    if let Some(size) = options.size {
-        let size = format!(in alloc; " s{size}")?;
-        shown.push_str(size.as_str())?;
-    }
-    shown.push_str(if options.forced { " f" } else { "" })?;
-    shown.push_str(if options.quiet { " q" } else { "" })?;
+    let mut shown = format!(in alloc; "{} {}", command.infile, command.outfile)?;
+    push_name(&mut shown, " ", command.mapfile)?;
+    shown.push_str(" |")?;
+    push_number(alloc, &mut shown, "b", Some(options.sector))?;
+    push_number(alloc, &mut shown, "i", Some(options.input_position))?;
+    push_number(alloc, &mut shown, "o", options.output_position)?;
+    push_number(alloc, &mut shown, "s", options.size)?;
+    push_number(alloc, &mut shown, "c", options.cluster_sectors)?;
+    push_skips(alloc, &mut shown, options)?;
+    push_number(alloc, &mut shown, "a", if_not_zero(options.min_rate))?;
+    push_number(
+        alloc,
+        &mut shown,
+        "r",
+        if_not_zero(u64::from(options.retries)),
+    )?;
+    push_flags(&mut shown, options)?;
     Ok(shown)
 }
 
@@ -258,6 +587,45 @@ fn reads_commands(rt: HostRuntime) -> Result<(), Fail> {
         let command = read_command(alloc, &words).ok().ok_or("refused")?;
         let shown = show(alloc, command)?;
         assert_eq!(rt; shown.as_str(), expected);
+    }
+    Ok(())
+}
+
+// Options, and what they make of a cluster, the first skip and the largest, in bytes.
+const SIZES: [(&[&str], [u64; 3]); 9] = [
+    (&[], [65_536, 65_536, 1_073_741_824]),
+    (&["-b4Ki"], [65_536, 65_536, 1_073_741_824]),
+    (&["-b1000"], [65_000, 66_000, 1_073_742_000]),
+    (&["-b65537"], [65_537, 65_537, 1_073_758_208]),
+    (&["-b1Mi"], [1_048_576, 1_048_576, 1_073_741_824]),
+    (&["-c3"], [1_536, 65_536, 1_073_741_824]),
+    (
+        &["-c16", "-b1Mi", "-K1"],
+        [16_777_216, 1_048_576, 1_073_741_824],
+    ),
+    (&["-K1,513"], [65_536, 512, 1_024]),
+    (&["-K,0"], [65_536, 0, 0]),
+];
+
+fn sizes_of(alloc: Global, given: &[&str]) -> Result<[u64; 3], Fail> {
+    let mut words = collect(alloc, given)?;
+    words.push("in")?;
+    words.push("out")?;
+    match read_command(alloc, &words) {
+        Ok(command) => Ok([
+            command.options.cluster(),
+            command.options.first_skip(),
+            command.options.largest_skip(),
+        ]),
+        Err(_) => Err("refused")?,
+    }
+}
+
+#[test]
+fn gives_sizes_in_whole_sectors(rt: HostRuntime) -> Result<(), Fail> {
+    for (given, expected) in SIZES {
+        let sizes = sizes_of(rt.alloc(), given)?;
+        assert_eq!(rt; sizes, expected);
     }
     Ok(())
 }

@@ -1,8 +1,12 @@
--- What gives the sector keeps the limits.
+-- What gives the sector gives it within its limits.
 use Rattle.std.proofs.Common.{◌∙◌, sym}
-use Rattle.rescue_command.proofs.OptionLemmas.{sectors_sound}
+use Rattle.rescue_command.proofs.OptionLemmas.{sectors_in_range}
 use Rattle.rescue_command.proofs.command.read_options.Goals as goal
 
-pub set_others-requires-clause-sound : goal.set_others-requires-clause-sound
-set_others-requires-clause-sound c =
-    sectors_sound c.args.words.now c.args.items.now c.in_ok-options.options (sym c.set_sectors.ensures ∙ c.in_ok-options.was)
+pub set_others-requires-clause-low : goal.set_others-requires-clause-low
+set_others-requires-clause-low c =
+    (sectors_in_range c.args.words.now c.args.items.now c.in_ok-options.options (sym c.set_sectors.ensures ∙ c.in_ok-options.was)).low
+
+pub set_others-requires-clause-high : goal.set_others-requires-clause-high
+set_others-requires-clause-high c =
+    (sectors_in_range c.args.words.now c.args.items.now c.in_ok-options.options (sym c.set_sectors.ensures ∙ c.in_ok-options.was)).high

@@ -1,9 +1,9 @@
--- An option that is accepted keeps the limits; the first that is refused decides.
-use Rattle.std.proofs.Common.{◌≡◌, ◌∙◌, ◌<◌, sym, length, get_or, Ok, Err, None, arith}
+-- An option that is accepted keeps the sector; the first that is refused decides.
+use Rattle.std.proofs.Common.{◌≡◌, ◌∙◌, ◌<◌, sym, subst, length, get_or, Ok, Err, None, arith}
 use Rattle.std.proofs.lemmas.Result.{err_from_is_err_and}
 use Rattle.option_words.specs.declared.reading.Item.{Item}
 use Rattle.rescue_command.specs.Options.{with_item}
-use Rattle.rescue_command.proofs.OptionLemmas.{set_step, set_fault, set_end, item_keeps}
+use Rattle.rescue_command.proofs.OptionLemmas.{set_step, set_fault, set_end, IsSector, item_keeps}
 use Rattle.rescue_command.proofs.command.set_others.Goals as goal
 
 pub loop-item-preserved : goal.loop-item-preserved
@@ -18,7 +18,7 @@ loop-item-preserved c =
     let set : f l.options item ≡ Ok o = sym c.set_other.ensures ∙ c.in_ok-options.was in
     record {
       set = l.invariant.set ∙ set_step f l.options o items l.item-index d within set;
-      sound = (item_keeps c.args.words.now l.options o item set).sound l.invariant.sound;
+      sector = subst IsSector (sym (item_keeps c.args.words.now l.options o item set).sector) l.invariant.sector;
     }
 
 pub returns : goal.returns
