@@ -15,30 +15,34 @@ use Rattle.rescue_rules.specs.declared.stop.Stop.TheVariants.{SourceLost as Inpu
 use Rattle.rescue_rules.specs.declared.stop.RunEnd.TheVariants.{Done as Finished, Stopped, SaveFailed}
 use Rattle.rescue_rules.specs.Setting.{Setting}
 use Rattle.rescue_rules.specs.Moves.{IsMove}
-use Rattle.rescue_rules.specs.Beginning.{nothing_shown, machine_of}
+use Rattle.rescue_rules.specs.Beginning.{machine_over}
 use Rattle.rescue_rules.specs.Events.{reads_of}
 use Rattle.ddrescue_cli.specs.declared.ending.Ending.{Ending}
 use Rattle.ddrescue_cli.specs.declared.ending.Ending.TheVariants.{Done, Usage, NotRegular, MapRefused, SiteFault, NoMemory}
 use Rattle.ddrescue_cli.specs.declared.load.Start.{Start}
 use Rattle.ddrescue_cli.specs.Names.{AreNamedApart}
-use Rattle.ddrescue_cli.specs.Asked.{setting_with, ArePlacedBy, IsBeyond}
+use Rattle.ddrescue_cli.specs.Asked.{setting_asked, ArePlacedBy, IsBeyond}
 use Rattle.ddrescue_cli.specs.Refusals.{MapfileRefused, PlacesRefused}
 use Rattle.copy_passes.specs.Turns.{IsFrom}
 use Rattle.ddrescue_cli.specs.Alone.{HasRead, MapfilePasses, CallPasses, FilesAllow, ArePlaced, CallPlaced, PlacesAllow}
 use Rattle.ddrescue_cli.specs.Steps.{EndsRun, OutputStop, LoadStopped, InBarrier, InRead, Starved, Refused, LoadCause, Loaded}
+use Rattle.ddrescue_cli.proofs.RanLemmas.{none_asked}
 use Rattle.ddrescue_cli.proofs.WorkLemmas.{HasOpened, IsRegular, here, beyond_is_refused, placed_passes}
 
 -- nothing was read
 pub none_read : (s : Setting) (e : Ending) (s0 s1 : SourceState) → (e ≡ Done → ⊥) → s1.journal ≡ s0.journal → HasRead s e s0 s1
 none_read s e s0 s1 stopped same = record {
-  start = machine_of s [] None nothing_shown 0;
+  statuses = [];
+  state = None;
+  time = 0;
   events = [];
-  began = refl;
   gained = same ∙ sym (append-nil s0.journal);
   run = record { each = All-nil (IsMove s) };
   right = All-nil (IsFrom s0.bytes);
   refused = λ r. refl;
+  few = none_asked s (machine_over s [] None 0);
   done = λ d. absurd (stopped d);
+  well = λ d. absurd (stopped d);
 }
 
 pub output_stopped : (e : Ending) (out : List ℕ) (forced : Bool) (old new : SiteState) → OutputStop e out forced old new → e ≡ Done → ⊥
@@ -52,19 +56,22 @@ load_stopped e faults faults' (inr (inr c)) done = let is : SiteFault c.0 None �
 
 -- the reads of a run are those of the rescue
 pub run_has_read : (i o : List ℕ) (n : Option MapNames) (l : List ℕ) (w : Options) (e : Ending) (end all : ℕ) (s0 s1 s2 : SourceState)
-    → end ≡ all → s1.journal ≡ s0.journal → s1.bytes ≡ s0.bytes → HasRead (setting_with i o n l w end) e s1 s2
-    → HasRead (setting_with i o n l w all) e s0 s2
+    → end ≡ all → s1.journal ≡ s0.journal → s1.bytes ≡ s0.bytes → HasRead (setting_asked i o n l w end) e s1 s2
+    → HasRead (setting_asked i o n l w all) e s0 s2
 run_has_read i o n l w e end all s0 s1 s2 whole same bytes r =
-    let P : ℕ → Type 0 = λ size. HasRead (setting_with i o n l w size) e s0 s2 in
-    let here : HasRead (setting_with i o n l w end) e s0 s2 = record {
-      start = r.start;
+    let P : ℕ → Type 0 = λ size. HasRead (setting_asked i o n l w size) e s0 s2 in
+    let here : HasRead (setting_asked i o n l w end) e s0 s2 = record {
+      statuses = r.statuses;
+      state = r.state;
+      time = r.time;
       events = r.events;
-      began = r.began;
       gained = r.gained ∙ ap (λ j. j ++ reads_of r.events) same;
       run = r.run;
       right = rw bytes at r.right;
       refused = r.refused;
+      few = r.few;
       done = r.done;
+      well = r.well;
     } in
     subst P whole here
 
@@ -76,20 +83,20 @@ output_allows s e old new td (inr c) = rw c.0 tt
 
 load_allows : (i o : List ℕ) (n : MapNames) (l : List ℕ) (w : Options) (e : Ending) (end : ℕ) (d : SiteState) (calls calls' : List Entry)
     → IsRegular w.forced o d → LoadStopped n (files_in d n.map) e calls calls'
-    → FilesAllow e (setting_with i o (Some n) l w end) (files_in d)
+    → FilesAllow e (setting_asked i o (Some n) l w end) (files_in d)
 load_allows i o n l w e end d calls calls' regular (InBarrier call is (inl (name, lost))) = rw (is, name) (record { regular = regular })
 load_allows i o n l w e end d calls calls' regular (InBarrier call is (inr (inl (name, lost)))) = rw (is, name) (record { regular = regular })
 load_allows i o n l w e end d calls calls' regular (InBarrier call is (inr (inr broke))) = absurd broke
 load_allows i o n l w e end d calls calls' regular (InRead load is begins broke) = rw is (record { regular = regular })
 load_allows i o n l w e end d calls calls' regular (Starved load is begins made) = rw is tt
 load_allows i o n l w e end d calls calls' regular (Refused load refused loaded made) =
-    let P : Ending → Type 0 = λ v. FilesAllow v (setting_with i o (Some n) l w end) (files_in d) in
+    let P : Ending → Type 0 = λ v. FilesAllow v (setting_asked i o (Some n) l w end) (files_in d) in
     subst P (sym refused.3) (record { regular = regular }, (refused.0, refused.1, refused.2, refl))
 
 -- the same of a mapfile as it reads behind the open of the output, and without one
 pub load_allows_behind : (i o : List ℕ) (n : Option MapNames) (l : List ℕ) (w : Options) (e : Ending) (end all : ℕ)
     (d0 d1 d2 : SiteState) → AreNamedApart o n → HasOpened o d0 d1 → IsRegular w.forced o d0 → Loaded n end (Err e) d1 d2
-    → FilesAllow e (setting_with i o n l w all) (files_in d0)
+    → FilesAllow e (setting_asked i o n l w all) (files_in d0)
 load_allows_behind i o (Some n) l w e end all d0 d1 d2 apart made regular stop =
     let P : Option File → Type 0 = λ f. LoadStopped n f e d1.calls d2.calls in
     load_allows i o n l w e all d0 d1.calls d2.calls regular (subst P (here o n d0 d1 apart made) stop.0)
@@ -98,7 +105,7 @@ load_allows_behind i o None l w e end all d0 d1 d2 apart made regular stop = rw 
 -- a load that went on to its end
 pub load_passes : (i o : List ℕ) (n : Option MapNames) (l : List ℕ) (w : Options) (end all : ℕ) (start : Start)
     (d0 d1 d2 : SiteState) → AreNamedApart o n → HasOpened o d0 d1 → IsRegular w.forced o d0 → Loaded n end (Ok start) d1 d2
-    → MapfilePasses (setting_with i o n l w all) (files_in d0)
+    → MapfilePasses (setting_asked i o n l w all) (files_in d0)
 load_passes i o (Some n) l w end all start d0 d1 d2 apart made regular st =
     let P : Option File → Type 0 = λ f. (v : Ending) → MapfileRefused f v → ⊥ in
     record { output = record { regular = regular }; accepted = subst P (here o n d0 d1 apart made) st.accepted }
@@ -145,9 +152,9 @@ load_places s e faults faults' (inr (inl c)) = rw c.1 tt
 load_places s e faults faults' (inr (inr c)) = rw c.1 (load_placed s c.0 c.2)
 
 pub beyond_places : (i o : List ℕ) (n : Option MapNames) (l : List ℕ) (w : Options) (end all : ℕ) → end ≡ all → IsBeyond w end
-    → PlacesAllow (Usage PlaceTooLarge) (setting_with i o n l w all)
+    → PlacesAllow (Usage PlaceTooLarge) (setting_asked i o n l w all)
 beyond_places i o n l w end all whole far =
-    let P : ℕ → Type 0 = λ size. PlacesRefused (setting_with i o n l w size) (Usage PlaceTooLarge) in
+    let P : ℕ → Type 0 = λ size. PlacesRefused (setting_asked i o n l w size) (Usage PlaceTooLarge) in
     subst P whole (beyond_is_refused i o n l w end far)
 
 call_placed : (call : SiteCall) (s : Setting) → ArePlaced s → CallPlaced call s
@@ -171,7 +178,7 @@ ending_places s e (Stopped NoRoom, is) placed = rw is tt
 ending_places s e (SaveFailed call earlier, is) placed = rw is (call_placed call s placed)
 
 pub run_places : (i o : List ℕ) (n : Option MapNames) (l : List ℕ) (w : Options) (e : Ending) (end all : ℕ) → end ≡ all
-    → ArePlacedBy w end → EndsRun e → PlacesAllow e (setting_with i o n l w all)
+    → ArePlacedBy w end → EndsRun e → PlacesAllow e (setting_asked i o n l w all)
 run_places i o n l w e end all whole placed ends =
-    let P : ℕ → Type 0 = λ size. PlacesAllow e (setting_with i o n l w size) in
-    subst P whole (ending_places (setting_with i o n l w end) e ends (placed_passes i o n l w end placed))
+    let P : ℕ → Type 0 = λ size. PlacesAllow e (setting_asked i o n l w size) in
+    subst P whole (ending_places (setting_asked i o n l w end) e ends (placed_passes i o n l w end placed))

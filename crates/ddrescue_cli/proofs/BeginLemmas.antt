@@ -1,41 +1,57 @@
 -- A run begins with what options ask for.
-use Rattle.std.proofs.Common.{◌≡◌, ℕ, ◌<◌, ◌≤◌, ◌^◌, true, List, Option, Some, None, IfSome, unwrap_or, refl, sym, ap, ◌∙◌, arith, subst}
+use Rattle.std.proofs.Common.{◌≡◌, ℕ, ◌+◌, ◌-◌, ◌*◌, ◌/◌, ◌<◌, ◌≤◌, ◌^◌, true, List, length, Option, Some, None, IfSome, unwrap_or, refl, sym, ap, ◌∙◌, arith, subst}
+use Rattle.std.proofs.Math.Nat.{div-mul-le_self, le-div_iff_mul-le, mul-le-mul_right}
 use Rattle.block_list.specs.declared.block.Run.{Run}
 use Rattle.block_list.specs.declared.status.Status.{Status}
 use Rattle.mapfile_text.specs.declared.state.MapState.{MapState}
 use Rattle.save_resume.specs.MapNames.{MapNames}
 use Rattle.rescue_domain.specs.Domain.{whole_domain}
 use Rattle.rescue_domain.specs.Parts.{covers}
-use Rattle.rescue_rules.specs.Setting.{Setting, IsSensible}
-use Rattle.rescue_rules.specs.Beginning.{shown_at_first, machine_of}
+use Rattle.rescue_rules.specs.Setting.{Setting}
+use Rattle.rescue_rules.specs.Machine.{Machine}
+use Rattle.rescue_rules.specs.Preparation.{prepared, prepared_status}
+use Rattle.rescue_rules.specs.Beginning.{goes_on_from, shown_at_first, machine_of}
 use Rattle.rescue_core.specs.declared.settings.Settings.{Settings}
-use Rattle.rescue_core.specs.RunState.{RunState, setting_with, started, showing, HasPlaces, IsSound as SettingsSound}
+use Rattle.rescue_core.specs.RunState.{RunState, setting_with, setting_in, started, showing, HasPlaces, Suits, IsSound as SettingsSound}
+use Rattle.rescue_core.proofs.PrepareLemmas.{change_is_made}
+use Rattle.copy_passes.specs.Copying.{IsCopying}
+use Rattle.copy_passes.proofs.StartLemmas.{start_may_copy, shown_may_copy}
 use Rattle.rescue_command.specs.declared.options.Options.{Options}
-use Rattle.rescue_command.specs.Command.{IsSound}
+use Rattle.rescue_command.specs.Options.{sectors_of}
+use Rattle.rescue_command.specs.Command.{AreInLimits}
 use Rattle.ddrescue_cli.specs.Asked.{ArePlacedBy}
-use Rattle.ddrescue_cli.specs.Copying.{settings_by, IsRunOver}
+use Rattle.ddrescue_cli.specs.Steps.{Fits}
+use Rattle.ddrescue_cli.specs.Running.{settings_by, IsRunOver}
 
 below_limit : (output : Option ℕ) (input : ℕ) → input < 2 ^ 63 → IfSome output (λ n. n < 2 ^ 63) → unwrap_or output input < 2 ^ 63
 below_limit None input low given = low
 below_limit (Some n) input low given = given
 
-settings_sound : (o : Options) → IsSound o → SettingsSound (settings_by o)
-settings_sound o sound = record {
-  sector = sound.sector;
-  sector_max = sound.sector_max;
-  sectors = 1;
-  some = omega arith;
-  cluster = omega arith;
-  cluster_max = omega (arith, sound.sector_max);
-  skip = omega arith;
-  skip_max = omega arith;
-  ipos = sound.input_position;
-  opos = below_limit o.output_position o.input_position sound.input_position sound.output_position;
-  retries = omega arith;
+rounded_up : (b n m : ℕ) → 0 < b → n ≤ m → (n + (b - 1)) / b * b ≤ (m + (b - 1)) / b * b
+rounded_up b n m some le =
+    let below : (n + (b - 1)) / b * b ≤ m + (b - 1) = omega (arith, le, div-mul-le_self (n + (b - 1)) b) in
+    mul-le-mul_right b ((le-div_iff_mul-le some).1 below)
+
+settings_sound : (o : Options) → AreInLimits o → SettingsSound (settings_by o)
+settings_sound o limits = record {
+  sector = limits.sector;
+  sector_max = limits.sector_max;
+  sectors = sectors_of o o.cluster_sectors;
+  some = limits.sectors;
+  cluster = refl;
+  cluster_max = limits.cluster_max;
+  skip = rounded_up o.sector o.skip o.skip_max limits.sector limits.skip;
+  skip_max = limits.skip_max;
+  ipos = limits.input_position;
+  opos = below_limit o.output_position o.input_position limits.input_position limits.output_position;
+  retries = omega (arith, limits.retries);
 }
 
-pub sound_settings : (settings : Settings) (o : Options) → settings ≡ settings_by o → IsSound o → SettingsSound settings
-sound_settings settings o is sound = subst SettingsSound (sym is) (settings_sound o sound)
+pub sound_settings : (settings : Settings) (o : Options) → settings ≡ settings_by o → AreInLimits o → SettingsSound settings
+sound_settings settings o is limits = subst SettingsSound (sym is) (settings_sound o limits)
+
+whole_below : (pos : ℕ) (size : Option ℕ) (end top x : ℕ) → end ≤ top → whole_domain pos size end x ≡ true → x < top
+whole_below pos size end top x long inside = grind (arith, long, inside)
 
 pub whole_from : (pos : ℕ) (size : Option ℕ) (end x : ℕ) → whole_domain pos size end x ≡ true → pos ≤ x
 whole_from pos size end x inside = grind (arith, inside)
@@ -44,63 +60,135 @@ whole_from pos size end x inside = grind (arith, inside)
 abbrev IsWhole : Options → ℕ → List Run → Type 0
 IsWhole o end domain = (x : ℕ) → covers domain x ≡ whole_domain o.input_position o.size end x
 
-abbrev core_setting : List Run → Option MapNames → List ℕ → Settings → Setting
-core_setting domain names line settings = setting_with settings domain names line
-
-run_sensible : (settings : Settings) (domain : List Run) (names : Option MapNames) (line : List ℕ) (o : Options) (end : ℕ)
-    → IsSound o → settings ≡ settings_by o → IsWhole o end domain → IsSensible (setting_with settings domain names line)
-run_sensible settings domain names line o end sound is whole =
-    subst (λ (t : Settings). IsSensible (core_setting domain names line t)) (sym is)
+-- it suits a map that reaches the input's end
+pub whole_suits : (settings : Settings) (domain : List Run) (o : Options) (end top : ℕ) → settings ≡ settings_by o
+    → IsWhole o end domain → end ≤ top → Suits settings (covers domain) top
+whole_suits settings domain o end top is whole long =
+    subst (λ (t : Settings). Suits t (covers domain) top) (sym is)
     (record {
-      sector = sound.sector;
-      sectors = 1;
-      some = omega arith;
-      cluster = omega arith;
       from = λ x inside. whole_from o.input_position o.size end x (sym (whole x) ∙ inside);
-      retries = omega arith;
+      to = λ x inside. whole_below o.input_position o.size end top x long (sym (whole x) ∙ inside);
     })
 
--- a run at its start, which shows this
-abbrev pub begun_with : Settings → List Run → Option MapNames → List ℕ → List Status → Option MapState → ℕ → RunState
-begun_with settings domain names line statuses state moment = record (started settings domain names line statuses None moment) {
-  machine = machine_of (setting_with settings domain names line) statuses None (shown_at_first state) moment;
-}
+-- the map that is made of one
+abbrev made_of_map : List Run → Options → List Status → List Status
+made_of_map domain o statuses = prepared (covers domain) o.try_again o.retrim statuses
+
+-- it has as many positions
+pub made_long : (domain : List Run) (o : Options) (statuses : List Status) → length (made_of_map domain o statuses) ≡ length statuses
+made_long domain o statuses =
+    (change_is_made (covers domain) (prepared_status o.try_again o.retrim) statuses).size
+
+pub suits_made : (settings : Settings) (domain : List Run) (o : Options) (end : ℕ) (statuses made : List Status)
+    → settings ≡ settings_by o → IsWhole o end domain → end ≤ length statuses → made ≡ made_of_map domain o statuses
+    → Suits settings (covers domain) (length made)
+suits_made settings domain o end statuses made is whole long made_is =
+    whole_suits settings domain o end (length made) is whole (omega (arith, long, ap length made_is, made_long domain o statuses))
+
+pub short_made : (domain : List Run) (o : Options) (statuses made : List Status) → length statuses < 2 ^ 63
+    → made ≡ made_of_map domain o statuses → length made < 2 ^ 63
+short_made domain o statuses made short made_is = omega (arith, short, ap length made_is, made_long domain o statuses)
+
+-- a run at its start over that map, which shows what a mapfile showed, if it showed something
+abbrev pub begun_with : Settings → List Run → Option MapNames → List ℕ → Options → List Status → Option MapState → ℕ → RunState
+begun_with settings domain names line o statuses None moment =
+    started settings domain names line (made_of_map domain o statuses) None moment
+begun_with settings domain names line o statuses (Some shown) moment =
+    showing (started settings domain names line (made_of_map domain o statuses) (goes_on_from o.try_again (Some shown)) moment) shown
+
+begun_copies : (settings : Settings) (domain : List Run) (names : Option MapNames) (line : List ℕ) (o : Options)
+    (statuses : List Status) (state : Option MapState) (moment : ℕ) → SettingsSound settings
+    → Suits settings (covers domain) (length (made_of_map domain o statuses))
+    → IsCopying (begun_with settings domain names line o statuses state moment)
+begun_copies settings domain names line o statuses None moment sound suits =
+    start_may_copy settings domain names line (made_of_map domain o statuses) None moment sound suits
+begun_copies settings domain names line o statuses (Some shown) moment sound suits =
+    shown_may_copy
+    (started settings domain names line (made_of_map domain o statuses) (goes_on_from o.try_again (Some shown)) moment) shown
+    (start_may_copy settings domain names line (made_of_map domain o statuses) (goes_on_from o.try_again (Some shown)) moment
+    sound suits)
+
+-- the machine that such a run begins with
+abbrev begun_machine : Settings → List Run → Option MapNames → List ℕ → Options → List Status → Option MapState → ℕ → Machine
+begun_machine settings domain names line o statuses state moment =
+    machine_of (setting_with settings domain names line) (made_of_map domain o statuses) (goes_on_from o.try_again state)
+    (shown_at_first state) moment
+
+begun_is : (settings : Settings) (domain : List Run) (names : Option MapNames) (line : List ℕ) (o : Options)
+    (statuses : List Status) (state : Option MapState) (moment : ℕ)
+    → (begun_with settings domain names line o statuses state moment).machine
+    ≡ begun_machine settings domain names line o statuses state moment
+begun_is settings domain names line o statuses None moment = refl
+begun_is settings domain names line o statuses (Some shown) moment = refl
+
+-- what else such a run has
+record HasParts (settings : Settings) (domain : List Run) (names : Option MapNames) (line : List ℕ) (r : RunState) : Type 0 where
+  settings_are : r.settings ≡ settings
+  domain_is : r.domain ≡ domain
+  names_are : r.names ≡ names
+  line_is : r.line ≡ line
+
+begun_parts : (settings : Settings) (domain : List Run) (names : Option MapNames) (line : List ℕ) (o : Options)
+    (statuses : List Status) (state : Option MapState) (moment : ℕ)
+    → HasParts settings domain names line (begun_with settings domain names line o statuses state moment)
+begun_parts settings domain names line o statuses None moment =
+    record { settings_are = refl; domain_is = refl; names_are = refl; line_is = refl }
+begun_parts settings domain names line o statuses (Some shown) moment =
+    record { settings_are = refl; domain_is = refl; names_are = refl; line_is = refl }
+
+setting_begun : (settings : Settings) (domain : List Run) (names : Option MapNames) (line : List ℕ) (o : Options)
+    (statuses : List Status) (state : Option MapState) (moment : ℕ)
+    → setting_in (begun_with settings domain names line o statuses state moment) ≡ setting_with settings domain names line
+setting_begun settings domain names line o statuses None moment = refl
+setting_begun settings domain names line o statuses (Some shown) moment = refl
 
 pub begun_over : (settings : Settings) (domain : List Run) (names : Option MapNames) (line : List ℕ) (o : Options) (end : ℕ)
-    (statuses : List Status) (state : Option MapState) (moment : ℕ) (r : RunState) → IsSound o → ArePlacedBy o end
-    → settings ≡ settings_by o → IsWhole o end domain → r ≡ begun_with settings domain names line statuses state moment
+    (statuses : List Status) (state : Option MapState) (moment : ℕ) (r : RunState) → AreInLimits o → ArePlacedBy o end
+    → Fits end statuses state → settings ≡ settings_by o → IsWhole o end domain
+    → r ≡ begun_with settings domain names line o statuses state moment
     → IsRunOver names line o end statuses state moment r
-begun_over settings domain names line o end statuses state moment r sound placed is whole made =
+begun_over settings domain names line o end statuses state moment r limits placed fits is whole made =
+    let q : RunState = begun_with settings domain names line o statuses state moment in
+    let parts : HasParts settings domain names line q = begun_parts settings domain names line o statuses state moment in
+    let long : end ≤ length (made_of_map domain o statuses) = omega (arith, fits.long, made_long domain o statuses) in
+    let positions : (x : ℕ) → covers q.domain x ≡ whole_domain o.input_position o.size end x =
+    λ x. ap (λ (d : List Run). covers d x) parts.domain_is ∙ whole x in
     subst (IsRunOver names line o end statuses state moment) (sym made)
     (record {
-      copying = record {
-        sensible = run_sensible settings domain names line o end sound is whole;
-        phase = refl;
-        few = omega arith;
-        passes = refl;
-        lead = refl;
-        last = λ last. absurd (omega (arith, last));
-      };
-      places = subst (λ (t : Settings). HasPlaces t (covers domain)) (sym is)
-          (record { low = λ x inside. placed x (sym (whole x) ∙ inside) });
-      settings_are = is;
-      names_are = refl;
-      line_is = refl;
-      domain = whole;
-      machine = refl;
+      copying = begun_copies settings domain names line o statuses state moment (sound_settings settings o is limits)
+          (whole_suits settings domain o end (length (made_of_map domain o statuses)) is whole long);
+      places = subst (λ (t : Settings). HasPlaces t (covers q.domain)) (sym (parts.settings_are ∙ is))
+          (record { low = λ x inside. placed x (sym (positions x) ∙ inside) });
+      settings_are = parts.settings_are ∙ is;
+      names_are = parts.names_are;
+      line_is = parts.line_is;
+      domain = positions;
+      machine = begun_is settings domain names line o statuses state moment
+          ∙ ap (λ (s : Setting). machine_of s (made_of_map domain o statuses) (goes_on_from o.try_again state) (shown_at_first state) moment)
+          (sym (setting_begun settings domain names line o statuses state moment))
+          ∙ ap (λ (d : List Run). machine_of (setting_in q) (prepared (covers d) o.try_again o.retrim statuses)
+          (goes_on_from o.try_again state) (shown_at_first state) moment) (sym parts.domain_is);
     })
 
--- such a run, which shows what a mapfile showed, if it showed something
-pub shows_nothing : (settings : Settings) (domain : List Run) (names : Option MapNames) (line : List ℕ) (statuses : List Status)
-    (state : Option MapState) (moment : ℕ) (r q : RunState) → r ≡ q → q ≡ started settings domain names line statuses None moment
-    → state ≡ None → r ≡ begun_with settings domain names line statuses state moment
-shows_nothing settings domain names line statuses state moment r q same made none =
-    same ∙ made ∙ ap (λ (o : Option MapState). begun_with settings domain names line statuses o moment) (sym none)
+-- a run that was started over what is made of a map, and then shows what a mapfile showed, if it showed something
+pub shows_nothing : (settings : Settings) (domain : List Run) (names : Option MapNames) (line : List ℕ) (o : Options)
+    (statuses made : List Status) (state from : Option MapState) (moment : ℕ) (r q : RunState) → r ≡ q
+    → q ≡ started settings domain names line made from moment → made ≡ made_of_map domain o statuses
+    → from ≡ goes_on_from o.try_again state → state ≡ None
+    → r ≡ begun_with settings domain names line o statuses state moment
+shows_nothing settings domain names line o statuses made state from moment r q same begun map_is from_is none =
+    let S : List Status → Option MapState → RunState = λ map at. started settings domain names line map at moment in
+    same ∙ begun ∙ ap (λ (map : List Status). S map from) map_is
+    ∙ ap (S (made_of_map domain o statuses)) (from_is ∙ ap (goes_on_from o.try_again) none)
+    ∙ ap (λ (at : Option MapState). begun_with settings domain names line o statuses at moment) (sym none)
 
-pub shows_loaded : (settings : Settings) (domain : List Run) (names : Option MapNames) (line : List ℕ) (statuses : List Status)
-    (state : Option MapState) (shown : MapState) (moment : ℕ) (r q p : RunState) → r ≡ q → q ≡ showing p shown
-    → p ≡ started settings domain names line statuses None moment → state ≡ Some shown
-    → r ≡ begun_with settings domain names line statuses state moment
-shows_loaded settings domain names line statuses state shown moment r q p same loaded made some =
-    same ∙ loaded ∙ ap (λ (x : RunState). showing x shown) made
-    ∙ ap (λ (o : Option MapState). begun_with settings domain names line statuses o moment) (sym some)
+pub shows_loaded : (settings : Settings) (domain : List Run) (names : Option MapNames) (line : List ℕ) (o : Options)
+    (statuses made : List Status) (state from : Option MapState) (shown : MapState) (moment : ℕ) (r q p : RunState) → r ≡ q
+    → q ≡ showing p shown → p ≡ started settings domain names line made from moment
+    → made ≡ made_of_map domain o statuses → from ≡ goes_on_from o.try_again state → state ≡ Some shown
+    → r ≡ begun_with settings domain names line o statuses state moment
+shows_loaded settings domain names line o statuses made state from shown moment r q p same loaded begun map_is from_is some =
+    let S : List Status → Option MapState → RunState = λ map at. showing (started settings domain names line map at moment) shown in
+    same ∙ loaded ∙ ap (λ (x : RunState). showing x shown) begun ∙ ap (λ (map : List Status). S map from) map_is
+    ∙ ap (S (made_of_map domain o statuses)) (from_is ∙ ap (goes_on_from o.try_again) some)
+    ∙ ap (λ (at : Option MapState). begun_with settings domain names line o statuses at moment) (sym some)

@@ -24,9 +24,11 @@ use Rattle.rescue_rules.specs.Start.{Stands}
 use Rattle.rescue_rules.specs.Held.{Held}
 use Rattle.rescue_rules.specs.Machine.{Machine}
 use Rattle.rescue_rules.specs.Step.{Event}
-use Rattle.rescue_rules.specs.Moves.{moves, state_after, is_over, IsRun}
-use Rattle.rescue_rules.specs.Snapshots.{Snapshot, text_of, snapshot, finished_snapshot, last_snapshot, is_due}
-use Rattle.rescue_rules.specs.Beginning.{shown_at_first}
+use Rattle.rescue_rules.specs.Moves.{moves, state_after, has_ended, IsRun}
+use Rattle.rescue_rules.specs.Snapshots.{Snapshot, text_of, snapshot_of, finished_snapshot, last_snapshot, is_due}
+use Rattle.rescue_rules.specs.Preparation.{prepared}
+use Rattle.rescue_rules.specs.Beginning.{goes_on_from, shown_at_first}
+use Rattle.rescue_rules.specs.MachineLaws.{IsInOrder}
 use Rattle.rescue_rules.specs.Events.{began_at, with_times, reads_of}
 use Rattle.rescue_rules.specs.RunCalls.{output_after, run_calls, end_calls}
 use Rattle.rescue_rules.proofs.HoldLemmas.{run_holds}
@@ -47,6 +49,7 @@ use Rattle.ddrescue_cli.specs.Told.{Told, AllTell, what_was_done, calls_before, 
 use Rattle.ddrescue_cli.specs.Work.{answer_of, OrRefused, ThenRead, ThenRun, RunsOver, WorksOn, Works}
 use Rattle.ddrescue_cli.specs.Ddrescue.{Ddrescue}
 use Rattle.ddrescue_cli.specs.Laws.{HoldsAtEnd, IsFinished, DoneIsSaved, comes_to}
+use Rattle.trim_scrape.proofs.EndingLemmas.{run_ends_well}
 use Rattle.ddrescue_cli.proofs.AskedLemmas.{asked_sensible}
 use Rattle.ddrescue_cli.proofs.OutputLemmas.{holds_whole}
 use Rattle.ddrescue_cli.proofs.GoesLemmas.{opened, settled, settled_more}
@@ -76,7 +79,7 @@ holds_at_end t c began state d asks tell on is stands =
 
 -- a run that ended with a save
 record SavedRun (s : Setting) (m : Machine) (events : List Event) (calls : List Entry) : Type 0 where
-  over : is_over s (state_after s m events) ≡ true
+  over : has_ended s (state_after s m events) ≡ true
   all : calls ≡ map Returned (run_calls s m events ++ end_calls s m events)
 
 -- only a run that is over is done
@@ -172,7 +175,7 @@ record DoneRun (s : Setting) (files : List ℕ → Option File) (g : Gain) : Typ
   stands : Stands (mapfile_in s files) s.end statuses state
   run : IsRun s (begins s statuses state g) (events_in g)
   reads : reads_of (events_in g) ≡ g.reads
-  over : is_over s (state_after s (begins s statuses state g) (events_in g)) ≡ true
+  over : has_ended s (state_after s (begins s statuses state g) (events_in g)) ≡ true
   calls : g.calls ≡ map Returned (opening_calls s ++ load) ++ last_calls s (begins s statuses state g) (events_in g)
 
 -- with a mapfile, and without one
@@ -263,8 +266,8 @@ number_last calls number k settled published_ older newer =
     omega (arith, lower, upper)
 
 -- what a run saves last where it is over
-last_finished : (s : Setting) (m : Machine) → is_over s m ≡ true → last_snapshot s m ≡ finished_snapshot m
-last_finished s m over = ap (λ (b : Bool). if b then finished_snapshot m else snapshot m) over
+last_finished : (s : Setting) (m : Machine) → has_ended s m ≡ true → last_snapshot s m ≡ finished_snapshot m
+last_finished s m over = ap (λ (b : Bool). if b then finished_snapshot m else snapshot_of m) over
 
 -- what stands behind all calls: the mapfile, and the output
 record Left (c : Command) (t : Told) (began : List Status) (state : Option MapState) : Type 0 where
@@ -283,7 +286,7 @@ saved_by c t r on calls k =
     let g : Gain = what_was_done t in
     let m : Machine = begins s r.statuses r.state g in
     let es : List Event = events_in g in
-    let due : List Snapshot = map (λ v. snapshot v.after) (filter (is_due s) (moves s m es)) in
+    let due : List Snapshot = map (λ v. snapshot_of v.after) (filter (is_due s) (moves s m es)) in
     let n : ℕ = dues s (moves s m es) in
     let file : Option File = files_of t s.names.map in
     let loads : BeginsLoad s.names.map file r.load = (r.loads.all on).begins in
@@ -291,7 +294,7 @@ saved_by c t r on calls k =
     let each : count_by is_publish g.calls ≡ n + 1 = ap (count_by is_publish) calls ∙ publishes_each s file r.load m es on loads in
     let all : k.number ≡ n + 1 = number_last g.calls k.number (n + 1) more each k.no_older k.no_newer in
     let last : k.number ≡ length due + 1 =
-    all ∙ ap (λ (i : ℕ). i + 1) (sym (length-map (filter (is_due s) (moves s m es)) (λ v. snapshot v.after))) in
+    all ∙ ap (λ (i : ℕ). i + 1) (sym (length-map (filter (is_due s) (moves s m es)) (λ v. snapshot_of v.after))) in
     let P : Snapshot → Type 0 = λ p. (k.statuses ≡ p.map)
     × (files_in t.site' s.names.map ≡ Some (record { bytes = text_of s.line p; regular = true })) in
     let saved : P (finished_snapshot (state_after s m es)) = subst P (last_finished s (state_after s m es) r.over)
@@ -310,6 +313,11 @@ left_with c t d asks tell r on =
     let stands : Stands (files_of t s.names.map) (length t.source.bytes) r.statuses r.state =
     subst (λ (o : Option File). Stands o s.end r.statuses r.state) (mapfile_is s (files_of t) on) r.stands in
     saved_by c t r on calls (holds_at_end t c r.statuses r.state d asks tell on (ap has_barrier calls) stands)
+
+-- a rescue's run begins in order
+begun_order : (s : Setting) (statuses : List Status) (state : Option MapState) (g : Gain) → IsInOrder s (begins s statuses state g)
+begun_order s statuses state g =
+    order_begins s (prepared s.domain s.again s.retrim statuses) (goes_on_from s.again state) (shown_at_first state) (began_at g.times)
 
 -- without a mapfile all writes of the run stand in the output
 held_without : (c : Command) (t : Told) (d : Ddrescue t) → Asks t.words c → AllTell t
@@ -333,7 +341,7 @@ held_without c t d asks tell r off =
     let image : bytes_of (files_in t.site' c.outfile) ≡ output_after s old es =
     ap (λ (f : Folder). bytes_of (f.files c.outfile)) now ∙ (holds_whole s m es start off).holds in
     let held : Held s (reads_of es) old (state_after s m es).map (output_after s old es) =
-    run_holds s m es old (asked_sensible c t asks) (order_begins s r.statuses None (shown_at_first r.state) (began_at g.times)) r.run in
+    run_holds s m es old (asked_sensible c t asks) (begun_order s r.statuses r.state g) r.run in
     subst (λ (bytes : List ℕ). Held s g.reads old (state_after s m es).map bytes) (sym image)
     (subst (λ (reads : List Reading). Held s reads old (state_after s m es).map (output_after s old es)) r.reads held)
 
@@ -345,6 +353,8 @@ finished_by c t d asks tell r = record {
   stands = r.stands;
   run = r.run;
   over = r.over;
+  well = run_ends_well (asked c t) (prepared (asked c t).domain (asked c t).again (asked c t).retrim r.statuses) (goes_on_from (asked c t).again r.state) (shown_at_first r.state)
+      (began_at (what_was_done t).times) (events_in (what_was_done t)) (asked_sensible c t asks) r.run r.over;
   mapfile = λ on. (left_with c t d asks tell r on).mapfile;
   held = ⊎_elim (λ (on : (asked c t).has_mapfile ≡ true). (left_with c t d asks tell r on).held)
       (λ (off : (asked c t).has_mapfile ≡ false). held_without c t d asks tell r off) (cases_Bool (asked c t).has_mapfile);

@@ -1,4 +1,4 @@
--- How a copy ends: its last save, or the turn that it stopped in.
+-- How a run ends: its last save, or the turn that it stopped in.
 use Rattle.std.proofs.Common.{◌≡◌, ◌⊎◌, ℕ, ◌+◌, ◌<◌, ◌^◌, Bool, true, false, ◌&&◌, IsTrue, if◌then◌else◌, List, [], ◌∷◌, ◌++◌, map, length, All, Option, Some, None, is_some, is_none, refl, sym, ap, ◌∙◌, arith, subst, append_assoc, append-nil, inl, inr, ⊎_elim}
 use Rattle.std.proofs.lemmas.List.Elements.{All-nil, All-cons, All-append}
 use Rattle.std.proofs.lemmas.Bool.{false_from_ne_true}
@@ -21,11 +21,11 @@ use Rattle.rescue_rules.specs.declared.stop.Stop.TheVariants.{SourceLost, Site, 
 use Rattle.rescue_rules.specs.declared.stop.RunEnd.{RunEnd}
 use Rattle.rescue_rules.specs.declared.stop.RunEnd.TheVariants.{Done, Stopped, SaveFailed}
 use Rattle.rescue_rules.specs.Setting.{Setting}
-use Rattle.rescue_rules.specs.Passes.{copying_passes}
+use Rattle.rescue_rules.specs.declared.phase.Phase.TheVariants.{Retrying}
 use Rattle.rescue_rules.specs.Machine.{Machine, IsRequest, has_request}
-use Rattle.rescue_rules.specs.Step.{Event, limit}
-use Rattle.rescue_rules.specs.Moves.{Move, ready, has_none, state_after, is_over, IsRun}
-use Rattle.rescue_rules.specs.Snapshots.{Snapshot, text_of, snapshot, finished_snapshot, last_snapshot, is_due}
+use Rattle.rescue_rules.specs.Step.{Event, limit_met}
+use Rattle.rescue_rules.specs.Moves.{Move, ready, no_pass_left, state_after, has_ended, IsRun}
+use Rattle.rescue_rules.specs.Snapshots.{Snapshot, text_of, snapshot_of, finished_snapshot, last_snapshot, is_due}
 use Rattle.rescue_rules.specs.RunCalls.{write_calls, due_calls, move_calls, run_calls, closing_calls, end_calls}
 use Rattle.rescue_rules.specs.Events.{reads_of, times_of}
 use Rattle.rescue_rules.specs.Laws.{AreTimes}
@@ -36,12 +36,12 @@ use Rattle.rescue_core.specs.RunState.{RunState, names_in, setting_in}
 use Rattle.rescue_core.specs.Turning.{IsEvent, stepped, move_by, Halted, Starved, Lost, Unwritten, Unsaved}
 use Rattle.rescue_core.specs.Closing.{Saves, Saved, Unsaved as UnsavedEnd, Closes, closing_snapshot, end_of as core_end}
 use Rattle.copy_passes.specs.Turns.{Across, IsFrom, IsAlike, moved_to, Went, WentUpTo}
-use Rattle.copy_passes.specs.Copying.{IsCopying}
+use Rattle.trim_scrape.specs.Behind.{IsBehind}
 use Rattle.ddrescue_cli.specs.Steps.{IsLate}
 use Rattle.ddrescue_cli.specs.declared.ending.Ending.TheVariants.{SiteFault}
 use Rattle.ddrescue_cli.specs.Work.{answer_of}
-use Rattle.ddrescue_cli.specs.Copying.{CopiesOnly, EndsCalls, WentToEnd}
-use Rattle.ddrescue_cli.proofs.CopyLemmas.{copied_over, still_only}
+use Rattle.ddrescue_cli.specs.Running.{EndsCalls, WentToEnd}
+use Rattle.ddrescue_cli.proofs.LastLemmas.{behind_all}
 use Rattle.ddrescue_cli.proofs.GainLemmas.{GainsBroken, broke_gains, broke_behind}
 use Rattle.ddrescue_cli.proofs.TurnLemmas.{timed_more, EventMore, event_more, ReadsMore, read_more}
 
@@ -50,25 +50,25 @@ ends_as None = refl
 ends_as (Some stop) = refl
 
 -- a run that has met a request isn't over
-pub asked_on : (s : Setting) (m : Machine) (p q : ℕ) → IsRequest s m p q → is_over s m ≡ false
+pub asked_on : (s : Setting) (m : Machine) (p q : ℕ) → IsRequest s m p q → has_ended s m ≡ false
 asked_on s m p q asks =
     let has : has_request s m ≡ true = request_seen s m p q asks in
     let here : ready s m ≡ m = ready_here s m has in
-    let some : has_none (ready s m).passes ≡ false =
-    ap (λ (n : Machine). has_none n.passes) here
-    ∙ false_from_ne_true (has_none m.passes) (λ none. let never : true ≡ false = sym has ∙ spent_request s m none in cc) in
-    ap (λ (b : Bool). b && is_none (limit s m)) some
+    let some : no_pass_left (ready s m).passes ≡ false =
+    ap (λ (n : Machine). no_pass_left n.passes) here
+    ∙ false_from_ne_true (no_pass_left m.passes) (λ none. let never : true ≡ false = sym has ∙ spent_request s m none in cc) in
+    ap (λ (b : Bool). b && is_none (limit_met s m)) some
 
-last_over : (s : Setting) (m : Machine) (over : Bool) → is_over s m ≡ over → last_snapshot s m ≡ (if over then finished_snapshot m else snapshot m)
-last_over s m over is = ap (λ (b : Bool). if b then finished_snapshot m else snapshot m) is
+last_over : (s : Setting) (m : Machine) (over : Bool) → has_ended s m ≡ over → last_snapshot s m ≡ (if over then finished_snapshot m else snapshot_of m)
+last_over s m over is = ap (λ (b : Bool). if b then finished_snapshot m else snapshot_of m) is
 
 -- Alike states are over alike, and are saved alike.
-over_alike : (r : RunState) (m n : Machine) (over : Bool) → IsAlike (setting_in r) m n → is_over (setting_in r) n ≡ over
-    → is_over (setting_in r) m ≡ over
+over_alike : (r : RunState) (m n : Machine) (over : Bool) → IsAlike (setting_in r) m n → has_ended (setting_in r) n ≡ over
+    → has_ended (setting_in r) m ≡ over
 over_alike r m n over alike is =
-    ap (λ (k : Machine). has_none k.passes && is_none (limit (setting_in r) n)) (sym alike.next) ∙ is
+    ap (λ (k : Machine). no_pass_left k.passes && is_none (limit_met (setting_in r) n)) (sym alike.next) ∙ is
 
-snapshot_alike : (s : Setting) (m n : Machine) → IsAlike s m n → snapshot n ≡ snapshot m
+snapshot_alike : (s : Setting) (m n : Machine) → IsAlike s m n → snapshot_of n ≡ snapshot_of m
 snapshot_alike s m n alike =
     let P : List Status → MapState → ℕ → ℕ → Snapshot = λ map shown began now.
     record { map = map; shown = shown; began = began; now = now } in
@@ -90,22 +90,22 @@ abbrev behind : RunState → List Event → Machine
 behind r events = state_after (setting_in r) r.machine events
 
 behind_over : (r r1 : RunState) (events : List Event) (over : Bool) → r1 ≡ moved_to r r1
-    → IsAlike (setting_in r) (behind r events) r1.machine → is_over (setting_in r1) r1.machine ≡ over
-    → is_over (setting_in r) (behind r events) ≡ over
+    → IsAlike (setting_in r) (behind r events) r1.machine → has_ended (setting_in r1) r1.machine ≡ over
+    → has_ended (setting_in r) (behind r events) ≡ over
 behind_over r r1 events over stands alike is =
     over_alike r (behind r events) r1.machine over alike
-    (subst (λ (t : Setting). is_over t r1.machine ≡ over) (setting_stands r r1 stands) is)
+    (subst (λ (t : Setting). has_ended t r1.machine ≡ over) (setting_stands r r1 stands) is)
 
 -- what the end of that one saves is what the run's end saves
 saves_over : (r r1 : RunState) (events : List Event) → IsAlike (setting_in r) (behind r events) r1.machine
-    → is_over (setting_in r) (behind r events) ≡ true
+    → has_ended (setting_in r) (behind r events) ≡ true
     → closing_snapshot None r1 ≡ last_snapshot (setting_in r) (behind r events)
 saves_over r r1 events alike over =
     let m : Machine = behind r events in
     finished_alike (setting_in r) m r1.machine alike ∙ sym (last_over (setting_in r) m true over)
 
 saves_on : (r r1 : RunState) (events : List Event) (stop : Stop) → IsAlike (setting_in r) (behind r events) r1.machine
-    → is_over (setting_in r) (behind r events) ≡ false
+    → has_ended (setting_in r) (behind r events) ≡ false
     → closing_snapshot (Some stop) r1 ≡ last_snapshot (setting_in r) (behind r events)
 saves_on r r1 events stop alike on =
     let m : Machine = behind r events in
@@ -121,7 +121,7 @@ record IsDone (r : RunState) (events : List Event) (spare : List ℕ) (o : Acros
 
 to_end : (r : RunState) (end : RunEnd) (events : List Event) (spare : List ℕ) (o : Across) → IsDone r events spare o
     → (IsTrue o.site.tells → EndsCalls r events (length spare) end o.site.calls o.site'.calls)
-    → (end ≡ Done → is_over (setting_in r) (state_after (setting_in r) r.machine events) ≡ true) → IsLate (answer_of end)
+    → (end ≡ Done → has_ended (setting_in r) (state_after (setting_in r) r.machine events) ≡ true) → IsLate (answer_of end)
     → WentToEnd r end o
 to_end r end events spare o d calls done late = record {
   events = events;
@@ -237,35 +237,32 @@ saves_done : (stop : Stop) (r : RunState) (end : RunEnd) (a b : SiteState) → S
 saves_done stop r end a b (Saved is makes rest) done = let never : Stopped stop ≡ Done = sym is ∙ done in cc
 saves_done stop r end a b (UnsavedEnd call is named breaks rest) done = let never : SaveFailed call (Some stop) ≡ Done = sym is ∙ done in cc
 
--- a copy that went on to its end
+-- a run that went on to its end
 ended_done : (r r1 : RunState) (end : RunEnd) (o : Across) (site2 : SiteState) → Went r r1 o
-    → is_over (setting_in r1) r1.machine ≡ true → o.site'.tells ≡ o.site.tells → Closes None r1 end o.site' site2
+    → has_ended (setting_in r1) r1.machine ≡ true → o.site'.tells ≡ o.site.tells → Closes None r1 end o.site' site2
     → WentToEnd r end (record o { site' = site2 })
 ended_done r r1 end o site2 w over same saves =
-    let over' : is_over (setting_in r) (behind r w.events) ≡ true = behind_over r r1 w.events true w.stands w.state over in
+    let over' : has_ended (setting_in r) (behind r w.events) ≡ true = behind_over r r1 w.events true w.stands w.state over in
     to_end r end w.events [] (record o { site' = site2 }) (done_went r r1 o site2 w)
     (λ tells. save_ends r r1 w.events None 0 end o.site.calls o.site' site2 (over', refl) (setting_stands r r1 w.stands)
     (saves_over r r1 w.events w.state over') (w.made.made tells) (rw same tells) saves)
     (λ done. over')
     (saves_late None r1 end o.site' site2 (λ call is. cc) saves)
 
--- a copy that went through its last pass, and was asked for no more
-pub copied_end : (r r1 r2 : RunState) (end : RunEnd) (o : Across) (site2 : SiteState) → Went r r1 o → IsCopying r1
-    → CopiesOnly r.settings → r1.pass ≡ copying_passes → has_request (setting_in r1) r1.machine ≡ false → r2 ≡ r1
-    → o.site'.tells ≡ o.site.tells → Closes None r2 end o.site' site2 → WentToEnd r end (record o { site' = site2 })
-copied_end r r1 r2 end o site2 w copying only last spent still same saves =
-    ended_done r r1 end o site2 w (copied_over r1 copying (still_only r.settings r1.settings (ap (λ (q : RunState). q.settings) w.stands) only) last spent) same
-    (saves_as None r2 r1 end o.site' site2 still saves)
+-- a run that came behind its last phase
+pub run_end : (r r1 : RunState) (end : RunEnd) (o : Across) (site2 : SiteState) → Went r r1 o → IsBehind Retrying r1
+    → o.site'.tells ≡ o.site.tells → Closes None r1 end o.site' site2 → WentToEnd r end (record o { site' = site2 })
+run_end r r1 end o site2 w behind same saves = ended_done r r1 end o site2 w (behind_all r1 behind) same saves
 
--- a copy that stopped before its event's calls
+-- a run that stopped before its event's calls
 stopped_saves : (r r1 r2 : RunState) (stop : Stop) (end : RunEnd) (p q : ℕ) (spare : List ℕ) (o : Across) (site2 : SiteState)
     (source2 : SourceState) (clock2 : ClockState) → (w : Went r r1 o) → IsRequest (setting_in r1) r1.machine p q → r2 ≡ r1
-    → ((m : Machine) → is_over (setting_in r) m ≡ false → EndsBy (Some stop) (setting_in r) m (length spare))
+    → ((m : Machine) → has_ended (setting_in r) m ≡ false → EndsBy (Some stop) (setting_in r) m (length spare))
     → ((call : SiteCall) → Some stop ≡ Some (Site call) → ⊥)
     → o.site'.tells ≡ o.site.tells → IsDone r w.events spare (record o { source' = source2; site' = site2; clock' = clock2 })
     → Saves (Some stop) r2 end o.site' site2 → WentToEnd r end (record o { source' = source2; site' = site2; clock' = clock2 })
 stopped_saves r r1 r2 stop end p q spare o site2 source2 clock2 w asks still by other same d saves =
-    let on : is_over (setting_in r) (behind r w.events) ≡ false =
+    let on : has_ended (setting_in r) (behind r w.events) ≡ false =
     behind_over r r1 w.events false w.stands w.state (asked_on (setting_in r1) r1.machine p q asks) in
     to_end r end w.events spare (record o { source' = source2; site' = site2; clock' = clock2 }) d
     (λ tells. save_ends r r1 w.events (Some stop) (length spare) end o.site.calls o.site' site2 (by (behind r w.events) on)
@@ -274,7 +271,7 @@ stopped_saves r r1 r2 stop end p q spare o site2 source2 clock2 w asks still by 
     (λ done. absurd (saves_done stop r2 end o.site' site2 saves done))
     (saves_late (Some stop) r2 end o.site' site2 other saves)
 
--- a copy that broke off in its event's calls
+-- a run that broke off in its event's calls
 broken_calls : (r r1 : RunState) (es : List Event) (e : Event) (call : SiteCall) (end : RunEnd) (old a b : List Entry)
     → EventMore r r1 es e → end ≡ Stopped (Site call) → Made (run_calls (setting_in r) r.machine es) old a
     → BrokeAt call (move_calls (setting_in r1) (move_by r1 e)) a b → EndsCalls r (es ++ e ∷ []) 0 end old b
@@ -358,15 +355,15 @@ broken_write r e a b c still breaks tells =
 
 broken_save : (r r2 : RunState) (e : Event) (call : SiteCall) (a b c : SiteState) → c ≡ b → r2 ≡ stepped r e
     → is_due (setting_in r) (move_by r e) ≡ true
-    → BrokeAt call (save_calls (names_in r.names) (text_of r.line (snapshot r2.machine)))
+    → BrokeAt call (save_calls (names_in r.names) (text_of r.line (snapshot_of r2.machine)))
     (a.calls ++ map Returned (write_calls (setting_in r) e.reading)) b.calls
     → BrokeAt call (move_calls (setting_in r) (move_by r e)) a.calls c.calls
 broken_save r r2 e call a b c still steps due broke =
     let s : Setting = setting_in r in
     let v : Move = move_by r e in
     let writes : List Call = write_calls s e.reading in
-    let saves : List Call = save_calls s.names (text_of s.line (snapshot v.after)) in
-    let P : RunState → Type 0 = λ q. BrokeAt call (save_calls (names_in r.names) (text_of r.line (snapshot q.machine)))
+    let saves : List Call = save_calls s.names (text_of s.line (snapshot_of v.after)) in
+    let P : RunState → Type 0 = λ q. BrokeAt call (save_calls (names_in r.names) (text_of r.line (snapshot_of q.machine)))
     (a.calls ++ map Returned writes) b.calls in
     let there : BrokeAt call saves (a.calls ++ map Returned writes) b.calls = subst P steps broke in
     let made : due_calls s v ≡ saves = ap (λ (on : Bool). if on then saves else []) due in
@@ -402,7 +399,7 @@ halted_end r r1 r2 stop end request o source2 site2 site3 clock2 w stays same as
     let C : Stop → Type 0 = λ x. Closes (Some x) r2 end site2 site3 in
     let closed : (end ≡ Stopped (Site call)) × (site3 ≡ site2) = subst C is closes in
     broken_end r r1 call end request e o source2 site3 clock2 w (event_next r r1 request e o source2 clock2 w asks event) event stays closed.0
-    (save_named call (names_in r1.names) (text_of r1.line (snapshot r2.machine)) named)
+    (save_named call (names_in r1.names) (text_of r1.line (snapshot_of r2.machine)) named)
     (λ tells. broken_save r1 r2 e call o.site' site2 site3 closed.1 steps due (broke (rw same tells)))
 
 pub stopped_end : (r r2 : RunState) (stop : Stop) (end : RunEnd) (o : Across) (site3 : SiteState) → WentUpTo stop r r2 o

@@ -1,5 +1,6 @@
 -- The work of a rescue goes as it should.
 use Rattle.std.proofs.Common.{◌≡◌, ℕ, ◌+◌, ◌≤◌, true, false, ◌⊎◌, List, [], ◌∷◌, ◌++◌, map, length, take, Option, refl, sym, ap, ◌∙◌, inl, inr, subst, arith, append-nil}
+use Rattle.std.proofs.lemmas.List.Elements.{All-nil}
 use Rattle.block_list.specs.declared.status.Status.{Status}
 use Rattle.mapfile_text.specs.declared.state.MapState.{MapState}
 use Rattle.crash_site.specs.declared.site.SiteCall.TheVariants.{MapRead}
@@ -11,7 +12,7 @@ use Rattle.save_resume.specs.Resuming.{barrier_calls}
 use Rattle.rescue_rules.specs.declared.stop.RunEnd.{RunEnd}
 use Rattle.rescue_rules.specs.Setting.{Setting}
 use Rattle.rescue_rules.specs.Start.{Stands}
-use Rattle.rescue_rules.specs.Work.{Gain, IsNothing, Runs, mapfile_in, Goes, InOpening, InLoad, InRun}
+use Rattle.rescue_rules.specs.Work.{Gain, IsNothing, Runs, mapfile_in, GoesOn, InOpening, InLoad, InRun, Goes, BehindMaps, is_map_read}
 use Rattle.rescue_rules.specs.Stops.{Behind, LeftAt, has_barrier, StopsSafely}
 use Rattle.ddrescue_cli.specs.declared.ending.Ending.{Ending}
 use Rattle.ddrescue_cli.specs.Refusals.{MapfileRefused, PlacesRefused}
@@ -58,12 +59,12 @@ alone_behind s load calls run grew none =
 opening_goes : (s : Setting) (files : List ℕ → Option File) (g : Gain) (front back : List Call) → s.has_mapfile ≡ true
     → front ++ back ≡ settling_calls s → g.reads ≡ []
     → (g.calls ≡ map Returned front) ⊎ ((call : Call) × (rest : List Call) × (back ≡ call ∷ rest) × Lost call (map Returned front) g.calls)
-    → Goes s files g
+    → GoesOn s files g
 opening_goes s files g front back on is none h = InOpening front back (is ∙ sym (opening_is s on)) none h
 
 load_goes : (s : Setting) (files : List ℕ → Option File) (g : Gain) (load : List Call) → s.has_mapfile ≡ true
     → BeginsLoad s.names.map (files s.names.map) load → g.reads ≡ []
-    → (g.calls ≡ map Returned (settling_calls s ++ load)) ⊎ BrokeAt MapRead (settling_calls s ++ load) [] g.calls → Goes s files g
+    → (g.calls ≡ map Returned (settling_calls s ++ load)) ⊎ BrokeAt MapRead (settling_calls s ++ load) [] g.calls → GoesOn s files g
 load_goes s files g load on begins none h =
     InLoad load on begins none
     (subst (λ (l : List Call). (g.calls ≡ map Returned (l ++ load)) ⊎ BrokeAt MapRead (l ++ load) [] g.calls) (sym (opening_is s on)) h)
@@ -71,7 +72,7 @@ load_goes s files g load on begins none h =
 run_goes : (s : Setting) (files : List ℕ → Option File) (g : Gain) (load : List Call) (statuses : List Status) (state : Option MapState)
     (end : RunEnd) (run : List Entry) → s.has_mapfile ≡ true → IsLoad s.names.map (files s.names.map) load
     → Stands (mapfile_in s files) s.end statuses state → g.calls ≡ map Returned (settling_calls s ++ load) ++ run
-    → Runs s statuses state (record g { calls = run }) end → Goes s files g
+    → Runs s statuses state (record g { calls = run }) end → GoesOn s files g
 run_goes s files g load statuses state end run on loaded stands grew runs =
     InRun load statuses state end run (record { all = λ _. loaded; none = λ off. absurd (let never : true ≡ false = sym on ∙ off in cc) })
     stands
@@ -81,7 +82,7 @@ run_goes s files g load statuses state end run on loaded stands grew runs =
 over_goes : (s : Setting) (files : List ℕ → Option File) (e : Ending) (g : Gain) (load : List Call) (statuses : List Status)
     (state : Option MapState) (run : List Entry) → s.has_mapfile ≡ true → IsLoad s.names.map (files s.names.map) load
     → Stands (mapfile_in s files) s.end statuses state → g.calls ≡ map Returned (settling_calls s ++ load) ++ run
-    → RunsOver s statuses state e (record g { calls = run }) → Goes s files g
+    → RunsOver s statuses state e (record g { calls = run }) → GoesOn s files g
 over_goes s files e g load statuses state run on loaded stands grew (inl un) =
     load_goes s files g load on loaded.begins un.reads (inl (grew ∙ ap (λ r. map Returned (settling_calls s ++ load) ++ r) un.calls
     ∙ append-nil (map Returned (settling_calls s ++ load))))
@@ -92,7 +93,7 @@ over_goes s files e g load statuses state run on loaded stands grew (inr (end, i
 loaded_goes : (s : Setting) (files : List ℕ → Option File) (e : Ending) (g : Gain) (load : List Call) (run : List Entry)
     → s.has_mapfile ≡ true → IsLoad s.names.map (files s.names.map) load → g.calls ≡ map Returned (settling_calls s ++ load) ++ run
     → OrRefused (MapfileRefused (files s.names.map)) (OrRefused (PlacesRefused s) (ThenRun s (mapfile_in s files))) e (record g { calls = run })
-    → Goes s files g
+    → GoesOn s files g
 loaded_goes s files e g load run on loaded grew (inl (refused, none)) =
     load_goes s files g load on loaded.begins none.reads (inl (alone_behind s load g.calls run grew none.calls))
 loaded_goes s files e g load run on loaded grew (inr (accepted, inl (refused, none))) =
@@ -104,7 +105,7 @@ read_goes : (s : Setting) (files : List ℕ → Option File) (e : Ending) (g : G
     → g.calls ≡ opened s ++ rest → rest ≡ map Returned (barrier_calls s.names) ++ more
     → ThenRead s.names.map (files s.names.map)
     (OrRefused (MapfileRefused (files s.names.map)) (OrRefused (PlacesRefused s) (ThenRun s (mapfile_in s files)))) e (record g { calls = more })
-    → Goes s files g
+    → GoesOn s files g
 read_goes s files e g rest more on grew grew' (inl (load, is, begins, broke, only)) =
     load_goes s files g load on begins only.reads (inr (broke_settled s load g.calls more (settled_more s g.calls rest more grew grew') broke))
 read_goes s files e g rest more on grew grew' (inr (inl (load, is, begins, all, only))) =
@@ -112,7 +113,7 @@ read_goes s files e g rest more on grew grew' (inr (inl (load, is, begins, all, 
 read_goes s files e g rest more on grew grew' (inr (inr (load, run, loaded, all, next))) =
     loaded_goes s files e g load run on loaded (settled_more s g.calls rest more grew grew' ∙ ap (λ r. settled s ++ r) all) next
 
-pub goes_on : (s : Setting) (files : List ℕ → Option File) (e : Ending) (g : Gain) → s.has_mapfile ≡ true → WorksOn s files e g → Goes s files g
+goes_on : (s : Setting) (files : List ℕ → Option File) (e : Ending) (g : Gain) → s.has_mapfile ≡ true → WorksOn s files e g → GoesOn s files g
 goes_on s files e g on (inl (refused, none)) = opening_goes s files g [] (settling_calls s) on refl none.reads (inl none.calls)
 goes_on s files e g on (inr (inl (call, is, inl (name, lost), only))) =
     opening_goes s files g [] (settling_calls s) on refl only.reads (inr (image_open s.outfile true, barrier_calls s.names, refl, lost))
@@ -129,6 +130,11 @@ goes_on s files e g on (inr (inr (rest, grew, inr (passes, inl (has, inl (call, 
 goes_on s files e g on (inr (inr (rest, grew, inr (passes, inl (has, inl (call, is, inr (inr broke), only)))))) = absurd broke
 goes_on s files e g on (inr (inr (rest, grew, inr (passes, inl (has, inr (more, grew', read)))))) =
     read_goes s files e g rest more on grew grew' read
+
+-- behind the reads of no other map
+pub work_goes : (s : Setting) (files : List ℕ → Option File) (e : Ending) (g : Gain) → s.has_mapfile ≡ true → WorksOn s files e g → Goes s files g
+work_goes s files e g on works =
+    BehindMaps [] g.calls (All-nil (λ (c : Call). is_map_read c ≡ true)) refl (goes_on s files e g on works)
 
 -- where nothing was done, what is found could be found before
 nothing_left : (b : Behind) (g : Gain) (k : ℕ) (files : List ℕ → Option File) → IsNothing g → k ≤ length g.calls → LeftAt b g k files

@@ -2,7 +2,7 @@ pub mod AloneLemmas
 pub mod AnswerLemmas
 pub mod AskedLemmas
 pub mod BeginLemmas
-pub mod CopyLemmas
+pub mod LastLemmas
 pub mod CountLemmas
 pub mod DoneLemmas
 pub mod EndLemmas
@@ -12,6 +12,7 @@ pub mod GoesLemmas
 pub mod LeftLemmas
 pub mod LoadLemmas
 pub mod OutputLemmas
+pub mod PhaseLemmas
 pub mod PlaceLemmas
 pub mod PromiseLemmas
 pub mod RanLemmas

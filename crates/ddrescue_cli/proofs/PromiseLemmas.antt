@@ -7,12 +7,14 @@ use Rattle.std.proofs.lemmas.Bool.{cond_both}
 use Rattle.std.proofs.lemmas.Slice.Eq.{bytes_eq-Decides}
 use Rattle.fault_count.specs.Counts.{raised}
 use Rattle.faulty_source.specs.SourceState.{SourceState, Keeps as SourceKeeps}
+use Rattle.faulty_source.proofs.Keeping.{keeps_self}
 use Rattle.crash_site.specs.Files.{File}
 use Rattle.crash_site.specs.SiteState.{SiteState, Keeps as SiteKeeps}
 use Rattle.option_words.specs.declared.fault.WordFault.{WordFault}
 use Rattle.option_words.specs.declared.fault.WordFault.TheVariants.{NoMemory as WordNoMemory}
 use Rattle.option_words.specs.declared.fault.UsageFault.{UsageFault}
 use Rattle.option_words.specs.declared.fault.UsageFault.TheVariants.{Word, BadValue, Operands, PlaceTooLarge}
+use Rattle.option_words.specs.declared.reading.Item.{Item}
 use Rattle.option_words.specs.Reading.{WordFaultAt}
 use Rattle.option_words.proofs.MemoryLemmas.{never_memory}
 use Rattle.save_resume.specs.MapNames.{MapNames, names_of}
@@ -25,14 +27,14 @@ use Rattle.rescue_rules.specs.Laws.{AreThreeNames, AreTimes}
 use Rattle.rescue_rules.proofs.StopsLemmas.{goes_safely}
 use Rattle.rescue_core.specs.RunState.{names_in}
 use Rattle.rescue_command.specs.declared.options.Options.{Options}
-use Rattle.rescue_command.specs.Command.{Command, Asks, AskQuiet, AreRefused, Unread, Wrong, IsAsked, IsRefusal as IsRefusedFor, command_by, command_with, empty_operand, unless_empty}
-use Rattle.rescue_command.specs.Options.{options_in}
+use Rattle.rescue_command.specs.Command.{Command, Asks, AskQuiet, AreRefused, Unread, Wrong, IsAsked, IsRefusal as IsRefusedFor, command_by, command_with, empty_operand, is_too_large, unless_empty}
+use Rattle.rescue_command.specs.Options.{cluster_row, last_of, options_in, word_in}
 use Rattle.ddrescue_cli.specs.declared.ending.Operand.{Operand}
 use Rattle.ddrescue_cli.specs.declared.ending.Operand.TheVariants.{Infile, Outfile, Mapfile, Draft}
 use Rattle.ddrescue_cli.specs.declared.ending.Ending.{Ending}
 use Rattle.ddrescue_cli.specs.declared.ending.Ending.TheVariants.{Done, Usage, SameName, SourceFault, NotRegular, MapRefused, SourceLost, SiteFault, NoMemory}
 use Rattle.ddrescue_cli.specs.Names.{first_same, AreNamedApart, command_line}
-use Rattle.ddrescue_cli.specs.Asked.{setting_with, names_by}
+use Rattle.ddrescue_cli.specs.Asked.{setting_asked, names_by}
 use Rattle.ddrescue_cli.specs.Told.{Told, AllTell, gained, what_was_done, calls_before, files_of, asked}
 use Rattle.ddrescue_cli.specs.Refusals.{NamesRefused}
 use Rattle.ddrescue_cli.specs.Work.{WorksOn}
@@ -45,7 +47,7 @@ use Rattle.ddrescue_cli.proofs.AloneLemmas.{none_read}
 use Rattle.ddrescue_cli.proofs.AskedLemmas.{asked_sensible}
 use Rattle.ddrescue_cli.proofs.GainLemmas.{gained_is}
 use Rattle.ddrescue_cli.proofs.WorkLemmas.{across}
-use Rattle.ddrescue_cli.proofs.GoesLemmas.{goes_on, nothing_stops}
+use Rattle.ddrescue_cli.proofs.GoesLemmas.{work_goes, nothing_stops}
 
 -- an answer that comes before anything was done
 abbrev pub IsEarly : Ending → Type 0
@@ -224,15 +226,7 @@ still_kept words e s d k p p' early says_words refused none says = record {
   asked_for = λ c asks. still_promised words e s d k p p' c early (refused c asks);
   draft = none ∙ sym (early_drafts e early);
   says = says;
-  source = record {
-    tells = refl;
-    may_lose = refl;
-    planned = refl;
-    bytes = λ tells. refl;
-    opens = omega arith;
-    faults = omega arith;
-    losses = omega arith;
-  };
+  source = keeps_self s;
   site = record { tells = refl; start = λ tells. refl; planned = refl; later = omega arith };
   clock = record { planned = refl; plan = refl };
   gains = λ tell. record { reads = gains_none s.journal; calls = gains_none d.calls; times = gains_none k.readings };
@@ -249,26 +243,33 @@ record IsElse (fault : UsageFault) : Type 0 where
   number : (n : ℕ) → Operands n ≡ fault → ⊥
 
 -- words that were read have none such
+unless_value : (fault : UsageFault) (e : Option ℕ) (c : Command) → IsElse fault → unless_empty e (Ok c) ≡ Err fault → ⊥
+unless_value fault None c other is = absurd (cc)
+unless_value fault (Some n) c other is = other.value n (cc)
+
 unless_else : (fault : UsageFault) (e : Option ℕ) (words : List (List ℕ)) (o : Options) (operands : List ℕ) → IsElse fault
     → unless_empty e (command_with words o operands) ≡ Err fault → ⊥
 unless_else fault e words o [] other is = other.number 0 (cc)
 unless_else fault e words o (i ∷ []) other is = other.number 1 (cc)
-unless_else fault None words o (i ∷ out ∷ []) other is = absurd (cc)
-unless_else fault (Some n) words o (i ∷ out ∷ []) other is = other.value n (cc)
-unless_else fault None words o (i ∷ out ∷ map ∷ []) other is = absurd (cc)
-unless_else fault (Some n) words o (i ∷ out ∷ map ∷ []) other is = other.value n (cc)
+unless_else fault e words o (i ∷ out ∷ []) other is = unless_value fault e _ other is
+unless_else fault e words o (i ∷ out ∷ map ∷ []) other is = unless_value fault e _ other is
 unless_else fault e words o (i ∷ out ∷ map ∷ n ∷ more) other is = other.number (length (i ∷ out ∷ map ∷ n ∷ more)) (cc)
 
-by_else : (fault : UsageFault) (words : List (List ℕ)) (r : Result Options ℕ) (operands : List ℕ) → IsElse fault
-    → command_by words r operands ≡ Err fault → ⊥
-by_else fault words (Err n) operands other is = other.value n (cc)
-by_else fault words (Ok o) operands other is = unless_else fault (empty_operand words operands) words o operands other is
+by_else : (fault : UsageFault) (words : List (List ℕ)) (items : List Item) (r : Result Options ℕ) (operands : List ℕ) → IsElse fault
+    → command_by words items r operands ≡ Err fault → ⊥
+by_else fault words items (Err n) operands other is = other.value n (cc)
+by_else fault words items (Ok o) operands other is =
+    let P : Result Command UsageFault → Type 0 = λ r. r ≡ Err fault → ⊥ in
+    cond_both (is_too_large o) (Err (BadValue (word_in (last_of cluster_row items))))
+    (unless_empty (empty_operand words operands) (command_with words o operands))
+    P (λ on same. other.value (word_in (last_of cluster_row items)) (cc))
+    (λ off same. unless_else fault (empty_operand words operands) words o operands other same) is
 
 -- no words are refused for a place
 never_place : (words : List (List ℕ)) → AreRefused words PlaceTooLarge → ⊥
 never_place words (Unread rows f options at is) = absurd (cc)
 never_place words (Wrong rows items operands options reading is) =
-    by_else PlaceTooLarge words (options_in words items) operands (record { value = λ n same. cc; number = λ n same. cc }) is
+    by_else PlaceTooLarge words items (options_in words items) operands (record { value = λ n same. cc; number = λ n same. cc }) is
 
 -- nor for want of memory
 never_starved : (words : List (List ℕ)) (f : WordFault) → AreRefused words (Word f) → f ≢ WordNoMemory
@@ -276,7 +277,7 @@ never_starved words f (Unread rows g options at is) none =
     let same : g ≡ WordNoMemory = let of : f ≡ g = cc in sym of ∙ none in
     never_memory rows words (subst (λ (h : WordFault). WordFaultAt rows words h) same at)
 never_starved words f (Wrong rows items operands options reading is) none =
-    by_else (Word f) words (options_in words items) operands (record { value = λ n same. cc; number = λ n same. cc }) is
+    by_else (Word f) words items (options_in words items) operands (record { value = λ n same. cc; number = λ n same. cc }) is
 
 refused_says : (words : List (List ℕ)) (fault : UsageFault) → AreRefused words fault
     → IsEarly (Usage fault) × SaysOfWords (Usage fault) words
@@ -359,7 +360,7 @@ stops_by : (c : Command) (t : Told) (g : Gain) → Asks t.words c → first_same
 stops_by c t g asks different on works (inl none) fit = nothing_stops (calls_before t) (asked c t) g none
 stops_by c t g asks different on works (inr short) fit =
     goes_safely (calls_before t) (asked c t) g (asked_sensible c t asks) on (three_names c t on different) short fit
-    (goes_on (asked c t) (files_of t) t.answer g on works)
+    (work_goes (asked c t) (files_of t) t.answer g on works)
 
 -- what the objects tell of a call before and behind it
 abbrev pub across_of : Told → Across
@@ -461,7 +462,7 @@ pub work_kept : (t : Told) (c : Command) (i o : List ℕ) (n : Option MapNames) 
     → IsBehindWords t.answer → Causes t.answer t.source t.source' t.site t.site'
     → (IsTrue t.source.tells → IsOpenedAs t.answer i t.source t.source') → t.source'.opens ≡ raised t.source.opens
     → (IsTrue t.source.is_planned → IsRefusedByPlan t.answer i t.source.plan)
-    → Worked (setting_with i o n l w (length t.source.bytes)) (files_of t) t.answer (across_of t)
+    → Worked (setting_asked i o n l w (length t.source.bytes)) (files_of t) t.answer (across_of t)
     → t.site'.is_drafting ≡ drafting_left t.answer → SourceKeeps t.source t.source' → SiteKeeps t.site t.site'
     → ClockKeeps t.clock t.clock' → Says t → Ddrescue t
 work_kept t c i o n l w a is_i is_o is_n is_l is_w different behind cause input once refused worked draft keeps keeps' keeps_clock says =

@@ -1,6 +1,7 @@
 -- What a run did, whatever its input and its output are named.
 use Rattle.std.proofs.Common.{◌≡◌, ℕ, ◌*◌, ◌<◌, ◌^◌, Bool, true, IsTrue, List, [], ◌∷◌, ◌++◌, length, All, Option, Some, None, is_some, refl, sym, ap, ◌∙◌, arith, subst, inl, inr, append-nil, length-append}
 use Rattle.std.proofs.Math.Path.{fun_ext}
+use Rattle.std.proofs.lemmas.Option.{none-some}
 use Rattle.std.proofs.lemmas.List.Elements.{All-nil, All-cons}
 use Rattle.block_list.specs.declared.status.Status.{Status}
 use Rattle.mapfile_text.specs.declared.state.MapState.{MapState}
@@ -15,32 +16,39 @@ use Rattle.rescue_rules.specs.declared.stop.RunEnd.{RunEnd}
 use Rattle.rescue_rules.specs.declared.stop.RunEnd.TheVariants.{Done as Finished, Stopped, SaveFailed}
 use Rattle.rescue_rules.specs.declared.stop.Stop.{Stop}
 use Rattle.rescue_rules.specs.declared.stop.Stop.TheVariants.{SourceLost as InputLost, Site, NoMemory as NoRoom}
-use Rattle.rescue_rules.specs.Setting.{Setting}
+use Rattle.rescue_rules.specs.declared.phase.Phase.TheVariants.{Copying}
+use Rattle.rescue_rules.specs.Setting.{Setting, IsSensible}
 use Rattle.rescue_rules.specs.Nameless.{nameless}
 use Rattle.rescue_rules.specs.Machine.{Machine}
 use Rattle.rescue_rules.specs.Step.{Event}
-use Rattle.rescue_rules.specs.Moves.{state_after, is_over, IsMove, IsRun}
-use Rattle.rescue_rules.specs.Beginning.{shown_at_first, machine_of}
+use Rattle.rescue_rules.specs.Moves.{state_after, has_ended, IsMove, IsRun}
+use Rattle.rescue_rules.specs.Preparation.{prepared}
+use Rattle.rescue_rules.specs.Beginning.{first_pass, goes_on_from, shown_at_first, machine_of, machine_over}
 use Rattle.rescue_rules.specs.Events.{reads_of, times_of, with_times}
 use Rattle.rescue_rules.specs.Laws.{AreTimes}
 use Rattle.rescue_rules.specs.Work.{Gain, events_in, EndsBy, Ends, IsSaved, IsUnsaved, IsBroken}
 use Rattle.rescue_rules.proofs.NamelessLemmas.{run_named}
+use Rattle.rescue_rules.proofs.ReadyLemmas.{order_over}
+use Rattle.trim_scrape.specs.Bounds.{AskFew}
+use Rattle.trim_scrape.specs.Endings.{EndsWell}
+use Rattle.trim_scrape.proofs.BoundLemmas.{run_asks_few}
+use Rattle.trim_scrape.proofs.EndingLemmas.{run_ends_well}
 use Rattle.rescue_core.specs.declared.settings.Settings.{Settings}
 use Rattle.rescue_core.specs.RunState.{RunState, names_in, setting_with as core_setting, setting_in}
 use Rattle.ddrescue_cli.specs.declared.ending.Ending.{Ending}
 use Rattle.ddrescue_cli.specs.declared.ending.Ending.TheVariants.{Done, SourceLost, SiteFault, NoMemory}
 use Rattle.rescue_command.specs.declared.options.Options.{Options}
-use Rattle.ddrescue_cli.specs.Asked.{setting_with}
+use Rattle.ddrescue_cli.specs.Asked.{setting_asked}
 use Rattle.copy_passes.specs.Turns.{Across, IsFrom}
 use Rattle.ddrescue_cli.specs.Alone.{IsBeforeReads, HasRead}
 use Rattle.ddrescue_cli.specs.Work.{answer_of}
 use Rattle.ddrescue_cli.specs.Steps.{TellAll, RanOn, Ran}
-use Rattle.ddrescue_cli.specs.Copying.{settings_by, IsRunOver, EndsCalls, WentToEnd}
+use Rattle.ddrescue_cli.specs.Running.{settings_by, IsRunOver, EndsCalls, WentToEnd}
 use Rattle.ddrescue_cli.proofs.TurnLemmas.{timed_more}
 
 -- the setting of such a run is the rescue's, but for the names of its files
 setting_is : (i o : List ℕ) (n : Option MapNames) (l : List ℕ) (opts : Options) (end : ℕ) (statuses : List Status) (state : Option MapState) (moment : ℕ)
-    (r : RunState) → IsRunOver n l opts end statuses state moment r → setting_in r ≡ nameless (setting_with i o n l opts end)
+    (r : RunState) → IsRunOver n l opts end statuses state moment r → setting_in r ≡ nameless (setting_asked i o n l opts end)
 setting_is i o n l opts end statuses state moment r is =
     let domain : ℕ → Bool = whole_domain opts.input_position opts.size end in
     let positions : covers r.domain ≡ domain = fun_ext is.domain in
@@ -73,30 +81,58 @@ ends_named s m es spare calls end (IsUnsaved stop call by is broke) =
     IsUnsaved stop call (ends_by_named stop s (state_after s m es) spare by) is broke
 ends_named s m es spare calls end (IsBroken before last call split none is broke) = IsBroken before last call split none is broke
 
+-- a setting is sensible whatever its names
+named_sensible : (s : Setting) → IsSensible (nameless s) → IsSensible s
+named_sensible s ok = record {
+  sector = ok.sector;
+  sectors = ok.sectors;
+  some = ok.some;
+  cluster = ok.cluster;
+  from = ok.from;
+  retries = ok.retries;
+}
+
 -- a run over a map from this moment on, in the words of a rescue
 record InWords (s : Setting) (statuses : List Status) (state : Option MapState) (moment : ℕ) (end : RunEnd) (o : Across) : Type 0 where
   events : List Event
   spare : List ℕ
-  run : IsRun s (machine_of s statuses None (shown_at_first state) moment) events
+  run : IsRun s (machine_over s statuses state moment) events
   calls : IsTrue o.site.tells → (gained : List Entry) × (o.site'.calls ≡ o.site.calls ++ gained)
-      × Ends s (machine_of s statuses None (shown_at_first state) moment) events (length spare) gained end
+      × Ends s (machine_over s statuses state moment) events (length spare) gained end
   read : IsTrue o.source.tells → o.source'.journal ≡ o.source.journal ++ reads_of events
   right : IsTrue o.source.tells → All (IsFrom o.source.bytes) (reads_of events)
   timed : ReadsClock (times_of events ++ spare) o.clock o.clock'
   fit : AreTimes (times_of events ++ spare)
-  done : end ≡ Finished → is_over s (state_after s (machine_of s statuses None (shown_at_first state) moment) events) ≡ true
+  done : end ≡ Finished → has_ended s (state_after s (machine_over s statuses state moment) events) ≡ true
+  sensible : IsSensible s
+
+-- a run asks few times, and leaves each position well where it went on to its end
+words_few : (s : Setting) (statuses : List Status) (state : Option MapState) (moment : ℕ) (end : RunEnd) (o : Across)
+    → (w : InWords s statuses state moment end o) → AskFew s (machine_over s statuses state moment) w.events
+words_few s statuses state moment end o w =
+    run_asks_few s (machine_over s statuses state moment) Copying (first_pass (goes_on_from s.again state)) w.events w.sensible
+    (order_over s statuses state moment) refl w.run
+
+words_well : (s : Setting) (statuses : List Status) (state : Option MapState) (moment : ℕ) (end : RunEnd) (o : Across)
+    → (w : InWords s statuses state moment end o) → end ≡ Finished → EndsWell s (machine_over s statuses state moment) w.events
+words_well s statuses state moment end o w finished =
+    run_ends_well s (prepared s.domain s.again s.retrim statuses) (goes_on_from s.again state) (shown_at_first state) moment
+    w.events w.sensible w.run (w.done finished)
 
 in_words : (i o : List ℕ) (n : Option MapNames) (l : List ℕ) (opts : Options) (end : ℕ) (statuses : List Status) (state : Option MapState) (moment : ℕ)
     (r : RunState) (at : RunEnd) (a : Across) → IsRunOver n l opts end statuses state moment r → WentToEnd r at a
-    → InWords (setting_with i o n l opts end) statuses state moment at a
+    → InWords (setting_asked i o n l opts end) statuses state moment at a
 in_words i o n l opts end statuses state moment r at a is w =
-    let s : Setting = setting_with i o n l opts end in
+    let s : Setting = setting_asked i o n l opts end in
     let same : setting_in r ≡ nameless s = setting_is i o n l opts end statuses state moment r is in
-    let m : Machine = machine_of s statuses None (shown_at_first state) moment in
-    let start : r.machine ≡ m = is.machine ∙ ap (λ (t : Setting). machine_of t statuses None (shown_at_first state) moment) same in
+    let m : Machine = machine_over s statuses state moment in
+    let positions : covers r.domain ≡ s.domain = fun_ext is.domain in
+    let M : (ℕ → Bool) → Setting → Machine =
+    λ inside t. machine_of t (prepared inside opts.try_again opts.retrim statuses) (goes_on_from opts.try_again state) (shown_at_first state) moment in
+    let start : r.machine ≡ m = is.machine ∙ ap (λ (inside : ℕ → Bool). M inside (setting_in r)) positions ∙ ap (M s.domain) same in
     let P : Setting → Machine → Type 0 = λ t n. IsRun t n w.events in
     let E : List Entry → Setting → Machine → Type 0 = λ gained t n. Ends t n w.events (length w.spare) gained at in
-    let O : Setting → Machine → Type 0 = λ t n. is_over t (state_after t n w.events) ≡ true in
+    let O : Setting → Machine → Type 0 = λ t n. has_ended t (state_after t n w.events) ≡ true in
     record {
       events = w.events;
       spare = w.spare;
@@ -113,6 +149,7 @@ in_words i o n l opts end statuses state moment r at a is w =
       timed = w.timed;
       fit = w.fit;
       done = λ finished. subst (O (nameless s)) start (subst (λ (t : Setting). O t r.machine) same (w.done finished));
+      sensible = named_sensible s (subst IsSensible same is.copying.sensible);
     }
 
 -- the run with all its calls, reads and readings
@@ -123,7 +160,7 @@ ran_told s statuses state moment end o before w first small tell =
     let c = w.calls tell.site in
     let times : List ℕ = moment ∷ (times_of w.events ++ w.spare) in
     let g : Gain = record { calls = c.0; reads = reads_of w.events; times = times } in
-    let m : Machine = machine_of s statuses None (shown_at_first state) moment in
+    let m : Machine = machine_over s statuses state moment in
     let own : events_in g ≡ w.events = with_own_times w.events w.spare in
     let all : ReadsClock times before o.clock' =
     timed_more (moment ∷ []) (times_of w.events ++ w.spare) before o.clock o.clock' first w.timed in
@@ -166,23 +203,26 @@ answer_finished (SaveFailed call earlier) is = absurd (let no : SiteFault call e
 ran_read : (s : Setting) (statuses : List Status) (state : Option MapState) (moment : ℕ) (end : RunEnd) (o : Across)
     → InWords s statuses state moment end o → IsTrue o.source.tells → HasRead s (answer_of end) o.source o.source'
 ran_read s statuses state moment end o w tells = record {
-  start = machine_of s statuses None (shown_at_first state) moment;
+  statuses = statuses;
+  state = state;
+  time = moment;
   events = w.events;
-  began = refl;
   gained = w.read tells;
   run = w.run;
   right = w.right tells;
   refused = λ refused. absurd (run_refused end refused);
+  few = words_few s statuses state moment end o w;
   done = λ done. w.done (answer_finished end done);
+  well = λ done. words_well s statuses state moment end o w (answer_finished end done);
 }
 
 -- a run that was begun
 pub ran_went : (i o : List ℕ) (n : Option MapNames) (l : List ℕ) (opts : Options) (end : ℕ) (statuses : List Status) (state : Option MapState) (moment : ℕ)
     (r : RunState) (at : RunEnd) (e : Ending) (a : Across) (before : ClockState) → IsRunOver n l opts end statuses state moment r → WentToEnd r at a
     → e ≡ answer_of at → ReadsClock (moment ∷ []) before a.clock → moment < 2 ^ 64
-    → Ran (setting_with i o n l opts end) statuses state e (record a { clock = before })
+    → Ran (setting_asked i o n l opts end) statuses state e (record a { clock = before })
 ran_went i o n l opts end statuses state moment r at e a before is w answered first small =
-    let s : Setting = setting_with i o n l opts end in
+    let s : Setting = setting_asked i o n l opts end in
     let words : InWords s statuses state moment at a = in_words i o n l opts end statuses state moment r at a is w in
     subst (λ (x : Ending). Ran s statuses state x (record a { clock = before })) (sym answered)
     (record {
@@ -191,6 +231,15 @@ ran_went i o n l opts end statuses state moment r at e a before is w answered fi
       ends = (at, refl);
       late = w.late;
     })
+
+-- no event asks for anything
+pub none_asked : (s : Setting) (m : Machine) → AskFew s m []
+none_asked s m = record {
+  copying = λ i j x v w a b on also. absurd (none-some v a.is);
+  narrowing = λ i j x v w a b on also. absurd (none-some v a.is);
+  retrying = λ i j x n v w a b on also. absurd (none-some v a.is);
+  unfinished = λ i x v a has. none-some v a.is;
+}
 
 -- memory that ran out before a run began
 pub ran_unbegun : (s : Setting) (statuses : List Status) (state : Option MapState) (moment : ℕ) (a : SourceState) (d : SiteState)
@@ -208,14 +257,17 @@ ran_unbegun s statuses state moment a d k k' first small = record {
     runs = inl (record { answer = refl; calls = refl; reads = refl; times = omega arith });
   };
   read = λ tells. record {
-    start = machine_of s statuses None (shown_at_first state) moment;
+    statuses = statuses;
+    state = state;
+    time = moment;
     events = [];
-    began = refl;
     gained = sym (append-nil a.journal);
     run = record { each = All-nil (IsMove s) };
     right = All-nil (IsFrom a.bytes);
     refused = λ refused. refl;
+    few = none_asked s (machine_over s statuses state moment);
     done = λ done. absurd (let no : NoMemory ≡ Done = done in cc);
+    well = λ done. absurd (let no : NoMemory ≡ Done = done in cc);
   };
   ends = (Stopped NoRoom, refl);
   late = record { no_open = λ earlier is. cc; no_read = λ earlier is. cc };

@@ -24,7 +24,7 @@ use Rattle.ddrescue_cli.specs.declared.ending.Ending.{Ending}
 use Rattle.ddrescue_cli.specs.declared.ending.Ending.TheVariants.{Usage, SourceFault, NoMemory}
 use Rattle.ddrescue_cli.specs.declared.load.Start.{Start}
 use Rattle.ddrescue_cli.specs.Names.{AreNamedApart}
-use Rattle.ddrescue_cli.specs.Asked.{setting_with, ArePlacedBy, IsBeyond}
+use Rattle.ddrescue_cli.specs.Asked.{setting_asked, ArePlacedBy, IsBeyond}
 use Rattle.ddrescue_cli.specs.Refusals.{is_other, OutputRefused, PlacesRefused}
 use Rattle.ddrescue_cli.specs.Work.{HasOnlyCalls, OrRefused, ThenRun, WorksOn}
 use Rattle.copy_passes.specs.Turns.{Across}
@@ -132,7 +132,7 @@ worked_stopped_at : (i o : List ℕ) (n : MapNames) (l : List ℕ) (w : Options)
     (d0 d1 d2 : SiteState) (k : ClockState) → s1.journal ≡ s0.journal → end < 2 ^ 63
     → Made (image_open o true ∷ []) d0.calls d1.calls → IsRegular w.forced o d0
     → LoadStopped n (files_in d0 n.map) e d1.calls d2.calls
-    → WorkedOn (setting_with i o (Some n) l w end) (files_in d0) e (across s0 s1 d0 d2 k k)
+    → WorkedOn (setting_asked i o (Some n) l w end) (files_in d0) e (across s0 s1 d0 d2 k k)
 worked_stopped_at i o n l w e end s0 s1 d0 d1 d2 k same short made regular (InBarrier call is broke) =
     let g : GainsBroken call (barrier_calls n) d1.calls d2.calls = broke_gains call (barrier_calls n) d1.calls d2.calls broke in
     let calls : List Entry = Returned (image_open o true) ∷ g.more in
@@ -210,7 +210,7 @@ worked_stopped_at i o n l w e end s0 s1 d0 d1 d2 k same short made regular (Refu
 -- memory ran out for the map without a mapfile
 worked_starved : (i o l : List ℕ) (w : Options) (e : Ending) (end : ℕ) (s0 s1 : SourceState) (d0 d1 d2 : SiteState) (k : ClockState)
     → s1.journal ≡ s0.journal → end < 2 ^ 63 → Made (image_open o true ∷ []) d0.calls d1.calls → IsRegular w.forced o d0
-    → d2 ≡ d1 → e ≡ NoMemory → WorkedOn (setting_with i o None l w end) (files_in d0) e (across s0 s1 d0 d2 k k)
+    → d2 ≡ d1 → e ≡ NoMemory → WorkedOn (setting_asked i o None l w end) (files_in d0) e (across s0 s1 d0 d2 k k)
 worked_starved i o l w e end s0 s1 d0 d1 d2 k same short made regular stays is =
     let calls : List Entry = Returned (image_open o true) ∷ [] in
     record {
@@ -235,7 +235,7 @@ here o n d0 d1 apart made = open_apart d0.start d1.start o n.map d0.calls d1.cal
 pub worked_stopped : (i o : List ℕ) (n : Option MapNames) (l : List ℕ) (w : Options) (e : Ending) (end all : ℕ) (s0 s1 : SourceState)
     (d0 d1 d2 : SiteState) (k : ClockState) → s1.journal ≡ s0.journal → all < 2 ^ 63 → AreNamedApart o n → HasOpened o d0 d1
     → IsRegular w.forced o d0 → Loaded n end (Err e) d1 d2
-    → WorkedOn (setting_with i o n l w all) (files_in d0) e (across s0 s1 d0 d2 k k)
+    → WorkedOn (setting_asked i o n l w all) (files_in d0) e (across s0 s1 d0 d2 k k)
 worked_stopped i o (Some n) l w e end all s0 s1 d0 d1 d2 k same short apart made regular stop =
     let Q : Option File → Type 0 = λ f. LoadStopped n f e d1.calls d2.calls in
     worked_stopped_at i o n l w e all s0 s1 d0 d1 d2 k same short made.1 regular (subst Q (here o n d0 d1 apart made) stop.0)
@@ -256,7 +256,7 @@ record Begun (s : Setting) (files : List ℕ → Option File) (statuses : List S
 
 begun : (i o : List ℕ) (n : Option MapNames) (l : List ℕ) (w : Options) (end : ℕ) (start : Start) (d0 d1 d2 : SiteState)
     → AreNamedApart o n → HasOpened o d0 d1 → IsRegular w.forced o d0 → Loaded n end (Ok start) d1 d2
-    → Begun (setting_with i o n l w end) (files_in d0) start.tiles.statuses start.state d0 d2
+    → Begun (setting_asked i o n l w end) (files_in d0) start.tiles.statuses start.state d0 d2
 begun i o (Some n) l w end start d0 d1 d2 apart made regular loaded =
     let Q : Option File → Type 0 = λ f. Started n f end start.tiles.statuses start.state d1.calls d2.calls in
     let st : Started n (files_in d0 n.map) end start.tiles.statuses start.state d1.calls d2.calls =
@@ -292,15 +292,15 @@ begun i o None l w end start d0 d1 d2 apart made regular loaded = record {
 
 -- a position has no place in the output
 pub beyond_is_refused : (i o : List ℕ) (n : Option MapNames) (l : List ℕ) (w : Options) (end : ℕ) → IsBeyond w end
-    → PlacesRefused (setting_with i o n l w end) (Usage PlaceTooLarge)
+    → PlacesRefused (setting_asked i o n l w end) (Usage PlaceTooLarge)
 beyond_is_refused i o n l w end far = (far.0, far.1, far.2, refl)
 
 worked_beyond_at : (i o : List ℕ) (n : Option MapNames) (l : List ℕ) (w : Options) (end : ℕ) (start : Start) (s0 s1 : SourceState)
     (d0 d1 d2 : SiteState) (k : ClockState) → s1.journal ≡ s0.journal → end < 2 ^ 63 → AreNamedApart o n → HasOpened o d0 d1
     → IsRegular w.forced o d0 → Loaded n end (Ok start) d1 d2 → IsBeyond w end
-    → WorkedOn (setting_with i o n l w end) (files_in d0) (Usage PlaceTooLarge) (across s0 s1 d0 d2 k k)
+    → WorkedOn (setting_asked i o n l w end) (files_in d0) (Usage PlaceTooLarge) (across s0 s1 d0 d2 k k)
 worked_beyond_at i o n l w end start s0 s1 d0 d1 d2 k same short apart made regular loaded far =
-    let b : Begun (setting_with i o n l w end) (files_in d0) start.tiles.statuses start.state d0 d2 =
+    let b : Begun (setting_asked i o n l w end) (files_in d0) start.tiles.statuses start.state d0 d2 =
     begun i o n l w end start d0 d1 d2 apart made regular loaded in
     let calls : List Entry = Returned (image_open o true) ∷ (b.entries ++ []) in
     record {
@@ -315,28 +315,28 @@ worked_beyond_at i o n l w end start s0 s1 d0 d1 d2 k same short apart made regu
 pub worked_beyond : (i o : List ℕ) (n : Option MapNames) (l : List ℕ) (w : Options) (end all : ℕ) (start : Start) (s0 s1 : SourceState)
     (d0 d1 d2 : SiteState) (k : ClockState) → end ≡ all → s1.journal ≡ s0.journal → end < 2 ^ 63 → AreNamedApart o n
     → HasOpened o d0 d1 → IsRegular w.forced o d0 → Loaded n end (Ok start) d1 d2 → IsBeyond w end
-    → WorkedOn (setting_with i o n l w all) (files_in d0) (Usage PlaceTooLarge) (across s0 s1 d0 d2 k k)
+    → WorkedOn (setting_asked i o n l w all) (files_in d0) (Usage PlaceTooLarge) (across s0 s1 d0 d2 k k)
 worked_beyond i o n l w end all start s0 s1 d0 d1 d2 k whole same short apart made regular loaded far =
     let P : ℕ → Type 0 =
-    λ size. WorkedOn (setting_with i o n l w size) (files_in d0) (Usage PlaceTooLarge) (across s0 s1 d0 d2 k k) in
+    λ size. WorkedOn (setting_asked i o n l w size) (files_in d0) (Usage PlaceTooLarge) (across s0 s1 d0 d2 k k) in
     subst P whole (worked_beyond_at i o n l w end start s0 s1 d0 d1 d2 k same short apart made regular loaded far)
 
 -- each has one
 pub placed_passes : (i o : List ℕ) (n : Option MapNames) (l : List ℕ) (w : Options) (end : ℕ) → ArePlacedBy w end → (e : Ending)
-    → PlacesRefused (setting_with i o n l w end) e → ⊥
+    → PlacesRefused (setting_asked i o n l w end) e → ⊥
 placed_passes i o n l w end placed e refused =
-    let near : place (setting_with i o n l w end) refused.0 < 2 ^ 63 - 1 = placed refused.0 refused.1 in
-    let far : 2 ^ 63 ≤ place (setting_with i o n l w end) refused.0 + 1 = refused.2 in
+    let near : place (setting_asked i o n l w end) refused.0 < 2 ^ 63 - 1 = placed refused.0 refused.1 in
+    let far : 2 ^ 63 ≤ place (setting_asked i o n l w end) refused.0 + 1 = refused.2 in
     omega (arith, near, far)
 
 -- a run had begun
 worked_run_at : (i o : List ℕ) (n : Option MapNames) (l : List ℕ) (w : Options) (e : Ending) (end : ℕ) (start : Start)
     (s0 s1 s2 : SourceState) (d0 d1 d2 d3 : SiteState) (k k' : ClockState) → s1.journal ≡ s0.journal → end < 2 ^ 63
     → AreNamedApart o n → HasOpened o d0 d1 → IsRegular w.forced o d0 → Loaded n end (Ok start) d1 d2 → ArePlacedBy w end
-    → RanOn (setting_with i o n l w end) start.tiles.statuses start.state e (across s1 s2 d2 d3 k k')
-    → WorkedOn (setting_with i o n l w end) (files_in d0) e (across s0 s2 d0 d3 k k')
+    → RanOn (setting_asked i o n l w end) start.tiles.statuses start.state e (across s1 s2 d2 d3 k k')
+    → WorkedOn (setting_asked i o n l w end) (files_in d0) e (across s0 s2 d0 d3 k k')
 worked_run_at i o n l w e end start s0 s1 s2 d0 d1 d2 d3 k k' same short apart made regular loaded placed ran =
-    let b : Begun (setting_with i o n l w end) (files_in d0) start.tiles.statuses start.state d0 d2 =
+    let b : Begun (setting_asked i o n l w end) (files_in d0) start.tiles.statuses start.state d0 d2 =
     begun i o n l w end start d0 d1 d2 apart made regular loaded in
     let calls : List Entry = Returned (image_open o true) ∷ (b.entries ++ ran.gain.calls) in
     record {
@@ -356,8 +356,8 @@ worked_run_at i o n l w e end start s0 s1 s2 d0 d1 d2 d3 k k' same short apart m
 pub worked_run : (i o : List ℕ) (n : Option MapNames) (l : List ℕ) (w : Options) (e : Ending) (end all : ℕ) (start : Start)
     (s0 s1 s2 : SourceState) (d0 d1 d2 d3 : SiteState) (k k' : ClockState) → end ≡ all → s1.journal ≡ s0.journal → end < 2 ^ 63
     → AreNamedApart o n → HasOpened o d0 d1 → IsRegular w.forced o d0 → Loaded n end (Ok start) d1 d2 → ArePlacedBy w end
-    → RanOn (setting_with i o n l w end) start.tiles.statuses start.state e (across s1 s2 d2 d3 k k')
-    → WorkedOn (setting_with i o n l w all) (files_in d0) e (across s0 s2 d0 d3 k k')
+    → RanOn (setting_asked i o n l w end) start.tiles.statuses start.state e (across s1 s2 d2 d3 k k')
+    → WorkedOn (setting_asked i o n l w all) (files_in d0) e (across s0 s2 d0 d3 k k')
 worked_run i o n l w e end all start s0 s1 s2 d0 d1 d2 d3 k k' whole same short apart made regular loaded placed ran =
-    let P : ℕ → Type 0 = λ size. WorkedOn (setting_with i o n l w size) (files_in d0) e (across s0 s2 d0 d3 k k') in
+    let P : ℕ → Type 0 = λ size. WorkedOn (setting_asked i o n l w size) (files_in d0) e (across s0 s2 d0 d3 k k') in
     subst P whole (worked_run_at i o n l w e end start s0 s1 s2 d0 d1 d2 d3 k k' same short apart made regular loaded placed ran)

@@ -1,18 +1,21 @@
 -- What is said where the input tells, whatever the files do, and where the files tell, whatever the input does.
 use Rattle.std.specs.Prelude.{◌≡◌, ◌≢◌, ⊤, ℕ, true, false, List, [], ◌++◌, All, Option, Some, None}
 use Rattle.faulty_source.specs.SourceState.{SourceState}
+use Rattle.block_list.specs.declared.status.Status.{Status}
+use Rattle.mapfile_text.specs.declared.state.MapState.{MapState}
 use Rattle.crash_site.specs.declared.site.SiteCall.{SiteCall}
 use Rattle.crash_site.specs.declared.site.SiteCall.TheVariants.{ImageOpen, ImageRead, ImageWrite, ImageSync, MapRead, DraftBegin, DraftAppend, DraftSync, DraftPublish, MapSettle, MapRemove}
 use Rattle.crash_site.specs.Files.{File, empty_file}
 use Rattle.option_words.specs.declared.fault.UsageFault.TheVariants.{Word, BadValue, Operands, PlaceTooLarge}
 use Rattle.rescue_rules.specs.Setting.{Setting}
 use Rattle.rescue_rules.specs.Work.{mapfile_in}
-use Rattle.rescue_rules.specs.Machine.{Machine}
 use Rattle.rescue_rules.specs.Step.{Event}
-use Rattle.rescue_rules.specs.Moves.{state_after, is_over, IsRun}
-use Rattle.rescue_rules.specs.Beginning.{machine_of}
+use Rattle.rescue_rules.specs.Moves.{state_after, has_ended, IsRun}
+use Rattle.rescue_rules.specs.Beginning.{machine_over}
 use Rattle.rescue_rules.specs.Events.{reads_of}
 use Rattle.copy_passes.specs.Turns.{IsFrom}
+use Rattle.trim_scrape.specs.Bounds.{AskFew}
+use Rattle.trim_scrape.specs.Endings.{EndsWell}
 use Rattle.ddrescue_cli.specs.declared.ending.Ending.{Ending}
 use Rattle.ddrescue_cli.specs.declared.ending.Ending.TheVariants.{Done, Usage, SameName, SourceFault, NotRegular, MapRefused, SourceLost, SiteFault, NoMemory}
 use Rattle.ddrescue_cli.specs.Refusals.{is_other, OutputRefused, MapfileRefused, PlacesRefused}
@@ -29,17 +32,20 @@ IsBeforeReads SourceLost = ⊥
 IsBeforeReads (SiteFault call earlier) = ⊥
 IsBeforeReads NoMemory = ⊥
 
--- The reads are those of a run over some map, and gave the input's own bytes; there is none before a refusal, and no
--- pass has a request left where the rescue is done.
+-- The reads are those of a run over some map, and gave the input's own bytes; there is none before a refusal. They ask few
+-- times for a position; and where the rescue is done no pass has a request left, and each position of the domain is left well.
 pub record HasRead (s : Setting) (e : Ending) (source source' : SourceState) : Type 0 where
-  pub start : Machine
+  pub statuses : List Status
+  pub state : Option MapState
+  pub time : ℕ
   pub events : List Event
-  pub began : start ≡ machine_of s start.map None start.shown start.began
   pub gained : source'.journal ≡ source.journal ++ reads_of events
-  pub run : IsRun s start events
+  pub run : IsRun s (machine_over s statuses state time) events
   pub right : All (IsFrom source.bytes) (reads_of events)
   pub refused : IsBeforeReads e → events ≡ []
-  pub done : e ≡ Done → is_over s (state_after s start events) ≡ true
+  pub few : AskFew s (machine_over s statuses state time) events
+  pub done : e ≡ Done → has_ended s (state_after s (machine_over s statuses state time) events) ≡ true
+  pub well : e ≡ Done → EndsWell s (machine_over s statuses state time) events
 
 -- what the failure of a call shows of the files, where it comes once the output is open: the output is a regular file
 -- or absent, or something else is allowed

@@ -1,10 +1,11 @@
 -- What a command asks for of an input.
-use Rattle.std.specs.Prelude.{◌≡◌, ℕ, ◌+◌, ◌-◌, ◌^◌, ◌<◌, ◌≤◌, true, false, List, Option, None, is_some, unwrap_or, option_map}
+use Rattle.std.specs.Prelude.{◌≡◌, ℕ, ◌+◌, ◌-◌, ◌^◌, ◌<◌, ◌≤◌, true, not, List, Option, None, is_some, unwrap_or, option_map}
 use Rattle.save_resume.specs.MapNames.{MapNames, names_of}
 use Rattle.rescue_domain.specs.Domain.{whole_domain}
 use Rattle.rescue_rules.specs.Setting.{Setting}
 use Rattle.rescue_core.specs.RunState.{names_in}
 use Rattle.rescue_command.specs.declared.options.Options.{Options}
+use Rattle.rescue_command.specs.Options.{cluster_of, in_sectors}
 use Rattle.rescue_command.specs.Command.{Command}
 
 -- where the rescue begins in the output
@@ -24,9 +25,9 @@ abbrev pub IsBeyond : Options → (end : ℕ) → Type 0
 IsBeyond o end = (x : ℕ) × (whole_domain o.input_position o.size end x ≡ true) × (2 ^ 63 ≤ place_by o x + 1)
 
 -- What files with these names, this command line and these options ask for of an input with this length: each position
--- of the input from the input position on, and no more than the size; sector by sector, and no more than copying.
-abbrev pub setting_with : (infile outfile : List ℕ) → Option MapNames → (line : List ℕ) → Options → (end : ℕ) → Setting
-setting_with infile outfile names line o end = record {
+-- of the input from the input position on, and no more than the size.
+abbrev pub setting_asked : (infile outfile : List ℕ) → Option MapNames → (line : List ℕ) → Options → (end : ℕ) → Setting
+setting_asked infile outfile names line o end = record {
   infile = infile;
   outfile = outfile;
   forced = o.forced;
@@ -37,16 +38,18 @@ setting_with infile outfile names line o end = record {
   domain = whole_domain o.input_position o.size end;
   from = o.input_position;
   to = output_from o;
+  again = o.try_again;
+  retrim = o.retrim;
   sector = o.sector;
-  cluster = o.sector;
-  skip = 0;
-  skip_max = 0;
-  min_rate = 0;
-  trims = false;
-  scrapes = false;
-  retries = 0;
-  reverse = false;
-  one_way = false;
+  cluster = cluster_of o;
+  skip = in_sectors o o.skip;
+  skip_max = in_sectors o o.skip_max;
+  min_rate = o.min_rate;
+  trims = not o.no_trim;
+  scrapes = not o.no_scrape;
+  retries = o.retries;
+  reverse = o.reverse;
+  one_way = o.unidirectional;
   max_errors = None;
   timeout = None;
 }
@@ -56,4 +59,4 @@ abbrev pub names_by : Command → Option MapNames
 names_by c = option_map names_of c.mapfile
 
 abbrev pub setting_of : Command → (line : List ℕ) → (end : ℕ) → Setting
-setting_of c line end = setting_with c.infile c.outfile (names_by c) line c.options end
+setting_of c line end = setting_asked c.infile c.outfile (names_by c) line c.options end

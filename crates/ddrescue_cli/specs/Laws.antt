@@ -7,8 +7,9 @@ use Rattle.crash_site.specs.SiteState.{files_in}
 use Rattle.rescue_rules.specs.Setting.{Setting}
 use Rattle.rescue_rules.specs.Start.{Stands}
 use Rattle.rescue_rules.specs.Machine.{Machine}
-use Rattle.rescue_rules.specs.Moves.{state_after, is_over, IsRun}
+use Rattle.rescue_rules.specs.Moves.{state_after, has_ended, IsRun}
 use Rattle.rescue_rules.specs.Given.{given}
+use Rattle.trim_scrape.specs.Endings.{EndsWell}
 use Rattle.rescue_rules.specs.Held.{Held}
 use Rattle.rescue_rules.specs.Snapshots.{text_of, finished_snapshot}
 use Rattle.rescue_rules.specs.Work.{Gain, begins, events_in, mapfile_in}
@@ -42,7 +43,9 @@ pub record IsFinished (c : Command) (t : Told) : Type 0 where
   pub stands : Stands (mapfile_in (asked c t) (files_of t)) (length t.source.bytes) statuses state
   -- the reads are a run that left no request in any pass
   pub run : IsRun (asked c t) (begins (asked c t) statuses state (what_was_done t)) (events_in (what_was_done t))
-  pub over : is_over (asked c t) (comes_to c t statuses state) ≡ true
+  pub over : has_ended (asked c t) (comes_to c t statuses state) ≡ true
+  -- each position of the domain is left well: rescued, or not to be tried further, or tried in vain as often as was asked
+  pub well : EndsWell (asked c t) (begins (asked c t) statuses state (what_was_done t)) (events_in (what_was_done t))
   -- the mapfile, if there is one, is the map of all reads, and says that it is finished
   pub mapfile : (asked c t).has_mapfile ≡ true → files_in t.site' (asked c t).names.map
       ≡ Some (record {

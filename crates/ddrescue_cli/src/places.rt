@@ -1,6 +1,6 @@
 //! Whether each position of the domain has a place in the output.
 ghost use Rattle.std.specs.Prelude.{◌≡◌, ◌<◌, ◌^◌, true, false};
-ghost use Rattle.rescue_command.specs.Command.{IsSound};
+ghost use Rattle.rescue_command.specs.Command.{AreInLimits};
 ghost use Rattle.ddrescue_cli.specs.Asked.{output_from, ArePlacedBy, IsBeyond};
 
 use rescue_command::options::Options;
@@ -20,7 +20,7 @@ pub(crate) fn output_from(options: &Options) -> u64
 
 /// Whether the positions that are asked for of an input of this length all end in the output below 2^63.
 pub(crate) fn places_fit(options: &Options, end: u64) -> bool
-    requires sound { IsSound options.now }
+    requires limits { AreInLimits options.now }
     requires end { end < 2 ^ 63 }
     ensures fit { result ≡ true → ArePlacedBy options.now end }
     ensures beyond { result ≡ false → IsBeyond options.now end }

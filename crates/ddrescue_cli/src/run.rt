@@ -1,0 +1,116 @@
+//! The run of a rescue: its phases, and the last save behind them.
+ghost use Rattle.std.specs.Prelude.{◌≡◌, true, false, IfOk, IfErr, OnOk};
+ghost use Rattle.faulty_source.specs.SourceState.{Stays as SourceStays};
+ghost use Rattle.crash_site.specs.SiteState.{Keeps as SiteKeeps};
+ghost use Rattle.rescue_console.specs.ClockState.{Keeps as ClockKeeps};
+ghost use Rattle.rescue_domain.specs.Parts.{covers};
+ghost use Rattle.rescue_rules.specs.declared.phase.Phase.TheVariants.{Retrying as LastPhase};
+ghost use Rattle.rescue_core.specs.RunState.{HasPlaces};
+ghost use Rattle.rescue_core.specs.Closing.{drafting_after};
+ghost use Rattle.copy_passes.specs.Turns.{Went, WentUpTo};
+ghost use Rattle.copy_passes.specs.Copying.{IsCopying};
+ghost use Rattle.trim_scrape.specs.Behind.{IsBehind};
+ghost use Rattle.ddrescue_cli.specs.Answers.{Causes, drafting_left};
+ghost use Rattle.ddrescue_cli.specs.Work.{answer_of};
+ghost use Rattle.ddrescue_cli.specs.Running.{WentToEnd};
+
+use block_list::plain_tiles::PlainTiles;
+use copy_passes::copy::run_copying;
+use crash_site::site::Site;
+use faulty_source::source::Source;
+use rescue_console::clock::Clock;
+use rescue_console::console::Console;
+use rescue_core::phases::{Copying, Finished, Rescue, Stopped};
+use rescue_rules::stop::RunEnd;
+use trim_scrape::phases::{run_retrying, run_scraping, run_trimming};
+
+/// The map of a run.
+pub type RunMap = PlainTiles;
+
+/// Makes the phases of a rescue in order: it copies, trims, scrapes and retries.
+fn run_phases<S: Source, D: Site, K: Clock, C: Console>(
+    rescue: Rescue<Copying, RunMap>,
+    source: &mut S,
+    site: &mut D,
+    clock: &mut K,
+    console: &mut C,
+) -> Result<Rescue<Finished, RunMap>, Stopped<RunMap>>
+    requires copying { IsCopying rescue }
+    requires places { HasPlaces rescue.settings (covers rescue.domain) }
+    requires input { (S.state source.old).is_open ≡ true }
+    requires image { (D.state site.old).is_open ≡ true }
+    requires no_draft { (D.state site.old).is_drafting ≡ false }
+    ensures went { IfOk result (λ r. Went rescue r (record {
+      source = S.state source.old;
+      source' = S.state source.new;
+      site = D.state site.old;
+      site' = D.state site.new;
+      clock = K.state clock.old;
+      clock' = K.state clock.new;
+    })) }
+    ensures behind { IfOk result (λ r. IsBehind LastPhase r) }
+    ensures halted { IfErr result (λ s. WentUpTo s.stop rescue s.run (record {
+      source = S.state source.old;
+      source' = S.state source.new;
+      site = D.state site.old;
+      site' = D.state site.new;
+      clock = K.state clock.old;
+      clock' = K.state clock.new;
+    })) }
+    ensures draft { OnOk result ((D.state site.new).is_drafting ≡ false) }
+    ensures draft_left { IfErr result (λ s. (D.state site.new).is_drafting ≡ drafting_after s.stop) }
+    ensures source { SourceStays (S.state source.old) (S.state source.new) }
+    ensures site { SiteKeeps (D.state site.old) (D.state site.new) }
+    ensures clock { ClockKeeps (K.state clock.old) (K.state clock.new) }
+    ensures console { C.state console.new ≡ C.state console.old }
+{
+    let copied = match run_copying(rescue, source, site, clock, console) {
+        Ok(copied) => copied,
+        Err(stopped) => return Err(stopped),
+    };
+    let trimmed = match run_trimming(copied, source, site, clock, console) {
+        Ok(trimmed) => trimmed,
+        Err(stopped) => return Err(stopped),
+    };
+    let scraped = match run_scraping(trimmed, source, site, clock, console) {
+        Ok(scraped) => scraped,
+        Err(stopped) => return Err(stopped),
+    };
+    run_retrying(scraped, source, site, clock, console)
+}
+
+/// Makes the phases of a rescue in order, and saves the map at its end, or where it stopped. Without a mapfile the output is
+/// made durable then.
+pub fn run_rescue<S: Source, D: Site, K: Clock, C: Console>(
+    rescue: Rescue<Copying, RunMap>,
+    source: &mut S,
+    site: &mut D,
+    clock: &mut K,
+    console: &mut C,
+) -> RunEnd
+    requires copying { IsCopying rescue }
+    requires places { HasPlaces rescue.settings (covers rescue.domain) }
+    requires input { (S.state source.old).is_open ≡ true }
+    requires image { (D.state site.old).is_open ≡ true }
+    requires no_draft { (D.state site.old).is_drafting ≡ false }
+    ensures went { WentToEnd rescue result (record {
+      source = S.state source.old;
+      source' = S.state source.new;
+      site = D.state site.old;
+      site' = D.state site.new;
+      clock = K.state clock.old;
+      clock' = K.state clock.new;
+    }) }
+    ensures cause { Causes (answer_of result) (S.state source.old) (S.state source.new) (D.state site.old)
+        (D.state site.new) }
+    ensures draft { (D.state site.new).is_drafting ≡ drafting_left (answer_of result) }
+    ensures source { SourceStays (S.state source.old) (S.state source.new) }
+    ensures site { SiteKeeps (D.state site.old) (D.state site.new) }
+    ensures clock { ClockKeeps (K.state clock.old) (K.state clock.new) }
+    ensures console { C.state console.new ≡ C.state console.old }
+{
+    match run_phases(rescue, source, site, clock, console) {
+        Ok(finished) => finished.close(site, console),
+        Err(stopped) => stopped.close(site, console),
+    }
+}
