@@ -1,7 +1,6 @@
 -- What a reading asks for is what its words ask for, and nothing else.
 use Rattle.std.proofs.Common.{◌≡◌, ◌⊎◌, inl, inr, ℕ, ◌<◌, ◌≤◌, Bool, true, false, cond, nat_lt, List, [], ◌∷◌, Option, Some, None, Result, Ok, Err, IfSome, refl, sym, ◌∙◌, ap, subst, arith}
 use Rattle.std.proofs.lemmas.Bool.Decides.{nat_tests}
-use Rattle.option_words.specs.Words.{word}
 use Rattle.option_words.specs.declared.row.Row.{Row}
 use Rattle.option_words.specs.declared.reading.Item.{Item}
 use Rattle.option_words.specs.declared.fault.WordFault.{WordFault}
@@ -11,7 +10,7 @@ use Rattle.option_words.specs.declared.fault.UsageFault.TheVariants.{Word, BadVa
 use Rattle.option_words.specs.Reading.{IsReading, WordFaultAt}
 use Rattle.rescue_command.specs.declared.options.Options.{Options}
 use Rattle.rescue_command.specs.Options.{cluster_limit, cluster_of, cluster_row, has_quiet, last_of, options_in, sectors_of, word_in}
-use Rattle.rescue_command.specs.Command.{Command, AreInLimits, AreOptions, Asks, AreRefused, Unread, Wrong, AskQuiet, IsAsked, IsRefusal, IsErrorOf, command_with, command_by, command_in, empty_operand, is_too_large, unless_empty, unread_error}
+use Rattle.rescue_command.specs.Command.{Command, MapOptions, AreInLimits, AreOptions, Asks, AreRefused, Unread, Wrong, AskQuiet, IsAsked, IsRefusal, IsErrorOf, command_with, command_by, command_in, empty_operand, is_too_large, maps_in, unless_empty, unread_error}
 use Rattle.rescue_command.proofs.OptionLemmas.{AreInRange, options_keep}
 use Rattle.rescue_command.proofs.MeaningLemmas.{no_both, one_command, asked_or_refused, quiet_by_reading}
 
@@ -21,12 +20,18 @@ told c = Ok c
 same_options : (c c' : Command) → told c ≡ told c' → c'.options ≡ c.options
 same_options c c' e = let same : c ≡ c' = cc in ap (λ (x : Command). x.options) (sym same)
 
-with_options : (words : List (List ℕ)) (o : Options) (os : List ℕ) (c : Command) → command_with words o os ≡ told c → c.options ≡ o
-with_options words o [] c e = absurd (cc)
-with_options words o (i ∷ []) c e = absurd (cc)
-with_options words o (i ∷ out ∷ []) c e = same_options _ c e
-with_options words o (i ∷ out ∷ map ∷ []) c e = same_options _ c e
-with_options words o (i ∷ out ∷ map ∷ n ∷ more) c e = absurd (cc)
+unless_refused : (b : Bool) (f : UsageFault) (c c' : Command) → cond b (Err f) (told c) ≡ told c'
+    → c'.options ≡ c.options
+unless_refused true f c c' e = absurd (cc)
+unless_refused false f c c' e = same_options c c' e
+
+with_options : (words : List (List ℕ)) (m : MapOptions) (o : Options) (os : List ℕ) (c : Command)
+    → command_with words m o os ≡ told c → c.options ≡ o
+with_options words m o [] c e = absurd (cc)
+with_options words m o (i ∷ []) c e = absurd (cc)
+with_options words m o (i ∷ out ∷ []) c e = unless_refused o.complete_only _ _ c e
+with_options words m o (i ∷ out ∷ map ∷ []) c e = same_options _ c e
+with_options words m o (i ∷ out ∷ map ∷ n ∷ more) c e = absurd (cc)
 
 unless_part : (n : Option ℕ) (r : Result Command UsageFault) (c : Command) → unless_empty n r ≡ told c → r ≡ told c
 unless_part None (Ok c') c e = e
@@ -48,9 +53,11 @@ options_by : (words : List (List ℕ)) (items : List Item) (r : Result Options �
     → command_by words items r os ≡ told c → AreAccepted r c.options
 options_by words items (Err n) os c e = absurd (cc)
 options_by words items (Ok o) os c e =
+    let m = maps_in words items in
     let p = small_part (is_too_large o) (BadValue (word_in (last_of cluster_row items)))
-    (unless_empty (empty_operand words os) (command_with words o os)) c e in
-    let same : c.options ≡ o = with_options words o os c (unless_part (empty_operand words os) (command_with words o os) c p.1) in
+    (unless_empty (empty_operand words os) (command_with words m o os)) c e in
+    let named = unless_part (empty_operand words os) (command_with words m o os) c p.1 in
+    let same : c.options ≡ o = with_options words m o os c named in
     subst (AreAccepted (Ok o)) (sym same) (record { read = refl; small = p.0 })
 
 some_sectors : (o : Options) (n : Option ℕ) → IfSome n (λ k. 0 < k) → 0 < sectors_of o n

@@ -1,5 +1,5 @@
 -- What options set, one after the other.
-use Rattle.std.proofs.Common.{◌≡◌, ◌⊎◌, inl, inr, ℕ, ◌+◌, ◌-◌, ◌*◌, ◌/◌, ◌^◌, ◌<◌, ◌≤◌, max, Bool, true, false, cond, ◌||◌, nat_eq, List, [], ◌∷◌, length, drop, get_or, Option, Some, Result, Ok, Err, IfSome, refl, sym, ◌∙◌, ap, subst, arith}
+use Rattle.std.proofs.Common.{◌≡◌, ℕ, ◌+◌, ◌-◌, ◌*◌, ◌/◌, ◌^◌, ◌<◌, ◌≤◌, Bool, true, false, cond, ◌||◌, nat_eq, List, [], ◌∷◌, length, drop, get_or, Option, Some, None, Result, Ok, Err, IfSome, refl, sym, ◌∙◌, ap, subst, arith}
 use Rattle.std.proofs.lemmas.Bool.Decides.{nat_tests}
 use Rattle.std.proofs.lemmas.List.{drop_more, at_drop_all}
 use Rattle.std.proofs.lemmas.Nat.{div-add-mod'}
@@ -10,13 +10,14 @@ use Rattle.size_suffixes.specs.Number.{number}
 use Rattle.size_suffixes.specs.Size.{size}
 use Rattle.option_words.specs.declared.reading.Item.{Item}
 use Rattle.rescue_command.specs.declared.options.Options.{Options}
-use Rattle.rescue_command.specs.Options.{cluster_row, default_sector, no_options, options_in, quiet_row, sector_of, sector_row, set_in_turn, size_by, skips_of, text_at, with_item, with_row, with_sector, with_sector_item, within_range, word_at, has_quiet}
+use Rattle.rescue_command.specs.Options.{cluster_row, default_sector, domain_row, is_empty_text, no_options, options_in, quiet_row, sector_of, sector_row, set_in_turn, size_by, test_row, text_at, with_item, with_row, with_sector, with_sector_item, within_range, word_at, has_quiet}
 use Rattle.rescue_command.proofs.SizeLemmas.{map_part, or_part, in_range, size_by_below}
 use Rattle.rescue_command.proofs.SkipLemmas.{AreSkips, skips_of_are}
 
 -- one option more
-pub set_step : (f : Options → Item → Result Options ℕ) (o o' : Options) (items : List Item) (i : ℕ) (d : Item) → i < length items
-    → f o (get_or items i d) ≡ Ok o' → set_in_turn f (Ok o) (drop i items) ≡ set_in_turn f (Ok o') (drop (i + 1) items)
+pub set_step : (f : Options → Item → Result Options ℕ) (o o' : Options) (items : List Item) (i : ℕ) (d : Item)
+    → i < length items → f o (get_or items i d) ≡ Ok o'
+    → set_in_turn f (Ok o) (drop i items) ≡ set_in_turn f (Ok o') (drop (i + 1) items)
 set_step f o o' items i d within e =
     ap (set_in_turn f (Ok o)) (drop_more items i d within) ∙ ap (λ r. set_in_turn f r (drop (i + 1) items)) e
 
@@ -41,10 +42,10 @@ pub record IsSector (sector : ℕ) : Type 0 where
   pub high : sector ≤ 1048576
 
 -- the limits of the values, but for that of a cluster in bytes, which is looked at behind all options
-pub record InRange (sector_is : ℕ) (sectors : Option ℕ) (first most from : ℕ) (to : Option ℕ) (passes : ℕ) : Type 0 where
-  pub sector : IsSector sector_is
+pub record InRange (bytes : ℕ) (sectors : Option ℕ) (first most from : ℕ) (to : Option ℕ) (passes : ℕ) : Type 0 where
+  pub sector : IsSector bytes
   pub cluster : IfSome sectors (λ n. 0 < n)
-  pub skips : AreSkips sector_is first most
+  pub skips : AreSkips bytes first most
   pub input : from < 2 ^ 63
   pub output : IfSome to (λ n. n < 2 ^ 63)
   pub retries : passes ≤ 65535
@@ -75,20 +76,54 @@ within_count m n e = let p = in_range 1 65536 m n e in omega arith
 
 module _ (o : Options) (h : AreInRange o) where
   with_sectors : (n : ℕ) → 0 < n → AreInRange (record o { cluster_sectors = Some n })
-  with_sectors n p = record { sector = h.sector; cluster = p; skips = h.skips; input = h.input; output = h.output; retries = h.retries }
+  with_sectors n p = record {
+    sector = h.sector;
+    cluster = p;
+    skips = h.skips;
+    input = h.input;
+    output = h.output;
+    retries = h.retries;
+  }
 
   with_skips : (first most : ℕ) → AreSkips o.sector first most → AreInRange (record o { skip = first; skip_max = most })
-  with_skips first most p =
-      record { sector = h.sector; cluster = h.cluster; skips = p; input = h.input; output = h.output; retries = h.retries }
+  with_skips first most p = record {
+    sector = h.sector;
+    cluster = h.cluster;
+    skips = p;
+    input = h.input;
+    output = h.output;
+    retries = h.retries;
+  }
 
   with_input : (n : ℕ) → n < 2 ^ 63 → AreInRange (record o { input_position = n })
-  with_input n p = record { sector = h.sector; cluster = h.cluster; skips = h.skips; input = p; output = h.output; retries = h.retries }
+  with_input n p = record {
+    sector = h.sector;
+    cluster = h.cluster;
+    skips = h.skips;
+    input = p;
+    output = h.output;
+    retries = h.retries;
+  }
 
   with_output : (n : ℕ) → n < 2 ^ 63 → AreInRange (record o { output_position = Some n })
-  with_output n p = record { sector = h.sector; cluster = h.cluster; skips = h.skips; input = h.input; output = p; retries = h.retries }
+  with_output n p = record {
+    sector = h.sector;
+    cluster = h.cluster;
+    skips = h.skips;
+    input = h.input;
+    output = p;
+    retries = h.retries;
+  }
 
   with_retries : (n : ℕ) → n ≤ 65535 → AreInRange (record o { retries = n })
-  with_retries n p = record { sector = h.sector; cluster = h.cluster; skips = h.skips; input = h.input; output = h.output; retries = p }
+  with_retries n p = record {
+    sector = h.sector;
+    cluster = h.cluster;
+    skips = h.skips;
+    input = h.input;
+    output = h.output;
+    retries = p;
+  }
 
 module _ (o o' : Options) (row k : ℕ) where
   by_test : (b : Bool) (passed other : Option Options) → (b ≡ true → row ≡ k) → cond b passed other ≡ Some o'
@@ -97,8 +132,8 @@ module _ (o o' : Options) (row k : ℕ) where
   by_test false passed other is e f g = g e
 
   -- a test of the row, passed or not
-  by_row : (passed other : Option Options) → cond (nat_eq row k) passed other ≡ Some o' → (passed ≡ Some o' → Keeps o k o')
-      → (other ≡ Some o' → Keeps o row o') → Keeps o row o'
+  by_row : (passed other : Option Options) → cond (nat_eq row k) passed other ≡ Some o'
+      → (passed ≡ Some o' → Keeps o k o') → (other ≡ Some o' → Keeps o row o') → Keeps o row o'
   by_row passed other e f g = by_test (nat_eq row k) passed other (eq_true row k) e f g
 
 module _ (o o' : Options) (k : ℕ) where
@@ -107,42 +142,54 @@ module _ (o o' : Options) (k : ℕ) where
       → Some n ≡ Some o' → Keeps o k o'
   flag n s r q e = subst (Keeps o k) (same_Some n o' e) (record { sector = s; range = r; quiet = q })
 
+  -- one that names a map, which must have a name
+  name : (b : Bool) → nat_eq k quiet_row ≡ false → cond b None (Some o) ≡ Some o' → Keeps o k o'
+  name true q e = absurd (cc)
+  name false q e = flag o refl (λ h. h) (rw q (or_false o.quiet)) e
+
   -- one with a value
   value : {A : Type 0} (f : A → Options) (m : Option A) → ((x : A) → (f x).sector ≡ o.sector)
-      → ((x : A) → m ≡ Some x → AreInRange o → AreInRange (f x)) → ((x : A) → (f x).quiet ≡ (o.quiet || nat_eq k quiet_row))
-      → option_map f m ≡ Some o' → Keeps o k o'
+      → ((x : A) → m ≡ Some x → AreInRange o → AreInRange (f x))
+      → ((x : A) → (f x).quiet ≡ (o.quiet || nat_eq k quiet_row)) → option_map f m ≡ Some o' → Keeps o k o'
   value f m s r q e =
       let p = map_part f m o' e in
       subst (Keeps o k) p.2 (record { sector = s p.0; range = r p.0 p.1; quiet = q p.0 })
 
-pub row_keeps : (o o' : Options) (row : ℕ) (text : List ℕ) → with_row o row text ≡ Some o' → Keeps o row o'
+row_keeps : (o o' : Options) (row : ℕ) (text : List ℕ) → with_row o row text ≡ Some o' → Keeps o row o'
 row_keeps o o' row text e =
     let unchanged = or_false o.quiet in
-    by_row o o' row 0 _ _ e (value o o' 0 (λ n. record o { min_rate = n }) _ (λ n. refl) (λ n p h. h) (λ n. unchanged)) (λ e.
+    by_row o o' row 0 _ _ e (value o o' 0 (λ n. record o { min_rate = n }) _ (λ n. refl)
+    (λ n p h. h) (λ n. unchanged)) (λ e.
     by_row o o' row 1 _ _ e (flag o o' 1 _ refl (λ h. h) unchanged) (λ e.
     by_row o o' row sector_row _ _ e (flag o o' sector_row _ refl (λ h. h) unchanged) (λ e.
     by_row o o' row cluster_row _ _ e (value o o' cluster_row (λ n. record o { cluster_sectors = Some n }) _ (λ n. refl)
     (λ n p h. with_sectors o h n (within_count (size_by o text) n p)) (λ n. unchanged)) (λ e.
     by_row o o' row 4 _ _ e (flag o o' 4 _ refl (λ h. h) unchanged) (λ e.
-    by_row o o' row 5 _ _ e (value o o' 5 (λ n. record o { input_position = n }) _ (λ n. refl)
+    by_row o o' row 5 _ _ e (flag o o' 5 _ refl (λ h. h) unchanged) (λ e.
+    by_row o o' row test_row _ _ e (name o o' test_row (is_empty_text text) refl) (λ e.
+    by_row o o' row 7 _ _ e (value o o' 7 (λ n. record o { input_position = n }) _ (λ n. refl)
     (λ n p h. with_input o h n (size_by_below o text n p)) (λ n. unchanged)) (λ e.
-    by_row o o' row 6 _ _ e (value o o' 6 (λ (k : ℕ × ℕ). record o { skip = k.0; skip_max = k.1 }) _ (λ k. refl)
+    by_row o o' row 8 _ _ e (value o o' 8 (λ (k : ℕ × ℕ). record o { skip = k.0; skip_max = k.1 }) _ (λ k. refl)
     (λ k p h. with_skips o h k.0 k.1 (skips_of_are o text k p)) (λ k. unchanged)) (λ e.
-    by_row o o' row 7 _ _ e (flag o o' 7 _ refl (λ h. h) unchanged) (λ e.
-    by_row o o' row 8 _ _ e (flag o o' 8 _ refl (λ h. h) unchanged) (λ e.
     by_row o o' row 9 _ _ e (flag o o' 9 _ refl (λ h. h) unchanged) (λ e.
-    by_row o o' row 10 _ _ e (value o o' 10 (λ n. record o { output_position = Some n }) _ (λ n. refl)
+    by_row o o' row domain_row _ _ e (name o o' domain_row (is_empty_text text) refl) (λ e.
+    by_row o o' row 11 _ _ e (flag o o' 11 _ refl (λ h. h) unchanged) (λ e.
+    by_row o o' row 12 _ _ e (flag o o' 12 _ refl (λ h. h) unchanged) (λ e.
+    by_row o o' row 13 _ _ e (flag o o' 13 _ refl (λ h. h) unchanged) (λ e.
+    by_row o o' row 14 _ _ e (value o o' 14 (λ n. record o { output_position = Some n }) _ (λ n. refl)
     (λ n p h. with_output o h n (size_by_below o text n p)) (λ n. unchanged)) (λ e.
     by_row o o' row quiet_row _ _ e (flag o o' quiet_row _ refl (λ h. h) (or_true o.quiet)) (λ e.
-    by_row o o' row 12 _ _ e (value o o' 12 (λ n. record o { retries = n }) _ (λ n. refl)
+    by_row o o' row 16 _ _ e (value o o' 16 (λ n. record o { retries = n }) _ (λ n. refl)
     (λ n p h. with_retries o h n (in_range 0 65535 (result_ok (number text)) n p).1) (λ n. unchanged)) (λ e.
-    by_row o o' row 13 _ _ e (flag o o' 13 _ refl (λ h. h) unchanged) (λ e.
-    by_row o o' row 14 _ _ e (value o o' 14 (λ n. record o { size = Some n }) _ (λ n. refl) (λ n p h. h) (λ n. unchanged)) (λ e.
-    by_row o o' row 15 _ _ e (flag o o' 15 _ refl (λ h. h) unchanged) (λ e. absurd (cc)))))))))))))))))
+    by_row o o' row 17 _ _ e (flag o o' 17 _ refl (λ h. h) unchanged) (λ e.
+    by_row o o' row 18 _ _ e (value o o' 18 (λ n. record o { size = Some n }) _ (λ n. refl)
+    (λ n p h. h) (λ n. unchanged)) (λ e.
+    by_row o o' row 19 _ _ e (flag o o' 19 _ refl (λ h. h) unchanged) (λ e. absurd (cc)))))))))))))))))))))
 
 pub item_keeps : (words : List (List ℕ)) (o o' : Options) (i : Item) → with_item words o i ≡ Ok o' → Keeps o i.row o'
 item_keeps words o o' i e =
-    row_keeps o o' i.row (text_at words i.value) (or_part (with_row o i.row (text_at words i.value)) (word_at i.value) o' e)
+    let text = text_at words i.value in
+    row_keeps o o' i.row text (or_part (with_row o i.row text) (word_at i.value) o' e)
 
 -- options that are set one after the other are set at each step
 turn_parts : (f : Options → Item → Result Options ℕ) (r : Result Options ℕ) (items : List Item) (o' : Options)
@@ -159,8 +206,8 @@ record KeepsAll (o : Options) (items : List Item) (o' : Options) : Type 0 where
   range : AreInRange o → AreInRange o'
   quiet : o'.quiet ≡ (o.quiet || has_quiet items)
 
-others_keep : (words : List (List ℕ)) (items : List Item) (o o' : Options) → set_in_turn (with_item words) (Ok o) items ≡ Ok o'
-    → KeepsAll o items o'
+others_keep : (words : List (List ℕ)) (items : List Item) (o o' : Options)
+    → set_in_turn (with_item words) (Ok o) items ≡ Ok o' → KeepsAll o items o'
 others_keep words [] o o' e =
     let same : o ≡ o' = cc in
     subst (KeepsAll o []) same (record { range = λ h. h; quiet = or_false o.quiet })
@@ -170,7 +217,8 @@ others_keep words (i ∷ is) o o' e =
     let rest = others_keep words is p.0 o' p.2 in
     record {
       range = λ h. rest.range (k.range h);
-      quiet = rest.quiet ∙ ap (λ b. b || has_quiet is) k.quiet ∙ or_assoc o.quiet (nat_eq i.row quiet_row) (has_quiet is);
+      quiet = rest.quiet ∙ ap (λ b. b || has_quiet is) k.quiet
+          ∙ or_assoc o.quiet (nat_eq i.row quiet_row) (has_quiet is);
     }
 
 -- options of which the sector alone is set, to a size that is accepted
@@ -188,7 +236,8 @@ sector_item_by : (b : Bool) (o o' : Options) (text : List ℕ) (word : ℕ) → 
     → cond b (ok_or (with_sector o (sector_of text)) word) (Ok o) ≡ Ok o' → SetsSector o'
 sector_item_by false o o' text word h e = let same : o ≡ o' = cc in subst SetsSector same h
 sector_item_by true o o' text word h e =
-    let p = map_part (λ n. record o { sector = n }) (sector_of text) o' (or_part (with_sector o (sector_of text)) word o' e) in
+    let read = or_part (with_sector o (sector_of text)) word o' e in
+    let p = map_part (λ n. record o { sector = n }) (sector_of text) o' read in
     subst SetsSector p.2 (record {
       same = ap (λ (x : Options). record x { sector = p.0 }) h.same;
       size = sector_of_is (result_ok (size default_sector text)) p.0 p.1;

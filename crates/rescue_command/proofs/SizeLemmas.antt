@@ -1,5 +1,5 @@
 -- What is known of a size that was read, and of parts of options and results.
-use Rattle.std.proofs.Common.{◌≡◌, ◌⊎◌, inl, inr, ℕ, ◌^◌, ◌<◌, ◌≤◌, Bool, true, false, cond, List, [], ◌∷◌, take, drop, Option, Some, None, Result, Ok, Err, IfSome, refl, sym, ◌∙◌, ap, arith}
+use Rattle.std.proofs.Common.{◌≡◌, ℕ, ◌^◌, ◌<◌, ◌≤◌, List, [], ◌∷◌, take, drop, Option, Some, None, Result, Ok, Err, refl, arith}
 use Rattle.std.proofs.lemmas.Bool.Decides.{nat_tests}
 use Rattle.std.specs.Option.{option_map, ok_or, option_and_then}
 use Rattle.std.specs.Result.{result_ok}
@@ -11,11 +11,13 @@ use Rattle.size_suffixes.specs.declared.error.SizeError.TheVariants.{Empty, BadD
 use Rattle.rescue_command.specs.declared.options.Options.{Options}
 use Rattle.rescue_command.specs.Options.{within_range, size_by}
 
-pub map_part : {A B : Type 0} (f : A → B) (o : Option A) (y : B) → option_map f o ≡ Some y → (x : A) × (o ≡ Some x) × (f x ≡ y)
+pub map_part : {A B : Type 0} (f : A → B) (o : Option A) (y : B) → option_map f o ≡ Some y
+    → (x : A) × (o ≡ Some x) × (f x ≡ y)
 map_part f None y e = absurd (cc)
 map_part f (Some x) y e = (x, refl, cc)
 
-pub then_part : {A B : Type 0} (f : A → Option B) (o : Option A) (y : B) → option_and_then f o ≡ Some y → (x : A) × (o ≡ Some x) × (f x ≡ Some y)
+pub then_part : {A B : Type 0} (f : A → Option B) (o : Option A) (y : B) → option_and_then f o ≡ Some y
+    → (x : A) × (o ≡ Some x) × (f x ≡ Some y)
 then_part f None y e = absurd (cc)
 then_part f (Some x) y e = (x, refl, e)
 
@@ -30,7 +32,8 @@ or_part None e x h = absurd (cc)
 within_below : (m n : ℕ) → within m ≡ Ok n → n < 2 ^ 63
 within_below m n e = grind (arith, nat_tests)
 
-times_below : (r : Result ℕ SizeError) (digits : List ℕ) (factor : Option ℕ) (n : ℕ) → times r digits factor ≡ Ok n → n < 2 ^ 63
+times_below : (r : Result ℕ SizeError) (digits : List ℕ) (factor : Option ℕ) (n : ℕ) → times r digits factor ≡ Ok n
+    → n < 2 ^ 63
 times_below (Err Empty) digits factor n e = absurd (cc)
 times_below (Err (BadDigit k)) digits factor n e = absurd (cc)
 times_below (Err (BadSuffix k)) digits factor n e = absurd (cc)
@@ -50,6 +53,7 @@ pub size_by_below : (o : Options) (text : List ℕ) (n : ℕ) → size_by o text
 size_by_below o text n e = size_below o.sector text n (ok_part (size o.sector text) n e)
 
 -- a number that passed the test of a range is within it
-pub in_range : (least most : ℕ) (m : Option ℕ) (n : ℕ) → option_and_then (within_range least most) m ≡ Some n → (least ≤ n) × (n ≤ most)
+pub in_range : (least most : ℕ) (m : Option ℕ) (n : ℕ) → option_and_then (within_range least most) m ≡ Some n
+    → (least ≤ n) × (n ≤ most)
 in_range least most None n e = absurd (cc)
 in_range least most (Some k) n e = grind (arith, nat_tests)

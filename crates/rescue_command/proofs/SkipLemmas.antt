@@ -1,5 +1,5 @@
 -- The parts of a text between its commas, and the skip sizes that they give.
-use Rattle.std.proofs.Common.{◌≡◌, ◌≢◌, ◌⊎◌, inl, inr, ℕ, zero, suc, ◌+◌, ◌-◌, ◌*◌, ◌/◌, ◌^◌, ◌<◌, ◌≤◌, min, max, Bool, true, false, cond, nat_eq, nat_lt, nat_le, List, [], ◌∷◌, ◌++◌, length, get_or, Option, Some, None, IfSome, Bor, if◌then◌else◌, refl, sym, ◌∙◌, ap, subst, arith, lit<}
+use Rattle.std.proofs.Common.{◌≡◌, ◌≢◌, ℕ, zero, suc, ◌+◌, ◌-◌, ◌*◌, ◌/◌, ◌^◌, ◌<◌, ◌≤◌, min, max, Bool, true, false, cond, nat_eq, nat_lt, nat_le, List, [], ◌∷◌, ◌++◌, length, get_or, Option, Some, None, IfSome, Bor, if◌then◌else◌, refl, ◌∙◌, ap, subst, arith, lit<}
 use Rattle.std.specs.Option.{option_map, option_and_then}
 use Rattle.std.proofs.lemmas.Bool.Decides.{nat_tests}
 use Rattle.std.proofs.lemmas.Option.{cond_some}
@@ -7,10 +7,10 @@ use Rattle.std.proofs.lemmas.Str.Pattern.{IsSplitOnceResult, split_parts, contai
 use Rattle.std.specs.Str.Pattern.{FindsChar, HasMatch}
 use Rattle.rescue_command.specs.declared.options.Options.{Options}
 use Rattle.rescue_command.specs.Options.{with_first, comma_parts, default_skip, default_skip_max, size_if_given, skips_given, skips_in_parts, skips_of, in_sectors, is_empty_text, size_by}
-use Rattle.rescue_command.proofs.SizeLemmas.{map_part, then_part, size_by_below}
+use Rattle.rescue_command.proofs.SizeLemmas.{then_part, size_by_below}
 
 -- a text has no comma
-abbrev pub LacksComma : List ℕ → Type 0
+abbrev LacksComma : List ℕ → Type 0
 LacksComma text = (i : ℕ) → i < length text → get_or text i 0 ≢ 44
 
 no_comma : (c : ℕ) (text : List ℕ) → LacksComma (c ∷ text) → nat_eq c 44 ≡ false
@@ -98,7 +98,8 @@ pub record AreOrdered (k : ℕ × ℕ) : Type 0 where
 some_ordered : (k k' : ℕ × ℕ) → k.0 ≤ k.1 → k.1 < 2 ^ 63 → Some k ≡ Some k' → AreOrdered k'
 some_ordered k k' o b e = let same : k ≡ k' = cc in subst AreOrdered same (record { order = o; below = b })
 
-ordered_if : (b : Bool) (k k' : ℕ × ℕ) → (b ≡ true → k.0 ≤ k.1) → k.1 < 2 ^ 63 → cond b (Some k) None ≡ Some k' → AreOrdered k'
+ordered_if : (b : Bool) (k k' : ℕ × ℕ) → (b ≡ true → k.0 ≤ k.1) → k.1 < 2 ^ 63 → cond b (Some k) None ≡ Some k'
+    → AreOrdered k'
 ordered_if true k k' o b e = some_ordered k k' (o refl) b e
 ordered_if false k k' o b e = absurd (cc)
 
@@ -111,9 +112,11 @@ passed_lt m n e = grind (arith, nat_tests)
 given_ordered : (first most : Option ℕ) (k : ℕ × ℕ) → IfSome first (λ n. n < 2 ^ 63) → IfSome most (λ n. n < 2 ^ 63)
     → skips_given first most ≡ Some k → AreOrdered k
 given_ordered None None k f m e = some_ordered (default_skip, default_skip_max) k (omega arith) (omega arith) e
-given_ordered (Some first) None k f m e = some_ordered (first, max first default_skip_max) k (omega (arith, f)) (omega (arith, f)) e
+given_ordered (Some first) None k f m e =
+    some_ordered (first, max first default_skip_max) k (omega (arith, f)) (omega (arith, f)) e
 given_ordered None (Some most) k f m e = some_ordered (min most default_skip, most) k (omega (arith, m)) m e
-given_ordered (Some first) (Some most) k f m e = ordered_if (nat_le first most) (first, most) k (passed_le first most) m e
+given_ordered (Some first) (Some most) k f m e =
+    ordered_if (nat_le first most) (first, most) k (passed_le first most) m e
 
 given_below_by : (b : Bool) (r : Option ℕ) (n : Option ℕ) → ((k : ℕ) → r ≡ Some k → k < 2 ^ 63)
     → cond b (Some None) (option_map Some r) ≡ Some n → IfSome n (λ k. k < 2 ^ 63)
@@ -123,7 +126,8 @@ given_below_by false r None below e = tt
 given_below_by false (Some k) (Some k') below e = below k' (cc)
 given_below_by false None (Some k) below e = absurd (cc)
 
-size_given_below : (o : Options) (text : List ℕ) (n : Option ℕ) → size_if_given o text ≡ Some n → IfSome n (λ k. k < 2 ^ 63)
+size_given_below : (o : Options) (text : List ℕ) (n : Option ℕ) → size_if_given o text ≡ Some n
+    → IfSome n (λ k. k < 2 ^ 63)
 size_given_below o text n e = given_below_by (is_empty_text text) (size_by o text) n (size_by_below o text) e
 
 pub parts_ordered : (o : Options) (parts : List (List ℕ)) (k : ℕ × ℕ) → skips_in_parts o parts ≡ Some k → AreOrdered k
@@ -132,7 +136,8 @@ parts_ordered o (first ∷ []) k e =
     let f = then_part (λ f. skips_given f None) (size_if_given o first) k e in
     given_ordered f.0 None k (size_given_below o first f.0 f.1) tt f.2
 parts_ordered o (first ∷ most ∷ []) k e =
-    let f = then_part (λ f. option_and_then (λ m. skips_given f m) (size_if_given o most)) (size_if_given o first) k e in
+    let most_of = λ (f : Option ℕ). option_and_then (λ m. skips_given f m) (size_if_given o most) in
+    let f = then_part most_of (size_if_given o first) k e in
     let m = then_part (λ m. skips_given f.0 m) (size_if_given o most) k f.2 in
     given_ordered f.0 m.0 k (size_given_below o first f.0 f.1) (size_given_below o most m.0 m.1) m.2
 parts_ordered o (first ∷ most ∷ third ∷ more) k e = absurd (cc)
@@ -149,7 +154,9 @@ if_small o k = if nat_lt (in_sectors o k.1) (2 ^ 63) then Some k else None
 some_skips : (o : Options) (k k' : ℕ × ℕ) → AreOrdered k → if_small o k ≡ Some k' → AreSkips o.sector k'.0 k'.1
 some_skips o k k' h e =
     let p = cond_some (nat_lt (in_sectors o k.1) (2 ^ 63)) k k' e in
-    subst (λ (x : ℕ × ℕ). AreSkips o.sector x.0 x.1) p.1 (record { order = h.order; below = passed_lt (in_sectors o k.1) (2 ^ 63) p.0 })
+    let are : AreSkips o.sector k.0 k.1 =
+    record { order = h.order; below = passed_lt (in_sectors o k.1) (2 ^ 63) p.0 } in
+    subst (λ (x : ℕ × ℕ). AreSkips o.sector x.0 x.1) p.1 are
 
 skips_by : (o : Options) (b : Bool) (parts : List (List ℕ)) (k : ℕ × ℕ)
     → cond b None (option_and_then (if_small o) (skips_in_parts o parts)) ≡ Some k → AreSkips o.sector k.0 k.1

@@ -14,13 +14,16 @@ use Rattle.rescue_command.specs.declared.command.Command.{Command as CommandCode
 use Rattle.rescue_command.specs.declared.command.CommandError.{CommandError}
 use Rattle.rescue_command.specs.declared.command.CommandError.TheVariants.{Usage, NoMemory}
 use Rattle.option_words.specs.declared.row.Row.{Row}
-use Rattle.rescue_command.specs.Options.{cluster_limit, cluster_of, cluster_row, has_quiet, in_sectors, last_of, option_meanings, options_in, sectors_of, word_in}
+use Rattle.rescue_command.specs.Options.{cluster_limit, cluster_of, cluster_row, domain_row, has_quiet, in_sectors, last_of, last_value, option_meanings, options_in, sectors_of, test_row, word_in}
 
--- the names of the infile, the outfile and, if there is one, the mapfile; and what the options say
+-- the names of the infile, the outfile and, if there is one, the mapfile; of the map of what is to be rescued and of the map of
+-- what may be read, if they are named; and what the options say
 pub record Command : Type 0 where
   pub infile : List ℕ
   pub outfile : List ℕ
   pub mapfile : Option (List ℕ)
+  pub domain_map : Option (List ℕ)
+  pub test_map : Option (List ℕ)
   pub options : Options
 
 -- the same of what the code hands on
@@ -29,18 +32,43 @@ told_by c = record {
   infile = c.infile.now;
   outfile = c.outfile.now;
   mapfile = option_map (λ m. m.now) c.mapfile;
+  domain_map = option_map (λ m. m.now) c.domain_map;
+  test_map = option_map (λ m. m.now) c.test_map;
   options = c.options;
 }
 
--- the files of two operands or three; another number is refused
-abbrev pub command_with : List (List ℕ) → Options → (operands : List ℕ) → Result Command UsageFault
-command_with words o [] = Err (Operands 0)
-command_with words o (i ∷ []) = Err (Operands 1)
-command_with words o (i ∷ out ∷ []) =
-    Ok (record { infile = word words i; outfile = word words out; mapfile = None; options = o })
-command_with words o (i ∷ out ∷ map ∷ []) =
-    Ok (record { infile = word words i; outfile = word words out; mapfile = Some (word words map); options = o })
-command_with words o (i ∷ out ∷ map ∷ n ∷ more) = Err (Operands (length (i ∷ out ∷ map ∷ n ∷ more)))
+-- the names of the maps that options give
+pub record MapOptions : Type 0 where
+  pub domain : Option (List ℕ)
+  pub test : Option (List ℕ)
+
+abbrev pub maps_in : List (List ℕ) → List Item → MapOptions
+maps_in words items = record { domain = last_value words domain_row items; test = last_value words test_row items }
+
+-- The files of two operands or three; another number is refused, and so are two where the mapfile says what is to be rescued.
+abbrev pub command_with : List (List ℕ) → MapOptions → Options → (operands : List ℕ) → Result Command UsageFault
+command_with words m o [] = Err (Operands 0)
+command_with words m o (i ∷ []) = Err (Operands 1)
+command_with words m o (i ∷ out ∷ []) =
+    if o.complete_only then Err (Operands 2)
+    else Ok (record {
+      infile = word words i;
+      outfile = word words out;
+      mapfile = None;
+      domain_map = m.domain;
+      test_map = m.test;
+      options = o;
+    })
+command_with words m o (i ∷ out ∷ map ∷ []) =
+    Ok (record {
+      infile = word words i;
+      outfile = word words out;
+      mapfile = Some (word words map);
+      domain_map = m.domain;
+      test_map = m.test;
+      options = o;
+    })
+command_with words m o (i ∷ out ∷ map ∷ n ∷ more) = Err (Operands (length (i ∷ out ∷ map ∷ n ∷ more)))
 
 -- the first operand that is empty
 abbrev pub empty_operand : List (List ℕ) → (operands : List ℕ) → Option ℕ
@@ -61,7 +89,7 @@ abbrev pub command_by : List (List ℕ) → List Item → Result Options ℕ →
 command_by words items (Err n) operands = Err (BadValue n)
 command_by words items (Ok o) operands =
     if is_too_large o then Err (BadValue (word_in (last_of cluster_row items)))
-    else unless_empty (empty_operand words operands) (command_with words o operands)
+    else unless_empty (empty_operand words operands) (command_with words (maps_in words items) o operands)
 
 abbrev pub command_in : List (List ℕ) → List Item → (operands : List ℕ) → Result Command UsageFault
 command_in words items operands = command_by words items (options_in words items) operands

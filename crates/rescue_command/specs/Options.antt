@@ -18,9 +18,13 @@ option_meanings =
     ∷ (Some 65, codes "try-again", Never)
     ∷ (Some 98, codes "sector-size", Always)
     ∷ (Some 99, codes "cluster-size", Always)
+    ∷ (Some 67, codes "complete-only", Never)
     ∷ (Some 102, codes "force", Never)
+    ∷ (Some 72, codes "test-mode", Always)
     ∷ (Some 105, codes "input-position", Always)
     ∷ (Some 75, codes "skip-size", Always)
+    ∷ (Some 76, codes "loose-domain", Never)
+    ∷ (Some 109, codes "domain-mapfile", Always)
     ∷ (Some 77, codes "retrim", Never)
     ∷ (Some 110, codes "no-scrape", Never)
     ∷ (Some 78, codes "no-trim", Never)
@@ -39,8 +43,14 @@ sector_row = 2
 abbrev pub cluster_row : ℕ
 cluster_row = 3
 
+abbrev pub test_row : ℕ
+test_row = 6
+
+abbrev pub domain_row : ℕ
+domain_row = 10
+
 abbrev pub quiet_row : ℕ
-quiet_row = 11
+quiet_row = 15
 
 -- a sector's size in bytes, where no option gives it
 abbrev pub default_sector : ℕ
@@ -71,6 +81,8 @@ no_options = record {
   no_scrape = false;
   reverse = false;
   unidirectional = false;
+  complete_only = false;
+  loose = false;
   forced = false;
   quiet = false;
 }
@@ -144,26 +156,30 @@ skips_of o text =
     else option_and_then (λ (k : ℕ × ℕ). if nat_lt (in_sectors o k.1) (2 ^ 63) then Some k else None)
     (skips_in_parts o (comma_parts text))
 
--- What the option of a row sets by its value's text, unless that is a bad one. The sector is set before all others. A number
--- that is no row's sets nothing.
+-- What the option of a row sets by its value's text, unless that is a bad one. The sector is set before all others, and the
+-- names of maps are read apart. A number that is no row's sets nothing.
 abbrev pub with_row : Options → (row : ℕ) → (text : List ℕ) → Option Options
 with_row o row text =
     if nat_eq row 0 then option_map (λ n. record o { min_rate = n }) (option_and_then (within_range 1 (2 ^ 63)) (size_by o text))
     else if nat_eq row 1 then Some (record o { try_again = true })
     else if nat_eq row sector_row then Some o
     else if nat_eq row cluster_row then option_map (λ n. record o { cluster_sectors = Some n }) (option_and_then (within_range 1 65536) (size_by o text))
-    else if nat_eq row 4 then Some (record o { forced = true })
-    else if nat_eq row 5 then option_map (λ n. record o { input_position = n }) (size_by o text)
-    else if nat_eq row 6 then option_map (λ (k : ℕ × ℕ). record o { skip = k.0; skip_max = k.1 }) (skips_of o text)
-    else if nat_eq row 7 then Some (record o { retrim = true })
-    else if nat_eq row 8 then Some (record o { no_scrape = true })
-    else if nat_eq row 9 then Some (record o { no_trim = true })
-    else if nat_eq row 10 then option_map (λ n. record o { output_position = Some n }) (size_by o text)
+    else if nat_eq row 4 then Some (record o { complete_only = true })
+    else if nat_eq row 5 then Some (record o { forced = true })
+    else if nat_eq row test_row then if is_empty_text text then None else Some o
+    else if nat_eq row 7 then option_map (λ n. record o { input_position = n }) (size_by o text)
+    else if nat_eq row 8 then option_map (λ (k : ℕ × ℕ). record o { skip = k.0; skip_max = k.1 }) (skips_of o text)
+    else if nat_eq row 9 then Some (record o { loose = true })
+    else if nat_eq row domain_row then if is_empty_text text then None else Some o
+    else if nat_eq row 11 then Some (record o { retrim = true })
+    else if nat_eq row 12 then Some (record o { no_scrape = true })
+    else if nat_eq row 13 then Some (record o { no_trim = true })
+    else if nat_eq row 14 then option_map (λ n. record o { output_position = Some n }) (size_by o text)
     else if nat_eq row quiet_row then Some (record o { quiet = true })
-    else if nat_eq row 12 then option_map (λ n. record o { retries = n }) (option_and_then (within_range 0 65535) (result_ok (number text)))
-    else if nat_eq row 13 then Some (record o { reverse = true })
-    else if nat_eq row 14 then option_map (λ n. record o { size = Some n }) (size_by o text)
-    else if nat_eq row 15 then Some (record o { unidirectional = true })
+    else if nat_eq row 16 then option_map (λ n. record o { retries = n }) (option_and_then (within_range 0 65535) (result_ok (number text)))
+    else if nat_eq row 17 then Some (record o { reverse = true })
+    else if nat_eq row 18 then option_map (λ n. record o { size = Some n }) (size_by o text)
+    else if nat_eq row 19 then Some (record o { unidirectional = true })
     else None
 
 -- the text of an option's value, and the word in which it begins
@@ -211,6 +227,10 @@ later None earlier = earlier
 abbrev pub last_of : (row : ℕ) → List Item → Option Item
 last_of row [] = None
 last_of row (i ∷ items) = later (last_of row items) (if nat_eq i.row row then Some i else None)
+
+-- the text of its value
+abbrev pub last_value : List (List ℕ) → (row : ℕ) → List Item → Option (List ℕ)
+last_value words row items = option_map (λ i. text_at words i.value) (last_of row items)
 
 -- the word of the option that gives the cluster
 abbrev pub word_in : Option Item → ℕ

@@ -1,11 +1,12 @@
 //! What the words of a command line ask for.
-ghost use Rattle.std.specs.Prelude.{◌≡◌, ◌<◌, ◌≤◌, All, Ok, Err, IfOk, IfErr, IfSome};
+ghost use Rattle.std.specs.Prelude.{◌≡◌, ◌<◌, ◌≤◌, All, Ok, Err, IfOk, IfErr, IfSome, option_map};
 ghost use Rattle.option_words.specs.Spots.{HasSpot};
-ghost use Rattle.rescue_command.specs.Options.{has_quiet, last_of, no_options, options_in, set_in_turn, text_at, with_item, with_sector_item, word_at};
-ghost use Rattle.rescue_command.specs.Command.{IsAsked, IsErrorOf, IsWord, command_read, command_with, empty_operand, told_by, unread_error};
+ghost use Rattle.rescue_command.specs.Options.{has_quiet, last_of, last_value, no_options, options_in, set_in_turn, text_at, with_item, with_sector_item, word_at};
+ghost use Rattle.rescue_command.specs.Command.{IsAsked, IsErrorOf, IsWord, command_read, command_with, empty_operand, maps_in, told_by, unread_error};
 
 use crate::options::{
-    CLUSTER_SIZE, Options, QUIET, SECTOR_SIZE, option_table, read_sector, with_row,
+    CLUSTER_SIZE, DOMAIN_MAPFILE, Options, QUIET, SECTOR_SIZE, TEST_MODE, option_table,
+    read_sector, with_row,
 };
 use option_words::fault::{UsageFault, WordFault};
 use option_words::reader::read_words;
@@ -19,6 +20,10 @@ pub struct Command<'a> {
     pub infile: &'a str,
     pub outfile: &'a str,
     pub mapfile: Option<&'a str>,
+    /// The map whose finished positions are rescued and no others, if it is named.
+    pub domain_map: Option<&'a str>,
+    /// The map whose finished positions can be read and no others, if it is named.
+    pub test_map: Option<&'a str>,
     pub options: Options,
 }
 
@@ -119,6 +124,16 @@ fn last_of(words: &Words, items: &[Item], row: usize) -> Option<Item>
     last
 }
 
+/// The text of its value.
+fn last_value<'a>(words: &'a Words, items: &[Item], row: usize) -> Option<&'a str>
+    requires { All (HasSpot words.now) items.now }
+    ensures { option_map (λ t. t.now) result ≡ last_value words.now row items.now }
+{
+    let item = last_of(words, items, row)?;
+    let (_, text) = value_of(words, &item);
+    Some(text)
+}
+
 /// The first operand that is empty.
 fn find_empty(words: &Words, operands: &[usize]) -> Option<usize>
     requires { All (IsWord words.now) operands.now }
@@ -132,20 +147,23 @@ fn find_empty(words: &Words, operands: &[usize]) -> Option<usize>
     None
 }
 
-/// The files of two operands or three.
+/// The files of two operands or three, and the maps that options name.
 fn name_files<'a>(
     words: &'a Words,
-    operands: &[usize],
+    reading: &Reading,
     options: Options,
 ) -> Result<Command<'a>, UsageFault>
-    requires { All (IsWord words.now) operands.now }
-    ensures named { IfOk result (λ c. command_with words.now options operands.now ≡ Ok (told_by c)) }
-    ensures refused { IfErr result (λ fault. command_with words.now options operands.now ≡ Err fault) }
+    requires spots { All (HasSpot words.now) reading.now.items.items }
+    requires operands { All (IsWord words.now) reading.now.operands.items }
+    ensures named { IfOk result (λ c. command_with words.now (maps_in words.now reading.now.items.items) options
+        reading.now.operands.items ≡ Ok (told_by c)) }
+    ensures refused { IfErr result (λ fault. command_with words.now (maps_in words.now reading.now.items.items) options
+        reading.now.operands.items ≡ Err fault) }
 {
-    let (infile, outfile, mapfile) = match operands {
-        [infile, outfile] => (*infile, *outfile, None),
+    let (infile, outfile, mapfile) = match reading.operands.as_slice() {
+        [infile, outfile] if !options.complete_only => (*infile, *outfile, None),
         [infile, outfile, mapfile] => (*infile, *outfile, Some(*mapfile)),
-        _ => {
+        operands => {
             return Err(UsageFault::Operands {
                 given: operands.len(),
             });
@@ -155,6 +173,8 @@ fn name_files<'a>(
         infile: words.get(infile),
         outfile: words.get(outfile),
         mapfile: mapfile.map(|n| words.get(n)),
+        domain_map: last_value(words, &reading.items, DOMAIN_MAPFILE),
+        test_map: last_value(words, &reading.items, TEST_MODE),
         options,
     })
 }
@@ -174,7 +194,7 @@ fn command_of<'a>(words: &'a Words, reading: &Reading) -> Result<Command<'a>, Us
         let word = last_of(words, &reading.items, CLUSTER_SIZE).map_or(0, |item| item.word);
         return Err(UsageFault::BadValue { word });
     }
-    let command = name_files(words, &reading.operands, options)?;
+    let command = name_files(words, reading, options)?;
     if let Some(word) = find_empty(words, &reading.operands) {
         return Err(UsageFault::BadValue { word });
     }
@@ -202,8 +222,8 @@ fn unread(fault: WordFault) -> CommandError
 }
 
 /// Reads the words of a command line: `[options] infile outfile [mapfile]`. The words themselves come first, then the
-/// values of the options in the order of the words, those of `-b` before all others, then the size of a cluster in bytes,
-/// then the number of operands and whether one is empty.
+/// values of the options in the order of the words, those of `-b` before all others, then the size of a cluster in
+/// bytes, then the number of operands and whether one is empty.
 pub fn read_command(alloc: Global, words: &Words) -> Result<Command<'_>, CommandError>
     ensures asked { IfOk result (λ c. IsAsked words.now (told_by c)) }
     ensures refused { IfErr result (λ e. IsErrorOf words.now e) }

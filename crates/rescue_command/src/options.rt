@@ -35,11 +35,17 @@ pub(crate) const SECTOR_SIZE: usize = 2;
 /// The row of `-c`.
 pub(crate) const CLUSTER_SIZE: usize = 3;
 
+/// The row of `-H`.
+pub(crate) const TEST_MODE: usize = 6;
+
+/// The row of `-m`.
+pub(crate) const DOMAIN_MAPFILE: usize = 10;
+
 /// The row of `-q`.
-pub(crate) const QUIET: usize = 11;
+pub(crate) const QUIET: usize = 15;
 
 /// The options. A later one is a row here and an arm in `with_row`.
-pub static ROWS: [Row; 16] = [
+pub static ROWS: [Row; 20] = [
     Row {
         short: Some('a'),
         long: "min-read-rate",
@@ -61,9 +67,19 @@ pub static ROWS: [Row; 16] = [
         takes: Takes::Always,
     },
     Row {
+        short: Some('C'),
+        long: "complete-only",
+        takes: Takes::Never,
+    },
+    Row {
         short: Some('f'),
         long: "force",
         takes: Takes::Never,
+    },
+    Row {
+        short: Some('H'),
+        long: "test-mode",
+        takes: Takes::Always,
     },
     Row {
         short: Some('i'),
@@ -73,6 +89,16 @@ pub static ROWS: [Row; 16] = [
     Row {
         short: Some('K'),
         long: "skip-size",
+        takes: Takes::Always,
+    },
+    Row {
+        short: Some('L'),
+        long: "loose-domain",
+        takes: Takes::Never,
+    },
+    Row {
+        short: Some('m'),
+        long: "domain-mapfile",
         takes: Takes::Always,
     },
     Row {
@@ -132,8 +158,8 @@ pub struct Options {
     /// How far copying skips at first behind a failed or slow read, in bytes and not yet rounded up to whole sectors;
     /// 64 KiB if it isn't given, or the largest skip if that is less.
     pub skip: u64,
-    /// How far it skips at most, in bytes and not yet rounded up to whole sectors; 1 GiB if it isn't given, or the first
-    /// skip if that is more.
+    /// How far it skips at most, in bytes and not yet rounded up to whole sectors; 1 GiB if it isn't given, or the
+    /// first skip if that is more.
     pub skip_max: u64,
     /// Below how many bytes a second a read of copying is slow; 0 if it isn't given, and then none is.
     pub min_rate: u64,
@@ -153,13 +179,17 @@ pub struct Options {
     pub no_trim: bool,
     /// Nothing is scraped; by default it is.
     pub no_scrape: bool,
-    /// Each pass goes in the other direction; by default copying begins forwards.
+    /// Each pass goes the other way; by default the first goes upwards.
     pub reverse: bool,
-    /// All passes go in one direction; by default copying turns round behind each.
+    /// All passes go one way; by default they alternate.
     pub unidirectional: bool,
+    /// Only what the mapfile lists is rescued; by default what it leaves out is too.
+    pub complete_only: bool,
+    /// The map of what is to be rescued may have gaps; by default it may not.
+    pub loose: bool,
     /// The outfile may be something else than a regular file; by default it may not.
     pub forced: bool,
-    /// Nothing is put on the console; by default it is.
+    /// Nothing is put on the console; by default messages are.
     pub quiet: bool,
 }
 
@@ -184,6 +214,8 @@ impl Options {
             no_scrape: false,
             reverse: false,
             unidirectional: false,
+            complete_only: false,
+            loose: false,
             forced: false,
             quiet: false,
         }
@@ -216,7 +248,7 @@ impl Options {
         self.sectors() * self.sector
     }
 
-    /// How far copying skips at first, in bytes.
+    /// How far copying skips at first, in bytes, as whole sectors.
     pub fn first_skip(&self) -> u64
         requires { AreInLimits self.now }
         ensures { result ≡ in_sectors self.now self.now.skip }
@@ -224,7 +256,7 @@ impl Options {
         in_sectors(self.skip, self.sector)
     }
 
-    /// How far it skips at most, in bytes.
+    /// How far it skips at most, in bytes, as whole sectors.
     pub fn largest_skip(&self) -> u64
         requires { AreInLimits self.now }
         ensures { result ≡ in_sectors self.now self.now.skip_max }
@@ -294,12 +326,17 @@ fn read_retries(text: &str) -> Option<u32>
     }
 }
 
-/// Writes the arms of a `match` over the rows: each sets some fields. The sector is set before.
+/// Writes the arms of a `match` over the rows: each sets one field or two. The sector is set before, and the names of
+/// maps are read apart.
 macro_rules! set_by_row {
-    ($options:ident, $row:ident; $($number:literal => $($field:ident = $value:expr),+;)*) => {
+    ($options:ident, $row:ident, $text:ident; $($number:literal => $($field:ident),+ = $value:expr;)*) => {
         match $row {
             SECTOR_SIZE => Some($options),
-            $($number => Some(Options { $($field: $value,)+ ..$options }),)*
+            TEST_MODE | DOMAIN_MAPFILE => if $text.is_empty() { None } else { Some($options) },
+            $($number => {
+                let ($($field),+) = $value;
+                Some(Options { $($field,)+ ..$options })
+            })*
             _ => None,
         }
     };
@@ -312,22 +349,23 @@ pub(crate) fn with_row(options: Options, row: usize, text: &str) -> Option<Optio
     ensures { result ≡ with_row options row text.now }
 {
     let size = read_size(text, options.sector).ok();
-    let skips = read_skips(&options, text);
-    set_by_row!(options, row;
+    set_by_row!(options, row, text;
         0 => min_rate = read_min_rate(&options, text)?;
         1 => try_again = true;
         3 => cluster_sectors = Some(read_cluster_sectors(&options, text)?);
-        4 => forced = true;
-        5 => input_position = size?;
-        6 => skip = skips?.0, skip_max = skips?.1;
-        7 => retrim = true;
-        8 => no_scrape = true;
-        9 => no_trim = true;
-        10 => output_position = Some(size?);
-        11 => quiet = true;
-        12 => retries = read_retries(text)?;
-        13 => reverse = true;
-        14 => size = Some(size?);
-        15 => unidirectional = true;
+        4 => complete_only = true;
+        5 => forced = true;
+        7 => input_position = size?;
+        8 => skip, skip_max = read_skips(&options, text)?;
+        9 => loose = true;
+        11 => retrim = true;
+        12 => no_scrape = true;
+        13 => no_trim = true;
+        14 => output_position = Some(size?);
+        15 => quiet = true;
+        16 => retries = read_retries(text)?;
+        17 => reverse = true;
+        18 => size = Some(size?);
+        19 => unidirectional = true;
     )
 }

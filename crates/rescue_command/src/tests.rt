@@ -7,9 +7,9 @@ use option_words::words::Words;
 use std::alloc::{AllocError, Global};
 use std::test::Fail;
 
-// Words, and what they ask for: the files, and behind | the sector, the positions, the sizes and the flags. What
-// no option gives isn't shown, but for the sector and the input position.
-const ASKED: [(&[&str], &str); 79] = [
+// Words, and what they ask for: the files, and behind | the sector, the positions, the sizes, the maps and the flags.
+// What no option gives isn't shown, but for the sector and the input position.
+const ASKED: [(&[&str], &str); 33] = [
     (&["in", "out"], "in out | b512 i0"),
     (&["in", "out", "map"], "in out map | b512 i0"),
     (&["-", "out"], "- out | b512 i0"),
@@ -55,30 +55,10 @@ const ASKED: [(&[&str], &str); 79] = [
     ),
     (&["-b", "8", "in", "--", "out", "-b"], "in out -b | b8 i0"),
     (&["größe", "€", "é"], "größe € é | b512 i0"),
-    (&["-a", "1", "in", "out"], "in out | b512 i0 a1"),
-    (
-        &["--min-read-rate=9223372036854775807", "in", "out"],
-        "in out | b512 i0 a9223372036854775807",
-    ),
-    (
-        &["--min", "2s", "-b1000", "in", "out"],
-        "in out | b1000 i0 a2000",
-    ),
-    (&["-A", "in", "out"], "in out | b512 i0 A"),
-    (&["--try-again", "in", "out"], "in out | b512 i0 A"),
-    (&["--tr", "in", "out"], "in out | b512 i0 A"),
-    (&["-c", "1", "in", "out"], "in out | b512 i0 c1"),
-    (&["-c32768", "in", "out"], "in out | b512 i0 c32768"),
-    (
-        &["--cluster-size=65536", "-b256", "in", "out"],
-        "in out | b256 i0 c65536",
-    ),
-    (&["-c16", "-b1Mi", "in", "out"], "in out | b1048576 i0 c16"),
-    (
-        &["-c17", "-b1Mi", "--cl", "16", "in", "out"],
-        "in out | b1048576 i0 c16",
-    ),
-    (&["-b1Mi", "in", "out"], "in out | b1048576 i0"),
+];
+
+// The same of skips.
+const ASKED_SKIPS: [(&[&str], &str); 13] = [
     (&["-K", ",", "in", "out"], "in out | b512 i0"),
     (&["-K,0", "in", "out"], "in out | b512 i0 K0,0"),
     (&["-K0", "in", "out"], "in out | b512 i0 K0,1073741824"),
@@ -113,9 +93,61 @@ const ASKED: [(&[&str], &str); 79] = [
         &["-K,9223372036854775807", "-b1", "in", "out"],
         "in out | b1 i0 K65536,9223372036854775807",
     ),
+];
+
+// The same of maps.
+const ASKED_MAPS: [(&[&str], &str); 20] = [
+    (&["-A", "in", "out"], "in out | b512 i0 A"),
+    (&["--try-again", "in", "out"], "in out | b512 i0 A"),
+    (&["--tr", "in", "out"], "in out | b512 i0 A"),
+    (&["-C", "in", "out", "map"], "in out map | b512 i0 C"),
+    (
+        &["--complete-only", "in", "out", "map"],
+        "in out map | b512 i0 C",
+    ),
+    (&["--com", "in", "out", "map"], "in out map | b512 i0 C"),
+    (&["-H", "t", "in", "out"], "in out | b512 i0 Ht"),
+    (&["--test-mode=t", "in", "out"], "in out | b512 i0 Ht"),
+    (&["--te", "-q", "in", "out"], "in out | b512 i0 H-q"),
+    (&["-Ht", "-H", "é", "in", "out"], "in out | b512 i0 Hé"),
+    (&["-L", "in", "out"], "in out | b512 i0 L"),
+    (&["--loose-domain", "in", "out"], "in out | b512 i0 L"),
+    (&["--lo", "in", "out"], "in out | b512 i0 L"),
+    (&["-m", "d", "in", "out"], "in out | b512 i0 md"),
+    (&["--domain-mapfile=d", "in", "out"], "in out | b512 i0 md"),
+    (&["--do", "d", "in", "out"], "in out | b512 i0 md"),
+    (
+        &["-md", "-m", "e", "-Ht", "in", "out"],
+        "in out | b512 i0 me Ht",
+    ),
     (&["-M", "in", "out"], "in out | b512 i0 M"),
     (&["--retrim", "in", "out"], "in out | b512 i0 M"),
     (&["--retri", "in", "out"], "in out | b512 i0 M"),
+];
+
+// The same of the passes: how they read, which there are, and how often.
+const ASKED_PASSES: [(&[&str], &str); 28] = [
+    (&["-a", "1", "in", "out"], "in out | b512 i0 a1"),
+    (
+        &["--min-read-rate=9223372036854775807", "in", "out"],
+        "in out | b512 i0 a9223372036854775807",
+    ),
+    (
+        &["--min", "2s", "-b1000", "in", "out"],
+        "in out | b1000 i0 a2000",
+    ),
+    (&["-c", "1", "in", "out"], "in out | b512 i0 c1"),
+    (&["-c32768", "in", "out"], "in out | b512 i0 c32768"),
+    (
+        &["--cluster-size=65536", "-b256", "in", "out"],
+        "in out | b256 i0 c65536",
+    ),
+    (&["-c16", "-b1Mi", "in", "out"], "in out | b1048576 i0 c16"),
+    (
+        &["-c17", "-b1Mi", "--cl", "16", "in", "out"],
+        "in out | b1048576 i0 c16",
+    ),
+    (&["-b1Mi", "in", "out"], "in out | b1048576 i0"),
     (&["-n", "in", "out"], "in out | b512 i0 n"),
     (&["--no-scrape", "in", "out"], "in out | b512 i0 n"),
     (&["--no-s", "in", "out"], "in out | b512 i0 n"),
@@ -133,8 +165,12 @@ const ASKED: [(&[&str], &str); 79] = [
     (&["--unidirectional", "in", "out"], "in out | b512 i0 u"),
     (&["--un", "in", "out"], "in out | b512 i0 u"),
     (
-        &["-uRqNnMfA", "in", "out", "map"],
-        "in out map | b512 i0 A f M n N q R u",
+        &["--in", "1", "--out=2", "in", "out"],
+        "in out | b512 i1 o2",
+    ),
+    (
+        &["-uRqNnMLfCA", "in", "out", "map"],
+        "in out map | b512 i0 A C f L M n N q R u",
     ),
     (
         &["-nr3", "-c1s", "-K1s", "-a1s", "-b64", "in", "out"],
@@ -143,7 +179,7 @@ const ASKED: [(&[&str], &str); 79] = [
 ];
 
 // Words, why they are refused, and whether they ask that nothing be said.
-const REFUSED: [(&[&str], UsageFault, bool); 78] = [
+const REFUSED: [(&[&str], UsageFault, bool); 39] = [
     (&[], UsageFault::Operands { given: 0 }, false),
     (&["in"], UsageFault::Operands { given: 1 }, false),
     (&["-q", "in"], UsageFault::Operands { given: 1 }, true),
@@ -306,152 +342,18 @@ const REFUSED: [(&[&str], UsageFault, bool); 78] = [
         UsageFault::BadValue { word: 4 },
         false,
     ),
-    (
-        &["-a", "0", "in", "out"],
-        UsageFault::BadValue { word: 2 },
-        false,
-    ),
-    (
-        &["-a0", "in", "out"],
-        UsageFault::BadValue { word: 1 },
-        false,
-    ),
-    (
-        &["--min-read-rate", "9223372036854775808", "in", "out"],
-        UsageFault::BadValue { word: 2 },
-        false,
-    ),
-    (
-        &["-c", "0", "in", "out"],
-        UsageFault::BadValue { word: 2 },
-        false,
-    ),
-    (
-        &["-c65537", "in", "out"],
-        UsageFault::BadValue { word: 1 },
-        false,
-    ),
-    (
-        &["-c", "65537", "-b1", "in", "out"],
-        UsageFault::BadValue { word: 2 },
-        false,
-    ),
-    (
-        &["-c", "65536", "in", "out"],
-        UsageFault::BadValue { word: 1 },
-        false,
-    ),
-    (
-        &["-c32769", "in", "out"],
-        UsageFault::BadValue { word: 1 },
-        false,
-    ),
-    (
-        &["-b1Mi", "-c", "17", "in", "out"],
-        UsageFault::BadValue { word: 2 },
-        false,
-    ),
-    (
-        &["-c17", "-c1", "-b1Mi", "--cluster-size", "18", "in", "out"],
-        UsageFault::BadValue { word: 4 },
-        false,
-    ),
-    (
-        &["-c17", "-b1Mi", "-c18"],
-        UsageFault::BadValue { word: 3 },
-        false,
-    ),
-    (
-        &["-c17", "-b1Mi", "in", "out", ""],
-        UsageFault::BadValue { word: 1 },
-        false,
-    ),
-    (
-        &["-c17", "-b1Mi", "-r", "x"],
-        UsageFault::BadValue { word: 4 },
-        false,
-    ),
+];
+
+// The same of clusters, maps and long names.
+const REFUSED_LATER: [(&[&str], UsageFault, bool); 15] = [
     (&["-qc17", "-b1Mi"], UsageFault::BadValue { word: 1 }, true),
     (
-        &["-K", "", "in", "out"],
-        UsageFault::BadValue { word: 2 },
+        &["-C", "in", "out"],
+        UsageFault::Operands { given: 2 },
         false,
     ),
-    (
-        &["--skip-size=", "in", "out"],
-        UsageFault::BadValue { word: 1 },
-        false,
-    ),
-    (
-        &["-K1Ki,512", "in", "out"],
-        UsageFault::BadValue { word: 1 },
-        false,
-    ),
-    (
-        &["-K", "1,2,3", "in", "out"],
-        UsageFault::BadValue { word: 2 },
-        false,
-    ),
-    (
-        &["-K,,", "in", "out"],
-        UsageFault::BadValue { word: 1 },
-        false,
-    ),
-    (
-        &["-K1,x", "in", "out"],
-        UsageFault::BadValue { word: 1 },
-        false,
-    ),
-    (
-        &["-Kx,1", "in", "out"],
-        UsageFault::BadValue { word: 1 },
-        false,
-    ),
-    (
-        &["-K-1", "in", "out"],
-        UsageFault::BadValue { word: 1 },
-        false,
-    ),
-    (
-        &["-K", "9223372036854775807", "in", "out"],
-        UsageFault::BadValue { word: 2 },
-        false,
-    ),
-    (
-        &["-K,9223372036854775297", "in", "out"],
-        UsageFault::BadValue { word: 1 },
-        false,
-    ),
-    (
-        &["-K9223372036854775296", "-b1Ki", "in", "out"],
-        UsageFault::BadValue { word: 1 },
-        false,
-    ),
-    (
-        &["-K1,9223372036854775808", "-b1", "in", "out"],
-        UsageFault::BadValue { word: 1 },
-        false,
-    ),
-    (
-        &["-r", "65536", "in", "out"],
-        UsageFault::BadValue { word: 2 },
-        false,
-    ),
-    (
-        &["-r", "-1", "in", "out"],
-        UsageFault::BadValue { word: 2 },
-        false,
-    ),
-    (
-        &["-r1k", "in", "out"],
-        UsageFault::BadValue { word: 1 },
-        false,
-    ),
-    (
-        &["--retry-passes=", "in", "out"],
-        UsageFault::BadValue { word: 1 },
-        false,
-    ),
+    (&["-C", "in", ""], UsageFault::Operands { given: 2 }, false),
+    (&["-C", "in"], UsageFault::Operands { given: 1 }, false),
     (
         &["in", "out", "--no"],
         UsageFault::Word(WordFault::Ambiguous { word: 3 }),
@@ -469,6 +371,16 @@ const REFUSED: [(&[&str], UsageFault, bool); 78] = [
     ),
     (
         &["in", "out", "--retr"],
+        UsageFault::Word(WordFault::Ambiguous { word: 3 }),
+        false,
+    ),
+    (
+        &["in", "out", "--t"],
+        UsageFault::Word(WordFault::Ambiguous { word: 3 }),
+        false,
+    ),
+    (
+        &["in", "out", "--c"],
         UsageFault::Word(WordFault::Ambiguous { word: 3 }),
         false,
     ),
@@ -493,10 +405,53 @@ const REFUSED: [(&[&str], UsageFault, bool); 78] = [
         false,
     ),
     (
-        &["in", "out", "-nr"],
+        &["in", "out", "-nm"],
         UsageFault::Word(WordFault::MissingValue { word: 3 }),
         false,
     ),
+];
+
+// Words, and the one in which the bad value begins for which they are refused.
+const BAD_VALUES: [(&[&str], usize); 36] = [
+    (&["-K", "", "in", "out"], 2),
+    (&["--skip-size=", "in", "out"], 1),
+    (&["-K1Ki,512", "in", "out"], 1),
+    (&["-K", "1,2,3", "in", "out"], 2),
+    (&["-K,,", "in", "out"], 1),
+    (&["-K1,x", "in", "out"], 1),
+    (&["-Kx,1", "in", "out"], 1),
+    (&["-K-1", "in", "out"], 1),
+    (&["-K", "9223372036854775807", "in", "out"], 2),
+    (&["-K,9223372036854775297", "in", "out"], 1),
+    (&["-K9223372036854775296", "-b1Ki", "in", "out"], 1),
+    (&["-K1,9223372036854775808", "-b1", "in", "out"], 1),
+    (&["-a", "0", "in", "out"], 2),
+    (&["-a0", "in", "out"], 1),
+    (&["--min-read-rate", "9223372036854775808", "in", "out"], 2),
+    (&["-c", "0", "in", "out"], 2),
+    (&["-c65537", "in", "out"], 1),
+    (&["-c", "65537", "-b1", "in", "out"], 2),
+    (&["-c", "65536", "in", "out"], 1),
+    (&["-c32769", "in", "out"], 1),
+    (&["-b1Mi", "-c", "17", "in", "out"], 2),
+    (
+        &["-c17", "-c1", "-b1Mi", "--cluster-size", "18", "in", "out"],
+        4,
+    ),
+    (&["-c17", "-b1Mi", "-c18"], 3),
+    (&["-c17", "-b1Mi", "in", "out", ""], 1),
+    (&["-c17", "-b1Mi", "-r", "x"], 4),
+    (&["-r", "65536", "in", "out"], 2),
+    (&["-r", "-1", "in", "out"], 2),
+    (&["-r1k", "in", "out"], 1),
+    (&["--retry-passes=", "in", "out"], 1),
+    (&["-C", "in", "out", ""], 4),
+    (&["-H", "", "in", "out"], 2),
+    (&["--test-mode=", "in", "out"], 1),
+    (&["-H", "", "-Ht", "in", "out"], 2),
+    (&["-m", "", "in", "out"], 2),
+    (&["--domain-mapfile=", "in", "out"], 1),
+    (&["-md", "-m", "", "in", "out"], 3),
 ];
 
 fn collect(alloc: Global, given: &[&str]) -> Result<Words, NoMemory> {
@@ -539,7 +494,9 @@ fn push_skips(alloc: Global, shown: &mut String, options: Options) -> Result<(),
 fn push_flags(shown: &mut String, options: Options) -> Result<(), AllocError> {
     let flags = [
         (options.try_again, " A"),
+        (options.complete_only, " C"),
         (options.forced, " f"),
+        (options.loose, " L"),
         (options.retrim, " M"),
         (options.no_scrape, " n"),
         (options.no_trim, " N"),
@@ -575,17 +532,54 @@ fn show(alloc: Global, command: Command<'_>) -> Result<String, AllocError> {
         "r",
         if_not_zero(u64::from(options.retries)),
     )?;
+    push_name(&mut shown, " m", command.domain_map)?;
+    push_name(&mut shown, " H", command.test_map)?;
     push_flags(&mut shown, options)?;
     Ok(shown)
 }
 
+fn shown(alloc: Global, given: &[&str]) -> Result<String, Fail> {
+    let words = collect(alloc, given)?;
+    let command = read_command(alloc, &words).ok().ok_or("refused")?;
+    Ok(show(alloc, command)?)
+}
+
+fn refusal(alloc: Global, given: &[&str]) -> Result<CommandError, Fail> {
+    let words = collect(alloc, given)?;
+    Ok(read_command(alloc, &words).err().ok_or("asked")?)
+}
+
 #[test]
 fn reads_commands(rt: HostRuntime) -> Result<(), Fail> {
-    let alloc = rt.alloc();
     for (given, expected) in ASKED {
-        let words = collect(alloc, given)?;
-        let command = read_command(alloc, &words).ok().ok_or("refused")?;
-        let shown = show(alloc, command)?;
+        let shown = shown(rt.alloc(), given)?;
+        assert_eq!(rt; shown.as_str(), expected);
+    }
+    Ok(())
+}
+
+#[test]
+fn reads_skips(rt: HostRuntime) -> Result<(), Fail> {
+    for (given, expected) in ASKED_SKIPS {
+        let shown = shown(rt.alloc(), given)?;
+        assert_eq!(rt; shown.as_str(), expected);
+    }
+    Ok(())
+}
+
+#[test]
+fn reads_maps(rt: HostRuntime) -> Result<(), Fail> {
+    for (given, expected) in ASKED_MAPS {
+        let shown = shown(rt.alloc(), given)?;
+        assert_eq!(rt; shown.as_str(), expected);
+    }
+    Ok(())
+}
+
+#[test]
+fn reads_passes(rt: HostRuntime) -> Result<(), Fail> {
+    for (given, expected) in ASKED_PASSES {
+        let shown = shown(rt.alloc(), given)?;
         assert_eq!(rt; shown.as_str(), expected);
     }
     Ok(())
@@ -632,11 +626,34 @@ fn gives_sizes_in_whole_sectors(rt: HostRuntime) -> Result<(), Fail> {
 
 #[test]
 fn refuses_words(rt: HostRuntime) -> Result<(), Fail> {
-    let alloc = rt.alloc();
     for (given, fault, quiet) in REFUSED {
-        let words = collect(alloc, given)?;
-        let error = read_command(alloc, &words).err().ok_or("asked")?;
+        let error = refusal(rt.alloc(), given)?;
         assert_eq!(rt; error, CommandError::Usage { fault, quiet });
+    }
+    Ok(())
+}
+
+#[test]
+fn refuses_later_words(rt: HostRuntime) -> Result<(), Fail> {
+    for (given, fault, quiet) in REFUSED_LATER {
+        let error = refusal(rt.alloc(), given)?;
+        assert_eq!(rt; error, CommandError::Usage { fault, quiet });
+    }
+    Ok(())
+}
+
+#[test]
+fn refuses_bad_values(rt: HostRuntime) -> Result<(), Fail> {
+    for (given, word) in BAD_VALUES {
+        let error = refusal(rt.alloc(), given)?;
+        let fault = UsageFault::BadValue { word };
+        assert_eq!(rt;
+            error,
+            CommandError::Usage {
+                fault,
+                quiet: false
+            }
+        );
     }
     Ok(())
 }

@@ -1,4 +1,4 @@
--- The last option of the row behind here, and otherwise the one so far, is the last of all; its value stands in the words.
+-- The last option of the row behind here, otherwise the last so far, is the last of all; its value stands in the words.
 use Rattle.std.proofs.Common.{◌≡◌, drop, IfSome}
 use Rattle.option_words.specs.Spots.{HasSpot}
 use Rattle.rescue_command.specs.Options.{last_of, later}

@@ -1,5 +1,5 @@
 -- A skip that was read is below 2^63.
-use Rattle.std.proofs.Common.{◌≡◌, ◌∙◌, sym}
+use Rattle.std.proofs.Common.{◌∙◌, sym}
 use Rattle.rescue_command.specs.Options.{comma_parts}
 use Rattle.rescue_command.proofs.SkipLemmas.{parts_ordered}
 use Rattle.rescue_command.proofs.skips.read_skips.Goals as goal

@@ -1,10 +1,11 @@
 -- The text is cut at its first comma; one more behind it is too many.
-use Rattle.std.proofs.Common.{◌≡◌, ◌∙◌, sym}
+use Rattle.std.proofs.Common.{◌∙◌, sym}
 use Rattle.rescue_command.proofs.SkipLemmas.{alone, both, too_many}
 use Rattle.rescue_command.proofs.skips.skips_in_text.Goals as goal
 
 pub returns-in_default : goal.returns-in_default
-returns-in_default c = c.skips_of_pair.ensures ∙ sym (alone c.args.options.now c.args.text.now c.in_default.ensures.cases)
+returns-in_default c = c.skips_of_pair.ensures
+    ∙ sym (alone c.args.options.now c.args.text.now c.in_default.ensures.cases)
 
 pub returns-then-contains : goal.returns-then-contains
 returns-then-contains c =
