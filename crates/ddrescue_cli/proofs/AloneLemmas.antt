@@ -1,6 +1,9 @@
 -- What is said where one of the objects tells.
-use Rattle.std.proofs.Common.{◌≡◌, ℕ, Bool, IsTrue, List, [], ◌++◌, Option, Some, None, Ok, Err, refl, sym, ap, ◌∙◌, inl, inr, subst, append-nil}
+use Rattle.std.proofs.Common.{◌≡◌, ℕ, Bool, true, false, IsTrue, List, [], ◌++◌, replicate, Option, Some, None, Ok, Err, refl, sym, ap, ◌∙◌, inl, inr, subst, append-nil, arith}
+use Rattle.std.proofs.lemmas.List.{length-replicate}
 use Rattle.std.proofs.lemmas.List.Elements.{All-nil}
+use Rattle.block_list.specs.declared.status.Status.{Status}
+use Rattle.block_list.specs.declared.status.Status.TheVariants.{NonTried}
 use Rattle.faulty_source.specs.SourceState.{SourceState}
 use Rattle.crash_site.specs.declared.site.SiteCall.{SiteCall}
 use Rattle.crash_site.specs.declared.site.SiteCall.TheVariants.{ImageOpen, ImageRead, ImageWrite, ImageSync, MapRead, DraftBegin, DraftAppend, DraftSync, DraftPublish, MapSettle, MapRemove}
@@ -11,41 +14,49 @@ use Rattle.save_resume.specs.MapNames.{MapNames}
 use Rattle.save_resume.specs.Resuming.{IsResumeCall}
 use Rattle.option_words.specs.declared.fault.UsageFault.TheVariants.{PlaceTooLarge}
 use Rattle.rescue_command.specs.declared.options.Options.{Options}
+use Rattle.rescue_command.specs.Command.{Command}
 use Rattle.rescue_rules.specs.declared.stop.Stop.TheVariants.{SourceLost as InputLost, Site, NoMemory as NoRoom}
 use Rattle.rescue_rules.specs.declared.stop.RunEnd.TheVariants.{Done as Finished, Stopped, SaveFailed}
 use Rattle.rescue_rules.specs.Setting.{Setting}
 use Rattle.rescue_rules.specs.Moves.{IsMove}
 use Rattle.rescue_rules.specs.Beginning.{machine_over}
-use Rattle.rescue_rules.specs.Events.{reads_of}
 use Rattle.ddrescue_cli.specs.declared.ending.Ending.{Ending}
 use Rattle.ddrescue_cli.specs.declared.ending.Ending.TheVariants.{Done, Usage, NotRegular, MapRefused, SiteFault, NoMemory}
 use Rattle.ddrescue_cli.specs.declared.load.Start.{Start}
-use Rattle.ddrescue_cli.specs.Names.{AreNamedApart}
-use Rattle.ddrescue_cli.specs.Asked.{setting_asked, ArePlacedBy, IsBeyond}
+use Rattle.ddrescue_cli.specs.Asked.{Maps, ArePlacedBy, IsBeyond}
+use Rattle.ddrescue_cli.specs.Maps.{names_maps}
 use Rattle.ddrescue_cli.specs.Refusals.{MapfileRefused, PlacesRefused}
 use Rattle.copy_passes.specs.Turns.{IsFrom}
-use Rattle.ddrescue_cli.specs.Alone.{HasRead, MapfilePasses, CallPasses, FilesAllow, ArePlaced, CallPlaced, PlacesAllow}
-use Rattle.ddrescue_cli.specs.Steps.{EndsRun, OutputStop, LoadStopped, InBarrier, InRead, Starved, Refused, LoadCause, Loaded}
+use Rattle.ddrescue_cli.specs.Alone.{HasRead, MapsPass, MapfilePasses, OutputPasses, UnlessMaps, CallPasses, FilesAllow, ArePlaced, CallPlaced, PlacesAllow}
+use Rattle.ddrescue_cli.specs.Steps.{EndsRun, OutputStop, LoadStopped, InBarrier, InRead, Starved, Refused, LoadCause}
 use Rattle.ddrescue_cli.proofs.RanLemmas.{none_asked}
-use Rattle.ddrescue_cli.proofs.WorkLemmas.{HasOpened, IsRegular, here, beyond_is_refused, placed_passes}
+use Rattle.ddrescue_cli.proofs.WorkLemmas.{HasLoaded, IsRegular, here, none_seen, placed_passes, setting_by}
 
 -- nothing was read
-pub none_read : (s : Setting) (e : Ending) (s0 s1 : SourceState) → (e ≡ Done → ⊥) → s1.journal ≡ s0.journal → HasRead s e s0 s1
-none_read s e s0 s1 stopped same = record {
-  statuses = [];
-  state = None;
-  time = 0;
-  events = [];
-  gained = same ∙ sym (append-nil s0.journal);
-  run = record { each = All-nil (IsMove s) };
-  right = All-nil (IsFrom s0.bytes);
-  refused = λ r. refl;
-  few = none_asked s (machine_over s [] None 0);
-  done = λ d. absurd (stopped d);
-  well = λ d. absurd (stopped d);
-}
+pub none_read : (s : Setting) (test : Option (List Status)) (e : Ending) (s0 s1 : SourceState) → (e ≡ Done → ⊥)
+    → s1.journal ≡ s0.journal → HasRead s test e s0 s1
+none_read s test e s0 s1 stopped same =
+    let statuses : List Status = replicate s.end NonTried in
+    record {
+      statuses = statuses;
+      state = None;
+      time = 0;
+      long = omega (arith, length-replicate s.end NonTried);
+      fresh = λ off. record { map_is = refl; state_is = refl };
+      events = [];
+      raw = [];
+      gained = same ∙ sym (append-nil s0.journal);
+      seen_are = none_seen test;
+      run = record { each = All-nil (IsMove s) };
+      right = All-nil (IsFrom s0.bytes);
+      refused = λ r. refl;
+      few = none_asked s (machine_over s statuses None 0);
+      done = λ d. absurd (stopped d);
+      well = λ d. absurd (stopped d);
+    }
 
-pub output_stopped : (e : Ending) (out : List ℕ) (forced : Bool) (old new : SiteState) → OutputStop e out forced old new → e ≡ Done → ⊥
+pub output_stopped : (e : Ending) (out : List ℕ) (forced : Bool) (old new : SiteState) → OutputStop e out forced old new
+    → e ≡ Done → ⊥
 output_stopped e out forced old new (inl c) done = let is : NotRegular ≡ Done = sym c.0 ∙ done in cc
 output_stopped e out forced old new (inr c) done = let is : SiteFault ImageOpen None ≡ Done = sym c.0 ∙ done in cc
 
@@ -55,17 +66,22 @@ load_stopped e faults faults' (inr (inl c)) done = let is : MapRefused _ c.0 ≡
 load_stopped e faults faults' (inr (inr c)) done = let is : SiteFault c.0 None ≡ Done = sym c.1 ∙ done in cc
 
 -- the reads of a run are those of the rescue
-pub run_has_read : (i o : List ℕ) (n : Option MapNames) (l : List ℕ) (w : Options) (e : Ending) (end all : ℕ) (s0 s1 s2 : SourceState)
-    → end ≡ all → s1.journal ≡ s0.journal → s1.bytes ≡ s0.bytes → HasRead (setting_asked i o n l w end) e s1 s2
-    → HasRead (setting_asked i o n l w all) e s0 s2
-run_has_read i o n l w e end all s0 s1 s2 whole same bytes r =
-    let P : ℕ → Type 0 = λ size. HasRead (setting_asked i o n l w size) e s0 s2 in
-    let here : HasRead (setting_asked i o n l w end) e s0 s2 = record {
+pub run_has_read : (c : Command) (n : Option MapNames) (l : List ℕ) (end all : ℕ) (maps : Maps)
+    (test : Option (List Status)) (e : Ending) (s0 s1 s2 : SourceState) → end ≡ all → s1.journal ≡ s0.journal
+    → s1.bytes ≡ s0.bytes → HasRead (setting_by c n l end maps) test e s1 s2
+    → HasRead (setting_by c n l all maps) test e s0 s2
+run_has_read c n l end all maps test e s0 s1 s2 whole same bytes r =
+    let P : ℕ → Type 0 = λ size. HasRead (setting_by c n l size maps) test e s0 s2 in
+    let own : HasRead (setting_by c n l end maps) test e s0 s2 = record {
       statuses = r.statuses;
       state = r.state;
       time = r.time;
+      long = r.long;
+      fresh = r.fresh;
       events = r.events;
-      gained = r.gained ∙ ap (λ j. j ++ reads_of r.events) same;
+      raw = r.raw;
+      gained = r.gained ∙ ap (λ j. j ++ r.raw) same;
+      seen_are = r.seen_are;
       run = r.run;
       right = rw bytes at r.right;
       refused = r.refused;
@@ -73,112 +89,128 @@ run_has_read i o n l w e end all s0 s1 s2 whole same bytes r =
       done = r.done;
       well = r.well;
     } in
-    subst P whole here
+    subst P whole own
 
 -- what the files allow, by where a rescue stopped
-pub output_allows : (s : Setting) (e : Ending) (old new : SiteState) → IsTrue old.tells → OutputStop e s.outfile s.forced old new
-    → FilesAllow e s (files_in old)
-output_allows s e old new td (inl c) = rw c.0 (c.1, c.2 td, refl)
-output_allows s e old new td (inr c) = rw c.0 tt
+pub output_allows : (c : Command) (s : Setting) (e : Ending) (old new : SiteState) → IsTrue old.tells
+    → OutputStop e s.outfile s.forced old new → MapsPass c (files_in old) → FilesAllow e c s (files_in old)
+output_allows c s e old new td (inl stop) pass = rw stop.0 (pass, (stop.1, stop.2 td, refl))
+output_allows c s e old new td (inr stop) pass = rw stop.0 pass
 
-load_allows : (i o : List ℕ) (n : MapNames) (l : List ℕ) (w : Options) (e : Ending) (end : ℕ) (d : SiteState) (calls calls' : List Entry)
-    → IsRegular w.forced o d → LoadStopped n (files_in d n.map) e calls calls'
-    → FilesAllow e (setting_asked i o (Some n) l w end) (files_in d)
-load_allows i o n l w e end d calls calls' regular (InBarrier call is (inl (name, lost))) = rw (is, name) (record { regular = regular })
-load_allows i o n l w e end d calls calls' regular (InBarrier call is (inr (inl (name, lost)))) = rw (is, name) (record { regular = regular })
-load_allows i o n l w e end d calls calls' regular (InBarrier call is (inr (inr broke))) = absurd broke
-load_allows i o n l w e end d calls calls' regular (InRead load is begins broke) = rw is (record { regular = regular })
-load_allows i o n l w e end d calls calls' regular (Starved load is begins made) = rw is tt
-load_allows i o n l w e end d calls calls' regular (Refused load refused loaded made) =
-    let P : Ending → Type 0 = λ v. FilesAllow v (setting_asked i o (Some n) l w end) (files_in d) in
-    subst P (sym refused.3) (record { regular = regular }, (refused.0, refused.1, refused.2, refl))
+-- a read of a mapfile may be of a map that an option names
+unless_maps : (maps : Bool) (P : Type 0) → P → UnlessMaps maps P
+unless_maps true P p = tt
+unless_maps false P p = p
+
+load_allows : (c : Command) (n : MapNames) (l : List ℕ) (end : ℕ) (maps : Maps) (e : Ending) (d : SiteState)
+    (calls calls' : List Entry) → IsRegular c.options.forced c.outfile d
+    → LoadStopped n (files_in d n.map) e calls calls' → MapsPass c (files_in d)
+    → FilesAllow e c (setting_by c (Some n) l end maps) (files_in d)
+load_allows c n l end maps e d calls calls' regular (InBarrier call is (inl (name, lost))) pass =
+    rw (is, name) (record { maps = pass; regular = regular })
+load_allows c n l end maps e d calls calls' regular (InBarrier call is (inr (inl (name, lost)))) pass =
+    rw (is, name) (record { maps = pass; regular = regular })
+load_allows c n l end maps e d calls calls' regular (InBarrier call is (inr (inr broke))) pass = absurd broke
+load_allows c n l end maps e d calls calls' regular (InRead load is begins broke) pass =
+    rw is (unless_maps (names_maps c) (OutputPasses c (setting_by c (Some n) l end maps) (files_in d))
+    (record { maps = pass; regular = regular }))
+load_allows c n l end maps e d calls calls' regular (Starved load is begins made) pass = rw is tt
+load_allows c n l end maps e d calls calls' regular (Refused load refused loaded made) pass =
+    let P : Ending → Type 0 = λ v. FilesAllow v c (setting_by c (Some n) l end maps) (files_in d) in
+    subst P (sym refused.3) (record { maps = pass; regular = regular }, (refused.0, refused.1, refused.2, refl))
 
 -- the same of a mapfile as it reads behind the open of the output, and without one
-pub load_allows_behind : (i o : List ℕ) (n : Option MapNames) (l : List ℕ) (w : Options) (e : Ending) (end all : ℕ)
-    (d0 d1 d2 : SiteState) → AreNamedApart o n → HasOpened o d0 d1 → IsRegular w.forced o d0 → Loaded n end (Err e) d1 d2
-    → FilesAllow e (setting_asked i o n l w all) (files_in d0)
-load_allows_behind i o (Some n) l w e end all d0 d1 d2 apart made regular stop =
+pub load_allows_behind : (c : Command) (n : Option MapNames) (l : List ℕ) (end all : ℕ) (maps : Maps) (e : Ending)
+    (d0 d1 d2 : SiteState) → HasLoaded c n end (Err e) d0 d1 d2 → MapsPass c (files_in d0)
+    → FilesAllow e c (setting_by c n l all maps) (files_in d0)
+load_allows_behind c (Some n) l end all maps e d0 d1 d2 h pass =
     let P : Option File → Type 0 = λ f. LoadStopped n f e d1.calls d2.calls in
-    load_allows i o n l w e all d0 d1.calls d2.calls regular (subst P (here o n d0 d1 apart made) stop.0)
-load_allows_behind i o None l w e end all d0 d1 d2 apart made regular stop = rw stop.1 tt
+    load_allows c n l all maps e d0 d1.calls d2.calls h.regular
+    (subst P (here c.outfile n d0 d1 h.apart h.made) h.loaded.0) pass
+load_allows_behind c None l end all maps e d0 d1 d2 h pass = rw h.loaded.1 tt
 
 -- a load that went on to its end
-pub load_passes : (i o : List ℕ) (n : Option MapNames) (l : List ℕ) (w : Options) (end all : ℕ) (start : Start)
-    (d0 d1 d2 : SiteState) → AreNamedApart o n → HasOpened o d0 d1 → IsRegular w.forced o d0 → Loaded n end (Ok start) d1 d2
-    → MapfilePasses (setting_asked i o n l w all) (files_in d0)
-load_passes i o (Some n) l w end all start d0 d1 d2 apart made regular st =
+pub load_passes : (c : Command) (n : Option MapNames) (l : List ℕ) (end all : ℕ) (maps : Maps) (start : Start)
+    (d0 d1 d2 : SiteState) → HasLoaded c n end (Ok start) d0 d1 d2 → MapsPass c (files_in d0)
+    → MapfilePasses c (setting_by c n l all maps) (files_in d0)
+load_passes c (Some n) l end all maps start d0 d1 d2 h pass =
     let P : Option File → Type 0 = λ f. (v : Ending) → MapfileRefused f v → ⊥ in
-    record { output = record { regular = regular }; accepted = subst P (here o n d0 d1 apart made) st.accepted }
-load_passes i o None l w end all start d0 d1 d2 apart made regular fresh = record {
-  output = record { regular = regular };
+    record {
+      output = record { maps = pass; regular = h.regular };
+      accepted = subst P (here c.outfile n d0 d1 h.apart h.made) h.loaded.accepted;
+    }
+load_passes c None l end all maps start d0 d1 d2 h pass = record {
+  output = record { maps = pass; regular = h.regular };
   accepted = λ v refused. let no : None ≡ Some _ = refused.1.is in cc;
 }
 
-call_passes : (call : SiteCall) (s : Setting) (files : List ℕ → Option File) → MapfilePasses s files → CallPasses call s files
-call_passes ImageOpen s files pass = tt
-call_passes ImageRead s files pass = pass
-call_passes ImageWrite s files pass = pass
-call_passes ImageSync s files pass = pass.output
-call_passes MapRead s files pass = pass.output
-call_passes DraftBegin s files pass = pass
-call_passes DraftAppend s files pass = pass
-call_passes DraftSync s files pass = pass
-call_passes DraftPublish s files pass = pass
-call_passes MapSettle s files pass = pass.output
-call_passes MapRemove s files pass = pass
+call_passes : (call : SiteCall) (c : Command) (s : Setting) (files : List ℕ → Option File) → MapfilePasses c s files
+    → CallPasses call c s files
+call_passes ImageOpen c s files pass = pass.output.maps
+call_passes ImageRead c s files pass = pass
+call_passes ImageWrite c s files pass = pass
+call_passes ImageSync c s files pass = pass.output
+call_passes MapRead c s files pass = unless_maps (names_maps c) (OutputPasses c s files) pass.output
+call_passes DraftBegin c s files pass = pass
+call_passes DraftAppend c s files pass = pass
+call_passes DraftSync c s files pass = pass
+call_passes DraftPublish c s files pass = pass
+call_passes MapSettle c s files pass = pass.output
+call_passes MapRemove c s files pass = pass
 
-pub run_allows : (s : Setting) (files : List ℕ → Option File) (e : Ending) → EndsRun e → MapfilePasses s files → FilesAllow e s files
-run_allows s files e (Finished, is) pass = rw is pass
-run_allows s files e (Stopped InputLost, is) pass = rw is pass
-run_allows s files e (Stopped (Site call), is) pass = rw is (call_passes call s files pass)
-run_allows s files e (Stopped NoRoom, is) pass = rw is tt
-run_allows s files e (SaveFailed call earlier, is) pass = rw is (call_passes call s files pass)
+pub run_allows : (c : Command) (s : Setting) (files : List ℕ → Option File) (e : Ending) → EndsRun e
+    → MapfilePasses c s files → FilesAllow e c s files
+run_allows c s files e (Finished, is) pass = rw is pass
+run_allows c s files e (Stopped InputLost, is) pass = rw is pass
+run_allows c s files e (Stopped (Site call), is) pass = rw is (call_passes call c s files pass)
+run_allows c s files e (Stopped NoRoom, is) pass = rw is tt
+run_allows c s files e (SaveFailed call earlier, is) pass = rw is (call_passes call c s files pass)
 
 -- what is said of the places, by where a rescue stopped
-pub output_places : (s : Setting) (e : Ending) (out : List ℕ) (forced : Bool) (old new : SiteState) → OutputStop e out forced old new
-    → PlacesAllow e s
-output_places s e out forced old new (inl c) = rw c.0 tt
-output_places s e out forced old new (inr c) = rw c.0 tt
+pub output_places : (o : Options) (end : ℕ) (e : Ending) (out : List ℕ) (forced : Bool) (old new : SiteState)
+    → OutputStop e out forced old new → PlacesAllow e o end
+output_places o end e out forced old new (inl stop) = rw stop.0 tt
+output_places o end e out forced old new (inr stop) = rw stop.0 tt
 
 -- a call of a load comes before the places are looked at
-load_placed : (s : Setting) (call : SiteCall) → IsResumeCall call → CallPlaced call s
-load_placed s call (inl is) = rw is tt
-load_placed s call (inr (inl is)) = rw is tt
-load_placed s call (inr (inr is)) = rw is tt
+load_placed : (o : Options) (end : ℕ) (call : SiteCall) → IsResumeCall call → CallPlaced call o end
+load_placed o end call (inl is) = rw is tt
+load_placed o end call (inr (inl is)) = rw is tt
+load_placed o end call (inr (inr is)) = rw is tt
 
-pub load_places : (s : Setting) (e : Ending) (faults faults' : ℕ) → LoadCause e faults faults' → PlacesAllow e s
-load_places s e faults faults' (inl c) = rw c.0 tt
-load_places s e faults faults' (inr (inl c)) = rw c.1 tt
-load_places s e faults faults' (inr (inr c)) = rw c.1 (load_placed s c.0 c.2)
+pub load_places : (o : Options) (end : ℕ) (e : Ending) (faults faults' : ℕ) → LoadCause e faults faults'
+    → PlacesAllow e o end
+load_places o end e faults faults' (inl c) = rw c.0 tt
+load_places o end e faults faults' (inr (inl c)) = rw c.1 tt
+load_places o end e faults faults' (inr (inr c)) = rw c.1 (load_placed o end c.0 c.2)
 
-pub beyond_places : (i o : List ℕ) (n : Option MapNames) (l : List ℕ) (w : Options) (end all : ℕ) → end ≡ all → IsBeyond w end
-    → PlacesAllow (Usage PlaceTooLarge) (setting_asked i o n l w all)
-beyond_places i o n l w end all whole far =
-    let P : ℕ → Type 0 = λ size. PlacesRefused (setting_asked i o n l w size) (Usage PlaceTooLarge) in
-    subst P whole (beyond_is_refused i o n l w end far)
+pub beyond_places : (o : Options) (end all : ℕ) → end ≡ all → IsBeyond o end → PlacesAllow (Usage PlaceTooLarge) o all
+beyond_places o end all whole far =
+    let P : ℕ → Type 0 = λ size. PlacesRefused o size (Usage PlaceTooLarge) in
+    subst P whole (far, refl)
 
-call_placed : (call : SiteCall) (s : Setting) → ArePlaced s → CallPlaced call s
-call_placed ImageOpen s placed = tt
-call_placed ImageRead s placed = placed
-call_placed ImageWrite s placed = placed
-call_placed ImageSync s placed = tt
-call_placed MapRead s placed = tt
-call_placed DraftBegin s placed = placed
-call_placed DraftAppend s placed = placed
-call_placed DraftSync s placed = placed
-call_placed DraftPublish s placed = placed
-call_placed MapSettle s placed = tt
-call_placed MapRemove s placed = placed
+call_placed : (call : SiteCall) (o : Options) (end : ℕ) → ArePlaced o end → CallPlaced call o end
+call_placed ImageOpen o end placed = tt
+call_placed ImageRead o end placed = placed
+call_placed ImageWrite o end placed = placed
+call_placed ImageSync o end placed = tt
+call_placed MapRead o end placed = tt
+call_placed DraftBegin o end placed = placed
+call_placed DraftAppend o end placed = placed
+call_placed DraftSync o end placed = placed
+call_placed DraftPublish o end placed = placed
+call_placed MapSettle o end placed = tt
+call_placed MapRemove o end placed = placed
 
-ending_places : (s : Setting) (e : Ending) → EndsRun e → ArePlaced s → PlacesAllow e s
-ending_places s e (Finished, is) placed = rw is placed
-ending_places s e (Stopped InputLost, is) placed = rw is placed
-ending_places s e (Stopped (Site call), is) placed = rw is (call_placed call s placed)
-ending_places s e (Stopped NoRoom, is) placed = rw is tt
-ending_places s e (SaveFailed call earlier, is) placed = rw is (call_placed call s placed)
+ending_places : (o : Options) (end : ℕ) (e : Ending) → EndsRun e → ArePlaced o end → PlacesAllow e o end
+ending_places o end e (Finished, is) placed = rw is placed
+ending_places o end e (Stopped InputLost, is) placed = rw is placed
+ending_places o end e (Stopped (Site call), is) placed = rw is (call_placed call o end placed)
+ending_places o end e (Stopped NoRoom, is) placed = rw is tt
+ending_places o end e (SaveFailed call earlier, is) placed = rw is (call_placed call o end placed)
 
-pub run_places : (i o : List ℕ) (n : Option MapNames) (l : List ℕ) (w : Options) (e : Ending) (end all : ℕ) → end ≡ all
-    → ArePlacedBy w end → EndsRun e → PlacesAllow e (setting_asked i o n l w all)
-run_places i o n l w e end all whole placed ends =
-    let P : ℕ → Type 0 = λ size. PlacesAllow e (setting_asked i o n l w size) in
-    subst P whole (ending_places (setting_asked i o n l w end) e ends (placed_passes i o n l w end placed))
+pub run_places : (o : Options) (end all : ℕ) (e : Ending) → end ≡ all → ArePlacedBy o end → EndsRun e
+    → PlacesAllow e o all
+run_places o end all e whole placed ends =
+    let P : ℕ → Type 0 = λ size. PlacesAllow e o size in
+    subst P whole (ending_places o end e ends (placed_passes o end placed))

@@ -4,21 +4,24 @@ use Rattle.rescue_rules.specs.Setting.{IsSensible}
 use Rattle.rescue_command.specs.Options.{sectors_of}
 use Rattle.rescue_command.specs.Command.{Command, Asks, AreInLimits}
 use Rattle.rescue_command.proofs.CommandLemmas.{reading_asks}
+use Rattle.ddrescue_cli.specs.Asked.{Maps}
 use Rattle.ddrescue_cli.specs.Told.{Told, asked}
-use Rattle.ddrescue_cli.proofs.BeginLemmas.{whole_from}
+use Rattle.ddrescue_cli.proofs.BeginLemmas.{asked_in_whole, whole_from}
 
 -- their options are within their limits
 pub asked_limits : (words : List (List ℕ)) (c : Command) → Asks words c → AreInLimits c.options
 asked_limits words c a = (reading_asks words a.rows a.items a.operands c a.options a.reading a.is).limits
 
-pub asked_sensible : (c : Command) (t : Told) → Asks t.words c → IsSensible (asked c t)
-asked_sensible c t asks =
+pub asked_sensible : (c : Command) (maps : Maps) (t : Told) → Asks t.words c → IsSensible (asked c maps t)
+asked_sensible c maps t asks =
     let limits : AreInLimits c.options = asked_limits t.words c asks in
     record {
       sector = limits.sector;
       sectors = sectors_of c.options c.options.cluster_sectors;
       some = limits.sectors;
       cluster = refl;
-      from = λ x inside. whole_from c.options.input_position c.options.size (length t.source.bytes) x inside;
+      from = λ x inside.
+          whole_from c.options.input_position c.options.size (length t.source.bytes) x
+          (asked_in_whole c.options (length t.source.bytes) maps x inside);
       retries = omega (arith, limits.retries);
     }

@@ -1,5 +1,5 @@
 -- A run begins with what options ask for.
-use Rattle.std.proofs.Common.{◌≡◌, ℕ, ◌+◌, ◌-◌, ◌*◌, ◌/◌, ◌<◌, ◌≤◌, ◌^◌, true, List, length, Option, Some, None, IfSome, unwrap_or, refl, sym, ap, ◌∙◌, arith, subst}
+use Rattle.std.proofs.Common.{◌≡◌, ℕ, ◌+◌, ◌-◌, ◌*◌, ◌/◌, ◌<◌, ◌≤◌, ◌^◌, Bool, true, List, length, Option, Some, None, IfSome, unwrap_or, refl, sym, ap, ◌∙◌, arith, subst}
 use Rattle.std.proofs.Math.Nat.{div-mul-le_self, le-div_iff_mul-le, mul-le-mul_right}
 use Rattle.block_list.specs.declared.block.Run.{Run}
 use Rattle.block_list.specs.declared.status.Status.{Status}
@@ -19,7 +19,7 @@ use Rattle.copy_passes.proofs.StartLemmas.{start_may_copy, shown_may_copy}
 use Rattle.rescue_command.specs.declared.options.Options.{Options}
 use Rattle.rescue_command.specs.Options.{sectors_of}
 use Rattle.rescue_command.specs.Command.{AreInLimits}
-use Rattle.ddrescue_cli.specs.Asked.{ArePlacedBy}
+use Rattle.ddrescue_cli.specs.Asked.{Maps, ArePlacedBy, in_map, in_list, domain_asked}
 use Rattle.ddrescue_cli.specs.Steps.{Fits}
 use Rattle.ddrescue_cli.specs.Running.{settings_by, IsRunOver}
 
@@ -56,18 +56,39 @@ whole_below pos size end top x long inside = grind (arith, long, inside)
 pub whole_from : (pos : ℕ) (size : Option ℕ) (end x : ℕ) → whole_domain pos size end x ≡ true → pos ≤ x
 whole_from pos size end x inside = grind (arith, inside)
 
--- the domain that options ask for, as a run has it
-abbrev IsWhole : Options → ℕ → List Run → Type 0
-IsWhole o end domain = (x : ℕ) → covers domain x ≡ whole_domain o.input_position o.size end x
+in_map_in : (domain : ℕ → Bool) (map : Option (List Status)) (x : ℕ) → in_map domain map x ≡ true → domain x ≡ true
+in_map_in domain None x inside = inside
+in_map_in domain (Some statuses) x inside = grind (arith, inside)
+
+in_list_in : (domain : ℕ → Bool) (listed : Option (ℕ × ℕ)) (x : ℕ) → in_list domain listed x ≡ true → domain x ≡ true
+in_list_in domain None x inside = inside
+in_list_in domain (Some k) x inside = grind (arith, inside)
+
+-- maps only leave positions out
+pub asked_in_whole : (o : Options) (end : ℕ) (maps : Maps) (x : ℕ) → domain_asked o end maps x ≡ true
+    → whole_domain o.input_position o.size end x ≡ true
+asked_in_whole o end maps x inside =
+    in_map_in (whole_domain o.input_position o.size end) maps.domain x
+    (in_list_in (in_map (whole_domain o.input_position o.size end) maps.domain) maps.listed x inside)
+
+-- the domain that options and maps ask for, as a run has it
+abbrev IsAsked : Options → ℕ → Maps → List Run → Type 0
+IsAsked o end maps domain = (x : ℕ) → covers domain x ≡ domain_asked o end maps x
+
+-- it has no position but those that options ask for
+asked_whole : (o : Options) (end : ℕ) (maps : Maps) (domain : List Run) (x : ℕ) → IsAsked o end maps domain
+    → covers domain x ≡ true → whole_domain o.input_position o.size end x ≡ true
+asked_whole o end maps domain x asked inside = asked_in_whole o end maps x (sym (asked x) ∙ inside)
 
 -- it suits a map that reaches the input's end
-pub whole_suits : (settings : Settings) (domain : List Run) (o : Options) (end top : ℕ) → settings ≡ settings_by o
-    → IsWhole o end domain → end ≤ top → Suits settings (covers domain) top
-whole_suits settings domain o end top is whole long =
+pub asked_suits : (settings : Settings) (domain : List Run) (o : Options) (end : ℕ) (maps : Maps) (top : ℕ)
+    → settings ≡ settings_by o → IsAsked o end maps domain → end ≤ top → Suits settings (covers domain) top
+asked_suits settings domain o end maps top is asked long =
     subst (λ (t : Settings). Suits t (covers domain) top) (sym is)
     (record {
-      from = λ x inside. whole_from o.input_position o.size end x (sym (whole x) ∙ inside);
-      to = λ x inside. whole_below o.input_position o.size end top x long (sym (whole x) ∙ inside);
+      from = λ x inside. whole_from o.input_position o.size end x (asked_whole o end maps domain x asked inside);
+      to = λ x inside.
+          whole_below o.input_position o.size end top x long (asked_whole o end maps domain x asked inside);
     })
 
 -- the map that is made of one
@@ -79,11 +100,12 @@ pub made_long : (domain : List Run) (o : Options) (statuses : List Status) → l
 made_long domain o statuses =
     (change_is_made (covers domain) (prepared_status o.try_again o.retrim) statuses).size
 
-pub suits_made : (settings : Settings) (domain : List Run) (o : Options) (end : ℕ) (statuses made : List Status)
-    → settings ≡ settings_by o → IsWhole o end domain → end ≤ length statuses → made ≡ made_of_map domain o statuses
-    → Suits settings (covers domain) (length made)
-suits_made settings domain o end statuses made is whole long made_is =
-    whole_suits settings domain o end (length made) is whole (omega (arith, long, ap length made_is, made_long domain o statuses))
+pub suits_made : (settings : Settings) (domain : List Run) (o : Options) (end : ℕ) (maps : Maps)
+    (statuses made : List Status) → settings ≡ settings_by o → IsAsked o end maps domain → end ≤ length statuses
+    → made ≡ made_of_map domain o statuses → Suits settings (covers domain) (length made)
+suits_made settings domain o end maps statuses made is asked long made_is =
+    asked_suits settings domain o end maps (length made) is asked
+    (omega (arith, long, ap length made_is, made_long domain o statuses))
 
 pub short_made : (domain : List Run) (o : Options) (statuses made : List Status) → length statuses < 2 ^ 63
     → made ≡ made_of_map domain o statuses → length made < 2 ^ 63
@@ -142,23 +164,23 @@ setting_begun : (settings : Settings) (domain : List Run) (names : Option MapNam
 setting_begun settings domain names line o statuses None moment = refl
 setting_begun settings domain names line o statuses (Some shown) moment = refl
 
-pub begun_over : (settings : Settings) (domain : List Run) (names : Option MapNames) (line : List ℕ) (o : Options) (end : ℕ)
-    (statuses : List Status) (state : Option MapState) (moment : ℕ) (r : RunState) → AreInLimits o → ArePlacedBy o end
-    → Fits end statuses state → settings ≡ settings_by o → IsWhole o end domain
+pub begun_over : (settings : Settings) (domain : List Run) (names : Option MapNames) (line : List ℕ) (o : Options)
+    (end : ℕ) (maps : Maps) (statuses : List Status) (state : Option MapState) (moment : ℕ) (r : RunState)
+    → AreInLimits o → ArePlacedBy o end → Fits end statuses state → settings ≡ settings_by o → IsAsked o end maps domain
     → r ≡ begun_with settings domain names line o statuses state moment
-    → IsRunOver names line o end statuses state moment r
-begun_over settings domain names line o end statuses state moment r limits placed fits is whole made =
+    → IsRunOver names line o end maps statuses state moment r
+begun_over settings domain names line o end maps statuses state moment r limits placed fits is asked made =
     let q : RunState = begun_with settings domain names line o statuses state moment in
     let parts : HasParts settings domain names line q = begun_parts settings domain names line o statuses state moment in
     let long : end ≤ length (made_of_map domain o statuses) = omega (arith, fits.long, made_long domain o statuses) in
-    let positions : (x : ℕ) → covers q.domain x ≡ whole_domain o.input_position o.size end x =
-    λ x. ap (λ (d : List Run). covers d x) parts.domain_is ∙ whole x in
-    subst (IsRunOver names line o end statuses state moment) (sym made)
+    let positions : (x : ℕ) → covers q.domain x ≡ domain_asked o end maps x =
+    λ x. ap (λ (d : List Run). covers d x) parts.domain_is ∙ asked x in
+    subst (IsRunOver names line o end maps statuses state moment) (sym made)
     (record {
       copying = begun_copies settings domain names line o statuses state moment (sound_settings settings o is limits)
-          (whole_suits settings domain o end (length (made_of_map domain o statuses)) is whole long);
+          (asked_suits settings domain o end maps (length (made_of_map domain o statuses)) is asked long);
       places = subst (λ (t : Settings). HasPlaces t (covers q.domain)) (sym (parts.settings_are ∙ is))
-          (record { low = λ x inside. placed x (sym (positions x) ∙ inside) });
+          (record { low = λ x inside. placed x (asked_in_whole o end maps x (sym (positions x) ∙ inside)) });
       settings_are = parts.settings_are ∙ is;
       names_are = parts.names_are;
       line_is = parts.line_is;

@@ -4,8 +4,10 @@ use Rattle.std.specs.List.{count_by, slice_get}
 use Rattle.std.proofs.Math.Seq.{take-length}
 use Rattle.std.proofs.lemmas.Bool.{cases_Bool}
 use Rattle.std.proofs.lemmas.List.{take_all, length-map, length-drop}
+use Rattle.std.proofs.lemmas.List.Elements.{All-nil, All-append}
 use Rattle.block_list.specs.declared.status.Status.{Status}
 use Rattle.block_list.proofs.Places.{slice_get-append_right}
+use Rattle.mapfile_text.specs.declared.read.Mode.{Mode}
 use Rattle.mapfile_text.specs.declared.state.MapState.{MapState}
 use Rattle.crash_site.specs.declared.site.SiteCall.TheVariants.{MapRead}
 use Rattle.crash_site.specs.Files.{File, bytes_of}
@@ -37,45 +39,55 @@ use Rattle.rescue_rules.proofs.ReadyLemmas.{order_begins}
 use Rattle.rescue_rules.specs.declared.stop.Stop.{Stop}
 use Rattle.rescue_rules.specs.declared.stop.Stop.TheVariants.{SourceLost as InputLost, Site, NoMemory as NoRoom}
 use Rattle.rescue_rules.specs.declared.stop.RunEnd.{RunEnd}
-use Rattle.rescue_rules.specs.Work.{Gain, begins, events_in, opening_calls, mapfile_in, IsLoadOf, EndsBy, end_of, Ends, IsSaved as RunSaved, IsUnsaved, IsBroken}
+use Rattle.rescue_rules.specs.Work.{Gain, begins, events_in, opening_calls, mapfile_in, IsLoadOf, AreMapReads, EndsBy, end_of, Ends, IsSaved as RunSaved, IsUnsaved, IsBroken}
 use Rattle.rescue_rules.specs.Stops.{LeftAt, has_barrier, is_settle, is_publish, returned, published, files_before, IsSave, IsKept}
 use Rattle.ddrescue_cli.specs.declared.ending.Ending.{Ending}
-use Rattle.ddrescue_cli.specs.declared.ending.Ending.TheVariants.{Done, Usage, SameName, SourceFault, NotRegular, MapRefused, SourceLost, SiteFault, NoMemory}
-use Rattle.ddrescue_cli.specs.declared.ending.Which.TheVariants.{RunMap}
+use Rattle.ddrescue_cli.specs.declared.ending.Ending.TheVariants.{Done, Usage, SameName, NoMap, SourceFault, NotRegular, MapRefused, SourceLost, SiteFault, NoMemory}
+use Rattle.ddrescue_cli.specs.declared.ending.Which.{Which}
+use Rattle.ddrescue_cli.specs.declared.ending.Which.TheVariants.{DomainMap, TestMap, RunMap}
+use Rattle.rescue_command.specs.declared.options.Options.{Options}
 use Rattle.rescue_command.specs.Command.{Command, Asks}
 use Rattle.ddrescue_cli.specs.Names.{command_line}
-use Rattle.ddrescue_cli.specs.Refusals.{MapfileRefused, PlacesRefused}
-use Rattle.ddrescue_cli.specs.Told.{Told, AllTell, what_was_done, calls_before, files_of, asked}
-use Rattle.ddrescue_cli.specs.Work.{answer_of, OrRefused, ThenRead, ThenRun, RunsOver, WorksOn, Works}
-use Rattle.ddrescue_cli.specs.Ddrescue.{Ddrescue}
-use Rattle.ddrescue_cli.specs.Laws.{HoldsAtEnd, IsFinished, DoneIsSaved, comes_to}
-use Rattle.trim_scrape.proofs.EndingLemmas.{run_ends_well}
+use Rattle.ddrescue_cli.specs.Asked.{Maps}
 use Rattle.ddrescue_cli.proofs.AskedLemmas.{asked_sensible}
+use Rattle.ddrescue_cli.specs.Maps.{map_mode}
+use Rattle.ddrescue_cli.specs.Refusals.{NamedMapRefused, MapfileRefused, PlacesRefused}
+use Rattle.ddrescue_cli.specs.Told.{Told, AllTell, what_was_done, calls_before, files_of, asked}
+use Rattle.ddrescue_cli.specs.Work.{answer_of, OrRefused, ThenRead, ThenMap, ThenRun, RunsOver, WorksOn, WorksBehindWords, Works}
+use Rattle.ddrescue_cli.specs.Ddrescue.{Ddrescue}
+use Rattle.ddrescue_cli.specs.Laws.{maps_by, done_by, HoldsAtEnd, IsFinished, DoneIsSaved, comes_to}
+use Rattle.trim_scrape.proofs.EndingLemmas.{run_ends_well}
 use Rattle.ddrescue_cli.proofs.OutputLemmas.{holds_whole}
 use Rattle.ddrescue_cli.proofs.GoesLemmas.{opened, settled, settled_more}
 use Rattle.ddrescue_cli.proofs.CountLemmas.{dues, run_entries, settles_once_more, publishes_each}
+use Rattle.ddrescue_cli.proofs.FrontLemmas.{IsMapRead, load_reads, reads_stand, made_both}
+use Rattle.ddrescue_cli.proofs.ReadLemmas.{settles_behind, publishes_behind, barrier_behind}
 
 -- a stop behind all calls may leave the files as they read
-left_all : (start : Folder) (calls : List Entry) (k : ℕ) → k ≡ length calls → MayBeLeft start calls k (after start calls).files
+left_all : (start : Folder) (calls : List Entry) (k : ℕ) → k ≡ length calls
+    → MayBeLeft start calls k (after start calls).files
 left_all start calls k all =
     let P : List Entry → Type 0 = λ r. MayBeLeft start calls k (after start r).files in
     subst P (ap (λ n. take n calls) all ∙ take-length calls) (reads_until start calls k)
 
-left_at_end : (t : Told) → Ddrescue t → AllTell t → LeftAt (calls_before t) (what_was_done t) (length (what_was_done t).calls) (files_in t.site')
-left_at_end t d tell =
-    let calls : List Entry = t.site.calls ++ (what_was_done t).calls in
-    let k : ℕ = length t.site.calls + length (what_was_done t).calls in
+left_at_end : (maps : Maps) (t : Told) → Ddrescue t → AllTell t
+    → LeftAt (calls_before t) (what_was_done maps t) (length (what_was_done maps t).calls) (files_in t.site')
+left_at_end maps t d tell =
+    let gained : List Entry = (what_was_done maps t).calls in
+    let calls : List Entry = t.site.calls ++ gained in
+    let k : ℕ = length t.site.calls + length gained in
     let P : Folder → Type 0 = λ start. MayBeLeft t.site.start calls k (after start t.site'.calls).files in
     let Q : List Entry → Type 0 = λ r. MayBeLeft t.site.start calls k (after t.site.start r).files in
     subst P (sym (d.site.start tell.site))
     (subst Q (sym (d.gains tell).calls)
-    (left_all t.site.start calls k (sym (length-append t.site.calls (what_was_done t).calls))))
+    (left_all t.site.start calls k (sym (length-append t.site.calls gained))))
 
 pub holds_at_end : HoldsAtEnd
 holds_at_end t c began state d asks tell on is stands =
-    let whole : take (length (what_was_done t).calls) (what_was_done t).calls ≡ (what_was_done t).calls = take-length (what_was_done t).calls in
-    ((d.asked_for c asks).stops tell on).kept (length (what_was_done t).calls) (files_in t.site') began state (omega arith)
-    (left_at_end t d tell) (ap has_barrier whole ∙ is) stands
+    let calls : List Entry = (done_by d asks).calls in
+    let whole : take (length calls) calls ≡ calls = take-length calls in
+    ((d.asked_for c asks).stops tell on).kept (length calls) (files_in t.site') began state (omega arith)
+    (left_at_end (maps_by d asks) t d tell) (ap has_barrier whole ∙ is) stands
 
 -- a run that ended with a save
 record SavedRun (s : Setting) (m : Machine) (events : List Event) (calls : List Entry) : Type 0 where
@@ -89,8 +101,8 @@ answer_done end (Some InputLost) is same = absurd (let no : Done ≡ SourceLost 
 answer_done end (Some (Site call)) is same = absurd (let no : Done ≡ SiteFault call None = is ∙ ap answer_of same in cc)
 answer_done end (Some NoRoom) is same = absurd (let no : Done ≡ NoMemory = is ∙ ap answer_of same in cc)
 
-saved_ends : (s : Setting) (m : Machine) (events : List Event) (spare : ℕ) (calls : List Entry) (end : RunEnd) → Done ≡ answer_of end
-    → Ends s m events spare calls end → SavedRun s m events calls
+saved_ends : (s : Setting) (m : Machine) (events : List Event) (spare : ℕ) (calls : List Entry) (end : RunEnd)
+    → Done ≡ answer_of end → Ends s m events spare calls end → SavedRun s m events calls
 saved_ends s m events spare calls end is (RunSaved stop ends same all) =
     let P : Option Stop → Type 0 = λ o. EndsBy o s (state_after s m events) spare in
     record { over = (subst P (answer_done end stop is same) ends).0; all = all }
@@ -110,11 +122,13 @@ record DoneOver (s : Setting) (statuses : List Status) (state : Option MapState)
   saved : SavedRun s (begins s statuses state g) (events_in g) g.calls
 
 -- reads whose times are told are those of the events
-timed : (reads : List Reading) (times : List ℕ) → 2 * length reads ≤ length times → reads_of (with_times reads times) ≡ reads
+timed : (reads : List Reading) (times : List ℕ) → 2 * length reads ≤ length times
+    → reads_of (with_times reads times) ≡ reads
 timed [] times enough = refl
 timed (r ∷ rs) [] enough = absurd (omega (arith, enough))
 timed (r ∷ rs) (before ∷ []) enough = absurd (omega (arith, enough))
-timed (r ∷ rs) (before ∷ after ∷ times) enough = ap (λ (l : List Reading). r ∷ l) (timed rs times (omega (arith, enough)))
+timed (r ∷ rs) (before ∷ after ∷ times) enough =
+    ap (λ (l : List Reading). r ∷ l) (timed rs times (omega (arith, enough)))
 
 done_over : (s : Setting) (statuses : List Status) (state : Option MapState) (e : Ending) (g : Gain) → Done ≡ e
     → RunsOver s statuses state e g → DoneOver s statuses state g
@@ -132,10 +146,10 @@ record DoneRest (s : Setting) (mapfile : Option File) (g : Gain) : Type 0 where
   stands : Stands mapfile s.end statuses state
   over : DoneOver s statuses state g
 
-done_rest : (s : Setting) (mapfile : Option File) (e : Ending) (g : Gain) → Done ≡ e
-    → OrRefused (PlacesRefused s) (ThenRun s mapfile) e g → DoneRest s mapfile g
-done_rest s mapfile e g is (inl (refused, none)) = absurd (let no : Done ≡ Usage PlaceTooLarge = is ∙ refused.3 in cc)
-done_rest s mapfile e g is (inr (placed, ran)) = record {
+done_rest : (o : Options) (s : Setting) (mapfile : Option File) (e : Ending) (g : Gain) → Done ≡ e
+    → OrRefused (PlacesRefused o s.end) (ThenRun s mapfile) e g → DoneRest s mapfile g
+done_rest o s mapfile e g is (inl (refused, none)) = absurd (let no : Done ≡ Usage PlaceTooLarge = is ∙ refused.1 in cc)
+done_rest o s mapfile e g is (inr (placed, ran)) = record {
   statuses = ran.0;
   state = ran.1;
   stands = ran.2;
@@ -150,20 +164,23 @@ record DoneLoad (s : Setting) (files : List ℕ → Option File) (calls : List E
   grew : calls ≡ map Returned load ++ run
   rest : DoneRest s (mapfile_in s files) (record g { calls = run })
 
-done_load : (s : Setting) (files : List ℕ → Option File) (e : Ending) (g : Gain) → Done ≡ e
+done_load : (o : Options) (s : Setting) (files : List ℕ → Option File) (e : Ending) (g : Gain) → Done ≡ e
     → ThenRead s.names.map (files s.names.map)
-    (OrRefused (MapfileRefused (files s.names.map)) (OrRefused (PlacesRefused s) (ThenRun s (mapfile_in s files)))) e g
+    (OrRefused (MapfileRefused (files s.names.map))
+    (OrRefused (PlacesRefused o s.end) (ThenRun s (mapfile_in s files)))) e g
     → DoneLoad s files g.calls g
-done_load s files e g is (inl (load, failed, begun, broke, only)) = absurd (let no : Done ≡ SiteFault MapRead None = is ∙ failed in cc)
-done_load s files e g is (inr (inl (load, starved, begun, all, only))) = absurd (let no : Done ≡ NoMemory = is ∙ starved in cc)
-done_load s files e g is (inr (inr (load, run, loaded, all, inl (refused, none)))) =
+done_load o s files e g is (inl (load, failed, begun, broke, only)) =
+    absurd (let no : Done ≡ SiteFault MapRead None = is ∙ failed in cc)
+done_load o s files e g is (inr (inl (load, starved, begun, all, only))) =
+    absurd (let no : Done ≡ NoMemory = is ∙ starved in cc)
+done_load o s files e g is (inr (inr (load, run, loaded, all, inl (refused, none)))) =
     absurd (let no : Done ≡ MapRefused RunMap refused.0 = is ∙ refused.3 in cc)
-done_load s files e g is (inr (inr (load, run, loaded, all, inr (accepted, next)))) = record {
+done_load o s files e g is (inr (inr (load, run, loaded, all, inr (accepted, next)))) = record {
   load = load;
   loaded = loaded;
   run = run;
   grew = all;
-  rest = done_rest s (mapfile_in s files) e (record g { calls = run }) is next;
+  rest = done_rest o s (mapfile_in s files) e (record g { calls = run }) is next;
 }
 
 -- what a rescue that is done did
@@ -180,8 +197,8 @@ record DoneRun (s : Setting) (files : List ℕ → Option File) (g : Gain) : Typ
 
 -- with a mapfile, and without one
 done_with : (s : Setting) (files : List ℕ → Option File) (g : Gain) (rest more : List Entry) → s.has_mapfile ≡ true
-    → g.calls ≡ opened s ++ rest → rest ≡ map Returned (barrier_calls s.names) ++ more → DoneLoad s files more (record g { calls = more })
-    → DoneRun s files g
+    → g.calls ≡ opened s ++ rest → rest ≡ map Returned (barrier_calls s.names) ++ more
+    → DoneLoad s files more (record g { calls = more }) → DoneRun s files g
 done_with s files g rest more on grew grew' l =
     let last : List Entry = last_calls s (begins s l.rest.statuses l.rest.state g) (events_in g) in
     record {
@@ -218,29 +235,92 @@ done_without s files g rest off grew d =
           ∙ ap (λ (front : List Call). map Returned (front ++ []) ++ last) (sym (opened_alone s off));
     }
 
-done_runs : (s : Setting) (files : List ℕ → Option File) (e : Ending) (g : Gain) → Done ≡ e → WorksOn s files e g → DoneRun s files g
-done_runs s files e g is (inl (refused, none)) = absurd (let no : Done ≡ SourceFault = is ∙ refused in cc)
-done_runs s files e g is (inr (inl (call, failed, broke, only))) = absurd (let no : Done ≡ SiteFault call None = is ∙ failed in cc)
-done_runs s files e g is (inr (inr (rest, grew, inl (refused, none)))) = absurd (let no : Done ≡ NotRegular = is ∙ refused.2 in cc)
-done_runs s files e g is (inr (inr (rest, grew, inr (ok, inl (on, inl (call, failed, broke, only)))))) =
+done_runs : (c : Command) (s : Setting) (files : List ℕ → Option File) (e : Ending) (g : Gain) → Done ≡ e
+    → WorksOn c s files e g → DoneRun s files g
+done_runs c s files e g is (inl (refused, none)) = absurd (let no : Done ≡ SourceFault = is ∙ refused in cc)
+done_runs c s files e g is (inr (inl (call, failed, broke, only))) =
     absurd (let no : Done ≡ SiteFault call None = is ∙ failed in cc)
-done_runs s files e g is (inr (inr (rest, grew, inr (ok, inl (on, inr (more, grew', read)))))) =
-    done_with s files g rest more on grew grew' (done_load s files e (record g { calls = more }) is read)
-done_runs s files e g is (inr (inr (rest, grew, inr (ok, inr (off, inl (starved, none)))))) =
+done_runs c s files e g is (inr (inr (rest, grew, inl (refused, none)))) =
+    absurd (let no : Done ≡ NotRegular = is ∙ refused.2 in cc)
+done_runs c s files e g is (inr (inr (rest, grew, inr (ok, inl (on, inl (call, failed, broke, only)))))) =
+    absurd (let no : Done ≡ SiteFault call None = is ∙ failed in cc)
+done_runs c s files e g is (inr (inr (rest, grew, inr (ok, inl (on, inr (more, grew', read)))))) =
+    done_with s files g rest more on grew grew' (done_load c.options s files e (record g { calls = more }) is read)
+done_runs c s files e g is (inr (inr (rest, grew, inr (ok, inr (off, inl (starved, none)))))) =
     absurd (let no : Done ≡ NoMemory = is ∙ starved in cc)
-done_runs s files e g is (inr (inr (rest, grew, inr (ok, inr (off, inr next))))) =
-    done_without s files g rest off grew (done_rest s (mapfile_in s files) e (record g { calls = rest }) is next)
+done_runs c s files e g is (inr (inr (rest, grew, inr (ok, inr (off, inr next))))) =
+    done_without s files g rest off grew
+    (done_rest c.options s (mapfile_in s files) e (record g { calls = rest }) is next)
 
-works_on : (c : Command) (s : Setting) (files : List ℕ → Option File) (e : Ending) (g : Gain) → Done ≡ e
-    → Works c s files e g → WorksOn s files e g
-works_on c s files e g is (inl (inl refused, nothing)) =
+-- the reads of a map that an option names, and what follows it
+record DoneMap (Q : Ending → Gain → Type 0) (e : Ending) (g : Gain) : Type 0 where
+  maps : List Call
+  are : AreMapReads maps
+  rest : List Entry
+  grew : g.calls ≡ map Returned maps ++ rest
+  next : Q e (record g { calls = rest })
+
+-- no refusal of it is done
+done_named : (which : Which) (mode : Mode) (file : Option File) (e : Ending) → Done ≡ e
+    → NamedMapRefused which mode file e → ⊥
+done_named which mode file e is (inl refused) = let no : Done ≡ NoMap which = is ∙ refused.1 in cc
+done_named which mode file e is (inr refused) = let no : Done ≡ MapRefused which refused.0 = is ∙ refused.2 in cc
+
+done_map : (which : Which) (mode : Mode) (name : Option (List ℕ)) (files : List ℕ → Option File)
+    (Q : Ending → Gain → Type 0) (e : Ending) (g : Gain) → Done ≡ e → ThenMap which mode name files Q e g
+    → DoneMap Q e g
+done_map which mode None files Q e g is next =
+    record { maps = []; are = All-nil IsMapRead; rest = g.calls; grew = refl; next = next }
+done_map which mode (Some name) files Q e g is (inl (load, failed, begun, broke, only)) =
+    absurd (let no : Done ≡ SiteFault MapRead None = is ∙ failed in cc)
+done_map which mode (Some name) files Q e g is (inr (inl (load, starved, begun, all, only))) =
+    absurd (let no : Done ≡ NoMemory = is ∙ starved in cc)
+done_map which mode (Some name) files Q e g is (inr (inr (load, rest, loaded, all, inl (refused, none)))) =
+    absurd (done_named which mode (files name) e is refused)
+done_map which mode (Some name) files Q e g is (inr (inr (load, rest, loaded, all, inr (accepted, next)))) =
+    record {
+      maps = load;
+      are = load_reads name (files name) load loaded.begins;
+      rest = rest;
+      grew = all;
+      next = next;
+    }
+
+-- what a rescue that is done did behind its reads of such maps
+record DoneWork (s : Setting) (files : List ℕ → Option File) (g : Gain) : Type 0 where
+  maps : List Call
+  are : AreMapReads maps
+  rest : List Entry
+  grew : g.calls ≡ map Returned maps ++ rest
+  run : DoneRun s files (record g { calls = rest })
+
+done_behind : (c : Command) (s : Setting) (files : List ℕ → Option File) (e : Ending) (g : Gain) → Done ≡ e
+    → WorksBehindWords c s files e g → DoneWork s files g
+done_behind c s files e g is works =
+    let tests : Ending → Gain → Type 0 = ThenMap TestMap (map_mode c.options) c.test_map files (WorksOn c s files) in
+    let d : DoneMap tests e g = done_map DomainMap (map_mode c.options) c.domain_map files tests e g is works in
+    let h : Gain = record g { calls = d.rest } in
+    let m : DoneMap (WorksOn c s files) e h =
+    done_map TestMap (map_mode c.options) c.test_map files (WorksOn c s files) e h is d.next in
+    record {
+      maps = d.maps ++ m.maps;
+      are = All-append IsMapRead d.maps m.maps d.are m.are;
+      rest = m.rest;
+      grew = d.grew ∙ ap (λ (r : List Entry). map Returned d.maps ++ r) m.grew
+          ∙ made_both d.maps m.maps m.rest;
+      run = done_runs c s files e (record g { calls = m.rest }) is m.next;
+    }
+
+done_works : (c : Command) (s : Setting) (files : List ℕ → Option File) (e : Ending) (g : Gain) → Done ≡ e
+    → Works c s files e g → DoneWork s files g
+done_works c s files e g is (inl (inl refused, nothing)) =
     absurd (let no : Done ≡ SameName refused.0 refused.1 = is ∙ refused.3 in cc)
-works_on c s files e g is (inl (inr starved, nothing)) = absurd (let no : Done ≡ NoMemory = is ∙ starved in cc)
-works_on c s files e g is (inr (right, works)) = works
+done_works c s files e g is (inl (inr starved, nothing)) = absurd (let no : Done ≡ NoMemory = is ∙ starved in cc)
+done_works c s files e g is (inr (right, works)) = done_behind c s files e g is works
 
 -- the last of several saves
-save_last : (old : Option File) (began : List Status) (line : List ℕ) (saves : List Snapshot) (last : Snapshot) (number : ℕ)
-    (found : Option File) (statuses : List Status)
+save_last : (old : Option File) (began : List Status) (line : List ℕ) (saves : List Snapshot) (last : Snapshot)
+    (number : ℕ) (found : Option File) (statuses : List Status)
     → number ≡ length saves + 1 → IsSave old began line (saves ++ last ∷ []) number found statuses
     → (statuses ≡ last.map) × (found ≡ Some (record { bytes = text_of line last; regular = true }))
 save_last old began line saves last zero found statuses is save = absurd (omega (arith, is))
@@ -249,7 +329,8 @@ save_last old began line saves last (suc n) found statuses is (p, at, map_is, fo
     let P : ℕ → Type 0 = λ k. slice_get (saves ++ last ∷ []) k ≡ Some p in
     let none : length saves - length saves ≡ 0 = omega arith in
     let some : Some last ≡ Some p =
-    sym (slice_get-append_right saves (last ∷ []) (length saves) (omega arith) ∙ ap (slice_get (last ∷ [])) none) ∙ subst P here at in
+    sym (slice_get-append_right saves (last ∷ []) (length saves) (omega arith) ∙ ap (slice_get (last ∷ [])) none)
+    ∙ subst P here at in
     let same : p ≡ last = cc in
     let F : Snapshot → Option File = λ q. Some (record { bytes = text_of line q; regular = true }) in
     (map_is ∙ ap (λ (q : Snapshot). q.map) same, found_is ∙ ap F same)
@@ -261,7 +342,8 @@ number_last calls number k settled published_ older newer =
     let whole : take (length calls) calls ≡ calls = take-length calls in
     let whole' : take (length calls + 1) calls ≡ calls = take_all (length calls + 1) calls (omega arith) in
     let less : 1 + k - 1 ≡ k = omega arith in
-    let lower : k ≤ number = subst (λ (m : ℕ). m ≤ number) (ap returned whole ∙ ap (λ (m : ℕ). m - 1) settled ∙ less) older in
+    let lower : k ≤ number =
+    subst (λ (m : ℕ). m ≤ number) (ap returned whole ∙ ap (λ (m : ℕ). m - 1) settled ∙ less) older in
     let upper : number ≤ k = subst (λ (m : ℕ). number ≤ m) (ap published whole' ∙ published_) newer in
     omega (arith, lower, upper)
 
@@ -270,98 +352,154 @@ last_finished : (s : Setting) (m : Machine) → has_ended s m ≡ true → last_
 last_finished s m over = ap (λ (b : Bool). if b then finished_snapshot m else snapshot_of m) over
 
 -- what stands behind all calls: the mapfile, and the output
-record Left (c : Command) (t : Told) (began : List Status) (state : Option MapState) : Type 0 where
-  mapfile : files_in t.site' (asked c t).names.map
-      ≡ Some (record { bytes = text_of (command_line t.words) (finished_snapshot (comes_to c t began state)); regular = true })
-  held : Held (asked c t) (what_was_done t).reads (bytes_of (files_of t c.outfile)) (comes_to c t began state).map
+record Left (c : Command) (maps : Maps) (t : Told) (began : List Status) (state : Option MapState) : Type 0 where
+  mapfile : files_in t.site' (asked c maps t).names.map
+      ≡ Some (record {
+        bytes = text_of (command_line t.words) (finished_snapshot (comes_to c maps t began state));
+        regular = true;
+      })
+  held : Held (asked c maps t) (what_was_done maps t).reads (bytes_of (files_of t c.outfile))
+      (comes_to c maps t began state).map
       (bytes_of (files_in t.site' c.outfile))
 
-saved_by : (c : Command) (t : Told) (r : DoneRun (asked c t) (files_of t) (what_was_done t)) → (asked c t).has_mapfile ≡ true
-    → (what_was_done t).calls ≡ settled (asked c t) ++ run_entries (asked c t) r.load (begins (asked c t) r.statuses r.state (what_was_done t))
-    (events_in (what_was_done t))
-    → IsKept (calls_before t) (asked c t) (what_was_done t) r.statuses r.state (length (what_was_done t).calls) (files_in t.site')
-    → Left c t r.statuses r.state
-saved_by c t r on calls k =
-    let s : Setting = asked c t in
-    let g : Gain = what_was_done t in
-    let m : Machine = begins s r.statuses r.state g in
+-- all calls of a rescue with a mapfile that is done
+record CallsWith (s : Setting) (g : Gain) (load : List Call) (m : Machine) (events : List Event) : Type 0 where
+  maps : List Call
+  are : AreMapReads maps
+  calls : g.calls ≡ map Returned maps ++ (settled s ++ run_entries s load m events)
+
+saved_by : (c : Command) (maps : Maps) (t : Told) (r : DoneWork (asked c maps t) (files_of t) (what_was_done maps t))
+    → (asked c maps t).has_mapfile ≡ true
+    → CallsWith (asked c maps t) (what_was_done maps t) r.run.load
+    (begins (asked c maps t) r.run.statuses r.run.state (what_was_done maps t)) (events_in (what_was_done maps t))
+    → IsKept (calls_before t) (asked c maps t) (what_was_done maps t) r.run.statuses r.run.state
+    (length (what_was_done maps t).calls) (files_in t.site')
+    → Left c maps t r.run.statuses r.run.state
+saved_by c maps t r on w k =
+    let s : Setting = asked c maps t in
+    let g : Gain = what_was_done maps t in
+    let m : Machine = begins s r.run.statuses r.run.state g in
     let es : List Event = events_in g in
     let due : List Snapshot = map (λ v. snapshot_of v.after) (filter (is_due s) (moves s m es)) in
     let n : ℕ = dues s (moves s m es) in
     let file : Option File = files_of t s.names.map in
-    let loads : BeginsLoad s.names.map file r.load = (r.loads.all on).begins in
-    let more : count_by is_settle g.calls ≡ 1 + (n + 1) = ap (count_by is_settle) calls ∙ settles_once_more s file r.load m es on loads in
-    let each : count_by is_publish g.calls ≡ n + 1 = ap (count_by is_publish) calls ∙ publishes_each s file r.load m es on loads in
+    let rest : List Entry = settled s ++ run_entries s r.run.load m es in
+    let loads : BeginsLoad s.names.map file r.run.load = (r.run.loads.all on).begins in
+    let more : count_by is_settle g.calls ≡ 1 + (n + 1) =
+    ap (count_by is_settle) w.calls ∙ settles_behind w.maps rest w.are
+    ∙ settles_once_more s file r.run.load m es on loads in
+    let each : count_by is_publish g.calls ≡ n + 1 =
+    ap (count_by is_publish) w.calls ∙ publishes_behind w.maps rest w.are
+    ∙ publishes_each s file r.run.load m es on loads in
     let all : k.number ≡ n + 1 = number_last g.calls k.number (n + 1) more each k.no_older k.no_newer in
     let last : k.number ≡ length due + 1 =
     all ∙ ap (λ (i : ℕ). i + 1) (sym (length-map (filter (is_due s) (moves s m es)) (λ v. snapshot_of v.after))) in
     let P : Snapshot → Type 0 = λ p. (k.statuses ≡ p.map)
     × (files_in t.site' s.names.map ≡ Some (record { bytes = text_of s.line p; regular = true })) in
-    let saved : P (finished_snapshot (state_after s m es)) = subst P (last_finished s (state_after s m es) r.over)
-    (save_last (files_before (calls_before t) s.names.map) r.statuses s.line due (last_snapshot s (state_after s m es)) k.number
-    (files_in t.site' s.names.map) k.statuses last k.is_save) in
-    let Q : List Status → Type 0 = λ x. Held s g.reads (bytes_of (files_of t s.outfile)) x (bytes_of (files_in t.site' s.outfile)) in
+    let saved : P (finished_snapshot (state_after s m es)) = subst P (last_finished s (state_after s m es) r.run.over)
+    (save_last (files_before (calls_before t) s.names.map) r.run.statuses s.line due
+    (last_snapshot s (state_after s m es)) k.number (files_in t.site' s.names.map) k.statuses last k.is_save) in
+    let Q : List Status → Type 0 =
+    λ x. Held s g.reads (bytes_of (files_of t s.outfile)) x (bytes_of (files_in t.site' s.outfile)) in
     record { mapfile = saved.1; held = subst Q saved.0 k.held }
 
-left_with : (c : Command) (t : Told) (d : Ddrescue t) → Asks t.words c → AllTell t
-    → (r : DoneRun (asked c t) (files_of t) (what_was_done t)) → (asked c t).has_mapfile ≡ true → Left c t r.statuses r.state
-left_with c t d asks tell r on =
-    let s : Setting = asked c t in
-    let last : List Entry = last_calls s (begins s r.statuses r.state (what_was_done t)) (events_in (what_was_done t)) in
-    let calls : (what_was_done t).calls ≡ settled s ++ (map Returned r.load ++ last) =
-    r.calls ∙ ap (λ (front : List Call). map Returned (front ++ r.load) ++ last) (opening_is s on) in
-    let stands : Stands (files_of t s.names.map) (length t.source.bytes) r.statuses r.state =
-    subst (λ (o : Option File). Stands o s.end r.statuses r.state) (mapfile_is s (files_of t) on) r.stands in
-    saved_by c t r on calls (holds_at_end t c r.statuses r.state d asks tell on (ap has_barrier calls) stands)
+calls_with : (s : Setting) (files : List ℕ → Option File) (g : Gain) (w : DoneWork s files g) → s.has_mapfile ≡ true
+    → CallsWith s g w.run.load (begins s w.run.statuses w.run.state g) (events_in g)
+calls_with s files g w on =
+    let last : List Entry = last_calls s (begins s w.run.statuses w.run.state g) (events_in g) in
+    let F : List Call → List Entry = λ front. map Returned (front ++ w.run.load) ++ last in
+    record {
+      maps = w.maps;
+      are = w.are;
+      calls = w.grew ∙ ap (λ (r : List Entry). map Returned w.maps ++ r) (w.run.calls ∙ ap F (opening_is s on));
+    }
+
+left_with : (t : Told) (c : Command) (d : Ddrescue t) (asks : Asks t.words c) → AllTell t
+    → (r : DoneWork (asked c (maps_by d asks) t) (files_of t) (done_by d asks))
+    → (asked c (maps_by d asks) t).has_mapfile ≡ true
+    → Left c (maps_by d asks) t r.run.statuses r.run.state
+left_with t c d asks tell r on =
+    let maps : Maps = maps_by d asks in
+    let s : Setting = asked c maps t in
+    let g : Gain = what_was_done maps t in
+    let w : CallsWith s g r.run.load (begins s r.run.statuses r.run.state g) (events_in g) =
+    calls_with s (files_of t) g r on in
+    let rest : List Entry =
+    settled s ++ run_entries s r.run.load (begins s r.run.statuses r.run.state g) (events_in g) in
+    let barrier : has_barrier g.calls ≡ true = ap has_barrier w.calls ∙ barrier_behind w.maps rest w.are in
+    let stands : Stands (files_of t s.names.map) (length t.source.bytes) r.run.statuses r.run.state =
+    subst (λ (o : Option File). Stands o s.end r.run.statuses r.run.state) (mapfile_is s (files_of t) on)
+    r.run.stands in
+    saved_by c maps t r on w (holds_at_end t c r.run.statuses r.run.state d asks tell on barrier stands)
 
 -- a rescue's run begins in order
-begun_order : (s : Setting) (statuses : List Status) (state : Option MapState) (g : Gain) → IsInOrder s (begins s statuses state g)
+begun_order : (s : Setting) (statuses : List Status) (state : Option MapState) (g : Gain)
+    → IsInOrder s (begins s statuses state g)
 begun_order s statuses state g =
-    order_begins s (prepared s.domain s.again s.retrim statuses) (goes_on_from s.again state) (shown_at_first state) (began_at g.times)
+    order_begins s (prepared s.domain s.again s.retrim statuses) (goes_on_from s.again state) (shown_at_first state)
+    (began_at g.times)
+
+-- all calls of a rescue without a mapfile that is done, behind its reads of maps
+calls_without : (s : Setting) (files : List ℕ → Option File) (g : Gain) → s.has_mapfile ≡ false
+    → (r : DoneRun s files g)
+    → g.calls ≡ Returned (image_open s.outfile true) ∷ last_calls s (begins s r.statuses r.state g) (events_in g)
+calls_without s files g off r =
+    let last : List Entry = last_calls s (begins s r.statuses r.state g) (events_in g) in
+    r.calls ∙ ap (λ (front : List Call). map Returned (front ++ r.load) ++ last) (opened_alone s off)
+    ∙ ap (λ (load : List Call). map Returned (image_open s.outfile true ∷ load) ++ last) (r.loads.none off)
 
 -- without a mapfile all writes of the run stand in the output
-held_without : (c : Command) (t : Told) (d : Ddrescue t) → Asks t.words c → AllTell t
-    → (r : DoneRun (asked c t) (files_of t) (what_was_done t)) → (asked c t).has_mapfile ≡ false
-    → Held (asked c t) (what_was_done t).reads (bytes_of (files_of t c.outfile)) (comes_to c t r.statuses r.state).map
-    (bytes_of (files_in t.site' c.outfile))
-held_without c t d asks tell r off =
-    let s : Setting = asked c t in
-    let g : Gain = what_was_done t in
-    let m : Machine = begins s r.statuses r.state g in
+held_without : (c : Command) (maps : Maps) (t : Told) (d : Ddrescue t) → Asks t.words c → AllTell t
+    → (w : DoneWork (asked c maps t) (files_of t) (what_was_done maps t)) → (asked c maps t).has_mapfile ≡ false
+    → Held (asked c maps t) (what_was_done maps t).reads (bytes_of (files_of t c.outfile))
+    (comes_to c maps t w.run.statuses w.run.state).map (bytes_of (files_in t.site' c.outfile))
+held_without c maps t d asks tell w off =
+    let s : Setting = asked c maps t in
+    let g : Gain = what_was_done maps t in
+    let m : Machine = begins s w.run.statuses w.run.state g in
     let es : List Event = events_in g in
     let start : Folder = after t.site.start t.site.calls in
     let old : List ℕ = bytes_of (start.files c.outfile) in
     let whole : List Entry = Returned (image_open c.outfile true) ∷ last_calls s m es in
-    let calls : g.calls ≡ whole =
-    r.calls ∙ ap (λ (front : List Call). map Returned (front ++ r.load) ++ last_calls s m es) (opened_alone s off)
-    ∙ ap (λ (load : List Call). map Returned (image_open c.outfile true ∷ load) ++ last_calls s m es) (r.loads.none off) in
+    let calls : g.calls ≡ map Returned w.maps ++ whole =
+    w.grew
+    ∙ ap (λ (r : List Entry). map Returned w.maps ++ r)
+    (calls_without s (files_of t) (record g { calls = w.rest }) off w.run) in
     let now : after t.site'.start t.site'.calls ≡ after start whole =
-    ap (λ (from : Folder). after from t.site'.calls) (d.site.start tell.site) ∙ ap (after t.site.start) (d.gains tell).calls
-    ∙ after-append t.site.start t.site.calls g.calls ∙ ap (after start) calls in
+    ap (λ (from : Folder). after from t.site'.calls) (d.site.start tell.site)
+    ∙ ap (after t.site.start) (d.gains tell).calls
+    ∙ after-append t.site.start t.site.calls g.calls ∙ ap (after start) calls
+    ∙ after-append start (map Returned w.maps) whole
+    ∙ ap (λ (from : Folder). after from whole) (reads_stand w.maps start w.are) in
     let image : bytes_of (files_in t.site' c.outfile) ≡ output_after s old es =
     ap (λ (f : Folder). bytes_of (f.files c.outfile)) now ∙ (holds_whole s m es start off).holds in
     let held : Held s (reads_of es) old (state_after s m es).map (output_after s old es) =
-    run_holds s m es old (asked_sensible c t asks) (begun_order s r.statuses r.state g) r.run in
+    run_holds s m es old (asked_sensible c maps t asks) (begun_order s w.run.statuses w.run.state g) w.run.run in
     subst (λ (bytes : List ℕ). Held s g.reads old (state_after s m es).map bytes) (sym image)
-    (subst (λ (reads : List Reading). Held s reads old (state_after s m es).map (output_after s old es)) r.reads held)
+    (subst (λ (reads : List Reading). Held s reads old (state_after s m es).map (output_after s old es)) w.run.reads
+    held)
 
-finished_by : (c : Command) (t : Told) (d : Ddrescue t) → Asks t.words c → AllTell t
-    → DoneRun (asked c t) (files_of t) (what_was_done t) → IsFinished c t
-finished_by c t d asks tell r = record {
-  statuses = r.statuses;
-  state = r.state;
-  stands = r.stands;
-  run = r.run;
-  over = r.over;
-  well = run_ends_well (asked c t) (prepared (asked c t).domain (asked c t).again (asked c t).retrim r.statuses) (goes_on_from (asked c t).again r.state) (shown_at_first r.state)
-      (began_at (what_was_done t).times) (events_in (what_was_done t)) (asked_sensible c t asks) r.run r.over;
-  mapfile = λ on. (left_with c t d asks tell r on).mapfile;
-  held = ⊎_elim (λ (on : (asked c t).has_mapfile ≡ true). (left_with c t d asks tell r on).held)
-      (λ (off : (asked c t).has_mapfile ≡ false). held_without c t d asks tell r off) (cases_Bool (asked c t).has_mapfile);
-}
+finished_by : (t : Told) (c : Command) (d : Ddrescue t) (asks : Asks t.words c) → AllTell t
+    → DoneWork (asked c (maps_by d asks) t) (files_of t) (done_by d asks) → IsFinished c (maps_by d asks) t
+finished_by t c d asks tell w =
+    let maps : Maps = maps_by d asks in
+    let s : Setting = asked c maps t in
+    record {
+      statuses = w.run.statuses;
+      state = w.run.state;
+      stands = w.run.stands;
+      run = w.run.run;
+      over = w.run.over;
+      well = run_ends_well s (prepared s.domain s.again s.retrim w.run.statuses) (goes_on_from s.again w.run.state)
+          (shown_at_first w.run.state) (began_at (done_by d asks).times) (events_in (done_by d asks))
+          (asked_sensible c maps t asks) w.run.run w.run.over;
+      mapfile = λ on. (left_with t c d asks tell w on).mapfile;
+      held = ⊎_elim (λ (on : s.has_mapfile ≡ true). (left_with t c d asks tell w on).held)
+          (λ (off : s.has_mapfile ≡ false). held_without c maps t d asks tell w off) (cases_Bool s.has_mapfile);
+    }
 
 pub done_is_saved : DoneIsSaved
 done_is_saved t c d asks tell is =
-    finished_by c t d asks tell
-    (done_runs (asked c t) (files_of t) t.answer (what_was_done t) (sym is)
-    (works_on c (asked c t) (files_of t) t.answer (what_was_done t) (sym is) ((d.asked_for c asks).work tell)))
+    finished_by t c d asks tell
+    (done_works c (asked c (maps_by d asks) t) (files_of t) t.answer (done_by d asks) (sym is)
+    ((d.asked_for c asks).work tell))

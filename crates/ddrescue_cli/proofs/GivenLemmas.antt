@@ -10,14 +10,17 @@ use Rattle.rescue_rules.specs.Given.{given, last_of_both}
 use Rattle.rescue_rules.specs.Events.{reads_of}
 use Rattle.rescue_rules.proofs.GivenLemmas.{given_covered, given_uncovered}
 use Rattle.rescue_rules.proofs.MarkLemmas.{slice_get-take, slice_get-drop}
-use Rattle.ddrescue_cli.specs.Told.{asked}
+use Rattle.ddrescue_cli.specs.Asked.{Maps}
+use Rattle.ddrescue_cli.specs.Maps.{seen_through}
+use Rattle.ddrescue_cli.specs.Told.{gained, asked}
 use Rattle.copy_passes.specs.Turns.{IsFrom}
 use Rattle.ddrescue_cli.specs.Alone.{HasRead}
-use Rattle.ddrescue_cli.specs.Laws.{GivenIsInput}
+use Rattle.ddrescue_cli.specs.Laws.{maps_by, GivenIsInput}
 use Rattle.ddrescue_cli.proofs.GainLemmas.{gained_is}
 
 -- a byte of a range of a list
-of_range : (bytes : List ℕ) (p q k v : ℕ) → slice_get (slice_range bytes p q) k ≡ Some v → slice_get bytes (p + k) ≡ Some v
+of_range : (bytes : List ℕ) (p q k v : ℕ) → slice_get (slice_range bytes p q) k ≡ Some v
+    → slice_get bytes (p + k) ≡ Some v
 of_range bytes p q k v is =
     let within : k < length (take (q - p) (drop p bytes)) = slice_get_within (take (q - p) (drop p bytes)) k v is in
     let few : length (take (q - p) (drop p bytes)) ≤ q - p = omega (arith, length-take (q - p) (drop p bytes)) in
@@ -36,7 +39,8 @@ of_read bytes r x v own from is =
     subst Q here (of_range bytes r.pos (r.pos + length r.given) (x - r.pos) v (subst P own is))
 
 -- where a later read gave a byte, that is given
-later_given : (b : ℕ) (r : Reading) (rs : List Reading) (x v w : ℕ) → given b rs x ≡ Some w → given b (r ∷ rs) x ≡ Some v → given b rs x ≡ Some v
+later_given : (b : ℕ) (r : Reading) (rs : List Reading) (x v w : ℕ) → given b rs x ≡ Some w
+    → given b (r ∷ rs) x ≡ Some v → given b rs x ≡ Some v
 later_given b r rs x v w later is =
     let one : given b (r ∷ rs) x ≡ Some w =
     ap (λ o. last_of_both o (if covers b r x then slice_get r.given (x - r.pos) else None)) later in
@@ -53,16 +57,18 @@ first_input bytes b r rs x v None own rest is later =
     (λ apart. let none : None ≡ Some v = sym later ∙ sym (given_uncovered b r rs x apart) ∙ is in absurd (cc))
     (cases_Bool (covers b r x))
 
-from_input : (bytes : List ℕ) (b : ℕ) (reads : List Reading) (x v : ℕ) → All (IsFrom bytes) reads → given b reads x ≡ Some v
-    → slice_get bytes x ≡ Some v
+from_input : (bytes : List ℕ) (b : ℕ) (reads : List Reading) (x v : ℕ) → All (IsFrom bytes) reads
+    → given b reads x ≡ Some v → slice_get bytes x ≡ Some v
 from_input bytes b [] x v all is = absurd (cc)
 from_input bytes b (r ∷ rs) x v all is =
     first_input bytes b r rs x v (given b rs x) (All-head (IsFrom bytes) r rs all)
     (from_input bytes b rs x v (All-tail (IsFrom bytes) r rs all)) is refl
 
 pub given_is_input : GivenIsInput
-given_is_input t c x b kept asks tells is =
-    let h : HasRead (asked c t) t.answer t.source t.source' = (kept.asked_for c asks).read tells in
+given_is_input t c x b d asks tells is =
+    let maps : Maps = maps_by d asks in
+    let h : HasRead (asked c maps t) maps.test t.answer t.source t.source' = (d.asked_for c asks).read tells in
     let P : List Reading → Type 0 = λ r. given c.options.sector r x ≡ Some b in
-    from_input t.source.bytes c.options.sector (reads_of h.events) x b h.right
-    (subst P (gained_is t.source.journal t.source'.journal (reads_of h.events) h.gained) is)
+    let seen : seen_through maps.test (gained t.source.journal t.source'.journal) ≡ reads_of h.events =
+    ap (seen_through maps.test) (gained_is t.source.journal t.source'.journal h.raw h.gained) ∙ h.seen_are in
+    from_input t.source.bytes c.options.sector (reads_of h.events) x b h.right (subst P seen is)

@@ -1,8 +1,9 @@
 -- The work of a rescue goes as it should.
-use Rattle.std.proofs.Common.{◌≡◌, ℕ, ◌+◌, ◌≤◌, true, false, ◌⊎◌, List, [], ◌∷◌, ◌++◌, map, length, take, Option, refl, sym, ap, ◌∙◌, inl, inr, subst, arith, append-nil}
-use Rattle.std.proofs.lemmas.List.Elements.{All-nil}
+use Rattle.std.proofs.Common.{◌≡◌, ℕ, ◌+◌, ◌≤◌, true, false, ◌⊎◌, List, [], ◌∷◌, ◌++◌, map, length, take, Option, Some, None, refl, sym, ap, ◌∙◌, inl, inr, subst, arith, append-nil}
+use Rattle.std.proofs.lemmas.List.Elements.{All-nil, All-append}
 use Rattle.block_list.specs.declared.status.Status.{Status}
 use Rattle.mapfile_text.specs.declared.state.MapState.{MapState}
+use Rattle.mapfile_text.specs.declared.read.Mode.{Mode}
 use Rattle.crash_site.specs.declared.site.SiteCall.TheVariants.{MapRead}
 use Rattle.crash_site.specs.Files.{File}
 use Rattle.crash_site.specs.Calls.{Call, Entry, Done as Returned, Lost, BrokeAt, image_open, image_sync, map_settle}
@@ -12,13 +13,23 @@ use Rattle.save_resume.specs.Resuming.{barrier_calls}
 use Rattle.rescue_rules.specs.declared.stop.RunEnd.{RunEnd}
 use Rattle.rescue_rules.specs.Setting.{Setting}
 use Rattle.rescue_rules.specs.Start.{Stands}
-use Rattle.rescue_rules.specs.Work.{Gain, IsNothing, Runs, mapfile_in, GoesOn, InOpening, InLoad, InRun, Goes, BehindMaps, is_map_read}
+use Rattle.rescue_rules.specs.Work.{Gain, IsNothing, Runs, mapfile_in, GoesOn, InOpening, InLoad, InRun, AreMapReads, Goes, InMaps, BehindMaps}
 use Rattle.rescue_rules.specs.Stops.{Behind, LeftAt, has_barrier, StopsSafely}
 use Rattle.ddrescue_cli.specs.declared.ending.Ending.{Ending}
+use Rattle.ddrescue_cli.specs.declared.ending.Which.{Which}
+use Rattle.ddrescue_cli.specs.declared.ending.Which.TheVariants.{DomainMap, TestMap}
+use Rattle.rescue_command.specs.declared.options.Options.{Options}
+use Rattle.rescue_command.specs.Command.{Command}
+use Rattle.ddrescue_cli.specs.Maps.{map_mode}
 use Rattle.ddrescue_cli.specs.Refusals.{MapfileRefused, PlacesRefused}
-use Rattle.ddrescue_cli.specs.Work.{OrRefused, ThenRead, ThenRun, WorksOn, RunsOver}
+use Rattle.ddrescue_cli.specs.Work.{OrRefused, ThenRead, ThenMap, ThenRun, WorksOn, WorksBehindWords, RunsOver}
+use Rattle.ddrescue_cli.specs.Steps.{IsOnlyMaps}
 use Rattle.rescue_rules.proofs.MapfileLemmas.{settling_calls, opening_is}
+use Rattle.rescue_rules.proofs.CutLemmas.{Cut, cut_all}
+use Rattle.rescue_rules.proofs.GoesLemmas.{broke_cut}
+use Rattle.rescue_rules.proofs.MapReadLemmas.{cut_reads}
 use Rattle.ddrescue_cli.proofs.GainLemmas.{lost_behind, broke_behind}
+use Rattle.ddrescue_cli.proofs.FrontLemmas.{IsMapRead, load_reads, broke_past, made_both}
 
 -- the first call of a rescue, and the three of its opening
 abbrev pub opened : Setting → List Entry
@@ -90,51 +101,96 @@ over_goes s files e g load statuses state run on loaded stands grew (inr (end, i
     run_goes s files g load statuses state end run on loaded stands grew runs
 
 -- a load behind the barrier, and what follows it
-loaded_goes : (s : Setting) (files : List ℕ → Option File) (e : Ending) (g : Gain) (load : List Call) (run : List Entry)
+loaded_goes : (o : Options) (s : Setting) (files : List ℕ → Option File) (e : Ending) (g : Gain) (load : List Call) (run : List Entry)
     → s.has_mapfile ≡ true → IsLoad s.names.map (files s.names.map) load → g.calls ≡ map Returned (settling_calls s ++ load) ++ run
-    → OrRefused (MapfileRefused (files s.names.map)) (OrRefused (PlacesRefused s) (ThenRun s (mapfile_in s files))) e (record g { calls = run })
+    → OrRefused (MapfileRefused (files s.names.map)) (OrRefused (PlacesRefused o s.end) (ThenRun s (mapfile_in s files))) e (record g { calls = run })
     → GoesOn s files g
-loaded_goes s files e g load run on loaded grew (inl (refused, none)) =
+loaded_goes o s files e g load run on loaded grew (inl (refused, none)) =
     load_goes s files g load on loaded.begins none.reads (inl (alone_behind s load g.calls run grew none.calls))
-loaded_goes s files e g load run on loaded grew (inr (accepted, inl (refused, none))) =
+loaded_goes o s files e g load run on loaded grew (inr (accepted, inl (refused, none))) =
     load_goes s files g load on loaded.begins none.reads (inl (alone_behind s load g.calls run grew none.calls))
-loaded_goes s files e g load run on loaded grew (inr (accepted, inr (placed, ran))) =
+loaded_goes o s files e g load run on loaded grew (inr (accepted, inr (placed, ran))) =
     over_goes s files e g load ran.0 ran.1 run on loaded ran.2 grew ran.3
 
-read_goes : (s : Setting) (files : List ℕ → Option File) (e : Ending) (g : Gain) (rest more : List Entry) → s.has_mapfile ≡ true
+read_goes : (o : Options) (s : Setting) (files : List ℕ → Option File) (e : Ending) (g : Gain) (rest more : List Entry) → s.has_mapfile ≡ true
     → g.calls ≡ opened s ++ rest → rest ≡ map Returned (barrier_calls s.names) ++ more
     → ThenRead s.names.map (files s.names.map)
-    (OrRefused (MapfileRefused (files s.names.map)) (OrRefused (PlacesRefused s) (ThenRun s (mapfile_in s files)))) e (record g { calls = more })
+    (OrRefused (MapfileRefused (files s.names.map)) (OrRefused (PlacesRefused o s.end) (ThenRun s (mapfile_in s files)))) e (record g { calls = more })
     → GoesOn s files g
-read_goes s files e g rest more on grew grew' (inl (load, is, begins, broke, only)) =
+read_goes o s files e g rest more on grew grew' (inl (load, is, begins, broke, only)) =
     load_goes s files g load on begins only.reads (inr (broke_settled s load g.calls more (settled_more s g.calls rest more grew grew') broke))
-read_goes s files e g rest more on grew grew' (inr (inl (load, is, begins, all, only))) =
+read_goes o s files e g rest more on grew grew' (inr (inl (load, is, begins, all, only))) =
     load_goes s files g load on begins only.reads (inl (settled_more s g.calls rest more grew grew' ∙ ap (λ r. settled s ++ r) all))
-read_goes s files e g rest more on grew grew' (inr (inr (load, run, loaded, all, next))) =
-    loaded_goes s files e g load run on loaded (settled_more s g.calls rest more grew grew' ∙ ap (λ r. settled s ++ r) all) next
+read_goes o s files e g rest more on grew grew' (inr (inr (load, run, loaded, all, next))) =
+    loaded_goes o s files e g load run on loaded (settled_more s g.calls rest more grew grew' ∙ ap (λ r. settled s ++ r) all) next
 
-goes_on : (s : Setting) (files : List ℕ → Option File) (e : Ending) (g : Gain) → s.has_mapfile ≡ true → WorksOn s files e g → GoesOn s files g
-goes_on s files e g on (inl (refused, none)) = opening_goes s files g [] (settling_calls s) on refl none.reads (inl none.calls)
-goes_on s files e g on (inr (inl (call, is, inl (name, lost), only))) =
+goes_on : (c : Command) (s : Setting) (files : List ℕ → Option File) (e : Ending) (g : Gain) → s.has_mapfile ≡ true → WorksOn c s files e g → GoesOn s files g
+goes_on c s files e g on (inl (refused, none)) = opening_goes s files g [] (settling_calls s) on refl none.reads (inl none.calls)
+goes_on c s files e g on (inr (inl (call, is, inl (name, lost), only))) =
     opening_goes s files g [] (settling_calls s) on refl only.reads (inr (image_open s.outfile true, barrier_calls s.names, refl, lost))
-goes_on s files e g on (inr (inl (call, is, inr broke, only))) = absurd broke
-goes_on s files e g on (inr (inr (rest, grew, inl (refused, none)))) =
+goes_on c s files e g on (inr (inl (call, is, inr broke, only))) = absurd broke
+goes_on c s files e g on (inr (inr (rest, grew, inl (refused, none)))) =
     opening_goes s files g (image_open s.outfile true ∷ []) (barrier_calls s.names) on refl none.reads (inl (grew ∙ ap (λ r. opened s ++ r) none.calls))
-goes_on s files e g on (inr (inr (rest, grew, inr (passes, inr (off, more))))) = absurd (let never : true ≡ false = sym on ∙ off in cc)
-goes_on s files e g on (inr (inr (rest, grew, inr (passes, inl (has, inl (call, is, inl (name, lost), only)))))) =
+goes_on c s files e g on (inr (inr (rest, grew, inr (passes, inr (off, more))))) = absurd (let never : true ≡ false = sym on ∙ off in cc)
+goes_on c s files e g on (inr (inr (rest, grew, inr (passes, inl (has, inl (call, is, inl (name, lost), only)))))) =
     opening_goes s files g (image_open s.outfile true ∷ []) (barrier_calls s.names) on refl only.reads
     (inr (map_settle s.names.map, image_sync ∷ [], refl, lost_settled s g.calls rest grew lost))
-goes_on s files e g on (inr (inr (rest, grew, inr (passes, inl (has, inl (call, is, inr (inl (name, lost)), only)))))) =
+goes_on c s files e g on (inr (inr (rest, grew, inr (passes, inl (has, inl (call, is, inr (inl (name, lost)), only)))))) =
     opening_goes s files g (image_open s.outfile true ∷ map_settle s.names.map ∷ []) (image_sync ∷ []) on refl only.reads
     (inr (image_sync, [], refl, lost_synced s g.calls rest grew lost))
-goes_on s files e g on (inr (inr (rest, grew, inr (passes, inl (has, inl (call, is, inr (inr broke), only)))))) = absurd broke
-goes_on s files e g on (inr (inr (rest, grew, inr (passes, inl (has, inr (more, grew', read)))))) =
-    read_goes s files e g rest more on grew grew' read
+goes_on c s files e g on (inr (inr (rest, grew, inr (passes, inl (has, inl (call, is, inr (inr broke), only)))))) = absurd broke
+goes_on c s files e g on (inr (inr (rest, grew, inr (passes, inl (has, inr (more, grew', read)))))) =
+    read_goes c.options s files e g rest more on grew grew' read
 
--- behind the reads of no other map
-pub work_goes : (s : Setting) (files : List ℕ → Option File) (e : Ending) (g : Gain) → s.has_mapfile ≡ true → WorksOn s files e g → Goes s files g
-work_goes s files e g on works =
-    BehindMaps [] g.calls (All-nil (λ (c : Call). is_map_read c ≡ true)) refl (goes_on s files e g on works)
+-- behind reads of maps
+goes_behind : (s : Setting) (files : List ℕ → Option File) (g : Gain) (load : List Call) (rest : List Entry) → AreMapReads load
+    → g.calls ≡ map Returned load ++ rest → Goes s files (record g { calls = rest }) → Goes s files g
+goes_behind s files g load rest reads grew (InMaps maps more none broke) =
+    InMaps (load ++ maps) (All-append IsMapRead load maps reads more) none
+    (broke_past MapRead load maps [] g.calls
+    (subst (λ (r : List Entry). BrokeAt MapRead maps (map Returned load) r) (sym grew)
+    (subst (λ (r : List Entry). BrokeAt MapRead maps r (map Returned load ++ rest)) (append-nil (map Returned load))
+    (broke_behind MapRead maps (map Returned load) [] rest broke))))
+goes_behind s files g load rest reads grew (BehindMaps maps rest' more grew' on) =
+    BehindMaps (load ++ maps) rest' (All-append IsMapRead load maps reads more)
+    (grew ∙ ap (λ (r : List Entry). map Returned load ++ r) grew' ∙ made_both load maps rest') on
+
+-- a rescue that made no call
+none_goes : (s : Setting) (files : List ℕ → Option File) (g : Gain) → s.has_mapfile ≡ true → g.calls ≡ [] → g.reads ≡ [] → Goes s files g
+none_goes s files g on none unread =
+    BehindMaps [] g.calls (All-nil IsMapRead) refl (opening_goes s files g [] (settling_calls s) on refl unread (inl none))
+
+-- a rescue that reads a map, if an option names one, and goes on as it should
+map_goes : (which : Which) (mode : Mode) (name : Option (List ℕ)) (s : Setting) (files : List ℕ → Option File) (Q : Ending → Gain → Type 0)
+    (e : Ending) (g : Gain) → s.has_mapfile ≡ true → ((h : Gain) → Q e h → Goes s files h) → ThenMap which mode name files Q e g
+    → Goes s files g
+map_goes which mode None s files Q e g on next works = next g works
+map_goes which mode (Some n) s files Q e g on next (inl (load, is, begins, broke, only)) =
+    InMaps load (load_reads n (files n) load begins) only.reads broke
+map_goes which mode (Some n) s files Q e g on next (inr (inl (load, is, begins, all, only))) =
+    goes_behind s files g load [] (load_reads n (files n) load begins) (all ∙ sym (append-nil (map Returned load)))
+    (none_goes s files (record g { calls = [] }) on refl only.reads)
+map_goes which mode (Some n) s files Q e g on next (inr (inr (load, rest, loaded, grew, inl (refused, none)))) =
+    goes_behind s files g load rest (load_reads n (files n) load loaded.begins) grew
+    (none_goes s files (record g { calls = rest }) on none.calls none.reads)
+map_goes which mode (Some n) s files Q e g on next (inr (inr (load, rest, loaded, grew, inr (accepted, more)))) =
+    goes_behind s files g load rest (load_reads n (files n) load loaded.begins) grew (next (record g { calls = rest }) more)
+
+pub work_goes : (c : Command) (s : Setting) (files : List ℕ → Option File) (e : Ending) (g : Gain) → s.has_mapfile ≡ true
+    → WorksBehindWords c s files e g → Goes s files g
+work_goes c s files e g on works =
+    map_goes DomainMap (map_mode c.options) c.domain_map s files
+    (ThenMap TestMap (map_mode c.options) c.test_map files (WorksOn c s files)) e g on
+    (λ h more. map_goes TestMap (map_mode c.options) c.test_map s files (WorksOn c s files) e h on
+    (λ k last. BehindMaps [] k.calls (All-nil IsMapRead) refl (goes_on c s files e k on last)) more) works
+
+-- where nothing was done but that maps were read, a stop is safe, whatever the input's length
+maps_cut : (maps : List Call) (calls : List Entry) → (calls ≡ map Returned maps) ⊎ BrokeAt MapRead maps [] calls → Cut maps calls
+maps_cut maps calls (inl all) = subst (Cut maps) (sym all) (cut_all maps)
+maps_cut maps calls (inr broke) = broke_cut MapRead [] maps calls broke
+
+pub maps_stop : (b : Behind) (s : Setting) (g : Gain) → IsOnlyMaps g → StopsSafely b s g
+maps_stop b s g m = cut_reads b s g m.maps g.calls m.are (maps_cut m.maps g.calls m.calls)
 
 -- where nothing was done, what is found could be found before
 nothing_left : (b : Behind) (g : Gain) (k : ℕ) (files : List ℕ → Option File) → IsNothing g → k ≤ length g.calls → LeftAt b g k files

@@ -1,5 +1,5 @@
 -- What an answer before the first read leaves.
-use Rattle.std.proofs.Common.{◌≡◌, ℕ, ◌+◌, Bool, true, IsTrue, List, [], ◌∷◌, ◌++◌, map, Option, Some, None, Ok, Err, refl, sym, ap, ◌∙◌, inl, inr, subst, sum}
+use Rattle.std.proofs.Common.{◌≡◌, ℕ, ◌+◌, Bool, true, false, IsTrue, List, [], ◌∷◌, ◌++◌, map, Option, Some, None, Ok, Err, refl, sym, ap, ◌∙◌, inl, inr, subst, sum}
 use Rattle.std.specs.Str.{bytes_eq}
 use Rattle.std.proofs.lemmas.Slice.Eq.{bytes_eq-Decides}
 use Rattle.crash_site.specs.declared.site.SiteCall.{SiteCall}
@@ -27,15 +27,18 @@ use Rattle.ddrescue_cli.specs.Steps.{EndsRun, IsLate, OutputStop, LoadStopped, I
 use Rattle.ddrescue_cli.proofs.WorkLemmas.{after-append, HasOpened}
 
 -- where nothing is pending behind a barrier, the files read as they did
-pub pending_stands : (names : MapNames) (old new : SiteState) → NothingPending names (disk_of old) (disk_of new) → files_in new ≡ files_in old
+pub pending_stands : (names : MapNames) (old new : SiteState) → NothingPending names (disk_of old) (disk_of new)
+    → files_in new ≡ files_in old
 pending_stands names old new pending =
-    ap (λ (d : Folder). d.files) (sym (run_reads (at_rest new.start) new.calls) ∙ pending.reads ∙ run_reads (at_rest old.start) old.calls)
+    ap (λ (d : Folder). d.files)
+    (sym (run_reads (at_rest new.start) new.calls) ∙ pending.reads ∙ run_reads (at_rest old.start) old.calls)
 
 put_here : (files : List ℕ → Option File) (name : List ℕ) (v : Option File) → put files name v name ≡ v
 put_here files name v = let same : bytes_eq name name ≡ true = (bytes_eq-Decides name name).1 refl in rw same refl
 
 -- an open of the output
-made_there : (d : Folder) (out : List ℕ) (f : Option File) → d.files out ≡ f → OutputMade out d.files (opened d out true f).files
+made_there : (d : Folder) (out : List ℕ) (f : Option File) → d.files out ≡ f
+    → OutputMade out d.files (opened d out true f).files
 made_there d out None is = record {
   output = put_here d.files out (Some empty_file) ∙ ap made_of (sym is);
   others = λ name apart. put_other d.files out name (Some empty_file) apart;
@@ -47,42 +50,50 @@ other_stands d out None is = absurd (cc)
 other_stands d out (Some f) is = refl
 
 -- the files behind the open of the output, as calls
-opened_is : (start start' : Folder) (out : List ℕ) (old new : List Entry) → start' ≡ start → Made (image_open out true ∷ []) old new
+opened_is : (start start' : Folder) (out : List ℕ) (old new : List Entry) → start' ≡ start
+    → Made (image_open out true ∷ []) old new
     → (after start' new).files ≡ (opened (after start old) out true ((after start old).files out)).files
 opened_is start start' out old new same made =
     ap (λ s. (after s new).files) same ∙ ap (λ r. (after start r).files) made
     ∙ ap (λ (d : Folder). d.files) (after-append start old (Returned (image_open out true) ∷ []))
 
-failed_is : (start start' : Folder) (out : List ℕ) (old new : List Entry) → start' ≡ start → BrokeAt ImageOpen (image_open out true ∷ []) old new
-    → (after start' new).files ≡ (after start old).files
+failed_is : (start start' : Folder) (out : List ℕ) (old new : List Entry) → start' ≡ start
+    → BrokeAt ImageOpen (image_open out true ∷ []) old new → (after start' new).files ≡ (after start old).files
 failed_is start start' out old new same (inl (name, inl lost)) =
     ap (λ s. (after s new).files) same ∙ ap (λ r. (after start r).files) lost
     ∙ ap (λ (d : Folder). d.files) (after-append start old (Failed (image_open out true) ∷ []))
-failed_is start start' out old new same (inl (name, inr lost)) = ap (λ s. (after s new).files) same ∙ ap (λ r. (after start r).files) lost
+failed_is start start' out old new same (inl (name, inr lost)) =
+    ap (λ s. (after s new).files) same ∙ ap (λ r. (after start r).files) lost
 failed_is start start' out old new same (inr b) = absurd b
 
-output_made : (out : List ℕ) (old new : SiteState) → HasOpened out old new → OutputMade out (files_in old) (files_in new)
+output_made : (out : List ℕ) (old new : SiteState) → HasOpened out old new
+    → OutputMade out (files_in old) (files_in new)
 output_made out old new made =
     let P : (List ℕ → Option File) → Type 0 = λ f. OutputMade out (files_in old) f in
     subst P (sym (opened_is old.start new.start out old.calls new.calls made.0 made.1))
     (made_there (after old.start old.calls) out ((after old.start old.calls).files out) refl)
 
 pub output_leaves : (e : Ending) (out : List ℕ) (forced : Bool) (old new : SiteState) → Keeps old new → IsTrue old.tells
-    → OutputStop e out forced old new → IsLeft e out (files_in old) (files_in new)
+    → OutputStop e out forced old new → IsLeft e false out (files_in old) (files_in new)
 output_leaves e out forced old new keeps td (inl (is, unforced, other, makes)) =
-    let same : files_in new ≡ files_in old = opened_is old.start new.start out old.calls new.calls (keeps.start td) (makes.made td)
+    let same : files_in new ≡ files_in old =
+    opened_is old.start new.start out old.calls new.calls (keeps.start td) (makes.made td)
     ∙ other_stands (after old.start old.calls) out ((after old.start old.calls).files out) (other td) in
     rw is (λ name. ap (λ f. f name) same)
 output_leaves e out forced old new keeps td (inr (is, breaks)) =
-    let same : files_in new ≡ files_in old = failed_is old.start new.start out old.calls new.calls (keeps.start td) (breaks.broke td) in
+    let same : files_in new ≡ files_in old =
+    failed_is old.start new.start out old.calls new.calls (keeps.start td) (breaks.broke td) in
     rw is (λ name. ap (λ f. f name) same)
 
 -- a load that stopped
 load_leaves_at : (n : MapNames) (e : Ending) (out : List ℕ) (mapfile : Option File) (calls calls' : List Entry)
     (files files1 files2 : List ℕ → Option File) → LoadStopped n mapfile e calls calls' → OutputMade out files files1
-    → ((e ≡ SiteFault MapSettle None → ⊥) → (e ≡ SiteFault ImageSync None → ⊥) → files2 ≡ files1) → IsLeft e out files files2
-load_leaves_at n e out mapfile calls calls' files files1 files2 (InBarrier call is (inl (name, lost))) made stand = rw (is, name) tt
-load_leaves_at n e out mapfile calls calls' files files1 files2 (InBarrier call is (inr (inl (name, lost)))) made stand = rw (is, name) tt
+    → ((e ≡ SiteFault MapSettle None → ⊥) → (e ≡ SiteFault ImageSync None → ⊥) → files2 ≡ files1)
+    → IsLeft e false out files files2
+load_leaves_at n e out mapfile calls calls' files files1 files2 (InBarrier call is (inl (name, lost))) made stand =
+    rw (is, name) tt
+load_leaves_at n e out mapfile calls calls' files files1 files2
+    (InBarrier call is (inr (inl (name, lost)))) made stand = rw (is, name) tt
 load_leaves_at n e out mapfile calls calls' files files1 files2 (InBarrier call is (inr (inr b))) made stand = absurd b
 load_leaves_at n e out mapfile calls calls' files files1 files2 (InRead load is begins broke) made stand =
     let P : (List ℕ → Option File) → Type 0 = λ f. OutputMade out files f in
@@ -90,12 +101,12 @@ load_leaves_at n e out mapfile calls calls' files files1 files2 (InRead load is 
 load_leaves_at n e out mapfile calls calls' files files1 files2 (Starved load is begins all) made stand = rw is tt
 load_leaves_at n e out mapfile calls calls' files files1 files2 (Refused load refused loaded all) made stand =
     let P : (List ℕ → Option File) → Type 0 = λ f. OutputMade out files f in
-    let Q : Ending → Type 0 = λ v. IsLeft v out files files2 in
+    let Q : Ending → Type 0 = λ v. IsLeft v false out files files2 in
     let is = refused.3 in
     subst Q (sym is) (subst P (sym (stand (λ x. cc) (λ x. cc))) made)
 
-pub load_leaves_files : (n : Option MapNames) (e : Ending) (out : List ℕ) (end : ℕ) (d0 d1 d2 : SiteState) → HasOpened out d0 d1
-    → Loaded n end (Err e) d1 d2 → IsLeft e out (files_in d0) (files_in d2)
+pub load_leaves_files : (n : Option MapNames) (e : Ending) (out : List ℕ) (end : ℕ) (d0 d1 d2 : SiteState)
+    → HasOpened out d0 d1 → Loaded n end (Err e) d1 d2 → IsLeft e false out (files_in d0) (files_in d2)
 load_leaves_files (Some n) e out end d0 d1 d2 made stop =
     load_leaves_at n e out (files_in d1 n.map) d1.calls d2.calls (files_in d0) (files_in d1) (files_in d2) stop.0
     (output_made out d0 d1 made) stop.1
@@ -111,26 +122,29 @@ load_stands : (d : Folder) (n : MapNames) (file : Option File) (load : List Call
     → after d (map Returned (barrier_calls n ++ load)) ≡ d
 load_stands d n file load begins =
     let P : List Call → Type 0 = λ cs. after d (map Returned (barrier_calls n ++ cs)) ≡ d in
-    subst P (sym begins.calls_are) (reads_stand d n.map 0 begins.given (map_read n.map (sum begins.given) piece_size begins.answer) refl)
+    subst P (sym begins.calls_are)
+    (reads_stand d n.map 0 begins.given (map_read n.map (sum begins.given) piece_size begins.answer) refl)
 
 loaded_stands : (n : Option MapNames) (end : ℕ) (start : Start) (old new : SiteState) → new.start ≡ old.start
     → Loaded n end (Ok start) old new → files_in new ≡ files_in old
 loaded_stands (Some n) end start old new same st =
     ap (λ s. (after s new.calls).files) same ∙ ap (λ r. (after old.start r).files) st.made
     ∙ ap (λ (d : Folder). d.files) (after-append old.start old.calls (map Returned (barrier_calls n ++ st.load)))
-    ∙ ap (λ (d : Folder). d.files) (load_stands (after old.start old.calls) n (files_in old n.map) st.load st.is_load.begins)
+    ∙ ap (λ (d : Folder). d.files)
+    (load_stands (after old.start old.calls) n (files_in old n.map) st.load st.is_load.begins)
 loaded_stands None end start old new same fresh = ap files_in fresh.0
 
 -- a load that went on to its end
-pub loaded_leaves : (n : Option MapNames) (out : List ℕ) (end : ℕ) (start : Start) (d0 d1 d2 : SiteState) → HasOpened out d0 d1
-    → d2.start ≡ d1.start → Loaded n end (Ok start) d1 d2 → OutputMade out (files_in d0) (files_in d2)
+pub loaded_leaves : (n : Option MapNames) (out : List ℕ) (end : ℕ) (start : Start) (d0 d1 d2 : SiteState)
+    → HasOpened out d0 d1 → d2.start ≡ d1.start → Loaded n end (Ok start) d1 d2
+    → OutputMade out (files_in d0) (files_in d2)
 loaded_leaves n out end start d0 d1 d2 made same loaded =
     let P : (List ℕ → Option File) → Type 0 = λ f. OutputMade out (files_in d0) f in
     subst P (sym (loaded_stands n end start d1 d2 same loaded)) (output_made out d0 d1 made)
 
 -- a run names no open and no read of a mapfile
 call_leaves : (call : SiteCall) (earlier : Option Stop) (out : List ℕ) (files files' : List ℕ → Option File)
-    → IsLate (SiteFault call earlier) → CallLeaves call out files files'
+    → IsLate (SiteFault call earlier) → CallLeaves call false out files files'
 call_leaves ImageOpen earlier out files files' late = absurd (late.no_open earlier refl)
 call_leaves ImageRead earlier out files files' late = tt
 call_leaves ImageWrite earlier out files files' late = tt
@@ -143,7 +157,8 @@ call_leaves DraftPublish earlier out files files' late = tt
 call_leaves MapSettle earlier out files files' late = tt
 call_leaves MapRemove earlier out files files' late = tt
 
-pub run_leaves : (e : Ending) (out : List ℕ) (files files' : List ℕ → Option File) → EndsRun e → IsLate e → IsLeft e out files files'
+pub run_leaves : (e : Ending) (out : List ℕ) (files files' : List ℕ → Option File) → EndsRun e → IsLate e
+    → IsLeft e false out files files'
 run_leaves e out files files' (Finished, is) late = rw is tt
 run_leaves e out files files' (Stopped InputLost, is) late = rw is tt
 run_leaves e out files files' (Stopped NoRoom, is) late = rw is tt
@@ -154,8 +169,7 @@ run_leaves e out files files' (SaveFailed call earlier, is) late =
 
 -- a call of a resume that isn't of its barrier is a read
 pub is_read : (call : SiteCall) → IsResumeCall call → (SiteFault call None ≡ SiteFault MapSettle None → ⊥)
-    → (SiteFault call None ≡ SiteFault ImageSync None → ⊥)
-    → call ≡ MapRead
+    → (SiteFault call None ≡ SiteFault ImageSync None → ⊥) → call ≡ MapRead
 is_read call (inl is) no_settle no_sync = absurd (no_settle (ap (λ c. SiteFault c None) is))
 is_read call (inr (inl is)) no_settle no_sync = absurd (no_sync (ap (λ c. SiteFault c None) is))
 is_read call (inr (inr is)) no_settle no_sync = is

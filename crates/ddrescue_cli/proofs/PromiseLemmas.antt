@@ -14,6 +14,7 @@ use Rattle.option_words.specs.declared.fault.WordFault.{WordFault}
 use Rattle.option_words.specs.declared.fault.WordFault.TheVariants.{NoMemory as WordNoMemory}
 use Rattle.option_words.specs.declared.fault.UsageFault.{UsageFault}
 use Rattle.option_words.specs.declared.fault.UsageFault.TheVariants.{Word, BadValue, Operands, PlaceTooLarge}
+use Rattle.option_words.specs.Words.{word}
 use Rattle.option_words.specs.declared.reading.Item.{Item}
 use Rattle.option_words.specs.Reading.{WordFaultAt}
 use Rattle.option_words.proofs.MemoryLemmas.{never_memory}
@@ -27,27 +28,29 @@ use Rattle.rescue_rules.specs.Laws.{AreThreeNames, AreTimes}
 use Rattle.rescue_rules.proofs.StopsLemmas.{goes_safely}
 use Rattle.rescue_core.specs.RunState.{names_in}
 use Rattle.rescue_command.specs.declared.options.Options.{Options}
-use Rattle.rescue_command.specs.Command.{Command, Asks, AskQuiet, AreRefused, Unread, Wrong, IsAsked, IsRefusal as IsRefusedFor, command_by, command_with, empty_operand, is_too_large, unless_empty}
+use Rattle.rescue_command.specs.Command.{Command, Asks, AskQuiet, AreRefused, Unread, Wrong, IsAsked, IsRefusal as IsRefusedFor, MapOptions, command_by, command_with, empty_operand, is_too_large, maps_in, unless_empty}
 use Rattle.rescue_command.specs.Options.{cluster_row, last_of, options_in, word_in}
 use Rattle.ddrescue_cli.specs.declared.ending.Operand.{Operand}
 use Rattle.ddrescue_cli.specs.declared.ending.Operand.TheVariants.{Infile, Outfile, Mapfile, Draft}
 use Rattle.ddrescue_cli.specs.declared.ending.Ending.{Ending}
-use Rattle.ddrescue_cli.specs.declared.ending.Ending.TheVariants.{Done, Usage, SameName, SourceFault, NotRegular, MapRefused, SourceLost, SiteFault, NoMemory}
+use Rattle.ddrescue_cli.specs.declared.ending.Ending.TheVariants.{Done, Usage, SameName, NoMap, SourceFault, NotRegular, MapRefused, SourceLost, SiteFault, NoMemory}
 use Rattle.ddrescue_cli.specs.Names.{first_same, AreNamedApart, command_line}
-use Rattle.ddrescue_cli.specs.Asked.{setting_asked, names_by}
+use Rattle.ddrescue_cli.specs.Asked.{Maps, names_by}
+use Rattle.ddrescue_cli.specs.Maps.{names_maps, seen_through}
 use Rattle.ddrescue_cli.specs.Told.{Told, AllTell, gained, what_was_done, calls_before, files_of, asked}
 use Rattle.ddrescue_cli.specs.Refusals.{NamesRefused}
-use Rattle.ddrescue_cli.specs.Work.{WorksOn}
-use Rattle.ddrescue_cli.specs.Answers.{AreAccepted, SaysOfWords, Causes, IsOpenedAs, OpensOnce, IsRefusedByPlan, IsBehindWords, MaySay, drafting_left, NameOneFileTwice}
+use Rattle.ddrescue_cli.specs.Work.{WorksBehindWords}
+use Rattle.ddrescue_cli.specs.Answers.{AreAccepted, SaysOfWords, Causes, FitsCommand, IsOpenedAs, OpensOnce, IsRefusedByPlan, IsBehindWords, MaySay, drafting_left, NameOneFileTwice}
 use Rattle.ddrescue_cli.specs.Alone.{PlacesAllow, FilesAllow, IsLeft}
 use Rattle.copy_passes.specs.Turns.{Across}
-use Rattle.ddrescue_cli.specs.Steps.{WorkedOn, Worked}
+use Rattle.ddrescue_cli.specs.Steps.{TellAll, IsOnlyMaps, WorkedOn, Worked}
 use Rattle.ddrescue_cli.specs.Ddrescue.{HasGained, Says, Promise, Ddrescue}
 use Rattle.ddrescue_cli.proofs.AloneLemmas.{none_read}
 use Rattle.ddrescue_cli.proofs.AskedLemmas.{asked_sensible}
 use Rattle.ddrescue_cli.proofs.GainLemmas.{gained_is}
-use Rattle.ddrescue_cli.proofs.WorkLemmas.{across}
-use Rattle.ddrescue_cli.proofs.GoesLemmas.{work_goes, nothing_stops}
+use Rattle.ddrescue_cli.proofs.GoesLemmas.{work_goes, nothing_stops, maps_stop}
+use Rattle.ddrescue_cli.proofs.MapsLemmas.{MapsOf, maps_of}
+use Rattle.ddrescue_cli.proofs.WorkLemmas.{across, none_seen}
 
 -- an answer that comes before anything was done
 abbrev pub IsEarly : Ending → Type 0
@@ -57,6 +60,7 @@ IsEarly (Usage (BadValue n)) = ⊤
 IsEarly (Usage (Operands given)) = ⊤
 IsEarly (Usage PlaceTooLarge) = ⊥
 IsEarly (SameName first second) = ⊤
+IsEarly (NoMap which) = ⊥
 IsEarly SourceFault = ⊥
 IsEarly NotRegular = ⊥
 IsEarly (MapRefused which error) = ⊥
@@ -73,39 +77,42 @@ early_causes (Usage (Operands n)) s d early = record { faults = refl; losses_ = 
 early_causes (Usage PlaceTooLarge) s d early = absurd early
 early_causes (SameName a b) s d early = record { faults = refl; losses_ = refl; site_faults = refl }
 early_causes Done s d early = absurd early
+early_causes (NoMap which) s d early = absurd early
 early_causes SourceFault s d early = absurd early
 early_causes NotRegular s d early = absurd early
 early_causes (MapRefused which error) s d early = absurd early
 early_causes SourceLost s d early = absurd early
 early_causes (SiteFault call earlier) s d early = absurd early
 
-early_opens : (e : Ending) (infile : List ℕ) (s : SourceState) → IsEarly e → IsOpenedAs e infile s s
-early_opens NoMemory infile s early = inl refl
-early_opens (Usage (Word f)) infile s early = refl
-early_opens (Usage (BadValue n)) infile s early = refl
-early_opens (Usage (Operands n)) infile s early = refl
-early_opens (Usage PlaceTooLarge) infile s early = absurd early
-early_opens (SameName a b) infile s early = refl
-early_opens Done infile s early = absurd early
-early_opens SourceFault infile s early = absurd early
-early_opens NotRegular infile s early = absurd early
-early_opens (MapRefused which error) infile s early = absurd early
-early_opens SourceLost infile s early = absurd early
-early_opens (SiteFault call earlier) infile s early = absurd early
+early_opens : (e : Ending) (maps : Bool) (infile : List ℕ) (s : SourceState) → IsEarly e → IsOpenedAs e maps infile s s
+early_opens NoMemory maps infile s early = inl refl
+early_opens (Usage (Word f)) maps infile s early = refl
+early_opens (Usage (BadValue n)) maps infile s early = refl
+early_opens (Usage (Operands n)) maps infile s early = refl
+early_opens (Usage PlaceTooLarge) maps infile s early = absurd early
+early_opens (SameName a b) maps infile s early = refl
+early_opens Done maps infile s early = absurd early
+early_opens (NoMap which) maps infile s early = absurd early
+early_opens SourceFault maps infile s early = absurd early
+early_opens NotRegular maps infile s early = absurd early
+early_opens (MapRefused which error) maps infile s early = absurd early
+early_opens SourceLost maps infile s early = absurd early
+early_opens (SiteFault call earlier) maps infile s early = absurd early
 
-early_opens_none : (e : Ending) (s : SourceState) → IsEarly e → OpensOnce e s s
-early_opens_none NoMemory s early = inl refl
-early_opens_none (Usage (Word f)) s early = refl
-early_opens_none (Usage (BadValue n)) s early = refl
-early_opens_none (Usage (Operands n)) s early = refl
-early_opens_none (Usage PlaceTooLarge) s early = absurd early
-early_opens_none (SameName a b) s early = refl
-early_opens_none Done s early = absurd early
-early_opens_none SourceFault s early = absurd early
-early_opens_none NotRegular s early = absurd early
-early_opens_none (MapRefused which error) s early = absurd early
-early_opens_none SourceLost s early = absurd early
-early_opens_none (SiteFault call earlier) s early = absurd early
+early_opens_none : (e : Ending) (maps : Bool) (s : SourceState) → IsEarly e → OpensOnce e maps s s
+early_opens_none NoMemory maps s early = inl refl
+early_opens_none (Usage (Word f)) maps s early = refl
+early_opens_none (Usage (BadValue n)) maps s early = refl
+early_opens_none (Usage (Operands n)) maps s early = refl
+early_opens_none (Usage PlaceTooLarge) maps s early = absurd early
+early_opens_none (SameName a b) maps s early = refl
+early_opens_none Done maps s early = absurd early
+early_opens_none (NoMap which) maps s early = absurd early
+early_opens_none SourceFault maps s early = absurd early
+early_opens_none NotRegular maps s early = absurd early
+early_opens_none (MapRefused which error) maps s early = absurd early
+early_opens_none SourceLost maps s early = absurd early
+early_opens_none (SiteFault call earlier) maps s early = absurd early
 
 early_drafts : (e : Ending) → IsEarly e → drafting_left e ≡ false
 early_drafts NoMemory early = refl
@@ -115,53 +122,70 @@ early_drafts (Usage (Operands n)) early = refl
 early_drafts (Usage PlaceTooLarge) early = absurd early
 early_drafts (SameName a b) early = refl
 early_drafts Done early = absurd early
+early_drafts (NoMap which) early = absurd early
 early_drafts SourceFault early = absurd early
 early_drafts NotRegular early = absurd early
 early_drafts (MapRefused which error) early = absurd early
 early_drafts SourceLost early = absurd early
 early_drafts (SiteFault call earlier) early = absurd early
 
-early_places : (e : Ending) (s : Setting) → IsEarly e → PlacesAllow e s
-early_places NoMemory s early = tt
-early_places (Usage (Word f)) s early = tt
-early_places (Usage (BadValue n)) s early = tt
-early_places (Usage (Operands n)) s early = tt
-early_places (Usage PlaceTooLarge) s early = absurd early
-early_places (SameName a b) s early = tt
-early_places Done s early = absurd early
-early_places SourceFault s early = absurd early
-early_places NotRegular s early = absurd early
-early_places (MapRefused which error) s early = absurd early
-early_places SourceLost s early = absurd early
-early_places (SiteFault call earlier) s early = absurd early
+early_places : (e : Ending) (o : Options) (end : ℕ) → IsEarly e → PlacesAllow e o end
+early_places NoMemory o end early = tt
+early_places (Usage (Word f)) o end early = tt
+early_places (Usage (BadValue n)) o end early = tt
+early_places (Usage (Operands n)) o end early = tt
+early_places (Usage PlaceTooLarge) o end early = absurd early
+early_places (SameName a b) o end early = tt
+early_places Done o end early = absurd early
+early_places (NoMap which) o end early = absurd early
+early_places SourceFault o end early = absurd early
+early_places NotRegular o end early = absurd early
+early_places (MapRefused which error) o end early = absurd early
+early_places SourceLost o end early = absurd early
+early_places (SiteFault call earlier) o end early = absurd early
 
-early_allows : (e : Ending) (s : Setting) (files : List ℕ → Option File) → IsEarly e → FilesAllow e s files
-early_allows NoMemory s files early = tt
-early_allows (Usage (Word f)) s files early = tt
-early_allows (Usage (BadValue n)) s files early = tt
-early_allows (Usage (Operands n)) s files early = tt
-early_allows (Usage PlaceTooLarge) s files early = absurd early
-early_allows (SameName a b) s files early = tt
-early_allows Done s files early = absurd early
-early_allows SourceFault s files early = absurd early
-early_allows NotRegular s files early = absurd early
-early_allows (MapRefused which error) s files early = absurd early
-early_allows SourceLost s files early = absurd early
-early_allows (SiteFault call earlier) s files early = absurd early
+early_allows : (e : Ending) (c : Command) (s : Setting) (files : List ℕ → Option File) → IsEarly e → FilesAllow e c s files
+early_allows NoMemory c s files early = tt
+early_allows (Usage (Word f)) c s files early = tt
+early_allows (Usage (BadValue n)) c s files early = tt
+early_allows (Usage (Operands n)) c s files early = tt
+early_allows (Usage PlaceTooLarge) c s files early = absurd early
+early_allows (SameName a b) c s files early = tt
+early_allows Done c s files early = absurd early
+early_allows (NoMap which) c s files early = absurd early
+early_allows SourceFault c s files early = absurd early
+early_allows NotRegular c s files early = absurd early
+early_allows (MapRefused which error) c s files early = absurd early
+early_allows SourceLost c s files early = absurd early
+early_allows (SiteFault call earlier) c s files early = absurd early
 
-early_leaves : (e : Ending) (outfile : List ℕ) (files : List ℕ → Option File) → IsEarly e → IsLeft e outfile files files
-early_leaves NoMemory outfile files early = tt
-early_leaves (Usage (Word f)) outfile files early = λ name. refl
-early_leaves (Usage (BadValue n)) outfile files early = λ name. refl
-early_leaves (Usage (Operands n)) outfile files early = λ name. refl
-early_leaves (Usage PlaceTooLarge) outfile files early = absurd early
-early_leaves (SameName a b) outfile files early = λ name. refl
-early_leaves Done outfile files early = absurd early
-early_leaves SourceFault outfile files early = absurd early
-early_leaves NotRegular outfile files early = absurd early
-early_leaves (MapRefused which error) outfile files early = absurd early
-early_leaves SourceLost outfile files early = absurd early
-early_leaves (SiteFault call earlier) outfile files early = absurd early
+early_leaves : (e : Ending) (maps : Bool) (outfile : List ℕ) (files : List ℕ → Option File) → IsEarly e
+    → IsLeft e maps outfile files files
+early_leaves NoMemory maps outfile files early = tt
+early_leaves (Usage (Word f)) maps outfile files early = λ name. refl
+early_leaves (Usage (BadValue n)) maps outfile files early = λ name. refl
+early_leaves (Usage (Operands n)) maps outfile files early = λ name. refl
+early_leaves (Usage PlaceTooLarge) maps outfile files early = absurd early
+early_leaves (SameName a b) maps outfile files early = λ name. refl
+early_leaves Done maps outfile files early = absurd early
+early_leaves (NoMap which) maps outfile files early = absurd early
+early_leaves SourceFault maps outfile files early = absurd early
+early_leaves NotRegular maps outfile files early = absurd early
+early_leaves (MapRefused which error) maps outfile files early = absurd early
+early_leaves SourceLost maps outfile files early = absurd early
+early_leaves (SiteFault call earlier) maps outfile files early = absurd early
+
+early_fits : (e : Ending) (c : Command) → IsEarly e → FitsCommand e c
+early_fits NoMemory c early = tt
+early_fits (Usage fault) c early = tt
+early_fits (SameName a b) c early = tt
+early_fits Done c early = tt
+early_fits (NoMap which) c early = absurd early
+early_fits SourceFault c early = tt
+early_fits NotRegular c early = absurd early
+early_fits (MapRefused which error) c early = absurd early
+early_fits SourceLost c early = tt
+early_fits (SiteFault call earlier) c early = tt
 
 early_stops : (e : Ending) → IsEarly e → e ≡ Done → ⊥
 early_stops e early is = let P : Ending → Type 0 = IsEarly in subst P is early
@@ -191,11 +215,11 @@ told_still words e s d k console console' = record {
   console' = console';
 }
 
-nothing_gained : (words : List (List ℕ)) (e : Ending) (s : SourceState) (d : SiteState) (k : ClockState) (p p' : ConsoleState)
-    → IsNothing (what_was_done (told_still words e s d k p p'))
-nothing_gained words e s d k p p' = record {
+nothing_gained : (maps : Maps) (words : List (List ℕ)) (e : Ending) (s : SourceState) (d : SiteState) (k : ClockState) (p p' : ConsoleState)
+    → IsNothing (what_was_done maps (told_still words e s d k p p'))
+nothing_gained maps words e s d k p p' = record {
   calls = gained_none d.calls;
-  reads = gained_none s.journal;
+  reads = ap (seen_through maps.test) (gained_none s.journal) ∙ none_seen maps.test;
   times = gained_none k.readings;
 }
 
@@ -204,17 +228,22 @@ still_promised : (words : List (List ℕ)) (e : Ending) (s : SourceState) (d : S
     → IsEarly e → NamesRefused c e ⊎ (e ≡ NoMemory) → Promise c (told_still words e s d k p p')
 still_promised words e s d k p p' c early refused =
     let t : Told = told_still words e s d k p p' in
-    let nothing : IsNothing (what_was_done t) = nothing_gained words e s d k p p' in
+    let m : MapsOf c (files_of t) = maps_of c (files_of t) in
+    let nothing : IsNothing (what_was_done m.maps t) = nothing_gained m.maps words e s d k p p' in
     record {
-      input = λ tells. early_opens e c.infile s early;
-      opened = early_opens_none e s early;
+      maps = m.maps;
+      asked_maps = m.asked;
+      are = λ tells. m.are;
+      fits = early_fits e c early;
+      input = λ tells. early_opens e (names_maps c) c.infile s early;
+      opened = early_opens_none e (names_maps c) s early;
       refused = λ planned is. absurd (early_passes e early is);
-      read = λ tells. none_read (asked c t) e s s (early_stops e early) refl;
-      places = λ tells. early_places e (asked c t) early;
-      files = λ tells. early_allows e (asked c t) (files_of t) early;
-      left = λ tells. early_leaves e c.outfile (files_of t) early;
+      read = λ tells. none_read (asked c m.maps t) m.maps.test e s s (early_stops e early) refl;
+      places = λ tells. early_places e c.options (length s.bytes) early;
+      files = λ tells. early_allows e c (asked c m.maps t) (files_of t) early;
+      left = λ tells. early_leaves e (names_maps c) c.outfile (files_of t) early;
       work = λ tell. inl (refused, nothing);
-      stops = λ tell on. nothing_stops (calls_before t) (asked c t) (what_was_done t) nothing;
+      stops = λ tell on. nothing_stops (calls_before t) (asked c m.maps t) (what_was_done m.maps t) nothing;
     }
 
 still_kept : (words : List (List ℕ)) (e : Ending) (s : SourceState) (d : SiteState) (k : ClockState) (p p' : ConsoleState)
@@ -247,13 +276,17 @@ unless_value : (fault : UsageFault) (e : Option ℕ) (c : Command) → IsElse fa
 unless_value fault None c other is = absurd (cc)
 unless_value fault (Some n) c other is = other.value n (cc)
 
-unless_else : (fault : UsageFault) (e : Option ℕ) (words : List (List ℕ)) (o : Options) (operands : List ℕ) → IsElse fault
-    → unless_empty e (command_with words o operands) ≡ Err fault → ⊥
-unless_else fault e words o [] other is = other.number 0 (cc)
-unless_else fault e words o (i ∷ []) other is = other.number 1 (cc)
-unless_else fault e words o (i ∷ out ∷ []) other is = unless_value fault e _ other is
-unless_else fault e words o (i ∷ out ∷ map ∷ []) other is = unless_value fault e _ other is
-unless_else fault e words o (i ∷ out ∷ map ∷ n ∷ more) other is = other.number (length (i ∷ out ∷ map ∷ n ∷ more)) (cc)
+unless_else : (fault : UsageFault) (e : Option ℕ) (words : List (List ℕ)) (m : MapOptions) (o : Options) (operands : List ℕ)
+    → IsElse fault → unless_empty e (command_with words m o operands) ≡ Err fault → ⊥
+unless_else fault e words m o [] other is = other.number 0 (cc)
+unless_else fault e words m o (i ∷ []) other is = other.number 1 (cc)
+unless_else fault e words m o (i ∷ out ∷ []) other is =
+    let P : Result Command UsageFault → Type 0 = λ r. unless_empty e r ≡ Err fault → ⊥ in
+    cond_both o.complete_only (Err (Operands 2))
+    (Ok (record { infile = word words i; outfile = word words out; mapfile = None; domain_map = m.domain; test_map = m.test; options = o }))
+    P (λ on same. other.number 2 (cc)) (λ off same. unless_value fault e _ other same) is
+unless_else fault e words m o (i ∷ out ∷ map ∷ []) other is = unless_value fault e _ other is
+unless_else fault e words m o (i ∷ out ∷ map ∷ n ∷ more) other is = other.number (length (i ∷ out ∷ map ∷ n ∷ more)) (cc)
 
 by_else : (fault : UsageFault) (words : List (List ℕ)) (items : List Item) (r : Result Options ℕ) (operands : List ℕ) → IsElse fault
     → command_by words items r operands ≡ Err fault → ⊥
@@ -261,9 +294,9 @@ by_else fault words items (Err n) operands other is = other.value n (cc)
 by_else fault words items (Ok o) operands other is =
     let P : Result Command UsageFault → Type 0 = λ r. r ≡ Err fault → ⊥ in
     cond_both (is_too_large o) (Err (BadValue (word_in (last_of cluster_row items))))
-    (unless_empty (empty_operand words operands) (command_with words o operands))
+    (unless_empty (empty_operand words operands) (command_with words (maps_in words items) o operands))
     P (λ on same. other.value (word_in (last_of cluster_row items)) (cc))
-    (λ off same. unless_else fault (empty_operand words operands) words o operands other same) is
+    (λ off same. unless_else fault (empty_operand words operands) words (maps_in words items) o operands other same) is
 
 -- no words are refused for a place
 never_place : (words : List (List ℕ)) → AreRefused words PlaceTooLarge → ⊥
@@ -347,50 +380,56 @@ three_by outfile (Some name) on apart = record {
   apart = longer name;
 }
 
-three_names : (c : Command) (t : Told) → (asked c t).has_mapfile ≡ true → first_same c.infile c.outfile (names_by c) ≡ None
-    → AreThreeNames (asked c t)
-three_names c t on different =
+three_names : (c : Command) (maps : Maps) (t : Told) → (asked c maps t).has_mapfile ≡ true
+    → first_same c.infile c.outfile (names_by c) ≡ None → AreThreeNames (asked c maps t)
+three_names c maps t on different =
     let three : AreThree c.outfile (names_in (names_by c)) =
     three_by c.outfile c.mapfile on (apart_of c.infile c.outfile (names_by c) different) in
     record { map = three.map; draft = three.draft; apart = three.apart }
-
-stops_by : (c : Command) (t : Told) (g : Gain) → Asks t.words c → first_same c.infile c.outfile (names_by c) ≡ None
-    → (asked c t).has_mapfile ≡ true → WorksOn (asked c t) (files_of t) t.answer g
-    → IsNothing g ⊎ ((asked c t).end < 2 ^ 63) → AreTimes g.times → StopsSafely (calls_before t) (asked c t) g
-stops_by c t g asks different on works (inl none) fit = nothing_stops (calls_before t) (asked c t) g none
-stops_by c t g asks different on works (inr short) fit =
-    goes_safely (calls_before t) (asked c t) g (asked_sensible c t asks) on (three_names c t on different) short fit
-    (work_goes (asked c t) (files_of t) t.answer g on works)
 
 -- what the objects tell of a call before and behind it
 abbrev pub across_of : Told → Across
 across_of t = across t.source t.source' t.site t.site' t.clock t.clock'
 
+-- what was done by these maps
+abbrev DidBy : Command → Maps → Told → Type 0
+DidBy c maps t = WorkedOn c (asked c maps t) maps.test (files_of t) t.answer (across_of t)
+
+stops_by : (c : Command) (maps : Maps) (t : Told) → Asks t.words c → first_same c.infile c.outfile (names_by c) ≡ None
+    → (asked c maps t).has_mapfile ≡ true → (w : DidBy c maps t)
+    → IsNothing w.gain ⊎ ((asked c maps t).end < 2 ^ 63) ⊎ IsOnlyMaps w.gain → StopsSafely (calls_before t) (asked c maps t) w.gain
+stops_by c maps t asks different on w (inl none) = nothing_stops (calls_before t) (asked c maps t) w.gain none
+stops_by c maps t asks different on w (inr (inl short)) =
+    goes_safely (calls_before t) (asked c maps t) w.gain (asked_sensible c maps t asks) on (three_names c maps t on different) short
+    w.gains.fit (work_goes c (asked c maps t) (files_of t) t.answer w.gain on w.works)
+stops_by c maps t asks different on w (inr (inr only)) = maps_stop (calls_before t) (asked c maps t) w.gain only
+
 -- what the objects gained is what the work did
-gain_is : (t : Told) (s : Setting) (files : List ℕ → Option File) (e : Ending) → (w : WorkedOn s files e (across_of t)) → w.gain ≡ what_was_done t
-gain_is t s files e w =
+gain_is : (c : Command) (maps : Maps) (t : Told) → (w : DidBy c maps t) → w.gain ≡ what_was_done maps t
+gain_is c maps t w =
     rw (
       gained_is t.site.calls t.site'.calls w.gain.calls w.gains.calls,
-      gained_is t.source.journal t.source'.journal w.gain.reads w.gains.reads,
+      gained_is t.source.journal t.source'.journal w.gains.raw w.gains.reads,
       gained_is t.clock.readings t.clock'.readings w.gain.times w.gains.times,
+      w.gains.seen_are,
     )
     refl
 
-works_as : (c : Command) (t : Told) → WorkedOn (asked c t) (files_of t) t.answer (across_of t)
-    → WorksOn (asked c t) (files_of t) t.answer (what_was_done t)
-works_as c t w =
-    let P : Gain → Type 0 = λ g. WorksOn (asked c t) (files_of t) t.answer g in
-    subst P (gain_is t (asked c t) (files_of t) t.answer w) w.works
+works_as : (c : Command) (maps : Maps) (t : Told) → DidBy c maps t
+    → WorksBehindWords c (asked c maps t) (files_of t) t.answer (what_was_done maps t)
+works_as c maps t w =
+    let P : Gain → Type 0 = λ g. WorksBehindWords c (asked c maps t) (files_of t) t.answer g in
+    subst P (gain_is c maps t w) w.works
 
-stops_as : (c : Command) (t : Told) → Asks t.words c → first_same c.infile c.outfile (names_by c) ≡ None → (asked c t).has_mapfile ≡ true
-    → WorkedOn (asked c t) (files_of t) t.answer (across_of t) → StopsSafely (calls_before t) (asked c t) (what_was_done t)
-stops_as c t asks different on w =
-    let P : Gain → Type 0 = λ g. StopsSafely (calls_before t) (asked c t) g in
-    subst P (gain_is t (asked c t) (files_of t) t.answer w) (stops_by c t w.gain asks different on w.works w.short w.gains.fit)
+stops_as : (c : Command) (maps : Maps) (t : Told) → Asks t.words c → first_same c.infile c.outfile (names_by c) ≡ None
+    → (asked c maps t).has_mapfile ≡ true → DidBy c maps t → StopsSafely (calls_before t) (asked c maps t) (what_was_done maps t)
+stops_as c maps t asks different on w =
+    let P : Gain → Type 0 = λ g. StopsSafely (calls_before t) (asked c maps t) g in
+    subst P (gain_is c maps t w) (stops_by c maps t asks different on w w.short)
 
-gains_as : (c : Command) (t : Told) → WorkedOn (asked c t) (files_of t) t.answer (across_of t) → HasGained t
-gains_as c t w = record {
-  reads = w.gains.reads ∙ ap (λ r. t.source.journal ++ r) (sym (gained_is t.source.journal t.source'.journal w.gain.reads w.gains.reads));
+gains_as : (c : Command) (maps : Maps) (t : Told) → DidBy c maps t → HasGained t
+gains_as c maps t w = record {
+  reads = w.gains.reads ∙ ap (λ r. t.source.journal ++ r) (sym (gained_is t.source.journal t.source'.journal w.gains.raw w.gains.reads));
   calls = w.gains.calls ∙ ap (λ r. t.site.calls ++ r) (sym (gained_is t.site.calls t.site'.calls w.gain.calls w.gains.calls));
   times = w.gains.times ∙ ap (λ r. t.clock.readings ++ r) (sym (gained_is t.clock.readings t.clock'.readings w.gain.times w.gains.times));
 }
@@ -403,26 +442,13 @@ behind_says (Usage (BadValue n)) words behind accepted = absurd behind
 behind_says (Usage (Operands n)) words behind accepted = absurd behind
 behind_says (Usage PlaceTooLarge) words behind accepted = accepted
 behind_says (SameName a b) words behind accepted = absurd behind
+behind_says (NoMap which) words behind accepted = accepted
 behind_says SourceFault words behind accepted = accepted
 behind_says NotRegular words behind accepted = accepted
 behind_says (MapRefused which error) words behind accepted = accepted
 behind_says SourceLost words behind accepted = accepted
 behind_says (SiteFault call earlier) words behind accepted = accepted
 behind_says NoMemory words behind accepted = tt
-
-behind_opens : (e : Ending) (s s' : SourceState) → IsBehindWords e → s'.opens ≡ raised s.opens → OpensOnce e s s'
-behind_opens Done s s' behind once = once
-behind_opens (Usage (Word f)) s s' behind once = absurd behind
-behind_opens (Usage (BadValue n)) s s' behind once = absurd behind
-behind_opens (Usage (Operands n)) s s' behind once = absurd behind
-behind_opens (Usage PlaceTooLarge) s s' behind once = once
-behind_opens (SameName a b) s s' behind once = absurd behind
-behind_opens SourceFault s s' behind once = once
-behind_opens NotRegular s s' behind once = once
-behind_opens (MapRefused which error) s s' behind once = once
-behind_opens SourceLost s s' behind once = once
-behind_opens (SiteFault call earlier) s s' behind once = once
-behind_opens NoMemory s s' behind once = inr once
 
 -- no two files have one name
 names_pass : (c : Command) → first_same c.infile c.outfile (names_by c) ≡ None → (e : Ending) → NamesRefused c e → ⊥
@@ -437,50 +463,67 @@ named_apart words c a different first second twice =
     names_pass c different (SameName first second)
     (first, second, subst P (a.alone twice.command twice.asks) twice.same, refl)
 
-work_promised : (c : Command) (t : Told) → Asks t.words c → first_same c.infile c.outfile (names_by c) ≡ None
-    → (IsTrue t.source.tells → IsOpenedAs t.answer c.infile t.source t.source') → OpensOnce t.answer t.source t.source'
-    → (IsTrue t.source.is_planned → IsRefusedByPlan t.answer c.infile t.source.plan)
-    → Worked (asked c t) (files_of t) t.answer (across_of t) → Promise c t
-work_promised c t asks different input opened refused w =
-    let on : AllTell t → WorkedOn (asked c t) (files_of t) t.answer (across_of t) =
-    λ tell. w.told (record { source = tell.source; site = tell.site; clock = tell.clock }) in
+-- What a rescue did for a command behind its words, and what is said of its answer.
+pub record SaysBy (c : Command) (line : List ℕ) (t : Told) : Type 0 where
+  pub worked : Worked c line (length t.source.bytes) (files_of t) t.answer (across_of t)
+  pub words : IsBehindWords t.answer
+  pub fits : FitsCommand t.answer c
+  pub input : IsTrue t.source.tells → IsOpenedAs t.answer (names_maps c) c.infile t.source t.source'
+  pub once : OpensOnce t.answer (names_maps c) t.source t.source'
+  pub refused : IsTrue t.source.is_planned → IsRefusedByPlan t.answer c.infile t.source.plan
+  pub cause : Causes t.answer t.source t.source' t.site t.site'
+  pub draft : t.site'.is_drafting ≡ drafting_left t.answer
+  pub source : SourceKeeps t.source t.source'
+  pub site : SiteKeeps t.site t.site'
+  pub clock : ClockKeeps t.clock t.clock'
+
+-- the same by the words' command line
+abbrev SaysOf : Command → Told → Type 0
+SaysOf c t = SaysBy c (command_line t.words) t
+
+tell_all : (t : Told) → AllTell t → TellAll (across_of t)
+tell_all t tell = record { source = tell.source; site = tell.site; clock = tell.clock }
+
+work_promised : (c : Command) (t : Told) → Asks t.words c → first_same c.infile c.outfile (names_by c) ≡ None → SaysOf c t → Promise c t
+work_promised c t asks different r =
+    let w : Worked c (command_line t.words) (length t.source.bytes) (files_of t) t.answer (across_of t) = r.worked in
     record {
-      input = input;
-      opened = opened;
-      refused = refused;
+      maps = w.maps;
+      asked_maps = w.asked_maps;
+      are = w.are;
+      fits = r.fits;
+      input = r.input;
+      opened = r.once;
+      refused = r.refused;
       read = w.read;
       places = w.placed;
       files = w.allowed;
       left = w.left;
-      work = λ tell. inr (names_pass c different, works_as c t (on tell));
-      stops = λ tell there. stops_as c t asks different there (on tell);
+      work = λ tell. inr (names_pass c different, works_as c w.maps t (w.told (tell_all t tell)));
+      stops = λ tell there. stops_as c w.maps t asks different there (w.told (tell_all t tell));
     }
 
 -- the promise of an answer behind the words
-pub work_kept : (t : Told) (c : Command) (i o : List ℕ) (n : Option MapNames) (l : List ℕ) (w : Options) → IsAsked t.words c → i ≡ c.infile
-    → o ≡ c.outfile → n ≡ names_by c → l ≡ command_line t.words → w ≡ c.options → first_same c.infile c.outfile (names_by c) ≡ None
-    → IsBehindWords t.answer → Causes t.answer t.source t.source' t.site t.site'
-    → (IsTrue t.source.tells → IsOpenedAs t.answer i t.source t.source') → t.source'.opens ≡ raised t.source.opens
-    → (IsTrue t.source.is_planned → IsRefusedByPlan t.answer i t.source.plan)
-    → Worked (setting_asked i o n l w (length t.source.bytes)) (files_of t) t.answer (across_of t)
-    → t.site'.is_drafting ≡ drafting_left t.answer → SourceKeeps t.source t.source' → SiteKeeps t.site t.site'
-    → ClockKeeps t.clock t.clock' → Says t → Ddrescue t
-work_kept t c i o n l w a is_i is_o is_n is_l is_w different behind cause input once refused worked draft keeps keeps' keeps_clock says =
-    let done : Worked (asked c t) (files_of t) t.answer (across_of t) = rw (is_i, is_o, is_n, is_l, is_w) at worked in
-    let kept : Promise c t =
-    work_promised c t a.asks different (λ tells. rw is_i at (input tells)) (behind_opens t.answer t.source t.source' behind once)
-    (λ planned. rw is_i at (refused planned)) done in
+says_kept : (t : Told) (c : Command) → IsAsked t.words c → first_same c.infile c.outfile (names_by c) ≡ None → SaysOf c t → Says t → Ddrescue t
+says_kept t c a different r says =
+    let kept : Promise c t = work_promised c t a.asks different r in
     record {
-      words = behind_says t.answer t.words behind (record { command = c; asks = a.asks; apart = different });
-      cause = cause;
+      words = behind_says t.answer t.words r.words (record { command = c; asks = a.asks; apart = different });
+      cause = r.cause;
       asked_for = λ other asks. subst (λ (x : Command). Promise x t) (sym (a.alone other asks)) kept;
-      draft = draft;
+      draft = r.draft;
       says = says;
-      source = keeps;
-      site = keeps';
-      clock = keeps_clock;
-      gains = λ tell. gains_as c t (done.told (record { source = tell.source; site = tell.site; clock = tell.clock }));
+      source = r.source;
+      site = r.site;
+      clock = r.clock;
+      gains = λ tell. gains_as c r.worked.maps t (r.worked.told (tell_all t tell));
     }
+
+pub work_kept : (t : Told) (c planned : Command) (line : List ℕ) → IsAsked t.words c → planned ≡ c → line ≡ command_line t.words
+    → first_same c.infile c.outfile (names_by c) ≡ None → SaysBy planned line t → Says t → Ddrescue t
+work_kept t c planned line a is line_is different r says =
+    says_kept t c a different
+    (subst (λ (x : Command). SaysOf x t) is (subst (λ (l : List ℕ). SaysBy planned l t) line_is r)) says
 
 -- whether something is to be said
 pub may_say : (words : List (List ℕ)) (e : Ending) (quiet : Bool) (untouched : Type 0) → (AskQuiet words ↔ (quiet ≡ true))

@@ -1,5 +1,5 @@
 -- What a run did, whatever its input and its output are named.
-use Rattle.std.proofs.Common.{◌≡◌, ℕ, ◌*◌, ◌<◌, ◌^◌, Bool, true, IsTrue, List, [], ◌∷◌, ◌++◌, length, All, Option, Some, None, is_some, refl, sym, ap, ◌∙◌, arith, subst, inl, inr, append-nil, length-append}
+use Rattle.std.proofs.Common.{◌≡◌, ℕ, ◌*◌, ◌<◌, ◌≤◌, ◌^◌, Bool, true, false, IsTrue, List, [], ◌∷◌, ◌++◌, length, All, Option, Some, None, is_some, refl, sym, ap, ◌∙◌, arith, subst, inl, inr, append-nil, length-append}
 use Rattle.std.proofs.Math.Path.{fun_ext}
 use Rattle.std.proofs.lemmas.Option.{none-some}
 use Rattle.std.proofs.lemmas.List.Elements.{All-nil, All-cons}
@@ -10,7 +10,6 @@ use Rattle.crash_site.specs.Calls.{Entry}
 use Rattle.crash_site.specs.SiteState.{SiteState}
 use Rattle.save_resume.specs.MapNames.{MapNames}
 use Rattle.rescue_console.specs.ClockState.{ClockState, Reads as ReadsClock}
-use Rattle.rescue_domain.specs.Domain.{whole_domain}
 use Rattle.rescue_domain.specs.Parts.{covers}
 use Rattle.rescue_rules.specs.declared.stop.RunEnd.{RunEnd}
 use Rattle.rescue_rules.specs.declared.stop.RunEnd.TheVariants.{Done as Finished, Stopped, SaveFailed}
@@ -18,6 +17,7 @@ use Rattle.rescue_rules.specs.declared.stop.Stop.{Stop}
 use Rattle.rescue_rules.specs.declared.stop.Stop.TheVariants.{SourceLost as InputLost, Site, NoMemory as NoRoom}
 use Rattle.rescue_rules.specs.declared.phase.Phase.TheVariants.{Copying}
 use Rattle.rescue_rules.specs.Setting.{Setting, IsSensible}
+use Rattle.rescue_rules.specs.Start.{IsFresh}
 use Rattle.rescue_rules.specs.Nameless.{nameless}
 use Rattle.rescue_rules.specs.Machine.{Machine}
 use Rattle.rescue_rules.specs.Step.{Event}
@@ -38,7 +38,7 @@ use Rattle.rescue_core.specs.RunState.{RunState, names_in, setting_with as core_
 use Rattle.ddrescue_cli.specs.declared.ending.Ending.{Ending}
 use Rattle.ddrescue_cli.specs.declared.ending.Ending.TheVariants.{Done, SourceLost, SiteFault, NoMemory}
 use Rattle.rescue_command.specs.declared.options.Options.{Options}
-use Rattle.ddrescue_cli.specs.Asked.{setting_asked}
+use Rattle.ddrescue_cli.specs.Asked.{Maps, setting_asked, domain_asked}
 use Rattle.copy_passes.specs.Turns.{Across, IsFrom}
 use Rattle.ddrescue_cli.specs.Alone.{IsBeforeReads, HasRead}
 use Rattle.ddrescue_cli.specs.Work.{answer_of}
@@ -47,10 +47,11 @@ use Rattle.ddrescue_cli.specs.Running.{settings_by, IsRunOver, EndsCalls, WentTo
 use Rattle.ddrescue_cli.proofs.TurnLemmas.{timed_more}
 
 -- the setting of such a run is the rescue's, but for the names of its files
-setting_is : (i o : List ℕ) (n : Option MapNames) (l : List ℕ) (opts : Options) (end : ℕ) (statuses : List Status) (state : Option MapState) (moment : ℕ)
-    (r : RunState) → IsRunOver n l opts end statuses state moment r → setting_in r ≡ nameless (setting_asked i o n l opts end)
-setting_is i o n l opts end statuses state moment r is =
-    let domain : ℕ → Bool = whole_domain opts.input_position opts.size end in
+setting_is : (i o : List ℕ) (n : Option MapNames) (l : List ℕ) (opts : Options) (end : ℕ) (maps : Maps)
+    (statuses : List Status) (state : Option MapState) (moment : ℕ) (r : RunState)
+    → IsRunOver n l opts end maps statuses state moment r → setting_in r ≡ nameless (setting_asked i o n l opts end maps)
+setting_is i o n l opts end maps statuses state moment r is =
+    let domain : ℕ → Bool = domain_asked opts end maps in
     let positions : covers r.domain ≡ domain = fun_ext is.domain in
     let S : Settings → Setting = λ settings. core_setting settings r.domain r.names r.line in
     let D : (ℕ → Bool) → Setting = λ inside. record (S (settings_by opts)) { domain = inside } in
@@ -119,12 +120,13 @@ words_well s statuses state moment end o w finished =
     run_ends_well s (prepared s.domain s.again s.retrim statuses) (goes_on_from s.again state) (shown_at_first state) moment
     w.events w.sensible w.run (w.done finished)
 
-in_words : (i o : List ℕ) (n : Option MapNames) (l : List ℕ) (opts : Options) (end : ℕ) (statuses : List Status) (state : Option MapState) (moment : ℕ)
-    (r : RunState) (at : RunEnd) (a : Across) → IsRunOver n l opts end statuses state moment r → WentToEnd r at a
-    → InWords (setting_asked i o n l opts end) statuses state moment at a
-in_words i o n l opts end statuses state moment r at a is w =
-    let s : Setting = setting_asked i o n l opts end in
-    let same : setting_in r ≡ nameless s = setting_is i o n l opts end statuses state moment r is in
+in_words : (i o : List ℕ) (n : Option MapNames) (l : List ℕ) (opts : Options) (end : ℕ) (maps : Maps)
+    (statuses : List Status) (state : Option MapState) (moment : ℕ) (r : RunState) (at : RunEnd)
+    (a : Across) → IsRunOver n l opts end maps statuses state moment r → WentToEnd r at a
+    → InWords (setting_asked i o n l opts end maps) statuses state moment at a
+in_words i o n l opts end maps statuses state moment r at a is w =
+    let s : Setting = setting_asked i o n l opts end maps in
+    let same : setting_in r ≡ nameless s = setting_is i o n l opts end maps statuses state moment r is in
     let m : Machine = machine_over s statuses state moment in
     let positions : covers r.domain ≡ s.domain = fun_ext is.domain in
     let M : (ℕ → Bool) → Setting → Machine =
@@ -155,7 +157,7 @@ in_words i o n l opts end statuses state moment r at a is w =
 -- the run with all its calls, reads and readings
 ran_told : (s : Setting) (statuses : List Status) (state : Option MapState) (moment : ℕ) (end : RunEnd) (o : Across) (before : ClockState)
     → (w : InWords s statuses state moment end o) → ReadsClock (moment ∷ []) before o.clock → moment < 2 ^ 64
-    → TellAll (record o { clock = before }) → RanOn s statuses state (answer_of end) (record o { clock = before })
+    → TellAll (record o { clock = before }) → RanOn s None statuses state (answer_of end) (record o { clock = before })
 ran_told s statuses state moment end o before w first small tell =
     let c = w.calls tell.site in
     let times : List ℕ = moment ∷ (times_of w.events ++ w.spare) in
@@ -167,7 +169,9 @@ ran_told s statuses state moment end o before w first small tell =
     record {
       gain = g;
       gains = record {
+        raw = reads_of w.events;
         reads = w.read tell.source;
+        seen_are = refl;
         calls = c.1;
         times = all.told tell.clock;
         fit = All-cons (λ t. t < 2 ^ 64) moment (times_of w.events ++ w.spare) small w.fit;
@@ -185,7 +189,7 @@ ran_told s statuses state moment end o before w first small tell =
     }
 
 -- an answer of a run is no refusal
-run_refused : (end : RunEnd) → IsBeforeReads (answer_of end) → ⊥
+pub run_refused : (end : RunEnd) → IsBeforeReads (answer_of end) → ⊥
 run_refused Finished refused = refused
 run_refused (Stopped InputLost) refused = refused
 run_refused (Stopped (Site call)) refused = refused
@@ -201,13 +205,18 @@ answer_finished (SaveFailed call earlier) is = absurd (let no : SiteFault call e
 
 -- the reads, where the input tells
 ran_read : (s : Setting) (statuses : List Status) (state : Option MapState) (moment : ℕ) (end : RunEnd) (o : Across)
-    → InWords s statuses state moment end o → IsTrue o.source.tells → HasRead s (answer_of end) o.source o.source'
-ran_read s statuses state moment end o w tells = record {
+    → s.end ≤ length statuses → (s.has_mapfile ≡ false → IsFresh s.end statuses state)
+    → InWords s statuses state moment end o → IsTrue o.source.tells → HasRead s None (answer_of end) o.source o.source'
+ran_read s statuses state moment end o long fresh w tells = record {
   statuses = statuses;
   state = state;
   time = moment;
+  long = long;
+  fresh = fresh;
   events = w.events;
+  raw = reads_of w.events;
   gained = w.read tells;
+  seen_are = refl;
   run = w.run;
   right = w.right tells;
   refused = λ refused. absurd (run_refused end refused);
@@ -216,18 +225,27 @@ ran_read s statuses state moment end o w tells = record {
   well = λ done. words_well s statuses state moment end o w (answer_finished end done);
 }
 
+-- without a mapfile there are no names of one
+pub named_fresh : (n : Option MapNames) (end : ℕ) (statuses : List Status) (state : Option MapState)
+    → (n ≡ None → IsFresh end statuses state) → is_some n ≡ false → IsFresh end statuses state
+named_fresh None end statuses state fresh none = fresh refl
+named_fresh (Some names) end statuses state fresh none = absurd (cc)
+
 -- a run that was begun
-pub ran_went : (i o : List ℕ) (n : Option MapNames) (l : List ℕ) (opts : Options) (end : ℕ) (statuses : List Status) (state : Option MapState) (moment : ℕ)
-    (r : RunState) (at : RunEnd) (e : Ending) (a : Across) (before : ClockState) → IsRunOver n l opts end statuses state moment r → WentToEnd r at a
-    → e ≡ answer_of at → ReadsClock (moment ∷ []) before a.clock → moment < 2 ^ 64
-    → Ran (setting_asked i o n l opts end) statuses state e (record a { clock = before })
-ran_went i o n l opts end statuses state moment r at e a before is w answered first small =
-    let s : Setting = setting_asked i o n l opts end in
-    let words : InWords s statuses state moment at a = in_words i o n l opts end statuses state moment r at a is w in
-    subst (λ (x : Ending). Ran s statuses state x (record a { clock = before })) (sym answered)
+pub ran_went : (i o : List ℕ) (n : Option MapNames) (l : List ℕ) (opts : Options) (end : ℕ) (maps : Maps)
+    (statuses : List Status) (state : Option MapState) (moment : ℕ) (r : RunState) (at : RunEnd)
+    (e : Ending) (a : Across) (before : ClockState) → end ≤ length statuses
+    → (is_some n ≡ false → IsFresh end statuses state) → IsRunOver n l opts end maps statuses state moment r
+    → WentToEnd r at a → e ≡ answer_of at → ReadsClock (moment ∷ []) before a.clock → moment < 2 ^ 64
+    → Ran (setting_asked i o n l opts end maps) None statuses state e (record a { clock = before })
+ran_went i o n l opts end maps statuses state moment r at e a before long fresh is w answered first small =
+    let s : Setting = setting_asked i o n l opts end maps in
+    let words : InWords s statuses state moment at a =
+    in_words i o n l opts end maps statuses state moment r at a is w in
+    subst (λ (x : Ending). Ran s None statuses state x (record a { clock = before })) (sym answered)
     (record {
       told = λ tell. ran_told s statuses state moment at a before words first small tell;
-      read = λ tells. ran_read s statuses state moment at a words tells;
+      read = λ tells. ran_read s statuses state moment at a long fresh words tells;
       ends = (at, refl);
       late = w.late;
     })
@@ -243,13 +261,16 @@ none_asked s m = record {
 
 -- memory that ran out before a run began
 pub ran_unbegun : (s : Setting) (statuses : List Status) (state : Option MapState) (moment : ℕ) (a : SourceState) (d : SiteState)
-    (k k' : ClockState) → ReadsClock (moment ∷ []) k k' → moment < 2 ^ 64
-    → Ran s statuses state NoMemory (record { source = a; source' = a; site = d; site' = d; clock = k; clock' = k' })
-ran_unbegun s statuses state moment a d k k' first small = record {
+    (k k' : ClockState) → s.end ≤ length statuses → (s.has_mapfile ≡ false → IsFresh s.end statuses state)
+    → ReadsClock (moment ∷ []) k k' → moment < 2 ^ 64
+    → Ran s None statuses state NoMemory (record { source = a; source' = a; site = d; site' = d; clock = k; clock' = k' })
+ran_unbegun s statuses state moment a d k k' long fresh first small = record {
   told = λ tell. record {
     gain = record { calls = []; reads = []; times = moment ∷ [] };
     gains = record {
+      raw = [];
       reads = sym (append-nil a.journal);
+      seen_are = refl;
       calls = sym (append-nil d.calls);
       times = first.told tell.clock;
       fit = All-cons (λ t. t < 2 ^ 64) moment [] small (All-nil (λ t. t < 2 ^ 64));
@@ -260,8 +281,12 @@ ran_unbegun s statuses state moment a d k k' first small = record {
     statuses = statuses;
     state = state;
     time = moment;
+    long = long;
+    fresh = fresh;
     events = [];
+    raw = [];
     gained = sym (append-nil a.journal);
+    seen_are = refl;
     run = record { each = All-nil (IsMove s) };
     right = All-nil (IsFrom a.bytes);
     refused = λ refused. refl;

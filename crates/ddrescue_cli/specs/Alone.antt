@@ -1,5 +1,6 @@
 -- What is said where the input tells, whatever the files do, and where the files tell, whatever the input does.
-use Rattle.std.specs.Prelude.{◌≡◌, ◌≢◌, ⊤, ℕ, true, false, List, [], ◌++◌, All, Option, Some, None}
+use Rattle.std.specs.Prelude.{◌≡◌, ◌≢◌, ◌⊎◌, ⊤, ℕ, ◌≤◌, length, Bool, true, false, List, [], ◌++◌, All, Option, Some, None}
+use Rattle.faulty_source.specs.Journal.{Reading}
 use Rattle.faulty_source.specs.SourceState.{SourceState}
 use Rattle.block_list.specs.declared.status.Status.{Status}
 use Rattle.mapfile_text.specs.declared.state.MapState.{MapState}
@@ -8,6 +9,7 @@ use Rattle.crash_site.specs.declared.site.SiteCall.TheVariants.{ImageOpen, Image
 use Rattle.crash_site.specs.Files.{File, empty_file}
 use Rattle.option_words.specs.declared.fault.UsageFault.TheVariants.{Word, BadValue, Operands, PlaceTooLarge}
 use Rattle.rescue_rules.specs.Setting.{Setting}
+use Rattle.rescue_rules.specs.Start.{IsFresh}
 use Rattle.rescue_rules.specs.Work.{mapfile_in}
 use Rattle.rescue_rules.specs.Step.{Event}
 use Rattle.rescue_rules.specs.Moves.{state_after, has_ended, IsRun}
@@ -16,15 +18,21 @@ use Rattle.rescue_rules.specs.Events.{reads_of}
 use Rattle.copy_passes.specs.Turns.{IsFrom}
 use Rattle.trim_scrape.specs.Bounds.{AskFew}
 use Rattle.trim_scrape.specs.Endings.{EndsWell}
+use Rattle.rescue_command.specs.declared.options.Options.{Options}
+use Rattle.rescue_command.specs.Command.{Command}
+use Rattle.ddrescue_cli.specs.declared.ending.Which.{Which}
+use Rattle.ddrescue_cli.specs.declared.ending.Which.TheVariants.{DomainMap, TestMap, RunMap}
 use Rattle.ddrescue_cli.specs.declared.ending.Ending.{Ending}
-use Rattle.ddrescue_cli.specs.declared.ending.Ending.TheVariants.{Done, Usage, SameName, SourceFault, NotRegular, MapRefused, SourceLost, SiteFault, NoMemory}
-use Rattle.ddrescue_cli.specs.Refusals.{is_other, OutputRefused, MapfileRefused, PlacesRefused}
+use Rattle.ddrescue_cli.specs.declared.ending.Ending.TheVariants.{Done, Usage, SameName, NoMap, SourceFault, NotRegular, MapRefused, SourceLost, SiteFault, NoMemory}
+use Rattle.ddrescue_cli.specs.Maps.{map_mode, names_maps, seen_through}
+use Rattle.ddrescue_cli.specs.Refusals.{is_other, NamedMapRefused, OutputRefused, MapfileRefused, PlacesRefused}
 
 -- a refusal, which comes before the first read
 abbrev pub IsBeforeReads : Ending → Type 0
 IsBeforeReads Done = ⊥
 IsBeforeReads (Usage fault) = ⊤
 IsBeforeReads (SameName first second) = ⊤
+IsBeforeReads (NoMap which) = ⊤
 IsBeforeReads SourceFault = ⊤
 IsBeforeReads NotRegular = ⊤
 IsBeforeReads (MapRefused which error) = ⊤
@@ -32,45 +40,64 @@ IsBeforeReads SourceLost = ⊥
 IsBeforeReads (SiteFault call earlier) = ⊥
 IsBeforeReads NoMemory = ⊥
 
--- The reads are those of a run over some map, and gave the input's own bytes; there is none before a refusal. They ask few
--- times for a position; and where the rescue is done no pass has a request left, and each position of the domain is left well.
-pub record HasRead (s : Setting) (e : Ending) (source source' : SourceState) : Type 0 where
+-- The reads are, as they are seen, those of a run over some map that reaches the input's end, without a mapfile one that wasn't
+-- tried; and gave the input's own bytes; there is none before a refusal.
+-- They ask few times for a position; and where the rescue is done no pass has a request left, and each position of the domain is
+-- left well.
+pub record HasRead (s : Setting) (test : Option (List Status)) (e : Ending) (source source' : SourceState) : Type 0 where
   pub statuses : List Status
   pub state : Option MapState
   pub time : ℕ
+  pub long : s.end ≤ length statuses
+  pub fresh : s.has_mapfile ≡ false → IsFresh s.end statuses state
   pub events : List Event
-  pub gained : source'.journal ≡ source.journal ++ reads_of events
+  pub raw : List Reading
+  pub gained : source'.journal ≡ source.journal ++ raw
+  pub seen_are : seen_through test raw ≡ reads_of events
   pub run : IsRun s (machine_over s statuses state time) events
   pub right : All (IsFrom source.bytes) (reads_of events)
-  pub refused : IsBeforeReads e → events ≡ []
+  pub refused : IsBeforeReads e → raw ≡ []
   pub few : AskFew s (machine_over s statuses state time) events
   pub done : e ≡ Done → has_ended s (state_after s (machine_over s statuses state time) events) ≡ true
   pub well : e ≡ Done → EndsWell s (machine_over s statuses state time) events
 
--- what the failure of a call shows of the files, where it comes once the output is open: the output is a regular file
--- or absent, or something else is allowed
-pub record OutputPasses (s : Setting) (files : List ℕ → Option File) : Type 0 where
+-- the maps that options name aren't refused
+pub record MapsPass (c : Command) (files : List ℕ → Option File) : Type 0 where
+  pub domain : (name : List ℕ) (e : Ending) → c.domain_map ≡ Some name
+      → NamedMapRefused DomainMap (map_mode c.options) (files name) e → ⊥
+  pub test : (name : List ℕ) (e : Ending) → c.test_map ≡ Some name
+      → NamedMapRefused TestMap (map_mode c.options) (files name) e → ⊥
+
+-- what the failure of a call shows of the files, where it comes once the output is open: no map that options name is refused;
+-- the output is a regular file or absent, or something else is allowed
+pub record OutputPasses (c : Command) (s : Setting) (files : List ℕ → Option File) : Type 0 where
+  pub maps : MapsPass c files
   pub regular : s.forced ≡ false → is_other (files s.outfile) ≡ false
 
 -- and where it comes once the mapfile is read, too: nor is the mapfile refused, if there is one
-pub record MapfilePasses (s : Setting) (files : List ℕ → Option File) : Type 0 where
-  pub output : OutputPasses s files
+pub record MapfilePasses (c : Command) (s : Setting) (files : List ℕ → Option File) : Type 0 where
+  pub output : OutputPasses c s files
   pub accepted : (e : Ending) → MapfileRefused (mapfile_in s files) e → ⊥
 
--- what the failure of a call shows of the files, by when such a call comes first: nothing at the open of the output,
--- something of the output up to the reads of the mapfile, and of both files behind them
-abbrev pub CallPasses : SiteCall → Setting → (files : List ℕ → Option File) → Type 0
-CallPasses ImageOpen s files = ⊤
-CallPasses ImageRead s files = MapfilePasses s files
-CallPasses ImageWrite s files = MapfilePasses s files
-CallPasses ImageSync s files = OutputPasses s files
-CallPasses MapRead s files = OutputPasses s files
-CallPasses DraftBegin s files = MapfilePasses s files
-CallPasses DraftAppend s files = MapfilePasses s files
-CallPasses DraftSync s files = MapfilePasses s files
-CallPasses DraftPublish s files = MapfilePasses s files
-CallPasses MapSettle s files = OutputPasses s files
-CallPasses MapRemove s files = MapfilePasses s files
+-- a read of a map may fail before the output is open, if options name maps
+abbrev pub UnlessMaps : (names_maps : Bool) → Type 0 → Type 0
+UnlessMaps true P = ⊤
+UnlessMaps false P = P
+
+-- what the failure of a call shows of the files, by when such a call comes first: that no named map is refused at the open of the
+-- output, something of the output up to the reads of the mapfile, and of both files behind them
+abbrev pub CallPasses : SiteCall → Command → Setting → (files : List ℕ → Option File) → Type 0
+CallPasses ImageOpen c s files = MapsPass c files
+CallPasses ImageRead c s files = MapfilePasses c s files
+CallPasses ImageWrite c s files = MapfilePasses c s files
+CallPasses ImageSync c s files = OutputPasses c s files
+CallPasses MapRead c s files = UnlessMaps (names_maps c) (OutputPasses c s files)
+CallPasses DraftBegin c s files = MapfilePasses c s files
+CallPasses DraftAppend c s files = MapfilePasses c s files
+CallPasses DraftSync c s files = MapfilePasses c s files
+CallPasses DraftPublish c s files = MapfilePasses c s files
+CallPasses MapSettle c s files = OutputPasses c s files
+CallPasses MapRemove c s files = MapfilePasses c s files
 
 -- every file reads as it did
 abbrev pub AllStand : (files files' : List ℕ → Option File) → Type 0
@@ -86,81 +113,103 @@ pub record OutputMade (outfile : List ℕ) (files files' : List ℕ → Option F
   pub output : files' outfile ≡ made_of (files outfile)
   pub others : (name : List ℕ) → name ≢ outfile → files' name ≡ files name
 
+-- the same, or every file reads as it did, if options name maps
+abbrev pub OutputMayBeMade : (names_maps : Bool) → (outfile : List ℕ) → (files files' : List ℕ → Option File) → Type 0
+OutputMayBeMade true outfile files files' = AllStand files files' ⊎ OutputMade outfile files files'
+OutputMayBeMade false outfile files files' = OutputMade outfile files files'
+
 -- what a failed call leaves; of one that may come behind a read nothing is said here
-abbrev pub CallLeaves : SiteCall → (outfile : List ℕ) → (files files' : List ℕ → Option File) → Type 0
-CallLeaves ImageOpen outfile files files' = AllStand files files'
-CallLeaves ImageRead outfile files files' = ⊤
-CallLeaves ImageWrite outfile files files' = ⊤
-CallLeaves ImageSync outfile files files' = ⊤
-CallLeaves MapRead outfile files files' = OutputMade outfile files files'
-CallLeaves DraftBegin outfile files files' = ⊤
-CallLeaves DraftAppend outfile files files' = ⊤
-CallLeaves DraftSync outfile files files' = ⊤
-CallLeaves DraftPublish outfile files files' = ⊤
-CallLeaves MapSettle outfile files files' = ⊤
-CallLeaves MapRemove outfile files files' = ⊤
+abbrev pub CallLeaves : SiteCall → (names_maps : Bool) → (outfile : List ℕ) → (files files' : List ℕ → Option File) → Type 0
+CallLeaves ImageOpen maps outfile files files' = AllStand files files'
+CallLeaves ImageRead maps outfile files files' = ⊤
+CallLeaves ImageWrite maps outfile files files' = ⊤
+CallLeaves ImageSync maps outfile files files' = ⊤
+CallLeaves MapRead maps outfile files files' = OutputMayBeMade maps outfile files files'
+CallLeaves DraftBegin maps outfile files files' = ⊤
+CallLeaves DraftAppend maps outfile files files' = ⊤
+CallLeaves DraftSync maps outfile files files' = ⊤
+CallLeaves DraftPublish maps outfile files files' = ⊤
+CallLeaves MapSettle maps outfile files files' = ⊤
+CallLeaves MapRemove maps outfile files files' = ⊤
+
+-- what the refusal of a map leaves: every file, if an option names that map; for the mapfile an absent output was made
+abbrev pub RefusalLeaves : Which → (outfile : List ℕ) → (files files' : List ℕ → Option File) → Type 0
+RefusalLeaves DomainMap outfile files files' = AllStand files files'
+RefusalLeaves TestMap outfile files files' = AllStand files files'
+RefusalLeaves RunMap outfile files files' = OutputMade outfile files files'
 
 -- what an answer before the first read leaves of the files as they read; of others nothing is said here
-abbrev pub IsLeft : Ending → (outfile : List ℕ) → (files files' : List ℕ → Option File) → Type 0
-IsLeft Done outfile files files' = ⊤
-IsLeft (Usage (Word fault)) outfile files files' = AllStand files files'
-IsLeft (Usage (BadValue n)) outfile files files' = AllStand files files'
-IsLeft (Usage (Operands given)) outfile files files' = AllStand files files'
-IsLeft (Usage PlaceTooLarge) outfile files files' = OutputMade outfile files files'
-IsLeft (SameName first second) outfile files files' = AllStand files files'
-IsLeft SourceFault outfile files files' = AllStand files files'
-IsLeft NotRegular outfile files files' = AllStand files files'
-IsLeft (MapRefused which error) outfile files files' = OutputMade outfile files files'
-IsLeft SourceLost outfile files files' = ⊤
-IsLeft (SiteFault call earlier) outfile files files' = CallLeaves call outfile files files'
-IsLeft NoMemory outfile files files' = ⊤
+abbrev pub IsLeft : Ending → (names_maps : Bool) → (outfile : List ℕ) → (files files' : List ℕ → Option File) → Type 0
+IsLeft Done maps outfile files files' = ⊤
+IsLeft (Usage (Word fault)) maps outfile files files' = AllStand files files'
+IsLeft (Usage (BadValue n)) maps outfile files files' = AllStand files files'
+IsLeft (Usage (Operands given)) maps outfile files files' = AllStand files files'
+IsLeft (Usage PlaceTooLarge) maps outfile files files' = OutputMade outfile files files'
+IsLeft (SameName first second) maps outfile files files' = AllStand files files'
+IsLeft (NoMap which) maps outfile files files' = AllStand files files'
+IsLeft SourceFault maps outfile files files' = AllStand files files'
+IsLeft NotRegular maps outfile files files' = AllStand files files'
+IsLeft (MapRefused which error) maps outfile files files' = RefusalLeaves which outfile files files'
+IsLeft SourceLost maps outfile files files' = ⊤
+IsLeft (SiteFault call earlier) maps outfile files files' = CallLeaves call maps outfile files files'
+IsLeft NoMemory maps outfile files files' = ⊤
+
+-- the map that an option names for this is refused, with this answer
+abbrev pub IsRefusedAs : Which → Command → Setting → (files : List ℕ → Option File) → Ending → Type 0
+IsRefusedAs DomainMap c s files e =
+    (name : List ℕ) × (c.domain_map ≡ Some name) × NamedMapRefused DomainMap (map_mode c.options) (files name) e
+IsRefusedAs TestMap c s files e =
+    ((n : List ℕ) (v : Ending) → c.domain_map ≡ Some n → NamedMapRefused DomainMap (map_mode c.options) (files n) v → ⊥)
+    × (name : List ℕ) × (c.test_map ≡ Some name) × NamedMapRefused TestMap (map_mode c.options) (files name) e
+IsRefusedAs RunMap c s files e = OutputPasses c s files × MapfileRefused (mapfile_in s files) e
 
 -- what an answer says of the files
-abbrev pub FilesAllow : Ending → Setting → (files : List ℕ → Option File) → Type 0
-FilesAllow Done s files = MapfilePasses s files
-FilesAllow (Usage (Word fault)) s files = ⊤
-FilesAllow (Usage (BadValue n)) s files = ⊤
-FilesAllow (Usage (Operands given)) s files = ⊤
-FilesAllow (Usage PlaceTooLarge) s files = MapfilePasses s files
-FilesAllow (SameName first second) s files = ⊤
-FilesAllow SourceFault s files = ⊤
-FilesAllow NotRegular s files = OutputRefused s.forced (files s.outfile) NotRegular
-FilesAllow (MapRefused which error) s files =
-    OutputPasses s files × MapfileRefused (mapfile_in s files) (MapRefused which error)
-FilesAllow SourceLost s files = MapfilePasses s files
-FilesAllow (SiteFault call earlier) s files = CallPasses call s files
-FilesAllow NoMemory s files = ⊤
+abbrev pub FilesAllow : Ending → Command → Setting → (files : List ℕ → Option File) → Type 0
+FilesAllow Done c s files = MapfilePasses c s files
+FilesAllow (Usage (Word fault)) c s files = ⊤
+FilesAllow (Usage (BadValue n)) c s files = ⊤
+FilesAllow (Usage (Operands given)) c s files = ⊤
+FilesAllow (Usage PlaceTooLarge) c s files = MapfilePasses c s files
+FilesAllow (SameName first second) c s files = ⊤
+FilesAllow (NoMap which) c s files = IsRefusedAs which c s files (NoMap which)
+FilesAllow SourceFault c s files = MapsPass c files
+FilesAllow NotRegular c s files = MapsPass c files × OutputRefused s.forced (files s.outfile) NotRegular
+FilesAllow (MapRefused which error) c s files = IsRefusedAs which c s files (MapRefused which error)
+FilesAllow SourceLost c s files = MapfilePasses c s files
+FilesAllow (SiteFault call earlier) c s files = CallPasses call c s files
+FilesAllow NoMemory c s files = ⊤
 
--- each position of the domain has a place in the output
-abbrev pub ArePlaced : Setting → Type 0
-ArePlaced s = (e : Ending) → PlacesRefused s e → ⊥
+-- each position that is asked for has a place in the output
+abbrev pub ArePlaced : Options → (end : ℕ) → Type 0
+ArePlaced o end = (e : Ending) → PlacesRefused o end e → ⊥
 
 -- what the failure of a call shows of these places: each has been looked at before the first read and write, and before
 -- the first draft
-abbrev pub CallPlaced : SiteCall → Setting → Type 0
-CallPlaced ImageOpen s = ⊤
-CallPlaced ImageRead s = ArePlaced s
-CallPlaced ImageWrite s = ArePlaced s
-CallPlaced ImageSync s = ⊤
-CallPlaced MapRead s = ⊤
-CallPlaced DraftBegin s = ArePlaced s
-CallPlaced DraftAppend s = ArePlaced s
-CallPlaced DraftSync s = ArePlaced s
-CallPlaced DraftPublish s = ArePlaced s
-CallPlaced MapSettle s = ⊤
-CallPlaced MapRemove s = ArePlaced s
+abbrev pub CallPlaced : SiteCall → Options → (end : ℕ) → Type 0
+CallPlaced ImageOpen o end = ⊤
+CallPlaced ImageRead o end = ArePlaced o end
+CallPlaced ImageWrite o end = ArePlaced o end
+CallPlaced ImageSync o end = ⊤
+CallPlaced MapRead o end = ⊤
+CallPlaced DraftBegin o end = ArePlaced o end
+CallPlaced DraftAppend o end = ArePlaced o end
+CallPlaced DraftSync o end = ArePlaced o end
+CallPlaced DraftPublish o end = ArePlaced o end
+CallPlaced MapSettle o end = ⊤
+CallPlaced MapRemove o end = ArePlaced o end
 
 -- what an answer says of these places
-abbrev pub PlacesAllow : Ending → Setting → Type 0
-PlacesAllow Done s = ArePlaced s
-PlacesAllow (Usage (Word fault)) s = ⊤
-PlacesAllow (Usage (BadValue n)) s = ⊤
-PlacesAllow (Usage (Operands given)) s = ⊤
-PlacesAllow (Usage PlaceTooLarge) s = PlacesRefused s (Usage PlaceTooLarge)
-PlacesAllow (SameName first second) s = ⊤
-PlacesAllow SourceFault s = ⊤
-PlacesAllow NotRegular s = ⊤
-PlacesAllow (MapRefused which error) s = ⊤
-PlacesAllow SourceLost s = ArePlaced s
-PlacesAllow (SiteFault call earlier) s = CallPlaced call s
-PlacesAllow NoMemory s = ⊤
+abbrev pub PlacesAllow : Ending → Options → (end : ℕ) → Type 0
+PlacesAllow Done o end = ArePlaced o end
+PlacesAllow (Usage (Word fault)) o end = ⊤
+PlacesAllow (Usage (BadValue n)) o end = ⊤
+PlacesAllow (Usage (Operands given)) o end = ⊤
+PlacesAllow (Usage PlaceTooLarge) o end = PlacesRefused o end (Usage PlaceTooLarge)
+PlacesAllow (SameName first second) o end = ⊤
+PlacesAllow (NoMap which) o end = ⊤
+PlacesAllow SourceFault o end = ⊤
+PlacesAllow NotRegular o end = ⊤
+PlacesAllow (MapRefused which error) o end = ⊤
+PlacesAllow SourceLost o end = ArePlaced o end
+PlacesAllow (SiteFault call earlier) o end = CallPlaced call o end
+PlacesAllow NoMemory o end = ⊤

@@ -1,7 +1,8 @@
 -- What a command asks for of an input.
-use Rattle.std.specs.Prelude.{◌≡◌, ℕ, ◌+◌, ◌-◌, ◌^◌, ◌<◌, ◌≤◌, true, not, List, Option, None, is_some, unwrap_or, option_map}
+use Rattle.std.specs.Prelude.{◌≡◌, ℕ, ◌+◌, ◌-◌, ◌^◌, ◌<◌, ◌≤◌, Bool, true, not, List, Option, Some, None, is_some, unwrap_or, option_map}
 use Rattle.save_resume.specs.MapNames.{MapNames, names_of}
-use Rattle.rescue_domain.specs.Domain.{whole_domain}
+use Rattle.block_list.specs.declared.status.Status.{Status}
+use Rattle.rescue_domain.specs.Domain.{whole_domain, finished_in, listed_in}
 use Rattle.rescue_rules.specs.Setting.{Setting}
 use Rattle.rescue_core.specs.RunState.{names_in}
 use Rattle.rescue_command.specs.declared.options.Options.{Options}
@@ -24,10 +25,31 @@ ArePlacedBy o end = (x : ℕ) → whole_domain o.input_position o.size end x ≡
 abbrev pub IsBeyond : Options → (end : ℕ) → Type 0
 IsBeyond o end = (x : ℕ) × (whole_domain o.input_position o.size end x ≡ true) × (2 ^ 63 ≤ place_by o x + 1)
 
--- What files with these names, this command line and these options ask for of an input with this length: each position
--- of the input from the input position on, and no more than the size.
-abbrev pub setting_asked : (infile outfile : List ℕ) → Option MapNames → (line : List ℕ) → Options → (end : ℕ) → Setting
-setting_asked infile outfile names line o end = record {
+-- What maps say of the positions that are to be rescued: the statuses of the domain map and of the test map, if they are
+-- named; and, if the positions that the mapfile lists are to be rescued alone, where these begin and end.
+pub record Maps : Type 0 where
+  pub domain : Option (List Status)
+  pub test : Option (List Status)
+  pub listed : Option (ℕ × ℕ)
+
+-- those of the positions that are finished in a map, if there is one
+abbrev pub in_map : (ℕ → Bool) → Option (List Status) → ℕ → Bool
+in_map domain None = domain
+in_map domain (Some map) = finished_in domain map
+
+-- those from one position on, below another, if they are given
+abbrev pub in_list : (ℕ → Bool) → Option (ℕ × ℕ) → ℕ → Bool
+in_list domain None = domain
+in_list domain (Some k) = listed_in domain k.0 k.1
+
+-- The domain that options and maps ask for of an input with this length: each position of the input from the input position
+-- on, and no more than the size; of these what is finished in the domain map, and what the mapfile lists.
+abbrev pub domain_asked : Options → (end : ℕ) → Maps → ℕ → Bool
+domain_asked o end maps = in_list (in_map (whole_domain o.input_position o.size end) maps.domain) maps.listed
+
+-- what files with these names, this command line, these options and these maps ask for of an input with this length
+abbrev pub setting_asked : (infile outfile : List ℕ) → Option MapNames → (line : List ℕ) → Options → (end : ℕ) → Maps → Setting
+setting_asked infile outfile names line o end maps = record {
   infile = infile;
   outfile = outfile;
   forced = o.forced;
@@ -35,7 +57,7 @@ setting_asked infile outfile names line o end = record {
   names = names_in names;
   line = line;
   end = end;
-  domain = whole_domain o.input_position o.size end;
+  domain = domain_asked o end maps;
   from = o.input_position;
   to = output_from o;
   again = o.try_again;
@@ -58,5 +80,5 @@ setting_asked infile outfile names line o end = record {
 abbrev pub names_by : Command → Option MapNames
 names_by c = option_map names_of c.mapfile
 
-abbrev pub setting_of : Command → (line : List ℕ) → (end : ℕ) → Setting
-setting_of c line end = setting_asked c.infile c.outfile (names_by c) line c.options end
+abbrev pub setting_of : Command → (line : List ℕ) → (end : ℕ) → Maps → Setting
+setting_of c line end maps = setting_asked c.infile c.outfile (names_by c) line c.options end maps

@@ -1,6 +1,6 @@
 -- The promise of `ddrescue`, field by field. What an object tells is its own: the forms in memory tell all, those for
 -- real files their counts and what is open.
-use Rattle.std.specs.Prelude.{◌≡◌, ◌≢◌, ◌⊎◌, ◌++◌, true, IsTrue}
+use Rattle.std.specs.Prelude.{◌≡◌, ◌≢◌, ◌⊎◌, ◌++◌, true, IsTrue, length}
 use Rattle.faulty_source.specs.SourceState.{Keeps as SourceKeeps}
 use Rattle.crash_site.specs.SiteState.{files_in, Keeps as SiteKeeps}
 use Rattle.rescue_console.specs.ClockState.{Keeps as ClockKeeps}
@@ -11,16 +11,18 @@ use Rattle.rescue_rules.specs.Stops.{StopsSafely}
 use Rattle.ddrescue_cli.specs.declared.ending.Ending.TheVariants.{Done, NoMemory}
 use Rattle.rescue_command.specs.Command.{Command, Asks, AskQuiet}
 use Rattle.ddrescue_cli.specs.Messages.{message}
-use Rattle.ddrescue_cli.specs.Told.{Told, AllTell, what_was_done, calls_before, files_of, asked}
+use Rattle.ddrescue_cli.specs.Asked.{Maps}
+use Rattle.ddrescue_cli.specs.Maps.{AreAskedFor, AreMapsOf, names_maps}
+use Rattle.ddrescue_cli.specs.Told.{Told, AllTell, gained, what_was_done, calls_before, files_of, asked}
 use Rattle.ddrescue_cli.specs.Alone.{HasRead, PlacesAllow, FilesAllow, IsLeft}
 use Rattle.ddrescue_cli.specs.Work.{Works}
-use Rattle.ddrescue_cli.specs.Answers.{SaysOfWords, Causes, IsOpenedAs, OpensOnce, IsRefusedByPlan, drafting_left, IsUntouched}
+use Rattle.ddrescue_cli.specs.Answers.{SaysOfWords, Causes, FitsCommand, IsOpenedAs, OpensOnce, IsRefusedByPlan, drafting_left, IsUntouched}
 
 -- journal, record and readings have only gained at their ends
 pub record HasGained (t : Told) : Type 0 where
-  pub reads : t.source'.journal ≡ t.source.journal ++ (what_was_done t).reads
-  pub calls : t.site'.calls ≡ t.site.calls ++ (what_was_done t).calls
-  pub times : t.clock'.readings ≡ t.clock.readings ++ (what_was_done t).times
+  pub reads : t.source'.journal ≡ t.source.journal ++ gained t.source.journal t.source'.journal
+  pub calls : t.site'.calls ≡ t.site.calls ++ gained t.site.calls t.site'.calls
+  pub times : t.clock'.readings ≡ t.clock.readings ++ gained t.clock.readings t.clock'.readings
 
 -- What is said on the console: nothing of a finished rescue, nor where the words ask for that; else the message of the
 -- answer, or where the console failed a beginning of it, and it is one put. Where the words ask for that, a message
@@ -34,28 +36,36 @@ pub data Says (t : Told) : Type 0 where
 
 -- What `ddrescue` promises of a call whose words ask for this
 pub record Promise (c : Command) (t : Told) : Type 0 where
+  -- There are maps by which it goes: those that options name, and what the mapfile lists, where the words ask for them. Where the
+  -- files tell, these are what the files are.
+  pub maps : Maps
+  pub asked_maps : AreAskedFor c maps
+  pub are : IsTrue t.site.tells → AreMapsOf c (files_of t) maps
+  -- An answer that speaks of a map or a mapfile comes only where the words ask for it.
+  pub fits : FitsCommand t.answer c
   -- Where the input tells: what is opened is the infile.
-  pub input : IsTrue t.source.tells → IsOpenedAs t.answer c.infile t.source t.source'
+  pub input : IsTrue t.source.tells → IsOpenedAs t.answer (names_maps c) c.infile t.source t.source'
   -- Whether the input tells or not: it is opened once, and no other is.
-  pub opened : OpensOnce t.answer t.source t.source'
+  pub opened : OpensOnce t.answer (names_maps c) t.source t.source'
   -- Where the input fails by a plan: an infile that is refused is one whose own opening fails by that.
   pub refused : IsTrue t.source.is_planned → IsRefusedByPlan t.answer c.infile t.source.plan
   -- Where the input tells, whatever the files do: the reads are a run, which gave the input's own bytes, and there is
   -- none before a refusal;
-  pub read : IsTrue t.source.tells → HasRead (asked c t) t.answer t.source t.source'
+  pub read : IsTrue t.source.tells → HasRead (asked c maps t) maps.test t.answer t.source t.source'
   -- and each position has its place in the output, unless the answer says that one has none.
-  pub places : IsTrue t.source.tells → PlacesAllow t.answer (asked c t)
+  pub places : IsTrue t.source.tells → PlacesAllow t.answer c.options (length t.source.bytes)
   -- Where the files tell, whatever the input does: they are as the answer says;
-  pub files : IsTrue t.site.tells → FilesAllow t.answer (asked c t) (files_of t)
+  pub files : IsTrue t.site.tells → FilesAllow t.answer c (asked c maps t) (files_of t)
   -- and what an answer before the first read leaves: every file as it was, but that an absent output was made.
-  pub left : IsTrue t.site.tells → IsLeft t.answer c.outfile (files_of t) (files_in t.site')
+  pub left : IsTrue t.site.tells → IsLeft t.answer (names_maps c) c.outfile (files_of t) (files_in t.site')
   -- Where all tell: the answer is the first refusal of the work, or how its run ended; and the calls on the files, the
   -- reads and the readings of the clock are those of the work up to there.
-  pub work : AllTell t → Works c (asked c t) (files_of t) t.answer (what_was_done t)
+  pub work : AllTell t → Works c (asked c maps t) (files_of t) t.answer (what_was_done maps t)
   -- Where all tell: at whatever moment a rescue with a mapfile is stopped, what is found could be found before, until
   -- the barrier has returned; from then on the mapfile found is the one it began with or one that it saved, no older
   -- than the last save that had returned, and the output holds what that mapfile promises.
-  pub stops : AllTell t → (asked c t).has_mapfile ≡ true → StopsSafely (calls_before t) (asked c t) (what_was_done t)
+  pub stops : AllTell t → (asked c maps t).has_mapfile ≡ true
+      → StopsSafely (calls_before t) (asked c maps t) (what_was_done maps t)
 
 -- What `ddrescue` promises of a call, by all that is told of it
 pub record Ddrescue (t : Told) : Type 0 where

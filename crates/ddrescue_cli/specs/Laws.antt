@@ -15,63 +15,81 @@ use Rattle.rescue_rules.specs.Snapshots.{text_of, finished_snapshot}
 use Rattle.rescue_rules.specs.Work.{Gain, begins, events_in, mapfile_in}
 use Rattle.rescue_rules.specs.Stops.{has_barrier, IsKept}
 use Rattle.ddrescue_cli.specs.declared.ending.Ending.{Ending}
-use Rattle.ddrescue_cli.specs.declared.ending.Ending.TheVariants.{Done, Usage, SameName, SourceFault, NotRegular, MapRefused, SourceLost, SiteFault, NoMemory}
+use Rattle.ddrescue_cli.specs.declared.ending.Ending.TheVariants.{Done, Usage, SameName, NoMap, SourceFault, NotRegular, MapRefused, SourceLost, SiteFault, NoMemory}
 use Rattle.rescue_command.specs.Command.{Command, Asks}
 use Rattle.ddrescue_cli.specs.Names.{command_line}
+use Rattle.ddrescue_cli.specs.Asked.{Maps}
+use Rattle.ddrescue_cli.specs.Maps.{AreMapsOf}
 use Rattle.ddrescue_cli.specs.Told.{Told, AllTell, what_was_done, calls_before, files_of, asked}
 use Rattle.ddrescue_cli.specs.Work.{Works}
 use Rattle.ddrescue_cli.specs.Ddrescue.{Ddrescue}
 
+-- the maps of a promise, and the setting and the work by them
+abbrev pub maps_by : {t : Told} {c : Command} → Ddrescue t → Asks t.words c → Maps
+maps_by {t} {c} d asks = (d.asked_for c asks).maps
+
+abbrev pub setting : {t : Told} {c : Command} → Ddrescue t → Asks t.words c → Setting
+setting {t} {c} d asks = asked c (maps_by d asks) t
+
+abbrev pub done_by : {t : Told} {c : Command} → Ddrescue t → Asks t.words c → Gain
+done_by {t} {c} d asks = what_was_done (maps_by d asks) t
+
 -- Behind each answer that comes after the barrier, the files as they read keep the promise.
 abbrev pub HoldsAtEnd : Type 0
 HoldsAtEnd =
-    (t : Told) (c : Command) (began : List Status) (state : Option MapState) → Ddrescue t → Asks t.words c → AllTell t
-    → (asked c t).has_mapfile ≡ true → has_barrier (what_was_done t).calls ≡ true
-    → Stands (files_of t (asked c t).names.map) (length t.source.bytes) began state
-    → IsKept (calls_before t) (asked c t) (what_was_done t) began state (length (what_was_done t).calls)
+    (t : Told) (c : Command) (began : List Status) (state : Option MapState) (d : Ddrescue t) (asks : Asks t.words c)
+    → AllTell t → (setting d asks).has_mapfile ≡ true → has_barrier (done_by d asks).calls ≡ true
+    → Stands (files_of t (setting d asks).names.map) (length t.source.bytes) began state
+    → IsKept (calls_before t) (setting d asks) (done_by d asks) began state (length (done_by d asks).calls)
     (files_in t.site')
 
 -- the state that a rescue came to over a map, and the state that its mapfile showed
-abbrev pub comes_to : Command → Told → List Status → Option MapState → Machine
-comes_to c t statuses state =
-    state_after (asked c t) (begins (asked c t) statuses state (what_was_done t)) (events_in (what_was_done t))
+abbrev pub comes_to : Command → Maps → Told → List Status → Option MapState → Machine
+comes_to c maps t statuses state =
+    state_after (asked c maps t) (begins (asked c maps t) statuses state (what_was_done maps t)) (events_in (what_was_done maps t))
 
 -- What a rescue leaves that went on to its end, over the map that its mapfile stood for, or no mapfile:
-pub record IsFinished (c : Command) (t : Told) : Type 0 where
+pub record IsFinished (c : Command) (maps : Maps) (t : Told) : Type 0 where
   pub statuses : List Status
   pub state : Option MapState
-  pub stands : Stands (mapfile_in (asked c t) (files_of t)) (length t.source.bytes) statuses state
+  pub stands : Stands (mapfile_in (asked c maps t) (files_of t)) (length t.source.bytes) statuses state
   -- the reads are a run that left no request in any pass
-  pub run : IsRun (asked c t) (begins (asked c t) statuses state (what_was_done t)) (events_in (what_was_done t))
-  pub over : has_ended (asked c t) (comes_to c t statuses state) ≡ true
+  pub run : IsRun (asked c maps t) (begins (asked c maps t) statuses state (what_was_done maps t)) (events_in (what_was_done maps t))
+  pub over : has_ended (asked c maps t) (comes_to c maps t statuses state) ≡ true
   -- each position of the domain is left well: rescued, or not to be tried further, or tried in vain as often as was asked
-  pub well : EndsWell (asked c t) (begins (asked c t) statuses state (what_was_done t)) (events_in (what_was_done t))
+  pub well : EndsWell (asked c maps t) (begins (asked c maps t) statuses state (what_was_done maps t)) (events_in (what_was_done maps t))
   -- the mapfile, if there is one, is the map of all reads, and says that it is finished
-  pub mapfile : (asked c t).has_mapfile ≡ true → files_in t.site' (asked c t).names.map
+  pub mapfile : (asked c maps t).has_mapfile ≡ true → files_in t.site' (asked c maps t).names.map
       ≡ Some (record {
-        bytes = text_of (command_line t.words) (finished_snapshot (comes_to c t statuses state));
+        bytes = text_of (command_line t.words) (finished_snapshot (comes_to c maps t statuses state));
         regular = true;
       })
   -- and the output holds what that map promises
-  pub held : Held (asked c t) (what_was_done t).reads (bytes_of (files_of t c.outfile))
-      (comes_to c t statuses state).map
+  pub held : Held (asked c maps t) (what_was_done maps t).reads (bytes_of (files_of t c.outfile))
+      (comes_to c maps t statuses state).map
       (bytes_of (files_in t.site' c.outfile))
 
 -- A finished rescue leaves that.
 abbrev pub DoneIsSaved : Type 0
-DoneIsSaved = (t : Told) (c : Command) → Ddrescue t → Asks t.words c → AllTell t → t.answer ≡ Done → IsFinished c t
+DoneIsSaved = (t : Told) (c : Command) (d : Ddrescue t) (asks : Asks t.words c) → AllTell t → t.answer ≡ Done
+    → IsFinished c (maps_by d asks) t
 
 -- What the reads gave is the input's own, where the input tells. So what a saved map calls finished, and the reads
 -- gave, stands in the output as it stands in the input.
 abbrev pub GivenIsInput : Type 0
-GivenIsInput = (t : Told) (c : Command) (x b : ℕ) → Ddrescue t → Asks t.words c → IsTrue t.source.tells
-    → given c.options.sector (what_was_done t).reads x ≡ Some b → slice_get t.source.bytes x ≡ Some b
+GivenIsInput = (t : Told) (c : Command) (x b : ℕ) (d : Ddrescue t) (asks : Asks t.words c) → IsTrue t.source.tells
+    → given c.options.sector (done_by d asks).reads x ≡ Some b → slice_get t.source.bytes x ≡ Some b
+
+-- There are such maps for any files: those that the files say.
+abbrev pub MapsAreThere : Type 0
+MapsAreThere = (c : Command) (files : List ℕ → Option File) → (maps : Maps) × AreMapsOf c files maps
 
 -- an answer that a command, an input's length and files bring, whatever the calls and memory do
 abbrev pub IsVerdict : Ending → Type 0
 IsVerdict Done = ⊤
 IsVerdict (Usage fault) = ⊤
 IsVerdict (SameName first second) = ⊤
+IsVerdict (NoMap which) = ⊤
 IsVerdict SourceFault = ⊥
 IsVerdict NotRegular = ⊤
 IsVerdict (MapRefused which error) = ⊤

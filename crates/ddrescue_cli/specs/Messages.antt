@@ -12,9 +12,9 @@ use Rattle.option_words.specs.declared.fault.UsageFault.TheVariants.{Word, BadVa
 use Rattle.rescue_rules.specs.declared.stop.Stop.{Stop}
 use Rattle.rescue_rules.specs.declared.stop.Stop.TheVariants.{SourceLost as InputLost, Site, NoMemory as NoRoom}
 use Rattle.ddrescue_cli.specs.declared.ending.Which.{Which}
-use Rattle.ddrescue_cli.specs.declared.ending.Which.TheVariants.{RunMap}
+use Rattle.ddrescue_cli.specs.declared.ending.Which.TheVariants.{DomainMap, TestMap, RunMap}
 use Rattle.ddrescue_cli.specs.declared.ending.Ending.{Ending}
-use Rattle.ddrescue_cli.specs.declared.ending.Ending.TheVariants.{Done, Usage, SameName, SourceFault, NotRegular, MapRefused, SourceLost, SiteFault, NoMemory}
+use Rattle.ddrescue_cli.specs.declared.ending.Ending.TheVariants.{Done, Usage, SameName, NoMap, SourceFault, NotRegular, MapRefused, SourceLost, SiteFault, NoMemory}
 
 -- a number behind a word, and what is said of it
 abbrev pub numbered_text : List ℕ → ℕ → List ℕ → List ℕ
@@ -41,7 +41,9 @@ usage_text (Operands given) = numbered_text (codes "operands given: ") given []
 usage_text PlaceTooLarge = codes "output place too large"
 
 abbrev pub which_text : Which → List ℕ
-which_text RunMap = codes "mapfile: "
+which_text DomainMap = codes "domain mapfile"
+which_text TestMap = codes "test mapfile"
+which_text RunMap = codes "mapfile"
 
 abbrev pub error_text : MapError → List ℕ
 error_text NoStatusLine = codes "no status line"
@@ -54,7 +56,7 @@ error_text TooLong = codes "text too long"
 error_text MapNoMemory = codes "out of memory"
 
 abbrev pub map_error_text : Which → MapError → List ℕ
-map_error_text which error = which_text which ++ error_text error
+map_error_text which error = which_text which ++ codes ": " ++ error_text error
 
 abbrev pub call_text : SiteCall → List ℕ
 call_text ImageOpen = codes "image open"
@@ -87,6 +89,7 @@ abbrev pub text_of_ending : Ending → List ℕ
 text_of_ending Done = []
 text_of_ending (Usage fault) = usage_text fault
 text_of_ending (SameName first second) = codes "two files have one name"
+text_of_ending (NoMap which) = which_text which ++ codes " does not exist"
 text_of_ending SourceFault = codes "cannot open input"
 text_of_ending NotRegular = codes "output is not a regular file, use --force"
 text_of_ending (MapRefused which error) = map_error_text which error

@@ -1,14 +1,17 @@
 -- What the steps of a rescue did, by what the objects tell.
-use Rattle.std.specs.Prelude.{◌≡◌, ◌≢◌, ◌⊎◌, ℕ, ◌<◌, ◌≤◌, ◌^◌, Bool, true, false, IsTrue, List, [], ◌∷◌, ◌++◌, length, Option, Some, None, Result, Ok, Err, IfSome}
+use Rattle.std.specs.Prelude.{◌≡◌, ◌≢◌, ◌⊎◌, ℕ, ◌<◌, ◌≤◌, ◌^◌, Bool, true, false, IsTrue, List, [], ◌∷◌, ◌++◌, length, map, Option, Some, None, Result, Ok, Err, IfSome, if◌then◌else◌}
 use Rattle.fault_count.specs.Counts.{Rose}
 use Rattle.block_list.specs.declared.status.Status.{Status}
 use Rattle.mapfile_text.specs.declared.state.MapState.{MapState}
+use Rattle.block_list.specs.Tiled.{Tiled}
+use Rattle.mapfile_text.specs.declared.read.Mode.{Mode}
 use Rattle.mapfile_text.specs.declared.read.MapError.{MapError}
 use Rattle.mapfile_text.specs.declared.read.MapError.TheVariants.{NoStatusLine, NoMemory as OutOfMemory}
+use Rattle.faulty_source.specs.Journal.{Reading}
 use Rattle.crash_site.specs.declared.site.SiteCall.{SiteCall}
 use Rattle.crash_site.specs.declared.site.SiteCall.TheVariants.{ImageOpen, ImageSync, MapRead, MapSettle}
 use Rattle.crash_site.specs.Files.{File}
-use Rattle.crash_site.specs.Calls.{Call, Entry, Made, BrokeAt, image_open}
+use Rattle.crash_site.specs.Calls.{Call, Entry, Done as Returned, Made, BrokeAt, image_open}
 use Rattle.crash_site.specs.SiteState.{SiteState, files_in, Makes, Breaks}
 use Rattle.save_resume.specs.MapNames.{MapNames}
 use Rattle.save_resume.specs.Loading.{BeginsLoad, IsLoad}
@@ -19,14 +22,19 @@ use Rattle.ddrescue_cli.specs.declared.load.Start.{Start}
 use Rattle.rescue_rules.specs.declared.stop.Stop.{Stop}
 use Rattle.rescue_rules.specs.declared.stop.RunEnd.{RunEnd}
 use Rattle.rescue_rules.specs.Laws.{AreTimes}
-use Rattle.rescue_rules.specs.Work.{Gain, IsNothing}
+use Rattle.rescue_rules.specs.Work.{Gain, IsNothing, AreMapReads}
 use Rattle.copy_passes.specs.Turns.{Across}
 use Rattle.ddrescue_cli.specs.declared.ending.Ending.{Ending}
-use Rattle.ddrescue_cli.specs.declared.ending.Ending.TheVariants.{NotRegular, MapRefused, SiteFault, NoMemory}
+use Rattle.ddrescue_cli.specs.declared.ending.Ending.TheVariants.{NoMap, NotRegular, MapRefused, SiteFault, NoMemory}
 use Rattle.ddrescue_cli.specs.declared.ending.Which.TheVariants.{RunMap}
-use Rattle.ddrescue_cli.specs.Refusals.{is_other, MapfileRefused}
-use Rattle.ddrescue_cli.specs.Alone.{HasRead, PlacesAllow, FilesAllow, IsLeft}
-use Rattle.ddrescue_cli.specs.Work.{answer_of, RunsOver, WorksOn}
+use Rattle.rescue_command.specs.declared.options.Options.{Options}
+use Rattle.rescue_command.specs.Command.{Command}
+use Rattle.ddrescue_cli.specs.declared.ending.Which.{Which}
+use Rattle.ddrescue_cli.specs.Asked.{Maps, setting_of}
+use Rattle.ddrescue_cli.specs.Maps.{AreAskedFor, AreMapsOf, IsMapOf, Lists, mapfile_of, names_maps, seen_through}
+use Rattle.ddrescue_cli.specs.Refusals.{is_other, NamedMapRefused, MapfileRefused}
+use Rattle.ddrescue_cli.specs.Alone.{HasRead, MapsPass, PlacesAllow, FilesAllow, IsLeft}
+use Rattle.ddrescue_cli.specs.Work.{HasOnlyCalls, answer_of, RunsOver, WorksOn, WorksBehindWords}
 
 -- how a rescue ends whose parts returned this
 abbrev pub ending_of : Result Ending Ending → Ending
@@ -48,13 +56,13 @@ OutputStop e out forced old new =
     ⊎ ((e ≡ SiteFault ImageOpen None) × Breaks ImageOpen (image_open out true ∷ []) old new)
 
 -- a load behind the barrier went on to its end: the mapfile isn't refused, and stands for this map
-pub record Started (names : MapNames) (file : Option File) (end : ℕ) (map : List Status) (state : Option MapState)
-    (calls calls' : List Entry) : Type 0 where
+pub record Started (names : MapNames) (file : Option File) (end : ℕ) (start : Start) (calls calls' : List Entry) : Type 0 where
   pub load : List Call
   pub is_load : IsLoad names.map file load
   pub made : Made (barrier_calls names ++ load) calls calls'
   pub accepted : (e : Ending) → MapfileRefused file e → ⊥
-  pub stands : Stands file end map state
+  pub stands : Stands file end start.tiles.statuses start.state
+  pub lists : Lists file start.first start.listed_end
 
 -- where a load stopped: in the barrier, in a read behind it, for want of memory, or since the mapfile is refused
 pub data LoadStopped (names : MapNames) (file : Option File) (e : Ending) (calls calls' : List Entry) : Type 0 where
@@ -71,10 +79,11 @@ pub data LoadStopped (names : MapNames) (file : Option File) (e : Ending) (calls
 -- take memory.
 abbrev pub Loaded : Option MapNames → (end : ℕ) → Result Start Ending → (old new : SiteState) → Type 0
 Loaded (Some names) end (Ok start) old new =
-    Started names (files_in old names.map) end start.tiles.statuses start.state old.calls new.calls
+    Started names (files_in old names.map) end start old.calls new.calls
 Loaded (Some names) end (Err e) old new = LoadStopped names (files_in old names.map) e old.calls new.calls
     × ((e ≢ SiteFault MapSettle None) → (e ≢ SiteFault ImageSync None) → files_in new ≡ files_in old)
-Loaded None end (Ok start) old new = (new ≡ old) × IsFresh end start.tiles.statuses start.state
+Loaded None end (Ok start) old new =
+    (new ≡ old) × IsFresh end start.tiles.statuses start.state × Lists None start.first start.listed_end
 Loaded None end (Err e) old new = (new ≡ old) × (e ≡ NoMemory)
 
 -- why a load stopped, by the count of failed calls
@@ -91,18 +100,20 @@ pub record TellAll (o : Across) : Type 0 where
   pub site : IsTrue o.site.tells
   pub clock : IsTrue o.clock'.tells
 
--- journal, record and readings gained this at their ends
-pub record Gains (o : Across) (g : Gain) : Type 0 where
-  pub reads : o.source'.journal ≡ o.source.journal ++ g.reads
+-- journal, record and readings gained this at their ends; the reads as they are seen
+pub record Gains (test : Option (List Status)) (o : Across) (g : Gain) : Type 0 where
+  pub raw : List Reading
+  pub reads : o.source'.journal ≡ o.source.journal ++ raw
+  pub seen_are : seen_through test raw ≡ g.reads
   pub calls : o.site'.calls ≡ o.site.calls ++ g.calls
   pub times : o.clock'.readings ≡ o.clock.readings ++ g.times
   pub fit : AreTimes g.times
 
 -- what a run did over a map that it began with, up to its end or to where it stopped
-pub record RanOn (s : Setting) (statuses : List Status) (state : Option MapState) (e : Ending)
+pub record RanOn (s : Setting) (test : Option (List Status)) (statuses : List Status) (state : Option MapState) (e : Ending)
     (o : Across) : Type 0 where
   pub gain : Gain
-  pub gains : Gains o gain
+  pub gains : Gains test o gain
   pub runs : RunsOver s statuses state e gain
 
 -- an answer that doesn't name a call of the opening that a save doesn't make
@@ -115,23 +126,113 @@ abbrev pub EndsRun : Ending → Type 0
 EndsRun e = (end : RunEnd) × (e ≡ answer_of end)
 
 -- the same by which objects tell; and how it ended, whether they do or not
-pub record Ran (s : Setting) (statuses : List Status) (state : Option MapState) (e : Ending) (o : Across) : Type 0 where
-  pub told : TellAll o → RanOn s statuses state e o
-  pub read : IsTrue o.source.tells → HasRead s e o.source o.source'
+pub record Ran (s : Setting) (test : Option (List Status)) (statuses : List Status) (state : Option MapState) (e : Ending)
+    (o : Across) : Type 0 where
+  pub told : TellAll o → RanOn s test statuses state e o
+  pub read : IsTrue o.source.tells → HasRead s test e o.source o.source'
   pub ends : EndsRun e
   pub late : IsLate e
 
+-- the read of a map that an option names went on to its end: it isn't refused, and has these statuses
+pub record IsRead (which : Which) (mode : Mode) (name : List ℕ) (file : Option File) (statuses : List Status)
+    (calls calls' : List Entry) : Type 0 where
+  pub load : List Call
+  pub is_load : IsLoad name file load
+  pub made : Made load calls calls'
+  pub accepted : (e : Ending) → NamedMapRefused which mode file e → ⊥
+  pub reads : IsMapOf file mode statuses
+
+-- where such a read stopped: in a call that failed, for want of memory, or since the map is absent or refused
+pub data ReadStopped (which : Which) (mode : Mode) (name : List ℕ) (file : Option File) (e : Ending)
+    (calls calls' : List Entry) : Type 0 where
+  Broke : (load : List Call) → e ≡ SiteFault MapRead None → BeginsLoad name file load → BrokeAt MapRead load calls calls'
+      → ReadStopped which mode name file e calls calls'
+  NoRoom : (load : List Call) → e ≡ NoMemory → BeginsLoad name file load → Made load calls calls'
+      → ReadStopped which mode name file e calls calls'
+  IsRefused : (load : List Call) → NamedMapRefused which mode file e → IsLoad name file load → Made load calls calls'
+      → ReadStopped which mode name file e calls calls'
+
+-- the statuses of tiles, if there are some
+abbrev pub statuses_in : Option Tiled → Option (List Status)
+statuses_in None = None
+statuses_in (Some tiles) = Some tiles.statuses
+
+-- What the read of a map did that an option may name, by its outcome: without a name nothing.
+abbrev pub ReadsMap : Which → Mode → Option (List ℕ) → Result (Option Tiled) Ending → (old new : SiteState) → Type 0
+ReadsMap which mode None (Ok tiles) old new = (new ≡ old) × (statuses_in tiles ≡ None)
+ReadsMap which mode None (Err e) old new = ⊥
+ReadsMap which mode (Some name) (Ok None) old new = ⊥
+ReadsMap which mode (Some name) (Ok (Some tiles)) old new =
+    IsTrue old.tells → IsRead which mode name (files_in old name) tiles.statuses old.calls new.calls
+ReadsMap which mode (Some name) (Err e) old new =
+    IsTrue old.tells → ReadStopped which mode name (files_in old name) e old.calls new.calls
+
+-- what maps and a mapfile that were read say of the positions that are to be rescued
+abbrev pub maps_read : Options → (domain test : Option Tiled) → Start → Maps
+maps_read o domain test start = record {
+  domain = statuses_in domain;
+  test = statuses_in test;
+  listed = if o.complete_only then Some (start.first, start.listed_end) else None;
+}
+
+-- why such a read stopped, by the count of failed calls
+abbrev pub MapCause : Which → Ending → (faults faults' : ℕ) → Type 0
+MapCause which e faults faults' =
+    ((e ≡ NoMemory) × (faults' ≡ faults))
+    ⊎ ((e ≡ NoMap which) × (faults' ≡ faults))
+    ⊎ ((error : MapError) × (e ≡ MapRefused which error) × (error ≢ OutOfMemory) × (faults' ≡ faults))
+    ⊎ ((e ≡ SiteFault MapRead None) × Rose faults faults')
+
+-- nothing was done but that maps were read, the last of which may have failed
+pub record IsOnlyMaps (g : Gain) : Type 0 where
+  pub maps : List Call
+  pub are : AreMapReads maps
+  pub calls : (g.calls ≡ map Returned maps) ⊎ BrokeAt MapRead maps [] g.calls
+  pub only : HasOnlyCalls g
+
 -- what the work behind the words did, up to its end or to where it stopped
-pub record WorkedOn (s : Setting) (files : List ℕ → Option File) (e : Ending) (o : Across) : Type 0 where
+pub record WorkedOn (c : Command) (s : Setting) (test : Option (List Status)) (files : List ℕ → Option File) (e : Ending)
+    (o : Across) : Type 0 where
   pub gain : Gain
-  pub gains : Gains o gain
-  pub works : WorksOn s files e gain
+  pub gains : Gains test o gain
+  pub works : WorksBehindWords c s files e gain
+  pub short : IsNothing gain ⊎ (s.end < 2 ^ 63) ⊎ IsOnlyMaps gain
+
+-- what the work behind the maps that options name did, up to its end or to where it stopped
+pub record OpenedOn (c : Command) (s : Setting) (test : Option (List Status)) (files : List ℕ → Option File) (e : Ending)
+    (o : Across) : Type 0 where
+  pub gain : Gain
+  pub gains : Gains test o gain
+  pub works : WorksOn c s files e gain
   pub short : IsNothing gain ⊎ (s.end < 2 ^ 63)
 
--- the same by which objects tell
-pub record Worked (s : Setting) (files : List ℕ → Option File) (e : Ending) (o : Across) : Type 0 where
-  pub told : TellAll o → WorkedOn s files e o
-  pub read : IsTrue o.source.tells → HasRead s e o.source o.source'
-  pub placed : IsTrue o.source.tells → PlacesAllow e s
-  pub allowed : IsTrue o.site.tells → FilesAllow e s files
-  pub left : IsTrue o.site.tells → IsLeft e s.outfile files (files_in o.site')
+-- what the mapfile lists, where that is asked for
+abbrev pub IsListing : Command → (List ℕ → Option File) → (listed : Option (ℕ × ℕ)) → Type 0
+IsListing c files listed =
+    (first end : ℕ) → c.options.complete_only ≡ true → Lists (mapfile_of c files) first end → listed ≡ Some (first, end)
+
+-- The same by which objects tell, with these statuses of the maps that options name. Nothing is said of these maps' files here.
+pub record Opened (c : Command) (line : List ℕ) (domain test : Option (List Status)) (end : ℕ) (files : List ℕ → Option File)
+    (e : Ending) (o : Across) : Type 0 where
+  pub listed : Option (ℕ × ℕ)
+  pub whole : c.options.complete_only ≡ false → listed ≡ None
+  pub are : IsTrue o.site.tells → IsListing c files listed
+  pub told : TellAll o
+      → OpenedOn c (setting_of c line end (record { domain = domain; test = test; listed = listed })) test files e o
+  pub read : IsTrue o.source.tells
+      → HasRead (setting_of c line end (record { domain = domain; test = test; listed = listed })) test e o.source o.source'
+  pub placed : IsTrue o.source.tells → PlacesAllow e c.options end
+  pub allowed : IsTrue o.site.tells → MapsPass c files
+      → FilesAllow e c (setting_of c line end (record { domain = domain; test = test; listed = listed })) files
+  pub left : IsTrue o.site.tells → IsLeft e false c.outfile files (files_in o.site')
+
+-- the same by which objects tell, and by some maps, which are what the files say where they tell
+pub record Worked (c : Command) (line : List ℕ) (end : ℕ) (files : List ℕ → Option File) (e : Ending) (o : Across) : Type 0 where
+  pub maps : Maps
+  pub asked_maps : AreAskedFor c maps
+  pub are : IsTrue o.site.tells → AreMapsOf c files maps
+  pub told : TellAll o → WorkedOn c (setting_of c line end maps) maps.test files e o
+  pub read : IsTrue o.source.tells → HasRead (setting_of c line end maps) maps.test e o.source o.source'
+  pub placed : IsTrue o.source.tells → PlacesAllow e c.options end
+  pub allowed : IsTrue o.site.tells → FilesAllow e c (setting_of c line end maps) files
+  pub left : IsTrue o.site.tells → IsLeft e (names_maps c) c.outfile files (files_in o.site')

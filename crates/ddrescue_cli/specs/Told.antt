@@ -11,7 +11,8 @@ use Rattle.rescue_rules.specs.Stops.{Behind}
 use Rattle.ddrescue_cli.specs.declared.ending.Ending.{Ending}
 use Rattle.rescue_command.specs.Command.{Command}
 use Rattle.ddrescue_cli.specs.Names.{command_line}
-use Rattle.ddrescue_cli.specs.Asked.{setting_of}
+use Rattle.ddrescue_cli.specs.Asked.{Maps, setting_of}
+use Rattle.ddrescue_cli.specs.Maps.{seen_through}
 
 -- the words, the answer, and what each object tells before the call and after it
 pub record Told : Type 0 where
@@ -36,11 +37,11 @@ pub record AllTell (t : Told) : Type 0 where
 abbrev pub gained : {A : Type 0} → List A → List A → List A
 gained before now = drop (length before) now
 
--- what was done: the calls on the files, the reads, and the readings of the clock
-abbrev pub what_was_done : Told → Gain
-what_was_done t = record {
+-- what was done: the calls on the files, the reads as they are seen by these maps, and the readings of the clock
+abbrev pub what_was_done : Maps → Told → Gain
+what_was_done maps t = record {
   calls = gained t.site.calls t.site'.calls;
-  reads = gained t.source.journal t.source'.journal;
+  reads = seen_through maps.test (gained t.source.journal t.source'.journal);
   times = gained t.clock.readings t.clock'.readings;
 }
 
@@ -52,6 +53,6 @@ calls_before t = record { start = t.site.start; earlier = t.site.calls }
 abbrev pub files_of : Told → List ℕ → Option File
 files_of t = files_in t.site
 
--- what a command asks for of the input
-abbrev pub asked : Command → Told → Setting
-asked c t = setting_of c (command_line t.words) (length t.source.bytes)
+-- what a command asks for of the input by maps
+abbrev pub asked : Command → Maps → Told → Setting
+asked c maps t = setting_of c (command_line t.words) (length t.source.bytes) maps

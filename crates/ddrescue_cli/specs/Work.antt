@@ -1,7 +1,8 @@
 -- The work of a rescue: its steps in order, what each does on the files, and where it refuses. It says which answers
 -- may be given, and which calls and reads were made by then.
-use Rattle.std.specs.Prelude.{◌≡◌, ◌⊎◌, ℕ, ◌≤◌, true, false, List, [], ◌∷◌, ◌++◌, length, map, Option, None}
+use Rattle.std.specs.Prelude.{◌≡◌, ◌⊎◌, ℕ, ◌≤◌, true, false, List, [], ◌∷◌, ◌++◌, length, map, Option, Some, None}
 use Rattle.block_list.specs.declared.status.Status.{Status}
+use Rattle.mapfile_text.specs.declared.read.Mode.{Mode}
 use Rattle.mapfile_text.specs.declared.state.MapState.{MapState}
 use Rattle.crash_site.specs.declared.site.SiteCall.{SiteCall}
 use Rattle.crash_site.specs.declared.site.SiteCall.TheVariants.{MapRead}
@@ -18,7 +19,10 @@ use Rattle.rescue_rules.specs.Work.{Gain, IsNothing, Runs, mapfile_in}
 use Rattle.ddrescue_cli.specs.declared.ending.Ending.{Ending}
 use Rattle.ddrescue_cli.specs.declared.ending.Ending.TheVariants.{Done, SourceLost, SiteFault, NoMemory}
 use Rattle.rescue_command.specs.Command.{Command}
-use Rattle.ddrescue_cli.specs.Refusals.{NamesRefused, InputRefused, OutputRefused, MapfileRefused, PlacesRefused}
+use Rattle.ddrescue_cli.specs.declared.ending.Which.{Which}
+use Rattle.ddrescue_cli.specs.declared.ending.Which.TheVariants.{DomainMap, TestMap}
+use Rattle.ddrescue_cli.specs.Maps.{map_mode}
+use Rattle.ddrescue_cli.specs.Refusals.{NamesRefused, NamedMapRefused, InputRefused, OutputRefused, MapfileRefused, PlacesRefused}
 
 -- Where there is a refusal it is the answer, or memory ran out; else the work goes on, unless memory ran out.
 abbrev pub OrElse : (Ending → Type 0) → (Ending → Gain → Type 0) → Ending → Gain → Type 0
@@ -79,22 +83,34 @@ ThenLoad s files Q e g =
     (ThenRead s.names.map (files s.names.map) (OrRefused (MapfileRefused (files s.names.map)) Q)) e g)
     ⊎ ((s.has_mapfile ≡ false) × OrMay (λ v. v ≡ NoMemory) Q e g)
 
+-- A map that an option names is read, if one is, and may be absent or refused; then the work goes on.
+abbrev pub ThenMap : Which → Mode → Option (List ℕ) → (List ℕ → Option File) → (Ending → Gain → Type 0) → Ending → Gain → Type 0
+ThenMap which mode None files Q = Q
+ThenMap which mode (Some name) files Q = ThenRead name (files name) (OrRefused (NamedMapRefused which mode (files name)) Q)
+
 -- the run over the map that the mapfile stands for, or no mapfile
 abbrev pub ThenRun : Setting → Option File → Ending → Gain → Type 0
 ThenRun s mapfile e g =
     (statuses : List Status) × (state : Option MapState) × Stands mapfile s.end statuses state
     × RunsOver s statuses state e g
 
--- the work behind the words, over files as they read before it
-abbrev pub WorksOn : Setting → (List ℕ → Option File) → Ending → Gain → Type 0
-WorksOn s files =
+-- the work behind the maps, over files as they read before it
+abbrev pub WorksOn : Command → Setting → (List ℕ → Option File) → Ending → Gain → Type 0
+WorksOn c s files =
     OrMay InputRefused
     (Then (image_open s.outfile true ∷ [])
     (OrRefused (OutputRefused s.forced (files s.outfile))
     (ThenLoad s files
-    (OrRefused (PlacesRefused s)
+    (OrRefused (PlacesRefused c.options s.end)
     (ThenRun s (mapfile_in s files))))))
 
--- the whole work for a command
+-- the work behind the words: the maps that options name come first
+abbrev pub WorksBehindWords : Command → Setting → (List ℕ → Option File) → Ending → Gain → Type 0
+WorksBehindWords c s files =
+    ThenMap DomainMap (map_mode c.options) c.domain_map files
+    (ThenMap TestMap (map_mode c.options) c.test_map files
+    (WorksOn c s files))
+
+-- the whole work for a command, by a setting that is made of it
 abbrev pub Works : Command → Setting → (List ℕ → Option File) → Ending → Gain → Type 0
-Works c s files = OrElse (NamesRefused c) (WorksOn s files)
+Works c s files = OrElse (NamesRefused c) (WorksBehindWords c s files)

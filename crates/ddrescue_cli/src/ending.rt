@@ -20,6 +20,10 @@ pub enum Operand {
 /// A mapfile that a rescue reads.
 #[derive(Clone, Copy, Debug, PartialEq, Eq)]
 pub enum Which {
+    /// The map whose finished positions are to be rescued.
+    DomainMap,
+    /// The map whose finished positions are all that the infile gives, in test mode.
+    TestMap,
     /// The mapfile that it is to go on with.
     RunMap,
 }
@@ -27,7 +31,7 @@ pub enum Which {
 /// How a call of `ddrescue` ended.
 #[derive(Clone, Copy, Debug, PartialEq, Eq)]
 pub enum Ending {
-    /// Everything that wasn't tried was asked for, and the map was saved.
+    /// Everything was tried as often as was asked, and the map was saved, or the outfile made durable where there is no mapfile.
     Done,
     /// The words ask for nothing that can be done.
     Usage(UsageFault),
@@ -36,11 +40,13 @@ pub enum Ending {
         first: Operand,
         second: Operand,
     },
+    /// A map that an option names isn't there.
+    NoMap(Which),
     /// The infile couldn't be opened.
     SourceFault,
     /// The outfile is no regular file, and it wasn't forced to be taken.
     NotRegular,
-    /// The mapfile's text is no map, or is too long.
+    /// A mapfile's text is no map, or is too long.
     MapRefused {
         which: Which,
         error: MapError,

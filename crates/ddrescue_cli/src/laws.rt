@@ -1,5 +1,5 @@
 //! What the definitions mean.
-ghost use Rattle.ddrescue_cli.specs.Laws.{DoneIsSaved, GivenIsInput, HasOneVerdict, HoldsAtEnd};
+ghost use Rattle.ddrescue_cli.specs.Laws.{DoneIsSaved, GivenIsInput, HasOneVerdict, HoldsAtEnd, MapsAreThere};
 
 /// Behind each answer that comes after the barrier, the files as they read keep the promise.
 pub fn files_hold_at_the_end()
@@ -19,4 +19,9 @@ pub fn given_is_the_inputs()
 /// Words and files have one verdict at most.
 pub fn words_and_files_have_one_verdict()
     ensures { HasOneVerdict }
+{}
+
+/// For any files there are maps as the files say.
+pub fn maps_are_there()
+    ensures { MapsAreThere }
 {}

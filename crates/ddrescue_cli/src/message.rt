@@ -1,7 +1,7 @@
 //! What is said of an answer on the console.
 ghost use Rattle.std.specs.Prelude.{◌≡◌, ◌+◌, ◌≤◌, ◌++◌, length};
 ghost use Rattle.arrayvec.specs.ArrayVec.{array_vec_len};
-ghost use Rattle.ddrescue_cli.specs.Messages.{numbered_text, word_fault_text, usage_text, map_error_text, call_text, fault_text, stop_text, behind_text, text_of_ending, message};
+ghost use Rattle.ddrescue_cli.specs.Messages.{numbered_text, word_fault_text, usage_text, which_text, error_text, map_error_text, call_text, fault_text, stop_text, behind_text, text_of_ending, message};
 
 use crate::ending::{Ending, Which};
 use arrayvec::ArrayVec;
@@ -11,7 +11,7 @@ use mapfile_text::read::MapError;
 use option_words::fault::{UsageFault, WordFault};
 use rescue_rules::stop::Stop;
 
-/// A message. None has more than 90 bytes.
+/// A message. None has more than 100 bytes.
 pub(crate) type Message = ArrayVec<u8, 128>;
 
 /// Adds a text for which there is room.
@@ -83,15 +83,25 @@ fn add_usage(message: &mut Message, fault: UsageFault)
     }
 }
 
-/// Adds why a mapfile is refused.
-fn add_map_error(message: &mut Message, which: Which, error: MapError)
+/// Adds which map it is.
+fn add_which(message: &mut Message, which: Which)
     requires { array_vec_len message.old ≤ 20 }
-    ensures text { message.new.items ≡ message.old.items ++ map_error_text which error }
-    ensures len { array_vec_len message.new ≤ 110 }
+    ensures text { message.new.items ≡ message.old.items ++ which_text which }
+    ensures len { array_vec_len message.new ≤ array_vec_len message.old + 14 }
 {
     match which {
-        Which::RunMap => add(message, "mapfile: "),
+        Which::DomainMap => add(message, "domain mapfile"),
+        Which::TestMap => add(message, "test mapfile"),
+        Which::RunMap => add(message, "mapfile"),
     }
+}
+
+/// Adds what is wrong with the text of a mapfile.
+fn add_error(message: &mut Message, error: MapError)
+    requires { array_vec_len message.old ≤ 40 }
+    ensures text { message.new.items ≡ message.old.items ++ error_text error }
+    ensures len { array_vec_len message.new ≤ 110 }
+{
     match error {
         MapError::NoStatusLine => add(message, "no status line"),
         MapError::BadStatusLine { line } => add_number(message, "line ", line, ": bad status line"),
@@ -102,6 +112,17 @@ fn add_map_error(message: &mut Message, which: Which, error: MapError)
         MapError::TooLong => add(message, "text too long"),
         MapError::NoMemory => add(message, "out of memory"),
     }
+}
+
+/// Adds why a mapfile is refused.
+fn add_map_error(message: &mut Message, which: Which, error: MapError)
+    requires { array_vec_len message.old ≤ 20 }
+    ensures text { message.new.items ≡ message.old.items ++ map_error_text which error }
+    ensures len { array_vec_len message.new ≤ 110 }
+{
+    add_which(message, which);
+    add(message, ": ");
+    add_error(message, error);
 }
 
 /// What a call on the files is called.
@@ -159,6 +180,10 @@ fn add_ending(message: &mut Message, ending: Ending)
         Ending::Done => {}
         Ending::Usage(fault) => add_usage(message, fault),
         Ending::SameName { .. } => add(message, "two files have one name"),
+        Ending::NoMap(which) => {
+            add_which(message, which);
+            add(message, " does not exist");
+        }
         Ending::SourceFault => add(message, "cannot open input"),
         Ending::NotRegular => add(message, "output is not a regular file, use --force"),
         Ending::MapRefused { which, error } => add_map_error(message, which, error),

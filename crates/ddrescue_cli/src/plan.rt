@@ -14,7 +14,6 @@ use block_list::tiles::NoMemory;
 use mapfile_text::heading::{Heading, Program};
 use option_words::words::Words;
 use rescue_command::command::Command;
-use rescue_command::options::Options;
 use save_resume::names::Names;
 use std::alloc::{AllocError, Global};
 
@@ -74,12 +73,10 @@ fn make_names(alloc: Global, mapfile: Option<&str>) -> Result<Option<Names>, NoM
 /// What a rescue needs before it opens a file.
 #[derive(Drop)]
 pub(crate) struct Plan<'a> {
-    pub infile: &'a str,
-    pub outfile: &'a str,
+    pub command: Command<'a>,
     /// The names of the mapfile and its draft, if there is one.
     pub names: Option<Names>,
     pub heading: Heading,
-    pub options: Options,
 }
 
 /// Refuses two files of one name, and takes the memory that the saves want for names and heading.
@@ -88,35 +85,25 @@ pub(crate) fn make_plan<'a>(
     words: &Words,
     command: Command<'a>,
 ) -> Result<Plan<'a>, Ending>
-    ensures infile { IfOk result (λ p. p.infile.now ≡ (told_by command.entry).infile) }
-    ensures outfile { IfOk result (λ p. p.outfile.now ≡ (told_by command.entry).outfile) }
+    ensures command { IfOk result (λ p. told_by p.command ≡ told_by command.entry) }
     ensures names { IfOk result (λ p. p.names ≡ names_by (told_by command.entry)) }
     ensures heading { IfOk result (λ p. p.heading ≡ heading_at (command_line words.now) 0 0) }
-    ensures options { IfOk result (λ p. p.options ≡ command.entry.options) }
     ensures different { OnOk result (first_same (told_by command.entry).infile (told_by command.entry).outfile
         (names_by (told_by command.entry)) ≡ None) }
     ensures refused { IfErr result (λ e. NamesRefused (told_by command.entry) e ⊎ (e ≡ OutOfMemory)) }
 {
-    let Command {
-        infile,
-        outfile,
-        mapfile,
-        options,
-    } = command;
-    let Ok(names) = make_names(alloc, mapfile) else {
+    let Ok(names) = make_names(alloc, command.mapfile) else {
         return Err(Ending::NoMemory);
     };
-    if let Some((first, second)) = find_same(infile, outfile, &names) {
+    if let Some((first, second)) = find_same(command.infile, command.outfile, &names) {
         return Err(Ending::SameName { first, second });
     }
     let Ok(heading) = make_heading(alloc, words) else {
         return Err(Ending::NoMemory);
     };
     Ok(Plan {
-        infile,
-        outfile,
+        command,
         names,
         heading,
-        options,
     })
 }

@@ -22,11 +22,22 @@ returns-in-Err-clause-promise g c = λ now says.
 
 pub returns-in-Ok-rescue-clause-promise : goal.returns-in-Ok-rescue-clause-promise
 returns-in-Ok-rescue-clause-promise g c = λ now says.
-    work_kept _ (told_by c.in-Ok.command) _ _ _ _ _ c.in-Ok.ensures.asked c.in-Ok-make_plan.ensures.infile c.in-Ok-make_plan.ensures.outfile
-    c.in-Ok-make_plan.ensures.names (ap (λ (h : HeadingLines). h.line) c.in-Ok-make_plan.ensures.heading) c.in-Ok-make_plan.ensures.options
-    c.in-Ok-make_plan.ensures.different c.in-Ok-rescue.ensures.words c.in-Ok-rescue.ensures.cause c.in-Ok-rescue.ensures.input
-    c.in-Ok-rescue.ensures.once c.in-Ok-rescue.ensures.refused c.in-Ok-rescue.ensures.worked c.in-Ok-rescue.ensures.draft c.in-Ok-rescue.ensures.source c.in-Ok-rescue.ensures.site
-    c.in-Ok-rescue.ensures.clock says
+    work_kept _ (told_by c.in-Ok.command) (told_by c.in-Ok-make_plan.plan.command) c.in-Ok-make_plan.plan.heading.line c.in-Ok.ensures.asked
+    c.in-Ok-make_plan.ensures.command (ap (λ (h : HeadingLines). h.line) c.in-Ok-make_plan.ensures.heading)
+    c.in-Ok-make_plan.ensures.different
+    (record {
+      worked = c.in-Ok-rescue.ensures.worked;
+      words = c.in-Ok-rescue.ensures.words;
+      fits = c.in-Ok-rescue.ensures.fits;
+      input = c.in-Ok-rescue.ensures.input;
+      once = c.in-Ok-rescue.ensures.once;
+      refused = c.in-Ok-rescue.ensures.refused;
+      cause = c.in-Ok-rescue.ensures.cause;
+      draft = c.in-Ok-rescue.ensures.draft;
+      source = c.in-Ok-rescue.ensures.source;
+      site = c.in-Ok-rescue.ensures.site;
+      clock = c.in-Ok-rescue.ensures.clock;
+    }) says
 
 pub returns-in-Ok-rescue-clause-untouched : goal.returns-in-Ok-rescue-clause-untouched
 returns-in-Ok-rescue-clause-untouched g c = λ fault refused. absurd (c.in-Ok.ensures.asked.accepted fault refused)
@@ -37,11 +48,22 @@ returns-in-Ok-rescue-clause-unopened g c = λ first second twice.
 
 pub returns-in-Err-rescue-clause-promise : goal.returns-in-Err-rescue-clause-promise
 returns-in-Err-rescue-clause-promise g c = λ now says.
-    work_kept _ (told_by c.in-Ok.command) _ _ _ _ _ c.in-Ok.ensures.asked c.in-Ok-make_plan.ensures.infile c.in-Ok-make_plan.ensures.outfile
-    c.in-Ok-make_plan.ensures.names (ap (λ (h : HeadingLines). h.line) c.in-Ok-make_plan.ensures.heading) c.in-Ok-make_plan.ensures.options
-    c.in-Ok-make_plan.ensures.different c.in-Err-rescue.ensures.words c.in-Err-rescue.ensures.cause c.in-Err-rescue.ensures.input
-    c.in-Err-rescue.ensures.once c.in-Err-rescue.ensures.refused c.in-Err-rescue.ensures.worked c.in-Err-rescue.ensures.draft c.in-Err-rescue.ensures.source c.in-Err-rescue.ensures.site
-    c.in-Err-rescue.ensures.clock says
+    work_kept _ (told_by c.in-Ok.command) (told_by c.in-Ok-make_plan.plan.command) c.in-Ok-make_plan.plan.heading.line c.in-Ok.ensures.asked
+    c.in-Ok-make_plan.ensures.command (ap (λ (h : HeadingLines). h.line) c.in-Ok-make_plan.ensures.heading)
+    c.in-Ok-make_plan.ensures.different
+    (record {
+      worked = c.in-Err-rescue.ensures.worked;
+      words = c.in-Err-rescue.ensures.words;
+      fits = c.in-Err-rescue.ensures.fits;
+      input = c.in-Err-rescue.ensures.input;
+      once = c.in-Err-rescue.ensures.once;
+      refused = c.in-Err-rescue.ensures.refused;
+      cause = c.in-Err-rescue.ensures.cause;
+      draft = c.in-Err-rescue.ensures.draft;
+      source = c.in-Err-rescue.ensures.source;
+      site = c.in-Err-rescue.ensures.site;
+      clock = c.in-Err-rescue.ensures.clock;
+    }) says
 
 pub returns-in-Err-rescue-clause-untouched : goal.returns-in-Err-rescue-clause-untouched
 returns-in-Err-rescue-clause-untouched g c = λ fault refused. absurd (c.in-Ok.ensures.asked.accepted fault refused)

@@ -1,6 +1,6 @@
 use Rattle.save_resume.proofs.FillLemmas.{keeps_more}
 use Rattle.copy_passes.proofs.TurnLemmas.{source_stays}
-use Rattle.ddrescue_cli.proofs.PhaseLemmas.{Front, front_on, front_up_to, on_ok_front, on_err_front}
+use Rattle.ddrescue_cli.proofs.PhaseLemmas.{front_on, front_up_to, on_ok_front, on_err_front}
 use Rattle.ddrescue_cli.proofs.run.run_phases.Goals as goal
 
 pub returns-in-Err-run_trimming-clause-halted : goal.returns-in-Err-run_trimming-clause-halted

@@ -1,0 +1,141 @@
+-- What a run in test mode did to the input that its source reads.
+use Rattle.std.proofs.Common.{◌≡◌, ℕ, IsTrue, List, ◌++◌, map, Option, Some, None, sym, ap, ◌∙◌, subst}
+use Rattle.std.proofs.lemmas.List.{map-append, append_cancel_left}
+use Rattle.block_list.specs.declared.status.Status.{Status}
+use Rattle.mapfile_text.specs.declared.state.MapState.{MapState}
+use Rattle.faulty_source.specs.Journal.{Reading, Gains as JournalGains}
+use Rattle.faulty_source.specs.SourceState.{SourceState, Keeps as SourceKeeps}
+use Rattle.crash_site.specs.SiteState.{SiteState}
+use Rattle.rescue_console.specs.ClockState.{ClockState}
+use Rattle.rescue_domain.specs.Testing.{seen, state_seen, GainsSeen}
+use Rattle.rescue_domain.proofs.TestingLemmas.{said_below}
+use Rattle.rescue_rules.specs.Setting.{Setting}
+use Rattle.rescue_rules.specs.declared.stop.Stop.TheVariants.{SourceLost as InputLost, Site, NoMemory as NoRoom}
+use Rattle.copy_passes.specs.Turns.{Across}
+use Rattle.ddrescue_cli.specs.declared.ending.Ending.{Ending}
+use Rattle.ddrescue_cli.specs.declared.ending.Ending.TheVariants.{Done, Usage, SameName, NoMap, SourceFault, NotRegular, MapRefused, SourceLost, SiteFault, NoMemory}
+use Rattle.ddrescue_cli.specs.Alone.{IsBeforeReads, HasRead}
+use Rattle.ddrescue_cli.specs.Answers.{Rises, Causes}
+use Rattle.ddrescue_cli.specs.Steps.{EndsRun, Ran}
+use Rattle.ddrescue_cli.proofs.RanLemmas.{run_refused}
+
+-- what is told before and behind a call
+abbrev pub across : (site site' : SiteState) (clock clock' : ClockState) (source source' : SourceState) → Across
+across site site' clock clock' source source' = record {
+  source = source;
+  source' = source';
+  site = site;
+  site' = site';
+  clock = clock;
+  clock' = clock';
+}
+
+-- Between two states of an input, as they are seen in test mode:
+module _ (reference : ℕ) (tests : List Status) (old new : SourceState)
+    (kept : SourceKeeps (state_seen reference tests old) (state_seen reference tests new)) where
+  -- reads that the journal gained as it is seen are such as it gained,
+  gains_seen : (reads : List Reading) → IsTrue old.tells
+      → map (seen tests) new.journal ≡ map (seen tests) old.journal ++ reads → GainsSeen tests reads old.journal new.journal
+  gains_seen reads tells told =
+      let gains : JournalGains old.journal new.journal = (kept.journals_below tells).0 in
+      let same : map (seen tests) old.journal ++ map (seen tests) gains.reads ≡ map (seen tests) old.journal ++ reads =
+      sym (map-append (seen tests) old.journal gains.reads) ∙ ap (map (seen tests)) (sym gains.told) ∙ told in
+      record { gains = gains; seen = append_cancel_left (map (seen tests) old.journal) _ _ same }
+
+  -- the reads of a run that was seen so are those of a run,
+  read_seen : (s : Setting) (e : Ending) → EndsRun e → IsTrue old.tells
+      → HasRead s None e (state_seen reference tests old) (state_seen reference tests new)
+      → HasRead s (Some tests) e old new
+  read_seen s e ends tells read =
+      let g : GainsSeen tests read.raw old.journal new.journal = gains_seen read.raw tells read.gained in
+      record {
+        statuses = read.statuses;
+        state = read.state;
+        time = read.time;
+        long = read.long;
+        fresh = read.fresh;
+        events = read.events;
+        raw = g.gains.reads;
+        gained = g.gains.told;
+        seen_are = g.seen ∙ read.seen_are;
+        run = read.run;
+        right = read.right;
+        refused = λ refused. absurd (run_refused ends.0 (subst IsBeforeReads ends.1 refused));
+        few = read.few;
+        done = read.done;
+        well = read.well;
+      }
+
+  -- and so is the run.
+  ran_seen : (s : Setting) (statuses : List Status) (state : Option MapState) (e : Ending) (site site' : SiteState)
+      (clock clock' : ClockState)
+      → Ran s None statuses state e
+      (across site site' clock clock' (state_seen reference tests old) (state_seen reference tests new))
+      → Ran s (Some tests) statuses state e (across site site' clock clock' old new)
+  ran_seen s statuses state e site site' clock clock' ran = record {
+    told = λ tell.
+        let on = ran.told (record { source = tell.source; site = tell.site; clock = tell.clock }) in
+        let reads : List Reading = on.gains.raw in
+        let g : GainsSeen tests reads old.journal new.journal = gains_seen reads tell.source on.gains.reads in
+        record {
+          gain = on.gain;
+          gains = record {
+            raw = g.gains.reads;
+            reads = g.gains.told;
+            seen_are = g.seen ∙ on.gains.seen_are;
+            calls = on.gains.calls;
+            times = on.gains.times;
+            fit = on.gains.fit;
+          };
+          runs = on.runs;
+        };
+    read = λ tells. read_seen s e ran.ends tells (ran.read tells);
+    ends = ran.ends;
+    late = ran.late;
+  }
+
+-- An answer has the same cause.
+module _ (reference : ℕ) (tests : List Status) (a b : SourceState) (d d' : SiteState) where
+  rises_seen : (opens losses calls : ℕ → ℕ)
+      → Rises opens losses calls (state_seen reference tests a) (state_seen reference tests b) d d'
+      → Rises opens losses calls a b d d'
+  rises_seen opens losses calls rises =
+      record { faults = rises.faults; losses_ = rises.losses_; site_faults = rises.site_faults }
+
+  causes_seen : (e : Ending) → Causes e (state_seen reference tests a) (state_seen reference tests b) d d'
+      → Causes e a b d d'
+  causes_seen Done cause = rises_seen _ _ _ cause
+  causes_seen (Usage fault) cause = rises_seen _ _ _ cause
+  causes_seen (SameName first second) cause = rises_seen _ _ _ cause
+  causes_seen (NoMap which) cause = rises_seen _ _ _ cause
+  causes_seen SourceFault cause = rises_seen _ _ _ cause
+  causes_seen NotRegular cause = rises_seen _ _ _ cause
+  causes_seen (MapRefused which error) cause = (cause.0, cause.1, rises_seen _ _ _ cause.2)
+  causes_seen SourceLost cause = rises_seen _ _ _ cause
+  causes_seen (SiteFault call None) cause = rises_seen _ _ _ cause
+  causes_seen (SiteFault call (Some InputLost)) cause = rises_seen _ _ _ cause
+  causes_seen (SiteFault call (Some (Site before))) cause = cause
+  causes_seen (SiteFault call (Some NoRoom)) cause = rises_seen _ _ _ cause
+  causes_seen NoMemory cause = rises_seen _ _ _ cause
+
+-- What a run did to a source in test mode that was made of an input in this state, and leaves it in that one:
+module _ (reference reference' : ℕ) (tests tests' : List Status) (old new test : SourceState)
+    (made : test ≡ state_seen reference tests old) (kept : SourceKeeps test (state_seen reference' tests' new)) where
+  below : (P : SourceState → SourceState → Type 0) → P test (state_seen reference' tests' new)
+      → P (state_seen reference tests old) (state_seen reference tests new)
+  below = said_below reference reference' tests tests' old new test made kept
+
+  -- it did that to the input,
+  pub ran_below : (s : Setting) (statuses : List Status) (state : Option MapState) (e : Ending) (site site' : SiteState)
+      (clock clock' : ClockState)
+      → Ran s None statuses state e (across site site' clock clock' test (state_seen reference' tests' new))
+      → Ran s (Some tests) statuses state e (across site site' clock clock' old new)
+  ran_below s statuses state e site site' clock clock' ran =
+      ran_seen reference tests old new (below SourceKeeps kept) s statuses state e site site' clock clock'
+      (below (λ a b. Ran s None statuses state e (across site site' clock clock' a b)) ran)
+
+  -- and its answer has that cause there.
+  pub causes_below : (e : Ending) (site site' : SiteState) → Causes e test (state_seen reference' tests' new) site site'
+      → Causes e old new site site'
+  causes_below e site site' cause =
+      causes_seen reference tests old new site site' e (below (λ a b. Causes e a b site site') cause)

@@ -1,0 +1,72 @@
+-- The maps that the options of a rescue name, and what they stand for.
+use Rattle.std.specs.Prelude.{◌≡◌, ℕ, ◌≤◌, Bool, true, false, ◌||◌, List, length, map, Option, Some, None, is_some, if◌then◌else◌}
+use Rattle.block_list.specs.declared.status.Status.{Status}
+use Rattle.block_list.specs.declared.status.Status.TheVariants.{NonTried}
+use Rattle.mapfile_text.specs.declared.state.MapState.{MapState}
+use Rattle.mapfile_text.specs.declared.read.Mode.{Mode}
+use Rattle.mapfile_text.specs.declared.read.Mode.TheVariants.{Tight, Loose}
+use Rattle.mapfile_text.specs.MapText.{text_limit, IsMapText, Blank}
+use Rattle.faulty_source.specs.Journal.{Reading}
+use Rattle.crash_site.specs.Files.{File}
+use Rattle.rescue_domain.specs.Testing.{seen}
+use Rattle.rescue_command.specs.declared.options.Options.{Options}
+use Rattle.rescue_command.specs.Command.{Command}
+use Rattle.ddrescue_cli.specs.Asked.{Maps}
+
+-- how such a map is read: where that is asked for it may have gaps, which aren't finished
+abbrev pub map_mode : Options → Mode
+map_mode o = if o.loose then Loose NonTried else Tight
+
+-- a file is there, and its text, which isn't too long, has these statuses
+pub record IsMapOf (file : Option File) (mode : Mode) (statuses : List Status) : Type 0 where
+  pub there : File
+  pub is : file ≡ Some there
+  pub within : length there.bytes ≤ text_limit
+  pub shown : MapState
+  pub first : ℕ
+  pub listed : Bool
+  pub reads : IsMapText there.bytes mode shown first listed statuses
+
+-- The positions that a mapfile lists, from the first block's beginning up to the last one's end. A mapfile without blocks, one of
+-- comments and blank lines alone, and an absent one list no position.
+pub data Lists (mapfile : Option File) (first end : ℕ) : Type 0 where
+  NoFile : mapfile ≡ None → first ≡ 0 → end ≡ 0 → Lists mapfile first end
+  NoText : (there : File) → mapfile ≡ Some there → Blank there.bytes → first ≡ 0 → end ≡ 0 → Lists mapfile first end
+  Blocks : (there : File) → mapfile ≡ Some there → length there.bytes ≤ text_limit → (shown : MapState) → (listed : Bool) → (statuses : List Status)
+      → IsMapText there.bytes Tight shown first listed statuses → end ≡ length statuses → Lists mapfile first end
+
+-- a map that an option names has the statuses that its file has, if it has some
+abbrev pub IsNamedMap : (name : Option (List ℕ)) → Mode → (List ℕ → Option File) → (statuses : Option (List Status)) → Type 0
+IsNamedMap name mode files statuses =
+    (n : List ℕ) (map : List Status) → name ≡ Some n → IsMapOf (files n) mode map → statuses ≡ Some map
+
+-- a file by its name, if it has one
+abbrev pub file_of : Option (List ℕ) → (List ℕ → Option File) → Option File
+file_of None files = None
+file_of (Some name) files = files name
+
+-- the mapfile of a command among files, if there is one
+abbrev pub mapfile_of : Command → (List ℕ → Option File) → Option File
+mapfile_of c files = file_of c.mapfile files
+
+-- There is a map only where an option asks for it.
+pub record AreAskedFor (c : Command) (maps : Maps) : Type 0 where
+  pub domain : c.domain_map ≡ None → maps.domain ≡ None
+  pub test : c.test_map ≡ None → maps.test ≡ None
+  pub whole : c.options.complete_only ≡ false → maps.listed ≡ None
+
+-- The maps are what the files are. Where a file isn't there or is no map, nothing is said here: then the rescue is refused.
+pub record AreMapsOf (c : Command) (files : List ℕ → Option File) (maps : Maps) : Type 0 where
+  pub domain : IsNamedMap c.domain_map (map_mode c.options) files maps.domain
+  pub test : IsNamedMap c.test_map (map_mode c.options) files maps.test
+  pub listed : (first end : ℕ) → c.options.complete_only ≡ true → Lists (mapfile_of c files) first end
+      → maps.listed ≡ Some (first, end)
+
+-- an option names a map
+abbrev pub names_maps : Command → Bool
+names_maps c = is_some c.domain_map || is_some c.test_map
+
+-- reads as they are seen: in test mode each gives what comes in front of the first position that isn't finished in the test map
+abbrev pub seen_through : Option (List Status) → List Reading → List Reading
+seen_through None reads = reads
+seen_through (Some test) reads = map (seen test) reads
