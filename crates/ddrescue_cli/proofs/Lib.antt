@@ -2,6 +2,7 @@ pub mod AloneLemmas
 pub mod AnswerLemmas
 pub mod AskedLemmas
 pub mod BeginLemmas
+pub mod CompleteLemmas
 pub mod CountLemmas
 pub mod DoneLemmas
 pub mod EarlyLemmas

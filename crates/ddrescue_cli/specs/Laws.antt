@@ -1,5 +1,5 @@
 -- What the definitions mean.
-use Rattle.std.specs.Prelude.{◌≡◌, ⊤, ℕ, true, IsTrue, List, length, slice_get, Option, Some}
+use Rattle.std.specs.Prelude.{◌≡◌, ◌≢◌, ⊤, ℕ, ◌-◌, ◌^◌, ◌<◌, true, None, IsTrue, List, length, slice_get, Option, Some}
 use Rattle.block_list.specs.declared.status.Status.{Status}
 use Rattle.mapfile_text.specs.declared.state.MapState.{MapState}
 use Rattle.crash_site.specs.Files.{File, bytes_of}
@@ -17,8 +17,9 @@ use Rattle.rescue_rules.specs.Stops.{has_barrier, IsKept}
 use Rattle.ddrescue_cli.specs.declared.ending.Ending.{Ending}
 use Rattle.ddrescue_cli.specs.declared.ending.Ending.TheVariants.{Done, Usage, SameName, NoMap, SourceFault, NotRegular, MapRefused, SourceLost, SiteFault, NoMemory}
 use Rattle.rescue_command.specs.Command.{Command, Asks}
-use Rattle.ddrescue_cli.specs.Names.{command_line}
-use Rattle.ddrescue_cli.specs.Asked.{Maps}
+use Rattle.ddrescue_cli.specs.Names.{command_line, first_same}
+use Rattle.ddrescue_cli.specs.Asked.{Maps, names_by}
+use Rattle.ddrescue_cli.specs.Alone.{MapfilePasses, ArePlaced}
 use Rattle.ddrescue_cli.specs.Maps.{AreMapsOf}
 use Rattle.ddrescue_cli.specs.Told.{Told, AllTell, what_was_done, calls_before, files_of, asked}
 use Rattle.ddrescue_cli.specs.Work.{Works}
@@ -79,6 +80,27 @@ DoneIsSaved = (t : Told) (c : Command) (d : Ddrescue t) (asks : Asks t.words c) 
 abbrev pub GivenIsInput : Type 0
 GivenIsInput = (t : Told) (c : Command) (x b : ℕ) (d : Ddrescue t) (asks : Asks t.words c) → IsTrue t.source.tells
     → given c.options.sector (done_by d asks).reads x ≡ Some b → slice_get t.source.bytes x ≡ Some b
+
+-- no open of the input failed, no read was lost, and no call on the files failed; and the counts say so
+pub record NothingFailed (t : Told) : Type 0 where
+  pub opens : t.source'.faults ≡ t.source.faults
+  pub reads : t.source'.losses ≡ t.source.losses
+  pub calls : t.site'.faults ≡ t.site.faults
+  pub opens_count : t.source.faults < 2 ^ 64 - 1
+  pub reads_count : t.source.losses < 2 ^ 64 - 1
+  pub calls_count : t.site.faults < 2 ^ 64 - 1
+
+-- nothing of what the words ask for is refused: the names of the files are apart, the maps that options name and the mapfile are
+-- maps, the output may be written to, and each position has a place in it
+pub record NothingIsRefused (c : Command) (s : Setting) (t : Told) : Type 0 where
+  pub names : first_same c.infile c.outfile (names_by c) ≡ None
+  pub files : MapfilePasses c s (files_of t)
+  pub places : ArePlaced c.options (length t.source.bytes)
+
+-- Where nothing failed, nothing is refused and memory doesn't run out, the rescue is done.
+abbrev pub IsDoneUnless : Type 0
+IsDoneUnless = (t : Told) (c : Command) (d : Ddrescue t) (asks : Asks t.words c) → AllTell t → NothingFailed t
+    → NothingIsRefused c (setting d asks) t → t.answer ≢ NoMemory → t.answer ≡ Done
 
 -- There are such maps for any files: those that the files say.
 abbrev pub MapsAreThere : Type 0

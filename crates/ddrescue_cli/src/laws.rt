@@ -1,5 +1,5 @@
 //! What the definitions mean.
-ghost use Rattle.ddrescue_cli.specs.Laws.{DoneIsSaved, GivenIsInput, HasOneVerdict, HoldsAtEnd, MapsAreThere};
+ghost use Rattle.ddrescue_cli.specs.Laws.{DoneIsSaved, GivenIsInput, HasOneVerdict, HoldsAtEnd, IsDoneUnless, MapsAreThere};
 
 /// Behind each answer that comes after the barrier, the files as they read keep the promise.
 pub fn files_hold_at_the_end()
@@ -24,4 +24,9 @@ pub fn words_and_files_have_one_verdict()
 /// For any files there are maps as the files say.
 pub fn maps_are_there()
     ensures { MapsAreThere }
+{}
+
+/// Where nothing failed, nothing is refused and memory doesn't run out, the rescue is done.
+pub fn nothing_else_ends_a_rescue()
+    ensures { IsDoneUnless }
 {}
