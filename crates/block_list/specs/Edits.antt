@@ -32,7 +32,8 @@ back_of b at = record { pos = at; size = b.pos + b.size - at; status = b.status 
 abbrev pub cut_at : List Block → ℕ → Block → Block → List Block
 cut_at bs i front back = insert (slice_set bs i front) (i + 1) back
 
--- new are the same statuses in blocks of which the one at i begins at a position, or the position is the end; what stood in front of the position stands there still, and the blocks on either side of it are as merged as they were
+-- new are the same statuses in blocks of which the one at i begins at a position, or the position is the end; what
+-- stood in front of the position stands there still, and the blocks on either side of it are as merged as they were
 pub record IsCut (bs new : List Block) (at i : ℕ) : Type 0 where
   pub tiled : IsTiled new
   pub same : flat_map covered new ≡ flat_map covered bs
@@ -42,7 +43,8 @@ pub record IsCut (bs new : List Block) (at i : ℕ) : Type 0 where
   pub front : IsMerged bs → IsMerged (take i new)
   pub back : (n : ℕ) → start_of bs n ≤ at → IsMerged (drop n bs) → IsMerged (drop i new)
 
--- wide is the block, or the block and the one in front of it; it stands behind the first low blocks in the place of those up to i
+-- wide is the block, or the block and the one in front of it; it stands behind the first low blocks in the place of
+-- those up to i
 pub record IsJoinedBefore (bs : List Block) (i : ℕ) (block : Block) (low : ℕ) (wide : Block) : Type 0 where
   pub index : low ≤ i
   pub place : start_of bs low ≡ wide.pos
@@ -52,7 +54,8 @@ pub record IsJoinedBefore (bs : List Block) (i : ℕ) (block : Block) (low : ℕ
   pub same : flat_map covered (take low bs) ++ covered wide ≡ flat_map covered (take i bs) ++ covered block
   pub merged : IsMerged (take i bs) → IsMerged (take low bs ++ wide ∷ [])
 
--- wide is the block, or the block and the one behind it; it stands in front of the blocks from high on in the place of those from j on
+-- wide is the block, or the block and the one behind it; it stands in front of the blocks from high on in the place of
+-- those from j on
 pub record IsJoinedBehind (bs : List Block) (j : ℕ) (block : Block) (high : ℕ) (wide : Block) : Type 0 where
   pub index : j ≤ high
   pub within : high ≤ length bs

@@ -8,7 +8,9 @@ use Rattle.block_list.specs.Map.{Has}
 -- stretches with one more position in front of them: it joins the first stretch where that has its status
 abbrev pub joined : ℕ → Status → List Block → List Block
 joined pos s [] = record { pos = pos; size = 1; status = s } ∷ []
-joined pos s (b ∷ bs) = if same s b.status then record { pos = pos; size = b.size + 1; status = s } ∷ bs else record { pos = pos; size = 1; status = s } ∷ b ∷ bs
+joined pos s (b ∷ bs) =
+    if same s b.status then record { pos = pos; size = b.size + 1; status = s } ∷ bs
+    else record { pos = pos; size = 1; status = s } ∷ b ∷ bs
 
 abbrev pub stretches_from : ℕ → List Status → List Block
 stretches_from pos [] = []

@@ -38,7 +38,8 @@ impl Model for PlainTiles {
     ghost use Rattle.block_list.specs.Stretches.{covered};
     ghost use Rattle.block_list.specs.Tiling.{IsTiling};
 
-    ghost view = { λ t. record { statuses = flat_map covered t.blocks.items; spare = vec_capacity t.blocks - vec_len t.blocks } };
+    ghost view = { λ t.
+        record { statuses = flat_map covered t.blocks.items; spare = vec_capacity t.blocks - vec_len t.blocks } };
 
     ghost invariant = { IsTiling };
 }

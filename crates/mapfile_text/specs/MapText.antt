@@ -42,7 +42,8 @@ abbrev pub Lists : Mode → List Line → (first : ℕ) → (listed : Bool) → 
 Lists mode [] first listed statuses = (first ≡ 0) × (listed ≡ false) × (statuses ≡ [])
 Lists mode (l ∷ ls) first listed statuses =
     (block : Block) × (rest : List Status) × IsBlockLine l block × (first ≡ block.pos) × (listed ≡ true)
-    × (statuses ≡ replicate first NonTried ++ (replicate block.size block.status ++ rest)) × Continues mode (block.pos + block.size) ls rest
+    × (statuses ≡ replicate first NonTried ++ (replicate block.size block.status ++ rest))
+    × Continues mode (block.pos + block.size) ls rest
 
 abbrev pub AreMapLines : Mode → List Line → MapState → ℕ → Bool → List Status → Type 0
 AreMapLines mode [] state first listed statuses = ⊥
@@ -51,7 +52,8 @@ AreMapLines mode (l ∷ ls) state first listed statuses = IsStateLine l state ×
 -- A text is a map: its first line that says something is a status line, and the others are block lines, each of
 -- which begins where the one before ends; in a loose map it may begin later. `first` is the position of the first
 -- block, and `listed` whether there is one.
-pub record IsMapText (text : List ℕ) (mode : Mode) (state : MapState) (first : ℕ) (listed : Bool) (statuses : List Status) : Type 0 where
+pub record IsMapText (text : List ℕ) (mode : Mode) (state : MapState) (first : ℕ) (listed : Bool)
+    (statuses : List Status) : Type 0 where
   pub reads : AreMapLines mode (said text) state first listed statuses
 
 -- no line of a text says anything
@@ -62,17 +64,20 @@ Blank text = said text ≡ []
 abbrev pub StateFault : Line → MapError → Type 0
 StateFault line e =
     ((e ≡ BadStatusLine line.number) × (state_of line.fields ≡ None))
-    ⊎ ((e ≡ TooLarge line.number) × (state : MapState) × (state_of line.fields ≡ Some state) × (2 ^ 63 ≤ state.pos ⊎ 2 ^ 32 ≤ state.pass))
+    ⊎ ((e ≡ TooLarge line.number) × (state : MapState) × (state_of line.fields ≡ Some state)
+    × (2 ^ 63 ≤ state.pos ⊎ 2 ^ 32 ≤ state.pass))
 
 -- why a block line is none
 abbrev pub BlockFault : Line → MapError → Type 0
 BlockFault line e =
     ((e ≡ BadBlockLine line.number) × (block_of line.fields ≡ None))
-    ⊎ ((e ≡ TooLarge line.number) × (block : Block) × (block_of line.fields ≡ Some block) × (2 ^ 63 ≤ block.pos + block.size))
+    ⊎ ((e ≡ TooLarge line.number) × (block : Block) × (block_of line.fields ≡ Some block)
+    × (2 ^ 63 ≤ block.pos + block.size))
 
 -- why a block can't follow one that ended at a place
 abbrev pub PlaceFault : Mode → ℕ → Line → Block → MapError → Type 0
-PlaceFault Tight end line block e = ((e ≡ Overlap line.number) × (block.pos < end)) ⊎ ((e ≡ Gap line.number) × (end < block.pos))
+PlaceFault Tight end line block e =
+    ((e ≡ Overlap line.number) × (block.pos < end)) ⊎ ((e ≡ Gap line.number) × (end < block.pos))
 PlaceFault (Loose status) end line block e = (e ≡ Overlap line.number) × (block.pos < end)
 
 -- the first line that breaks a rule, behind a block that ended at a place
@@ -81,12 +86,14 @@ ContinuesFault mode end [] e = ⊥
 ContinuesFault mode end (l ∷ ls) e =
     BlockFault l e
     ⊎ ((block : Block) × IsBlockLine l block × PlaceFault mode end l block e)
-    ⊎ ((block : Block) × (gap : List Status) × IsBlockLine l block × IsGap mode end block.pos gap × ContinuesFault mode (block.pos + block.size) ls e)
+    ⊎ ((block : Block) × (gap : List Status) × IsBlockLine l block × IsGap mode end block.pos gap
+    × ContinuesFault mode (block.pos + block.size) ls e)
 
 -- the first line that breaks a rule among block lines
 abbrev pub ListsFault : Mode → List Line → MapError → Type 0
 ListsFault mode [] e = ⊥
-ListsFault mode (l ∷ ls) e = BlockFault l e ⊎ ((block : Block) × IsBlockLine l block × ContinuesFault mode (block.pos + block.size) ls e)
+ListsFault mode (l ∷ ls) e =
+    BlockFault l e ⊎ ((block : Block) × IsBlockLine l block × ContinuesFault mode (block.pos + block.size) ls e)
 
 abbrev pub MapLinesFault : Mode → List Line → MapError → Type 0
 MapLinesFault mode [] e = e ≡ NoStatusLine

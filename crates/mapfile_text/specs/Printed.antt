@@ -34,7 +34,8 @@ program_name Ddrescuelog = codes "ddrescuelog"
 
 -- the lines on the times, which ddrescue alone prints
 abbrev pub time_lines : Program → ℕ → ℕ → List ℕ
-time_lines Ddrescue start_s now_s = ended (codes "# Start time:   " ++ decimal start_s) ++ ended (codes "# Current time: " ++ decimal now_s)
+time_lines Ddrescue start_s now_s =
+    ended (codes "# Start time:   " ++ decimal start_s) ++ ended (codes "# Current time: " ++ decimal now_s)
 time_lines Ddrescuelog start_s now_s = []
 
 -- the line on the program that printed the mapfile
@@ -60,7 +61,8 @@ current_symbol Finished = 43
 
 -- the position, five spaces, the current status, fifteen spaces, the pass
 abbrev pub state_line : MapState → List ℕ
-state_line s = ended (hexadecimal s.pos ++ replicate 5 32 ++ current_symbol s.current ∷ [] ++ replicate 15 32 ++ decimal s.pass)
+state_line s =
+    ended (hexadecimal s.pos ++ replicate 5 32 ++ current_symbol s.current ∷ [] ++ replicate 15 32 ++ decimal s.pass)
 
 -- the state's line, below one with the names of its columns
 abbrev pub state_text : MapState → List ℕ
@@ -72,4 +74,6 @@ block_line b = ended (hexadecimal b.pos ++ codes "  " ++ hexadecimal b.size ++ c
 
 -- the text of a mapfile: the heading, the state, and a line for each maximal stretch of equal statuses
 abbrev pub printed : HeadingLines → MapState → List Status → List ℕ
-printed h s statuses = heading_text h ++ state_text s ++ ended (codes "#      pos        size  status") ++ flat_map block_line (stretches statuses)
+printed h s statuses =
+    heading_text h ++ state_text s ++ ended (codes "#      pos        size  status")
+    ++ flat_map block_line (stretches statuses)

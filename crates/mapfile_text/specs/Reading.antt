@@ -24,7 +24,8 @@ abbrev pub gap_of : Mode → (end pos : ℕ) → List Status
 gap_of Tight end pos = []
 gap_of (Loose status) end pos = replicate (pos - end) status
 
--- what is put in front of a block: non-tried positions in front of the first one, and in front of another what stands between
+-- what is put in front of a block: non-tried positions in front of the first one, and in front of another what stands
+-- between
 abbrev pub filling : Mode → (listed : Bool) → (end pos : ℕ) → List Status
 filling mode true end pos = gap_of mode end pos
 filling mode false end pos = replicate pos NonTried

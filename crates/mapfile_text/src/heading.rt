@@ -39,7 +39,8 @@ impl Model for Heading {
 
     ghost Value = { HeadingLines };
 
-    ghost view = { λ h. record { program = h.program; line = string_bytes h.line; start_s = h.start_s; now_s = h.now_s } };
+    ghost view = { λ h.
+        record { program = h.program; line = string_bytes h.line; start_s = h.start_s; now_s = h.now_s } };
 }
 
 impl Heading {

@@ -92,7 +92,8 @@ impl ReadMap {
         ensures state { self.new.state ≡ self.old.state }
         ensures first { OnOk result (self.new.first ≡ (if self.old.listed then self.old.first else block.pos)) }
         ensures statuses { OnOk result (self.new.tiles.statuses
-            ≡ self.old.tiles.statuses ++ (filling mode self.old.listed (length self.old.tiles.statuses) block.pos ++ covered block)) }
+            ≡ self.old.tiles.statuses
+            ++ (filling mode self.old.listed (length self.old.tiles.statuses) block.pos ++ covered block)) }
         ensures gap { OnOk result (IsTrue self.old.listed
             → IsGap mode (length self.old.tiles.statuses) block.pos
             (gap_of mode (length self.old.tiles.statuses) block.pos)) }

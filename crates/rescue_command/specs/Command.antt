@@ -16,8 +16,8 @@ use Rattle.rescue_command.specs.declared.command.CommandError.TheVariants.{Usage
 use Rattle.option_words.specs.declared.row.Row.{Row}
 use Rattle.rescue_command.specs.Options.{cluster_limit, cluster_of, cluster_row, domain_row, has_quiet, in_sectors, last_of, last_value, option_meanings, options_in, sectors_of, test_row, word_in}
 
--- the names of the infile, the outfile and, if there is one, the mapfile; of the map of what is to be rescued and of the map of
--- what may be read, if they are named; and what the options say
+-- the names of the infile, the outfile and, if there is one, the mapfile; of the map of what is to be rescued and of
+-- the map of what may be read, if they are named; and what the options say
 pub record Command : Type 0 where
   pub infile : List ℕ
   pub outfile : List ℕ
@@ -45,7 +45,8 @@ pub record MapOptions : Type 0 where
 abbrev pub maps_in : List (List ℕ) → List Item → MapOptions
 maps_in words items = record { domain = last_value words domain_row items; test = last_value words test_row items }
 
--- The files of two operands or three; another number is refused, and so are two where the mapfile says what is to be rescued.
+-- The files of two operands or three; another number is refused, and so are two where the mapfile says what is to be
+-- rescued.
 abbrev pub command_with : List (List ℕ) → MapOptions → Options → (operands : List ℕ) → Result Command UsageFault
 command_with words m o [] = Err (Operands 0)
 command_with words m o (i ∷ []) = Err (Operands 1)
@@ -84,7 +85,8 @@ unless_empty (Some n) (Ok c) = Err (BadValue n)
 abbrev pub is_too_large : Options → Bool
 is_too_large o = nat_lt cluster_limit (cluster_of o)
 
--- What a reading of the words asks for, or its first fault: a bad value, then a cluster that is too large, then the operands.
+-- What a reading of the words asks for, or its first fault: a bad value, then a cluster that is too large, then the
+-- operands.
 abbrev pub command_by : List (List ℕ) → List Item → Result Options ℕ → (operands : List ℕ) → Result Command UsageFault
 command_by words items (Err n) operands = Err (BadValue n)
 command_by words items (Ok o) operands =

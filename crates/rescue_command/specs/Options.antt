@@ -133,8 +133,8 @@ comma_parts (c ∷ text) = if nat_eq c 44 then [] ∷ comma_parts text else with
 abbrev pub size_if_given : Options → List ℕ → Option (Option ℕ)
 size_if_given o text = if is_empty_text text then Some None else option_map Some (size_by o text)
 
--- Both skip sizes, in whole sectors. If the largest isn't given it is 1 GiB, or the first if that is more; if the first isn't
--- given it is 64 KiB, or the largest if that is less. The first may not be above the largest.
+-- Both skip sizes, in whole sectors. If the largest isn't given it is 1 GiB, or the first if that is more; if the first
+-- isn't given it is 64 KiB, or the largest if that is less. The first may not be above the largest.
 abbrev pub skips_given : (first most : Option ℕ) → Option (ℕ × ℕ)
 skips_given None None = Some (default_skip, default_skip_max)
 skips_given (Some first) None = Some (first, max first default_skip_max)
@@ -148,22 +148,24 @@ skips_in_parts o (first ∷ most ∷ []) =
     option_and_then (λ f. option_and_then (λ m. skips_given f m) (size_if_given o most)) (size_if_given o first)
 skips_in_parts o (first ∷ most ∷ third ∷ more) = None
 
--- The skip sizes of `initial`, `initial,largest`, `,largest` or `initial,`; an empty value is bad, and so is a size that is 2^63
--- or more in whole sectors.
+-- The skip sizes of `initial`, `initial,largest`, `,largest` or `initial,`; an empty value is bad, and so is a size
+-- that is 2^63 or more in whole sectors.
 abbrev pub skips_of : Options → List ℕ → Option (ℕ × ℕ)
 skips_of o text =
     if is_empty_text text then None
     else option_and_then (λ (k : ℕ × ℕ). if nat_lt (in_sectors o k.1) (2 ^ 63) then Some k else None)
     (skips_in_parts o (comma_parts text))
 
--- What the option of a row sets by its value's text, unless that is a bad one. The sector is set before all others, and the
--- names of maps are read apart. A number that is no row's sets nothing.
+-- What the option of a row sets by its value's text, unless that is a bad one. The sector is set before all others, and
+-- the names of maps are read apart. A number that is no row's sets nothing.
 abbrev pub with_row : Options → (row : ℕ) → (text : List ℕ) → Option Options
 with_row o row text =
-    if nat_eq row 0 then option_map (λ n. record o { min_rate = n }) (option_and_then (within_range 1 (2 ^ 63)) (size_by o text))
+    if nat_eq row 0 then option_map (λ n. record o { min_rate = n })
+    (option_and_then (within_range 1 (2 ^ 63)) (size_by o text))
     else if nat_eq row 1 then Some (record o { try_again = true })
     else if nat_eq row sector_row then Some o
-    else if nat_eq row cluster_row then option_map (λ n. record o { cluster_sectors = Some n }) (option_and_then (within_range 1 65536) (size_by o text))
+    else if nat_eq row cluster_row then option_map (λ n. record o { cluster_sectors = Some n })
+    (option_and_then (within_range 1 65536) (size_by o text))
     else if nat_eq row 4 then Some (record o { complete_only = true })
     else if nat_eq row 5 then Some (record o { forced = true })
     else if nat_eq row test_row then if is_empty_text text then None else Some o
@@ -176,7 +178,8 @@ with_row o row text =
     else if nat_eq row 13 then Some (record o { no_trim = true })
     else if nat_eq row 14 then option_map (λ n. record o { output_position = Some n }) (size_by o text)
     else if nat_eq row quiet_row then Some (record o { quiet = true })
-    else if nat_eq row 16 then option_map (λ n. record o { retries = n }) (option_and_then (within_range 0 65535) (result_ok (number text)))
+    else if nat_eq row 16 then option_map (λ n. record o { retries = n })
+    (option_and_then (within_range 0 65535) (result_ok (number text)))
     else if nat_eq row 17 then Some (record o { reverse = true })
     else if nat_eq row 18 then option_map (λ n. record o { size = Some n }) (size_by o text)
     else if nat_eq row 19 then Some (record o { unidirectional = true })

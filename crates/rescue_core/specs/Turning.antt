@@ -20,7 +20,8 @@ use Rattle.rescue_core.specs.declared.turn.Turn.{Turn}
 use Rattle.rescue_core.specs.RunState.{RunState, names_in, setting_in}
 
 -- a read of what was requested, which gave the input's own bytes, between two readings of the clock
-pub record IsEvent (request : Request) (e : Event) (source source' : SourceState) (clock clock' : ClockState) : Type 0 where
+pub record IsEvent (request : Request) (e : Event) (source source' : SourceState) (clock clock' : ClockState)
+    : Type 0 where
   pub pos : e.reading.pos ≡ request.pos
   pub asked : e.reading.asked ≡ request.len
   pub few : length e.reading.given ≤ request.len
@@ -58,8 +59,8 @@ pub record Turned (request : Request) (turn : Turn) (r r' : RunState) (source so
   pub calls : Makes (move_calls (setting_in r) (move_by r event)) site site'
 
 -- A turn that stopped:
-pub data Halted (request : Request) (stop : Stop) (r r' : RunState) (source source' : SourceState) (site site' : SiteState)
-    (clock clock' : ClockState) : Type 0 where
+pub data Halted (request : Request) (stop : Stop) (r r' : RunState) (source source' : SourceState)
+    (site site' : SiteState) (clock clock' : ClockState) : Type 0 where
   -- for want of memory, before it read anything
   Starved : stop ≡ NoMemory → r' ≡ r → source' ≡ source → site' ≡ site → clock' ≡ clock
       → Halted request stop r r' source source' site site' clock clock'

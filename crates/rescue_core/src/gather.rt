@@ -28,8 +28,8 @@ pub(crate) struct Gathered {
     pub after: u64,
 }
 
-/// Reads what is requested, and writes what is kept of it to its place in the output. A lost read or a failed write is a
-/// stop.
+/// Reads what is requested, and writes what is kept of it to its place in the output. A lost read or a failed write is
+/// a stop.
 pub(crate) fn gather<S: Source, D: Site, K: Clock>(
     request: Request,
     settings: &Settings,

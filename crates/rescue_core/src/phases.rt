@@ -96,8 +96,8 @@ impl<P: Stage, T: Tiles> Model for Rescue<P, T> {
 }
 
 impl<T: Tiles> Rescue<Copying, T> {
-    /// A rescue of a domain of a map, at this moment (milliseconds since 1970): in copying's first pass, or in that of a
-    /// state that a mapfile showed, where it goes on from its position. Without a mapfile it saves nothing. It takes
+    /// A rescue of a domain of a map, at this moment (milliseconds since 1970): in copying's first pass, or in that of
+    /// a state that a mapfile showed, where it goes on from its position. Without a mapfile it saves nothing. It takes
     /// memory for a cluster.
     pub fn start(
         alloc: Global,
@@ -274,9 +274,9 @@ impl<P: Stage, T: Tiles> Rescue<P, T> {
         self.running.begin_pass(phase, pass);
     }
 
-    /// One turn: room in the map, a reading of the clock, the read, another reading, the write of what was kept, the marks,
-    /// and the save if one is due (without a mapfile none is). Want of memory comes before the read; a lost read or a
-    /// failed write leaves the range as it was; a call of the save may fail behind the marks.
+    /// One turn: room in the map, a reading of the clock, the read, another reading, the write of what was kept, the
+    /// marks, and the save if one is due (without a mapfile none is). Want of memory comes before the read; a lost read
+    /// or a failed write leaves the range as it was; a call of the save may fail behind the marks.
     pub fn turn<S: Source, D: Site, K: Clock, C: Console>(
         &mut self,
         request: Request,
@@ -290,8 +290,8 @@ impl<P: Stage, T: Tiles> Rescue<P, T> {
         requires input { (S.state source.old).is_open ≡ true }
         requires image { (D.state site.old).is_open ≡ true }
         requires no_draft { (D.state site.old).is_drafting ≡ false }
-        ensures turned { IfOk result (λ turn. Turned request turn self.old self.new (S.state source.old) (S.state source.new)
-            (D.state site.old) (D.state site.new) (K.state clock.old) (K.state clock.new)) }
+        ensures turned { IfOk result (λ turn. Turned request turn self.old self.new (S.state source.old)
+            (S.state source.new) (D.state site.old) (D.state site.new) (K.state clock.old) (K.state clock.new)) }
         ensures halted { IfErr result (λ stop. Halted request stop self.old self.new (S.state source.old)
             (S.state source.new) (D.state site.old) (D.state site.new) (K.state clock.old) (K.state clock.new)) }
         ensures draft { OnOk result ((D.state site.new).is_drafting ≡ false) }

@@ -204,7 +204,8 @@ fn last_below(wanted: &[bool], before: usize, want: bool) -> usize {
     end
 }
 
-/// What a plain program asks for: upwards or downwards, from where, from a run's front or its back, and how much at most.
+/// What a plain program asks for: upwards or downwards, from where, from a run's front or its back, and how much at
+/// most.
 #[derive(Clone, Copy, Debug)]
 struct Plain {
     up: bool,

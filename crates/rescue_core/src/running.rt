@@ -61,15 +61,16 @@ impl<T: Tiles> Model for Running<T> {
 
     ghost Value = { RunState };
 
-    ghost view = { λ r. run_at r.settings r.domain r.names r.heading.line (T.statuses r.tiles) r.phase r.place r.tally };
+    ghost view = { λ r. run_at r.settings r.domain r.names r.heading.line (T.statuses r.tiles) r.phase
+        r.place r.tally };
 
     ghost invariant = { λ r. IsRunning (run_at r.settings r.domain r.names r.heading.line (T.statuses r.tiles) r.phase
         r.place r.tally) (length r.buf.items) × (r.heading.program ≡ Ddrescue) };
 }
 
 impl<T: Tiles> Running<T> {
-    /// A run that begins with copying: in its first pass, or where it was in the pass of a state that a mapfile showed. It
-    /// takes memory for a cluster.
+    /// A run that begins with copying: in its first pass, or where it was in the pass of a state that a mapfile showed.
+    /// It takes memory for a cluster.
     pub fn start(
         alloc: Global,
         settings: Settings,
@@ -184,8 +185,8 @@ impl<T: Tiles> Running<T> {
         self.tally.shown = state;
     }
 
-    /// One turn: room in the map, a reading of the clock, the read, another reading, the write of what was kept, the marks,
-    /// and the save if one is due: without a mapfile none is.
+    /// One turn: room in the map, a reading of the clock, the read, another reading, the write of what was kept, the
+    /// marks, and the save if one is due: without a mapfile none is.
     pub fn turn<S: Source, D: Site, K: Clock, C: Console>(
         &mut self,
         request: Request,
@@ -199,8 +200,8 @@ impl<T: Tiles> Running<T> {
         requires input { (S.state source.old).is_open ≡ true }
         requires image { (D.state site.old).is_open ≡ true }
         requires no_draft { (D.state site.old).is_drafting ≡ false }
-        ensures turned { IfOk result (λ turn. Turned request turn self.old self.new (S.state source.old) (S.state source.new)
-            (D.state site.old) (D.state site.new) (K.state clock.old) (K.state clock.new)) }
+        ensures turned { IfOk result (λ turn. Turned request turn self.old self.new (S.state source.old)
+            (S.state source.new) (D.state site.old) (D.state site.new) (K.state clock.old) (K.state clock.new)) }
         ensures halted { IfErr result (λ stop. Halted request stop self.old self.new (S.state source.old)
             (S.state source.new) (D.state site.old) (D.state site.new) (K.state clock.old) (K.state clock.new)) }
         ensures draft { OnOk result ((D.state site.new).is_drafting ≡ false) }

@@ -11,9 +11,12 @@ use rescue_domain::domain::Domain;
 
 /// The first run, at or after a position, of positions of the domain that have a status.
 pub fn find_up<T: Tiles>(domain: &Domain, tiles: &T, from: u64, status: Status) -> Option<Run>
-    ensures first { IfSome result (λ run. IsFirst (IsMarked (covers domain.now) (T.statuses tiles.now) status) from run.from) }
-    ensures run { IfSome result (λ run. IsRunUp (IsMarked (covers domain.now) (T.statuses tiles.now) status) run.from run.to) }
-    ensures none { IfNone result ((x : ℕ) → from ≤ x → IsMarked (covers domain.now) (T.statuses tiles.now) status x → ⊥) }
+    ensures first { IfSome result (λ run.
+        IsFirst (IsMarked (covers domain.now) (T.statuses tiles.now) status) from run.from) }
+    ensures run { IfSome result (λ run.
+        IsRunUp (IsMarked (covers domain.now) (T.statuses tiles.now) status) run.from run.to) }
+    ensures none { IfNone result ((x : ℕ) → from ≤ x
+        → IsMarked (covers domain.now) (T.statuses tiles.now) status x → ⊥) }
 {
     let mut at = from;
     while let Some(part) = domain.next_in(at) {
@@ -31,9 +34,12 @@ pub fn find_up<T: Tiles>(domain: &Domain, tiles: &T, from: u64, status: Status) 
 
 /// The last run that ends at or before a position, of positions of the domain that have a status.
 pub fn find_down<T: Tiles>(domain: &Domain, tiles: &T, before: u64, status: Status) -> Option<Run>
-    ensures last { IfSome result (λ run. IsLast (IsMarked (covers domain.now) (T.statuses tiles.now) status) before run.to) }
-    ensures run { IfSome result (λ run. IsRunDown (IsMarked (covers domain.now) (T.statuses tiles.now) status) run.from run.to) }
-    ensures none { IfNone result ((x : ℕ) → x < before → IsMarked (covers domain.now) (T.statuses tiles.now) status x → ⊥) }
+    ensures last { IfSome result (λ run.
+        IsLast (IsMarked (covers domain.now) (T.statuses tiles.now) status) before run.to) }
+    ensures run { IfSome result (λ run.
+        IsRunDown (IsMarked (covers domain.now) (T.statuses tiles.now) status) run.from run.to) }
+    ensures none { IfNone result ((x : ℕ) → x < before
+        → IsMarked (covers domain.now) (T.statuses tiles.now) status x → ⊥) }
 {
     let mut at = before;
     while let Some(part) = domain.last_in(at) {

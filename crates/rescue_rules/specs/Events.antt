@@ -8,7 +8,8 @@ abbrev pub with_times : List Reading → (times : List ℕ) → List Event
 with_times [] times = []
 with_times (r ∷ rs) [] = []
 with_times (r ∷ rs) (before ∷ []) = []
-with_times (r ∷ rs) (before ∷ after ∷ times) = record { reading = r; before = before; after = after } ∷ with_times rs times
+with_times (r ∷ rs) (before ∷ after ∷ times) =
+    record { reading = r; before = before; after = after } ∷ with_times rs times
 
 -- the first reading of the clock is that of the run's start
 abbrev pub began_at : (times : List ℕ) → ℕ

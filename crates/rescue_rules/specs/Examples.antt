@@ -62,8 +62,8 @@ TrimsFrontAndBack =
 -- bad sectors 0 and 3 of 16: the first pass jumps behind each, by two sectors and then by four, and the second comes
 -- back for what was jumped over
 abbrev pub jumping : List Event
-jumping = event_at 0 2 0 ∷ event_at 6 2 0 ∷ event_at 16 2 2 ∷ event_at 18 2 2 ∷ event_at 20 2 2 ∷ event_at 22 2 2 ∷ event_at 24 2 2
-    ∷ event_at 26 2 2 ∷ event_at 28 2 2 ∷ event_at 30 2 2 ∷ event_at 14 2 2 ∷ event_at 12 2 2 ∷ []
+jumping = event_at 0 2 0 ∷ event_at 6 2 0 ∷ event_at 16 2 2 ∷ event_at 18 2 2 ∷ event_at 20 2 2 ∷ event_at 22 2 2
+    ∷ event_at 24 2 2 ∷ event_at 26 2 2 ∷ event_at 28 2 2 ∷ event_at 30 2 2 ∷ event_at 14 2 2 ∷ event_at 12 2 2 ∷ []
 
 abbrev pub JumpsAndComesBack : Type 0
 JumpsAndComesBack =

@@ -59,11 +59,15 @@ pub record Search : Type 0 where
 
 -- Trimming takes the front of a run, and then the back of the same run; all else goes on from the cursor.
 abbrev pub search_in : Setting → Machine → Phase → TrimMode → Search
-search_in s m Copying mode = record { up = is_up s (pass_of m); from = m.cursor; front = is_up s (pass_of m); size = s.cluster }
-search_in s m Trimming Lead = record { up = is_up s (pass_of m); from = start_of s (pass_of m) m.map; front = true; size = s.sector }
+search_in s m Copying mode =
+    record { up = is_up s (pass_of m); from = m.cursor; front = is_up s (pass_of m); size = s.cluster }
+search_in s m Trimming Lead =
+    record { up = is_up s (pass_of m); from = start_of s (pass_of m) m.map; front = true; size = s.sector }
 search_in s m Trimming (Tail low) = record { up = true; from = low; front = false; size = s.sector }
-search_in s m Scraping mode = record { up = is_up s (pass_of m); from = m.cursor; front = is_up s (pass_of m); size = s.sector }
-search_in s m Retrying mode = record { up = is_up s (pass_of m); from = m.cursor; front = is_up s (pass_of m); size = s.sector }
+search_in s m Scraping mode =
+    record { up = is_up s (pass_of m); from = m.cursor; front = is_up s (pass_of m); size = s.sector }
+search_in s m Retrying mode =
+    record { up = is_up s (pass_of m); from = m.cursor; front = is_up s (pass_of m); size = s.sector }
 
 abbrev pub search_of : Setting → Machine → Search
 search_of s m = search_in s m (pass_of m).phase m.mode

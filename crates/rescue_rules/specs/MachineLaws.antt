@@ -44,8 +44,8 @@ pub record IsInOrder (s : Setting) (m : Machine) : Type 0 where
   pub tail : (low : ℕ) → m.mode ≡ Tail low → is_wanted s m low ≡ true
   pub lead : is_trimming m ≡ false → m.mode ≡ Lead
 
--- What an event of a request does: it asks for wanted positions alone, and for some; what is kept of it was given, and becomes
--- finished; every other position is finished only if it was, and what was finished stays so.
+-- What an event of a request does: it asks for wanted positions alone, and for some; what is kept of it was given, and
+-- becomes finished; every other position is finished only if it was, and what was finished stays so.
 pub record StepsBy (s : Setting) (m : Machine) (e : Event) : Type 0 where
   pub some : 0 < e.reading.asked
   pub there : e.reading.pos + e.reading.asked ≤ length m.map

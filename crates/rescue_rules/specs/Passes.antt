@@ -39,8 +39,8 @@ numbered phase number = record { phase = phase; number = number }
 abbrev pub copying_passes : ℕ
 copying_passes = 5
 
--- the passes of a phase from this one on: five of copying, one of trimming and of scraping, and as many of retrying as are
--- asked for
+-- the passes of a phase from this one on: five of copying, one of trimming and of scraping, and as many of retrying as
+-- are asked for
 abbrev pub passes_in : Setting → Phase → ℕ → List Pass
 passes_in s Copying number = map (numbered Copying) (range_with_len number (copying_passes + 1 - number))
 passes_in s Trimming number = map (numbered Trimming) (range_with_len number (2 - number))

@@ -51,4 +51,5 @@ pub record AreFinishedAlike (a b : List Status) : Type 0 where
 -- preparation makes nothing finished, and leaves what is
 abbrev pub PreparesNoFinished : Type 0
 PreparesNoFinished =
-    (domain : ℕ → Bool) (again retrim : Bool) (map : List Status) → AreFinishedAlike map (prepared domain again retrim map)
+    (domain : ℕ → Bool) (again retrim : Bool) (map : List Status)
+    → AreFinishedAlike map (prepared domain again retrim map)

@@ -26,8 +26,8 @@ ComesTo [] (e ∷ es) = ⊥
 ComesTo (c ∷ cs) (Done x ∷ es) = (x ≡ c) × ComesTo cs es
 ComesTo (c ∷ cs) (Failed x ∷ es) = (x ≡ c) × (es ≡ [])
 
--- what a run has to keep: its setting, the mapfile that it begins with and its map, the output's bytes then, its reads, and
--- what it saves
+-- what a run has to keep: its setting, the mapfile that it begins with and its map, the output's bytes then, its reads,
+-- and what it saves
 pub record RunPromise : Type 0 where
   pub s : Setting
   pub mapfile : Option File
@@ -36,9 +36,9 @@ pub record RunPromise : Type 0 where
   pub reads : List Reading
   pub saves : List Snapshot
 
--- The mapfile found is one that the run saved, or the one that it began with: no older than the last save that had returned,
--- and no newer than the last that had begun to be published. The output holds what that mapfile's map promises, and stands
--- until a write has begun.
+-- The mapfile found is one that the run saved, or the one that it began with: no older than the last save that had
+-- returned, and no newer than the last that had begun to be published. The output holds what that mapfile's map
+-- promises, and stands until a write has begun.
 pub record Keeps (a : RunPromise) (returned published written : ℕ) (files : List ℕ → Option File) : Type 0 where
   pub number : ℕ
   pub no_older : returned ≤ number
@@ -68,11 +68,13 @@ promise_of_run s began m events d = record {
   saves = snapshots s m events;
 }
 
--- A run with a mapfile over such a disk, whose map finishes what its mapfile's does, keeps that at whatever moment it is stopped, between or within its calls.
+-- A run with a mapfile over such a disk, whose map finishes what its mapfile's does, keeps that at whatever moment it
+-- is stopped, between or within its calls.
 abbrev pub RunStopsSafely : Type 0
-RunStopsSafely = (s : Setting) (began : List Status) (m : Machine) (events : List Event) (d : Disk) (calls : List Entry) (k : ℕ)
-    (files : List ℕ → Option File) → IsSensible s → s.has_mapfile ≡ true → AreThreeNames s → IsInOrder s m
-    → AreFinishedAlike began m.map → IsRun s m events → Rests s d → ComesTo (run_calls s m events ++ end_calls s m events) calls
+RunStopsSafely = (s : Setting) (began : List Status) (m : Machine) (events : List Event) (d : Disk) (calls : List Entry)
+    (k : ℕ) (files : List ℕ → Option File) → IsSensible s → s.has_mapfile ≡ true → AreThreeNames s → IsInOrder s m
+    → AreFinishedAlike began m.map → IsRun s m events → Rests s d
+    → ComesTo (run_calls s m events ++ end_calls s m events) calls
     → Leaves (disk_after d (until k calls)) files
-    → Keeps (promise_of_run s began m events d) (count_by is_settle (take k calls)) (count_by is_publish (take (k + 1) calls))
-    (count_by is_write (take (k + 1) calls)) files
+    → Keeps (promise_of_run s began m events d) (count_by is_settle (take k calls))
+    (count_by is_publish (take (k + 1) calls)) (count_by is_write (take (k + 1) calls)) files

@@ -44,8 +44,8 @@ pub record Setting : Type 0 where
 abbrev pub place : Setting → ℕ → ℕ
 place s x = x - s.from + s.to
 
--- a setting that words can ask for: a sector isn't empty, a cluster is some whole sectors, the domain begins at `from` or
--- behind it, and the number of a pass can be printed
+-- a setting that words can ask for: a sector isn't empty, a cluster is some whole sectors, the domain begins at `from`
+-- or behind it, and the number of a pass can be printed
 pub record IsSensible (s : Setting) : Type 0 where
   pub sector : 0 < s.sector
   pub sectors : ℕ

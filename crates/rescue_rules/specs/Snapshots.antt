@@ -45,4 +45,5 @@ last_snapshot s m = if has_ended s m then finished_snapshot m else snapshot_of m
 -- what a run with a mapfile saves, in order: the due saves, and one at its end
 abbrev pub snapshots : Setting → Machine → List Event → List Snapshot
 snapshots s m events =
-    map (λ v. snapshot_of v.after) (filter (is_due s) (moves s m events)) ++ last_snapshot s (state_after s m events) ∷ []
+    map (λ v. snapshot_of v.after) (filter (is_due s) (moves s m events))
+    ++ last_snapshot s (state_after s m events) ∷ []

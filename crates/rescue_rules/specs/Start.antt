@@ -33,7 +33,7 @@ abbrev pub StandsFor : Option File → (end : ℕ) → List Status → (state : 
 StandsFor None end map state = IsFresh end map state
 StandsFor (Some f) end map state = TextStands f.bytes end map state
 
--- A mapfile, absent or not, stands for a map of an input with a length, and for the state of its status line, if it has one.
--- How long its text may be is no matter of this.
+-- A mapfile, absent or not, stands for a map of an input with a length, and for the state of its status line, if it has
+-- one. How long its text may be is no matter of this.
 pub record Stands (mapfile : Option File) (end : ℕ) (map : List Status) (state : Option MapState) : Type 0 where
   pub stands : StandsFor mapfile end map state

@@ -52,7 +52,8 @@ abbrev pub map_after : Setting → Machine → Reading → List Status
 map_after s m r =
     let whole : List Status = marked m.map r.pos (kept s.sector r) Finished in
     let rest : ℕ = r.asked - kept s.sector r in
-    if is_whole r then whole else scraped m.mode r.pos (marked whole (r.pos + kept s.sector r) rest (rest_status s m rest))
+    if is_whole r then whole
+    else scraped m.mode r.pos (marked whole (r.pos + kept s.sector r) rest (rest_status s m rest))
 
 -- Trimming goes from a run's front to its back where a read failed and there is more of the run; it stays there until
 -- the run has no more or a read fails.
@@ -64,7 +65,8 @@ mode_after (Tail low) false more p q = Lead
 
 -- copying jumps behind a read that failed in its first four passes, or was slow in its first two
 abbrev pub is_jump : Setting → Machine → Event → Bool
-is_jump s m e = is_copying m && (if is_whole e.reading then is_slow s e && nat_le (pass_of m).number 2 else nat_le (pass_of m).number 4)
+is_jump s m e = is_copying m
+    && (if is_whole e.reading then is_slow s e && nat_le (pass_of m).number 2 else nat_le (pass_of m).number 4)
 
 -- the cursor goes to the read's far end, or beyond it by a jump, within the map; in trimming to the read's position
 abbrev pub cursor_after : Setting → Machine → Event → ℕ
@@ -94,7 +96,9 @@ step s m e =
     let n : Machine = record m { map = map_after s m r } in
     record n {
       cursor = cursor_after s m e;
-      mode = if is_trimming m then mode_after m.mode (is_whole r) (is_wanted s n (r.pos + r.asked)) r.pos (r.pos + r.asked) else Lead;
+      mode = if is_trimming m
+          then mode_after m.mode (is_whole r) (is_wanted s n (r.pos + r.asked)) r.pos (r.pos + r.asked)
+          else Lead;
       skip = skip_after s m e;
       failed = if is_whole r then m.failed else raised m.failed;
       now = e.after;

@@ -58,7 +58,8 @@ abbrev pub published : List Entry → ℕ
 published calls = count_by is_publish calls
 
 -- a mapfile is this save of a run, and has this map; number 0 is the mapfile that stood there before
-abbrev pub IsSave : (old : Option File) → (began : List Status) → (line : List ℕ) → List Snapshot → ℕ → (found : Option File) → List Status → Type 0
+abbrev pub IsSave : (old : Option File) → (began : List Status) → (line : List ℕ) → List Snapshot → ℕ
+    → (found : Option File) → List Status → Type 0
 IsSave old began line saves zero found statuses = (found ≡ old) × (statuses ≡ began)
 IsSave old began line saves (suc n) found statuses =
     (p : Snapshot) × (slice_get saves n ≡ Some p) × (statuses ≡ p.map)
@@ -68,15 +69,17 @@ IsSave old began line saves (suc n) found statuses =
 abbrev pub saves_of : Setting → List Status → Option MapState → Gain → List Snapshot
 saves_of s began state g = snapshots s (begins s began state g) (events_in g)
 
--- The mapfile found is the one that stood there (number 0) or one that the run saved: no older than the last save that had
--- returned, and no newer than the last that had begun to be published. It stands for that map, and the output holds what
--- that map promises.
-pub record IsKept (b : Behind) (s : Setting) (g : Gain) (began : List Status) (state : Option MapState) (k : ℕ) (files : List ℕ → Option File) : Type 0 where
+-- The mapfile found is the one that stood there (number 0) or one that the run saved: no older than the last save that
+-- had returned, and no newer than the last that had begun to be published. It stands for that map, and the output holds
+-- what that map promises.
+pub record IsKept (b : Behind) (s : Setting) (g : Gain) (began : List Status) (state : Option MapState) (k : ℕ)
+    (files : List ℕ → Option File) : Type 0 where
   pub number : ℕ
   pub no_older : returned (take k g.calls) ≤ number
   pub no_newer : number ≤ published (take (k + 1) g.calls)
   pub statuses : List Status
-  pub is_save : IsSave (files_before b s.names.map) began s.line (saves_of s began state g) number (files s.names.map) statuses
+  pub is_save : IsSave (files_before b s.names.map) began s.line (saves_of s began state g) number
+      (files s.names.map) statuses
   pub shows : Option MapState
   pub stands : Stands (files s.names.map) s.end statuses shows
   pub held : Held s g.reads (bytes_of (files_before b s.outfile)) statuses (bytes_of (files s.outfile))
@@ -101,10 +104,12 @@ pub record StopsSafely (b : Behind) (s : Setting) (g : Gain) : Type 0 where
       → has_barrier (take k g.calls) ≡ true → published (take (k + 1) g.calls) ≡ 0
       → files s.names.map ≡ files_before b s.names.map
   -- and the mapfile that is found is one that the run saved, or the one it began with, and it holds
-  pub kept : (k : ℕ) (files : List ℕ → Option File) (began : List Status) (state : Option MapState) → k ≤ length g.calls → LeftAt b g k files
+  pub kept : (k : ℕ) (files : List ℕ → Option File) (began : List Status) (state : Option MapState)
+      → k ≤ length g.calls → LeftAt b g k files
       → has_barrier (take k g.calls) ≡ true → Stands (files_before b s.names.map) s.end began state
       → IsKept b s g began state k files
   -- any other file is found as it could be before the rescue, but for the draft
   pub others : (k : ℕ) (files : List ℕ → Option File) (name : List ℕ) → k ≤ length g.calls → LeftAt b g k files
       → name ≢ s.outfile → name ≢ s.names.map → name ≢ s.names.draft
-      → (before : List ℕ → Option File) × MayBeLeft b.start b.earlier (length b.earlier) before × (files name ≡ before name)
+      → (before : List ℕ → Option File) × MayBeLeft b.start b.earlier (length b.earlier) before
+      × (files name ≡ before name)

@@ -42,8 +42,8 @@ begins s statuses state g = machine_over s statuses state (began_at g.times)
 abbrev pub events_in : Gain → List Event
 events_in g = events_of g.reads g.times
 
--- Why a run ended, by the state that it came to, and how many readings of the clock there are beyond two for each read: no
--- request is left; or there was one, and the input was lost, or memory ran out.
+-- Why a run ended, by the state that it came to, and how many readings of the clock there are beyond two for each read:
+-- no request is left; or there was one, and the input was lost, or memory ran out.
 abbrev pub EndsBy : Option Stop → Setting → Machine → (spare : ℕ) → Type 0
 EndsBy None s m spare = (has_ended s m ≡ true) × (spare ≡ 0)
 EndsBy (Some SourceLost) s m spare = (has_ended s m ≡ false) × (limit_met s m ≡ None) × (spare ≡ 1)
@@ -56,7 +56,8 @@ end_of None = Finished
 end_of (Some stop) = Stopped stop
 
 -- The calls of a run whose reads make these events, by how it ended.
-pub data Ends (s : Setting) (m : Machine) (events : List Event) (spare : ℕ) (calls : List Entry) (end : RunEnd) : Type 0 where
+pub data Ends (s : Setting) (m : Machine) (events : List Event) (spare : ℕ) (calls : List Entry) (end : RunEnd)
+    : Type 0 where
   -- it ended, and its last calls returned
   IsSaved : (stop : Option Stop) → EndsBy stop s (state_after s m events) spare → end ≡ end_of stop
       → calls ≡ map Done (run_calls s m events ++ end_calls s m events) → Ends s m events spare calls end
@@ -70,9 +71,10 @@ pub data Ends (s : Setting) (m : Machine) (events : List Event) (spare : ℕ) (c
       → BrokeAt call (move_calls s (move_of s (state_after s m before) last)) (map Done (run_calls s m before)) calls
       → Ends s m events spare calls end
 
--- A run over a map: the clock is read once at its start, and then before and behind each read; each read asks for the request
--- of the state that those before it led to.
-pub record Runs (s : Setting) (statuses : List Status) (state : Option MapState) (g : Gain) (end : RunEnd) : Type 0 where
+-- A run over a map: the clock is read once at its start, and then before and behind each read; each read asks for the
+-- request of the state that those before it led to.
+pub record Runs (s : Setting) (statuses : List Status) (state : Option MapState) (g : Gain) (end : RunEnd)
+    : Type 0 where
   pub spare : ℕ
   pub times : length g.times ≡ 1 + 2 * length g.reads + spare
   pub run : IsRun s (begins s statuses state g) (events_in g)
@@ -95,7 +97,8 @@ pub record IsLoadOf (s : Setting) (files : List ℕ → Option File) (load : Lis
 pub data GoesOn (s : Setting) (files : List ℕ → Option File) (g : Gain) : Type 0 where
   -- some of the opening's calls returned, and perhaps one more failed
   InOpening : (front : List Call) (back : List Call) → front ++ back ≡ opening_calls s → g.reads ≡ []
-      → (g.calls ≡ map Done front) ⊎ ((call : Call) × (rest : List Call) × (back ≡ call ∷ rest) × Lost call (map Done front) g.calls)
+      → (g.calls ≡ map Done front)
+      ⊎ ((call : Call) × (rest : List Call) × (back ≡ call ∷ rest) × Lost call (map Done front) g.calls)
       → GoesOn s files g
   -- the mapfile was being read, or was read and no run begun
   InLoad : (load : List Call) → s.has_mapfile ≡ true → BeginsLoad s.names.map (files s.names.map) load → g.reads ≡ []
@@ -116,8 +119,8 @@ is_map_read call = false
 abbrev pub AreMapReads : List Call → Type 0
 AreMapReads calls = All (λ c. is_map_read c ≡ true) calls
 
--- How far a rescue came over files as they read before it, by what it did. Before it opens its output it may read maps that
--- say what is to be rescued.
+-- How far a rescue came over files as they read before it, by what it did. Before it opens its output it may read maps
+-- that say what is to be rescued.
 pub data Goes (s : Setting) (files : List ℕ → Option File) (g : Gain) : Type 0 where
   -- a read of such a map failed
   InMaps : (maps : List Call) → AreMapReads maps → g.reads ≡ [] → BrokeAt MapRead maps [] g.calls → Goes s files g

@@ -18,11 +18,13 @@ ReadAsOne = (file : Option File) (mode : Mode) (m m' : ReadMap) → IsReadAs fil
 
 -- It is refused for one error.
 abbrev pub RefusedForOne : Type 0
-RefusedForOne = (file : Option File) (mode : Mode) (e e' : MapError) → IsRefusedFor file mode e → IsRefusedFor file mode e' → e ≡ e'
+RefusedForOne = (file : Option File) (mode : Mode) (e e' : MapError)
+    → IsRefusedFor file mode e → IsRefusedFor file mode e' → e ≡ e'
 
 -- One that is read as a map isn't refused.
 abbrev pub ReadIsNotRefused : Type 0
-ReadIsNotRefused = (file : Option File) (mode : Mode) (m : ReadMap) (e : MapError) → IsReadAs file mode m → IsRefusedFor file mode e → ⊥
+ReadIsNotRefused = (file : Option File) (mode : Mode) (m : ReadMap) (e : MapError)
+    → IsReadAs file mode m → IsRefusedFor file mode e → ⊥
 
 -- One that is like none isn't read as a map,
 abbrev pub NoneIsNotRead : Type 0
@@ -30,15 +32,18 @@ NoneIsNotRead = (file : Option File) (mode : Mode) (m : ReadMap) → IsLikeNone 
 
 -- and it is refused for nothing but want of a status line.
 abbrev pub NoneSaysNothing : Type 0
-NoneSaysNothing = (file : Option File) (mode : Mode) (e : MapError) → IsLikeNone file → IsRefusedFor file mode e → e ≡ NoStatusLine
+NoneSaysNothing = (file : Option File) (mode : Mode) (e : MapError)
+    → IsLikeNone file → IsRefusedFor file mode e → e ≡ NoStatusLine
 
 -- Each mapfile is like none, or is read as a map, or is refused for something else.
 abbrev pub HasAnswer : Type 0
 HasAnswer = (file : Option File) (mode : Mode)
-    → IsLikeNone file ⊎ ((m : ReadMap) × IsReadAs file mode m) ⊎ ((e : MapError) × (e ≢ NoStatusLine) × IsRefusedFor file mode e)
+    → IsLikeNone file ⊎ ((m : ReadMap) × IsReadAs file mode m)
+    ⊎ ((e : MapError) × (e ≢ NoStatusLine) × IsRefusedFor file mode e)
 
 -- Where nothing is pending, each stop finds the mapfile and the open image as they read.
 abbrev pub PendingNothingIsFound : Type 0
-PendingNothingIsFound = (names : MapNames) (was now : Disk) (found : List ℕ → Option File) → NothingPending names was now → Leaves now found
+PendingNothingIsFound = (names : MapNames) (was now : Disk) (found : List ℕ → Option File)
+    → NothingPending names was now → Leaves now found
     → (found names.map ≡ was.reads.files names.map)
     × ((image : List ℕ) → was.reads.image ≡ Some image → found image ≡ was.reads.files image)

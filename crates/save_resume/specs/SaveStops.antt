@@ -23,7 +23,8 @@ ImageIsDurable names was now =
 
 -- What is found under a name could be found before, or it is the new text under the mapfile's name, and then the image
 -- is durable as it read when the save began.
-pub data IsOldOrNew (names : MapNames) (text : List ℕ) (was now : Disk) (name : List ℕ) (found : Option File) : Type 0 where
+pub data IsOldOrNew (names : MapNames) (text : List ℕ) (was now : Disk) (name : List ℕ) (found : Option File)
+    : Type 0 where
   Old : MayShow (was.shows name) found → IsOldOrNew names text was now name found
   New : name ≡ names.map → found ≡ Some (text_file text) → ImageIsDurable names was now
       → IsOldOrNew names text was now name found

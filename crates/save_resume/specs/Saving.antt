@@ -35,7 +35,8 @@ pub record EndsFilled (calls : List Entry) : Type 0 where
   pub before : List Entry
   pub draft : List ℕ
   pub pieces : List (List ℕ)
-  pub is : calls ≡ before ++ Done image_sync ∷ Done (draft_begin draft) ∷ map (λ piece. Done (draft_append piece)) pieces
+  pub is : calls ≡ before ++ Done image_sync ∷ Done (draft_begin draft)
+      ∷ map (λ piece. Done (draft_append piece)) pieces
 
 -- The draft is firm: it was synced behind its last append.
 pub record EndsFirm (calls : List Entry) : Type 0 where
@@ -66,7 +67,8 @@ IsNameIn at (call ∷ calls) = (at ≡ call_name call) ⊎ IsNameIn at calls
 
 -- What a part of a save does to a site, by its outcome: these calls and no other, or those up to one that failed, which
 -- it names; `drafting` says whether a draft is begun behind it where none failed.
-pub record Saves {T : Type 0} (calls : List Call) (drafting : Bool) (result : Result T SaveFault) (old new : SiteState) : Type 0 where
+pub record Saves {T : Type 0} (calls : List Call) (drafting : Bool) (result : Result T SaveFault) (old new : SiteState)
+    : Type 0 where
   pub keeps : Keeps old new
   pub made : OnOk result (Makes calls old new)
   pub broke : IfErr result (λ f. Breaks f.call calls old new)

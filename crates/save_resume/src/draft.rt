@@ -40,8 +40,8 @@ pub struct Filled;
 #[derive(Clone, Copy, Debug)]
 pub struct Firm;
 
-/// A draft that came as far as its state says. It is made by `begin`, filled by `fill`, made durable by `firm` and spent
-/// by `publish`, in this order. None of these calls takes memory.
+/// A draft that came as far as its state says. It is made by `begin`, filled by `fill`, made durable by `firm` and
+/// spent by `publish`, in this order. None of these calls takes memory.
 pub struct Draft<S> {
     state: S,
 }

@@ -88,8 +88,8 @@ fn map_in(alloc: Global, text: &[u8], mode: Mode) -> Result<ReadMap, ResumeFault
     }
 }
 
-/// Reads a mapfile, by reads that ask for 4,096 bytes each. None where there is no such file; a text that says nothing is
-/// refused for want of a status line.
+/// Reads a mapfile, by reads that ask for 4,096 bytes each. None where there is no such file; a text that says nothing
+/// is refused for want of a status line.
 pub fn load_map<D: Site>(
     alloc: Global,
     site: &mut D,

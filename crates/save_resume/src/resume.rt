@@ -50,9 +50,11 @@ fn answer(read: Result<Option<ReadMap>, ResumeFault>) -> Result<Resumed, ResumeF
 /// Settles the mapfile and syncs the image, so that nothing of an earlier run is pending, and then reads the mapfile.
 /// One that says nothing is like none.
 pub fn resume<D: Site>(alloc: Global, site: &mut D, names: &Names) -> Result<Resumed, ResumeFault>
-    ensures told { IsTrue (D.state site.old).tells → Resumes names.now (files_in (D.state site.old) names.now.map) result
+    ensures told { IsTrue (D.state site.old).tells
+        → Resumes names.now (files_in (D.state site.old) names.now.map) result
         (D.state site.old).calls (D.state site.new).calls }
-    ensures settled { IsTrue (D.state site.old).tells → SettlesAll names.now result (D.state site.old) (D.state site.new) }
+    ensures settled { IsTrue (D.state site.old).tells
+        → SettlesAll names.now result (D.state site.old) (D.state site.new) }
     ensures counts { Counts result (D.state site.old).faults (D.state site.new).faults }
     ensures says { IfErr result (λ e. e ≢ Refused Nothing) }
     ensures limits { ResumedWithinLimits result }

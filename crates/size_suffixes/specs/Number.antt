@@ -45,7 +45,8 @@ within n = if nat_lt n (2 ^ 63) then Ok n else Err TooLarge
 -- (of the text's end where `0x` has no digit), or a value of 2^63 or more.
 abbrev pub number_by : List ℕ → Option ℕ → Result ℕ SizeError
 number_by text (Some k) = Err (BadDigit (digits_at text + k))
-number_by text None = if nat_eq (length (digits_of_text text)) 0 then Err (BadDigit (digits_at text)) else within (value text)
+number_by text None =
+    if nat_eq (length (digits_of_text text)) 0 then Err (BadDigit (digits_at text)) else within (value text)
 
 abbrev pub number : List ℕ → Result ℕ SizeError
 number [] = Err Empty

@@ -41,13 +41,14 @@ IfLoaded (Whole loaded) holds = holds loaded
 IfLoaded (Part loaded missed) holds = holds loaded
 IfLoaded (Nothing missed) holds = ⊤
 
--- At the buffer's front stand the bytes of the loaded range: those that the read gave first, as many as are kept, and so
--- the input's own.
+-- At the buffer's front stand the bytes of the loaded range: those that the read gave first, as many as are kept, and
+-- so the input's own.
 pub record Holds (sector : ℕ) (r : Reading) (source : SourceState) (buf : List ℕ) (loaded : Run) : Type 0 where
   pub given : take (size_of loaded) buf ≡ take (kept sector r) r.given
   pub own : IsTrue source.tells → take (size_of loaded) buf ≡ slice_range source.bytes loaded.from loaded.to
 
--- One read was made of what was requested, which gave so many bytes, and cut; what it gave stands at the buffer's front.
+-- One read was made of what was requested, which gave so many bytes, and cut; what it gave stands at the buffer's
+-- front.
 pub record Fetches (request : Request) (sector given : ℕ) (fetched : Fetched) (buf : List ℕ) (old new : SourceState)
     : Type 0 where
   pub reading : Reading

@@ -6,8 +6,8 @@ use Rattle.rescue_rules.specs.Passes.{passes_behind}
 use Rattle.rescue_rules.specs.Machine.{has_request}
 use Rattle.rescue_core.specs.RunState.{RunState, setting_in}
 
--- A run that is behind a phase: its pass has no request left, and those that follow are the passes behind that phase. The
--- pass may be one of an earlier phase, if none of this one was asked for.
+-- A run that is behind a phase: its pass has no request left, and those that follow are the passes behind that phase.
+-- The pass may be one of an earlier phase, if none of this one was asked for.
 pub record IsBehind (phase : Phase) (r : RunState) : Type 0 where
   pub sensible : IsSensible (setting_in r)
   pub spent : has_request (setting_in r) r.machine ≡ false

@@ -27,8 +27,8 @@ narrows Retrying = false
 abbrev pub is_narrowing : Machine → Bool
 is_narrowing m = narrows (pass_of m).phase
 
--- How often events ask for a position: once at most in copying, once at most in trimming and scraping together, and once at
--- most in each pass of retrying; and never for one that is finished.
+-- How often events ask for a position: once at most in copying, once at most in trimming and scraping together, and
+-- once at most in each pass of retrying; and never for one that is finished.
 pub record AskFew (s : Setting) (m : Machine) (events : List Event) : Type 0 where
   pub copying : (i j x : ℕ) (v w : Move) → Asks (moves s m events) i x v → Asks (moves s m events) j x w
       → is_copying v.before ≡ true → is_copying w.before ≡ true → i ≡ j

@@ -29,8 +29,8 @@ RunAsksFew = (s : Setting) (m : Machine) (phase : Phase) (number : ℕ) (events 
 
 -- A run from its start, or from where a mapfile's copying stood, that has no request left and met no limit, ends well.
 abbrev pub RunEndsWell : Type 0
-RunEndsWell = (s : Setting) (map : List Status) (from : Option MapState) (shown : MapState) (time : ℕ) (events : List Event)
-    → IsSensible s → IsRun s (machine_of s map from shown time) events
+RunEndsWell = (s : Setting) (map : List Status) (from : Option MapState) (shown : MapState) (time : ℕ)
+    (events : List Event) → IsSensible s → IsRun s (machine_of s map from shown time) events
     → has_ended s (state_after s (machine_of s map from shown time) events) ≡ true
     → EndsWell s (machine_of s map from shown time) events
 

@@ -1,5 +1,5 @@
-//! The phases of a rescue behind copying. Each goes on until its passes have no request left, and stops where a turn does:
-//! for want of memory, at a read that was lost, or at a call on the output or the mapfile that failed.
+//! The phases of a rescue behind copying. Each goes on until its passes have no request left, and stops where a turn
+//! does: for want of memory, at a read that was lost, or at a call on the output or the mapfile that failed.
 ghost use Rattle.std.specs.Prelude.{◌≡◌, ◌+◌, true, false, IfOk, IfErr, OnOk};
 ghost use Rattle.faulty_source.specs.SourceState.{Stays as SourceStays};
 ghost use Rattle.crash_site.specs.SiteState.{Keeps as SiteKeeps};
@@ -69,8 +69,8 @@ fn run_pass<P: Stage, S: Source, D: Site, K: Clock, C: Console, T: Tiles>(
     Ok(())
 }
 
-/// Trims: finds the edges of what copying missed, unless that is off. Each non-trimmed run is read from its front, a sector
-/// at a time, up to a failure, and then from its back; what lies between the two is left for scraping.
+/// Trims: finds the edges of what copying missed, unless that is off. Each non-trimmed run is read from its front, a
+/// sector at a time, up to a failure, and then from its back; what lies between the two is left for scraping.
 pub fn run_trimming<S: Source, D: Site, K: Clock, C: Console, T: Tiles>(
     rescue: Rescue<Trimming, T>,
     source: &mut S,
