@@ -1,3 +1,2 @@
 pub mod ClockLemmas
-pub mod ConsoleLemmas
 pub mod FeedLemmas

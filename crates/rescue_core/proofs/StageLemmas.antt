@@ -1,7 +1,7 @@
 -- What is known of a run stays so in a turn, and in a new pass.
-use Rattle.std.proofs.Common.{◌≡◌, ℕ, ◌+◌, true, false, List, [], ◌∷◌, drop, All, Some, None, Ok, Err, Result, IfOk, IfErr, refl, sym, ap, ◌∙◌, subst, ⊎_elim, arith}
+use Rattle.std.proofs.Common.{◌≡◌, ℕ, ◌+◌, true, false, List, [], ◌∷◌, drop, All, Some, Ok, Err, Result, IfOk, IfErr, refl, sym, ap, ◌∙◌, subst, ⊎_elim, arith}
 use Rattle.std.specs.List.{slice_get}
-use Rattle.std.proofs.lemmas.Bool.{cond-false, true_from_ne_false, true≢false}
+use Rattle.std.proofs.lemmas.Bool.{true_from_ne_false, true≢false}
 use Rattle.std.proofs.lemmas.Option.{same_Some}
 use Rattle.block_list.specs.declared.status.Status.TheVariants.{NonTried, NonTrimmed, NonScraped}
 use Rattle.block_list.specs.Map.{Has}
@@ -17,7 +17,7 @@ use Rattle.rescue_rules.specs.Setting.{Setting, IsSensible}
 use Rattle.rescue_rules.specs.Passes.{Pass, taken, numbered}
 use Rattle.rescue_rules.specs.Machine.{Machine, pass_of, is_wanted, IsRequest, has_request}
 use Rattle.rescue_rules.specs.Step.{Event, copies, trims, is_copying, is_trimming}
-use Rattle.rescue_rules.specs.Moves.{at_next, ready, no_pass_left}
+use Rattle.rescue_rules.specs.Moves.{ready, no_pass_left}
 use Rattle.rescue_rules.proofs.SearchLemmas.{request_seen}
 use Rattle.rescue_rules.proofs.StepLemmas.{Asks, request_asks, wanted_domain}
 use Rattle.rescue_rules.proofs.StatusLemmas.{non_tried_stood, non_trimmed_stood, non_scraped_stood, wanted_taken}
@@ -204,17 +204,3 @@ known_passes Over r phase pass next off known =
 pub none_left : (r : RunState) → All (λ p. IsGone (taken p.phase) r) r.machine.passes
     → no_pass_left (ready (setting_in r) r.machine).passes ≡ true
 none_left r gone = ap (λ (m : Machine). no_pass_left m.passes) (ready_end (setting_in r) r.machine gone)
-
--- Nor does one where this one has none and no pass is behind it.
-pub last_spent : (r : RunState) → slice_get r.machine.passes 1 ≡ None → has_request (setting_in r) r.machine ≡ false
-    → no_pass_left (ready (setting_in r) r.machine).passes ≡ true
-last_spent r last off =
-    let s : Setting = setting_in r in
-    ap (λ (m : Machine). no_pass_left m.passes)
-    (cond-false (has_request s r.machine) r.machine (at_next s r.machine (drop 1 r.machine.passes)) off
-    ∙ ap (at_next s r.machine) (none_behind r.machine.passes last))
-  where
-    none_behind : (ps : List Pass) → slice_get ps 1 ≡ None → drop 1 ps ≡ []
-    none_behind [] is = refl
-    none_behind (c ∷ []) is = refl
-    none_behind (c ∷ p ∷ ps) is = absurd (cc)

@@ -25,9 +25,6 @@ makes_both xs ys a b c keeps x y = record {
 }
 
 -- a run has no limit, so with a mapfile a save is due where it is timely
-due_is : (r : RunState) (e : Event) → is_due (setting_in r) (move_by r e) ≡ (is_some r.names && is_timely r.machine e && true)
-due_is r e = refl
-
 pub timely_due : (r : RunState) (e : Event) → is_some r.names ≡ true → is_timely r.machine e ≡ true
     → is_due (setting_in r) (move_by r e) ≡ true
 timely_due r e there timely =

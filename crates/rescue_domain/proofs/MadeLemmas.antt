@@ -42,9 +42,6 @@ pub record IsMade (domain : ℕ → Bool) (parts : List Run) (at : ℕ) : Type 0
   pub gap : (run : Run) → at ≤ run.from → IsIn domain run.from → EndBelow run.from parts
   pub same : (x : ℕ) → covers parts x ≡ (nat_lt x at && domain x)
 
-pub none_made : (domain : ℕ → Bool) → IsMade domain [] 0
-none_made domain = record { apart = tt; gap = λ run l i. tt; same = λ x. grind (arith, nat_tests) }
-
 same_more : (domain : ℕ → Bool) (parts : List Run) (at : ℕ) (run : Run) → IsMade domain parts at
     → IsFirst (IsIn domain) at run.from → IsRunUp (IsIn domain) run.from run.to
     → (x : ℕ) → covers (parts ++ run ∷ []) x ≡ (nat_lt x run.to && domain x)
@@ -81,17 +78,6 @@ made_more domain parts at run m f u =
           end_below_push next.from parts run (end_below_more run.from next.from parts below (omega (arith, u.begun))) lt;
       same = same_more domain parts at run m f u;
     }
-
-pub made_all : (domain : ℕ → Bool) (parts : List Run) (at : ℕ) → IsMade domain parts at
-    → ((x : ℕ) → at ≤ x → IsIn domain x → ⊥) → (x : ℕ) → covers parts x ≡ domain x
-made_all domain parts at m none x =
-    let same = m.same x in
-    ⊎_elim
-    (λ (v : x < at). grind (arith, nat_tests, same))
-    (λ (v : at ≤ x).
-    let clear : domain x ≡ false = false_from_ne_true (domain x) (none x v) in
-    grind (arith, nat_tests, same, clear))
-    (cases_lt x at)
 
 -- an interval cut to the positions from first on and below end
 abbrev pub cut : (first end : ℕ) → Run → Run

@@ -51,12 +51,6 @@ finished_stands s m (e ∷ es) x ok order run is =
       later.1,
     )
 
-pub run_order : (s : Setting) (ok : IsSensible s) (m : Machine) (es : List Event) → IsInOrder s m → IsRun s m es
-    → IsInOrder s (state_after s m es)
-run_order s ok m [] order run = order
-run_order s ok m (e ∷ es) order run =
-    run_order s ok (move_of s m e).after es (run_steps s ok m e es order run).order (run_rest s m e es run)
-
 -- A run calls a position finished only if it was, or if the source gave its byte.
 covered_byte : (s : Setting) (m : Machine) (e : Event) (rs : List Reading) (x : ℕ) → StepsBy s m e
     → covers s.sector e.reading x ≡ true → given s.sector rs x ≡ None → (b : ℕ) × (given s.sector (e.reading ∷ rs) x ≡ Some b)

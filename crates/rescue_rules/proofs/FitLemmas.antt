@@ -198,14 +198,10 @@ run_fits s ok far top m (e ∷ es) order run h =
     run_fits s ok far top (move_of s m e).after es b.order (run_rest s m e es run)
     (step_fits s far top (ready s m) e b (ready_fits s far top m h))
 
--- A run keeps its map's length, and the time at which it began.
+-- A run keeps its map's length.
 pub run_size : (s : Setting) (ok : IsSensible s) (m : Machine) (es : List Event) → IsInOrder s m → IsRun s m es
     → length (state_after s m es).map ≡ length m.map
 run_size s ok m [] order run = refl
 run_size s ok m (e ∷ es) order run =
     let b : StepsBy s (ready s m) e = run_steps s ok m e es order run in
     run_size s ok (move_of s m e).after es b.order (run_rest s m e es run) ∙ b.size ∙ ap length (stays_ready s m).map
-
-pub run_began : (s : Setting) (m : Machine) (es : List Event) → (state_after s m es).began ≡ m.began
-run_began s m [] = refl
-run_began s m (e ∷ es) = run_began s (move_of s m e).after es ∙ (stays_ready s m).began

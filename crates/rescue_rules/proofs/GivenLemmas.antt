@@ -1,8 +1,8 @@
 -- What reads give.
-use Rattle.std.proofs.Common.{◌≡◌, ◌⊎◌, ℕ, ◌+◌, ◌-◌, ◌<◌, ◌≤◌, true, false, if◌then◌else◌, nat_le, nat_lt, List, [], ◌∷◌, ◌++◌, length, get_or, Option, Some, None, refl, sym, ap, ◌∙◌, arith, ⊎_elim}
+use Rattle.std.proofs.Common.{◌≡◌, ℕ, ◌+◌, ◌-◌, ◌<◌, ◌≤◌, true, false, if◌then◌else◌, nat_le, nat_lt, List, [], ◌∷◌, ◌++◌, length, get_or, Option, Some, None, refl, sym, ap, ◌∙◌, arith, ⊎_elim}
 use Rattle.std.specs.List.{slice_get}
 use Rattle.std.proofs.Math.Nat.{div-mul-le_self}
-use Rattle.std.proofs.lemmas.Bool.{cases_Bool, eqb-true, lt-ltb, le-leb, le-ltb, lt-leb, ltb-true, leb-true, and_from, and_left, and_right, and_parts, cond-true, cond-false}
+use Rattle.std.proofs.lemmas.Bool.{cases_Bool, eqb-true, lt-ltb, le-leb, ltb-true, leb-true, and_from, and_parts, cond-true, cond-false}
 use Rattle.std.proofs.lemmas.Option.{slice_get-get_or}
 use Rattle.faulty_source.specs.Journal.{Reading, is_whole, floor, kept, covers}
 use Rattle.rescue_rules.specs.Given.{given, last_of_both}
@@ -33,14 +33,7 @@ given_covered b r rs x covered later =
 pub kept_whole : (b : ℕ) (r : Reading) → is_whole r ≡ true → kept b r ≡ r.asked
 kept_whole b r whole = cond-true (is_whole r) r.asked (floor b (r.pos + length r.given) - r.pos) whole
 
--- a read doesn't cover what lies outside its kept part
-pub covers_not : (b : ℕ) (r : Reading) (x : ℕ) → (x < r.pos) ⊎ (r.pos + kept b r ≤ x) → covers b r x ≡ false
-covers_not b r x apart =
-    ⊎_elim (λ (lt : x < r.pos). and_left (nat_le r.pos x) (nat_lt x (r.pos + kept b r)) (lt-leb r.pos x lt))
-    (λ (le : r.pos + kept b r ≤ x). and_right (nat_le r.pos x) (nat_lt x (r.pos + kept b r))
-    (le-ltb x (r.pos + kept b r) le)) apart
-
--- it covers what lies inside
+-- a read covers what lies inside its kept part
 pub covers_here : (b : ℕ) (r : Reading) (x : ℕ) → r.pos ≤ x → x < r.pos + kept b r → covers b r x ≡ true
 covers_here b r x from to =
     and_from (nat_le r.pos x) (nat_lt x (r.pos + kept b r)) (le-leb r.pos x from) (lt-ltb x (r.pos + kept b r) to)

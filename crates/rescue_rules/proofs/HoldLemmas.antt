@@ -11,7 +11,7 @@ use Rattle.faulty_source.specs.Journal.{Reading, kept, covers}
 use Rattle.crash_site.specs.Files.{File, written}
 use Rattle.crash_site.specs.Left.{IsLoose, Matches}
 use Rattle.rescue_rules.specs.Setting.{Setting, IsSensible, place}
-use Rattle.rescue_rules.specs.Machine.{Machine, IsRequest}
+use Rattle.rescue_rules.specs.Machine.{Machine}
 use Rattle.rescue_rules.specs.Step.{Event, step}
 use Rattle.rescue_rules.specs.Moves.{ready, move_of, state_after, IsRun}
 use Rattle.rescue_rules.specs.Events.{reads_of}
@@ -22,10 +22,10 @@ use Rattle.rescue_rules.specs.MachineLaws.{IsInOrder, StepsBy, RunHolds}
 use Rattle.rescue_rules.proofs.MarkLemmas.{slice_get-take}
 use Rattle.rescue_rules.proofs.WriteLemmas.{length-written, written_inside, written_outside}
 use Rattle.rescue_rules.proofs.GivenLemmas.{covers_here, Covered, covered_here, kept_given, given_before, given_behind, given_off}
-use Rattle.rescue_rules.proofs.StepLemmas.{wanted_domain, move_steps}
-use Rattle.rescue_rules.proofs.MoveLemmas.{reads_append, run_rest, run_front, run_back}
+use Rattle.rescue_rules.proofs.StepLemmas.{wanted_domain}
+use Rattle.rescue_rules.proofs.MoveLemmas.{run_rest}
 use Rattle.rescue_rules.proofs.ReadyLemmas.{stays_ready}
-use Rattle.rescue_rules.proofs.FinishLemmas.{run_steps, finished_stands, run_order}
+use Rattle.rescue_rules.proofs.FinishLemmas.{run_steps}
 
 -- The image of an event's read: what is kept of it stands at its place, and all else stood.
 pub length-output_by : (s : Setting) (image : List ℕ) (r : Reading) → length image ≤ length (output_by s image r)
@@ -144,17 +144,6 @@ held_by_step s ok m e front old image b longer h =
           output_apart s image r y (omega arith) (other_apart s r y d apart) ∙ h.outside y old_place apart;
     }
 
--- the same by a move from a state in order
-pub held_by_move : (s : Setting) (ok : IsSensible s) (m : Machine) (e : Event) (front : List Reading) (old image : List ℕ)
-    → IsInOrder s m → IsRequest s m e.reading.pos (e.reading.pos + e.reading.asked)
-    → length e.reading.given ≤ e.reading.asked → length old ≤ length image → Held s front old m.map image
-    → Held s (front ++ e.reading ∷ []) old (step s m e).map (output_by s image e.reading)
-    × (length old ≤ length (output_by s image e.reading))
-held_by_move s ok m e front old image order request few longer h = (
-  held_by_step s ok m e front old image (move_steps s m e ok order request few) longer h,
-  omega (arith, length-output_by s image e.reading),
-)
-
 -- reads that give nothing for finished positions leave a map's promise
 pub held_more : (s : Setting) (front back : List Reading) (old : List ℕ) (map : List Status) (image : List ℕ)
     → ((x : ℕ) → s.domain x ≡ true → Has map Finished x → given s.sector back x ≡ None)
@@ -164,16 +153,6 @@ held_more s front back old map image none h = record {
       h.rescued x b inside is (sym (given_before s.sector front back x (none x inside is)) ∙ gave);
   stood = λ x inside is unread old_place.
       h.stood x inside is (sym (given_before s.sector front back x (none x inside is)) ∙ unread) old_place;
-  outside = h.outside;
-}
-
--- a map that calls fewer positions finished promises less
-pub held_less : (s : Setting) (reads : List Reading) (old : List ℕ) (map less : List Status) (image : List ℕ)
-    → ((x : ℕ) → s.domain x ≡ true → Has less Finished x → Has map Finished x)
-    → Held s reads old map image → Held s reads old less image
-held_less s reads old map less image was h = record {
-  rescued = λ x b inside is gave. h.rescued x b inside (was x inside is) gave;
-  stood = λ x inside is unread old_place. h.stood x inside (was x inside is) unread old_place;
   outside = h.outside;
 }
 
@@ -262,14 +241,3 @@ held_at_first s map old = record {
 pub run_holds : RunHolds
 run_holds s m es old ok order run =
     (held_by_run s ok m es [] old old order run (omega arith) (held_at_first s m.map old)).0
-
--- What holds behind the front of a run goes on to hold by all of its reads, as the rest covers nothing that is finished there.
-pub held_by_rest : (s : Setting) (ok : IsSensible s) (m : Machine) (front back : List Event) (old image : List ℕ)
-    → IsInOrder s m → IsRun s m (front ++ back) → Held s (reads_of front) old (state_after s m front).map image
-    → Held s (reads_of (front ++ back)) old (state_after s m front).map image
-held_by_rest s ok m front back old image order run h =
-    let n : Machine = state_after s m front in
-    subst (λ (reads : List Reading). Held s reads old n.map image) (sym (reads_append front back))
-    (held_more s (reads_of front) (reads_of back) old n.map image
-    (λ x inside is. (finished_stands s n back x ok (run_order s ok m front order (run_front s m front back run))
-    (run_back s m front back run) is).0) h)

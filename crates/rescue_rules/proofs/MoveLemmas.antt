@@ -1,5 +1,5 @@
 -- A run that goes on.
-use Rattle.std.proofs.Common.{◌≡◌, ℕ, List, [], ◌∷◌, ◌++◌, All, refl, sym, ap, subst}
+use Rattle.std.proofs.Common.{◌≡◌, List, [], ◌∷◌, ◌++◌, All, refl, sym, ap, subst}
 use Rattle.std.proofs.lemmas.List.{map-append}
 use Rattle.std.proofs.lemmas.List.Elements.{All-append, All-nil, All-cons, All-head, All-tail, All-same}
 use Rattle.rescue_rules.specs.Setting.{Setting}
@@ -7,7 +7,6 @@ use Rattle.rescue_rules.specs.Machine.{Machine}
 use Rattle.rescue_rules.specs.Step.{Event}
 use Rattle.rescue_rules.specs.Moves.{Move, move_of, moves, state_after, IsMove, IsRun}
 use Rattle.rescue_rules.specs.Events.{reads_of}
-use Rattle.rescue_rules.specs.RunCalls.{output_by, output_after}
 use Rattle.rescue_rules.specs.MachineLaws.{GoesOnBy}
 
 pub moves_more : (s : Setting) (m : Machine) (es : List Event) (e : Event)
@@ -50,11 +49,6 @@ state_append s m (e ∷ front) back = state_append s (move_of s m e).after front
 pub reads_append : (front back : List Event) → reads_of (front ++ back) ≡ reads_of front ++ reads_of back
 reads_append front back = map-append (λ e. e.reading) front back
 
-pub output_append : (s : Setting) (bytes : List ℕ) (front back : List Event)
-    → output_after s bytes (front ++ back) ≡ output_after s (output_after s bytes front) back
-output_append s bytes [] back = refl
-output_append s bytes (e ∷ front) back = output_append s (output_by s bytes e.reading) front back
-
 -- an event of a run, and those behind it
 pub run_first : (s : Setting) (m : Machine) (e : Event) (es : List Event) → IsRun s m (e ∷ es) → IsMove s (move_of s m e)
 run_first s m e es run = All-head (IsMove s) (move_of s m e) (moves s (move_of s m e).after es) run.each
@@ -63,19 +57,6 @@ pub run_rest : (s : Setting) (m : Machine) (e : Event) (es : List Event) → IsR
     → IsRun s (move_of s m e).after es
 run_rest s m e es run =
     record { each = All-tail (IsMove s) (move_of s m e) (moves s (move_of s m e).after es) run.each }
-
-pub run_front : (s : Setting) (m : Machine) (front back : List Event) → IsRun s m (front ++ back) → IsRun s m front
-run_front s m [] back run = record { each = All-nil (IsMove s) }
-run_front s m (e ∷ front) back run = record {
-  each = All-cons (IsMove s) (move_of s m e) (moves s (move_of s m e).after front) (run_first s m e (front ++ back) run)
-      (run_front s (move_of s m e).after front back (run_rest s m e (front ++ back) run)).each;
-}
-
-pub run_back : (s : Setting) (m : Machine) (front back : List Event) → IsRun s m (front ++ back)
-    → IsRun s (state_after s m front) back
-run_back s m [] back run = run
-run_back s m (e ∷ front) back run =
-    run_back s (move_of s m e).after front back (run_rest s m e (front ++ back) run)
 
 -- a run from where another came to goes on from that one
 pub run_append : (s : Setting) (m : Machine) (front back : List Event) → IsRun s m front

@@ -1,5 +1,5 @@
 -- How a state goes on over passes without a request.
-use Rattle.std.proofs.Common.{◌≡◌, ◌⊎◌, ℕ, true, false, if◌then◌else◌, List, [], ◌∷◌, drop, All, Option, Some, None, refl, sym, ap, subst, ◌∙◌, inl, inr, ⊎_elim}
+use Rattle.std.proofs.Common.{◌≡◌, ◌⊎◌, ℕ, true, false, if◌then◌else◌, List, [], ◌∷◌, drop, All, Option, Some, None, refl, sym, ap, subst, ◌∙◌, inl, inr}
 use Rattle.std.specs.List.{slice_get}
 use Rattle.std.proofs.lemmas.Bool.{and_parts, cond-true, cond-false, cond_both, false_from_ne_true, true≢false}
 use Rattle.std.proofs.lemmas.List.Elements.{All-nil, All-head, All-tail, All-drop}
@@ -89,12 +89,6 @@ ready_on s m c p ps off is =
     ∙ ap (λ qs. at_next s m (drop 1 qs)) is
     ∙ ap (λ n. if has_request s (begun s m p ps) then begun s m p ps else n) (sym (next_begun s m p ps ps))
 
--- the same in the last pass, and where no pass is left
-pub ready_last : (s : Setting) (m : Machine) (c : Pass) → has_request s m ≡ false → m.passes ≡ c ∷ []
-    → ready s m ≡ ended m
-ready_last s m c off is =
-    cond-false (has_request s m) m (at_next s m (drop 1 m.passes)) off ∙ ap (λ qs. at_next s m (drop 1 qs)) is
-
 taken_has : (s : Setting) (map : List Status) (p : Pass) (ps : List Pass) (o : Option Status) → has_taken (p ∷ ps) o ≡ true
     → o ≡ Some (taken p.phase)
 taken_has s map p ps None is = absurd (cc)
@@ -149,7 +143,7 @@ ready_leads s m =
     (λ (n : Machine). (has_request s n ≡ true) ⊎ (n ≡ ended m))
     (λ on. inl on) (λ off. next_leads s m (drop 1 m.passes))
 
--- A state that has gone on has no request where no pass is left, and one where a pass is.
+-- A state has no request where no pass is left.
 none_is : (ps : List Pass) → no_pass_left ps ≡ true → ps ≡ []
 none_is [] none = refl
 none_is (p ∷ ps) none = absurd (cc)
@@ -157,12 +151,6 @@ none_is (p ∷ ps) none = absurd (cc)
 pub spent_request : (s : Setting) (m : Machine) → no_pass_left m.passes ≡ true → has_request s m ≡ false
 spent_request s m none =
     no_request s m (subst (All (HasNone s m.map)) (sym (none_is m.passes none)) (All-nil (HasNone s m.map)))
-
-pub ready_request : (s : Setting) (m : Machine) → no_pass_left (ready s m).passes ≡ false → has_request s (ready s m) ≡ true
-ready_request s m some =
-    ⊎_elim (λ (on : has_request s (ready s m) ≡ true). on)
-    (λ (over : ready s m ≡ ended m). absurd (true≢false (sym (ap (λ n. no_pass_left n.passes) over) ∙ some)))
-    (ready_leads s m)
 
 pub state_leads_on : StateLeadsOn
 state_leads_on s m = record { there = ready_leads s m; spent = ready_end s m }

@@ -1,25 +1,14 @@
 -- Sectors' boundaries, and the part of a run that is cut off at one.
 use Rattle.std.proofs.Common.{◌≡◌, ℕ, ◌+◌, ◌-◌, ◌*◌, ◌/◌, ◌<◌, ◌≤◌, min, max, Bool, true, false, if◌then◌else◌, ap, ◌∙◌, arith, ⊎_elim}
-use Rattle.std.proofs.Math.Nat.{lt-div-mul-add, div-lt_iff_lt-mul, div-mul-le_self, mul-le-mul_right}
+use Rattle.std.proofs.Math.Nat.{lt-div-mul-add, div-lt_iff_lt-mul, div-mul-le_self}
 use Rattle.std.proofs.lemmas.Bool.{cases_lt}
 use Rattle.faulty_source.specs.Journal.{floor}
 use Rattle.rescue_rules.specs.Machine.{ceiling}
 use Rattle.rescue_rules.specs.Moves.{begun}
 
--- a position lies before the sector's end behind it
-pub floor_above : (b p : ℕ) → 0 < b → p < floor b (p + b)
-floor_above b p some = omega (arith, lt-div-mul-add {a = p + b} {b = b} some)
-
--- and before the boundary below a place that is a sector or more behind it
+-- a position lies before the boundary below a place that is a sector or more behind it
 pub floor_beyond : (b p size : ℕ) → 0 < b → b ≤ size → p < floor b (p + size)
 floor_beyond b p size some le = omega (arith, lt-div-mul-add {a = p + size} {b = b} some)
-
--- what lies below a sector's end reaches that sector's beginning at most
-pub floor_below : (b n m p : ℕ) → 0 < b → n < floor b m → m ≤ p + b → floor b n ≤ p
-floor_below b n m p some lt le =
-    let less : n / b < m / b = (div-lt_iff_lt-mul {k = b} {x = n} {y = m / b} some).1 lt in
-    let up : (n / b + 1) * b ≤ m / b * b = mul-le-mul_right b (omega arith) in
-    omega (arith, up, div-mul-le_self m b)
 
 -- a place comes before the boundary above it
 pub ceiling_above : (b x : ℕ) → 0 < b → x ≤ ceiling b x
