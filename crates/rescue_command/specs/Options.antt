@@ -116,7 +116,7 @@ sector_of text = option_and_then (within_range 1 1048576) (result_ok (size defau
 abbrev pub size_by : Options → List ℕ → Option ℕ
 size_by o text = result_ok (size o.sector text)
 
--- a text that isn't empty
+-- a text has no bytes
 abbrev pub is_empty_text : List ℕ → Bool
 is_empty_text text = nat_eq (length text) 0
 
