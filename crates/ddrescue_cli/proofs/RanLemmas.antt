@@ -6,6 +6,8 @@ use Rattle.std.proofs.lemmas.List.Elements.{All-nil, All-cons}
 use Rattle.block_list.specs.declared.status.Status.{Status}
 use Rattle.mapfile_text.specs.declared.state.MapState.{MapState}
 use Rattle.faulty_source.specs.SourceState.{SourceState}
+use Rattle.crash_site.specs.declared.site.SiteCall.{SiteCall}
+use Rattle.crash_site.specs.declared.site.SiteCall.TheVariants.{ImageOpen, ImageRead, ImageWrite, ImageSync, MapRead, DraftBegin, DraftAppend, DraftSync, DraftPublish, MapSettle, MapRemove}
 use Rattle.crash_site.specs.Calls.{Entry}
 use Rattle.crash_site.specs.SiteState.{SiteState}
 use Rattle.save_resume.specs.MapNames.{MapNames}
@@ -40,9 +42,9 @@ use Rattle.ddrescue_cli.specs.declared.ending.Ending.TheVariants.{Done, SourceLo
 use Rattle.rescue_command.specs.declared.options.Options.{Options}
 use Rattle.ddrescue_cli.specs.Asked.{Maps, setting_asked, domain_asked}
 use Rattle.copy_passes.specs.Turns.{Across, IsFrom}
-use Rattle.ddrescue_cli.specs.Alone.{IsBeforeReads, HasRead}
+use Rattle.ddrescue_cli.specs.Alone.{IsOfOpening, IsBeforeReads, HasRead}
 use Rattle.ddrescue_cli.specs.Work.{answer_of}
-use Rattle.ddrescue_cli.specs.Steps.{TellAll, RanOn, Ran}
+use Rattle.ddrescue_cli.specs.Steps.{TellAll, IsLate, RanOn, Ran}
 use Rattle.ddrescue_cli.specs.Running.{settings_by, IsRunOver, EndsCalls, WentToEnd}
 use Rattle.ddrescue_cli.proofs.TurnLemmas.{timed_more}
 
@@ -188,13 +190,26 @@ ran_told s statuses state moment end o before w first small tell =
       );
     }
 
--- an answer of a run is no refusal
-pub run_refused : (end : RunEnd) → IsBeforeReads (answer_of end) → ⊥
-run_refused Finished refused = refused
-run_refused (Stopped InputLost) refused = refused
-run_refused (Stopped (Site call)) refused = refused
-run_refused (Stopped NoRoom) refused = refused
-run_refused (SaveFailed call earlier) refused = refused
+call_refused : (call : SiteCall) (earlier : Option Stop) → IsLate (SiteFault call earlier) → IsOfOpening call → ⊥
+call_refused ImageOpen earlier late opening = late.no_open earlier refl
+call_refused ImageRead earlier late opening = opening
+call_refused ImageWrite earlier late opening = opening
+call_refused ImageSync earlier late opening = opening
+call_refused MapRead earlier late opening = late.no_read earlier refl
+call_refused DraftBegin earlier late opening = opening
+call_refused DraftAppend earlier late opening = opening
+call_refused DraftSync earlier late opening = opening
+call_refused DraftPublish earlier late opening = opening
+call_refused MapSettle earlier late opening = opening
+call_refused MapRemove earlier late opening = opening
+
+-- an answer of a run comes behind its reads
+pub run_refused : (end : RunEnd) → IsLate (answer_of end) → IsBeforeReads (answer_of end) → ⊥
+run_refused Finished late refused = refused
+run_refused (Stopped InputLost) late refused = refused
+run_refused (Stopped (Site call)) late refused = call_refused call None late refused
+run_refused (Stopped NoRoom) late refused = refused
+run_refused (SaveFailed call earlier) late refused = call_refused call earlier late refused
 
 answer_finished : (end : RunEnd) → answer_of end ≡ Done → end ≡ Finished
 answer_finished Finished is = refl
@@ -206,8 +221,9 @@ answer_finished (SaveFailed call earlier) is = absurd (let no : SiteFault call e
 -- the reads, where the input tells
 ran_read : (s : Setting) (statuses : List Status) (state : Option MapState) (moment : ℕ) (end : RunEnd) (o : Across)
     → s.end ≤ length statuses → (s.has_mapfile ≡ false → IsFresh s.end statuses state)
-    → InWords s statuses state moment end o → IsTrue o.source.tells → HasRead s None (answer_of end) o.source o.source'
-ran_read s statuses state moment end o long fresh w tells = record {
+    → InWords s statuses state moment end o → IsLate (answer_of end) → IsTrue o.source.tells
+    → HasRead s None (answer_of end) o.source o.source'
+ran_read s statuses state moment end o long fresh w late tells = record {
   statuses = statuses;
   state = state;
   time = moment;
@@ -219,7 +235,7 @@ ran_read s statuses state moment end o long fresh w tells = record {
   seen_are = refl;
   run = w.run;
   right = w.right tells;
-  refused = λ refused. absurd (run_refused end refused);
+  refused = λ refused. absurd (run_refused end late refused);
   few = words_few s statuses state moment end o w;
   done = λ done. w.done (answer_finished end done);
   well = λ done. words_well s statuses state moment end o w (answer_finished end done);
@@ -245,7 +261,7 @@ ran_went i o n l opts end maps statuses state moment r at e a before long fresh 
     subst (λ (x : Ending). Ran s None statuses state x (record a { clock = before })) (sym answered)
     (record {
       told = λ tell. ran_told s statuses state moment at a before words first small tell;
-      read = λ tells. ran_read s statuses state moment at a long fresh words tells;
+      read = λ tells. ran_read s statuses state moment at a long fresh words w.late tells;
       ends = (at, refl);
       late = w.late;
     })

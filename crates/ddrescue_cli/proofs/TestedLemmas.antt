@@ -16,7 +16,7 @@ use Rattle.ddrescue_cli.specs.declared.ending.Ending.{Ending}
 use Rattle.ddrescue_cli.specs.declared.ending.Ending.TheVariants.{Done, Usage, SameName, NoMap, SourceFault, NotRegular, MapRefused, SourceLost, SiteFault, NoMemory}
 use Rattle.ddrescue_cli.specs.Alone.{IsBeforeReads, HasRead}
 use Rattle.ddrescue_cli.specs.Answers.{Rises, Causes}
-use Rattle.ddrescue_cli.specs.Steps.{EndsRun, Ran}
+use Rattle.ddrescue_cli.specs.Steps.{EndsRun, IsLate, Ran}
 use Rattle.ddrescue_cli.proofs.RanLemmas.{run_refused}
 
 -- what is told before and behind a call
@@ -43,10 +43,10 @@ module _ (reference : ℕ) (tests : List Status) (old new : SourceState)
       record { gains = gains; seen = append_cancel_left (map (seen tests) old.journal) _ _ same }
 
   -- the reads of a run that was seen so are those of a run,
-  read_seen : (s : Setting) (e : Ending) → EndsRun e → IsTrue old.tells
+  read_seen : (s : Setting) (e : Ending) → EndsRun e → IsLate e → IsTrue old.tells
       → HasRead s None e (state_seen reference tests old) (state_seen reference tests new)
       → HasRead s (Some tests) e old new
-  read_seen s e ends tells read =
+  read_seen s e ends late tells read =
       let g : GainsSeen tests read.raw old.journal new.journal = gains_seen read.raw tells read.gained in
       record {
         statuses = read.statuses;
@@ -60,7 +60,8 @@ module _ (reference : ℕ) (tests : List Status) (old new : SourceState)
         seen_are = g.seen ∙ read.seen_are;
         run = read.run;
         right = read.right;
-        refused = λ refused. absurd (run_refused ends.0 (subst IsBeforeReads ends.1 refused));
+        refused = λ refused.
+            absurd (run_refused ends.0 (subst IsLate ends.1 late) (subst IsBeforeReads ends.1 refused));
         few = read.few;
         done = read.done;
         well = read.well;
@@ -89,7 +90,7 @@ module _ (reference : ℕ) (tests : List Status) (old new : SourceState)
           };
           runs = on.runs;
         };
-    read = λ tells. read_seen s e ran.ends tells (ran.read tells);
+    read = λ tells. read_seen s e ran.ends ran.late tells (ran.read tells);
     ends = ran.ends;
     late = ran.late;
   }

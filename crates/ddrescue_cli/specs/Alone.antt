@@ -27,7 +27,21 @@ use Rattle.ddrescue_cli.specs.declared.ending.Ending.TheVariants.{Done, Usage, S
 use Rattle.ddrescue_cli.specs.Maps.{map_mode, names_maps, seen_through}
 use Rattle.ddrescue_cli.specs.Refusals.{is_other, NamedMapRefused, OutputRefused, MapfileRefused, PlacesRefused}
 
--- a refusal, which comes before the first read
+-- a call that a run doesn't make: the open of the output, and a read of a map
+abbrev pub IsOfOpening : SiteCall → Type 0
+IsOfOpening ImageOpen = ⊤
+IsOfOpening ImageRead = ⊥
+IsOfOpening ImageWrite = ⊥
+IsOfOpening ImageSync = ⊥
+IsOfOpening MapRead = ⊤
+IsOfOpening DraftBegin = ⊥
+IsOfOpening DraftAppend = ⊥
+IsOfOpening DraftSync = ⊥
+IsOfOpening DraftPublish = ⊥
+IsOfOpening MapSettle = ⊥
+IsOfOpening MapRemove = ⊥
+
+-- a refusal, which comes before the first read, or such a call that failed
 abbrev pub IsBeforeReads : Ending → Type 0
 IsBeforeReads Done = ⊥
 IsBeforeReads (Usage fault) = ⊤
@@ -37,7 +51,7 @@ IsBeforeReads SourceFault = ⊤
 IsBeforeReads NotRegular = ⊤
 IsBeforeReads (MapRefused which error) = ⊤
 IsBeforeReads SourceLost = ⊥
-IsBeforeReads (SiteFault call earlier) = ⊥
+IsBeforeReads (SiteFault call earlier) = IsOfOpening call
 IsBeforeReads NoMemory = ⊥
 
 -- The reads are, as they are seen, those of a run over some map that reaches the input's end, without a mapfile one that wasn't
