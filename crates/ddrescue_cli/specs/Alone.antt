@@ -54,11 +54,12 @@ IsBeforeReads SourceLost = ⊥
 IsBeforeReads (SiteFault call earlier) = IsOfOpening call
 IsBeforeReads NoMemory = ⊥
 
--- The reads are, as they are seen, those of a run over some map that reaches the input's end, without a mapfile one that wasn't
--- tried; and gave the input's own bytes; there is none before a refusal.
--- They ask few times for a position; and where the rescue is done no pass has a request left, and each position of the domain is
--- left well.
-pub record HasRead (s : Setting) (test : Option (List Status)) (e : Ending) (source source' : SourceState) : Type 0 where
+-- The reads are, as they are seen, those of a run over some map that reaches the input's end, without a mapfile one
+-- that wasn't tried; and gave the input's own bytes; there is none before a refusal.
+-- They ask few times for a position; and where the rescue is done no pass has a request left,
+-- and each position of the domain is left well.
+pub record HasRead (s : Setting) (test : Option (List Status)) (e : Ending) (source source' : SourceState)
+    : Type 0 where
   pub statuses : List Status
   pub state : Option MapState
   pub time : ℕ
@@ -82,8 +83,8 @@ pub record MapsPass (c : Command) (files : List ℕ → Option File) : Type 0 wh
   pub test : (name : List ℕ) (e : Ending) → c.test_map ≡ Some name
       → NamedMapRefused TestMap (map_mode c.options) (files name) e → ⊥
 
--- what the failure of a call shows of the files, where it comes once the output is open: no map that options name is refused;
--- the output is a regular file or absent, or something else is allowed
+-- what the failure of a call shows of the files, where it comes once the output is open: no map that options name is
+-- refused; the output is a regular file or absent, or something else is allowed
 pub record OutputPasses (c : Command) (s : Setting) (files : List ℕ → Option File) : Type 0 where
   pub maps : MapsPass c files
   pub regular : s.forced ≡ false → is_other (files s.outfile) ≡ false
@@ -98,8 +99,8 @@ abbrev pub UnlessMaps : (names_maps : Bool) → Type 0 → Type 0
 UnlessMaps true P = ⊤
 UnlessMaps false P = P
 
--- what the failure of a call shows of the files, by when such a call comes first: that no named map is refused at the open of the
--- output, something of the output up to the reads of the mapfile, and of both files behind them
+-- what the failure of a call shows of the files, by when such a call comes first: that no named map is refused at the
+-- open of the output, something of the output up to the reads of the mapfile, and of both files behind them
 abbrev pub CallPasses : SiteCall → Command → Setting → (files : List ℕ → Option File) → Type 0
 CallPasses ImageOpen c s files = MapsPass c files
 CallPasses ImageRead c s files = MapfilePasses c s files
@@ -133,7 +134,8 @@ OutputMayBeMade true outfile files files' = AllStand files files' ⊎ OutputMade
 OutputMayBeMade false outfile files files' = OutputMade outfile files files'
 
 -- what a failed call leaves; of one that may come behind a read nothing is said here
-abbrev pub CallLeaves : SiteCall → (names_maps : Bool) → (outfile : List ℕ) → (files files' : List ℕ → Option File) → Type 0
+abbrev pub CallLeaves : SiteCall → (names_maps : Bool) → (outfile : List ℕ) → (files files' : List ℕ → Option File)
+    → Type 0
 CallLeaves ImageOpen maps outfile files files' = AllStand files files'
 CallLeaves ImageRead maps outfile files files' = ⊤
 CallLeaves ImageWrite maps outfile files files' = ⊤

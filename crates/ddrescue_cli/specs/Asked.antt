@@ -25,8 +25,8 @@ ArePlacedBy o end = (x : ℕ) → whole_domain o.input_position o.size end x ≡
 abbrev pub IsBeyond : Options → (end : ℕ) → Type 0
 IsBeyond o end = (x : ℕ) × (whole_domain o.input_position o.size end x ≡ true) × (2 ^ 63 ≤ place_by o x + 1)
 
--- What maps say of the positions that are to be rescued: the statuses of the domain map and of the test map, if they are
--- named; and, if the positions that the mapfile lists are to be rescued alone, where these begin and end.
+-- What maps say of the positions that are to be rescued: the statuses of the domain map and of the test map, if they
+-- are named; and, if the positions that the mapfile lists are to be rescued alone, where these begin and end.
 pub record Maps : Type 0 where
   pub domain : Option (List Status)
   pub test : Option (List Status)
@@ -42,13 +42,14 @@ abbrev pub in_list : (ℕ → Bool) → Option (ℕ × ℕ) → ℕ → Bool
 in_list domain None = domain
 in_list domain (Some k) = listed_in domain k.0 k.1
 
--- The domain that options and maps ask for of an input with this length: each position of the input from the input position
--- on, and no more than the size; of these what is finished in the domain map, and what the mapfile lists.
+-- The domain that options and maps ask for of an input with this length: each position of the input from the input
+-- position on, and no more than the size; of these what is finished in the domain map, and what the mapfile lists.
 abbrev pub domain_asked : Options → (end : ℕ) → Maps → ℕ → Bool
 domain_asked o end maps = in_list (in_map (whole_domain o.input_position o.size end) maps.domain) maps.listed
 
 -- what files with these names, this command line, these options and these maps ask for of an input with this length
-abbrev pub setting_asked : (infile outfile : List ℕ) → Option MapNames → (line : List ℕ) → Options → (end : ℕ) → Maps → Setting
+abbrev pub setting_asked : (infile outfile : List ℕ) → Option MapNames → (line : List ℕ) → Options → (end : ℕ) → Maps
+    → Setting
 setting_asked infile outfile names line o end maps = record {
   infile = infile;
   outfile = outfile;

@@ -36,8 +36,8 @@ pub data Says (t : Told) : Type 0 where
 
 -- What `ddrescue` promises of a call whose words ask for this
 pub record Promise (c : Command) (t : Told) : Type 0 where
-  -- There are maps by which it goes: those that options name, and what the mapfile lists, where the words ask for them. Where the
-  -- files tell, these are what the files are.
+  -- There are maps by which it goes: those that options name, and what the mapfile lists, where the words ask for
+  -- them. Where the files tell, these are what the files are.
   pub maps : Maps
   pub asked_maps : AreAskedFor c maps
   pub are : IsTrue t.site.tells → AreMapsOf c (files_of t) maps

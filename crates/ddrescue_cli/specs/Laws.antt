@@ -47,7 +47,8 @@ HoldsAtEnd =
 -- the state that a rescue came to over a map, and the state that its mapfile showed
 abbrev pub comes_to : Command → Maps → Told → List Status → Option MapState → Machine
 comes_to c maps t statuses state =
-    state_after (asked c maps t) (begins (asked c maps t) statuses state (what_was_done maps t)) (events_in (what_was_done maps t))
+    state_after (asked c maps t) (begins (asked c maps t) statuses state (what_was_done maps t))
+    (events_in (what_was_done maps t))
 
 -- What a rescue leaves that went on to its end, over the map that its mapfile stood for, or no mapfile:
 pub record IsFinished (c : Command) (maps : Maps) (t : Told) : Type 0 where
@@ -55,10 +56,13 @@ pub record IsFinished (c : Command) (maps : Maps) (t : Told) : Type 0 where
   pub state : Option MapState
   pub stands : Stands (mapfile_in (asked c maps t) (files_of t)) (length t.source.bytes) statuses state
   -- the reads are a run that left no request in any pass
-  pub run : IsRun (asked c maps t) (begins (asked c maps t) statuses state (what_was_done maps t)) (events_in (what_was_done maps t))
+  pub run : IsRun (asked c maps t) (begins (asked c maps t) statuses state (what_was_done maps t))
+      (events_in (what_was_done maps t))
   pub over : has_ended (asked c maps t) (comes_to c maps t statuses state) ≡ true
-  -- each position of the domain is left well: rescued, or not to be tried further, or tried in vain as often as was asked
-  pub well : EndsWell (asked c maps t) (begins (asked c maps t) statuses state (what_was_done maps t)) (events_in (what_was_done maps t))
+  -- each position of the domain is left well:
+  -- rescued, or not to be tried further, or tried in vain as often as was asked
+  pub well : EndsWell (asked c maps t) (begins (asked c maps t) statuses state (what_was_done maps t))
+      (events_in (what_was_done maps t))
   -- the mapfile, if there is one, is the map of all reads, and says that it is finished
   pub mapfile : (asked c maps t).has_mapfile ≡ true → files_in t.site' (asked c maps t).names.map
       ≡ Some (record {
@@ -90,8 +94,8 @@ pub record NothingFailed (t : Told) : Type 0 where
   pub reads_count : t.source.losses < 2 ^ 64 - 1
   pub calls_count : t.site.faults < 2 ^ 64 - 1
 
--- nothing of what the words ask for is refused: the names of the files are apart, the maps that options name and the mapfile are
--- maps, the output may be written to, and each position has a place in it
+-- nothing of what the words ask for is refused: the names of the files are apart, the maps that options name and the
+-- mapfile are maps, the output may be written to, and each position has a place in it
 pub record NothingIsRefused (c : Command) (s : Setting) (t : Told) : Type 0 where
   pub names : first_same c.infile c.outfile (names_by c) ≡ None
   pub files : MapfilePasses c s (files_of t)

@@ -27,16 +27,18 @@ pub record IsMapOf (file : Option File) (mode : Mode) (statuses : List Status) :
   pub listed : Bool
   pub reads : IsMapText there.bytes mode shown first listed statuses
 
--- The positions that a mapfile lists, from the first block's beginning up to the last one's end. A mapfile without blocks, one of
--- comments and blank lines alone, and an absent one list no position.
+-- The positions that a mapfile lists, from the first block's beginning up to the last one's end. A mapfile without
+-- blocks, one of comments and blank lines alone, and an absent one list no position.
 pub data Lists (mapfile : Option File) (first end : ℕ) : Type 0 where
   NoFile : mapfile ≡ None → first ≡ 0 → end ≡ 0 → Lists mapfile first end
   NoText : (there : File) → mapfile ≡ Some there → Blank there.bytes → first ≡ 0 → end ≡ 0 → Lists mapfile first end
-  Blocks : (there : File) → mapfile ≡ Some there → length there.bytes ≤ text_limit → (shown : MapState) → (listed : Bool) → (statuses : List Status)
+  Blocks : (there : File) → mapfile ≡ Some there → length there.bytes ≤ text_limit
+      → (shown : MapState) → (listed : Bool) → (statuses : List Status)
       → IsMapText there.bytes Tight shown first listed statuses → end ≡ length statuses → Lists mapfile first end
 
 -- a map that an option names has the statuses that its file has, if it has some
-abbrev pub IsNamedMap : (name : Option (List ℕ)) → Mode → (List ℕ → Option File) → (statuses : Option (List Status)) → Type 0
+abbrev pub IsNamedMap : (name : Option (List ℕ)) → Mode → (List ℕ → Option File) → (statuses : Option (List Status))
+    → Type 0
 IsNamedMap name mode files statuses =
     (n : List ℕ) (map : List Status) → name ≡ Some n → IsMapOf (files n) mode map → statuses ≡ Some map
 
@@ -55,7 +57,8 @@ pub record AreAskedFor (c : Command) (maps : Maps) : Type 0 where
   pub test : c.test_map ≡ None → maps.test ≡ None
   pub whole : c.options.complete_only ≡ false → maps.listed ≡ None
 
--- The maps are what the files are. Where a file isn't there or is no map, nothing is said here: then the rescue is refused.
+-- The maps are what the files are.
+-- Where a file isn't there or is no map, nothing is said here: then the rescue is refused.
 pub record AreMapsOf (c : Command) (files : List ℕ → Option File) (maps : Maps) : Type 0 where
   pub domain : IsNamedMap c.domain_map (map_mode c.options) files maps.domain
   pub test : IsNamedMap c.test_map (map_mode c.options) files maps.test
@@ -66,7 +69,8 @@ pub record AreMapsOf (c : Command) (files : List ℕ → Option File) (maps : Ma
 abbrev pub names_maps : Command → Bool
 names_maps c = is_some c.domain_map || is_some c.test_map
 
--- reads as they are seen: in test mode each gives what comes in front of the first position that isn't finished in the test map
+-- reads as they are seen: in test mode each gives what comes in front
+-- of the first position that isn't finished in the test map
 abbrev pub seen_through : Option (List Status) → List Reading → List Reading
 seen_through None reads = reads
 seen_through (Some test) reads = map (seen test) reads

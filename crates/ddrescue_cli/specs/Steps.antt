@@ -56,7 +56,8 @@ OutputStop e out forced old new =
     ⊎ ((e ≡ SiteFault ImageOpen None) × Breaks ImageOpen (image_open out true ∷ []) old new)
 
 -- a load behind the barrier went on to its end: the mapfile isn't refused, and stands for this map
-pub record Started (names : MapNames) (file : Option File) (end : ℕ) (start : Start) (calls calls' : List Entry) : Type 0 where
+pub record Started (names : MapNames) (file : Option File) (end : ℕ) (start : Start) (calls calls' : List Entry)
+    : Type 0 where
   pub load : List Call
   pub is_load : IsLoad names.map file load
   pub made : Made (barrier_calls names ++ load) calls calls'
@@ -110,8 +111,8 @@ pub record Gains (test : Option (List Status)) (o : Across) (g : Gain) : Type 0 
   pub fit : AreTimes g.times
 
 -- what a run did over a map that it began with, up to its end or to where it stopped
-pub record RanOn (s : Setting) (test : Option (List Status)) (statuses : List Status) (state : Option MapState) (e : Ending)
-    (o : Across) : Type 0 where
+pub record RanOn (s : Setting) (test : Option (List Status)) (statuses : List Status) (state : Option MapState)
+    (e : Ending) (o : Across) : Type 0 where
   pub gain : Gain
   pub gains : Gains test o gain
   pub runs : RunsOver s statuses state e gain
@@ -126,8 +127,8 @@ abbrev pub EndsRun : Ending → Type 0
 EndsRun e = (end : RunEnd) × (e ≡ answer_of end)
 
 -- the same by which objects tell; and how it ended, whether they do or not
-pub record Ran (s : Setting) (test : Option (List Status)) (statuses : List Status) (state : Option MapState) (e : Ending)
-    (o : Across) : Type 0 where
+pub record Ran (s : Setting) (test : Option (List Status)) (statuses : List Status) (state : Option MapState)
+    (e : Ending) (o : Across) : Type 0 where
   pub told : TellAll o → RanOn s test statuses state e o
   pub read : IsTrue o.source.tells → HasRead s test e o.source o.source'
   pub ends : EndsRun e
@@ -145,8 +146,8 @@ pub record IsRead (which : Which) (mode : Mode) (name : List ℕ) (file : Option
 -- where such a read stopped: in a call that failed, for want of memory, or since the map is absent or refused
 pub data ReadStopped (which : Which) (mode : Mode) (name : List ℕ) (file : Option File) (e : Ending)
     (calls calls' : List Entry) : Type 0 where
-  Broke : (load : List Call) → e ≡ SiteFault MapRead None → BeginsLoad name file load → BrokeAt MapRead load calls calls'
-      → ReadStopped which mode name file e calls calls'
+  Broke : (load : List Call) → e ≡ SiteFault MapRead None → BeginsLoad name file load
+      → BrokeAt MapRead load calls calls' → ReadStopped which mode name file e calls calls'
   NoRoom : (load : List Call) → e ≡ NoMemory → BeginsLoad name file load → Made load calls calls'
       → ReadStopped which mode name file e calls calls'
   IsRefused : (load : List Call) → NamedMapRefused which mode file e → IsLoad name file load → Made load calls calls'
@@ -191,16 +192,16 @@ pub record IsOnlyMaps (g : Gain) : Type 0 where
   pub only : HasOnlyCalls g
 
 -- what the work behind the words did, up to its end or to where it stopped
-pub record WorkedOn (c : Command) (s : Setting) (test : Option (List Status)) (files : List ℕ → Option File) (e : Ending)
-    (o : Across) : Type 0 where
+pub record WorkedOn (c : Command) (s : Setting) (test : Option (List Status)) (files : List ℕ → Option File)
+    (e : Ending) (o : Across) : Type 0 where
   pub gain : Gain
   pub gains : Gains test o gain
   pub works : WorksBehindWords c s files e gain
   pub short : IsNothing gain ⊎ (s.end < 2 ^ 63) ⊎ IsOnlyMaps gain
 
 -- what the work behind the maps that options name did, up to its end or to where it stopped
-pub record OpenedOn (c : Command) (s : Setting) (test : Option (List Status)) (files : List ℕ → Option File) (e : Ending)
-    (o : Across) : Type 0 where
+pub record OpenedOn (c : Command) (s : Setting) (test : Option (List Status)) (files : List ℕ → Option File)
+    (e : Ending) (o : Across) : Type 0 where
   pub gain : Gain
   pub gains : Gains test o gain
   pub works : WorksOn c s files e gain
@@ -211,23 +212,26 @@ abbrev pub IsListing : Command → (List ℕ → Option File) → (listed : Opti
 IsListing c files listed =
     (first end : ℕ) → c.options.complete_only ≡ true → Lists (mapfile_of c files) first end → listed ≡ Some (first, end)
 
--- The same by which objects tell, with these statuses of the maps that options name. Nothing is said of these maps' files here.
-pub record Opened (c : Command) (line : List ℕ) (domain test : Option (List Status)) (end : ℕ) (files : List ℕ → Option File)
-    (e : Ending) (o : Across) : Type 0 where
+-- The same by which objects tell, with these statuses of the maps that options name.
+-- Nothing is said of these maps' files here.
+pub record Opened (c : Command) (line : List ℕ) (domain test : Option (List Status)) (end : ℕ)
+    (files : List ℕ → Option File) (e : Ending) (o : Across) : Type 0 where
   pub listed : Option (ℕ × ℕ)
   pub whole : c.options.complete_only ≡ false → listed ≡ None
   pub are : IsTrue o.site.tells → IsListing c files listed
   pub told : TellAll o
       → OpenedOn c (setting_of c line end (record { domain = domain; test = test; listed = listed })) test files e o
   pub read : IsTrue o.source.tells
-      → HasRead (setting_of c line end (record { domain = domain; test = test; listed = listed })) test e o.source o.source'
+      → HasRead (setting_of c line end (record { domain = domain; test = test; listed = listed })) test e
+      o.source o.source'
   pub placed : IsTrue o.source.tells → PlacesAllow e c.options end
   pub allowed : IsTrue o.site.tells → MapsPass c files
       → FilesAllow e c (setting_of c line end (record { domain = domain; test = test; listed = listed })) files
   pub left : IsTrue o.site.tells → IsLeft e false c.outfile files (files_in o.site')
 
 -- the same by which objects tell, and by some maps, which are what the files say where they tell
-pub record Worked (c : Command) (line : List ℕ) (end : ℕ) (files : List ℕ → Option File) (e : Ending) (o : Across) : Type 0 where
+pub record Worked (c : Command) (line : List ℕ) (end : ℕ) (files : List ℕ → Option File) (e : Ending) (o : Across)
+    : Type 0 where
   pub maps : Maps
   pub asked_maps : AreAskedFor c maps
   pub are : IsTrue o.site.tells → AreMapsOf c files maps

@@ -84,9 +84,11 @@ ThenLoad s files Q e g =
     ⊎ ((s.has_mapfile ≡ false) × OrMay (λ v. v ≡ NoMemory) Q e g)
 
 -- A map that an option names is read, if one is, and may be absent or refused; then the work goes on.
-abbrev pub ThenMap : Which → Mode → Option (List ℕ) → (List ℕ → Option File) → (Ending → Gain → Type 0) → Ending → Gain → Type 0
+abbrev pub ThenMap : Which → Mode → Option (List ℕ) → (List ℕ → Option File) → (Ending → Gain → Type 0)
+    → Ending → Gain → Type 0
 ThenMap which mode None files Q = Q
-ThenMap which mode (Some name) files Q = ThenRead name (files name) (OrRefused (NamedMapRefused which mode (files name)) Q)
+ThenMap which mode (Some name) files Q =
+    ThenRead name (files name) (OrRefused (NamedMapRefused which mode (files name)) Q)
 
 -- the run over the map that the mapfile stands for, or no mapfile
 abbrev pub ThenRun : Setting → Option File → Ending → Gain → Type 0

@@ -31,7 +31,8 @@ pub enum Which {
 /// How a call of `ddrescue` ended.
 #[derive(Clone, Copy, Debug, PartialEq, Eq)]
 pub enum Ending {
-    /// Everything was tried as often as was asked, and the map was saved, or the outfile made durable where there is no mapfile.
+    /// Everything was tried as often as was asked, and the map was saved,
+    /// or the outfile made durable where there is no mapfile.
     Done,
     /// The words ask for nothing that can be done.
     Usage(UsageFault),

@@ -38,7 +38,8 @@ pub(crate) fn read_named<D: Site>(
     name: Option<&str>,
     mode: Mode,
 ) -> Result<Option<PlainTiles>, Ending>
-    ensures told { ReadsMap which mode (option_map (λ n. n.now) name.entry) result (D.state site.old) (D.state site.new) }
+    ensures told { ReadsMap which mode (option_map (λ n. n.now) name.entry) result
+        (D.state site.old) (D.state site.new) }
     ensures kept { OnOk result ((D.state site.new).faults ≡ (D.state site.old).faults) }
     ensures named { OnErr result (is_some name.entry ≡ true) }
     ensures cause { IfErr result (λ e. MapCause which e (D.state site.old).faults (D.state site.new).faults) }

@@ -79,8 +79,8 @@ fn run_phases<S: Source, D: Site, K: Clock, C: Console>(
     run_retrying(scraped, source, site, clock, console)
 }
 
-/// Makes the phases of a rescue in order, and saves the map at its end, or where it stopped. Without a mapfile the output is
-/// made durable then.
+/// Makes the phases of a rescue in order, and saves the map at its end, or where it stopped.
+/// Without a mapfile the output is made durable then.
 pub fn run_rescue<S: Source, D: Site, K: Clock, C: Console>(
     rescue: Rescue<Copying, RunMap>,
     source: &mut S,

@@ -41,7 +41,8 @@ pub(crate) struct Scene {
     files: usize,
 }
 
-/// Runs a rescue with a clock of these readings. Where it finds no memory there is no answer: a scene can't ask for that.
+/// Runs a rescue with a clock of these readings.
+/// Where it finds no memory there is no answer: a scene can't ask for that.
 fn rescue(
     alloc: Global,
     words: &Words,
