@@ -1,5 +1,5 @@
 -- The promise of a rescue, by what its work did.
-use Rattle.std.proofs.Common.{◌≡◌, ◌≢◌, ◌⊎◌, ◌↔◌, ℕ, ◌+◌, ◌<◌, ◌^◌, Bool, true, false, IsTrue, List, [], ◌∷◌, ◌++◌, length, Option, Some, None, is_some, Result, Ok, Err, refl, sym, ap, ◌∙◌, inl, inr, subst, arith, append-nil, length-append}
+use Rattle.std.proofs.Common.{◌≡◌, ◌≢◌, ◌⊎◌, ℕ, ◌+◌, ◌<◌, ◌^◌, Bool, true, false, IsTrue, List, [], ◌∷◌, ◌++◌, length, Option, Some, None, is_some, Result, Ok, Err, refl, sym, ap, ◌∙◌, inl, inr, subst, arith, append-nil, length-append}
 use Rattle.std.specs.Bool.{⊤}
 use Rattle.std.specs.Prelude.{codes, option_map}
 use Rattle.std.specs.Str.{bytes_eq}
@@ -28,7 +28,7 @@ use Rattle.rescue_rules.specs.Laws.{AreThreeNames, AreTimes}
 use Rattle.rescue_rules.proofs.StopsLemmas.{goes_safely}
 use Rattle.rescue_core.specs.RunState.{names_in}
 use Rattle.rescue_command.specs.declared.options.Options.{Options}
-use Rattle.rescue_command.specs.Command.{Command, Asks, AskQuiet, AreRefused, Unread, Wrong, IsAsked, IsRefusal as IsRefusedFor, MapOptions, command_by, command_with, empty_operand, is_too_large, maps_in, unless_empty}
+use Rattle.rescue_command.specs.Command.{Command, Asks, AreRefused, Unread, Wrong, IsAsked, IsRefusal as IsRefusedFor, MapOptions, command_by, command_with, empty_operand, is_too_large, maps_in, unless_empty}
 use Rattle.rescue_command.specs.Options.{cluster_row, last_of, options_in, word_in}
 use Rattle.ddrescue_cli.specs.declared.ending.Operand.{Operand}
 use Rattle.ddrescue_cli.specs.declared.ending.Operand.TheVariants.{Infile, Outfile, Mapfile, Draft}
@@ -40,7 +40,7 @@ use Rattle.ddrescue_cli.specs.Maps.{names_maps, seen_through}
 use Rattle.ddrescue_cli.specs.Told.{Told, AllTell, gained, what_was_done, calls_before, files_of, asked}
 use Rattle.ddrescue_cli.specs.Refusals.{NamesRefused}
 use Rattle.ddrescue_cli.specs.Work.{WorksBehindWords}
-use Rattle.ddrescue_cli.specs.Answers.{AreAccepted, SaysOfWords, Causes, FitsCommand, IsOpenedAs, OpensOnce, IsRefusedByPlan, IsBehindWords, MaySay, drafting_left, NameOneFileTwice}
+use Rattle.ddrescue_cli.specs.Answers.{AreAccepted, SaysOfWords, Causes, FitsCommand, IsOpenedAs, OpensOnce, IsRefusedByPlan, IsBehindWords, drafting_left, NameOneFileTwice}
 use Rattle.ddrescue_cli.specs.Alone.{PlacesAllow, FilesAllow, IsLeft}
 use Rattle.copy_passes.specs.Turns.{Across}
 use Rattle.ddrescue_cli.specs.Steps.{TellAll, IsOnlyMaps, WorkedOn, Worked}
@@ -524,17 +524,3 @@ pub work_kept : (t : Told) (c planned : Command) (line : List ℕ) → IsAsked t
 work_kept t c planned line a is line_is different r says =
     says_kept t c a different
     (subst (λ (x : Command). SaysOf x t) is (subst (λ (l : List ℕ). SaysBy planned l t) line_is r)) says
-
--- whether something is to be said
-pub may_say : (words : List (List ℕ)) (e : Ending) (quiet : Bool) (untouched : Type 0) → (AskQuiet words ↔ (quiet ≡ true))
-    → MaySay words e quiet untouched
-may_say words e quiet untouched asks = record {
-  silent = λ on. asks.1 on;
-  loud = λ off is. absurd (let never : true ≡ false = sym (asks.0 is) ∙ off in cc);
-}
-
-pub may_starve : (words : List (List ℕ)) (untouched : Type 0) → untouched → MaySay words NoMemory false untouched
-may_starve words untouched holds = record {
-  silent = λ on. absurd (let never : false ≡ true = on in cc);
-  loud = λ off is. (refl, holds);
-}
