@@ -133,8 +133,9 @@ comma_parts (c ∷ text) = if nat_eq c 44 then [] ∷ comma_parts text else with
 abbrev pub size_if_given : Options → List ℕ → Option (Option ℕ)
 size_if_given o text = if is_empty_text text then Some None else option_map Some (size_by o text)
 
--- Both skip sizes, in whole sectors. If the largest isn't given it is 1 GiB, or the first if that is more; if the first
--- isn't given it is 64 KiB, or the largest if that is less. The first may not be above the largest.
+-- Both skip sizes, before they are rounded to whole sectors. If the largest isn't given it is 1 GiB, or the first if
+-- that is more; if the first isn't given it is 64 KiB, or the largest if that is less. The first may not be above the
+-- largest.
 abbrev pub skips_given : (first most : Option ℕ) → Option (ℕ × ℕ)
 skips_given None None = Some (default_skip, default_skip_max)
 skips_given (Some first) None = Some (first, max first default_skip_max)
