@@ -277,6 +277,8 @@ impl<P: Stage, T: Tiles> Rescue<P, T> {
     /// One turn: room in the map, a reading of the clock, the read, another reading, the write of what was kept, the
     /// marks, and the save if one is due (without a mapfile none is). Want of memory comes before the read; a lost read
     /// or a failed write leaves the range as it was; a call of the save may fail behind the marks.
+    // Inlined in the loop of each phase, or a request of one sector costs half as much again (bench/turns).
+    #[inline(always)]
     pub fn turn<S: Source, D: Site, K: Clock, C: Console>(
         &mut self,
         request: Request,
