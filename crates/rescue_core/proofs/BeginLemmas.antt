@@ -20,6 +20,7 @@ use Rattle.rescue_core.specs.declared.settings.Settings.{Settings}
 use Rattle.rescue_core.specs.declared.state.Place.{Place}
 use Rattle.rescue_core.specs.declared.state.Tally.{Tally}
 use Rattle.rescue_core.specs.RunState.{RunState, setting_with, setting_in, IsSound, Suits, run_at, IsRunning, passed}
+use Rattle.rescue_core.proofs.RequestLemmas.{start_up}
 use Rattle.rescue_core.proofs.PassLemmas.{next_passes, IsOn, next_on, copying_leads}
 
 -- a pass begins within the map
@@ -58,6 +59,8 @@ running_passed r room phase pass passes running next =
       pass = refl;
       trims = trims_on r room (numbered phase pass) running on;
       scrapes = scrapes_on r room (numbered phase pass) running on;
+      led = λ trims up x below inside has.
+          absurd (omega (arith, below, start_up (setting_in r) (numbered phase pass) r.machine.map up));
       room_is = running.room_is;
     }
 
@@ -132,5 +135,6 @@ running_started settings domain names line map loaded place tally room sound sui
       pass = copying_leads s place.pass (omega (arith, pass, few_passes loaded));
       trims = λ is. absurd (cc);
       scrapes = λ is. absurd (cc);
+      led = λ is. absurd (cc);
       room_is = size;
     }

@@ -1,9 +1,11 @@
 pub mod BeginLemmas
+pub mod ChangeLemmas
 pub mod ClosingLemmas
 pub mod PassLemmas
 pub mod PlaceLemmas
 pub mod PrepareLemmas
 pub mod RequestLemmas
+pub mod RunningLemmas
 pub mod SaveLemmas
 pub mod StageLemmas
 pub mod TurnCallLemmas

@@ -1,12 +1,12 @@
--- What holds of a run's request, and of the run behind an event of it.
-use Rattle.std.proofs.Common.{◌≡◌, ℕ, ◌+◌, ◌-◌, ◌*◌, ◌^◌, ◌<◌, ◌≤◌, min, max, Bool, true, false, ◌&&◌, not, if◌then◌else◌, List, [], ◌∷◌, length, Option, Some, None, refl, sym, ap, ◌∙◌, arith}
+-- What holds of a run's request, and the parts of the run behind an event of it.
+use Rattle.std.proofs.Common.{◌≡◌, ℕ, ◌+◌, ◌-◌, ◌*◌, ◌^◌, ◌<◌, ◌≤◌, min, max, Bool, true, false, ◌&&◌, if◌then◌else◌, List, [], ◌∷◌, length, Option, Some, None, refl, sym, ap, ◌∙◌, arith}
 use Rattle.std.specs.List.{slice_get, slice_index_or}
 use Rattle.std.proofs.Math.Nat.{div-mul-le_self, mul-le-mul_right}
-use Rattle.std.proofs.lemmas.Bool.{cond_both, and_parts}
+use Rattle.std.proofs.lemmas.Bool.{and_parts}
 use Rattle.block_list.specs.declared.block.Run.{Run}
 use Rattle.block_list.specs.declared.status.Status.{Status}
 use Rattle.block_list.specs.Status.{same}
-use Rattle.faulty_source.specs.Journal.{floor, is_whole}
+use Rattle.faulty_source.specs.Journal.{floor}
 use Rattle.save_resume.specs.MapNames.{MapNames}
 use Rattle.rescue_domain.specs.Parts.{covers}
 use Rattle.rescue_rules.specs.declared.stop.TrimMode.{TrimMode}
@@ -14,12 +14,11 @@ use Rattle.rescue_rules.specs.declared.stop.TrimMode.TheVariants.{Lead, Tail}
 use Rattle.rescue_rules.specs.declared.phase.Phase.{Phase}
 use Rattle.rescue_rules.specs.declared.phase.Phase.TheVariants.{Copying, Trimming, Scraping, Retrying}
 use Rattle.rescue_rules.specs.Setting.{Setting, IsSensible}
-use Rattle.rescue_rules.specs.Passes.{Pass, taken, is_up, numbered}
+use Rattle.rescue_rules.specs.Passes.{Pass, taken, numbered}
 use Rattle.rescue_rules.specs.Machine.{Machine, pass_of, has_taken, is_wanted, ceiling, Search, search_in, search_of, cut_start, cut_end, IsRequest}
-use Rattle.rescue_rules.specs.Step.{Event, is_trimming, is_slow, is_jump, map_after, cursor_after, skip_after, step}
-use Rattle.rescue_rules.specs.MachineLaws.{StepsBy}
+use Rattle.rescue_rules.specs.Step.{Event, map_after, step}
 use Rattle.rescue_rules.proofs.RoundLemmas.{ceiling_above}
-use Rattle.rescue_rules.proofs.StepLemmas.{Asks, request_asks, wanted_domain, asks_back, move_steps}
+use Rattle.rescue_rules.proofs.StepLemmas.{Asks, request_asks, wanted_domain, asks_back}
 use Rattle.rescue_core.specs.declared.settings.Settings.{Settings}
 use Rattle.rescue_core.specs.declared.state.Place.{Place}
 use Rattle.rescue_core.specs.declared.state.Tally.{Tally}
@@ -100,52 +99,6 @@ request_fits r room pos len i places request =
       back = back_of r.machine.mode pos
           (λ low is. (asks_back s ok r.machine pos (pos + len) low i.order request is).after);
       wanted = asks.wanted pos (omega arith) asks.some;
-    }
-
--- the cursor behind an event lies within the map
-cursor_within : (s : Setting) (m : Machine) (e : Event) → e.reading.pos + e.reading.asked ≤ length m.map
-    → cursor_after s m e ≤ length m.map
-cursor_within s m e there =
-    let jump : ℕ = if is_jump s m e then m.skip else 0 in
-    let up : ℕ = min (length m.map) (e.reading.pos + e.reading.asked + jump) in
-    cond_both (is_trimming m) e.reading.pos (if is_up s (pass_of m) then up else e.reading.pos - jump)
-    (λ (x : ℕ). x ≤ length m.map)
-    (λ trims. omega arith)
-    (λ other. cond_both (is_up s (pass_of m)) up (e.reading.pos - jump) (λ (x : ℕ). x ≤ length m.map)
-    (λ upwards. omega arith) (λ down. omega arith))
-
--- and the next jump isn't longer than the longest
-skip_within : (s : Setting) (m : Machine) (e : Event) → s.skip ≤ s.skip_max → m.skip ≤ s.skip_max
-    → skip_after s m e ≤ s.skip_max
-skip_within s m e first now =
-    cond_both (is_jump s m e) (min (2 * m.skip) s.skip_max)
-    (if is_whole e.reading && not (is_slow s e) then s.skip else m.skip) (λ (x : ℕ). x ≤ s.skip_max)
-    (λ jumps. omega arith)
-    (λ other. cond_both (is_whole e.reading && not (is_slow s e)) s.skip m.skip (λ (x : ℕ). x ≤ s.skip_max)
-    (λ good. first) (λ bad. now))
-
--- a run stands behind an event of its request as between any turns
-pub running_steps : (r : RunState) (room : ℕ) (e : Event) → IsRunning r room
-    → IsRequest (setting_in r) r.machine e.reading.pos (e.reading.pos + e.reading.asked)
-    → length e.reading.given ≤ e.reading.asked → IsRunning (stepped r e) room
-running_steps r room e i request few =
-    let s : Setting = setting_in r in
-    let m : Machine = r.machine in
-    let by : StepsBy s m e = move_steps s m e (sensible_in r room i) i.order request few in
-    record {
-      sound = i.sound;
-      suits = record {
-        from = i.suits.from;
-        to = λ x within. omega (arith, i.suits.to x within, by.size);
-      };
-      short = omega (arith, i.short, by.size);
-      cursor = omega (arith, cursor_within s m e by.there, by.size);
-      skip = skip_within s m e i.sound.skip i.skip;
-      order = by.order;
-      pass = i.pass;
-      trims = i.trims;
-      scrapes = i.scrapes;
-      room_is = i.room_is;
     }
 
 -- what a phase asks for, by the passes that a run is in

@@ -37,7 +37,8 @@ use Rattle.rescue_core.specs.declared.turn.Turn.{Turn}
 use Rattle.rescue_core.specs.RunState.{RunState, names_in, setting_in, run_at, HasPlaces, IsRunning}
 use Rattle.rescue_core.specs.Turning.{turn_of, stepped, move_by, Turned, Halted, Unsaved}
 use Rattle.rescue_core.specs.TurnParts.{place_of, tally_of, RunsAt, IsReadOf, fetched_of, Gathers}
-use Rattle.rescue_core.proofs.TurnLemmas.{sensible_in, Fits, request_fits, running_steps, wanted_in, run_steps}
+use Rattle.rescue_core.proofs.TurnLemmas.{sensible_in, Fits, request_fits, wanted_in, run_steps}
+use Rattle.rescue_core.proofs.RunningLemmas.{running_steps}
 use Rattle.rescue_core.proofs.TurnCallLemmas.{timely_due, named_there, untimely_calls, timely_calls, timely_breaks, timely_rose}
 
 -- what the marks, the place and the tally say

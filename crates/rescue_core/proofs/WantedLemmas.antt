@@ -1,18 +1,25 @@
 -- What a pass asks for, and its request by what a search finds.
-use Rattle.std.proofs.Common.{◌≡◌, ℕ, ◌-◌, ◌<◌, ◌≤◌, Bool, true, false, if◌then◌else◌, nat_le, nat_lt, List, ◌∷◌, length, drop, Option, Some, None, sym, ap, subst, ◌∙◌, arith}
+use Rattle.std.proofs.Common.{◌≡◌, ℕ, ◌-◌, ◌<◌, ◌≤◌, Bool, true, false, if◌then◌else◌, nat_le, nat_lt, List, ◌∷◌, length, drop, Option, Some, None, IfNone, refl, sym, ap, subst, ◌∙◌, arith, ⊎_elim}
 use Rattle.std.specs.List.{slice_get}
-use Rattle.std.proofs.lemmas.Bool.{and_from, and_parts, le-leb, lt-ltb, true≢false, false_from_ne_true}
+use Rattle.std.proofs.lemmas.Bool.{cases_lt, and_from, and_parts, le-leb, lt-ltb, true≢false, false_from_ne_true}
 use Rattle.std.proofs.lemmas.Option.{slice_get_within}
 use Rattle.block_list.specs.declared.status.Status.{Status}
+use Rattle.block_list.specs.declared.status.Status.TheVariants.{NonTrimmed}
 use Rattle.block_list.proofs.StretchLemmas.{same_self, equal_from_same}
 use Rattle.rescue_rules.specs.declared.phase.Phase.{Phase}
+use Rattle.rescue_rules.specs.declared.phase.Phase.TheVariants.{Trimming}
+use Rattle.rescue_rules.specs.declared.stop.TrimMode.{TrimMode}
+use Rattle.rescue_rules.specs.declared.stop.TrimMode.TheVariants.{Lead}
+use Rattle.rescue_domain.specs.Parts.{covers}
 use Rattle.rescue_rules.specs.Setting.{Setting}
-use Rattle.rescue_rules.specs.Passes.{Pass, taken, numbered}
+use Rattle.rescue_rules.specs.Passes.{Pass, taken, is_up, numbered}
 use Rattle.rescue_rules.specs.Machine.{Machine, Search, has_taken, is_wanted, IsWanted, search_of, IsNextRun, cut_start, cut_end, IsRequest, is_ahead, has_request}
 use Rattle.rescue_rules.proofs.SearchLemmas.{request_found}
 use Rattle.rescue_core.specs.declared.state.Place.{Place}
+use Rattle.rescue_core.specs.RunState.{RunState, setting_in, led_from, IsLed}
 use Rattle.rescue_core.specs.Search.{IsMarked}
-use Rattle.rescue_core.specs.Requesting.{StandsAt}
+use Rattle.rescue_core.specs.Requesting.{StandsAt, IsCutOf}
+use Rattle.rescue_core.proofs.RequestLemmas.{start_up, lead_search}
 
 -- a pass asks for what is marked with its phase's status
 marked_wanted : (s : Setting) (m : Machine) (p : Pass) (x : ℕ) → m.passes ≡ p ∷ drop 1 m.passes → IsMarked s.domain m.map (taken p.phase) x
@@ -119,3 +126,65 @@ no_request s m phase place map status f stands asks is none =
     (subst (λ (t : Status). IsMarked s.domain map t x) (sym asks)
     (subst (λ (statuses : List Status). IsMarked s.domain statuses (taken phase) x) stands.map
     (wanted_marked s m (numbered phase place.pass) x stands.passes wanted)))))
+
+-- what is cut of the next run of a machine's search is its request
+pub cut_is : (s : Setting) (m : Machine) (phase : Phase) (place : Place) (map : List Status) (status : Status) (f : Search)
+    (pos to : ℕ) → StandsAt m phase place map → status ≡ taken phase → f ≡ search_of s m
+    → IsCutOf f s.sector s.domain map status pos to → IsRequest s m pos to
+cut_is s m phase place map status f pos to stands asks is cut =
+    request_is s m phase place map status f cut.start cut.end pos to stands asks is cut.run cut.starts cut.ends
+
+-- before a run, upwards, trimming finds the same from where nothing is left before
+abbrev upwards : ℕ → ℕ → Search
+upwards from size = record { up = true; from = from; front = true; size = size }
+
+abbrev IsClear : (domain : ℕ → Bool) → List Status → ℕ → Type 0
+IsClear domain map from = (x : ℕ) → x < from → IsMarked domain map NonTrimmed x → ⊥
+
+clear_run : (domain : ℕ → Bool) (map : List Status) (from start end : ℕ) → IsClear domain map from
+    → IsNextRun true (IsMarked domain map NonTrimmed) from start end
+    → IsNextRun true (IsMarked domain map NonTrimmed) 0 start end
+clear_run domain map from start end clear run = (
+  record {
+    after = omega arith;
+    holds = run.0.holds;
+    least = λ y after holds. ⊎_elim (λ (lt : y < from). absurd (clear y lt holds))
+        (λ (ge : from ≤ y). run.0.least y ge holds) (cases_lt y from);
+  },
+  run.1,
+)
+
+from_front : (s : Setting) (m : Machine) (place : Place) (map : List Status) → StandsAt m Trimming place map
+    → place.mode ≡ Lead → is_up s (numbered Trimming place.pass) ≡ true → upwards 0 s.sector ≡ search_of s m
+from_front s m place map stands lead up =
+    lead_search s m Trimming place map 0 true stands refl lead (sym up)
+    (sym (start_up s (numbered Trimming place.pass) map up))
+
+pub lead_is : (s : Setting) (m : Machine) (place : Place) (map : List Status) (pos to : ℕ)
+    → StandsAt m Trimming place map → place.mode ≡ Lead → is_up s (numbered Trimming place.pass) ≡ true
+    → IsClear s.domain map place.cursor
+    → IsCutOf (upwards place.cursor s.sector) s.sector s.domain map NonTrimmed pos to → IsRequest s m pos to
+lead_is s m place map pos to stands lead up clear cut =
+    request_is s m Trimming place map NonTrimmed (upwards 0 s.sector) cut.start cut.end pos to stands refl
+    (from_front s m place map stands lead up)
+    (clear_run s.domain map place.cursor cut.start cut.end clear cut.run) cut.starts cut.ends
+
+pub lead_none : (s : Setting) (m : Machine) (place : Place) (map : List Status) → StandsAt m Trimming place map
+    → place.mode ≡ Lead → is_up s (numbered Trimming place.pass) ≡ true → IsClear s.domain map place.cursor
+    → ((x : ℕ) → is_ahead (upwards place.cursor s.sector) x ≡ true → IsMarked s.domain map NonTrimmed x → ⊥)
+    → has_request s m ≡ false
+lead_none s m place map stands lead up clear none =
+    no_request s m Trimming place map NonTrimmed (upwards 0 s.sector) stands refl
+    (from_front s m place map stands lead up)
+    (λ x ahead marked. ⊎_elim (λ (lt : x < place.cursor). clear x lt marked)
+    (λ (ge : place.cursor ≤ x). none x (le-leb place.cursor x ge) marked) (cases_lt x place.cursor))
+
+pub if_none : {X P Q : Type 0} (o : Option X) → (P → Q) → IfNone o P → IfNone o Q
+if_none None next holds = next holds
+if_none (Some x) next holds = holds
+
+-- nothing is left to trim before the cursor of a run that trims upwards, before a run
+pub led_clear : (r : RunState) → r.phase ≡ Trimming → is_up (setting_in r) (numbered r.phase r.pass) ≡ true
+    → r.machine.mode ≡ Lead → IsLed r → IsClear (covers r.domain) r.machine.map r.machine.cursor
+led_clear r phase up lead led x below marked =
+    led phase up x (subst (λ (mode : TrimMode). x < led_from mode r.machine.cursor) (sym lead) below) marked.within marked.has

@@ -1,11 +1,12 @@
 -- How a run comes to its next request.
-use Rattle.std.specs.Prelude.{◌≡◌, List, ◌∷◌, drop}
+use Rattle.std.specs.Prelude.{◌≡◌, ℕ, Bool, List, ◌∷◌, drop}
 use Rattle.block_list.specs.declared.status.Status.{Status}
 use Rattle.rescue_rules.specs.declared.phase.Phase.{Phase}
 use Rattle.rescue_rules.specs.Passes.{numbered}
-use Rattle.rescue_rules.specs.Machine.{Machine, Search as RulesSearch}
+use Rattle.rescue_rules.specs.Machine.{Machine, Search as RulesSearch, IsNextRun, cut_start, cut_end}
 use Rattle.rescue_core.specs.declared.request.Search.{Search}
 use Rattle.rescue_core.specs.declared.state.Place.{Place}
+use Rattle.rescue_core.specs.Search.{IsMarked}
 
 -- a search, as the rules have it
 abbrev pub search_by : Search → RulesSearch
@@ -17,3 +18,12 @@ pub record StandsAt (m : Machine) (phase : Phase) (place : Place) (statuses : Li
   pub cursor : m.cursor ≡ place.cursor
   pub mode : m.mode ≡ place.mode
   pub map : m.map ≡ statuses
+
+-- what is cut of the next run of a search, from p up to q: a run of positions of a domain that have a status
+pub record IsCutOf (f : RulesSearch) (sector : ℕ) (domain : ℕ → Bool) (map : List Status) (status : Status)
+    (p q : ℕ) : Type 0 where
+  pub start : ℕ
+  pub end : ℕ
+  pub run : IsNextRun f.up (IsMarked domain map status) f.from start end
+  pub starts : p ≡ cut_start f sector start end
+  pub ends : q ≡ cut_end f sector start end

@@ -2,13 +2,16 @@
 use Rattle.std.specs.Prelude.{◌≡◌, ℕ, ◌+◌, ◌-◌, ◌*◌, ◌^◌, ◌<◌, ◌≤◌, Bool, true, false, not, List, [], length, drop, Option, Some, None, is_some}
 use Rattle.block_list.specs.declared.block.Run.{Run}
 use Rattle.block_list.specs.declared.status.Status.{Status}
+use Rattle.block_list.specs.declared.status.Status.TheVariants.{NonTrimmed}
 use Rattle.block_list.specs.Map.{Has}
 use Rattle.mapfile_text.specs.declared.state.MapState.{MapState}
 use Rattle.save_resume.specs.MapNames.{MapNames}
 use Rattle.rescue_rules.specs.declared.phase.Phase.{Phase}
 use Rattle.rescue_rules.specs.declared.phase.Phase.TheVariants.{Copying, Trimming, Scraping}
+use Rattle.rescue_rules.specs.declared.stop.TrimMode.{TrimMode}
+use Rattle.rescue_rules.specs.declared.stop.TrimMode.TheVariants.{Lead, Tail}
 use Rattle.rescue_rules.specs.Setting.{Setting}
-use Rattle.rescue_rules.specs.Passes.{passes_from, numbered}
+use Rattle.rescue_rules.specs.Passes.{passes_from, is_up, numbered}
 use Rattle.rescue_rules.specs.Machine.{Machine, pass_of}
 use Rattle.rescue_rules.specs.MachineLaws.{IsInOrder}
 use Rattle.rescue_rules.specs.Moves.{begun}
@@ -122,6 +125,16 @@ run_at settings domain names line map phase place tally = record {
 abbrev pub IsGone : Status → RunState → Type 0
 IsGone status r = (x : ℕ) → covers r.domain x ≡ true → Has r.machine.map status x → ⊥
 
+-- how far trimming upwards has come: to its last read, or at a run's back to what is left of that run
+abbrev pub led_from : TrimMode → (cursor : ℕ) → ℕ
+led_from Lead cursor = cursor
+led_from (Tail low) cursor = low
+
+-- before that it has left nothing to trim
+abbrev pub IsLed : RunState → Type 0
+IsLed r = r.phase ≡ Trimming → is_up (setting_in r) (numbered r.phase r.pass) ≡ true → (x : ℕ)
+    → x < led_from r.machine.mode r.machine.cursor → covers r.domain x ≡ true → Has r.machine.map NonTrimmed x → ⊥
+
 -- what holds of a run between its turns, with a buffer for so many bytes
 pub record IsRunning (r : RunState) (room : ℕ) : Type 0 where
   pub sound : IsSound r.settings
@@ -135,6 +148,7 @@ pub record IsRunning (r : RunState) (room : ℕ) : Type 0 where
   -- and it isn't off
   pub trims : r.phase ≡ Trimming → r.settings.no_trim ≡ false
   pub scrapes : r.phase ≡ Scraping → r.settings.no_scrape ≡ false
+  pub led : IsLed r
   -- a cluster is read at once
   pub room_is : room ≡ r.settings.cluster
 

@@ -2,14 +2,17 @@
 ghost use Rattle.std.specs.Prelude.{◌≡◌, ℕ, ◌+◌, ◌<◌, ◌≤◌, ◌^◌, true, false, List, length, Option, IfSome, IfNone};
 ghost use Rattle.block_list.specs.declared.block.Run.{Run};
 ghost use Rattle.block_list.specs.declared.status.Status.{Status};
+ghost use Rattle.block_list.specs.declared.status.Status.TheVariants.{NonTrimmed};
 ghost use Rattle.save_resume.specs.MapNames.{MapNames};
 ghost use Rattle.rescue_domain.specs.Parts.{covers};
 ghost use Rattle.rescue_rules.specs.declared.phase.Phase.{Phase};
+ghost use Rattle.rescue_rules.specs.declared.phase.Phase.TheVariants.{Trimming};
+ghost use Rattle.rescue_rules.specs.declared.stop.TrimMode.TheVariants.{Lead};
 ghost use Rattle.rescue_rules.specs.Passes.{taken, is_up, numbered};
 ghost use Rattle.rescue_rules.specs.Machine.{Machine, start_of, search_of, IsNextRun, is_ahead, cut_start, cut_end, IsRequest, has_request};
 ghost use Rattle.rescue_core.specs.RunState.{setting_with, IsSound};
 ghost use Rattle.rescue_core.specs.Search.{IsMarked};
-ghost use Rattle.rescue_core.specs.Requesting.{search_by, StandsAt};
+ghost use Rattle.rescue_core.specs.Requesting.{search_by, StandsAt, IsCutOf};
 
 use crate::search::{find_down, find_up};
 use crate::settings::Settings;
@@ -145,6 +148,31 @@ fn cut(search: Search, sector: u64, run: Run) -> Request
     }
 }
 
+/// What is cut of the next run that a search finds.
+fn request_by<T: Tiles>(
+    settings: &Settings,
+    domain: &Domain,
+    tiles: &T,
+    search: Search,
+    status: Status,
+) -> Option<Request>
+    requires sound { IsSound settings.now }
+    requires least { settings.now.sector ≤ search.size }
+    requires most { search.size ≤ settings.now.cluster }
+    requires short { length (T.statuses tiles.now) < 2 ^ 63 }
+    ensures some { IfSome result (λ q. IsCutOf (search_by search) settings.now.sector (covers domain.now)
+        (T.statuses tiles.now) status q.pos (q.pos + q.len)) }
+    ensures none { IfNone result ((x : ℕ) → is_ahead (search_by search) x ≡ true
+        → IsMarked (covers domain.now) (T.statuses tiles.now) status x → ⊥) }
+    ensures len { IfSome result (λ q. 0 < q.len) }
+    ensures size { IfSome result (λ q. q.len ≤ settings.now.cluster) }
+    ensures within { IfSome result (λ q. q.pos + q.len ≤ length (T.statuses tiles.now)) }
+    ensures short { IfSome result (λ q. q.pos + q.len < 2 ^ 63) }
+{
+    let run = next_run(domain, tiles, search, status)?;
+    Some(cut(search, settings.sector, run))
+}
+
 /// The next request of a phase at a place, of a machine that stands there.
 pub(crate) fn next_request<T: Tiles>(
     settings: &Settings,
@@ -166,6 +194,52 @@ pub(crate) fn next_request<T: Tiles>(
     ensures short { IfSome result (λ q. q.pos + q.len < 2 ^ 63) }
 {
     let search = search_at(settings, phase, place, tiles.end());
-    let run = next_run(domain, tiles, search, status_of(phase))?;
-    Some(cut(search, settings.sector, run))
+    request_by(settings, domain, tiles, search, status_of(phase))
+}
+
+/// Whether a phase at a place trims upwards, and stands before a run.
+pub(crate) fn leads_up(settings: &Settings, phase: Phase, place: &Place) -> bool
+    ensures phase { result ≡ true → phase ≡ Trimming }
+    ensures mode { result ≡ true → place.now.mode ≡ Lead }
+    ensures up { result ≡ true → (domain : List Run) (names : Option MapNames) (line : List ℕ)
+        → is_up (setting_with settings.now domain names line) (numbered phase place.now.pass) ≡ true }
+{
+    match (phase, place.mode) {
+        (Phase::Trimming, TrimMode::Lead) => is_up(settings, place.pass),
+        _ => false,
+    }
+}
+
+/// The next request of trimming upwards, before a run, where nothing is left to trim before the cursor.
+pub(crate) fn next_lead<T: Tiles>(
+    settings: &Settings,
+    domain: &Domain,
+    tiles: &T,
+    place: &Place,
+) -> Option<Request>
+    requires sound { IsSound settings.now }
+    requires mode { place.now.mode ≡ Lead }
+    requires up { (names : Option MapNames) (line : List ℕ)
+        → is_up (setting_with settings.now domain.now names line) (numbered Trimming place.now.pass) ≡ true }
+    requires clear { (x : ℕ) → x < place.now.cursor
+        → IsMarked (covers domain.now) (T.statuses tiles.now) NonTrimmed x → ⊥ }
+    requires short { length (T.statuses tiles.now) < 2 ^ 63 }
+    ensures some { IfSome result (λ q. (names : Option MapNames) (line : List ℕ) (m : Machine)
+        → StandsAt m Trimming place.now (T.statuses tiles.now)
+        → IsRequest (setting_with settings.now domain.now names line) m q.pos (q.pos + q.len)) }
+    ensures none { IfNone result ((names : Option MapNames) (line : List ℕ) (m : Machine)
+        → StandsAt m Trimming place.now (T.statuses tiles.now)
+        → has_request (setting_with settings.now domain.now names line) m ≡ false) }
+    ensures len { IfSome result (λ q. 0 < q.len) }
+    ensures most { IfSome result (λ q. q.len ≤ settings.now.cluster) }
+    ensures within { IfSome result (λ q. q.pos + q.len ≤ length (T.statuses tiles.now)) }
+    ensures short { IfSome result (λ q. q.pos + q.len < 2 ^ 63) }
+{
+    let search = Search {
+        up: true,
+        from: place.cursor,
+        front: true,
+        size: settings.sector,
+    };
+    request_by(settings, domain, tiles, search, Status::NonTrimmed)
 }

@@ -14,7 +14,7 @@ use crate::closing::{end_saved, last_shown};
 use crate::gather::{Gathered, gather};
 use crate::mark::mark;
 use crate::place::place_behind;
-use crate::request::next_request;
+use crate::request::{leads_up, next_lead, next_request};
 use crate::save_now::{save_now, save_or_sync};
 use crate::settings::Settings;
 use crate::state::{Place, Tally};
@@ -157,13 +157,17 @@ impl<T: Tiles> Running<T> {
         ensures within { IfSome result (λ q. q.pos + q.len ≤ length self.now.machine.map) }
         ensures short { IfSome result (λ q. q.pos + q.len < 2 ^ 63) }
     {
-        next_request(
-            &self.settings,
-            &self.domain,
-            &self.tiles,
-            self.phase,
-            &self.place,
-        )
+        if leads_up(&self.settings, self.phase, &self.place) {
+            next_lead(&self.settings, &self.domain, &self.tiles, &self.place)
+        } else {
+            next_request(
+                &self.settings,
+                &self.domain,
+                &self.tiles,
+                self.phase,
+                &self.place,
+            )
+        }
     }
 
     /// Goes on to the next pass.

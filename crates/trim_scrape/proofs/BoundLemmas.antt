@@ -17,7 +17,7 @@ use Rattle.rescue_rules.proofs.MoveLemmas.{run_first, run_rest}
 use Rattle.rescue_rules.proofs.StepLemmas.{finished_unwanted, request_asks}
 use Rattle.copy_passes.proofs.OnceLemmas.{copying_asks_once}
 use Rattle.trim_scrape.specs.Bounds.{Asks, narrows, is_narrowing, AskFew}
-use Rattle.trim_scrape.proofs.ChangeLemmas.{Kept, Missed, Between, Stands, rest_is}
+use Rattle.rescue_core.proofs.ChangeLemmas.{Kept, Missed, Between, Stands, rest_is}
 use Rattle.trim_scrape.proofs.OrderLemmas.{AreOrdered, ordered_from}
 use Rattle.trim_scrape.proofs.OwedLemmas.{Owes, owed_before, asked_owed, asked_paid, owed_step}
 use Rattle.trim_scrape.proofs.RunLemmas.{MayRun, Moves, moves_by, has_ready, asked_taken}

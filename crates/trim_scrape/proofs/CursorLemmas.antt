@@ -16,7 +16,7 @@ use Rattle.rescue_rules.specs.Step.{Event, copies, trims, is_trimming, is_slow, 
 use Rattle.rescue_rules.specs.Moves.{begun}
 use Rattle.rescue_rules.specs.MachineLaws.{IsInOrder, StepsBy, AsksFor}
 use Rattle.rescue_rules.proofs.SearchLemmas.{wanted_within}
-use Rattle.trim_scrape.proofs.ChangeLemmas.{trims_is}
+use Rattle.rescue_core.proofs.ChangeLemmas.{trims_is}
 
 -- a position lies ahead of a cursor, upwards or downwards
 abbrev pub LiesAhead : (up : Bool) → (cursor x : ℕ) → Type 0

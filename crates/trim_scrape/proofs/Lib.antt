@@ -1,6 +1,5 @@
 pub mod AskedLemmas
 pub mod BoundLemmas
-pub mod ChangeLemmas
 pub mod CountLemmas
 pub mod CursorLemmas
 pub mod EndingLemmas

@@ -12,7 +12,7 @@ use Rattle.rescue_rules.specs.MachineLaws.{IsInOrder, StepsBy, AsksFor}
 use Rattle.rescue_rules.proofs.ReadyLemmas.{order_ready, stays_ready}
 use Rattle.rescue_rules.proofs.StatusLemmas.{wanted_taken}
 use Rattle.rescue_rules.proofs.StepLemmas.{move_steps}
-use Rattle.trim_scrape.proofs.ChangeLemmas.{Change, changes}
+use Rattle.rescue_core.proofs.ChangeLemmas.{Change, changes}
 use Rattle.trim_scrape.proofs.OrderLemmas.{AreOrdered}
 use Rattle.trim_scrape.proofs.OwedLemmas.{ready_ordered}
 

@@ -1,30 +1,31 @@
-use Rattle.std.proofs.Common.{◌≡◌, ◌+◌, false, Option, Some, None, IfNone, subst}
-use Rattle.std.proofs.lemmas.Option.{IfSome_then}
-use Rattle.rescue_rules.specs.Machine.{IsRequest, has_request}
-use Rattle.rescue_core.specs.RunState.{RunState, run_at, setting_in}
-use Rattle.rescue_core.proofs.RequestLemmas.{stands}
+use Rattle.std.proofs.Common.{◌≡◌, ℕ, true, List, Option, subst}
+use Rattle.block_list.specs.declared.block.Run.{Run}
+use Rattle.save_resume.specs.MapNames.{MapNames}
+use Rattle.rescue_rules.specs.declared.phase.Phase.{Phase}
+use Rattle.rescue_rules.specs.declared.phase.Phase.TheVariants.{Trimming}
+use Rattle.rescue_rules.specs.Passes.{is_up, numbered}
+use Rattle.rescue_core.specs.declared.settings.Settings.{Settings}
+use Rattle.rescue_core.specs.RunState.{RunState, run_at, setting_with}
+use Rattle.rescue_core.proofs.WantedLemmas.{led_clear}
 use Rattle.rescue_core.proofs.running.Running.next_request.Goals as goal
 
-pub returns-clause-some : goal.returns-clause-some
-returns-clause-some g c =
+up_in : (settings : Settings) (domain : List Run) (names : Option MapNames) (line : List ℕ) (phase : Phase) (pass : ℕ)
+    → phase ≡ Trimming → is_up (setting_with settings domain names line) (numbered phase pass) ≡ true
+    → is_up (setting_with settings domain names line) (numbered Trimming pass) ≡ true
+up_in settings domain names line phase pass is up =
+    subst (λ (p : Phase). is_up (setting_with settings domain names line) (numbered p pass) ≡ true) is up
+
+pub next_lead-requires : goal.next_lead-requires
+next_lead-requires g c =
     let i = c.self.inside in
     let r : RunState = run_at i.settings i.domain i.names i.heading.line (g.T.Tiles.statuses i.tiles) i.phase i.place i.tally in
-    IfSome_then c.next_request.result c.next_request.ensures.some (λ q asks.
-    subst (λ (now : RunState). IsRequest (setting_in now) now.machine q.pos (q.pos + q.len)) c.self.view_is
-    (asks i.names i.heading.line r.machine
-    (stands (setting_in r) (g.T.Tiles.statuses i.tiles) i.phase i.place i.tally c.self.invariant.0.pass)))
-
-if_none : {X P Q : Type 0} (o : Option X) → (P → Q) → IfNone o P → IfNone o Q
-if_none None then holds = then holds
-if_none (Some x) then holds = holds
-
-pub returns-clause-none : goal.returns-clause-none
-returns-clause-none g c =
-    let i = c.self.inside in
-    let r : RunState = run_at i.settings i.domain i.names i.heading.line (g.T.Tiles.statuses i.tiles) i.phase i.place i.tally in
-    if_none c.next_request.result
-    (λ spent.
-    subst (λ (now : RunState). has_request (setting_in now) now.machine ≡ false) c.self.view_is
-    (spent i.names i.heading.line r.machine
-    (stands (setting_in r) (g.T.Tiles.statuses i.tiles) i.phase i.place i.tally c.self.invariant.0.pass)))
-    c.next_request.ensures.none
+    let phase = c.leads_up.ensures.phase c.if-leads_up.true in
+    let up = c.leads_up.ensures.up c.if-leads_up.true in
+    record {
+      sound = c.self.invariant.0.sound;
+      mode = c.leads_up.ensures.mode c.if-leads_up.true;
+      up = λ names line. up_in i.settings i.domain names line i.phase i.place.pass phase (up i.domain names line);
+      clear = led_clear r phase (up i.domain i.names i.heading.line) (c.leads_up.ensures.mode c.if-leads_up.true)
+          c.self.invariant.0.led;
+      short = c.self.invariant.0.short;
+    }

@@ -1,7 +1,7 @@
 -- What an event does to a position.
-use Rattle.std.proofs.Common.{◌≡◌, ◌⊎◌, ℕ, ◌+◌, ◌-◌, ◌<◌, ◌≤◌, true, false, ◌&&◌, nat_lt, List, length, refl, sym, subst, ◌∙◌, arith, inl, inr, ⊎_elim}
+use Rattle.std.proofs.Common.{◌≡◌, ◌⊎◌, ℕ, ◌+◌, ◌-◌, ◌<◌, ◌≤◌, true, false, ◌&&◌, nat_lt, List, length, refl, sym, ap, subst, ◌∙◌, arith, inl, inr, ⊎_elim}
 use Rattle.std.specs.List.{slice_get}
-use Rattle.std.proofs.lemmas.Bool.{cases_lt, cond_both, and_parts, true_from_ne_false}
+use Rattle.std.proofs.lemmas.Bool.{cases_lt, cond_both, cond-false, and_parts, true_from_ne_false}
 use Rattle.block_list.specs.declared.status.Status.{Status}
 use Rattle.block_list.specs.declared.status.Status.TheVariants.{NonTrimmed, NonScraped, BadSector, Finished}
 use Rattle.block_list.specs.Map.{Has, marked}
@@ -201,3 +201,16 @@ changes s m e x ok order request by =
     (λ part. ⊎_elim (λ (to : x < r.pos). change_before s m r x a to)
     (λ (from : r.pos ≤ x). change_behind s m r x a part from)
     (cases_lt x r.pos))
+
+-- behind a failed read at a run's back all that lies between its front and its back is for scraping
+pub change_between : (s : Setting) (m : Machine) (e : Event) (low x : ℕ) → IsSensible s → IsInOrder s m
+    → IsRequest s m e.reading.pos (e.reading.pos + e.reading.asked) → StepsBy s m e → is_whole e.reading ≡ false
+    → m.mode ≡ Tail low → low ≤ x → x < e.reading.pos → Has (step s m e).map NonScraped x
+change_between s m e low x ok order request by part is from to =
+    let r : Reading = e.reading in
+    let a : Asked s m r = asked s m e ok order request by in
+    ap (λ (map : List Status). slice_get map x)
+    (cond-false (is_whole r) (with_kept s m r) (scraped m.mode r.pos (with_rest s m r)) part)
+    ∙ ap (λ (mode : TrimMode). slice_get (scraped mode r.pos (with_rest s m r)) x) is
+    ∙ marked_inside (with_rest s m r) low (r.pos - low) NonScraped x
+    (omega (arith, size_rest s m r a, a.there, a.back low is)) from (omega (arith, to, a.back low is))
