@@ -1,5 +1,5 @@
 //! Turns of a rescue in memory, beside a plain program.
-ghost use Rattle.std.specs.Prelude.{◌≡◌, true, false, IfOk};
+ghost use Rattle.std.specs.Prelude.{◌≡◌, ◌<◌, true, false, IfOk};
 ghost use Rattle.crash_site.specs.MemoryState.{state_of as site_state};
 ghost use Rattle.faulty_source.specs.MemoryState.{state_of as source_state};
 ghost use Rattle.rescue_rules.specs.Passes.{passes_from};
