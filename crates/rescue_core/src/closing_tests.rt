@@ -1,45 +1,20 @@
 //! The end of a run, over files in memory.
 ghost use Rattle.std.specs.Prelude.{◌≡◌, false, IfOk, replicate};
 ghost use Rattle.crash_site.specs.MemoryState.{state_of};
-ghost use Rattle.rescue_core.specs.RunState.{IsSound};
 
 use crate::phases::{Copying, Finished, Rescue};
-use crate::settings::Settings;
+use crate::samples::{LEAST, rescue_of, settings_of, shown};
 use block_list::block::Block;
 use block_list::plain_tiles::PlainTiles;
 use block_list::status::Status;
-use block_list::tiles::Tiles;
 use crash_site::memory::MemorySite;
 use crash_site::site::{Site, SiteCall};
-use mapfile_text::heading::{Heading, Program};
-use mapfile_text::state::{Current, MapState};
 use rescue_console::memory::MemoryConsole;
-use rescue_domain::domain::Domain;
 use rescue_rules::stop::{RunEnd, Stop};
 use save_resume::names::Names;
 use std::alloc::Global;
 use std::process::Abort;
 use std::test::Fail;
-
-fn settings() -> Settings
-    ensures sound { IsSound result }
-    ensures start { result.ipos ≡ 0 }
-{
-    Settings {
-        sector: 512,
-        cluster: 1024,
-        ipos: 0,
-        opos: 0,
-        skip: 1024,
-        skip_max: 4096,
-        min_rate: 0,
-        retries: 0,
-        no_trim: false,
-        no_scrape: false,
-        reverse: false,
-        one_way: false,
-    }
-}
 
 /// A map of four finished positions.
 fn finished(alloc: Global) -> Result<PlainTiles, Fail>
@@ -54,35 +29,27 @@ fn finished(alloc: Global) -> Result<PlainTiles, Fail>
     Ok(tiles)
 }
 
-/// A rescue that goes on, 65 seconds after the start of 1970, from the third pass of a mapfile.
-fn resumed(alloc: Global) -> Result<Rescue<Copying, PlainTiles>, Fail>
+/// A rescue that goes on from the third pass of a mapfile.
+fn resumed(rt: &impl Abort, alloc: Global) -> Result<Rescue<Copying, PlainTiles>, Fail>
     ensures { IfOk result (λ r. r.machine.map ≡ replicate 4 Status.Finished) }
 {
     let tiles = finished(alloc)?;
-    let domain = Domain::whole(alloc, 0, None, tiles.end())?;
-    let shown = MapState {
-        pos: 2,
-        current: Current::Copying,
-        pass: 3,
-    };
-    let names = Names::of_map(alloc, "map")?;
-    let heading = Heading::new(alloc, Program::Ddrescue, "ddrescue in out map")?;
-    let rescue = Rescue::start(
+    let settings = settings_of(rt, 512, 2, LEAST);
+    let names = Some(Names::of_map(alloc, "map")?);
+    rescue_of(
+        rt,
         alloc,
-        settings(),
-        domain,
+        settings,
         tiles,
-        Some(shown),
-        Some(names),
-        heading,
-        65_000,
-    )?;
-    Ok(rescue)
+        (0, 99),
+        Some(shown(2, 3)),
+        names,
+    )
 }
 
 /// The same at its end.
-fn ended(alloc: Global) -> Result<Rescue<Finished, PlainTiles>, Fail> {
-    let copied = resumed(alloc)?.end_copying();
+fn ended(rt: &impl Abort, alloc: Global) -> Result<Rescue<Finished, PlainTiles>, Fail> {
+    let copied = resumed(rt, alloc)?.end_copying();
     Ok(copied.end_trimming().end_scraping().end_retrying())
 }
 
@@ -106,13 +73,13 @@ fn assert_map(rt: &impl Abort, site: &MemorySite, text: &str) {
 #[test]
 fn a_rescue_at_its_end_is_finished(rt: HostRuntime) -> Result<(), Fail> {
     let (mut site, mut console) = (files(rt.alloc())?, MemoryConsole::new(rt.alloc()));
-    let end = ended(rt.alloc())?.close(&mut site, &mut console);
+    let end = ended(&rt, rt.alloc())?.close(&mut site, &mut console);
     assert_eq!(rt; end, RunEnd::Done);
     let text = "\
 # Mapfile. Created by ddrescue
 # Command line: ddrescue in out map
-# Start time:   65
-# Current time: 65
+# Start time:   5
+# Current time: 5
 # current_pos  current_status  current_pass
 0x00000002     +               1
 #      pos        size  status
@@ -126,15 +93,15 @@ fn a_rescue_at_its_end_is_finished(rt: HostRuntime) -> Result<(), Fail> {
 fn a_rescue_that_stopped_is_saved_as_it_is(rt: HostRuntime) -> Result<(), Fail> {
     for stop in [Stop::SourceLost, Stop::NoMemory] {
         let (mut site, mut console) = (files(rt.alloc())?, MemoryConsole::new(rt.alloc()));
-        let end = resumed(rt.alloc())?
+        let end = resumed(&rt, rt.alloc())?
             .stopped(stop)
             .close(&mut site, &mut console);
         assert_eq!(rt; end, RunEnd::Stopped(stop));
         let text = "\
 # Mapfile. Created by ddrescue
 # Command line: ddrescue in out map
-# Start time:   65
-# Current time: 65
+# Start time:   5
+# Current time: 5
 # current_pos  current_status  current_pass
 0x00000002     ?               3
 #      pos        size  status
@@ -156,7 +123,7 @@ fn makes_no_call_behind_one_that_failed(rt: HostRuntime) -> Result<(), Fail> {
         let (mut site, mut console) = (files(rt.alloc())?, MemoryConsole::new(rt.alloc()));
         site.draft_begin("map.tmp")?;
         let stop = Stop::Site(call);
-        let end = resumed(rt.alloc())?
+        let end = resumed(&rt, rt.alloc())?
             .stopped(stop)
             .close(&mut site, &mut console);
         assert_eq!(rt; end, RunEnd::Stopped(stop));
@@ -179,12 +146,12 @@ fn names_the_call_of_the_save_that_failed(rt: HostRuntime) -> Result<(), Fail> {
     for (number, call) in calls {
         let (mut site, mut console) = (files(rt.alloc())?, MemoryConsole::new(rt.alloc()));
         site.fail_call(number)?;
-        let end = ended(rt.alloc())?.close(&mut site, &mut console);
+        let end = ended(&rt, rt.alloc())?.close(&mut site, &mut console);
         let earlier = None;
         assert_eq!(rt; end, RunEnd::SaveFailed { call, earlier });
         let mut site = files(rt.alloc())?;
         site.fail_call(number)?;
-        let end = resumed(rt.alloc())?
+        let end = resumed(&rt, rt.alloc())?
             .stopped(Stop::SourceLost)
             .close(&mut site, &mut console);
         let earlier = Some(Stop::SourceLost);

@@ -1,65 +1,30 @@
-//! The request of a phase at a place, in tables and beside a program that asks each position.
-ghost use Rattle.std.specs.Prelude.{◌≡◌, IfOk};
+//! The request of a phase at a place, in tables and beside a plain program.
 ghost use Rattle.rescue_core.specs.RunState.{IsSound};
 
+use crate::plain::Plain;
 use crate::request::{is_up, next_request};
+use crate::samples::{LEAST, map_of, range_of, run, settings_of, statuses_of};
 use crate::settings::Settings;
 use crate::state::Place;
-use block_list::block::{Block, Run};
+use block_list::block::Run;
 use block_list::plain_tiles::PlainTiles;
-use block_list::status::Status;
 use block_list::tiles::Tiles;
 use rescue_domain::domain::Domain;
 use rescue_rules::phase::Phase;
 use rescue_rules::stop::TrimMode;
-use std::alloc::Global;
 use std::process::Abort;
 use std::test::Fail;
-
-/// The status that a character stands for in a mapfile.
-fn status(symbol: u8) -> Status {
-    match symbol {
-        b'?' => Status::NonTried,
-        b'*' => Status::NonTrimmed,
-        b'/' => Status::NonScraped,
-        b'-' => Status::BadSector,
-        _ => Status::Finished,
-    }
-}
-
-/// A map with a position for each character.
-fn map_of(alloc: Global, symbols: &str) -> Result<PlainTiles, Fail> {
-    let mut tiles = PlainTiles::new(alloc);
-    for (pos, symbol) in (0u64..).zip(symbols.bytes()) {
-        let status = status(symbol);
-        tiles.push(Block {
-            pos,
-            size: 1,
-            status,
-        })?;
-    }
-    Ok(tiles)
-}
 
 /// Settings of a sector, a cluster of so many sectors, and passes that go one way.
 fn settings(rt: &impl Abort, sector: u64, sectors: u64, up: bool) -> Settings
     ensures { IsSound result }
 {
-    assert!(rt; 0 < sector && sector <= 1000 && 0 < sectors && sectors <= 1000);
-    Settings {
-        sector,
-        cluster: sectors * sector,
-        ipos: 0,
-        opos: 0,
-        skip: 0,
-        skip_max: 0,
-        min_rate: 0,
-        retries: 0,
-        no_trim: false,
-        no_scrape: false,
+    let settings = Settings {
         reverse: !up,
         one_way: true,
-    }
+        ..LEAST
+    };
+    settings_of(rt, sector, sectors, settings)
 }
 
 fn place(cursor: u64, mode: TrimMode) -> Place {
@@ -81,15 +46,7 @@ fn asked(
 ) -> Option<Run>
     requires { IsSound settings.now }
 {
-    let request = next_request(settings, domain, tiles, phase, &place)?;
-    Some(Run {
-        from: request.pos,
-        to: request.pos + request.len as u64,
-    })
-}
-
-fn run(from: u64, to: u64) -> Option<Run> {
-    Some(Run { from, to })
+    range_of(next_request(settings, domain, tiles, phase, &place))
 }
 
 #[test]
@@ -183,124 +140,44 @@ fn asks_within_its_domain(rt: HostRuntime) -> Result<(), Fail> {
     Ok(())
 }
 
-/// The first position from one on that is wanted, or isn't; else the end.
-fn first_from(wanted: &[bool], from: usize, want: bool) -> usize {
-    for (x, is_wanted) in wanted.iter().enumerate() {
-        if from <= x && *is_wanted == want {
-            return x;
-        }
-    }
-    wanted.len()
-}
-
-/// The end of the last position below one that is wanted, or isn't; else 0.
-fn last_below(wanted: &[bool], before: usize, want: bool) -> usize {
-    let mut end = 0;
-    for (x, is_wanted) in wanted.iter().enumerate() {
-        if x < before && *is_wanted == want {
-            end = x + 1;
-        }
-    }
-    end
-}
-
-/// What a plain program asks for: upwards or downwards, from where, from a run's front or its back, and how much at
-/// most.
-#[derive(Clone, Copy, Debug)]
-struct Plain {
-    up: bool,
-    from: usize,
-    front: bool,
-    size: usize,
-    sector: usize,
-}
-
-impl Plain {
-    /// By the rules of a phase in a mode, at a cursor.
-    fn at(
-        phase: Phase,
-        mode: TrimMode,
-        cursor: usize,
-        up: bool,
-        end: usize,
-        sector: usize,
-        sectors: usize,
-    ) -> Plain {
-        let size = if phase == Phase::Copying {
-            sectors.saturating_mul(sector)
-        } else {
-            sector
-        };
-        let start = if up { 0 } else { end };
-        let (up, from, front) = match (phase, mode) {
-            (Phase::Trimming, TrimMode::Lead) => (up, start, true),
-            (Phase::Trimming, TrimMode::Tail(low)) => (true, low as usize, false),
-            _ => (up, cursor, up),
-        };
-        Plain {
-            up,
-            from,
-            front,
-            size,
-            sector,
-        }
-    }
-
-    /// The run that it finds.
-    fn run(&self, wanted: &[bool]) -> Option<(usize, usize)> {
-        let (start, end) = if self.up {
-            let start = first_from(wanted, self.from, true);
-            (start, first_from(wanted, start, false))
-        } else {
-            let end = last_below(wanted, self.from, true);
-            (last_below(wanted, end, false), end)
-        };
-        (start < end).then_some((start, end))
-    }
-
-    /// What it asks for of a run: up to the last boundary of a sector that isn't too far from the front, or down to the
-    /// first that isn't too far from the back.
-    fn part(&self, rt: &impl Abort, start: usize, end: usize) -> Option<Run> {
-        assert!(rt; 0 < self.sector && self.size <= 1000 && start <= 1000 && end <= 1000);
-        let (mut from, mut to) = (start, end);
-        if self.front {
-            for x in start..start + self.size + 1 {
-                if x % self.sector == 0 {
-                    to = x.min(end);
-                }
-            }
-        } else {
-            for x in (end.saturating_sub(self.size)..end).rev() {
-                if x % self.sector == 0 {
-                    from = x.max(start);
-                }
-            }
-        }
-        run(from as u64, to as u64)
-    }
-}
-
-/// Compares the requests of a phase, over a map in which these positions are wanted.
+/// Compares the requests of a phase from each cursor, over a map's positions from one on and below another.
 fn compare(
     rt: &impl Abort,
     tiles: &PlainTiles,
     domain: &Domain,
-    wanted: &[bool],
-    phase: Phase,
+    settings: Settings,
+    plain: &mut Plain,
+    mode: TrimMode,
+)
+    requires { IsSound settings }
+{
+    plain.settings = settings;
+    for cursor in 0..plain.end().saturating_add(1) {
+        plain.place = place(cursor, mode);
+        let found = asked(&settings, domain, tiles, plain.phase, plain.place);
+        assert_eq!(rt;
+            found,
+            plain.request(),
+            "{settings:?} {:?} {:?}",
+            plain.phase,
+            plain.place
+        );
+    }
+}
+
+/// Does so in sectors and clusters of several sizes, and in both directions.
+fn compare_all(
+    rt: &impl Abort,
+    tiles: &PlainTiles,
+    domain: &Domain,
+    plain: &mut Plain,
     mode: TrimMode,
 ) {
-    for sector in 1..4usize {
-        for sectors in 1..4usize {
+    for sector in [1, 2, 3] {
+        for sectors in [1, 2, 3] {
             for up in [true, false] {
-                let settings = settings(rt, sector as u64, sectors as u64, up);
-                for cursor in 0..wanted.len() + 1 {
-                    let plain = Plain::at(phase, mode, cursor, up, wanted.len(), sector, sectors);
-                    let want = plain
-                        .run(wanted)
-                        .and_then(|(start, end)| plain.part(rt, start, end));
-                    let found = asked(&settings, domain, tiles, phase, place(cursor as u64, mode));
-                    assert_eq!(rt; found, want, "{wanted:?} {phase:?} {mode:?} {plain:?}");
-                }
+                let settings = settings(rt, sector, sectors, up);
+                compare(rt, tiles, domain, settings, plain, mode);
             }
         }
     }
@@ -321,24 +198,28 @@ fn asks_as_a_plain_program_does(rt: HostRuntime) -> Result<(), Fail> {
         "---+-+--/---",
     ];
     let phases = [
-        (b'?', Phase::Copying),
-        (b'*', Phase::Trimming),
-        (b'/', Phase::Scraping),
-        (b'-', Phase::Retrying),
+        Phase::Copying,
+        Phase::Trimming,
+        Phase::Scraping,
+        Phase::Retrying,
     ];
     for symbols in maps {
         let tiles = map_of(rt.alloc(), symbols)?;
         for (low, high) in [(0, 99), (2, 7), (3, 99)] {
             let domain = Domain::whole(rt.alloc(), low, None, tiles.end().min(high))?;
-            for (symbol, phase) in phases {
-                let mut wanted = Vec::new(rt.alloc());
-                for (x, found) in (0u64..).zip(symbols.bytes()) {
-                    wanted.push(found == symbol && low <= x && x < high)?;
-                }
-                compare(&rt, &tiles, &domain, &wanted, phase, TrimMode::Lead);
-                for (x, is_wanted) in (0u64..).zip(wanted.iter()) {
-                    if phase == Phase::Trimming && *is_wanted {
-                        compare(&rt, &tiles, &domain, &wanted, phase, TrimMode::Tail(x));
+            for phase in phases {
+                let mut plain = Plain {
+                    statuses: statuses_of(rt.alloc(), symbols)?,
+                    low,
+                    high,
+                    settings: LEAST,
+                    phase,
+                    place: place(0, TrimMode::Lead),
+                };
+                compare_all(&rt, &tiles, &domain, &mut plain, TrimMode::Lead);
+                for x in 0..plain.end() {
+                    if phase == Phase::Trimming && plain.wants(x) {
+                        compare_all(&rt, &tiles, &domain, &mut plain, TrimMode::Tail(x));
                     }
                 }
             }

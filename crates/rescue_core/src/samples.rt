@@ -143,7 +143,8 @@ fn assert_shown(rt: &impl Abort, loaded: Option<MapState>)
     }
 }
 
-/// A rescue of a map's positions from one on and below another, which begins five seconds behind the start of 1970.
+/// A rescue of a map's positions from one on and below another, which begins five seconds behind the start of 1970 and
+/// saves its mapfile, if names for one are given.
 pub(crate) fn rescue_of(
     rt: &impl Abort,
     alloc: Global,
@@ -151,6 +152,7 @@ pub(crate) fn rescue_of(
     tiles: PlainTiles,
     bounds: (u64, u64),
     loaded: Option<MapState>,
+    names: Option<Names>,
 ) -> Result<Rescue<Copying, PlainTiles>, Fail>
     requires sound { IsSound settings }
     requires start { settings.ipos ≡ 0 }
@@ -161,17 +163,9 @@ pub(crate) fn rescue_of(
     assert_shown(rt, loaded);
     let (low, high) = bounds;
     let domain = Domain::whole(alloc, low, None, tiles.end().min(high))?;
-    let names = Names::of_map(alloc, "map")?;
     let heading = Heading::new(alloc, Program::Ddrescue, "ddrescue in out map")?;
     let rescue = Rescue::start(
-        alloc,
-        settings,
-        domain,
-        tiles,
-        loaded,
-        Some(names),
-        heading,
-        5_000,
+        alloc, settings, domain, tiles, loaded, names, heading, 5_000,
     )?;
     Ok(rescue)
 }

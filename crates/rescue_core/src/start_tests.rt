@@ -27,7 +27,7 @@ fn begins_where_it_should(rt: HostRuntime) -> Result<(), Fail> {
         let settings = Settings { reverse, ..LEAST };
         let settings = settings_of(&rt, 1, 3, settings);
         let tiles = map_of(rt.alloc(), map)?;
-        let rescue = rescue_of(&rt, rt.alloc(), settings, tiles, (0, 99), loaded)?;
+        let rescue = rescue_of(&rt, rt.alloc(), settings, tiles, (0, 99), loaded, None)?;
         assert_eq!(rt; rescue.phase(), Phase::Copying);
         assert_eq!(rt; rescue.mode(), TrimMode::Lead);
         assert_eq!(rt; rescue.pass(), pass, "{reverse} {loaded:?}");

@@ -26,6 +26,6 @@ finished_spent r is =
     never_taken phase (has_marks 4 Finished (taken phase) x (subst (λ map. Has map (taken phase) x) is has)))
 
 pub end_retrying-requires : goal.end_retrying-requires
-end_retrying-requires c =
+end_retrying-requires g c =
     let is = c.end_scraping.ensures ∙ c.end_trimming.ensures ∙ c.end_copying-copied.ensures in
     record { spent = finished_spent c.end_scraping.result (ap (λ (r : RunState). r.machine.map) is ∙ c.in_ok-resumed.ensures) }
