@@ -1,4 +1,4 @@
-//! Turns of a rescue in memory, in tables and beside a plain program.
+//! Turns of a rescue in memory, beside a plain program.
 ghost use Rattle.std.specs.Prelude.{◌≡◌, ◌<◌, true, false, IfOk};
 ghost use Rattle.crash_site.specs.MemoryState.{state_of as site_state};
 ghost use Rattle.faulty_source.specs.MemoryState.{state_of as source_state};
@@ -16,7 +16,7 @@ use crate::turn::Turn;
 use block_list::block::Run;
 use block_list::plain_tiles::PlainTiles;
 use crash_site::memory::MemorySite;
-use crash_site::site::{Site, SiteCall};
+use crash_site::site::Site;
 use faulty_source::memory::{BadRange, MemorySource};
 use faulty_source::source::Source;
 use mapfile_text::state::MapState;
@@ -27,9 +27,6 @@ use save_resume::names::Names;
 use std::alloc::Global;
 use std::process::Abort;
 use std::test::Fail;
-
-/// Positions that aren't read.
-const UNREAD: Run = Run { from: 39, to: 40 };
 
 /// Where a rescue begins: in a phase, over a map's positions from one on and below another; while it copies, where a
 /// mapfile shows that it stands.
@@ -180,14 +177,6 @@ impl Scene {
         )
     }
 
-    /// Its map has these statuses.
-    fn assert_map(&self, rt: &impl Abort, symbols: &str) -> Result<(), Fail> {
-        let found = statuses_in(self.alloc, self.rescue.tiles())?;
-        let want = statuses_of(self.alloc, symbols)?;
-        assert_eq!(rt; found.as_slice(), want.as_slice());
-        Ok(())
-    }
-
     /// Compares the rest of its pass, in which each second read takes longer.
     fn compare(&mut self, rt: &impl Abort, plain: &mut Plain, bad: Run) -> Result<(), Fail> {
         for number in 0..50 {
@@ -328,153 +317,6 @@ fn turns_as_a_plain_program_does(rt: HostRuntime) -> Result<(), Fail> {
             loaded,
         };
         compare_from(&rt, rt.alloc(), start)?;
-    }
-    Ok(())
-}
-
-/// Makes turns in sectors and clusters of two bytes. Each has the map behind it, the cursor and the mode.
-fn make_turns(
-    rt: &impl Abort,
-    alloc: Global,
-    phase: Phase,
-    symbols: &'static str,
-    bad: Run,
-    turns: &[(&'static str, u64, TrimMode)],
-) -> Result<(), Fail> {
-    let settings = Settings {
-        skip: 2,
-        skip_max: 6,
-        ..LEAST
-    };
-    let settings = settings_of(rt, 2, 1, settings);
-    let start = Start {
-        phase,
-        symbols,
-        low: 0,
-        high: 99,
-        loaded: shown(0, 1),
-    };
-    let rescue = rescue_at(rt, alloc, settings, start)?;
-    let mut scene = scene_of(rt, alloc, rescue, bad, &[0])?;
-    for (map, cursor, mode) in turns {
-        assert!(rt; scene.turn(rt).is_ok(), "{map}");
-        scene.assert_map(rt, map)?;
-        assert_eq!(rt; scene.rescue.cursor(), *cursor, "{map}");
-        assert_eq!(rt; scene.rescue.mode(), *mode, "{map}");
-    }
-    Ok(())
-}
-
-/// Behind a failed read copying jumps further each time, up to the most, until a read is whole. Trimming reads a run
-/// from its front up to a failed read, then from its back; what lies between is for scraping.
-#[test]
-fn goes_on_turn_by_turn(rt: HostRuntime) -> Result<(), Fail> {
-    let (lead, tail) = (TrimMode::Lead, TrimMode::Tail(2));
-    let untried = "????????????????????????";
-    let turns = [
-        ("--??????????????????????", 4, lead),
-        ("--??--??????????????????", 10, lead),
-        ("--??--????--????????????", 18, lead),
-        ("--??--????--??????++????", 20, lead),
-    ];
-    let bad = Run { from: 0, to: 13 };
-    make_turns(&rt, rt.alloc(), Phase::Copying, untried, bad, &turns)?;
-    let turns = [
-        ("+-*****+", 1, tail),
-        ("+-****++", 6, tail),
-        ("+-//--++", 4, lead),
-    ];
-    let bad = Run { from: 1, to: 6 };
-    make_turns(&rt, rt.alloc(), Phase::Trimming, "+******+", bad, &turns)?;
-    let turns = [
-        ("--***+**", 0, tail),
-        ("--**++**", 4, tail),
-        ("--++++**", 2, lead),
-        ("--++++++", 6, lead),
-    ];
-    let bad = Run { from: 0, to: 1 };
-    make_turns(&rt, rt.alloc(), Phase::Trimming, "*****+**", bad, &turns)
-}
-
-/// A pass of copying over eight positions in clusters of two sectors of two bytes, which stand three bytes further on
-/// in the output.
-fn copying(
-    rt: &impl Abort,
-    alloc: Global,
-    pass: u32,
-    bad: Run,
-    times: &[u64],
-) -> Result<Scene, Fail> {
-    let settings = Settings {
-        opos: 3,
-        skip: 2,
-        skip_max: 2,
-        min_rate: 1000,
-        ..LEAST
-    };
-    let settings = settings_of(rt, 2, 2, settings);
-    let start = Start {
-        phase: Phase::Copying,
-        symbols: "????????",
-        low: 0,
-        high: 99,
-        loaded: shown(0, pass),
-    };
-    let rescue = rescue_at(rt, alloc, settings, start)?;
-    scene_of(rt, alloc, rescue, bad, times)
-}
-
-/// In copying's first two passes a slow read jumps. A clock that goes back shows no read as slow.
-#[test]
-fn tells_slow_reads(rt: HostRuntime) -> Result<(), Fail> {
-    let rows = [
-        (1, [0, 4], false, 4),
-        (1, [0, 5], true, 6),
-        (1, [7, 11], false, 4),
-        (1, [7, 12], true, 6),
-        (1, [12, 7], false, 4),
-        (3, [0, 9], true, 4),
-        (1, [0, u64::MAX], true, 6),
-    ];
-    for (pass, times, slow, cursor) in rows {
-        let mut scene = copying(&rt, rt.alloc(), pass, UNREAD, &times)?;
-        let want = Turn {
-            kept: 4,
-            given: 4,
-            whole: true,
-            slow,
-        };
-        assert_eq!(rt; scene.turn(&rt), Ok(want), "{pass} {times:?}");
-        assert_eq!(rt; scene.rescue.cursor(), cursor, "{pass} {times:?}");
-    }
-    Ok(())
-}
-
-/// Where the input is lost or the output can't be written, a rescue stands as before; where a call of a due save fails,
-/// the marks stand. Each row has the call of the input and of the files that fails, and what the output holds.
-#[test]
-fn stops_where_a_call_fails(rt: HostRuntime) -> Result<(), Fail> {
-    let none = ("????????", 0, b"".as_slice());
-    let some = ("++--????", 6, b"\0\0\0ab".as_slice());
-    let rows = [
-        (2, 99, Stop::SourceLost, none),
-        (99, 2, Stop::Site(SiteCall::ImageWrite), none),
-        (99, 3, Stop::Site(SiteCall::ImageSync), some),
-        (99, 4, Stop::Site(SiteCall::DraftBegin), some),
-        (99, 5, Stop::Site(SiteCall::DraftAppend), some),
-        (99, 6, Stop::Site(SiteCall::DraftSync), some),
-        (99, 7, Stop::Site(SiteCall::DraftPublish), some),
-        (99, 8, Stop::Site(SiteCall::MapSettle), some),
-    ];
-    for (read, call, want, (map, cursor, image)) in rows {
-        let bad = Run { from: 3, to: 4 };
-        let mut scene = copying(&rt, rt.alloc(), 1, bad, &[35_000])?;
-        scene.source.fail_call(read)?;
-        scene.site.fail_call(call)?;
-        assert_eq!(rt; scene.turn(&rt), Err(want));
-        scene.assert_map(&rt, map)?;
-        assert_eq!(rt; scene.rescue.cursor(), cursor, "{want:?}");
-        assert!(rt; scene.site.file("image") == Some(image), "{want:?}");
     }
     Ok(())
 }
