@@ -33,6 +33,12 @@ pub enum UsageFault {
     /// The value that begins in this word is refused.
     #[error("BadValue")]
     BadValue { word: usize },
+    /// The option in this word doesn't go with others that are given.
+    #[error("Conflict")]
+    Conflict { word: usize },
+    /// So many modes aren't wanted.
+    #[error("Modes")]
+    Modes { given: usize },
     /// So many operands aren't wanted.
     #[error("Operands")]
     Operands { given: usize },

@@ -10,6 +10,4 @@ pub mod reader;
 pub mod reading;
 pub mod row;
 pub mod table;
-#[cfg(test)]
-mod tests;
 pub mod words;

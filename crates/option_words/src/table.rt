@@ -35,7 +35,7 @@ impl OptionTable {
     }
 
     /// The rows.
-    pub(crate) fn rows(&self) -> &'static [Row]
+    pub fn rows(&self) -> &'static [Row]
         ensures { result.now ≡ self.now }
     {
         self.rows

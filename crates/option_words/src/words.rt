@@ -1,10 +1,11 @@
-ghost use Rattle.std.specs.Prelude.{◌≡◌, ◌↔◌, IsTrue, ◌-◌, ◌≤◌, [], ◌∷◌, ◌++◌, length, drop, OnOk, OnErr};
+ghost use Rattle.std.specs.Prelude.{◌≡◌, ◌↔◌, IsTrue, ◌-◌, ◌≤◌, [], ◌∷◌, ◌++◌, length, drop, IfOk, OnOk, OnErr};
+ghost use Rattle.std.specs.String.{string_bytes};
 ghost use Rattle.option_words.specs.Spots.{IsSpot};
-ghost use Rattle.option_words.specs.Words.{word};
+ghost use Rattle.option_words.specs.Words.{command_line, word};
 
 use crate::reading::Spot;
 use block_list::tiles::NoMemory;
-use std::alloc::Global;
+use std::alloc::{AllocError, Global};
 use std::marker::Model;
 
 /// The words of a command line, without the program's own name.
@@ -77,5 +78,25 @@ impl Words {
         ensures { IsTrue result ↔ (length self.now ≡ 0) }
     {
         self.words.is_empty()
+    }
+    /// The command line as text: the program's name, and a space before each word.
+    pub fn command_line(&self, alloc: Global, program: &str) -> Result<String, NoMemory>
+        ensures { IfOk result (λ line. string_bytes line ≡ command_line program.now self.now) }
+    {
+        match self.joined(alloc, program) {
+            Ok(line) => Ok(line),
+            Err(_) => Err(NoMemory),
+        }
+    }
+
+    fn joined(&self, alloc: Global, program: &str) -> Result<String, AllocError>
+        ensures { IfOk result (λ line. string_bytes line ≡ command_line program.now self.now) }
+    {
+        let mut line = String::from_str(alloc, program)?;
+        for i in 0..self.len() {
+            line.push(' ')?;
+            line.push_str(self.get(i + 1))?;
+        }
+        Ok(line)
     }
 }

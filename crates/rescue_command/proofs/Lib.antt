@@ -1,5 +1,3 @@
 pub mod CommandLemmas
-pub mod MeaningLemmas
 pub mod OptionLemmas
-pub mod SizeLemmas
 pub mod SkipLemmas

@@ -5,9 +5,9 @@ use Rattle.std.proofs.lemmas.Bool.Decides.{nat_tests}
 use Rattle.std.proofs.lemmas.Option.{cond_some}
 use Rattle.std.proofs.lemmas.Str.Pattern.{IsSplitOnceResult, split_parts, contains_char}
 use Rattle.std.specs.Str.Pattern.{FindsChar, HasMatch}
-use Rattle.rescue_command.specs.declared.options.Options.{Options}
-use Rattle.rescue_command.specs.Options.{with_first, comma_parts, default_skip, default_skip_max, size_if_given, skips_given, skips_in_parts, skips_of, in_sectors, is_empty_text, size_by}
-use Rattle.rescue_command.proofs.SizeLemmas.{then_part, size_by_below}
+use Rattle.option_values.specs.Values.{is_empty_text, size_by}
+use Rattle.rescue_command.specs.Options.{with_first, comma_parts, default_skip, default_skip_max, size_if_given, skips_given, skips_in_parts, skips_of, whole_sectors}
+use Rattle.option_values.proofs.ValueLemmas.{then_part, size_by_below}
 
 -- a text has no comma
 abbrev LacksComma : List ℕ → Type 0
@@ -64,10 +64,10 @@ two_parts (c ∷ text) zero h e =
     rw comma (two_with_comma (comma_parts text) (some_part text))
 two_parts (c ∷ text) (suc k) h e = two_with (nat_eq c 44) c (comma_parts text) (two_parts text k (omega arith) e)
 
-module _ (o : Options) (text : List ℕ) where
+module _ (sector : ℕ) (text : List ℕ) where
   -- a text with no comma is the first size alone
-  pub alone : FindsChar 44 text None → skips_in_parts o (comma_parts text) ≡ skips_in_parts o (text ∷ [] ∷ [])
-  alone h = ap (skips_in_parts o) (one_part text (split_parts 44 text None h (lit< tt)))
+  pub alone : FindsChar 44 text None → skips_in_parts sector (comma_parts text) ≡ skips_in_parts sector (text ∷ [] ∷ [])
+  alone h = ap (skips_in_parts sector) (one_part text (split_parts 44 text None h (lit< tt)))
 
   split_in_two : (first most : Bor (List ℕ)) → IsSplitOnceResult 44 text (Some (first, most))
       → comma_parts text ≡ first.now ∷ comma_parts most.now
@@ -77,18 +77,18 @@ module _ (o : Options) (text : List ℕ) where
 
   -- a text with one comma is both
   pub both : (first most : Bor (List ℕ)) → IsSplitOnceResult 44 text (Some (first, most)) → FindsChar 44 most.now None
-      → skips_in_parts o (comma_parts text) ≡ skips_in_parts o (first.now ∷ most.now ∷ [])
+      → skips_in_parts sector (comma_parts text) ≡ skips_in_parts sector (first.now ∷ most.now ∷ [])
   both first most h none =
       let lacks : LacksComma most.now = split_parts 44 most.now None none (lit< tt) in
-      ap (skips_in_parts o) (split_in_two first most h ∙ ap (λ x. first.now ∷ x) (one_part most.now lacks))
+      ap (skips_in_parts sector) (split_in_two first most h ∙ ap (λ x. first.now ∷ x) (one_part most.now lacks))
 
   -- one with more is bad
   pub too_many : (first most : Bor (List ℕ)) → IsSplitOnceResult 44 text (Some (first, most))
-      → HasMatch (FindsChar 44) most.now → skips_in_parts o (comma_parts text) ≡ None
+      → HasMatch (FindsChar 44) most.now → skips_in_parts sector (comma_parts text) ≡ None
   too_many first most h found =
       let at = (contains_char 44 most.now true found (lit< tt)).0 refl in
       let two = two_parts most.now at.0 at.1 at.2 in
-      ap (skips_in_parts o) (split_in_two first most h ∙ ap (λ x. first.now ∷ x) two.3)
+      ap (skips_in_parts sector) (split_in_two first most h ∙ ap (λ x. first.now ∷ x) two.3)
 
 -- the first skip isn't above the largest, and both are below 2^63
 pub record AreOrdered (k : ℕ × ℕ) : Type 0 where
@@ -126,21 +126,23 @@ given_below_by false r None below e = tt
 given_below_by false (Some k) (Some k') below e = below k' (cc)
 given_below_by false None (Some k) below e = absurd (cc)
 
-size_given_below : (o : Options) (text : List ℕ) (n : Option ℕ) → size_if_given o text ≡ Some n
+size_given_below : (sector : ℕ) (text : List ℕ) (n : Option ℕ) → size_if_given sector text ≡ Some n
     → IfSome n (λ k. k < 2 ^ 63)
-size_given_below o text n e = given_below_by (is_empty_text text) (size_by o text) n (size_by_below o text) e
+size_given_below sector text n e =
+    given_below_by (is_empty_text text) (size_by sector (Some text)) n (size_by_below sector (Some text)) e
 
-pub parts_ordered : (o : Options) (parts : List (List ℕ)) (k : ℕ × ℕ) → skips_in_parts o parts ≡ Some k → AreOrdered k
-parts_ordered o [] k e = absurd (cc)
-parts_ordered o (first ∷ []) k e =
-    let f = then_part (λ f. skips_given f None) (size_if_given o first) k e in
-    given_ordered f.0 None k (size_given_below o first f.0 f.1) tt f.2
-parts_ordered o (first ∷ most ∷ []) k e =
-    let most_of = λ (f : Option ℕ). option_and_then (λ m. skips_given f m) (size_if_given o most) in
-    let f = then_part most_of (size_if_given o first) k e in
-    let m = then_part (λ m. skips_given f.0 m) (size_if_given o most) k f.2 in
-    given_ordered f.0 m.0 k (size_given_below o first f.0 f.1) (size_given_below o most m.0 m.1) m.2
-parts_ordered o (first ∷ most ∷ third ∷ more) k e = absurd (cc)
+pub parts_ordered : (sector : ℕ) (parts : List (List ℕ)) (k : ℕ × ℕ) → skips_in_parts sector parts ≡ Some k
+    → AreOrdered k
+parts_ordered sector [] k e = absurd (cc)
+parts_ordered sector (first ∷ []) k e =
+    let f = then_part (λ f. skips_given f None) (size_if_given sector first) k e in
+    given_ordered f.0 None k (size_given_below sector first f.0 f.1) tt f.2
+parts_ordered sector (first ∷ most ∷ []) k e =
+    let most_of = λ (f : Option ℕ). option_and_then (λ m. skips_given f m) (size_if_given sector most) in
+    let f = then_part most_of (size_if_given sector first) k e in
+    let m = then_part (λ m. skips_given f.0 m) (size_if_given sector most) k f.2 in
+    given_ordered f.0 m.0 k (size_given_below sector first f.0 f.1) (size_given_below sector most m.0 m.1) m.2
+parts_ordered sector (first ∷ most ∷ third ∷ more) k e = absurd (cc)
 
 -- skip sizes that are accepted: in order, and the largest is below 2^63 in whole sectors
 pub record AreSkips (sector first most : ℕ) : Type 0 where
@@ -148,22 +150,22 @@ pub record AreSkips (sector first most : ℕ) : Type 0 where
   pub below : (most + (sector - 1)) / sector * sector < 2 ^ 63
 
 -- skip sizes, if the largest isn't too large
-abbrev if_small : Options → ℕ × ℕ → Option (ℕ × ℕ)
-if_small o k = if nat_lt (in_sectors o k.1) (2 ^ 63) then Some k else None
+abbrev if_small : (sector : ℕ) → ℕ × ℕ → Option (ℕ × ℕ)
+if_small sector k = if nat_lt (whole_sectors sector k.1) (2 ^ 63) then Some k else None
 
-some_skips : (o : Options) (k k' : ℕ × ℕ) → AreOrdered k → if_small o k ≡ Some k' → AreSkips o.sector k'.0 k'.1
-some_skips o k k' h e =
-    let p = cond_some (nat_lt (in_sectors o k.1) (2 ^ 63)) k k' e in
-    let are : AreSkips o.sector k.0 k.1 =
-    record { order = h.order; below = passed_lt (in_sectors o k.1) (2 ^ 63) p.0 } in
-    subst (λ (x : ℕ × ℕ). AreSkips o.sector x.0 x.1) p.1 are
+some_skips : (sector : ℕ) (k k' : ℕ × ℕ) → AreOrdered k → if_small sector k ≡ Some k' → AreSkips sector k'.0 k'.1
+some_skips sector k k' h e =
+    let p = cond_some (nat_lt (whole_sectors sector k.1) (2 ^ 63)) k k' e in
+    let are : AreSkips sector k.0 k.1 =
+    record { order = h.order; below = passed_lt (whole_sectors sector k.1) (2 ^ 63) p.0 } in
+    subst (λ (x : ℕ × ℕ). AreSkips sector x.0 x.1) p.1 are
 
-skips_by : (o : Options) (b : Bool) (parts : List (List ℕ)) (k : ℕ × ℕ)
-    → cond b None (option_and_then (if_small o) (skips_in_parts o parts)) ≡ Some k → AreSkips o.sector k.0 k.1
-skips_by o true parts k e = absurd (cc)
-skips_by o false parts k e =
-    let p = then_part (if_small o) (skips_in_parts o parts) k e in
-    some_skips o p.0 k (parts_ordered o parts p.0 p.1) p.2
+skips_by : (sector : ℕ) (b : Bool) (parts : List (List ℕ)) (k : ℕ × ℕ)
+    → cond b None (option_and_then (if_small sector) (skips_in_parts sector parts)) ≡ Some k → AreSkips sector k.0 k.1
+skips_by sector true parts k e = absurd (cc)
+skips_by sector false parts k e =
+    let p = then_part (if_small sector) (skips_in_parts sector parts) k e in
+    some_skips sector p.0 k (parts_ordered sector parts p.0 p.1) p.2
 
-pub skips_of_are : (o : Options) (text : List ℕ) (k : ℕ × ℕ) → skips_of o text ≡ Some k → AreSkips o.sector k.0 k.1
-skips_of_are o text k e = skips_by o (is_empty_text text) (comma_parts text) k e
+pub skips_of_are : (sector : ℕ) (text : List ℕ) (k : ℕ × ℕ) → skips_of sector text ≡ Some k → AreSkips sector k.0 k.1
+skips_of_are sector text k e = skips_by sector (is_empty_text text) (comma_parts text) k e

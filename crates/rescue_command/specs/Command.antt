@@ -1,20 +1,19 @@
 -- What the words of a rescue ask for, or why they are refused.
-use Rattle.std.specs.Prelude.{◌≡◌, ◌↔◌, ⊤, ℕ, ◌^◌, ◌<◌, ◌≤◌, Bool, true, false, List, [], ◌∷◌, length, map, find, nat_eq, nat_lt, Option, Some, None, Result, Ok, Err, IfSome, option_map, if◌then◌else◌}
+use Rattle.std.specs.Prelude.{◌≡◌, ◌↔◌, ℕ, ◌^◌, ◌<◌, ◌≤◌, Bool, true, List, [], ◌∷◌, length, nat_lt, Option, Some, None, Result, Ok, Err, IfSome, option_map, if◌then◌else◌}
 use Rattle.option_words.specs.Words.{word}
-use Rattle.option_words.specs.Rows.{meaning_of_row}
-use Rattle.option_words.specs.Reading.{IsReading, WordFaultAt}
+use Rattle.option_words.specs.declared.row.Row.{Row}
 use Rattle.option_words.specs.declared.reading.Item.{Item}
 use Rattle.option_words.specs.declared.reading.Reading.{Reading}
-use Rattle.option_words.specs.declared.fault.WordFault.{WordFault}
-use Rattle.option_words.specs.declared.fault.WordFault.TheVariants.{UnknownShort, UnknownLong, Ambiguous, MissingValue, UnwantedValue, NoMemory as OutOfMemory}
 use Rattle.option_words.specs.declared.fault.UsageFault.{UsageFault}
-use Rattle.option_words.specs.declared.fault.UsageFault.TheVariants.{Word, BadValue, Operands}
+use Rattle.option_words.specs.declared.fault.UsageFault.TheVariants.{BadValue, Operands}
+use Rattle.option_values.specs.declared.command_error.CommandError.{CommandError}
+use Rattle.option_values.specs.Values.{last_of, last_value, word_in}
+pub use Rattle.option_values.specs.Values.{IsWord, empty_operand}
+use Rattle.option_values.specs.Grammar.{Grammar, AreOptionsOf, AskFor, AreRefusedBy, AskSilence, IsRefusalBy, IsErrorBy}
+pub use Rattle.option_values.specs.Grammar.{Unread, Wrong, unless_empty, unread_error}
 use Rattle.rescue_command.specs.declared.options.Options.{Options}
 use Rattle.rescue_command.specs.declared.command.Command.{Command as CommandCode}
-use Rattle.rescue_command.specs.declared.command.CommandError.{CommandError}
-use Rattle.rescue_command.specs.declared.command.CommandError.TheVariants.{Usage, NoMemory}
-use Rattle.option_words.specs.declared.row.Row.{Row}
-use Rattle.rescue_command.specs.Options.{cluster_limit, cluster_of, cluster_row, domain_row, has_quiet, in_sectors, last_of, last_value, option_meanings, options_in, sectors_of, test_row, word_in}
+use Rattle.rescue_command.specs.Options.{cluster_letter, cluster_limit, cluster_of, domain_letter, in_sectors, option_meanings, options_in, quiet_letter, sectors_of, test_letter}
 
 -- the names of the infile, the outfile and, if there is one, the mapfile; of the map of what is to be rescued and of
 -- the map of what may be read, if they are named; and what the options say
@@ -43,7 +42,10 @@ pub record MapOptions : Type 0 where
   pub test : Option (List ℕ)
 
 abbrev pub maps_in : List (List ℕ) → List Item → MapOptions
-maps_in words items = record { domain = last_value words domain_row items; test = last_value words test_row items }
+maps_in words items = record {
+  domain = last_value option_meanings words domain_letter items;
+  test = last_value option_meanings words test_letter items;
+}
 
 -- The files of two operands or three; another number is refused, and so are two where the mapfile says what is to be
 -- rescued.
@@ -71,26 +73,20 @@ command_with words m o (i ∷ out ∷ map ∷ []) =
     })
 command_with words m o (i ∷ out ∷ map ∷ n ∷ more) = Err (Operands (length (i ∷ out ∷ map ∷ n ∷ more)))
 
--- the first operand that is empty
-abbrev pub empty_operand : List (List ℕ) → (operands : List ℕ) → Option ℕ
-empty_operand words operands = find (λ n. nat_eq (length (word words n)) 0) operands
-
--- unless an operand is empty, which is refused behind a wrong number
-abbrev pub unless_empty : Option ℕ → Result Command UsageFault → Result Command UsageFault
-unless_empty o (Err fault) = Err fault
-unless_empty None (Ok c) = Ok c
-unless_empty (Some n) (Ok c) = Err (BadValue n)
-
 -- options that give a cluster that is too large
 abbrev pub is_too_large : Options → Bool
 is_too_large o = nat_lt cluster_limit (cluster_of o)
+
+-- the word of the option that gives the cluster
+abbrev pub cluster_word : List Item → ℕ
+cluster_word items = word_in (last_of option_meanings cluster_letter items)
 
 -- What a reading of the words asks for, or its first fault: a bad value, then a cluster that is too large, then the
 -- operands.
 abbrev pub command_by : List (List ℕ) → List Item → Result Options ℕ → (operands : List ℕ) → Result Command UsageFault
 command_by words items (Err n) operands = Err (BadValue n)
 command_by words items (Ok o) operands =
-    if is_too_large o then Err (BadValue (word_in (last_of cluster_row items)))
+    if is_too_large o then Err (BadValue (cluster_word items))
     else unless_empty (empty_operand words operands) (command_with words (maps_in words items) o operands)
 
 abbrev pub command_in : List (List ℕ) → List Item → (operands : List ℕ) → Result Command UsageFault
@@ -100,48 +96,25 @@ command_in words items operands = command_by words items (options_in words items
 abbrev pub command_read : List (List ℕ) → Reading → Result Command UsageFault
 command_read words r = command_in words r.items.items r.operands.items
 
+-- the grammar of a rescue
+abbrev pub rescue_grammar : Grammar Command
+rescue_grammar = record { options = option_meanings; quiet = quiet_letter; asked = command_in }
+
 -- rows of a table that are the options of a rescue
-pub record AreOptions (rows : List Row) : Type 0 where
-  pub meanings : map meaning_of_row rows ≡ option_meanings
+abbrev pub AreOptions : List Row → Type 0
+AreOptions rows = AreOptionsOf rescue_grammar rows
 
 -- the words ask for this
-pub record Asks (words : List (List ℕ)) (c : Command) : Type 0 where
-  pub rows : List Row
-  pub options : AreOptions rows
-  pub items : List Item
-  pub operands : List ℕ
-  pub reading : IsReading rows words items operands
-  pub is : command_in words items operands ≡ Ok c
+abbrev pub Asks : List (List ℕ) → Command → Type 0
+Asks words c = AskFor rescue_grammar words c
 
--- the words are refused: they can't be read by the options, or what was read is wrong
-pub data AreRefused (words : List (List ℕ)) (fault : UsageFault) : Type 0 where
-  Unread : (rows : List Row) (f : WordFault) → AreOptions rows → WordFaultAt rows words f → fault ≡ Word f
-      → AreRefused words fault
-  Wrong : (rows : List Row) (items : List Item) (operands : List ℕ) → AreOptions rows
-      → IsReading rows words items operands → command_in words items operands ≡ Err fault → AreRefused words fault
-
--- the error of words that can't be read, which so don't ask that nothing be said
-abbrev pub unread_error : WordFault → CommandError
-unread_error (UnknownShort n c) = Usage (Word (UnknownShort n c)) false
-unread_error (UnknownLong n) = Usage (Word (UnknownLong n)) false
-unread_error (Ambiguous n) = Usage (Word (Ambiguous n)) false
-unread_error (MissingValue n) = Usage (Word (MissingValue n)) false
-unread_error (UnwantedValue n) = Usage (Word (UnwantedValue n)) false
-unread_error OutOfMemory = NoMemory
+-- they are refused for this fault
+abbrev pub AreRefused : List (List ℕ) → UsageFault → Type 0
+AreRefused words fault = AreRefusedBy rescue_grammar words fault
 
 -- they can be read, and ask that nothing be said
-pub record AskQuiet (words : List (List ℕ)) : Type 0 where
-  pub rows : List Row
-  pub options : AreOptions rows
-  pub items : List Item
-  pub operands : List ℕ
-  pub reading : IsReading rows words items operands
-  pub quiet : has_quiet items ≡ true
-
--- the number of a word, counted from 1
-pub record IsWord (words : List (List ℕ)) (n : ℕ) : Type 0 where
-  pub counted : 1 ≤ n
-  pub within : n ≤ length words
+abbrev pub AskQuiet : List (List ℕ) → Type 0
+AskQuiet words = AskSilence rescue_grammar words
 
 -- options within their limits
 pub record AreInLimits (o : Options) : Type 0 where
@@ -163,13 +136,10 @@ pub record IsAsked (words : List (List ℕ)) (c : Command) : Type 0 where
   pub limits : AreInLimits c.options
   pub quiet : AskQuiet words ↔ (c.options.quiet ≡ true)
 
--- they are refused for this fault, and ask for nothing
-pub record IsRefusal (words : List (List ℕ)) (fault : UsageFault) (quiet : Bool) : Type 0 where
-  pub refused : AreRefused words fault
-  pub nothing : (c : Command) → Asks words c → ⊥
-  pub quiet_is : AskQuiet words ↔ (quiet ≡ true)
+-- they are refused for this fault, and ask for nothing; `quiet` says whether they ask that nothing be said
+abbrev pub IsRefusal : List (List ℕ) → UsageFault → (quiet : Bool) → Type 0
+IsRefusal words fault quiet = IsRefusalBy rescue_grammar words fault quiet
 
 -- why words ask for nothing; want of memory is free
 abbrev pub IsErrorOf : List (List ℕ) → CommandError → Type 0
-IsErrorOf words (Usage fault quiet) = IsRefusal words fault quiet
-IsErrorOf words NoMemory = ⊤
+IsErrorOf words error = IsErrorBy rescue_grammar words error

@@ -5,5 +5,3 @@ pub mod command;
 pub mod laws;
 pub mod options;
 mod skips;
-#[cfg(test)]
-mod tests;

@@ -1,21 +1,15 @@
-//! The options of a rescue, as its manual has them.
-ghost use Rattle.std.specs.Prelude.{◌≡◌, ◌^◌, ◌<◌, ◌≤◌, option_and_then};
-ghost use Rattle.std.specs.Result.{result_ok};
-ghost use Rattle.size_suffixes.specs.Number.{number};
-ghost use Rattle.rescue_command.specs.Options.{cluster_of, in_sectors, no_options, sector_of, sectors_of, size_by, with_row, within_range};
+//! The options of a rescue, and what they ask for.
+ghost use Rattle.std.specs.Prelude.{◌≡◌, ◌^◌, ◌<◌, ◌≤◌, option_map, option_and_then};
+ghost use Rattle.option_values.specs.Values.{number_by, row_of, set_by, size_by, within_range};
+ghost use Rattle.rescue_command.specs.Options.{cluster_of, in_sectors, no_options, option_rows, sectors_of, skips_of};
 ghost use Rattle.rescue_command.specs.Command.{AreInLimits, AreOptions, is_too_large};
 
 use crate::skips::{DEFAULT_SKIP, DEFAULT_SKIP_MAX, in_sectors, read_skips};
+use option_values::given::letter_of;
+use option_values::settings::Settings;
+use option_values::values::{is_name, number_by, size_by, within_range};
 use option_words::row::{Row, Takes};
 use option_words::table::OptionTable;
-use size_suffixes::number::read_number;
-use size_suffixes::size::read_size;
-
-/// The size of a sector in bytes, where no option gives it.
-const DEFAULT_SECTOR: u64 = 512;
-
-/// The largest sector in bytes.
-const MOST_SECTOR: u64 = 1_048_576;
 
 /// The size of a cluster in bytes, where no option gives it and no sector is larger.
 const DEFAULT_CLUSTER: u64 = 65_536;
@@ -29,22 +23,22 @@ const MOST_CLUSTER: u64 = 16_777_216;
 /// The most passes of retrying.
 const MOST_RETRIES: u64 = 65_535;
 
-/// The row of `-b` in the table.
-pub(crate) const SECTOR_SIZE: usize = 2;
+/// The letter of the option that gives the size of a sector.
+pub(crate) const SECTOR_SIZE: char = 'b';
 
-/// The row of `-c`.
-pub(crate) const CLUSTER_SIZE: usize = 3;
+/// The letter of the one that gives the size of a cluster.
+pub(crate) const CLUSTER_SIZE: char = 'c';
 
-/// The row of `-H`.
-pub(crate) const TEST_MODE: usize = 6;
+/// The letter of the one that names the map of what can be read.
+pub(crate) const TEST_MODE: char = 'H';
 
-/// The row of `-m`.
-pub(crate) const DOMAIN_MAPFILE: usize = 10;
+/// The letter of the one that names the map of what is rescued.
+pub(crate) const DOMAIN_MAPFILE: char = 'm';
 
-/// The row of `-q`.
-pub(crate) const QUIET: usize = 15;
+/// The letter of the one that asks that nothing be said.
+pub(crate) const QUIET: char = 'q';
 
-/// The options. A later one is a row here and an arm in `with_row`.
+/// The options. A later one is a row here and an arm in `with_letter`.
 pub static ROWS: [Row; 20] = [
     Row {
         short: Some('a'),
@@ -194,12 +188,12 @@ pub struct Options {
 }
 
 impl Options {
-    /// What is asked for where no option is given.
-    pub(crate) fn none() -> Options
-        ensures { result ≡ no_options }
+    /// What is asked for where no option but the sector's is given.
+    pub(crate) fn none(sector: u64) -> Options
+        ensures { result ≡ no_options sector }
     {
         Options {
-            sector: DEFAULT_SECTOR,
+            sector,
             cluster_sectors: None,
             skip: DEFAULT_SKIP,
             skip_max: DEFAULT_SKIP_MAX,
@@ -275,50 +269,30 @@ pub(crate) fn option_table() -> OptionTable
     }
 }
 
-/// A number, if it is within a range.
-fn within_range(number: u64, least: u64, most: u64) -> Option<u64>
-    ensures { result ≡ within_range least most number }
+/// The least rate that a value gives, if it does.
+fn read_min_rate(sector: u64, value: Option<&str>) -> Option<u64>
+    requires low { 0 < sector }
+    requires high { sector ≤ 1048576 }
+    ensures { result ≡ option_and_then (within_range 1 (2 ^ 63))
+        (size_by sector (option_map (λ v. v.now) value.entry)) }
 {
-    if least <= number && number <= most {
-        Some(number)
-    } else {
-        None
-    }
+    within_range(size_by(sector, value)?, 1, 1 << 63)
 }
 
-/// The size of a sector that a text gives, if it does.
-pub(crate) fn read_sector(text: &str) -> Option<u64>
-    ensures { result ≡ sector_of text.now }
+/// The sectors of a cluster that a value gives, if it does.
+fn read_cluster_sectors(sector: u64, value: Option<&str>) -> Option<u64>
+    requires low { 0 < sector }
+    requires high { sector ≤ 1048576 }
+    ensures { result ≡ option_and_then (within_range 1 65536) (size_by sector (option_map (λ v. v.now) value.entry)) }
 {
-    let sector = read_size(text, DEFAULT_SECTOR).ok()?;
-    within_range(sector, 1, MOST_SECTOR)
+    within_range(size_by(sector, value)?, 1, MOST_CLUSTER_SECTORS)
 }
 
-/// The least rate that a text gives, if it does.
-fn read_min_rate(options: &Options, text: &str) -> Option<u64>
-    requires low { 0 < options.now.sector }
-    requires high { options.now.sector ≤ 1048576 }
-    ensures { result ≡ option_and_then (within_range 1 (2 ^ 63)) (size_by options.now text.now) }
+/// The passes of retrying that a value gives, if it does.
+fn read_retries(value: Option<&str>) -> Option<u32>
+    ensures { result ≡ option_and_then (within_range 0 65535) (number_by (option_map (λ v. v.now) value.entry)) }
 {
-    let rate = read_size(text, options.sector).ok()?;
-    within_range(rate, 1, 1 << 63)
-}
-
-/// The sectors of a cluster that a text gives, if it does.
-fn read_cluster_sectors(options: &Options, text: &str) -> Option<u64>
-    requires low { 0 < options.now.sector }
-    requires high { options.now.sector ≤ 1048576 }
-    ensures { result ≡ option_and_then (within_range 1 65536) (size_by options.now text.now) }
-{
-    let sectors = read_size(text, options.sector).ok()?;
-    within_range(sectors, 1, MOST_CLUSTER_SECTORS)
-}
-
-/// The passes of retrying that a text gives, if it does.
-fn read_retries(text: &str) -> Option<u32>
-    ensures { result ≡ option_and_then (within_range 0 65535) (result_ok (number text.now)) }
-{
-    let retries = read_number(text).ok()?;
+    let retries = number_by(value)?;
     if retries <= MOST_RETRIES {
         Some(retries as u32)
     } else {
@@ -326,15 +300,15 @@ fn read_retries(text: &str) -> Option<u32>
     }
 }
 
-/// Writes the arms of a `match` over the rows: each sets one field or two. The sector is set before, and the names of
-/// maps are read apart.
-macro_rules! set_by_row {
-    ($options:ident, $row:ident, $text:ident; $($number:literal => $($field:ident),+ = $value:expr;)*) => {
-        match $row {
+/// Writes the arms of a `match` over the letters: each sets one field or two. The size of a sector is set before, and
+/// the names of maps are read apart.
+macro_rules! set_by_letter {
+    ($options:ident, $letter:ident, $value:ident; $($char:literal => $($field:ident),+ = $set:expr;)*) => {
+        match $letter {
             SECTOR_SIZE => Some($options),
-            TEST_MODE | DOMAIN_MAPFILE => if $text.is_empty() { None } else { Some($options) },
-            $($number => {
-                let ($($field),+) = $value;
+            TEST_MODE | DOMAIN_MAPFILE => if is_name($value) { Some($options) } else { None },
+            $($char => {
+                let ($($field),+) = $set;
                 Some(Options { $($field,)+ ..$options })
             })*
             _ => None,
@@ -342,30 +316,41 @@ macro_rules! set_by_row {
     };
 }
 
-/// What the option of a row sets by its value's text; nothing where that is a bad one, or where there is no such row.
-pub(crate) fn with_row(options: Options, row: usize, text: &str) -> Option<Options>
-    requires low { 0 < options.sector }
-    requires high { options.sector ≤ 1048576 }
-    ensures { result ≡ with_row options row text.now }
+/// What the option of a letter sets by its value; nothing where that is a bad one, or where no option has the letter.
+fn with_letter(options: Options, sector: u64, letter: char, value: Option<&str>) -> Option<Options>
+    requires low { 0 < sector }
+    requires high { sector ≤ 1048576 }
+    ensures { result ≡ set_by (row_of letter option_rows) sector options (option_map (λ v. v.now) value.entry) }
 {
-    let size = read_size(text, options.sector).ok();
-    set_by_row!(options, row, text;
-        0 => min_rate = read_min_rate(&options, text)?;
-        1 => try_again = true;
-        3 => cluster_sectors = Some(read_cluster_sectors(&options, text)?);
-        4 => complete_only = true;
-        5 => forced = true;
-        7 => input_position = size?;
-        8 => skip, skip_max = read_skips(&options, text)?;
-        9 => loose = true;
-        11 => retrim = true;
-        12 => no_scrape = true;
-        13 => no_trim = true;
-        14 => output_position = Some(size?);
-        15 => quiet = true;
-        16 => retries = read_retries(text)?;
-        17 => reverse = true;
-        18 => size = Some(size?);
-        19 => unidirectional = true;
+    let size = size_by(sector, value);
+    set_by_letter!(options, letter, value;
+        'a' => min_rate = read_min_rate(sector, value)?;
+        'A' => try_again = true;
+        'c' => cluster_sectors = Some(read_cluster_sectors(sector, value)?);
+        'C' => complete_only = true;
+        'f' => forced = true;
+        'i' => input_position = size?;
+        'K' => skip, skip_max = read_skips(sector, value?)?;
+        'L' => loose = true;
+        'M' => retrim = true;
+        'n' => no_scrape = true;
+        'N' => no_trim = true;
+        'o' => output_position = Some(size?);
+        'q' => quiet = true;
+        'r' => retries = read_retries(value)?;
+        'R' => reverse = true;
+        's' => size = Some(size?);
+        'u' => unidirectional = true;
     )
+}
+
+impl Settings for Options {
+    ghost rows = { option_rows };
+
+    fn with_row(self, sector: u64, row: usize, value: Option<&str>) -> Option<Options> {
+        match letter_of(&ROWS, row) {
+            Some(letter) => with_letter(self, sector, letter, value),
+            None => None,
+        }
+    }
 }

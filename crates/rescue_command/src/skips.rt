@@ -1,8 +1,7 @@
 //! The sizes of `-K`: how far copying skips behind a failed or slow read, at first and at most.
-ghost use Rattle.std.specs.Prelude.{◌≡◌, [], ◌∷◌, ◌+◌, ◌-◌, ◌*◌, ◌/◌, ◌^◌, ◌<◌, ◌≤◌};
-ghost use Rattle.rescue_command.specs.Options.{comma_parts, in_sectors, size_if_given, skips_given, skips_in_parts, skips_of};
+ghost use Rattle.std.specs.Prelude.{◌≡◌, [], ◌∷◌, ◌^◌, ◌<◌, ◌≤◌};
+ghost use Rattle.rescue_command.specs.Options.{comma_parts, size_if_given, skips_given, skips_in_parts, skips_of, whole_sectors};
 
-use crate::options::Options;
 use size_suffixes::size::read_size;
 
 /// How far copying skips at first in bytes, where no option says it.
@@ -19,21 +18,21 @@ pub(crate) fn in_sectors(size: u64, sector: u64) -> u64
     requires low { 0 < sector }
     requires high { sector ≤ 1048576 }
     requires small { size < 2 ^ 63 }
-    ensures { result ≡ (size + (sector - 1)) / sector * sector }
+    ensures { result ≡ whole_sectors sector size }
 {
     (size + (sector - 1)) / sector * sector
 }
 
 /// A size that may be left out, if it isn't a bad one.
-fn size_if_given(options: &Options, text: &str) -> Option<Option<u64>>
-    requires low { 0 < options.now.sector }
-    requires high { options.now.sector ≤ 1048576 }
-    ensures { result ≡ size_if_given options.now text.now }
+fn size_if_given(sector: u64, text: &str) -> Option<Option<u64>>
+    requires low { 0 < sector }
+    requires high { sector ≤ 1048576 }
+    ensures { result ≡ size_if_given sector text.now }
 {
     if text.is_empty() {
         Some(None)
     } else {
-        Some(Some(read_size(text, options.sector).ok()?))
+        Some(Some(read_size(text, sector).ok()?))
     }
 }
 
@@ -51,45 +50,42 @@ fn skips_given(first: Option<u64>, most: Option<u64>) -> Option<(u64, u64)>
 }
 
 /// Both sizes, each of a text that is empty where it is left out.
-fn skips_of_pair(options: &Options, first: &str, most: &str) -> Option<(u64, u64)>
-    requires low { 0 < options.now.sector }
-    requires high { options.now.sector ≤ 1048576 }
-    ensures { result ≡ skips_in_parts options.now (first.now ∷ most.now ∷ []) }
+fn skips_of_pair(sector: u64, first: &str, most: &str) -> Option<(u64, u64)>
+    requires low { 0 < sector }
+    requires high { sector ≤ 1048576 }
+    ensures { result ≡ skips_in_parts sector (first.now ∷ most.now ∷ []) }
 {
-    skips_given(
-        size_if_given(options, first)?,
-        size_if_given(options, most)?,
-    )
+    skips_given(size_if_given(sector, first)?, size_if_given(sector, most)?)
 }
 
 /// Both sizes of a text that has one comma at most.
-fn skips_in_text(options: &Options, text: &str) -> Option<(u64, u64)>
-    requires low { 0 < options.now.sector }
-    requires high { options.now.sector ≤ 1048576 }
-    ensures { result ≡ skips_in_parts options.now (comma_parts text.now) }
+fn skips_in_text(sector: u64, text: &str) -> Option<(u64, u64)>
+    requires low { 0 < sector }
+    requires high { sector ≤ 1048576 }
+    ensures { result ≡ skips_in_parts sector (comma_parts text.now) }
 {
     let Some((first, most)) = text.split_once(',') else {
-        return skips_of_pair(options, text, "");
+        return skips_of_pair(sector, text, "");
     };
     if most.contains(',') {
         None
     } else {
-        skips_of_pair(options, first, most)
+        skips_of_pair(sector, first, most)
     }
 }
 
 /// The first skip and the largest that a text gives, in bytes, if it does: `initial`, `initial,largest`, `,largest` or
 /// `initial,`.
-pub(crate) fn read_skips(options: &Options, text: &str) -> Option<(u64, u64)>
-    requires low { 0 < options.now.sector }
-    requires high { options.now.sector ≤ 1048576 }
-    ensures { result ≡ skips_of options.now text.now }
+pub(crate) fn read_skips(sector: u64, text: &str) -> Option<(u64, u64)>
+    requires low { 0 < sector }
+    requires high { sector ≤ 1048576 }
+    ensures { result ≡ skips_of sector text.now }
 {
     if text.is_empty() {
         return None;
     }
-    let (first, most) = skips_in_text(options, text)?;
-    if in_sectors(most, options.sector) < SKIP_LIMIT {
+    let (first, most) = skips_in_text(sector, text)?;
+    if in_sectors(most, sector) < SKIP_LIMIT {
         Some((first, most))
     } else {
         None

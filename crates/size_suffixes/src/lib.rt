@@ -6,5 +6,3 @@ pub mod interval;
 pub mod number;
 pub mod size;
 mod suffixed;
-#[cfg(test)]
-mod tests;

@@ -5,4 +5,4 @@ use Rattle.rescue_command.proofs.command.command_of.Goals as goal
 
 pub is_too_large-requires : goal.is_too_large-requires
 is_too_large-requires c = let keeps = options_keep c.args.words.now c.deref.result.now c.in-Ok.options
-    (sym c.read_options.ensures ∙ c.in-Ok.is) in keeps.0.sector.low
+    (sym c.read_options.ensures ∙ c.in-Ok.is) in keeps.range.sector.low

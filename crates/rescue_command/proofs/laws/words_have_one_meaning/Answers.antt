@@ -1,5 +1,6 @@
-use Rattle.rescue_command.proofs.MeaningLemmas.{one_meaning}
+use Rattle.option_values.proofs.MeaningLemmas.{one_meaning}
+use Rattle.rescue_command.specs.Command.{rescue_grammar}
 use Rattle.rescue_command.proofs.laws.words_have_one_meaning.Goals as goal
 
 pub returns : goal.returns
-returns c = one_meaning
+returns c = one_meaning rescue_grammar

@@ -6,5 +6,5 @@ use Rattle.rescue_command.proofs.skips.read_skips.Goals as goal
 
 pub in_sectors-requires-clause-small : goal.in_sectors-requires-clause-small
 in_sectors-requires-clause-small c =
-    (parts_ordered c.args.options.now (comma_parts c.args.text.now) (c.in_ok-first.first, c.in_ok-first.most)
+    (parts_ordered c.args.sector (comma_parts c.args.text.now) (c.in_ok-first.first, c.in_ok-first.most)
     (sym c.skips_in_text.ensures ∙ c.in_ok-first.was)).below

@@ -1,0 +1,5 @@
+pub mod LastLemmas
+pub mod MeaningLemmas
+pub mod RowLemmas
+pub mod TurnLemmas
+pub mod ValueLemmas
