@@ -7,10 +7,10 @@ use Rattle.block_list.specs.declared.status.Status.{Status}
 use Rattle.block_list.specs.declared.status.Status.TheVariants.{NonTried}
 use Rattle.block_list.specs.declared.block.Block.{Block}
 use Rattle.block_list.specs.Map.{marked}
-use Rattle.block_list.specs.Stretches.{covered}
+use Rattle.block_list.specs.Stretches.{covered, back_of}
 use Rattle.block_list.specs.Tiling.{AreTiles, IsMerged}
 use Rattle.block_list.specs.Push.{EndsWith}
-use Rattle.block_list.specs.Edits.{IsTiled, IsPlace, IsCut, IsJoinedBefore, IsJoinedBehind, start_of, front_of, back_of, cut_at}
+use Rattle.block_list.specs.Edits.{IsTiled, IsPlace, IsCut, IsJoinedBefore, IsJoinedBehind, start_of, front_of, cut_at}
 use Rattle.block_list.proofs.TileLemmas.{covered-append, length_first, tiles_join, tiles_split, tiled_from_tiles, parts_of, start_le_end, start_mono, index_before, start_more, start_all, tile_at, tile_read, front_statuses, back_statuses}
 use Rattle.block_list.proofs.StretchLemmas.{block_has}
 use Rattle.block_list.proofs.ApartLemmas.{AreApart, apart_from_merged, merged_from_apart, apart_left, apart_right, apart_meet, apart_last, apart_first, apart_push, merged_front, merged_back}
@@ -266,21 +266,6 @@ appended_either bs new low block wide true t s u f e = rw e (appended_tiled bs l
 appended_either bs new low block wide false t s u f e =
     rw e (tiled_from_tiles (take low bs) (start_of bs low) (parts_of bs low t).front
     (omega (arith, start_le_end bs low, t.short)))
-
--- the block in front of the first that begins behind a position holds it
-pub place_has : (bs : List Block) (x i : ℕ) (b : Block) → IsTiled bs → IsPlace bs (x + 1) i → b ≡ get_or bs (i - 1) b
-    → slice_get (flat_map covered bs) x ≡ Some b.status
-place_has bs x i b t p q =
-    let z : 0 < i = index_before bs 0 i (omega (arith, p.reaches)) in
-    let k : ℕ = i - 1 in
-    let h : k < length bs = omega (arith, p.index) in
-    let s : take k bs ++ b ∷ drop (k + 1) bs ≡ bs =
-    ap (λ r. take k bs ++ r) (ap (λ y. y ∷ drop (k + 1) bs) q ∙ sym (drop_more bs k b h)) ∙ take-append-drop k bs in
-    let r = tile_read bs k b t h q in
-    let e : k + 1 ≡ i = omega arith in
-    ap (λ l. slice_get (flat_map covered l) x) (sym s)
-    ∙ block_has (take k bs) b (drop (k + 1) bs) x (omega (arith, p.before z))
-    (omega (arith, r.begins, r.ends, p.reaches, ap (λ n. start_of bs n) e))
 
 -- the last block has the status of the last position
 last_status : (bs : List Block) (status : Status) → EndsWith (flat_map covered bs) status → (front : List Block) (last : Block)

@@ -4,5 +4,7 @@ pub mod ApartLemmas
 pub mod EditLemmas
 pub mod ShiftLemmas
 pub mod StretchLemmas
+pub mod HeldLemmas
 pub mod LookupLemmas
 pub mod PushLemmas
+pub mod TypeLemmas

@@ -11,10 +11,10 @@ use Rattle.block_list.specs.declared.block.Run.{Run}
 use Rattle.block_list.specs.Status.{same}
 use Rattle.block_list.specs.Map.{Has}
 use Rattle.block_list.specs.Places.{IsFirst, IsLast, IsRunUp, IsRunDown}
-use Rattle.block_list.specs.Stretches.{covered, IsStretch}
+use Rattle.block_list.specs.Stretches.{covered, IsStretch, IsStretchAt}
 use Rattle.block_list.specs.Tiling.{IsMerged}
-use Rattle.block_list.specs.Edits.{IsTiled, start_of}
-use Rattle.block_list.proofs.TileLemmas.{covered-append, tile_read, start_all, start_le_end}
+use Rattle.block_list.specs.Edits.{IsTiled, IsPlace, start_of}
+use Rattle.block_list.proofs.TileLemmas.{covered-append, tile_read, index_before, start_all, start_le_end}
 use Rattle.block_list.proofs.EditLemmas.{no_block, read_there}
 use Rattle.block_list.proofs.ApartLemmas.{apart_from_merged}
 use Rattle.block_list.proofs.StretchLemmas.{stretch_at, same_self, other_same}
@@ -26,6 +26,21 @@ pub record IsClear (map : List Status) (s : Status) (from to : ℕ) : Type 0 whe
 -- a block that was read is a maximal stretch
 pub stretch_read : (bs : List Block) (i : ℕ) (b : Block) → IsTiled bs → IsMerged bs → i < length bs → b ≡ get_or bs i b → IsStretch (flat_map covered bs) b
 stretch_read bs i b t m h e = stretch_at bs (length (flat_map covered bs)) i b t.tiled (apart_from_merged bs m) (slice_get_read bs (length bs) i b refl h e)
+
+-- the last block that begins at or before a position is the stretch that holds it
+pub stretch_held : (bs : List Block) (x i : ℕ) (b : Block) → IsTiled bs → IsMerged bs → IsPlace bs (x + 1) i
+    → b ≡ get_or bs (i - 1) b → IsStretchAt (flat_map covered bs) x b
+stretch_held bs x i b t m p q =
+    let z : 0 < i = index_before bs 0 i (omega (arith, p.reaches)) in
+    let k : ℕ = i - 1 in
+    let h : k < length bs = omega (arith, p.index) in
+    let r = tile_read bs k b t h q in
+    let e : k + 1 ≡ i = omega arith in
+    record {
+      stretch = stretch_read bs k b t m h q;
+      begun = omega (arith, r.begins, p.before z);
+      holds = omega (arith, r.ends, p.reaches, ap (λ n. start_of bs n) e);
+    }
 
 -- the blocks from an index on
 abbrev pub rest_from : List Block → ℕ → List Block

@@ -5,9 +5,9 @@ use Rattle.std.proofs.lemmas.Option.{get_or_from_slice_get, slice_get_read}
 use Rattle.block_list.specs.declared.status.Status.{Status}
 use Rattle.block_list.specs.declared.block.Block.{Block}
 use Rattle.block_list.specs.Map.{marked}
-use Rattle.block_list.specs.Stretches.{covered}
+use Rattle.block_list.specs.Stretches.{covered, back_of}
 use Rattle.block_list.specs.Tiling.{AreTiles}
-use Rattle.block_list.specs.Edits.{IsTiled, IsShifted, start_of, front_of, back_of}
+use Rattle.block_list.specs.Edits.{IsTiled, IsShifted, start_of, front_of}
 use Rattle.block_list.proofs.TileLemmas.{covered-append, length_first, tiles_join, tiles_split, tiled_from_tiles, tile_read}
 use Rattle.block_list.proofs.EditLemmas.{cut_same, joined_first}
 use Rattle.block_list.proofs.ApartLemmas.{AreApart, apart_from_merged, merged_from_apart, apart_left, apart_right, apart_meet, apart_last, apart_first}

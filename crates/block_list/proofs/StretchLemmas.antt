@@ -48,7 +48,7 @@ joined_other : (pos : ℕ) (s : Status) (bs : List Block) → IsOther s bs → j
 joined_other pos s [] h = refl
 joined_other pos s (b ∷ bs) h = rw (other_same s b.status h) refl
 
-first_stretch : (pos n : ℕ) (s : Status) (rest : List Status) (bs : List Block) → IsOther s bs → 0 < n
+pub first_stretch : (pos n : ℕ) (s : Status) (rest : List Status) (bs : List Block) → IsOther s bs → 0 < n
     → stretches_from (pos + n) rest ≡ bs → stretches_from pos (replicate n s ++ rest)
     ≡ record { pos = pos; size = n; status = s } ∷ bs
 first_stretch pos zero s rest bs o h e = absurd (omega arith)

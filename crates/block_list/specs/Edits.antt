@@ -24,10 +24,6 @@ pub record IsPlace (bs : List Block) (at i : ℕ) : Type 0 where
 abbrev pub front_of : Block → ℕ → Block
 front_of b at = record { pos = b.pos; size = at - b.pos; status = b.status }
 
--- the part of a block from a position inside it on
-abbrev pub back_of : Block → ℕ → Block
-back_of b at = record { pos = at; size = b.pos + b.size - at; status = b.status }
-
 -- the list with two blocks in the place of the one at i
 abbrev pub cut_at : List Block → ℕ → Block → Block → List Block
 cut_at bs i front back = insert (slice_set bs i front) (i + 1) back

@@ -1,4 +1,5 @@
 pub mod Status
+pub mod Types
 pub mod Map
 pub mod Stretches
 pub mod Tiled

@@ -2,10 +2,10 @@
 ghost use Rattle.std.specs.Prelude.{◌≡◌, ◌+◌, ◌-◌, ◌<◌, ◌≤◌, ◌^◌, ◌++◌, ◌∷◌, length, take, drop, vec_len, vec_capacity, OnOk, OnErr, IsOk};
 ghost use Rattle.std.specs.List.{flat_map};
 ghost use Rattle.block_list.specs.Map.{marked};
-ghost use Rattle.block_list.specs.Stretches.{covered};
+ghost use Rattle.block_list.specs.Stretches.{covered, back_of};
 ghost use Rattle.block_list.specs.Tiling.{IsMerged};
 ghost use Rattle.block_list.specs.Push.{EndsWith};
-ghost use Rattle.block_list.specs.Edits.{IsTiled, IsPlace, IsShifted, IsCut, IsJoinedBefore, IsJoinedBehind, start_of, front_of, back_of, cut_at};
+ghost use Rattle.block_list.specs.Edits.{IsTiled, IsPlace, IsShifted, IsCut, IsJoinedBefore, IsJoinedBehind, start_of, front_of, cut_at};
 
 use crate::block::Block;
 use crate::status::Status;

@@ -7,6 +7,5 @@ pub mod laws;
 mod lookups;
 pub mod plain_tiles;
 pub mod status;
-#[cfg(test)]
-mod tests;
 pub mod tiles;
+pub mod types;

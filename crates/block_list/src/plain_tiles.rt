@@ -105,8 +105,12 @@ impl Tiles for PlainTiles {
     }
 
     fn at(&self, x: u64) -> Status {
+        self.stretch_at(x).status
+    }
+
+    fn stretch_at(&self, x: u64) -> Block {
         let behind = edits::begun_before(&self.blocks, x + 1);
-        self.blocks[behind - 1].status
+        self.blocks[behind - 1]
     }
 
     fn find_forward(&self, from: u64, status: Status) -> Option<Run> {

@@ -1,5 +1,5 @@
 ghost use Rattle.std.specs.Prelude.{◌≡◌, ◌↔◌, IsTrue};
-ghost use Rattle.block_list.specs.Status.{symbol};
+ghost use Rattle.block_list.specs.Status.{symbol, status_of_symbol};
 
 /// What is known of a position (GNU ddrescue manual, "Mapfile structure").
 #[derive(Clone, Copy, Debug, PartialEq, Eq)]
@@ -34,6 +34,19 @@ impl Status {
             Status::NonScraped => b'/',
             Status::BadSector => b'-',
             Status::Finished => b'+',
+        }
+    }
+    /// The status that a character of a mapfile is for.
+    pub fn of_symbol(symbol: u8) -> Option<Status>
+        ensures { result ≡ status_of_symbol symbol }
+    {
+        match symbol {
+            b'?' => Some(Status::NonTried),
+            b'*' => Some(Status::NonTrimmed),
+            b'/' => Some(Status::NonScraped),
+            b'-' => Some(Status::BadSector),
+            b'+' => Some(Status::Finished),
+            _ => None,
         }
     }
 }

@@ -3,7 +3,7 @@ ghost use Rattle.block_list.specs.declared.status.Status.{Status};
 ghost use Rattle.block_list.specs.Status.{same};
 ghost use Rattle.block_list.specs.Places.{IsFirst, IsLast, IsRunUp, IsRunDown};
 ghost use Rattle.block_list.specs.Map.{Has, marked, extended};
-ghost use Rattle.block_list.specs.Stretches.{stretches};
+ghost use Rattle.block_list.specs.Stretches.{stretches, IsStretchAt};
 
 use crate::block::{Block, Run};
 use crate::status::Status;
@@ -29,6 +29,11 @@ pub trait Tiles: Drop {
     fn at(&self, x: u64) -> Status
         requires { x < length (statuses self.now) }
         ensures { Has (statuses self.now) result x };
+
+    /// The stretch of equal statuses that holds a position.
+    fn stretch_at(&self, x: u64) -> Block
+        requires { x < length (statuses self.now) }
+        ensures { IsStretchAt (statuses self.now) x result };
 
     /// The first position at or after `from` that has a status, and the end of its stretch of equal statuses.
     fn find_forward(&self, from: u64, status: Status) -> Option<Run>

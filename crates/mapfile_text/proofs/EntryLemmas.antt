@@ -13,6 +13,10 @@ large_block (Some x) b e h =
     let same : b ≡ capped_block x = cc in
     (x, refl, omega (arith, ap (λ (y : Block). y.pos) same, ap (λ (y : Block). y.size) same))
 
+pub none_state : (o : Option MapState) → None ≡ option_map capped_state o → o ≡ None
+none_state None e = refl
+none_state (Some s) e = absurd (cc)
+
 pub small_state : (o : Option MapState) (pos : ℕ) (current : Current) (pass : ℕ)
     → Some (pos, current, pass) ≡ option_map capped_state o → pos < 2 ^ 63 → pass < 2 ^ 32
     → o ≡ Some (record { pos = pos; current = current; pass = pass })

@@ -45,7 +45,7 @@ kept-past_start p (c ∷ cs) =
     (λ (no : p c ≡ false). ap (λ l. kept (slice_split p l)) (start-cons_no p c cs no))
     (cases_Bool (p c))
 
-word-begins : (p : ℕ → Bool) (xs : List ℕ) → 0 < length (drop (start_by p xs) xs) → 0 < position_or_len p (drop (start_by p xs) xs)
+pub word-begins : (p : ℕ → Bool) (xs : List ℕ) → 0 < length (drop (start_by p xs) xs) → 0 < position_or_len p (drop (start_by p xs) xs)
 word-begins p [] h = absurd (omega arith)
 word-begins p (c ∷ cs) h =
     ⊎_elim

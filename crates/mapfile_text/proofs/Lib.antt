@@ -14,3 +14,5 @@ pub mod FieldLemmas
 pub mod LineLemmas
 pub mod EntryLemmas
 pub mod Progress
+pub mod DigitsRead
+pub mod FirstLine

@@ -6,6 +6,7 @@ use Rattle.mapfile_text.specs.declared.state.MapState.{MapState}
 use Rattle.mapfile_text.specs.declared.read.Mode.{Mode}
 use Rattle.mapfile_text.specs.declared.read.Mode.TheVariants.{Tight, Loose}
 use Rattle.mapfile_text.specs.declared.read.MapError.{MapError}
+use Rattle.mapfile_text.specs.declared.read.MapError.TheVariants.{NoMemory}
 use Rattle.mapfile_text.specs.Lines.{Line, said}
 use Rattle.mapfile_text.specs.MapText.{IsStateLine, IsBlockLine, IsGap, Continues, Lists, AreMapLines, StateFault, BlockFault, PlaceFault, ContinuesFault, ListsFault, MapLinesFault}
 use Rattle.mapfile_text.specs.Laws.{MapHasNoFault, HasOneFault}
@@ -155,3 +156,25 @@ lines_fault_once mode (l ∷ ls) e e' f g =
 
 pub has_one_fault : HasOneFault
 has_one_fault text mode e e' f g = lines_fault_once mode (said text) e e' f.breaks g.breaks
+
+block_has_memory : (l : Line) (e : MapError) → BlockFault l e → e ≡ NoMemory → ⊥
+block_has_memory l e f m = elim f [ inl x ↦ let k = x.0 in cc | inr x ↦ let k = x.0 in cc ]
+
+place_has_memory : (mode : Mode) (end : ℕ) (l : Line) (b : Block) (e : MapError) → PlaceFault mode end l b e → e ≡ NoMemory → ⊥
+place_has_memory Tight end l b e f m = elim f [ inl x ↦ let k = x.0 in cc | inr x ↦ let k = x.0 in cc ]
+place_has_memory (Loose status) end l b e f m = let k = f.0 in cc
+
+continue_has_memory : (mode : Mode) (end : ℕ) (ls : List Line) (e : MapError) → ContinuesFault mode end ls e → e ≡ NoMemory → ⊥
+continue_has_memory mode end [] e f m = f
+continue_has_memory mode end (l ∷ ls) e f m =
+    elim f [
+      | inl x ↦ block_has_memory l e x m
+      | inr (inl x) ↦ place_has_memory mode end l x.0 e x.2 m
+      | inr (inr x) ↦ continue_has_memory mode (x.0.pos + x.0.size) ls e x.4 m
+    ]
+
+-- a fault of block lines isn't want of memory
+pub lists_have_memory : (mode : Mode) (ls : List Line) (e : MapError) → ListsFault mode ls e → e ≡ NoMemory → ⊥
+lists_have_memory mode [] e f m = absurd f
+lists_have_memory mode (l ∷ ls) e f m =
+    elim f [ inl x ↦ block_has_memory l e x m | inr x ↦ continue_has_memory mode (x.0.pos + x.0.size) ls e x.2 m ]

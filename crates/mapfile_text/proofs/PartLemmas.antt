@@ -1,13 +1,11 @@
 -- The parts of a mapfile's text, and what is left of it from one on.
-use Rattle.std.proofs.Common.{◌≡◌, ℕ, ◌+◌, ◌-◌, ◌<◌, ◌≤◌, List, [], ◌∷◌, ◌++◌, length, get_or, map, take, drop, Some, arith, refl, sym, ap, ◌∙◌, append_assoc, codes, length-append, ⊎_elim, Bool, false, IsTrue}
-use Rattle.std.specs.Option.{option_map}
-use Rattle.std.specs.List.{concat, flat_map, slice_get}
-use Rattle.std.proofs.lemmas.List.{drop_more, drop_all, get_or-append-add, length-map, length-drop, length-take}
+use Rattle.std.proofs.Common.{◌≡◌, ◌⊎◌, ℕ, ◌+◌, ◌-◌, ◌<◌, ◌≤◌, List, [], ◌∷◌, ◌++◌, length, map, take, drop, arith, refl, sym, ap, ◌∙◌, append_assoc, codes, length-append, ⊎_elim, inl, inr, Bool, false, IsTrue}
+use Rattle.std.specs.List.{concat, flat_map}
+use Rattle.std.proofs.lemmas.List.{drop_all, length-drop, length-take}
 use Rattle.std.proofs.lemmas.Bool.{false≢true}
-use Rattle.std.proofs.lemmas.Option.{slice_get-map, get_or_from_slice_get}
 use Rattle.block_list.specs.declared.status.Status.{Status}
 use Rattle.block_list.specs.declared.block.Block.{Block}
-use Rattle.block_list.specs.Stretches.{stretches}
+use Rattle.block_list.specs.Stretches.{stretches, stretches_from}
 use Rattle.mapfile_text.specs.declared.heading.Program.{Program}
 use Rattle.mapfile_text.specs.declared.heading.Program.TheVariants.{Ddrescue, Ddrescuelog}
 use Rattle.mapfile_text.specs.declared.state.MapState.{MapState}
@@ -16,7 +14,7 @@ use Rattle.mapfile_text.specs.declared.place.Part.TheVariants.{Program as Progra
 use Rattle.mapfile_text.specs.declared.place.Place.{Place}
 use Rattle.mapfile_text.specs.HeadingLines.{HeadingLines}
 use Rattle.mapfile_text.specs.Printed.{printed, block_line, time_lines, program_line, command_line, heading_text, state_line, state_text, ended, shown_byte}
-use Rattle.mapfile_text.specs.LeftOf.{start_line, now_line, heading_parts, parts, number_of, IsPlace, left_of}
+use Rattle.mapfile_text.specs.LeftOf.{start_line, now_line, heading_parts, number_of, position_of, map_lines, parts_from, left_of, IsAppended}
 use Rattle.mapfile_text.proofs.DigitLemmas.{below_or_not}
 use Rattle.mapfile_text.proofs.TakenOff.{took_none, took_whole, took_some}
 
@@ -24,18 +22,10 @@ assembled : (a b c d e f g h i l : List ℕ)
     → a ++ (b ++ (c ++ (d ++ (e ++ (f ++ (g ++ (h ++ (i ++ l)))))))) ≡ a ++ ((b ++ c) ++ d) ++ (e ++ f) ++ (g ++ h) ++ i ++ l
 assembled a b c d e f g h i l = sym (simp append_assoc)
 
+not_below : (m n : ℕ) → (m < n → ⊥) → n ≤ m
+not_below m n h = ⊎_elim (λ l. absurd (h l)) (λ l. l) (below_or_not m n)
+
 module _ (h : HeadingLines) (s : MapState) (statuses : List Status) where
-  pub length_parts : length (parts h s statuses) ≡ 9 + length (stretches statuses)
-  unfolding parts
-  length_parts = length-append (heading_parts h s) (map block_line (stretches statuses)) ∙ ap (λ n. 9 + n) (length-map (stretches statuses) block_line)
-
-  pub block_part : (i : ℕ) (b : Block) → slice_get (stretches statuses) i ≡ Some b → get_or (parts h s statuses) (9 + i) [] ≡ block_line b
-  unfolding parts
-  block_part i b e =
-      get_or-append-add (heading_parts h s) (map block_line (stretches statuses)) i []
-      ∙ get_or_from_slice_get (map block_line (stretches statuses)) i (block_line b) []
-      (slice_get-map block_line (stretches statuses) i ∙ ap (option_map block_line) e)
-
   time_lines_are : (p : Program) (m n : ℕ) → start_line p m ++ now_line p n ≡ time_lines p m n
   time_lines_are Ddrescue m n = refl
   time_lines_are Ddrescuelog m n = refl
@@ -45,7 +35,7 @@ module _ (h : HeadingLines) (s : MapState) (statuses : List Status) where
   concat_lines (b ∷ bs) = ap (λ t. block_line b ++ t) (concat_lines bs)
 
   pub begin_is_printed : left_of (record { part = ProgramLine; went = 0 }) h s statuses ≡ printed h s statuses
-  unfolding parts left_of
+  unfolding parts_from left_of
   begin_is_printed =
       assembled (program_line h.program) (codes "# Command line: ") (map shown_byte h.line) (10 ∷ [])
       (start_line h.program h.start_s) (now_line h.program h.now_s)
@@ -56,103 +46,101 @@ module _ (h : HeadingLines) (s : MapState) (statuses : List Status) where
       (time_lines_are h.program h.start_s h.now_s)
       ∙ ap (λ t. heading_text h ++ state_text s ++ ended (codes "#      pos        size  status") ++ t) (concat_lines (stretches statuses))
 
-  -- what is left from a part on begins with what is left of the part
-  pub left_at : (place : Place) → number_of place.part < length (parts h s statuses)
-      → left_of place h s statuses
-      ≡ drop place.went (get_or (parts h s statuses) (number_of place.part) [] ++ concat (drop (number_of place.part + 1) (parts h s statuses)))
+  left_is : (place : Place) → left_of place h s statuses ≡ drop place.went (concat (parts_from place.part h s statuses))
   unfolding left_of
-  left_at place there = ap (λ ps. drop place.went (concat ps)) (drop_more (parts h s statuses) (number_of place.part) [] there)
+  left_is place = refl
 
-  pub left_past : (place : Place) → length (parts h s statuses) ≤ number_of place.part → left_of place h s statuses ≡ []
-  unfolding left_of
-  left_past place past = rw (drop_all (number_of place.part) (parts h s statuses) past) (drop_all place.went [] (omega arith))
-
-  left_is : (place : Place) (part went : ℕ) → IsPlace place part went → left_of place h s statuses ≡ drop went (concat (drop part (parts h s statuses)))
-  unfolding left_of
-  left_is place part went i = rw (i.0, i.1) refl
+  pub left_past : (place : Place) → ((number_of place.part < 9) ⊎ (position_of place.part < length statuses) → ⊥)
+      → left_of place h s statuses ≡ []
+  unfolding parts_from left_of
+  left_past place past =
+      let front : drop (number_of place.part) (heading_parts h s) ≡ [] =
+      drop_all (number_of place.part) (heading_parts h s) (not_below (number_of place.part) 9 (λ l. past (inl l))) in
+      let lines : map_lines (position_of place.part) statuses ≡ [] =
+      ap (λ m. map block_line (stretches_from (position_of place.part) m))
+      (drop_all (position_of place.part) statuses (not_below (position_of place.part) (length statuses) (λ l. past (inr l)))) in
+      rw (front, lines) (drop_all place.went [] (omega arith))
 
   -- what a part gave and what is left behind it are what was left
-  pub left_behind : (place next : Place) (len room : ℕ) → number_of place.part < length (parts h s statuses)
-      → len ≡ length (get_or (parts h s statuses) (number_of place.part) [])
-      → (len ≤ place.went → IsPlace next (number_of place.part + 1) (place.went - len))
-      → (place.went < len → len ≤ place.went + room → IsPlace next (number_of place.part + 1) 0)
-      → (place.went + room < len → IsPlace next (number_of place.part) (place.went + room))
-      → take room (drop place.went (get_or (parts h s statuses) (number_of place.part) [])) ++ left_of next h s statuses ≡ left_of place h s statuses
-  left_behind place next len room there e past whole cut =
-      let n : ℕ = number_of place.part in
-      let t : List ℕ = get_or (parts h s statuses) n [] in
-      let rest : List ℕ = concat (drop (n + 1) (parts h s statuses)) in
-      let was : left_of place h s statuses ≡ drop place.went (t ++ rest) = left_at place there in
-      let here : left_of place h s statuses ≡ drop place.went (concat (drop n (parts h s statuses))) = left_is place n place.went (refl, refl) in
+  pub left_behind : (place behind : Place) (next : Part) (t : List ℕ) (len room : ℕ)
+      → parts_from place.part h s statuses ≡ t ∷ parts_from next h s statuses
+      → len ≡ length t
+      → (len ≤ place.went → behind ≡ record { part = next; went = place.went - len })
+      → (place.went < len → len ≤ place.went + room → behind ≡ record { part = next; went = 0 })
+      → (place.went + room < len → behind ≡ record { part = place.part; went = place.went + room })
+      → take room (drop place.went t) ++ left_of behind h s statuses ≡ left_of place h s statuses
+  left_behind place behind next t len room first e past whole cut =
+      let L : Place → List ℕ = λ p. left_of p h s statuses in
+      let rest : List ℕ = concat (parts_from next h s statuses) in
+      let was : L place ≡ drop place.went (t ++ rest) = left_is place ∙ ap (λ ps. drop place.went (concat ps)) first in
       ⊎_elim
       (λ some. ⊎_elim
       (λ less.
-      let now = left_is next n (place.went + room) (cut less) in
-      let same : concat (drop n (parts h s statuses)) ≡ t ++ rest = ap concat (drop_more (parts h s statuses) n [] there) in
-      ap (λ r. take room (drop place.went t) ++ r) (now ∙ ap (drop (place.went + room)) same) ∙ took_some t rest place.went room (omega (arith, e)) ∙ sym was)
+      let now = ap L (cut less) ∙ left_is (record { part = place.part; went = place.went + room }) ∙ ap (λ ps. drop (place.went + room) (concat ps)) first in
+      ap (λ r. take room (drop place.went t) ++ r) now ∙ took_some t rest place.went room (omega (arith, e)) ∙ sym was)
       (λ fits.
-      let now = left_is next (n + 1) 0 (whole some fits) in
+      let now = ap L (whole some fits) ∙ left_is (record { part = next; went = 0 }) in
       ap (λ r. take room (drop place.went t) ++ r) now ∙ took_whole t rest place.went room (omega (arith, e)) (omega (arith, e)) ∙ sym was)
       (below_or_not (place.went + room) len))
       (λ none.
-      let now = left_is next (n + 1) (place.went - len) (past none) in
       let k : place.went - len ≡ place.went - length t = ap (λ m. place.went - m) e in
-      ap (λ r. take room (drop place.went t) ++ r) (now ∙ ap (λ m. drop m rest) k) ∙ took_none t rest place.went room (omega (arith, e)) ∙ sym was)
+      let now = ap L (past none) ∙ left_is (record { part = next; went = place.went - len }) ∙ ap (λ m. drop m rest) k in
+      ap (λ r. take room (drop place.went t) ++ r) now ∙ took_none t rest place.went room (omega (arith, e)) ∙ sym was)
       (below_or_not place.went len)
 
 -- either there is one part less, or the room is full
-moves_on : (number part went len room : ℕ) (t before after : List ℕ) (place : Place)
-    → part < number → len ≡ length t → room + length before ≡ 4096 → after ≡ before ++ take room (drop went t)
-    → (len ≤ went → IsPlace place (part + 1) (went - len))
-    → (went < len → len ≤ went + room → IsPlace place (part + 1) 0)
-    → (went + room < len → IsPlace place part (went + room))
+moves_on : (count : Part → ℕ) (place behind : Place) (next : Part) (len room : ℕ) (t before after : List ℕ)
+    → count place.part ≡ count next + 1 → len ≡ length t → room + length before ≡ 4096
+    → after ≡ before ++ take room (drop place.went t)
+    → (len ≤ place.went → behind ≡ record { part = next; went = place.went - len })
+    → (place.went < len → len ≤ place.went + room → behind ≡ record { part = next; went = 0 })
+    → (place.went + room < len → behind ≡ record { part = place.part; went = place.went + room })
     → (length after ≤ 4096)
-    × (0 < room → (number - number_of place.part) + (4096 - length after) < (number - part) + (4096 - length before))
-moves_on number part went len room t before after place there e room_is is past whole cut =
-    let l : length after ≡ length before + length (take room (drop went t)) = ap length is ∙ length-append before (take room (drop went t)) in
-    let m = length-take room (drop went t) in
-    let k = length-drop went t in
+    × (0 < room → count behind.part + (4096 - length after) < count place.part + (4096 - length before))
+moves_on count place behind next len room t before after fewer e room_is is past whole cut =
+    let C : Place → ℕ = λ p. count p.part in
+    let l : length after ≡ length before + length (take room (drop place.went t)) = ap length is ∙ length-append before (take room (drop place.went t)) in
+    let m = length-take room (drop place.went t) in
+    let k = length-drop place.went t in
     ⊎_elim
     (λ less. ⊎_elim
-    (λ over. let p = cut over in (omega arith, λ some. omega arith))
-    (λ fits. let p = whole less fits in (omega arith, λ some. omega arith))
-    (below_or_not (went + room) len))
-    (λ none. let p = past none in (omega arith, λ some. omega arith))
-    (below_or_not went len)
+    (λ over. let p : count behind.part ≡ count place.part = ap C (cut over) in (omega arith, λ some. omega arith))
+    (λ fits. let p : count behind.part ≡ count next = ap C (whole less fits) in (omega arith, λ some. omega arith))
+    (below_or_not (place.went + room) len))
+    (λ none. let p : count behind.part ≡ count next = ap C (past none) in (omega arith, λ some. omega arith))
+    (below_or_not place.went len)
 
 -- a turn of the loop that fills a piece: what it appended and what is then left are what was left before
-pub record GoesOn (h : HeadingLines) (s : MapState) (statuses : List Status) (place next : Place) (before after : List ℕ) (room : ℕ) : Type 0 where
+pub record GoesOn (h : HeadingLines) (s : MapState) (statuses : List Status) (place behind : Place) (before after : List ℕ) (room : ℕ) : Type 0 where
   pub fits : length after ≤ 4096
-  pub same : after ++ left_of next h s statuses ≡ before ++ left_of place h s statuses
+  pub same : after ++ left_of behind h s statuses ≡ before ++ left_of place h s statuses
   pub less : (room ≡ 0 → ⊥)
-      → (length (parts h s statuses) - number_of next.part) + (4096 - length after)
-      < (length (parts h s statuses) - number_of place.part) + (4096 - length before)
+      → length (parts_from behind.part h s statuses) + (4096 - length after)
+      < length (parts_from place.part h s statuses) + (4096 - length before)
 
-pub goes_on : (h : HeadingLines) (s : MapState) (statuses : List Status) (place next : Place) (before after : List ℕ) (len room : ℕ)
-    → number_of place.part < length (parts h s statuses)
+pub goes_on : (h : HeadingLines) (s : MapState) (statuses : List Status) (place behind : Place) (before after : List ℕ) (next : Part) (len room : ℕ)
     → room + length before ≡ 4096
-    → after ≡ before ++ take (4096 - length before) (drop place.went (get_or (parts h s statuses) (number_of place.part) []))
-    → len ≡ length (get_or (parts h s statuses) (number_of place.part) [])
-    → (len ≤ place.went → IsPlace next (number_of place.part + 1) (place.went - len))
-    → (place.went < len → len ≤ place.went + room → IsPlace next (number_of place.part + 1) 0)
-    → (place.went + room < len → IsPlace next (number_of place.part) (place.went + room))
-    → GoesOn h s statuses place next before after room
-goes_on h s statuses place next before after len room there room_is is e past whole cut =
-    let n : ℕ = number_of place.part in
-    let t : List ℕ = get_or (parts h s statuses) n [] in
+    → IsAppended before after place.went len (parts_from place.part h s statuses) (parts_from next h s statuses)
+    → (len ≤ place.went → behind ≡ record { part = next; went = place.went - len })
+    → (place.went < len → len ≤ place.went + room → behind ≡ record { part = next; went = 0 })
+    → (place.went + room < len → behind ≡ record { part = place.part; went = place.went + room })
+    → GoesOn h s statuses place behind before after room
+goes_on h s statuses place behind before after next len room room_is a past whole cut =
+    let t : List ℕ = a.part in
     let r : 4096 - length before ≡ room = omega arith in
-    let is' : after ≡ before ++ take room (drop place.went t) = is ∙ ap (λ m. before ++ take m (drop place.went t)) r in
-    let m = moves_on (length (parts h s statuses)) n place.went len room t before after next there e room_is is' past whole cut in
+    let is : after ≡ before ++ take room (drop place.went t) = a.text ∙ ap (λ m. before ++ take m (drop place.went t)) r in
+    let fewer : length (parts_from place.part h s statuses) ≡ length (parts_from next h s statuses) + 1 = omega (arith, ap length a.first) in
+    let m = moves_on (λ p. length (parts_from p h s statuses)) place behind next len room t before after fewer a.told room_is is past whole cut in
     record {
       fits = m.0;
       same =
-          ap (λ a. a ++ left_of next h s statuses) is' ∙ append_assoc before (take room (drop place.went t)) (left_of next h s statuses)
-          ∙ ap (λ a. before ++ a) (left_behind h s statuses place next len room there e past whole cut);
+          ap (λ b. b ++ left_of behind h s statuses) is ∙ append_assoc before (take room (drop place.went t)) (left_of behind h s statuses)
+          ∙ ap (λ b. before ++ b) (left_behind h s statuses place behind next t len room a.first a.told past whole cut);
       less = λ some. m.1 (omega arith);
     }
 
-pub not_there : (b : Bool) (m n : ℕ) → b ≡ false → (m < n → IsTrue b) → n ≤ m
-not_there b m n e h = ⊎_elim (λ l. absurd (false≢true (sym e ∙ h l))) (λ l. l) (below_or_not m n)
+pub not_there : {A : Type 0} → (b : Bool) → b ≡ false → (A → IsTrue b) → A → ⊥
+not_there b e h a = false≢true (sym e ∙ h a)
 
 pub heading_number : (p : Part) → ((i : ℕ) → p ≡ BlockLine i → ⊥) → number_of p < 9
 heading_number ProgramLine h = omega arith
@@ -165,3 +153,28 @@ heading_number StateColumns h = omega arith
 heading_number State h = omega arith
 heading_number Columns h = omega arith
 heading_number (BlockLine i) h = absurd (h i refl)
+
+heading_position : (p : Part) → number_of p < 9 → position_of p ≡ 0
+heading_position ProgramLine l = refl
+heading_position Label l = refl
+heading_position Words l = refl
+heading_position Newline l = refl
+heading_position Start l = refl
+heading_position Now l = refl
+heading_position StateColumns l = refl
+heading_position State l = refl
+heading_position Columns l = refl
+heading_position (BlockLine pos) l = absurd (omega arith)
+
+-- behind a part of the heading are the parts from the next one on
+pub heading_goes_on : (h : HeadingLines) (s : MapState) (statuses : List Status) (part next : Part) (line : List ℕ)
+    → number_of part < 9
+    → drop (number_of part) (heading_parts h s) ≡ line ∷ drop (number_of part + 1) (heading_parts h s)
+    → number_of next ≡ number_of part + 1 → position_of next ≡ 0
+    → parts_from part h s statuses ≡ line ∷ parts_from next h s statuses
+unfolding parts_from
+heading_goes_on h s statuses part next line there first number position =
+    let P : ℕ → ℕ → List (List ℕ) = λ n pos. drop n (heading_parts h s) ++ map_lines pos statuses in
+    ap (λ ps. ps ++ map_lines (position_of part) statuses) first
+    ∙ ap (λ pos. line ∷ P (number_of part + 1) pos) (heading_position part there ∙ sym position)
+    ∙ ap (λ n. line ∷ P n (position_of next)) (sym number)

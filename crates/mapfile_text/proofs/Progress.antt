@@ -9,9 +9,13 @@ use Rattle.block_list.specs.Stretches.{covered}
 use Rattle.mapfile_text.specs.declared.read.Mode.{Mode}
 use Rattle.mapfile_text.specs.declared.read.Mode.TheVariants.{Tight, Loose}
 use Rattle.mapfile_text.specs.declared.read.MapError.{MapError}
+use Rattle.mapfile_text.specs.declared.read.MapError.TheVariants.{Overlap, Gap}
 use Rattle.mapfile_text.specs.Lines.{Line}
 use Rattle.mapfile_text.specs.MapText.{IsBlockLine, IsGap, Continues, Lists, BlockFault, PlaceFault, ContinuesFault, ListsFault}
+use Rattle.mapfile_text.specs.declared.state.MapState.{MapState}
+use Rattle.mapfile_text.specs.declared.check.MapShape.{MapShape}
 use Rattle.mapfile_text.specs.Reading.{gap_of, filling}
+use Rattle.mapfile_text.specs.Checking.{ListsShape}
 
 -- the lines that are left make these of a map that lists these statuses so far
 abbrev Reads : Mode → (listed : Bool) → (first : ℕ) → (statuses : List Status) → List Line → (first' : ℕ)
@@ -120,3 +124,60 @@ pub goes-next : {mode : Mode} {all : List Line} {l : Line} {ls : List Line} (lis
     → Goes mode all listed' first' statuses' ls
 goes-next {mode = mode} {all = all} {ls = ls} listed listed' first first' statuses statuses' block t g b gap f s =
     subst (λ (y : Bool). Goes mode all y first' statuses' ls) (sym t) (goes-on listed first first' statuses statuses' block g b gap f s)
+
+-- the shape so far is that of statuses that the lines so far list, and the lines that are left come to all lines
+pub record Comes (mode : Mode) (all : List Line) (shape : MapShape) (ls : List Line) : Type 0 where
+  statuses : List Status
+  goes : Goes mode all shape.listed shape.first statuses ls
+  end : shape.end ≡ length statuses
+  pub lines : shape.lines + length ls ≡ length all
+
+pub comes-begin : (mode : Mode) (all : List Line) (state : MapState)
+    → Comes mode all (record { state = state; first = 0; listed = false; end = 0; lines = 0 }) all
+comes-begin mode all state = record { statuses = []; goes = goes-begin mode all false 0 [] refl refl refl; end = refl; lines = omega arith }
+
+pub comes-end : {mode : Mode} {all : List Line} {shape : MapShape} → Comes mode all shape [] → ListsShape mode all shape
+comes-end {shape = shape} c = record { statuses = c.statuses; lists = goes-end shape.listed c.goes; end = c.end; lines = omega (arith, c.lines) }
+
+pub comes-bad_block : {mode : Mode} {all : List Line} {shape : MapShape} {l : Line} {ls : List Line} (e : MapError)
+    → Comes mode all shape (l ∷ ls) → BlockFault l e → ListsFault mode all e
+comes-bad_block {shape = shape} e c b = goes-bad_block e shape.listed c.goes b
+
+pub comes-bad_place : {mode : Mode} {all : List Line} {shape : MapShape} {l : Line} {ls : List Line} {block : Block}
+    (e : MapError) → Comes mode all shape (l ∷ ls) → shape.listed ≡ true → IsBlockLine l block
+    → PlaceFault mode shape.end l block e → ListsFault mode all e
+comes-bad_place {mode = mode} {shape = shape} {l = l} {block = block} e c t b p =
+    goes-bad_place e shape.listed c.goes t b (subst (λ (n : ℕ). PlaceFault mode n l block e) c.end p)
+
+end_behind : (mode : Mode) (listed : Bool) (statuses : List Status) (block : Block) → (listed ≡ false → statuses ≡ [])
+    → (listed ≡ true → IsGap mode (length statuses) block.pos (gap_of mode (length statuses) block.pos))
+    → length (statuses ++ (filling mode listed (length statuses) block.pos ++ covered block)) ≡ block.pos + block.size
+end_behind mode false statuses block none gap =
+    ap (λ ss. length (ss ++ (replicate block.pos NonTried ++ covered block))) (none refl)
+    ∙ omega (
+      arith,
+      length-append (replicate block.pos NonTried) (covered block),
+      length-replicate block.pos NonTried,
+      length-replicate block.size block.status,
+    )
+end_behind mode true statuses block none gap = end-of_gap mode (length statuses) block.pos block refl (gap refl) statuses refl
+
+pub comes-next : {mode : Mode} {all : List Line} {l : Line} {ls : List Line} (shape shape' : MapShape) (block : Block)
+    → shape' ≡ record shape { first = cond shape.listed shape.first block.pos; listed = true; end = block.pos + block.size; lines = shape.lines + 1 }
+    → Comes mode all shape (l ∷ ls) → IsBlockLine l block
+    → (shape.listed ≡ true → IsGap mode shape.end block.pos (gap_of mode shape.end block.pos))
+    → Comes mode all shape' ls
+comes-next {mode = mode} {all = all} {ls = ls} shape shape' block e c b gap =
+    let more : List Status = c.statuses ++ (filling mode shape.listed (length c.statuses) block.pos ++ covered block) in
+    let gap' = λ (t : shape.listed ≡ true). subst (λ (n : ℕ). IsGap mode n block.pos (gap_of mode n block.pos)) c.end (gap t) in
+    subst (λ (s : MapShape). Comes mode all s ls) (sym e) (record {
+      statuses = more;
+      goes = goes-next shape.listed true shape.first (cond shape.listed shape.first block.pos) c.statuses more block refl c.goes b gap' refl refl;
+      end = sym (end_behind mode shape.listed c.statuses block (λ f. (c.goes.blank f).1) gap');
+      lines = omega (arith, c.lines);
+    })
+
+-- where a block can't follow is a fault of the line with the number
+pub same_place : (mode : Mode) (end : ℕ) (l l' : Line) (b : Block) (e : MapError) → l.number ≡ l'.number → PlaceFault mode end l b e → PlaceFault mode end l' b e
+same_place Tight end l l' b e q f = elim f [ inl x ↦ inl (x.0 ∙ ap Overlap q, x.1) | inr x ↦ inr (x.0 ∙ ap Gap q, x.1) ]
+same_place (Loose status) end l l' b e q f = (f.0 ∙ ap Overlap q, f.1)

@@ -4,13 +4,37 @@ use Rattle.std.specs.List.{filter, slice_split}
 use Rattle.std.proofs.lemmas.Bool.{ne_eqb}
 use Rattle.std.proofs.lemmas.List.Elements.{All-nil, All-cons}
 use Rattle.std.proofs.lemmas.List.Splits.{slice_split_at, slice_split_none}
-use Rattle.mapfile_text.specs.Lines.{Line, lines, is_blank, fields, says_nothing, numbered}
+use Rattle.mapfile_text.specs.Lines.{Line, lines, is_blank, fields, is_comment, numbered, said}
 use Rattle.mapfile_text.specs.Printed.{ended}
 use Rattle.mapfile_text.proofs.PrintedBytes.{AllFrom, no_newlines, no_blanks}
+
+-- a line says nothing that has no field, or that is a comment
+abbrev pub says_nothing : List (List ℕ) → Bool
+says_nothing [] = true
+says_nothing (f ∷ fs) = is_comment (f ∷ fs)
 
 -- the lines of a text that say something, where its first line has a number
 abbrev pub said_from : ℕ → List ℕ → List Line
 said_from n text = filter (λ l. not (says_nothing l.fields)) (numbered n (lines text))
+
+said-cons : (n : ℕ) (fs : List (List ℕ)) (rest all : List Line) → filter (λ l. not (is_comment l.fields)) rest ≡ all
+    → filter (λ l. not (is_comment l.fields)) (cond (not (nat_eq (length fs) 0)) (record { number = n; fields = fs } ∷ rest) rest)
+    ≡ cond (not (says_nothing fs)) (record { number = n; fields = fs } ∷ all) all
+said-cons n [] rest all e = e
+said-cons n (f ∷ fs) rest all e =
+    let l : Line = record { number = n; fields = f ∷ fs } in
+    ap (λ v. filter (λ x. not (is_comment x.fields)) (cond (not v) (l ∷ rest) rest)) (ne_eqb (length (f ∷ fs)) 0 (λ z. omega arith))
+    ∙ ap (λ xs. cond (not (is_comment (f ∷ fs))) (l ∷ xs) xs) e
+
+said-filled : (ls : List Line) → filter (λ l. not (is_comment l.fields)) (filter (λ l. not (nat_eq (length l.fields) 0)) ls)
+    ≡ filter (λ l. not (says_nothing l.fields)) ls
+said-filled [] = refl
+said-filled (l ∷ ls) =
+    said-cons l.number l.fields (filter (λ x. not (nat_eq (length x.fields) 0)) ls) (filter (λ x. not (says_nothing x.fields)) ls) (said-filled ls)
+
+-- what a text says, by the lines that don't say nothing
+pub said_is : (text : List ℕ) → said text ≡ said_from 1 text
+said_is text = said-filled (numbered 1 (lines text))
 
 lines_ended : (x rest : List ℕ) → AllFrom 11 x → lines (ended x ++ rest) ≡ x ∷ lines rest
 lines_ended x rest h = ap lines (append_assoc x (10 ∷ []) rest) ∙ slice_split_at (λ b. nat_eq b 10) x 10 rest (no_newlines x h) refl

@@ -12,10 +12,10 @@ use Rattle.size_suffixes.specs.Number.{number, number_by, within, value, base_of
 use Rattle.size_suffixes.specs.declared.error.SizeError.TheVariants.{BadDigit, TooLarge}
 use Rattle.block_list.specs.declared.status.Status.{Status}
 use Rattle.block_list.specs.declared.status.Status.TheVariants.{NonTried, NonTrimmed, NonScraped, BadSector, Finished}
-use Rattle.block_list.specs.Status.{symbol}
+use Rattle.block_list.specs.Status.{symbol, status_of_symbol}
 use Rattle.mapfile_text.specs.declared.state.Current.{Current}
 use Rattle.mapfile_text.specs.declared.state.Current.TheVariants.{Copying, Trimming, Scraping, Retrying, Filling, Generating, Finished as Done}
-use Rattle.mapfile_text.specs.Fields.{numeral, numeral_by, status_of_symbol, current_of_symbol, begins_with_digit, above_zero, pass_of}
+use Rattle.mapfile_text.specs.Fields.{numeral, numeral_by, current_of_symbol, begins_with_digit, above_zero, pass_of}
 use Rattle.mapfile_text.specs.Printed.{hexadecimal, current_symbol}
 
 is_digit : (base c : ℕ) → digit_value c < base → not (is_no_digit base c) ≡ true
@@ -31,7 +31,7 @@ all_digits base (c ∷ cs) d =
 none_past_end : (n end : ℕ) → n ≡ end → cond (nat_lt n end) (Some n) None ≡ None
 none_past_end n end e = let f : nat_lt n end ≡ false = grind (arith, nat_tests) in ap (λ v. cond v (Some n) None) f
 
-no_other : (base : ℕ) (ds : List ℕ) → AllDigits base ds → position (is_no_digit base) ds ≡ None
+pub no_other : (base : ℕ) (ds : List ℕ) → AllDigits base ds → position (is_no_digit base) ds ≡ None
 no_other base ds d = none_past_end (prefix_len (λ c. not (is_no_digit base c)) ds) (length ds) (all_digits base ds d)
 
 -- digits in the base that the text begins with are a numeral

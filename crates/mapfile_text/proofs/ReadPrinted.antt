@@ -21,11 +21,11 @@ use Rattle.mapfile_text.specs.HeadingLines.{HeadingLines}
 use Rattle.mapfile_text.specs.Lines.{Line}
 use Rattle.mapfile_text.specs.Fields.{state_by, block_by}
 use Rattle.mapfile_text.specs.MapText.{IsStateLine, IsBlockLine, IsGap, Continues, Lists, AreMapLines}
-use Rattle.mapfile_text.specs.Printed.{ended, hexadecimal, shown_byte, program_line, command_line, time_lines, heading_text, current_symbol, state_line, block_line}
+use Rattle.mapfile_text.specs.Printed.{printed, ended, hexadecimal, shown_byte, program_line, command_line, time_lines, heading_text, current_symbol, state_line, block_line}
 use Rattle.mapfile_text.specs.Laws.{PrintedIsRead}
 use Rattle.mapfile_text.proofs.PrintedBytes.{AllFrom, from_test, from_lower, decimal_from, hexadecimal_from, shown_line_from}
 use Rattle.mapfile_text.proofs.ReadNumbers.{hexadecimal_is_read, pass_is_read, status_is_read, current_is_read, symbol_from, current_symbol_from}
-use Rattle.mapfile_text.proofs.ReadLines.{said_from, said_line, IsComment, no_comment, comment, comments_join, state_fields, block_fields}
+use Rattle.mapfile_text.proofs.ReadLines.{said_from, said_is, said_line, IsComment, no_comment, comment, comments_join, state_fields, block_fields}
 
 byte_from : (c : ℕ) → 33 ≤ c → AllFrom 11 (c ∷ [])
 byte_from c h = All-cons (λ b. 11 ≤ b) c [] (omega arith) (All-nil (λ b. 11 ≤ b))
@@ -210,8 +210,9 @@ text_is_read mode a b c d state listed statuses p q r hp some hq lists =
 
 pub printed_is_read : PrintedIsRead
 printed_is_read heading state statuses mode start now pos some pass short = record {
-  reads = text_is_read mode (heading_text heading) (ended (codes "# current_pos  current_status  current_pass"))
+  reads = subst (λ ls. AreMapLines mode ls state 0 (not (nat_eq (length statuses) 0)) statuses) (sym (said_is (printed heading state statuses)))
+      (text_is_read mode (heading_text heading) (ended (codes "# current_pos  current_status  current_pass"))
       (ended (codes "#      pos        size  status"))
       (flat_map block_line (stretches statuses)) state (not (nat_eq (length statuses) 0)) statuses
-      (heading_is_comment heading start now) state_columns_are_comment block_columns_are_comment pos some pass (λ n. statuses_are_read mode statuses n short);
+      (heading_is_comment heading start now) state_columns_are_comment block_columns_are_comment pos some pass (λ n. statuses_are_read mode statuses n short));
 }

@@ -1,14 +1,32 @@
-use Rattle.std.specs.Prelude.{ℕ, not, List, ◌∷◌, filter, if◌then◌else◌}
-use Rattle.mapfile_text.specs.Lines.{Line, lines, fields, numbered, says_nothing}
+-- A text that is taken line by line, and a line field by field.
+use Rattle.std.specs.Prelude.{ℕ, not, List, ◌∷◌, length, filter, nat_eq}
+use Rattle.std.specs.List.{before_first, after_first}
+use Rattle.mapfile_text.specs.Lines.{Line, lines, numbered, is_newline, is_comment}
 
--- a line by its number and its text
-abbrev pub line_at : ℕ → List ℕ → Line
-line_at n text = record { number = n; fields = fields text }
+-- the first line of a text
+abbrev pub first_line : List ℕ → List ℕ
+first_line text = before_first is_newline text
 
--- the lines that say something, in a text whose first line has this number
-abbrev pub said_from : ℕ → List ℕ → List Line
-said_from n text = filter (λ l. not (says_nothing l.fields)) (numbered n (lines text))
+-- what stands behind the newline of the first line
+abbrev pub behind_line : List ℕ → List ℕ
+behind_line text = after_first is_newline text
 
--- a line in front of others, if it says something
-abbrev pub in_front : Line → List Line → List Line
-in_front l ls = if says_nothing l.fields then ls else l ∷ ls
+-- the lines that aren't blank, in a text whose first line has this number
+abbrev pub filled_from : ℕ → List ℕ → List Line
+filled_from n text = filter (λ l. not (nat_eq (length l.fields) 0)) (numbered n (lines text))
+
+-- the lines among some that are no comments
+abbrev pub no_comments : List Line → List Line
+no_comments ls = filter (λ l. not (is_comment l.fields)) ls
+
+-- a line that is taken field by field: its number, its first field, the fields that are left, and the filled lines
+-- behind it
+pub record OpenLine : Type 0 where
+  pub number : ℕ
+  pub first : List ℕ
+  pub more : List (List ℕ)
+  pub behind : List Line
+
+-- the line that it is, with its first field and those that are left
+abbrev pub line_of : OpenLine → Line
+line_of l = record { number = l.number; fields = l.first ∷ l.more }

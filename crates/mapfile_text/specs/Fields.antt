@@ -3,8 +3,8 @@ use Rattle.size_suffixes.specs.declared.error.SizeError.{SizeError}
 use Rattle.size_suffixes.specs.declared.error.SizeError.TheVariants.{TooLarge}
 use Rattle.size_suffixes.specs.Number.{number, value}
 use Rattle.block_list.specs.declared.status.Status.{Status}
-use Rattle.block_list.specs.declared.status.Status.TheVariants.{NonTried, NonTrimmed, NonScraped, BadSector, Finished}
 use Rattle.block_list.specs.declared.block.Block.{Block}
+use Rattle.block_list.specs.Status.{status_of_symbol}
 use Rattle.mapfile_text.specs.declared.state.Current.{Current}
 use Rattle.mapfile_text.specs.declared.state.Current.TheVariants.{Copying, Trimming, Scraping, Retrying, Filling, Generating, Finished as Done}
 use Rattle.mapfile_text.specs.declared.state.MapState.{MapState}
@@ -19,15 +19,6 @@ abbrev pub numeral : List ℕ → Option ℕ
 numeral field = numeral_by field (number field)
 
 -- the status that a field spells, one of ? * / - +
-abbrev pub status_of_symbol : ℕ → Option Status
-status_of_symbol c =
-    if nat_eq c 63 then Some NonTried
-    else if nat_eq c 42 then Some NonTrimmed
-    else if nat_eq c 47 then Some NonScraped
-    else if nat_eq c 45 then Some BadSector
-    else if nat_eq c 43 then Some Finished
-    else None
-
 abbrev pub status_of_field : List ℕ → Option Status
 status_of_field (c ∷ []) = status_of_symbol c
 status_of_field field = None

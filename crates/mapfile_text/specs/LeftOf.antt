@@ -1,8 +1,8 @@
-use Rattle.std.specs.Prelude.{◌≡◌, ℕ, ◌+◌, List, [], ◌∷◌, ◌++◌, map, drop, codes}
+use Rattle.std.specs.Prelude.{◌≡◌, ℕ, ◌-◌, List, [], ◌∷◌, ◌++◌, length, map, take, drop, codes}
 use Rattle.std.specs.List.{concat}
 use Rattle.std.specs.Fmt.{decimal}
 use Rattle.block_list.specs.declared.status.Status.{Status}
-use Rattle.block_list.specs.Stretches.{stretches}
+use Rattle.block_list.specs.Stretches.{stretches_behind}
 use Rattle.mapfile_text.specs.declared.heading.Program.{Program}
 use Rattle.mapfile_text.specs.declared.heading.Program.TheVariants.{Ddrescue, Ddrescuelog}
 use Rattle.mapfile_text.specs.declared.state.MapState.{MapState}
@@ -32,11 +32,7 @@ heading_parts h s =
     ∷ ended (codes "# current_pos  current_status  current_pass") ∷ state_line s
     ∷ ended (codes "#      pos        size  status") ∷ []
 
--- the parts in which a mapfile's text is printed, in order; behind the heading's a line for each block
-unfoldable pub parts : HeadingLines → MapState → List Status → List (List ℕ)
-parts h s statuses = heading_parts h s ++ map block_line (stretches statuses)
-
--- where a part stands among them, counted from 0
+-- how many of them stand in front of a part: all nine where it is a line of the map
 abbrev pub number_of : Part → ℕ
 number_of ProgramLine = 0
 number_of Label = 1
@@ -47,12 +43,29 @@ number_of Now = 5
 number_of StateColumns = 6
 number_of State = 7
 number_of Columns = 8
-number_of (Block i) = 9 + i
+number_of (Block pos) = 9
 
--- a place by its two numbers
-abbrev pub IsPlace : Place → (part went : ℕ) → Type 0
-IsPlace place part went = (number_of place.part ≡ part) × (place.went ≡ went)
+-- the position from which the map's lines go on behind the heading's parts that are left
+abbrev pub position_of : Part → ℕ
+position_of (Block pos) = pos
+position_of part = 0
+
+-- the lines of what is left of a map from a position on, one for each stretch
+abbrev pub map_lines : ℕ → List Status → List (List ℕ)
+map_lines pos statuses = map block_line (stretches_behind pos statuses)
+
+-- the parts of a mapfile's text from one on, in order: what is left of the heading's, and of the map's lines
+unfoldable pub parts_from : Part → HeadingLines → MapState → List Status → List (List ℕ)
+parts_from part h s statuses = drop (number_of part) (heading_parts h s) ++ map_lines (position_of part) statuses
 
 -- what is left of a mapfile's text at a place: the parts from one on, less the bytes that went
 unfoldable pub left_of : Place → HeadingLines → MapState → List Status → List ℕ
-left_of place h s statuses = drop place.went (concat (drop (number_of place.part) (parts h s statuses)))
+left_of place h s statuses = drop place.went (concat (parts_from place.part h s statuses))
+
+-- the first of `parts` was appended to `old`, as far as a piece had room for it, less the bytes of it that went; `len`
+-- is its whole length, and `others` are the parts behind it
+pub record IsAppended (old new : List ℕ) (went len : ℕ) (parts others : List (List ℕ)) : Type 0 where
+  pub part : List ℕ
+  pub first : parts ≡ part ∷ others
+  pub text : new ≡ old ++ take (4096 - length old) (drop went part)
+  pub told : len ≡ length part

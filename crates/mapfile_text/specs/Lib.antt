@@ -5,6 +5,7 @@ pub mod LeftOf
 pub mod Lines
 pub mod Fields
 pub mod MapText
+pub mod Checking
 pub mod Laws
 pub mod Reading
 pub mod Cursor

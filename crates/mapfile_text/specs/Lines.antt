@@ -1,9 +1,14 @@
-use Rattle.std.specs.Prelude.{ℕ, ◌+◌, Bool, true, false, not, ◌||◌, List, [], ◌∷◌, length, filter, nat_eq}
+-- The lines of a text, and their fields.
+use Rattle.std.specs.Prelude.{ℕ, ◌+◌, Bool, false, not, ◌||◌, List, [], ◌∷◌, length, filter, nat_eq}
 use Rattle.std.specs.List.{slice_split}
+
+-- the byte that ends a line
+abbrev pub is_newline : ℕ → Bool
+is_newline c = nat_eq c 10
 
 -- the lines of a text: what stands between its newlines
 abbrev pub lines : List ℕ → List (List ℕ)
-lines text = slice_split (λ b. nat_eq b 10) text
+lines text = slice_split is_newline text
 
 -- white space within a line: space, tab and carriage return
 abbrev pub is_blank : ℕ → Bool
@@ -13,11 +18,11 @@ is_blank c = nat_eq c 32 || nat_eq c 9 || nat_eq c 13
 abbrev pub fields : List ℕ → List (List ℕ)
 fields line = filter (λ f. not (nat_eq (length f) 0)) (slice_split is_blank line)
 
--- a line says nothing that has no field, or that is a comment: its first field begins with `#`
-abbrev pub says_nothing : List (List ℕ) → Bool
-says_nothing [] = true
-says_nothing ([] ∷ fs) = false
-says_nothing ((c ∷ cs) ∷ fs) = nat_eq c 35
+-- a comment: its first field begins with `#`
+abbrev pub is_comment : List (List ℕ) → Bool
+is_comment [] = false
+is_comment ([] ∷ fs) = false
+is_comment ((c ∷ cs) ∷ fs) = nat_eq c 35
 
 -- a line by its number, counted from 1, and its fields
 pub record Line : Type 0 where
@@ -28,6 +33,10 @@ abbrev pub numbered : ℕ → List (List ℕ) → List Line
 numbered n [] = []
 numbered n (l ∷ ls) = record { number = n; fields = fields l } ∷ numbered (n + 1) ls
 
--- the lines of a text that say something, in order
+-- the lines of a text that aren't blank, in order: those with a field; a comment is one
+abbrev pub filled : List ℕ → List Line
+filled text = filter (λ l. not (nat_eq (length l.fields) 0)) (numbered 1 (lines text))
+
+-- the lines of a text that say something, in order: the filled ones that are no comments
 abbrev pub said : List ℕ → List Line
-said text = filter (λ l. not (says_nothing l.fields)) (numbered 1 (lines text))
+said text = filter (λ l. not (is_comment l.fields)) (filled text)

@@ -1,20 +1,23 @@
 //! Status lines and block lines, with their faults.
-ghost use Rattle.std.specs.Prelude.{◌<◌, ◌^◌, IfOk, IfErr};
+ghost use Rattle.std.specs.Prelude.{◌≡◌, ◌<◌, ◌^◌, IfOk, IfErr};
+ghost use Rattle.mapfile_text.specs.Cursor.{line_of};
 ghost use Rattle.mapfile_text.specs.MapText.{BlockFault, IsBlockLine, IsStateLine, StateFault};
 
-use crate::fields::{LIMIT, capped_block, capped_state};
-use crate::lines::SaidLine;
+use crate::fields::{capped_block, capped_state};
+use crate::lines::FilledLine;
+use crate::numerals::LIMIT;
 use crate::read::MapError;
 use crate::state::MapState;
 use block_list::block::Block;
 
 /// Reads a status line.
-pub(crate) fn read_state(line: &SaidLine<'_>) -> Result<MapState, MapError>
-    ensures state { IfOk result (λ state. IsStateLine line.now state) }
-    ensures fault { IfErr result (λ e. StateFault line.now e) }
+pub(crate) fn read_state(line: &mut FilledLine<'_>) -> Result<MapState, MapError>
+    ensures state { IfOk result (λ state. IsStateLine (line_of line.old) state) }
+    ensures fault { IfErr result (λ e. StateFault (line_of line.old) e) }
+    ensures kept { line.new ≡ record line.old { more = line.new.more } }
 {
     let number = line.number();
-    let Some((pos, current, pass)) = capped_state(line.text()) else {
+    let Some((pos, current, pass)) = capped_state(line) else {
         return Err(MapError::BadStatusLine { line: number });
     };
     match u32::try_from(pass) {
@@ -24,12 +27,13 @@ pub(crate) fn read_state(line: &SaidLine<'_>) -> Result<MapState, MapError>
 }
 
 /// Reads a block line.
-pub(crate) fn read_block(line: &SaidLine<'_>) -> Result<Block, MapError>
-    ensures block { IfOk result (λ block. IsBlockLine line.now block) }
-    ensures fault { IfErr result (λ e. BlockFault line.now e) }
+pub(crate) fn read_block(line: &mut FilledLine<'_>) -> Result<Block, MapError>
+    ensures block { IfOk result (λ block. IsBlockLine (line_of line.old) block) }
+    ensures fault { IfErr result (λ e. BlockFault (line_of line.old) e) }
+    ensures kept { line.new ≡ record line.old { more = line.new.more } }
 {
     let number = line.number();
-    let Some(block) = capped_block(line.text()) else {
+    let Some(block) = capped_block(line) else {
         return Err(MapError::BadBlockLine { line: number });
     };
     if block.pos.saturating_add(block.size) < LIMIT {

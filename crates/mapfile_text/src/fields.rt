@@ -1,27 +1,24 @@
 //! The fields of a line, and what they spell.
-ghost use Rattle.std.specs.Prelude.{◌≡◌, ◌∷◌, ◌≤◌, [], not, length, MatchOption};
+ghost use Rattle.std.specs.Prelude.{◌≡◌, ◌∷◌, ◌≤◌, ◌<◌, ◌||◌, [], not, length, IfSome, MatchOption};
 ghost use Rattle.std.specs.Option.{option_map};
 ghost use Rattle.std.specs.List.{position_or_len};
-ghost use Rattle.mapfile_text.specs.Lines.{fields, is_blank, says_nothing};
+ghost use Rattle.mapfile_text.specs.Lines.{fields, is_blank, is_newline};
+ghost use Rattle.mapfile_text.specs.Cursor.{first_line, behind_line, line_of};
 ghost use Rattle.mapfile_text.specs.Fields.{
   begins_with_digit,
   block_of,
   current_of_field,
-  numeral,
   pass_of,
   state_of,
   status_of_field,
 };
 ghost use Rattle.mapfile_text.specs.Reading.{capped, capped_block, capped_state};
 
+use crate::lines::FilledLine;
+use crate::numerals::capped_numeral;
 use crate::state::Current;
 use block_list::block::Block;
 use block_list::status::Status;
-use size_suffixes::error::SizeError;
-use size_suffixes::number::parse_number;
-
-/// The least number that is too large.
-pub(crate) const LIMIT: u64 = 1 << 63;
 
 fn is_blank(byte: u8) -> bool
     ensures { result ≡ is_blank byte }
@@ -29,68 +26,53 @@ fn is_blank(byte: u8) -> bool
     matches!(byte, b' ' | b'\t' | b'\r')
 }
 
-/// Where the first field of a line begins, or the line's length.
-fn field_start(line: &[u8]) -> usize
-    ensures value { result ≡ position_or_len (λ c. not (is_blank c)) line.now }
-    ensures within { result ≤ length line.now }
+/// Whether a byte ends a field: it is blank, or ends the line.
+fn ends_field(byte: u8) -> bool
+    ensures { result ≡ (is_blank byte || is_newline byte) }
 {
-    line.iter()
+    byte <= b' ' && (is_blank(byte) || byte == b'\n')
+}
+
+/// Where the first byte stands that isn't blank, or the text's length.
+fn field_start(text: &[u8]) -> usize
+    ensures value { result ≡ position_or_len (λ c. not (is_blank c)) text.now }
+    ensures within { result ≤ length text.now }
+{
+    text.iter()
         .position(|byte| !is_blank(*byte))
-        .unwrap_or(line.len())
+        .unwrap_or(text.len())
 }
 
-/// Where the field ends with which a line begins.
-fn field_end(line: &[u8]) -> usize
-    ensures value { result ≡ position_or_len is_blank line.now }
-    ensures within { result ≤ length line.now }
+/// Where the field ends with which a text begins.
+fn field_end(text: &[u8]) -> usize
+    ensures value { result ≡ position_or_len (λ c. is_blank c || is_newline c) text.now }
+    ensures within { result ≤ length text.now }
 {
-    line.iter()
-        .position(|byte| is_blank(*byte))
-        .unwrap_or(line.len())
+    text.iter()
+        .position(|byte| ends_field(*byte))
+        .unwrap_or(text.len())
 }
 
-/// The first field of a line, and what stands behind it.
-fn first_field(line: &[u8]) -> Option<(&[u8], &[u8])>
-    ensures { MatchOption result (fields line.now ≡ [])
-        (λ parts. fields line.now ≡ parts.0.now ∷ fields parts.1.now) }
+/// The first field of the first line of a text, and what stands behind it.
+pub(crate) fn first_field(text: &[u8]) -> Option<(&[u8], &[u8])>
+    ensures field { MatchOption result (fields (first_line text.now) ≡ [])
+        (λ parts. fields (first_line text.now) ≡ parts.0.now ∷ fields (first_line parts.1.now)) }
+    ensures behind { IfSome result (λ parts. behind_line parts.1.now ≡ behind_line text.now) }
+    ensures shorter { IfSome result (λ parts. length parts.1.now < length text.now) }
 {
-    let line = &line[field_start(line)..];
-    if line.is_empty() {
+    let text = &text[field_start(text)..];
+    let end = field_end(text);
+    if end == 0 {
         return None;
     }
-    Some(line.split_at(field_end(line)))
-}
-
-/// Whether a line is a comment or has no field.
-pub(crate) fn says_nothing(line: &[u8]) -> bool
-    ensures { result ≡ says_nothing (fields line.now) }
-{
-    match first_field(line) {
-        None => true,
-        Some((field, _)) => matches!(field, [b'#', ..]),
-    }
-}
-
-/// The number that a field is, or the limit where it is larger.
-fn capped_numeral(field: &[u8]) -> Option<u64>
-    ensures { result ≡ option_map capped (numeral field.now) }
-{
-    match parse_number(field) {
-        Ok(number) => Some(number),
-        Err(SizeError::TooLarge) => Some(LIMIT),
-        Err(_) => None,
-    }
+    Some(text.split_at(end))
 }
 
 fn status_of(field: &[u8]) -> Option<Status>
     ensures { result ≡ status_of_field field.now }
 {
     match field {
-        [b'?'] => Some(Status::NonTried),
-        [b'*'] => Some(Status::NonTrimmed),
-        [b'/'] => Some(Status::NonScraped),
-        [b'-'] => Some(Status::BadSector),
-        [b'+'] => Some(Status::Finished),
+        [symbol] => Status::of_symbol(*symbol),
         _ => None,
     }
 }
@@ -116,12 +98,13 @@ fn begins_with_digit(field: &[u8]) -> bool
     matches!(field, [b'0'..=b'9', ..])
 }
 
-/// The pass by what stands behind the current status.
-fn capped_pass(rest: &[u8]) -> Option<u64>
-    ensures { result ≡ option_map capped (pass_of (fields rest.now)) }
+/// The pass by the fields that are left behind the current status.
+fn capped_pass(line: &mut FilledLine<'_>) -> Option<u64>
+    ensures pass { result ≡ option_map capped (pass_of line.old.more) }
+    ensures kept { line.new ≡ record line.old { more = line.new.more } }
 {
-    match first_field(rest) {
-        Some((field, _)) if begins_with_digit(field) => {
+    match line.take_field() {
+        Some(field) if begins_with_digit(field) => {
             capped_numeral(field).filter(|pass| *pass > 0)
         }
         _ => Some(1),
@@ -129,26 +112,26 @@ fn capped_pass(rest: &[u8]) -> Option<u64>
 }
 
 /// Position, current status and pass of a status line, numbers above the limit as the limit.
-pub(crate) fn capped_state(line: &[u8]) -> Option<(u64, Current, u64)>
-    ensures { result ≡ option_map capped_state (state_of (fields line.now)) }
+pub(crate) fn capped_state(line: &mut FilledLine<'_>) -> Option<(u64, Current, u64)>
+    ensures state { result ≡ option_map capped_state (state_of (line_of line.old).fields) }
+    ensures kept { line.new ≡ record line.old { more = line.new.more } }
 {
-    let (pos, rest) = first_field(line)?;
-    let (current, rest) = first_field(rest)?;
-    let pos = capped_numeral(pos)?;
+    let current = line.take_field()?;
+    let pos = capped_numeral(line.first())?;
     let current = current_of(current)?;
-    let pass = capped_pass(rest)?;
+    let pass = capped_pass(line)?;
     Some((pos, current, pass))
 }
 
 /// The block of a block line, numbers above the limit as the limit.
-pub(crate) fn capped_block(line: &[u8]) -> Option<Block>
-    ensures { result ≡ option_map capped_block (block_of (fields line.now)) }
+pub(crate) fn capped_block(line: &mut FilledLine<'_>) -> Option<Block>
+    ensures block { result ≡ option_map capped_block (block_of (line_of line.old).fields) }
+    ensures kept { line.new ≡ record line.old { more = line.new.more } }
 {
-    let (pos, rest) = first_field(line)?;
-    let (size, rest) = first_field(rest)?;
-    let (status, _) = first_field(rest)?;
+    let size = line.take_field()?;
+    let status = line.take_field()?;
     Some(Block {
-        pos: capped_numeral(pos)?,
+        pos: capped_numeral(line.first())?,
         size: capped_numeral(size)?,
         status: status_of(status)?,
     })

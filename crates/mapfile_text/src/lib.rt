@@ -1,20 +1,16 @@
 //! The text of a mapfile (GNU ddrescue manual, "Mapfile structure").
 #![tactic(auto)]
 
+pub mod check;
 mod digits;
 mod entries;
-mod fields;
+pub mod fields;
 pub mod heading;
 pub mod laws;
-mod lines;
+pub mod lines;
 mod made_lines;
+mod numerals;
 mod place;
 pub mod printer;
-#[cfg(test)]
-mod printer_tests;
 pub mod read;
-#[cfg(test)]
-mod read_tests;
 pub mod state;
-#[cfg(test)]
-mod tests;

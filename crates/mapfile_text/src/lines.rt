@@ -1,99 +1,161 @@
-//! The lines of a mapfile that say something, one after another.
+//! The lines of a text, one after another: those that aren't blank, and those of them that are no comments.
 ghost use Rattle.std.specs.Prelude.{◌≡◌, ℕ, ◌+◌, ◌<◌, ◌≤◌, ◌^◌, ◌∷◌, [], length, MatchOption};
-ghost use Rattle.mapfile_text.specs.Lines.{said, fields};
-ghost use Rattle.mapfile_text.specs.Cursor.{line_at, in_front, said_from};
+ghost use Rattle.mapfile_text.specs.Lines.{filled, said, is_comment};
+ghost use Rattle.mapfile_text.specs.Cursor.{behind_line, filled_from, line_of, no_comments};
 
-use crate::fields::says_nothing;
+use crate::fields::first_field;
 use std::marker::Model;
 
-/// A line that says something.
+/// A line that isn't blank. Its fields are taken one after another; the first can be seen at any time.
 #[derive(Drop)]
-pub(crate) struct SaidLine<'a> {
+pub struct FilledLine<'a> {
     number: usize,
-    text: &'a [u8],
+    first: &'a [u8],
+    /// The text behind the fields that were taken.
+    rest: &'a [u8],
 }
 
-impl<'a> Model for SaidLine<'a> {
-    ghost use Rattle.mapfile_text.specs.Lines.{Line};
-    ghost use Rattle.mapfile_text.specs.Cursor.{line_at};
+impl<'a> Model for FilledLine<'a> {
+    ghost use Rattle.std.specs.Prelude.{◌+◌, ◌<◌, ◌^◌, length};
+    ghost use Rattle.mapfile_text.specs.Lines.{fields};
+    ghost use Rattle.mapfile_text.specs.Cursor.{OpenLine, first_line, behind_line, filled_from};
 
-    ghost Value = { Line };
+    ghost Value = { OpenLine };
 
-    ghost view = { λ l. line_at l.number l.text.now };
+    ghost view = { λ l. record {
+      number = l.number;
+      first = l.first.now;
+      more = fields (first_line l.rest.now);
+      behind = filled_from (l.number + 1) (behind_line l.rest.now);
+    } };
+
+    ghost invariant = { λ l. l.number + length l.rest.now + 1 < 2 ^ 64 };
 }
 
-impl<'a> SaidLine<'a> {
+impl<'a> FilledLine<'a> {
     /// Its number in the text, counted from 1.
-    pub(crate) fn number(&self) -> usize
+    pub fn number(&self) -> usize
         ensures { result ≡ self.now.number }
     {
         self.number
     }
 
-    pub(crate) fn text(&self) -> &'a [u8]
-        ensures { fields result.now ≡ self.now.fields }
+    /// Its first field.
+    pub fn first(&self) -> &'a [u8]
+        ensures { result.now ≡ self.now.first }
     {
-        self.text
+        self.first
+    }
+
+    /// Whether it is a comment.
+    pub fn is_comment(&self) -> bool
+        ensures { result ≡ is_comment (line_of self.now).fields }
+    {
+        matches!(self.first, [b'#', ..])
+    }
+
+    /// Takes the first of the fields that are left, which are those behind the first one to begin with.
+    pub fn take_field(&mut self) -> Option<&'a [u8]>
+        ensures taken { MatchOption result (self.old.more ≡ []) (λ field. self.old.more ≡ field.now ∷ self.new.more) }
+        ensures kept { self.new ≡ record self.old { more = self.new.more } }
+    {
+        let (field, rest) = first_field(self.rest)?;
+        self.rest = rest;
+        Some(field)
+    }
+
+    /// The lines behind it.
+    pub fn lines_behind(&self) -> FilledLines<'a>
+        ensures { result ≡ self.now.behind }
+    {
+        FilledLines {
+            number: self.number + 1,
+            rest: behind_line(self.rest),
+        }
     }
 }
 
-/// What is left of a text: the lines that say something.
+/// The lines of a text that aren't blank, or those of them behind a line.
 #[derive(Drop)]
-pub(crate) struct SaidLines<'a> {
+pub struct FilledLines<'a> {
     /// The number of the line with which the rest begins.
     number: usize,
     rest: &'a [u8],
 }
 
-impl<'a> Model for SaidLines<'a> {
+impl<'a> Model for FilledLines<'a> {
     ghost use Rattle.std.specs.Prelude.{List, ◌+◌, ◌<◌, ◌^◌, length};
     ghost use Rattle.mapfile_text.specs.Lines.{Line};
-    ghost use Rattle.mapfile_text.specs.Cursor.{said_from};
+    ghost use Rattle.mapfile_text.specs.Cursor.{filled_from};
 
     ghost Value = { List Line };
 
-    ghost view = { λ l. said_from l.number l.rest.now };
+    ghost view = { λ l. filled_from l.number l.rest.now };
 
     ghost invariant = { λ l. l.number + length l.rest.now < 2 ^ 64 };
 }
 
-impl<'a> SaidLines<'a> {
-    pub(crate) fn new(text: &'a [u8]) -> SaidLines<'a>
+impl<'a> FilledLines<'a> {
+    /// The lines of a text.
+    pub fn new(text: &'a [u8]) -> FilledLines<'a>
         requires { length text.now < 2 ^ 63 }
-        ensures { result ≡ said text.now }
+        ensures filled { result ≡ filled text.now }
+        ensures said { no_comments result ≡ said text.now }
+        ensures few { length (no_comments result) ≤ length text.now + 1 }
     {
-        SaidLines {
+        FilledLines {
             number: 1,
             rest: text,
         }
     }
 
-    /// Takes the first line that says something.
-    pub(crate) fn take_line(&mut self) -> Option<SaidLine<'a>>
-        ensures { MatchOption result (self.old ≡ []) (λ line. self.old ≡ line ∷ self.new) }
+    /// The first of the lines.
+    pub fn first(&self) -> Option<FilledLine<'a>>
+        ensures { MatchOption result (self.now ≡ []) (λ line. self.now ≡ line_of line ∷ line.behind) }
     {
-        while !self.rest.is_empty() {
-            let (text, rest) = first_line(self.rest);
-            let number = self.number;
-            self.number += 1;
-            self.rest = rest;
-            if !says_nothing(text) {
-                return Some(SaidLine { number, text });
+        let mut number = self.number;
+        let mut rest = self.rest;
+        while !rest.is_empty() {
+            if let Some((first, rest)) = first_field(rest) {
+                return Some(FilledLine {
+                    number,
+                    first,
+                    rest,
+                });
             }
+            number += 1;
+            rest = behind_line(rest);
+        }
+        None
+    }
+
+    /// The first of the lines that says something: of those that are no comments.
+    pub fn first_said(&self) -> Option<FilledLine<'a>>
+        ensures { MatchOption result (no_comments self.now ≡ [])
+            (λ line. no_comments self.now ≡ line_of line ∷ no_comments line.behind) }
+    {
+        let mut lines = FilledLines {
+            number: self.number,
+            rest: self.rest,
+        };
+        while let Some(line) = lines.first() {
+            if !line.is_comment() {
+                return Some(line);
+            }
+            lines = line.lines_behind();
         }
         None
     }
 }
 
-/// The first line of a text, and what stands behind its newline.
-fn first_line(text: &[u8]) -> (&[u8], &[u8])
-    requires { 0 < length text.now }
-    ensures said { (n : ℕ) → said_from n text.now ≡ in_front (line_at n result.0.now)
-        (said_from (n + 1) result.1.now) }
-    ensures shorter { length result.1.now < length text.now }
+/// What stands behind the newline of the first line of a text.
+fn behind_line(text: &[u8]) -> &[u8]
+    ensures behind { result.now ≡ behind_line text.now }
+    ensures shorter { 0 < length text.now → length result.now < length text.now }
+    ensures within { length result.now ≤ length text.now }
 {
     match text.iter().position(|byte| *byte == b'\n') {
-        Some(end) => (&text[..end], &text[end + 1..]),
-        None => (text, &text[text.len()..]),
+        Some(end) => &text[end + 1..],
+        None => &text[text.len()..],
     }
 }

@@ -1,6 +1,6 @@
 //! Where a printer stands in the text of a mapfile.
-ghost use Rattle.std.specs.Prelude.{◌≡◌, ℕ, ◌+◌, ◌-◌, ◌<◌, ◌≤◌, ◌^◌};
-ghost use Rattle.mapfile_text.specs.LeftOf.{number_of, IsPlace};
+ghost use Rattle.std.specs.Prelude.{◌≡◌, ◌+◌, ◌-◌, ◌<◌, ◌≤◌};
+ghost use Rattle.mapfile_text.specs.LeftOf.{number_of, position_of};
 
 /// A part of the text: a line, but for the one on the command line, which is three.
 #[derive(Clone, Copy)]
@@ -14,8 +14,8 @@ pub(crate) enum Part {
     StateColumns,
     State,
     Columns,
-    /// The line of the block with this number, counted from 0.
-    Block(usize),
+    /// The line of what is left from this position on of the stretch that holds it.
+    Block(u64),
 }
 
 /// A place in the text: a part, and how many of its bytes went.
@@ -26,10 +26,11 @@ pub(crate) struct Place {
 }
 
 impl Part {
-    /// The part behind this one.
+    /// The part behind one of the heading's.
     pub(crate) fn next(self) -> Part
-        requires { number_of self < 2 ^ 64 + 8 }
-        ensures { number_of result ≡ number_of self + 1 }
+        requires { number_of self < 9 }
+        ensures number { number_of result ≡ number_of self + 1 }
+        ensures position { position_of result ≡ 0 }
     {
         match self {
             Part::Program => Part::Label,
@@ -41,27 +42,26 @@ impl Part {
             Part::StateColumns => Part::State,
             Part::State => Part::Columns,
             Part::Columns => Part::Block(0),
-            Part::Block(i) => Part::Block(i + 1),
+            Part::Block(_) => unreachable!(),
         }
     }
 }
 
 impl Place {
-    /// The place behind as much of a part of `len` bytes as there is room for.
-    pub(crate) fn behind(self, len: usize, room: usize) -> Place
-        requires { number_of self.part < 2 ^ 64 + 8 }
-        ensures past { len ≤ self.went → IsPlace result (number_of self.part + 1) (self.went - len) }
-        ensures whole { self.went < len → len ≤ self.went + room → IsPlace result (number_of self.part + 1) 0 }
-        ensures cut { self.went + room < len → IsPlace result (number_of self.part) (self.went + room) }
+    /// The place behind as much of a part of `len` bytes as there is room for; `next` is the part behind it.
+    pub(crate) fn behind(self, len: usize, next: Part, room: usize) -> Place
+        ensures past { len ≤ self.went → result ≡ record { part = next; went = self.went - len } }
+        ensures whole { self.went < len → len ≤ self.went + room → result ≡ record { part = next; went = 0 } }
+        ensures cut { self.went + room < len → result ≡ record { part = self.part; went = self.went + room } }
     {
         if len <= self.went {
             Place {
-                part: self.part.next(),
+                part: next,
                 went: self.went - len,
             }
         } else if len - self.went <= room {
             Place {
-                part: self.part.next(),
+                part: next,
                 went: 0,
             }
         } else {

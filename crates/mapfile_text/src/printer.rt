@@ -1,5 +1,5 @@
 //! The text of a mapfile in pieces of 4,096 bytes.
-ghost use Rattle.std.specs.Prelude.{◌≡◌, ℕ, ◌+◌, ◌-◌, ◌<◌, ◌≤◌, ◌^◌, ◌↔◌, ◌++◌, ◌∷◌, IsTrue, MatchBool, List, [], length, map, take, drop, slice_index_or};
+ghost use Rattle.std.specs.Prelude.{◌≡◌, ◌⊎◌, ◌+◌, ◌-◌, ◌<◌, ◌≤◌, ◌^◌, ◌↔◌, ◌++◌, ◌∷◌, IsTrue, MatchBool, List, [], length, map, take, drop};
 ghost use Rattle.block_list.specs.declared.status.Status.{Status};
 ghost use Rattle.arrayvec.specs.ArrayVec.{array_vec_len};
 ghost use Rattle.mapfile_text.specs.declared.state.MapState.{MapState};
@@ -7,7 +7,7 @@ ghost use Rattle.mapfile_text.specs.declared.place.Part.TheVariants.{Words};
 ghost use Rattle.mapfile_text.specs.HeadingLines.{HeadingLines};
 ghost use Rattle.mapfile_text.specs.Printed.{printed, shown_byte};
 ghost use Rattle.mapfile_text.specs.Pieces.{pieces_of};
-ghost use Rattle.mapfile_text.specs.LeftOf.{number_of, parts, left_of};
+ghost use Rattle.mapfile_text.specs.LeftOf.{heading_parts, number_of, position_of, map_lines, parts_from, left_of, IsAppended};
 
 use crate::heading::{Heading, shown};
 use crate::made_lines::{
@@ -16,6 +16,7 @@ use crate::made_lines::{
 use crate::place::{Part, Place};
 use crate::state::MapState;
 use arrayvec::ArrayVec;
+use block_list::block::Block;
 use block_list::tiles::Tiles;
 use std::marker::Model;
 
@@ -84,76 +85,100 @@ fn fill<T: Tiles>(
     ensures rest { left_of result heading.now state (T.statuses tiles.now)
         ≡ drop 4096 (left_of begun heading.now state (T.statuses tiles.now)) }
 {
+    let end = tiles.end();
     let mut place = begun;
-    while is_there(place.part, state, heading, tiles) {
+    while is_there(place.part, end) {
         let room = out.remaining_capacity();
         if room == 0 {
             return place;
         }
-        let len = append_part(out, place, state, heading, tiles);
-        place = place.behind(len, room);
+        let (len, next) = append_part(out, place, state, heading, tiles);
+        place = place.behind(len, next, room);
     }
     place
 }
 
-/// Whether the text has a part.
-fn is_there<T: Tiles>(part: Part, state: MapState, heading: &Heading, tiles: &T) -> bool
-    ensures there { IsTrue result ↔ (number_of part < length (parts heading.now state (T.statuses tiles.now))) }
-    ensures short { IsTrue result → number_of part < 2 ^ 64 + 8 }
+/// Whether the text has a part, by the map's end.
+fn is_there(part: Part, end: u64) -> bool
+    ensures { IsTrue result ↔ (number_of part < 9) ⊎ (position_of part < end) }
 {
     match part {
-        Part::Block(i) => i < tiles.blocks(),
+        Part::Block(pos) => pos < end,
         _ => true,
     }
 }
 
-/// Appends what is left of a part, or as much as there is room for, and returns the length of the whole part.
+/// Appends what is left of a part, or as much as there is room for, and returns the length of the whole part and the
+/// part behind it.
 fn append_part<T: Tiles>(
     out: &mut ArrayVec<u8, 4096>,
     place: Place,
     state: MapState,
     heading: &Heading,
     tiles: &T,
-) -> usize
-    requires { number_of place.part < length (parts heading.now state (T.statuses tiles.now)) }
-    ensures text { let part =
-        slice_index_or (parts heading.now state (T.statuses tiles.now)) (number_of place.part) [] in
-        out.new.items ≡ out.old.items ++ take (4096 - array_vec_len out.old) (drop place.went part) }
-    ensures len { result
-        ≡ length (slice_index_or (parts heading.now state (T.statuses tiles.now)) (number_of place.part) []) }
+) -> (usize, Part)
+    requires there { (number_of place.part < 9) ⊎ (position_of place.part < length (T.statuses tiles.now)) }
+    requires short { length (T.statuses tiles.now) < 2 ^ 63 }
+    ensures { IsAppended out.old.items out.new.items place.went result.0
+        (parts_from place.part heading.now state (T.statuses tiles.now))
+        (parts_from result.1 heading.now state (T.statuses tiles.now)) }
 {
     match place.part {
         Part::Words => {
             append_words(out, heading.line(), place.went);
-            heading.line().len()
+            (heading.line().len(), Part::Newline)
+        }
+        Part::Block(pos) => {
+            let mut line = Line::new();
+            let end = append_rest(&mut line, pos, tiles);
+            append_line(out, line.as_slice(), place.went);
+            (line.len(), Part::Block(end))
         }
         _ => {
             let mut line = Line::new();
-            make_line(&mut line, place.part, state, heading, tiles);
+            append_heading(&mut line, place.part, state, heading);
             append_line(out, line.as_slice(), place.went);
-            line.len()
+            (line.len(), place.part.next())
         }
     }
 }
 
-/// Makes a part that isn't the words of the command line.
-fn make_line<T: Tiles>(line: &mut Line, part: Part, state: MapState, heading: &Heading, tiles: &T)
+/// Appends the line of what is left from a position on of the stretch that holds it, and returns the stretch's end.
+fn append_rest<T: Tiles>(line: &mut Line, pos: u64, tiles: &T) -> u64
     requires empty { line.old.items ≡ [] }
-    requires there { number_of part < length (parts heading.now state (T.statuses tiles.now)) }
+    requires there { pos < length (T.statuses tiles.now) }
+    requires short { length (T.statuses tiles.now) < 2 ^ 63 }
+    ensures { map_lines pos (T.statuses tiles.now) ≡ line.new.items ∷ map_lines result (T.statuses tiles.now) }
+{
+    let stretch = tiles.stretch_at(pos);
+    let end = stretch.pos + stretch.size;
+    let rest = Block {
+        pos,
+        size: end - pos,
+        status: stretch.status,
+    };
+    append_block(line, rest);
+    end
+}
+
+/// Appends a part of the heading that isn't the words of the command line.
+fn append_heading(line: &mut Line, part: Part, state: MapState, heading: &Heading)
+    requires empty { line.old.items ≡ [] }
+    requires there { number_of part < 9 }
     requires other { part ≡ Words → ⊥ }
-    ensures { line.new.items ≡ slice_index_or (parts heading.now state (T.statuses tiles.now)) (number_of part) [] }
+    ensures { drop (number_of part) (heading_parts heading.now state)
+        ≡ line.new.items ∷ drop (number_of part + 1) (heading_parts heading.now state) }
 {
     match part {
         Part::Program => append_program(line, heading.program()),
         Part::Label => append(line, b"# Command line: "),
-        Part::Words => unreachable!(),
         Part::Newline => append(line, b"\n"),
         Part::Start => append_start(line, heading),
         Part::Now => append_now(line, heading),
         Part::StateColumns => append(line, b"# current_pos  current_status  current_pass\n"),
         Part::State => append_state(line, state),
         Part::Columns => append(line, b"#      pos        size  status\n"),
-        Part::Block(i) => append_block(line, tiles.block(i)),
+        Part::Words | Part::Block(_) => unreachable!(),
     }
 }
 

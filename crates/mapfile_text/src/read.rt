@@ -1,11 +1,14 @@
 ghost use Rattle.std.specs.Prelude.{◌≡◌, ◌⊎◌, ◌+◌, ◌-◌, ◌^◌, ◌<◌, ◌≤◌, ◌++◌, [], true, false, length, replicate, IfOk, IfErr, OnOk, IsTrue, if◌then◌else◌};
 ghost use Rattle.block_list.specs.Stretches.{covered};
-ghost use Rattle.mapfile_text.specs.MapText.{IsGap, IsMapText, Lists, ListsFault, MapFault, PlaceFault, text_limit};
+ghost use Rattle.mapfile_text.specs.MapText.{IsGap, IsMapText, Lists, ListsFault, PlaceFault, text_limit};
+ghost use Rattle.mapfile_text.specs.Checking.{IsMap, IsRefused};
+ghost use Rattle.mapfile_text.specs.Cursor.{line_of, no_comments};
 ghost use Rattle.mapfile_text.specs.Reading.{filling, gap_of};
-ghost use Rattle.mapfile_text.specs.declared.read.MapError.TheVariants.{TooLong as LongText, NoMemory as OutOfMemory};
+ghost use Rattle.mapfile_text.specs.declared.read.MapError.TheVariants.{NoMemory as OutOfMemory};
 
-use crate::entries::{read_block, read_state};
-use crate::lines::{SaidLine, SaidLines};
+use crate::check::{check_map, check_place};
+use crate::entries::read_block;
+use crate::lines::{FilledLine, FilledLines};
 use crate::state::MapState;
 use block_list::block::Block;
 use block_list::plain_tiles::PlainTiles;
@@ -85,7 +88,7 @@ impl ReadMap {
     }
 
     /// Puts the block of a line behind the positions so far.
-    fn put(&mut self, mode: Mode, line: &SaidLine<'_>, block: Block) -> Result<(), MapError>
+    fn put(&mut self, mode: Mode, line: &FilledLine<'_>, block: Block) -> Result<(), MapError>
         requires short { block.pos + block.size < 2 ^ 63 }
         requires blank { self.old.listed ≡ false → self.old.tiles.statuses ≡ [] }
         ensures listed { OnOk result (self.new.listed ≡ true) }
@@ -98,7 +101,7 @@ impl ReadMap {
             → IsGap mode (length self.old.tiles.statuses) block.pos
             (gap_of mode (length self.old.tiles.statuses) block.pos)) }
         ensures fault { IfErr result (λ e. (e ≡ OutOfMemory)
-            ⊎ (IsTrue self.old.listed × PlaceFault mode (length self.old.tiles.statuses) line.now block e)) }
+            ⊎ (IsTrue self.old.listed × PlaceFault mode (length self.old.tiles.statuses) (line_of line.now) block e)) }
     {
         if self.listed {
             fill_gap(&mut self.tiles, mode, line, block)?;
@@ -139,7 +142,7 @@ fn fill_up_to(tiles: &mut PlainTiles, end: u64, status: Status) -> Result<(), Ma
 fn fill_gap(
     tiles: &mut PlainTiles,
     mode: Mode,
-    line: &SaidLine<'_>,
+    line: &FilledLine<'_>,
     block: Block,
 ) -> Result<(), MapError>
     requires { block.pos < 2 ^ 63 }
@@ -148,51 +151,50 @@ fn fill_gap(
     ensures gap { OnOk result (IsGap mode (length tiles.old.statuses) block.pos
         (gap_of mode (length tiles.old.statuses) block.pos)) }
     ensures fault { IfErr result (λ e. (e ≡ OutOfMemory)
-        ⊎ PlaceFault mode (length tiles.old.statuses) line.now block e) }
+        ⊎ PlaceFault mode (length tiles.old.statuses) (line_of line.now) block e) }
 {
-    let line = line.number();
-    let end = tiles.end();
-    if block.pos < end {
-        return Err(MapError::Overlap { line });
-    }
+    check_place(mode, tiles.end(), line, block)?;
     match mode {
-        Mode::Tight if end < block.pos => Err(MapError::Gap { line }),
         Mode::Tight => Ok(()),
         Mode::Loose(status) => fill_up_to(tiles, block.pos, status),
     }
 }
 
 /// Reads the block lines that are left.
-fn read_blocks(mut lines: SaidLines<'_>, mut map: ReadMap, mode: Mode) -> Result<ReadMap, MapError>
+fn read_blocks(
+    mut lines: FilledLines<'_>,
+    mut map: ReadMap,
+    mode: Mode,
+) -> Result<ReadMap, MapError>
     requires first { map.first ≡ 0 }
     requires listed { map.listed ≡ false }
     requires statuses { map.tiles.statuses ≡ [] }
     ensures state { IfOk result (λ done. done.state ≡ map.state) }
-    ensures lists { IfOk result (λ done. Lists mode lines.entry done.first done.listed done.tiles.statuses) }
-    ensures fault { IfErr result (λ e. (e ≡ OutOfMemory) ⊎ ListsFault mode lines.entry e) }
+    ensures lists { IfOk result (λ done. Lists mode (no_comments lines.entry) done.first done.listed done.tiles.statuses) }
+    ensures fault { IfErr result (λ e. (e ≡ OutOfMemory) ⊎ ListsFault mode (no_comments lines.entry) e) }
 {
-    while let Some(line) = lines.take_line() {
-        let block = read_block(&line)?;
+    while let Some(mut line) = lines.first_said() {
+        let block = read_block(&mut line)?;
         map.put(mode, &line, block)?;
+        lines = line.lines_behind();
     }
     Ok(map)
 }
 
-/// Reads the text of a mapfile, in time linear in it.
+/// Reads the text of a mapfile, in time linear in it. Memory is asked for only once the text was found to be a map.
 pub fn read_map(alloc: Global, text: &[u8], mode: Mode) -> Result<ReadMap, MapError>
     ensures size { IfOk result (λ map. length text.now ≤ text_limit) }
     ensures read { IfOk result (λ map. IsMapText text.now mode map.state map.first map.listed map.tiles.statuses) }
-    ensures fault { IfErr result (λ e. (e ≡ OutOfMemory)
-        ⊎ ((e ≡ LongText) × (text_limit < length text.now))
-        ⊎ ((length text.now ≤ text_limit) × MapFault text.now mode e)) }
+    ensures fault { IfErr result (λ e. ((e ≡ OutOfMemory) × (length text.now ≤ text_limit) × IsMap text.now mode)
+        ⊎ IsRefused text.now mode e) }
 {
-    if text.len() > TEXT_LIMIT {
-        return Err(MapError::TooLong);
-    }
-    let mut lines = SaidLines::new(text);
-    let Some(line) = lines.take_line() else {
+    let shape = check_map(text, mode)?;
+    let Some(status) = FilledLines::new(text).first_said() else {
         return Err(MapError::NoStatusLine);
     };
-    let state = read_state(&line)?;
-    read_blocks(lines, ReadMap::blank(alloc, state), mode)
+    read_blocks(
+        status.lines_behind(),
+        ReadMap::blank(alloc, shape.state),
+        mode,
+    )
 }

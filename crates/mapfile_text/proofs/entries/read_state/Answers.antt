@@ -1,15 +1,12 @@
 -- A state within the limits wasn't cut, and one that was cut is above them.
 use Rattle.std.proofs.Common.{◌<◌, ◌≤◌, ◌^◌, inl, inr, sym, ap, ◌∙◌, arith}
-use Rattle.std.specs.Option.{option_map}
-use Rattle.mapfile_text.specs.declared.read.MapError.TheVariants.{TooLarge}
-use Rattle.mapfile_text.specs.Fields.{state_of}
-use Rattle.mapfile_text.specs.Reading.{capped_state}
-use Rattle.mapfile_text.proofs.EntryLemmas.{small_state, large_state}
+use Rattle.mapfile_text.specs.declared.read.MapError.TheVariants.{BadStatusLine, TooLarge}
+use Rattle.mapfile_text.proofs.EntryLemmas.{none_state, small_state, large_state}
 use Rattle.mapfile_text.proofs.entries.read_state.Goals as goal
 
 pub returns-in-Ok-clause-state : goal.returns-in-Ok-clause-state
 returns-in-Ok-clause-state c =
-    let spelled = sym c.in-Some.is ∙ c.capped_state.ensures ∙ ap (λ fs. option_map capped_state (state_of fs)) c.text.ensures in
+    let spelled = sym c.in-Some.is ∙ c.capped_state.ensures.state in
     let fits = c.in-Ok.ensures in
     let small : c.in-Ok.pass < 2 ^ 32 = omega (arith, fits.0, fits.1) in
     record {
@@ -20,13 +17,17 @@ returns-in-Ok-clause-state c =
 
 pub returns-in_default-try_from-clause-fault : goal.returns-in_default-try_from-clause-fault
 returns-in_default-try_from-clause-fault c =
-    let spelled = sym c.in-Some.is ∙ c.capped_state.ensures ∙ ap (λ fs. option_map capped_state (state_of fs)) c.text.ensures in
+    let spelled = sym c.in-Some.is ∙ c.capped_state.ensures.state in
     let found = large_state _ _ _ _ spelled (inl c.if-pos-lt-LIMIT.false) in
     inr (ap TooLarge c.number-number.ensures, found.0, found.1, found.2)
 
 pub returns-in_default-try_from-2-clause-fault : goal.returns-in_default-try_from-2-clause-fault
 returns-in_default-try_from-2-clause-fault c =
-    let spelled = sym c.in-Some.is ∙ c.capped_state.ensures ∙ ap (λ fs. option_map capped_state (state_of fs)) c.text.ensures in
+    let spelled = sym c.in-Some.is ∙ c.capped_state.ensures.state in
     let large : 2 ^ 32 ≤ c.in-Some.pass = omega (arith, c.in_default-try_from.ensures) in
     let found = large_state _ _ _ _ spelled (inr large) in
     inr (ap TooLarge c.number-number.ensures, found.0, found.1, found.2)
+
+pub returns-in_default-clause-fault : goal.returns-in_default-clause-fault
+returns-in_default-clause-fault c =
+    inl (ap BadStatusLine c.number-number.ensures, none_state _ (sym c.in_default.is ∙ c.capped_state.ensures.state))

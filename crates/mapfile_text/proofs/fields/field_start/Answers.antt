@@ -1,4 +1,4 @@
--- Where the first byte stands that isn't blank, or the line's length.
+-- Where the first byte stands that isn't blank, or the text's length.
 use Rattle.std.proofs.Common.{◌≡◌, ◌∙◌, not, rules, tests}
 use Rattle.std.specs.List.{position}
 use Rattle.std.proofs.lemmas.Iterator.{YieldsList-from_slice}
@@ -9,7 +9,7 @@ use Rattle.mapfile_text.proofs.fields.field_start.Goals as goal
 
 pub returns-clause-value : goal.returns-clause-value
 returns-clause-value c =
-    let xs = c.args.line.now in
+    let xs = c.args.text.now in
     let found : c.position.result ≡ position (λ x. not (is_blank x)) xs =
     position_from_yields_List (λ x. not (is_blank x)) _ _ c.position.result c.position.ensures.ran
     (YieldsList-from_slice xs cc) (λ x b q k. search (rules, tests)) in

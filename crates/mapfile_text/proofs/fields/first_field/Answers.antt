@@ -1,20 +1,32 @@
--- The field stands behind the blanks in front, up to the next blank.
-use Rattle.std.proofs.Common.{◌-◌, ◌<◌, length, take, drop, List, ℕ, sym, ◌∙◌, arith, eqb-true}
-use Rattle.std.proofs.lemmas.Bool.{eqb-false}
-use Rattle.mapfile_text.proofs.FieldLemmas.{rest_from, no_field, first_field_is}
+-- The field stands behind the blanks in front, up to the next blank or the line's end.
+use Rattle.std.proofs.Common.{◌-◌, length, take, drop, List, ℕ, arith}
+use Rattle.mapfile_text.proofs.FieldLemmas.{rest_from}
+use Rattle.mapfile_text.proofs.FirstLine.{Found, field_found, behind_found, none_found}
 use Rattle.mapfile_text.proofs.fields.first_field.Goals as goal
 
-pub returns-then-is_empty : goal.returns-then-is_empty
-returns-then-is_empty c =
-    let line = c.args.line.now in
+pub returns-then-end-eq0-clause-field : goal.returns-then-end-eq0-clause-field
+returns-then-end-eq0-clause-field c =
+    let text = c.args.text.now in
     let start = c.field_start.result in
-    no_field line _ start c.field_start.ensures.value (rest_from line start) (eqb-true _ _ (sym c.is_empty.ensures ∙ c.if-is_empty.true))
+    let rest : List ℕ = take (length text - start) (drop start text) in
+    let found : Found text rest start c.field_end-end.result =
+    record { begins = c.field_start.ensures.value; from = rest_from text start; ends = c.field_end-end.ensures.value } in
+    none_found text rest start c.field_end-end.result found c.if-end-eq0.true
 
-pub returns : goal.returns
-returns c =
-    let line = c.args.line.now in
+pub returns-clause-field : goal.returns-clause-field
+returns-clause-field c =
+    let text = c.args.text.now in
     let start = c.field_start.result in
-    let rest : List ℕ = take (length line - start) (drop start line) in
-    let some : 0 < length rest = omega (arith, eqb-false _ _ (sym c.is_empty.ensures ∙ c.if-is_empty.false)) in
-    rw (c.split_at.ensures.front, c.split_at.ensures.back)
-    (first_field_is line rest start c.field_end.result c.field_start.ensures.value (rest_from line start) some c.field_end.ensures.value)
+    let rest : List ℕ = take (length text - start) (drop start text) in
+    let found : Found text rest start c.field_end-end.result =
+    record { begins = c.field_start.ensures.value; from = rest_from text start; ends = c.field_end-end.ensures.value } in
+    rw (c.split_at.ensures.front, c.split_at.ensures.back) (field_found text rest start c.field_end-end.result found (omega arith))
+
+pub returns-clause-behind : goal.returns-clause-behind
+returns-clause-behind c =
+    let text = c.args.text.now in
+    let start = c.field_start.result in
+    let rest : List ℕ = take (length text - start) (drop start text) in
+    let found : Found text rest start c.field_end-end.result =
+    record { begins = c.field_start.ensures.value; from = rest_from text start; ends = c.field_end-end.ensures.value } in
+    rw c.split_at.ensures.back (behind_found text rest start c.field_end-end.result found)

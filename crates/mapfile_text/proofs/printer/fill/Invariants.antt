@@ -1,5 +1,5 @@
 use Rattle.std.proofs.Common.{◌≡◌, ◌+◌, ◌-◌, ◌≤◌, ◌++◌, length}
-use Rattle.mapfile_text.specs.LeftOf.{number_of, parts, left_of}
+use Rattle.mapfile_text.specs.LeftOf.{parts_from, left_of}
 use Rattle.mapfile_text.proofs.printer.fill.Given as goal
 
 -- the piece so far and what is left are what was left
@@ -12,4 +12,4 @@ invariant-loop-state g l = record {
 -- the parts and the room that are left
 abbrev pub decreases-loop-state : goal.decreases-loop-state
 decreases-loop-state g l =
-    (length (parts l.heading l.state (g.T.Tiles.statuses l.tiles)) - number_of l.place.part) + (4096 - length l.out.items)
+    length (parts_from l.place.part l.heading l.state (g.T.Tiles.statuses l.tiles)) + (4096 - length l.out.items)

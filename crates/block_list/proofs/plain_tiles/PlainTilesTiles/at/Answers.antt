@@ -1,20 +1,4 @@
-use Rattle.std.proofs.Common.{◌+◌, ◌<◌, length, arith}
-use Rattle.std.specs.List.{flat_map}
-use Rattle.block_list.specs.Stretches.{covered}
-use Rattle.block_list.specs.Edits.{IsPlace}
-use Rattle.block_list.proofs.TileLemmas.{tiled_from_tiling}
-use Rattle.block_list.proofs.EditLemmas.{place_has}
 use Rattle.block_list.proofs.plain_tiles.PlainTilesTiles.at.Goals as goal
 
-pub overflow_add-x : goal.overflow_add-x
-overflow_add-x c =
-    let h : c.args.x < length (flat_map covered c.self.inside.blocks.items) = rw (← c.self.view_is) at c.requires in
-    omega (arith, (tiled_from_tiling _ c.self.invariant).short)
-
-pub begun_before-behind-requires-clause-tiled : goal.begun_before-behind-requires-clause-tiled
-begun_before-behind-requires-clause-tiled c = rw c.deref.ensures.value (tiled_from_tiling _ c.self.invariant)
-
 pub returns : goal.returns
-returns c =
-    let p : IsPlace c.self.inside.blocks.items (c.args.x + 1) c.begun_before-behind.result = rw c.deref.ensures.value at c.begun_before-behind.ensures in
-    rw (← c.self.view_is) (place_has _ _ _ _ (tiled_from_tiling _ c.self.invariant) p c.index.ensures)
+returns c = c.stretch_at.ensures.stretch.has _ c.stretch_at.ensures.begun c.stretch_at.ensures.holds

@@ -1,0 +1,33 @@
+-- What a text is found to be before memory is taken for its blocks.
+use Rattle.std.specs.Prelude.{◌≡◌, ◌⊎◌, ℕ, ◌+◌, ◌<◌, ◌≤◌, List, length}
+use Rattle.block_list.specs.declared.status.Status.{Status}
+use Rattle.mapfile_text.specs.declared.read.Mode.{Mode}
+use Rattle.mapfile_text.specs.declared.read.MapError.{MapError}
+use Rattle.mapfile_text.specs.declared.read.MapError.TheVariants.{TooLong}
+use Rattle.mapfile_text.specs.declared.check.MapShape.{MapShape}
+use Rattle.mapfile_text.specs.Lines.{Line, said}
+use Rattle.mapfile_text.specs.MapText.{text_limit, Lists, IsMapText, MapFault}
+
+-- a text is a map of this shape: its state, first position and whether a block is listed are those of the reading, its
+-- end is the number of positions, and its lines are those behind the status line that say something
+pub record IsMapShape (text : List ℕ) (mode : Mode) (shape : MapShape) : Type 0 where
+  pub statuses : List Status
+  pub reads : IsMapText text mode shape.state shape.first shape.listed statuses
+  pub end : shape.end ≡ length statuses
+  pub lines : shape.lines + 1 ≡ length (said text)
+
+-- block lines list statuses of this shape
+pub record ListsShape (mode : Mode) (ls : List Line) (shape : MapShape) : Type 0 where
+  pub statuses : List Status
+  pub lists : Lists mode ls shape.first shape.listed statuses
+  pub end : shape.end ≡ length statuses
+  pub lines : shape.lines ≡ length ls
+
+-- a text is a map
+abbrev pub IsMap : List ℕ → Mode → Type 0
+IsMap text mode = (shape : MapShape) × IsMapShape text mode shape
+
+-- why a text is refused: it is longer than the limit, or within it and no map
+abbrev pub IsRefused : List ℕ → Mode → MapError → Type 0
+IsRefused text mode e =
+    ((e ≡ TooLong) × (text_limit < length text)) ⊎ ((length text ≤ text_limit) × MapFault text mode e)
