@@ -5,8 +5,8 @@ use Rattle.std.proofs.lemmas.Bool.{cases_eq, cases_Bool, cond-true, cond-false, 
 use Rattle.std.proofs.lemmas.Slice.Eq.{bytes_eq-Decides}
 use Rattle.std.specs.Str.{bytes_eq}
 use mathlib.Core.Path.{fun_ext}
-use Rattle.crash_site.specs.declared.places.MemoryFile.{MemoryFile}
-use Rattle.crash_site.specs.declared.places.Place.{Place}
+use Rattle.crash_site.specs.declared.memory.places.MemoryFile.{MemoryFile}
+use Rattle.crash_site.specs.declared.memory.places.Place.{Place}
 use Rattle.crash_site.specs.Files.{File, put}
 use Rattle.crash_site.specs.Places.{file_of, files_of, name_and_file, IsPlaceOf}
 

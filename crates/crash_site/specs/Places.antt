@@ -1,7 +1,7 @@
 use Rattle.std.specs.Prelude.{◌≡◌, ℕ, ◌<◌, Bool, false, List, [], ◌∷◌, length, slice_index_or, Option, Some, None, if◌then◌else◌}
 use Rattle.std.specs.Str.{bytes_eq}
-use Rattle.crash_site.specs.declared.places.MemoryFile.{MemoryFile}
-use Rattle.crash_site.specs.declared.places.Place.{Place}
+use Rattle.crash_site.specs.declared.memory.places.MemoryFile.{MemoryFile}
+use Rattle.crash_site.specs.declared.memory.places.Place.{Place}
 use Rattle.crash_site.specs.Files.{File, empty_file}
 
 -- a file in memory as a file

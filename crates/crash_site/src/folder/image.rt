@@ -2,12 +2,12 @@ ghost use Rattle.std.specs.Prelude.{◌≡◌, true, false, IfOk, IsSome};
 ghost use Rattle.crash_site.specs.Files.{is_absent};
 
 use crate::folder::apart::check_input;
-use crate::folder::names::{folder_of, open_folder, open_with, sync_both};
+use crate::folder::names::{folder_for, folder_of, open_with, sync_both};
 use crate::site::ImageKind;
 use real_files::identity::{Identity, OpenInput};
-use real_files::outcome::if_there;
-use std::fs::{self, File, OpenOptions, TryLockError};
-use std::io::{self, ErrorKind};
+use real_files::outcome::{if_there, not_held};
+use std::fs::{self, File, OpenOptions};
+use std::io;
 
 /// An open image, and the folder in which it lies, where that could be opened.
 #[derive(Drop)]
@@ -31,25 +31,7 @@ impl OpenImage {
 
     /// Makes the image durable, and its entry.
     pub fn sync(&self) -> io::Result<()> {
-        sync_both(Some(&self.file), self.folder.as_ref())
-    }
-}
-
-/// Holds a file against another run. Where the file system has no locks nothing is held.
-fn hold(file: &File) -> io::Result<()> {
-    match file.try_lock() {
-        Err(TryLockError::WouldBlock) => Err(ErrorKind::WouldBlock.into()),
-        _ => Ok(()),
-    }
-}
-
-/// The folder of a file. One that can't be read can't be synced: that is an error where the file was made here, since
-/// its entry would not be durable.
-fn folder_for(rt: &HostRuntime, name: &str, made: bool) -> io::Result<Option<File>> {
-    match open_folder(rt, name) {
-        Ok(folder) => Ok(Some(folder)),
-        Err(error) if !made && error.kind() == ErrorKind::PermissionDenied => Ok(None),
-        Err(error) => Err(error),
+        sync_both(&self.file, self.folder.as_ref())
     }
 }
 
@@ -78,7 +60,7 @@ pub(super) fn open_image(
     let found = file.metadata()?;
     let identity = Identity::of(&found);
     check_input(input, identity)?;
-    hold(&file)?;
+    not_held(file.try_lock())?;
     Ok(Some(OpenImage {
         folder: folder_for(rt, name, made)?,
         file,

@@ -1,4 +1,5 @@
-ghost use Rattle.std.specs.Prelude.{◌≤◌, length, IfOk};
+ghost use Rattle.std.specs.Prelude.{◌≡◌, ◌⊎◌, ◌≤◌, ℕ, length, take, IfOk};
+ghost use Rattle.std.specs.Io.KnownBytes.{Consumes, IsAtEnd};
 ghost use Rattle.crash_site.specs.Files.{IsWithin};
 
 use crate::folder::apart::Apart;
@@ -6,7 +7,7 @@ use crate::site::MapRead;
 use real_files::outcome::if_there;
 use real_files::place::{Place, read_full};
 use std::fs::{self, File, Metadata};
-use std::io::{self, ErrorKind};
+use std::io::{self, ErrorKind, Read};
 
 /// A mapfile that is being read, under its name.
 #[derive(Drop)]
@@ -50,6 +51,16 @@ fn is_of(kept: &Option<OpenMap>, name: &str) -> bool {
     }
 }
 
+/// Reads a piece of a file that is there. Less than the buffer takes is its last one.
+fn read_piece<R: Read>(reader: &mut R, buf: &mut [u8]) -> io::Result<MapRead>
+    ensures { IfOk result (λ read. (n : ℕ) × (read ≡ MapRead.Bytes n) × (n ≤ length buf.old)
+        × Consumes (R.remaining reader.old) (R.remaining reader.new) (take n buf.new)
+        × ((n ≡ length buf.old) ⊎ IsAtEnd (R.remaining reader.new))) }
+{
+    let n = read_full(reader, buf)?;
+    Ok(MapRead::Bytes(n))
+}
+
 /// Reads a mapfile at a place. It is opened where its reading begins, and kept open for the reads that follow.
 pub(super) fn read_map(
     rt: &HostRuntime,
@@ -68,8 +79,7 @@ pub(super) fn read_map(
     let Some(map) = kept else {
         return Ok(MapRead::Absent);
     };
-    let n = read_full(&mut Place::new(&map.file, pos), buf)?;
-    Ok(MapRead::Bytes(n))
+    read_piece(&mut Place::new(&map.file, pos), buf)
 }
 
 pub(super) fn remove_map(rt: &HostRuntime, name: &str) -> io::Result<()> {

@@ -1,21 +1,32 @@
 use crate::folder::apart::Apart;
 use crate::folder::mapfile::find_map;
-use crate::folder::names::{folder_of, make_new, open_with, sync_both};
-use real_files::outcome::if_there;
+use crate::folder::names::{folder_for, folder_of, make_new, open_with, sync_both, sync_entries};
+use real_files::outcome::{if_there, removable};
 use std::fs::{self, File, OpenOptions};
 use std::io::{self, ErrorKind};
 
-/// Makes a mapfile durable that is there, and the entries of its folder, after it was asked whether it can be saved.
+/// Makes a mapfile durable that is there, and the entries of its name's folder, after it was asked whether it can be
+/// saved.
 pub(super) fn settle(rt: &HostRuntime, apart: &Apart<'_>, name: &str) -> io::Result<()> {
     ask_for_saves(rt, apart, name)?;
+    if find_map(rt, apart, name)?.is_some() {
+        settle_reached(rt, name)?;
+    }
+    sync_entries(&File::open(rt, folder_of(name))?)
+}
+
+/// Makes the file durable that a name reaches, and where the name is a link the entry to which it leads, which may lie
+/// in another folder.
+fn settle_reached(rt: &HostRuntime, name: &str) -> io::Result<()> {
     let mut rights = OpenOptions::new();
     rights.read(true);
-    let file = match find_map(rt, apart, name)? {
-        Some(_) => Some(open_with(rt, &rights, name)?),
-        None => None,
+    let file = open_with(rt, &rights, name)?;
+    let folder = if fs::symlink_metadata(rt, name)?.is_symlink() {
+        folder_for(rt, name, false)?
+    } else {
+        None
     };
-    let folder = File::open(rt, folder_of(name))?;
-    sync_both(file.as_ref(), Some(&folder))
+    sync_both(&file, folder.as_ref())
 }
 
 /// Whether a draft could be made beside a mapfile, and take its place. Nothing that stands there is lost.
@@ -43,9 +54,5 @@ fn ask_for_removal(rt: &HostRuntime, name: &str) -> io::Result<()> {
     if fs::symlink_metadata(rt, name)?.is_dir() {
         return Err(ErrorKind::IsADirectory.into());
     }
-    match fs::remove_dir(rt, name) {
-        Err(error) if error.kind() == ErrorKind::NotADirectory => Ok(()),
-        Err(error) => Err(error),
-        Ok(()) => Err(ErrorKind::NotFound.into()),
-    }
+    removable(fs::remove_dir(rt, name))
 }
