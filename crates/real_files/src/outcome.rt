@@ -1,7 +1,8 @@
 //! What the outcome of a call of the system means.
-ghost use Rattle.std.specs.Prelude.{◌≡◌, ◌≢◌, ◌⊎◌, ◌↔◌, Ok, None, Some, IsOk, IsErr, IsErrAnd, IfOk, IfErr};
+ghost use Rattle.std.specs.Prelude.{◌≡◌, ◌≢◌, ◌⊎◌, ◌↔◌, true, false, Ok, Err, None, Some, IsOk, IsErr, IsErrAnd, IfOk, IfErr};
 ghost use Rattle.std.specs.IoError.{error_kind};
 
+use std::fs::TryLockError;
 use std::io::{self, ErrorKind};
 
 /// What was found, and None where nothing is there. Whatever else went wrong stays an error.
@@ -24,5 +25,41 @@ pub fn folder_synced(outcome: io::Result<()>) -> io::Result<()>
     match outcome {
         Err(error) if error.kind() == ErrorKind::InvalidInput => Ok(()),
         outcome => outcome,
+    }
+}
+
+/// What was opened, and None where it may not be opened and isn't needed. Whatever else went wrong stays an error.
+pub fn if_allowed<T>(outcome: io::Result<T>, needed: bool) -> io::Result<Option<T>>
+    ensures there { IfOk outcome (λ value. result ≡ Ok (Some value)) }
+    ensures denied { needed ≡ false → IfErr outcome (λ e. error_kind e ≡ ErrorKind.PermissionDenied → result ≡ Ok None) }
+    ensures needed { needed ≡ true → IsErr outcome → IsErr result }
+    ensures other { IfErr outcome (λ e. error_kind e ≢ ErrorKind.PermissionDenied → IsErr result) }
+{
+    match outcome {
+        Ok(value) => Ok(Some(value)),
+        Err(error) if !needed && error.kind() == ErrorKind::PermissionDenied => Ok(None),
+        Err(error) => Err(error),
+    }
+}
+
+/// Whether no other run holds a file. Where the file system has no locks nothing is held.
+pub fn not_held(outcome: Result<(), TryLockError>) -> io::Result<()>
+    ensures { IsErr result ↔ (outcome ≡ Err TryLockError.WouldBlock) }
+{
+    match outcome {
+        Err(TryLockError::WouldBlock) => Err(ErrorKind::WouldBlock.into()),
+        _ => Ok(()),
+    }
+}
+
+/// Whether what is no folder could be removed, after it was tried to remove it as a folder: the kernel looks at the
+/// rights first.
+pub fn removable(outcome: io::Result<()>) -> io::Result<()>
+    ensures { IsOk result ↔ IsErrAnd outcome (λ e. error_kind e ≡ ErrorKind.NotADirectory) }
+{
+    match outcome {
+        Err(error) if error.kind() == ErrorKind::NotADirectory => Ok(()),
+        Err(error) => Err(error),
+        Ok(()) => Err(ErrorKind::NotFound.into()),
     }
 }
