@@ -43,17 +43,3 @@ impl FaultCount {
         self.count
     }
 }
-
-#[cfg(test)]
-mod tests {
-    use super::*;
-
-    #[test]
-    fn counts_from_zero(rt: HostRuntime) {
-        let mut count = FaultCount::new();
-        assert_eq!(rt; count.get(), 0);
-        count.raise();
-        count.raise();
-        assert_eq!(rt; count.get(), 2);
-    }
-}

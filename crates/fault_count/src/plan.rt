@@ -48,20 +48,3 @@ impl FaultPlan {
         self.failing.contains(&self.made)
     }
 }
-
-#[cfg(test)]
-mod tests {
-    use super::*;
-    use std::test::Fail;
-
-    #[test]
-    fn fails_the_calls_that_it_was_told(rt: HostRuntime) -> Result<(), Fail> {
-        let mut plan = FaultPlan::new(rt.alloc());
-        plan.fail_call(3)?;
-        plan.fail_call(1)?;
-        for fails in [true, false, true, false] {
-            assert_eq!(rt; plan.count_call(), fails);
-        }
-        Ok(())
-    }
-}

@@ -1,8 +1,8 @@
 //! The system's clock and the program's standard streams. They tell their counts and no content.
-ghost use Rattle.std.specs.Prelude.{◌≡◌, ◌≢◌, ◌-◌, ◌/◌, ◌<◌, ◌≤◌, ◌^◌, min, false, [], length, take, OnOk, OnErr, IfOk, IfErr};
+ghost use Rattle.std.specs.Prelude.{◌≡◌, ◌≢◌, ◌+◌, ◌-◌, ◌/◌, ◌<◌, ◌≤◌, ◌^◌, min, max, false, [], length, take, IsSome, OnOk, OnErr, IfOk, IfErr};
 ghost use Rattle.std.specs.Io.KnownBytes.{Appends, Consumes, IsAtEnd};
 ghost use Rattle.std.specs.IoError.{error_kind};
-ghost use Rattle.std.specs.Time.{system_time_nanos};
+ghost use Rattle.std.specs.Time.{instant_nanos, system_time_nanos};
 ghost use Rattle.fault_count.specs.Counts.{HasCause};
 
 use crate::clock::Clock;
@@ -11,12 +11,22 @@ use crate::feed::{Feed, FeedFault};
 use fault_count::FaultCount;
 use real_files::place;
 use std::io::{self, ErrorKind, Read, Stderr, Stdin, Stdout, Write};
-use std::time::{SystemTime, UNIX_EPOCH};
+use std::time::{Instant, SystemTime, UNIX_EPOCH};
 
-/// The system's clock. Before 1970 it reads 0; where it can't be read its last reading is repeated, 0 at first.
+/// Where a clock began: the time of day then, in milliseconds since 1970, and the instant.
+#[derive(Clone, Copy)]
+struct Start {
+    time: u64,
+    at: Instant,
+}
+
+/// The system's clock. It reads the time of day once, at its first reading, and goes on from there by a clock that isn't
+/// set back; so it never goes back. A time before 1970 is taken for 1970. Where one of both clocks can't be read its
+/// last reading is repeated, 0 at first.
 #[derive(Drop)]
 pub struct SystemClock {
     rt: HostRuntime,
+    start: Option<Start>,
     last: u64,
 }
 
@@ -25,8 +35,31 @@ impl SystemClock {
     pub fn new(rt: HostRuntime) -> SystemClock
         ensures untold { (⟦<SystemClock as Clock>⟧.state result).tells ≡ false }
         ensures last { result.last ≡ 0 }
+        ensures start { result.start ≡ None }
     {
-        SystemClock { rt, last: 0 }
+        SystemClock {
+            rt,
+            start: None,
+            last: 0,
+        }
+    }
+
+    /// The next reading, which isn't below the last one. The clock begins with the first that both clocks give.
+    fn read(&mut self) -> u64
+        ensures later { self.old.last ≤ result }
+        ensures last { self.new.last ≡ result }
+        ensures start { IsSome self.old.start → self.new.start ≡ self.old.start }
+    {
+        let Ok(now) = Instant::now(&self.rt) else {
+            return self.last;
+        };
+        if self.start.is_none() {
+            self.start = start_of(SystemTime::now(&self.rt), now);
+        }
+        if let Some(start) = self.start {
+            self.last = reading_at(start, now, self.last);
+        }
+        self.last
     }
 }
 
@@ -40,17 +73,30 @@ fn milliseconds(time: SystemTime) -> u64
     }
 }
 
-/// The reading that an outcome stands for, after the last one. A time before 1970 is invalid data.
-fn reading_of(outcome: io::Result<SystemTime>, last: u64) -> u64
-    ensures read { IfOk outcome (λ time. result ≡ min (system_time_nanos time / 1_000_000) (2 ^ 64 - 1)) }
-    ensures early { IfErr outcome (λ e. error_kind e ≡ ErrorKind.InvalidData → result ≡ 0) }
-    ensures unread { IfErr outcome (λ e. error_kind e ≢ ErrorKind.InvalidData → result ≡ last) }
+/// Where a clock begins that reads this time of day at an instant. A time before 1970 is invalid data.
+fn start_of(day: io::Result<SystemTime>, at: Instant) -> Option<Start>
+    ensures read { IfOk day (λ time. result
+        ≡ Some (record { time = min (system_time_nanos time / 1_000_000) (2 ^ 64 - 1); at = at })) }
+    ensures early { IfErr day (λ e. error_kind e ≡ ErrorKind.InvalidData
+        → result ≡ Some (record { time = 0; at = at })) }
+    ensures unread { IfErr day (λ e. error_kind e ≢ ErrorKind.InvalidData → result ≡ None) }
 {
-    match outcome {
+    let time = match day {
         Ok(time) => milliseconds(time),
         Err(error) if error.kind() == ErrorKind::InvalidData => 0,
-        Err(_) => last,
-    }
+        Err(_) => return None,
+    };
+    Some(Start { time, at })
+}
+
+/// The reading at an instant of a clock that began there, but not below the last one.
+fn reading_at(start: Start, now: Instant, last: u64) -> u64
+    ensures { result ≡ max last
+        (min (start.time + (instant_nanos now - instant_nanos start.at) / 1_000_000) (2 ^ 64 - 1)) }
+{
+    let passed = now.duration_since(start.at).as_millis();
+    let passed = u64::try_from(passed).unwrap_or(u64::MAX);
+    last.max(start.time.saturating_add(passed))
 }
 
 impl Clock for SystemClock {
@@ -62,8 +108,7 @@ impl Clock for SystemClock {
     } };
 
     fn now_ms(&mut self) -> u64 {
-        self.last = reading_of(SystemTime::now(&self.rt), self.last);
-        self.last
+        self.read()
     }
 }
 
@@ -191,62 +236,5 @@ impl Feed for StdFeed {
             return Err(FeedFault);
         };
         Ok(count)
-    }
-}
-
-#[cfg(test)]
-mod tests {
-    use super::*;
-    use std::test::Fail;
-    use std::thread;
-    use std::time::Duration;
-
-    const YEAR_2020: u64 = 1_577_836_800_000;
-
-    const YEAR_2100: u64 = 4_102_444_800_000;
-
-    #[test]
-    fn clock_moves_on(rt: HostRuntime) -> Result<(), Fail> {
-        let mut clock = SystemClock::new(rt.clone()?);
-        let first = clock.now_ms();
-        assert!(rt; YEAR_2020 < first && first < YEAR_2100, "{first}");
-        thread::sleep(&rt, Duration::from_millis(20));
-        assert!(rt; first < clock.now_ms());
-        Ok(())
-    }
-
-    #[test]
-    fn streams_take_pieces(rt: HostRuntime) -> Result<(), Fail> {
-        let mut console = StdConsole::new(rt.clone()?);
-        for channel in [Channel::Out, Channel::Err] {
-            assert_eq!(rt; console.put(channel, b"a piece\n"), Ok(()), "{channel:?}");
-        }
-        Ok(())
-    }
-
-    /// Each second read is interrupted; the others give two bytes.
-    #[derive(Drop)]
-    struct Flaky {
-        calls: u64,
-    }
-
-    impl Read for Flaky {
-        fn read(&mut self, buf: &mut [u8]) -> io::Result<usize> {
-            self.calls = self.calls.wrapping_add(1);
-            if self.calls % 2 == 1 {
-                return Err(io::Error::from(ErrorKind::Interrupted));
-            }
-            let count = buf.len().min(2);
-            buf[..count].fill(b'x');
-            Ok(count)
-        }
-    }
-
-    #[test]
-    fn interrupted_read_is_made_again(rt: HostRuntime) -> Result<(), Fail> {
-        let mut buf = *b"----";
-        assert_eq!(rt; read_some(&mut Flaky { calls: 0 }, &mut buf)?, 2);
-        assert_eq!(rt; buf, *b"xx--");
-        Ok(())
     }
 }

@@ -1,5 +1,5 @@
 -- How a domain is kept: as intervals of positions.
-use Rattle.std.specs.Prelude.{ℕ, ◌+◌, ◌<◌, ◌≤◌, Bool, false, ◌&&◌, ◌||◌, nat_lt, nat_le, List, [], ◌∷◌}
+use Rattle.std.specs.Prelude.{◌≡◌, ℕ, ◌+◌, ◌<◌, ◌≤◌, Bool, false, ◌&&◌, ◌||◌, nat_lt, nat_le, List, [], ◌∷◌, Some, slice_get}
 use Rattle.block_list.specs.declared.block.Run.{Run}
 
 -- one of the intervals has x
@@ -11,3 +11,8 @@ covers (part ∷ parts) x = (nat_le part.from x && nat_lt x part.to) || covers p
 abbrev pub AreParts : ℕ → List Run → Type 0
 AreParts low [] = Unit {0}
 AreParts low (part ∷ parts) = (low ≤ part.from) × (part.from < part.to) × AreParts (part.to + 1) parts
+
+-- so many of them, counted from the first, end at or before x, and no others do
+pub record EndBy (parts : List Run) (n x : ℕ) : Type 0 where
+  pub ended : (i : ℕ) (part : Run) → i < n → slice_get parts i ≡ Some part → part.to ≤ x
+  pub others : (i : ℕ) (part : Run) → n ≤ i → slice_get parts i ≡ Some part → x < part.to

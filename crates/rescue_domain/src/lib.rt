@@ -3,4 +3,5 @@
 
 pub mod domain;
 pub mod laws;
+pub mod places;
 pub mod test_source;

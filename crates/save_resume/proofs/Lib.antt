@@ -8,3 +8,4 @@ pub mod MapLemmas
 pub mod BarrierLemmas
 pub mod ResumeLemmas
 pub mod AnswerLemmas
+pub mod ReadLemmas

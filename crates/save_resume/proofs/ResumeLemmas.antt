@@ -1,10 +1,11 @@
 -- What a resume answers, by what its mapfile was read as behind the barrier.
-use Rattle.std.proofs.Common.{◌≡◌, ℕ, IsTrue, List, [], map, Option, Some, None, Result, Ok, Err, ap, subst, inl, inr}
+use Rattle.std.proofs.Common.{◌≡◌, ℕ, Bool, IsTrue, List, [], Option, Some, None, Result, Ok, Err, refl, ap, ◌∙◌, subst, inl, inr}
 use Rattle.mapfile_text.specs.declared.read.Mode.{Mode}
 use Rattle.mapfile_text.specs.declared.read.Mode.TheVariants.{Tight}
 use Rattle.mapfile_text.specs.declared.read.ReadMap.{ReadMap}
 use Rattle.mapfile_text.specs.declared.read.MapError.{MapError}
 use Rattle.mapfile_text.specs.declared.read.MapError.TheVariants.{NoStatusLine, BadStatusLine, BadBlockLine, Gap, Overlap, TooLarge, TooLong, NoMemory as OutOfMemory}
+use Rattle.crash_site.specs.declared.site.SiteCall.{SiteCall}
 use Rattle.crash_site.specs.declared.site.SiteCall.TheVariants.{MapRead}
 use Rattle.crash_site.specs.Files.{File}
 use Rattle.crash_site.specs.Calls.{Entry, Made}
@@ -14,7 +15,7 @@ use Rattle.save_resume.specs.declared.load.ResumeFault.{ResumeFault}
 use Rattle.save_resume.specs.declared.load.ResumeFault.TheVariants.{Site, Map as Refused, NoMemory}
 use Rattle.save_resume.specs.MapNames.{MapNames}
 use Rattle.save_resume.specs.SaveStops.{disk_of}
-use Rattle.save_resume.specs.Resuming.{IsRefusedFor, IsLikeNone, NoFile, Silent, LoadEnded, Loads, refused_as, resumed_of, barrier_calls, Resumes, NothingPending, SettlesAll}
+use Rattle.save_resume.specs.Resuming.{IsRefusedFor, IsLikeNone, NoFile, Silent, LoadEnded, Loads, refused_as, resumed_of, barrier_calls, Resumes, NothingPending, SettlesAll, IsOfFile, ReadsAs, ResumesAs}
 use Rattle.save_resume.proofs.CallLemmas.{made_more, broke_back}
 use Rattle.save_resume.proofs.MapLemmas.{fault_is_blank}
 use Rattle.save_resume.proofs.BarrierLemmas.{idle_load, made_idle, broke_idle, nothing_pending, barrier_reads}
@@ -105,3 +106,34 @@ resumed_settled names read old mid new tells keeps keeps' made l =
     answer_settles names read old new
     (nothing_pending names old mid new tells keeps keeps' made
     (load_idle names.map Tight (files_in mid names.map) read mid new (l (rw keeps.tells tells))))
+
+-- a file that is read so is resumed so
+refused_so : (file : Option File) (e : MapError) → IsRefusedFor file Tight e → ResumesAs (refused_as e) file
+refused_so file NoStatusLine r = says_nothing file Tight r
+refused_so file (BadStatusLine line) r = (r, λ is. cc)
+refused_so file (BadBlockLine line) r = (r, λ is. cc)
+refused_so file (Gap line) r = (r, λ is. cc)
+refused_so file (Overlap line) r = (r, λ is. cc)
+refused_so file (TooLarge line) r = (r, λ is. cc)
+refused_so file TooLong r = (r, λ is. cc)
+refused_so file OutOfMemory r = (r, λ is. cc)
+
+answered_so : (file : Option File) (read : Result (Option ReadMap) ResumeFault) → ReadsAs Tight read file → ResumesAs (resumed_of read) file
+answered_so file (Ok None) is = NoFile is
+answered_so file (Ok (Some m)) is = is
+answered_so file (Err (Site call)) is = tt
+answered_so file (Err (Refused e)) is = refused_so file e is
+answered_so file (Err NoMemory) is = tt
+
+pub resumed_read : (names : MapNames) (read : Result (Option ReadMap) ResumeFault) (old mid : SiteState) → Keeps old mid
+    → Makes (barrier_calls names) old mid → IsOfFile (files_in mid names.map) mid.tells (ReadsAs Tight read)
+    → IsOfFile (files_in old names.map) old.tells (ResumesAs (resumed_of read))
+resumed_read names read old mid keeps made r = record {
+  file = r.file;
+  is_own = λ tells.
+      r.is_own (rw keeps.tells tells) ∙ ap (λ f. f names.map) (barrier_reads names old mid tells keeps made);
+  holds = answered_so r.file read r.holds;
+}
+
+pub unresumed : (own : Option File) (tells : Bool) (call : SiteCall) → IsOfFile own tells (ResumesAs (Err (Site call)))
+unresumed own tells call = record { file = own; is_own = λ told. refl; holds = tt }

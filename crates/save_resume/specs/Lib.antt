@@ -4,4 +4,5 @@ pub mod SaveStops
 pub mod Loading
 pub mod Text
 pub mod Resuming
+pub mod Named
 pub mod Laws

@@ -1,19 +1,19 @@
 -- What a mapfile is read as, alone and behind the barrier.
-use Rattle.std.specs.Prelude.{◌≡◌, ◌≢◌, ◌⊎◌, ⊤, ℕ, ◌<◌, ◌≤◌, ◌^◌, IsTrue, List, [], ◌∷◌, ◌++◌, length, Option, Some, None, Result, Ok, Err}
+use Rattle.std.specs.Prelude.{◌≡◌, ◌≢◌, ◌⊎◌, ⊤, ℕ, ◌<◌, ◌≤◌, ◌^◌, Bool, IsTrue, List, [], ◌∷◌, ◌++◌, length, Option, Some, None, Result, Ok, Err}
 use Rattle.fault_count.specs.Counts.{Rose}
 use Rattle.mapfile_text.specs.declared.read.Mode.{Mode}
 use Rattle.mapfile_text.specs.declared.read.Mode.TheVariants.{Tight}
 use Rattle.mapfile_text.specs.declared.read.ReadMap.{ReadMap}
 use Rattle.mapfile_text.specs.declared.read.MapError.{MapError}
-use Rattle.mapfile_text.specs.declared.read.MapError.TheVariants.{NoStatusLine, TooLong, NoMemory as OutOfMemory}
-use Rattle.mapfile_text.specs.MapText.{text_limit}
-use Rattle.mapfile_text.specs.MapText.{IsMapText, MapFault, Blank}
+use Rattle.mapfile_text.specs.declared.read.MapError.TheVariants.{NoStatusLine, NoMemory as OutOfMemory}
+use Rattle.mapfile_text.specs.MapText.{text_limit, IsMapText, Blank}
+use Rattle.mapfile_text.specs.Checking.{IsRefused}
 use Rattle.crash_site.specs.declared.site.SiteCall.{SiteCall}
 use Rattle.crash_site.specs.declared.site.SiteCall.TheVariants.{ImageSync, MapRead, MapSettle}
 use Rattle.crash_site.specs.Files.{File}
 use Rattle.crash_site.specs.Calls.{Call, Entry, Made, BrokeAt, image_sync, map_settle}
 use Rattle.crash_site.specs.Disk.{Disk, only}
-use Rattle.crash_site.specs.SiteState.{SiteState, Stays, files_in}
+use Rattle.crash_site.specs.SiteState.{SiteState}
 use Rattle.save_resume.specs.declared.load.ResumeFault.{ResumeFault}
 use Rattle.save_resume.specs.declared.load.ResumeFault.TheVariants.{Site, Map as Refused, NoMemory}
 use Rattle.save_resume.specs.declared.resume.Resumed.{Resumed}
@@ -33,8 +33,7 @@ pub record IsReadAs (file : Option File) (mode : Mode) (m : ReadMap) : Type 0 wh
 pub record IsRefusedFor (file : Option File) (mode : Mode) (e : MapError) : Type 0 where
   pub there : File
   pub is : file ≡ Some there
-  pub why : ((e ≡ TooLong) × (text_limit < length there.bytes))
-      ⊎ ((length there.bytes ≤ text_limit) × MapFault there.bytes mode e)
+  pub why : IsRefused there.bytes mode e
 
 -- no file is there, or one within the limit that says nothing
 pub data IsLikeNone (file : Option File) : Type 0 where
@@ -136,3 +135,25 @@ SettlesAll names (Ok r) old new = NothingPending names (disk_of old) (disk_of ne
 SettlesAll names (Err (Site call)) old new = call ≡ MapRead → NothingPending names (disk_of old) (disk_of new)
 SettlesAll names (Err (Refused e)) old new = NothingPending names (disk_of old) (disk_of new)
 SettlesAll names (Err NoMemory) old new = NothingPending names (disk_of old) (disk_of new)
+
+-- What is answered of a file: there is one of which it holds, which is the site's own where the site tells.
+pub record IsOfFile (own : Option File) (tells : Bool) (Holds : Option File → Type 0) : Type 0 where
+  pub file : Option File
+  pub is_own : IsTrue tells → file ≡ own
+  pub holds : Holds file
+
+-- what a load that answered this says of the file that it read
+abbrev pub ReadsAs : Mode → Result (Option ReadMap) ResumeFault → Option File → Type 0
+ReadsAs mode (Ok None) file = file ≡ None
+ReadsAs mode (Ok (Some m)) file = IsReadAs file mode m
+ReadsAs mode (Err (Site call)) file = ⊤
+ReadsAs mode (Err (Refused e)) file = IsRefusedFor file mode e
+ReadsAs mode (Err NoMemory) file = ⊤
+
+-- and a resume
+abbrev pub ResumesAs : Result Resumed ResumeFault → Option File → Type 0
+ResumesAs (Ok Fresh) file = IsLikeNone file
+ResumesAs (Ok (Map m)) file = IsReadAs file Tight m
+ResumesAs (Err (Site call)) file = ⊤
+ResumesAs (Err (Refused e)) file = IsRefusedFor file Tight e × (e ≢ NoStatusLine)
+ResumesAs (Err NoMemory) file = ⊤

@@ -1,7 +1,6 @@
 -- The text of a mapfile, as it is read piece by piece.
 use Rattle.std.specs.Prelude.{◌≡◌, ◌≢◌, ⊤, ℕ, ◌<◌, ◌≤◌, List, [], length, Option, Some}
 use Rattle.mapfile_text.specs.declared.read.Mode.{Mode}
-use Rattle.mapfile_text.specs.declared.read.MapError.{MapError}
 use Rattle.mapfile_text.specs.declared.read.MapError.TheVariants.{TooLong, NoMemory as OutOfMemory}
 use Rattle.mapfile_text.specs.MapText.{text_limit}
 use Rattle.mapfile_text.specs.MapText.{MapFault}

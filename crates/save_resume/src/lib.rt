@@ -4,10 +4,7 @@
 pub mod draft;
 pub mod laws;
 pub mod load;
+pub mod named;
 pub mod names;
 pub mod resume;
-#[cfg(test)]
-mod resume_tests;
 pub mod save;
-#[cfg(test)]
-mod save_tests;

@@ -3,7 +3,7 @@ ghost use Rattle.std.specs.Prelude.{◌≡◌, ◌≢◌, IsTrue, OnOk, IfErr};
 ghost use Rattle.mapfile_text.specs.declared.read.MapError.TheVariants.{NoStatusLine as Nothing};
 ghost use Rattle.crash_site.specs.SiteState.{files_in, Makes, Breaks, Stays};
 ghost use Rattle.save_resume.specs.declared.load.ResumeFault.TheVariants.{Map as Refused};
-ghost use Rattle.save_resume.specs.Resuming.{barrier_calls, IsResumeCall, resumed_of, Resumes, Counts, SettlesAll, ResumedWithinLimits};
+ghost use Rattle.save_resume.specs.Resuming.{barrier_calls, IsResumeCall, resumed_of, IsOfFile, ResumesAs, Resumes, Counts, SettlesAll, ResumedWithinLimits};
 
 use crate::load::{ResumeFault, load_map};
 use crate::names::Names;
@@ -53,6 +53,7 @@ pub fn resume<D: Site>(alloc: Global, site: &mut D, names: &Names) -> Result<Res
     ensures told { IsTrue (D.state site.old).tells
         → Resumes names.now (files_in (D.state site.old) names.now.map) result
         (D.state site.old).calls (D.state site.new).calls }
+    ensures read { IsOfFile (files_in (D.state site.old) names.now.map) (D.state site.old).tells (ResumesAs result) }
     ensures settled { IsTrue (D.state site.old).tells
         → SettlesAll names.now result (D.state site.old) (D.state site.new) }
     ensures counts { Counts result (D.state site.old).faults (D.state site.new).faults }

@@ -1,5 +1,5 @@
 -- What was read behind the barrier.
-use Rattle.save_resume.proofs.ResumeLemmas.{resumed_told, resumed_settled}
+use Rattle.save_resume.proofs.ResumeLemmas.{resumed_read, resumed_told, resumed_settled, unresumed}
 use Rattle.save_resume.proofs.resume.resume.Goals as goal
 
 pub returns-clause-told : goal.returns-clause-told
@@ -12,3 +12,11 @@ pub returns-clause-settled : goal.returns-clause-settled
 returns-clause-settled g c = λ tells.
     rw c.answer.ensures (resumed_settled c.args.names.now c.load_map.result _ _ _ tells c.in_default.ensures.stays.keeps c.load_map.ensures.stays.keeps
     c.in_default.ensures.made (rw c.map.ensures at c.load_map.ensures.told))
+
+pub returns-clause-read : goal.returns-clause-read
+returns-clause-read g c =
+    rw c.answer.ensures (resumed_read c.args.names.now c.load_map.result _ _ c.in_default.ensures.stays.keeps c.in_default.ensures.made
+    (rw c.map.ensures at c.load_map.ensures.read))
+
+pub returns-in-Err-clause-read : goal.returns-in-Err-clause-read
+returns-in-Err-clause-read g c = unresumed _ _ c.in-Err.call

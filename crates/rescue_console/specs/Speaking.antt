@@ -1,0 +1,66 @@
+-- What is said on a console, piece by piece, up to the first put that fails.
+use Rattle.std.specs.Prelude.{◌≡◌, ◌⊎◌, ℕ, Bool, true, false, IsTrue, List, [], ◌∷◌, ◌++◌}
+use Rattle.fault_count.specs.Plan.{counted}
+use Rattle.rescue_console.specs.declared.console.Channel.{Channel}
+use Rattle.rescue_console.specs.declared.console.Channel.TheVariants.{Out, Err}
+use Rattle.rescue_console.specs.ConsoleState.{ConsoleState, channel_of, Puts, PutsPart}
+
+-- a text for a channel
+pub record Piece : Type 0 where
+  pub channel : Channel
+  pub text : List ℕ
+
+-- a piece was put whole, by one put
+pub record PutsWhole (p : Piece) (old new : ConsoleState) : Type 0 where
+  pub puts : Puts p.channel p.text old new
+  pub one : IsTrue old.is_planned → new.plan ≡ counted old.plan
+
+-- a beginning of a piece was put, by one put that failed
+pub record PutsBroken (p : Piece) (old new : ConsoleState) : Type 0 where
+  pub puts : PutsPart p.channel p.text old new
+  pub one : IsTrue old.is_planned → new.plan ≡ counted old.plan
+
+-- Pieces are put in order, each by one put. One that fails is the last: behind it nothing is put, on neither channel.
+abbrev pub Speaks : List Piece → (old new : ConsoleState) → Type 0
+Speaks [] old new = new ≡ old
+Speaks (p ∷ ps) old new =
+    ((between : ConsoleState) × PutsWhole p old between × Speaks ps between new) ⊎ PutsBroken p old new
+
+-- The same of one who has been heard so far, or not: who isn't heard says nothing; who is heard stays so while each put
+-- succeeds.
+abbrev pub SpeaksOn : List Piece → (heard heard' : Bool) → (old new : ConsoleState) → Type 0
+SpeaksOn ps false heard' old new = (heard' ≡ false) × (new ≡ old)
+SpeaksOn [] true heard' old new = (heard' ≡ true) × (new ≡ old)
+SpeaksOn (p ∷ ps) true heard' old new =
+    ((between : ConsoleState) × PutsWhole p old between × SpeaksOn ps true heard' between new)
+    ⊎ ((heard' ≡ false) × PutsBroken p old new)
+
+-- the text of a piece on a channel, which is empty on the other one
+abbrev pub text_on : Channel → (channel : Channel) → List ℕ → List ℕ
+text_on Out Out text = text
+text_on Out Err text = []
+text_on Err Out text = []
+text_on Err Err text = text
+
+-- the texts of pieces on a channel, joined
+abbrev pub texts_on : Channel → List Piece → List ℕ
+texts_on channel [] = []
+texts_on channel (p ∷ ps) = text_on channel p.channel p.text ++ texts_on channel ps
+
+-- What is said in two parts, one behind the other, is said together.
+abbrev pub SpeechesJoin : Type 0
+SpeechesJoin = (ps qs : List Piece) (h h' h'' : Bool) (a b c : ConsoleState) → SpeaksOn ps h h' a b
+    → SpeaksOn qs h' h'' b c → SpeaksOn (ps ++ qs) h h'' a c
+
+-- Who is heard at first speaks.
+abbrev pub HeardSpeak : Type 0
+HeardSpeak = (ps : List Piece) (h' : Bool) (a b : ConsoleState) → SpeaksOn ps true h' a b → Speaks ps a b
+
+-- One piece is said by one put.
+abbrev pub OnePieceIsSaid : Type 0
+OnePieceIsSaid = (p : Piece) (a b : ConsoleState) → PutsWhole p a b → SpeaksOn (p ∷ []) true true a b
+
+-- Who is heard at last has put all of it: behind what stood on a channel stand the texts for it.
+abbrev pub SpokenIsPut : Type 0
+SpokenIsPut = (ps : List Piece) (a b : ConsoleState) → SpeaksOn ps true true a b → IsTrue a.tells
+    → (channel : Channel) → (channel_of channel b).text ≡ (channel_of channel a).text ++ texts_on channel ps

@@ -1,0 +1,22 @@
+//! What the definitions mean.
+ghost use Rattle.rescue_console.specs.Speaking.{HeardSpeak, OnePieceIsSaid, SpeechesJoin, SpokenIsPut};
+
+/// What is said in two parts, one behind the other, is said together.
+pub fn speeches_join()
+    ensures { SpeechesJoin }
+{}
+
+/// Who is heard at first speaks.
+pub fn who_is_heard_speaks()
+    ensures { HeardSpeak }
+{}
+
+/// A piece that is put whole by one put is said.
+pub fn one_piece_is_said()
+    ensures { OnePieceIsSaid }
+{}
+
+/// What is said and heard to its end stands on the channels, each text behind the one before.
+pub fn what_is_spoken_is_put()
+    ensures { SpokenIsPut }
+{}
