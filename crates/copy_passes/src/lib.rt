@@ -2,6 +2,4 @@
 #![tactic(auto)]
 
 pub mod copy;
-#[cfg(test)]
-mod copy_tests;
 pub mod laws;

@@ -5,6 +5,7 @@ pub mod PassLemmas
 pub mod PlaceLemmas
 pub mod PrepareLemmas
 pub mod RequestLemmas
+pub mod RoomLemmas
 pub mod RunningLemmas
 pub mod SaveLemmas
 pub mod StageLemmas

@@ -1,5 +1,5 @@
 -- What a map is prepared to, one status after the other.
-use Rattle.std.proofs.Common.{◌≡◌, ◌⊎◌, ℕ, zero, suc, ◌+◌, ◌-◌, ◌<◌, ◌≤◌, Bool, true, false, ◌&&◌, nat_lt, if◌then◌else◌, List, [], ◌∷◌, length, Some, Result, Ok, Err, OnErr, refl, sym, ◌∙◌, arith, inl, inr, ⊎_elim}
+use Rattle.std.proofs.Common.{◌≡◌, ℕ, zero, suc, ◌+◌, ◌-◌, ◌<◌, ◌≤◌, Bool, true, false, ◌&&◌, nat_lt, if◌then◌else◌, List, [], ◌∷◌, length, Some, refl, sym, ◌∙◌, arith, inl, inr, ⊎_elim}
 use Rattle.std.specs.List.{slice_get}
 use Rattle.std.proofs.lemmas.Bool.{cases_lt}
 use Rattle.std.proofs.lemmas.Bool.Decides.{nat_tests}
@@ -11,7 +11,7 @@ use Rattle.block_list.specs.Map.{Has, marked}
 use Rattle.block_list.specs.Places.{IsFirst, IsRunUp}
 use Rattle.block_list.proofs.Places.{length-marked}
 use Rattle.block_list.proofs.StretchLemmas.{equal_from_same}
-use Rattle.rescue_rules.specs.Preparation.{tried_again, trimmed_again, if_asked, prepared_status, changed_from, IsChanged, IsPartlyChanged}
+use Rattle.rescue_rules.specs.Preparation.{if_asked, prepared_status, changed_from, IsChanged}
 use Rattle.rescue_rules.proofs.MarkLemmas.{marked_inside, marked_outside}
 use Rattle.rescue_rules.proofs.PreparationLemmas.{length_changed}
 use Rattle.rescue_core.specs.Search.{IsMarked}
@@ -75,79 +75,43 @@ module _ (domain : ℕ → Bool) (f g h : Status → Status) (e : (s : Status) �
     each = λ x s l. rw (← both_asked (domain x) f g h e s) (q.each x (if_asked (domain x) f s) (p.each x s l));
   }
 
--- a change leaves a status, or makes of it what another does
-abbrev pub IsPartOf : (f h : Status → Status) → Type 0
-IsPartOf f h = (s : Status) → (f s ≡ s) ⊎ (f s ≡ h s)
+-- what is prepared, one status after the other
+pub prepared_parted : (again retrim : Bool) (s : Status)
+    → replaced BadSector (prepared_status again retrim BadSector)
+    (replaced NonScraped (prepared_status again retrim NonScraped)
+    (replaced NonTrimmed (prepared_status again retrim NonTrimmed) s)) ≡ prepared_status again retrim s
+prepared_parted false false NonTried = refl
+prepared_parted false false NonTrimmed = refl
+prepared_parted false false NonScraped = refl
+prepared_parted false false BadSector = refl
+prepared_parted false false Finished = refl
+prepared_parted false true NonTried = refl
+prepared_parted false true NonTrimmed = refl
+prepared_parted false true NonScraped = refl
+prepared_parted false true BadSector = refl
+prepared_parted false true Finished = refl
+prepared_parted true false NonTried = refl
+prepared_parted true false NonTrimmed = refl
+prepared_parted true false NonScraped = refl
+prepared_parted true false BadSector = refl
+prepared_parted true false Finished = refl
+prepared_parted true true NonTried = refl
+prepared_parted true true NonTrimmed = refl
+prepared_parted true true NonScraped = refl
+prepared_parted true true BadSector = refl
+prepared_parted true true Finished = refl
 
-either_asked : (b : Bool) (f h : Status → Status) → IsPartOf f h → (s : Status)
-    → (if_asked b f s ≡ s) ⊎ (if_asked b f s ≡ if_asked b h s)
-either_asked true f h e s = e s
-either_asked false f h e s = inl refl
-
-module _ (domain : ℕ → Bool) (f h : Status → Status) (e : IsPartOf f h) where
-  pub partly_wider : (old new : List Status) → IsPartlyChanged domain f old new → IsPartlyChanged domain h old new
-  partly_wider old new p = record {
-    size = p.size;
-    each = λ x s l. ⊎_elim
-        (λ (u : Has new s x). inl u)
-        (λ (u : Has new (if_asked (domain x) f s) x). ⊎_elim
-        (λ (v : if_asked (domain x) f s ≡ s). inl (rw v at u))
-        (λ (v : if_asked (domain x) f s ≡ if_asked (domain x) h s). inr (rw v at u))
-        (either_asked (domain x) f h e s))
-        (p.each x s l);
-  }
-
-  pub partly_behind : (g : Status → Status) → ((s : Status) → g (f s) ≡ h s) → (old mid new : List Status)
-      → IsChanged domain f old mid → IsPartlyChanged domain g mid new → IsPartlyChanged domain h old new
-  partly_behind g k old mid new c p = record {
-    size = p.size ∙ c.size;
-    each = λ x s l. ⊎_elim
-        (λ (u : Has new (if_asked (domain x) f s) x). ⊎_elim
-        (λ (v : if_asked (domain x) f s ≡ s). inl (rw v at u))
-        (λ (v : if_asked (domain x) f s ≡ if_asked (domain x) h s). inr (rw v at u))
-        (either_asked (domain x) f h e s))
-        (λ (u : Has new (if_asked (domain x) g (if_asked (domain x) f s)) x).
-        inr (rw (both_asked (domain x) f g h k s) at u))
-        (p.each x (if_asked (domain x) f s) (c.each x s l));
-  }
-
--- the parts of trying again and of trimming again
-pub again_parted : (s : Status) → replaced NonScraped NonTried (replaced NonTrimmed NonTried s) ≡ tried_again s
-again_parted NonTried = refl
-again_parted NonTrimmed = refl
-again_parted NonScraped = refl
-again_parted BadSector = refl
-again_parted Finished = refl
-
-pub again_first : IsPartOf (replaced NonTrimmed NonTried) tried_again
-again_first NonTried = inl refl
-again_first NonTrimmed = inr refl
-again_first NonScraped = inl refl
-again_first BadSector = inl refl
-again_first Finished = inl refl
-
-pub trim_parted : (s : Status) → replaced BadSector NonTrimmed (replaced NonScraped NonTrimmed s) ≡ trimmed_again s
-trim_parted NonTried = refl
-trim_parted NonTrimmed = refl
-trim_parted NonScraped = refl
-trim_parted BadSector = refl
-trim_parted Finished = refl
-
-pub trim_first : IsPartOf (replaced NonScraped NonTrimmed) trimmed_again
-trim_first NonTried = inl refl
-trim_first NonTrimmed = inl refl
-trim_first NonScraped = inr refl
-trim_first BadSector = inl refl
-trim_first Finished = inl refl
-
-pub prepared_first : (again retrim : Bool) → IsPartOf (if_asked again tried_again) (prepared_status again retrim)
-prepared_first false retrim s = inl refl
-prepared_first true false s = inr refl
-prepared_first true true NonTried = inl refl
-prepared_first true true NonTrimmed = inr refl
-prepared_first true true NonScraped = inr refl
-prepared_first true true BadSector = inl refl
-prepared_first true true Finished = inl refl
+module _ (domain : ℕ → Bool) (again retrim : Bool) (trimmed scraped bad : Status)
+    (a : trimmed ≡ prepared_status again retrim NonTrimmed) (b : scraped ≡ prepared_status again retrim NonScraped)
+    (c : bad ≡ prepared_status again retrim BadSector) where
+  pub prepared_by_parts : (old first second new : List Status) → IsChanged domain (replaced NonTrimmed trimmed) old first
+      → IsChanged domain (replaced NonScraped scraped) first second → IsChanged domain (replaced BadSector bad) second new
+      → IsChanged domain (prepared_status again retrim) old new
+  prepared_by_parts old first second new f s n =
+      changed_both domain (replaced NonTrimmed trimmed) (λ s. replaced BadSector bad (replaced NonScraped scraped s))
+      (prepared_status again retrim) (λ s. rw (a, b, c) (prepared_parted again retrim s)) old first new f
+      (changed_both domain (replaced NonScraped scraped) (replaced BadSector bad)
+      (λ s. replaced BadSector bad (replaced NonScraped scraped s)) (λ s. refl) first second new s n)
 
 -- the positions of a set in front of one
 abbrev pub below : (ℕ → Bool) → ℕ → ℕ → Bool
@@ -156,7 +120,7 @@ below domain at x = domain x && nat_lt x at
 below_is : (domain : ℕ → Bool) (at x : ℕ) → x < at → below domain at x ≡ domain x
 below_is domain at x l = grind (arith, nat_tests)
 
-below_not : (domain : ℕ → Bool) (at x : ℕ) → at ≤ x → below domain at x ≡ false
+pub below_not : (domain : ℕ → Bool) (at x : ℕ) → at ≤ x → below domain at x ≡ false
 below_not domain at x l = grind (arith, nat_tests)
 
 -- a status that isn't replaced
@@ -179,7 +143,7 @@ was_replaced Finished to = refl
 
 -- of a domain, the positions in front of one have a status replaced
 module _ (domain : ℕ → Bool) (from to : Status) (at : ℕ) (old mid : List Status) (i : IsChanged (below domain at) (replaced from to) old mid) where
-  as_it_was : (x : ℕ) (s : Status) → at ≤ x → Has old s x → Has mid s x
+  pub as_it_was : (x : ℕ) (s : Status) → at ≤ x → Has old s x → Has mid s x
   as_it_was x s l h = rw (below_not domain at x l) at (i.each x s h)
 
   as_changed : (x : ℕ) (s : Status) → x < at → Has old s x → Has mid (if_asked (domain x) (replaced from to) s) x
@@ -193,15 +157,6 @@ module _ (domain : ℕ → Bool) (from to : Status) (at : ℕ) (old mid : List S
         (λ (l : at ≤ x).
         let m = as_it_was x s l h in
         rw (left_alone (domain x) from to s (λ d e. none x l (record { within = d; has = rw e at m }))) m)
-        (cases_lt x at);
-  }
-
-  pub replaced_partly : IsPartlyChanged domain (replaced from to) old mid
-  replaced_partly = record {
-    size = i.size;
-    each = λ x s h. ⊎_elim
-        (λ (l : x < at). inr (as_changed x s l h))
-        (λ (l : at ≤ x). inl (as_it_was x s l h))
         (cases_lt x at);
   }
 
@@ -247,8 +202,3 @@ none_replaced domain from to map = record {
   size = refl;
   each = λ x s h. rw (below_not domain 0 x (omega arith)) h;
 }
-
--- what holds at an error, where it holds anyway
-pub on_err : {A E : Type 0} (P : Type 0) (result : Result A E) → P → OnErr result P
-on_err P (Ok a) p = tt
-on_err P (Err e) p = p

@@ -25,7 +25,7 @@ use rescue_console::clock::Clock;
 use rescue_console::console::Console;
 use rescue_domain::domain::Domain;
 use rescue_rules::phase::Phase;
-use rescue_rules::stop::{RunEnd, Stop, TrimMode};
+use rescue_rules::stop::{RunEnd, Stop};
 use save_resume::names::Names;
 use std::alloc::Global;
 use std::marker::Model;
@@ -225,13 +225,6 @@ impl<P: Stage, T: Tiles> Rescue<P, T> {
         self.running.tiles()
     }
 
-    /// Where its pass stands in the map, in bytes.
-    pub fn cursor(&self) -> u64
-        ensures { result ≡ self.now.machine.cursor }
-    {
-        self.running.cursor()
-    }
-
     /// The phase of its pass.
     pub fn phase(&self) -> Phase
         ensures { result ≡ self.now.phase }
@@ -244,13 +237,6 @@ impl<P: Stage, T: Tiles> Rescue<P, T> {
         ensures { result ≡ self.now.pass }
     {
         self.running.pass()
-    }
-
-    /// Whether trimming stands before a run or at its back.
-    pub fn mode(&self) -> TrimMode
-        ensures { result ≡ self.now.machine.mode }
-    {
-        self.running.mode()
     }
 
     /// The next request of its pass.

@@ -1,9 +1,9 @@
 //! What is made of a map before a run.
-ghost use Rattle.std.specs.Prelude.{◌≡◌, ℕ, Bool, List, OnOk, OnErr};
+ghost use Rattle.std.specs.Prelude.{◌≡◌, ℕ, ◌+◌, ◌*◌, ◌≤◌, Bool, List, OnOk, OnErr, IfOk};
 ghost use Rattle.block_list.specs.declared.status.Status.{Status};
 ghost use Rattle.rescue_domain.specs.Parts.{covers};
-ghost use Rattle.rescue_rules.specs.Preparation.{tried_again, trimmed_again, if_asked, prepared_status, prepared, IsChanged, IsPartlyChanged};
-ghost use Rattle.rescue_core.specs.Preparing.{replaced};
+ghost use Rattle.rescue_rules.specs.Preparation.{prepared_status, prepared, IsChanged};
+ghost use Rattle.rescue_core.specs.Preparing.{replaced, HasChanges, HasRoom, TakesRoom};
 
 use crate::search::find_up;
 use block_list::status::Status;
@@ -11,7 +11,7 @@ use block_list::tiles::{NoMemory, Tiles};
 use rescue_domain::domain::Domain;
 
 /// Prepares a map for a run over a domain. `again` leaves to copy what was left to trim or to scrape; then `retrim`
-/// leaves to trim what failed. Where memory for more blocks wasn't there, a part of that is done.
+/// leaves to trim what failed. All memory for more blocks is taken before the first change.
 pub fn prepare<T: Tiles>(
     tiles: &mut T,
     domain: &Domain,
@@ -20,11 +20,18 @@ pub fn prepare<T: Tiles>(
 ) -> Result<(), NoMemory>
     ensures prepared { OnOk result (T.statuses tiles.new
         ≡ prepared (covers domain.now) again retrim (T.statuses tiles.old)) }
-    ensures partly { OnErr result (IsPartlyChanged (covers domain.now) (prepared_status again retrim)
-        (T.statuses tiles.old) (T.statuses tiles.new)) }
+    ensures unchanged { OnErr result (T.statuses tiles.new ≡ T.statuses tiles.old) }
 {
-    try_again(tiles, domain, again)?;
-    trim_again(tiles, domain, retrim)?;
+    let trimmed = prepared_to(again, retrim, Status::NonTrimmed);
+    let scraped = prepared_to(again, retrim, Status::NonScraped);
+    let bad = prepared_to(again, retrim, Status::BadSector);
+    let room = room_behind(tiles, domain, Status::NonTrimmed, trimmed, 0)?;
+    let room = room_behind(tiles, domain, Status::NonScraped, scraped, room)?;
+    let room = room_behind(tiles, domain, Status::BadSector, bad, room)?;
+    tiles.reserve(room)?;
+    replace(tiles, domain, Status::NonTrimmed, trimmed);
+    replace(tiles, domain, Status::NonScraped, scraped);
+    replace(tiles, domain, Status::BadSector, bad);
     Ok(())
 }
 
@@ -34,103 +41,52 @@ pub fn preparation_goes_by_position()
         → IsChanged domain (prepared_status again retrim) map (prepared domain again retrim map) }
 {}
 
-/// Where it is asked for, leaves to copy what was left to trim or to scrape.
-fn try_again<T: Tiles>(tiles: &mut T, domain: &Domain, asked: bool) -> Result<(), NoMemory>
-    ensures changed { OnOk result (IsChanged (covers domain.now) (if_asked asked tried_again)
-        (T.statuses tiles.old) (T.statuses tiles.new)) }
-    ensures partly { OnErr result (IsPartlyChanged (covers domain.now) (if_asked asked tried_again)
-        (T.statuses tiles.old) (T.statuses tiles.new)) }
+/// What becomes of a status in a domain.
+fn prepared_to(again: bool, retrim: bool, status: Status) -> Status
+    ensures { result ≡ prepared_status again retrim status }
 {
-    if !asked {
-        return Ok(());
+    match status {
+        Status::NonTrimmed | Status::NonScraped if again => Status::NonTried,
+        Status::NonScraped | Status::BadSector if retrim => Status::NonTrimmed,
+        _ => status,
     }
-    replace(tiles, domain, Status::NonTrimmed, Status::NonTried)?;
-    replace(tiles, domain, Status::NonScraped, Status::NonTried)?;
-    Ok(())
 }
 
-/// Where it is asked for, leaves to trim what failed.
-fn trim_again<T: Tiles>(tiles: &mut T, domain: &Domain, asked: bool) -> Result<(), NoMemory>
-    ensures changed { OnOk result (IsChanged (covers domain.now) (if_asked asked trimmed_again)
-        (T.statuses tiles.old) (T.statuses tiles.new)) }
-    ensures partly { OnErr result (IsPartlyChanged (covers domain.now) (if_asked asked trimmed_again)
-        (T.statuses tiles.old) (T.statuses tiles.new)) }
-{
-    if !asked {
-        return Ok(());
-    }
-    replace(tiles, domain, Status::NonScraped, Status::NonTrimmed)?;
-    replace(tiles, domain, Status::BadSector, Status::NonTrimmed)?;
-    Ok(())
-}
-
-/// Gives the positions of a domain that have one status another.
-fn replace<T: Tiles>(
-    tiles: &mut T,
+/// The blocks that giving the positions of a domain with one status another may take, beside others.
+fn room_behind<T: Tiles>(
+    tiles: &T,
     domain: &Domain,
     from: Status,
     to: Status,
-) -> Result<(), NoMemory>
-    ensures changed { OnOk result (IsChanged (covers domain.now) (replaced from to) (T.statuses tiles.old)
-        (T.statuses tiles.new)) }
-    ensures partly { OnErr result (IsPartlyChanged (covers domain.now) (replaced from to) (T.statuses tiles.old)
-        (T.statuses tiles.new)) }
+    others: usize,
+) -> Result<usize, NoMemory>
+    ensures { IfOk result (TakesRoom (covers domain.now) (T.statuses tiles.now) from to others) }
 {
+    if from.is(to) {
+        return Ok(others);
+    }
+    let mut room = others;
     let mut at = 0;
     while let Some(run) = find_up(domain, tiles, at, from) {
-        tiles.reserve(2)?;
-        tiles.set(run.from, run.to - run.from, to);
+        room = room.checked_add(2).ok_or(NoMemory)?;
         at = run.to;
     }
-    Ok(())
+    Ok(room)
 }
 
-#[cfg(test)]
-mod tests {
-    use super::*;
-    use block_list::block::Block;
-    use block_list::plain_tiles::PlainTiles;
-    use std::alloc::Global;
-    use std::test::Fail;
-
-    /// Ten positions of each status, in the order of the statuses.
-    fn map_of_all(alloc: Global) -> Result<PlainTiles, Fail> {
-        let mut tiles = PlainTiles::new(alloc);
-        let statuses = [
-            Status::NonTried,
-            Status::NonTrimmed,
-            Status::NonScraped,
-            Status::BadSector,
-            Status::Finished,
-        ];
-        for status in statuses {
-            let pos = tiles.end();
-            tiles.push(Block {
-                pos,
-                size: 10,
-                status,
-            })?;
-        }
-        Ok(tiles)
+/// Gives the positions of a domain that have one status another.
+fn replace<T: Tiles>(tiles: &mut T, domain: &Domain, from: Status, to: Status)
+    requires room { HasRoom (covers domain.now) (T.statuses tiles.old) from to (T.spare tiles.old) }
+    ensures changed { IsChanged (covers domain.now) (replaced from to) (T.statuses tiles.old) (T.statuses tiles.new) }
+    ensures spare { (runs : ℕ) → HasChanges (covers domain.now) (T.statuses tiles.old) from to runs
+        → T.spare tiles.old ≤ T.spare tiles.new + 2 * runs }
+{
+    if from.is(to) {
+        return;
     }
-
-    #[test]
-    fn a_domain_is_prepared(rt: HostRuntime) -> Result<(), Fail> {
-        let cases = [
-            (false, false, b"?**//--+"),
-            (true, false, b"?*???--+"),
-            (false, true, b"?*****-+"),
-            (true, true, b"?*???*-+"),
-        ];
-        for (again, retrim, want) in cases {
-            let mut tiles = map_of_all(rt.alloc())?;
-            let domain = Domain::whole(rt.alloc(), 15, Some(20), 50)?;
-            prepare(&mut tiles, &domain, again, retrim)?;
-            for (x, symbol) in [0, 14, 15, 20, 29, 34, 35, 49].into_iter().zip(want.iter()) {
-                assert!(rt; x < tiles.end());
-                assert_eq!(rt; tiles.at(x).symbol(), *symbol, "{again} {retrim} at {x}");
-            }
-        }
-        Ok(())
+    let mut at = 0;
+    while let Some(run) = find_up(domain, tiles, at, from) {
+        tiles.set(run.from, run.to - run.from, to);
+        at = run.to;
     }
 }

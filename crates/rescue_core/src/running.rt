@@ -30,7 +30,7 @@ use rescue_console::clock::Clock;
 use rescue_console::console::Console;
 use rescue_domain::domain::Domain;
 use rescue_rules::phase::Phase;
-use rescue_rules::stop::{RunEnd, Stop, TrimMode};
+use rescue_rules::stop::{RunEnd, Stop};
 use save_resume::draft::SaveFault;
 use save_resume::names::Names;
 use std::alloc::Global;
@@ -124,12 +124,6 @@ impl<T: Tiles> Running<T> {
         &self.tiles
     }
 
-    pub fn cursor(&self) -> u64
-        ensures { result ≡ self.now.machine.cursor }
-    {
-        self.place.cursor
-    }
-
     pub fn phase(&self) -> Phase
         ensures { result ≡ self.now.phase }
     {
@@ -140,12 +134,6 @@ impl<T: Tiles> Running<T> {
         ensures { result ≡ self.now.pass }
     {
         self.place.pass
-    }
-
-    pub fn mode(&self) -> TrimMode
-        ensures { result ≡ self.now.machine.mode }
-    {
-        self.place.mode
     }
 
     /// The next request of this pass.

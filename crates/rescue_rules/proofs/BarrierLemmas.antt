@@ -1,8 +1,8 @@
 -- What a stop may show behind the barrier, and what one before it may have left.
-use Rattle.std.proofs.Common.{◌≡◌, ℕ, true, List, Option, Some, None, refl, sym, ◌∙◌, ap}
+use Rattle.std.proofs.Common.{◌≡◌, ℕ, true, false, List, Option, Some, None, refl, sym, ◌∙◌, ap}
 use Rattle.std.specs.Str.{bytes_eq}
 use Rattle.std.proofs.lemmas.Bool.{cond-true}
-use Rattle.crash_site.specs.Files.{File, empty_file, bytes_of}
+use Rattle.crash_site.specs.Files.{File, empty_file, bytes_of, kind_of}
 use Rattle.crash_site.specs.Calls.{Done, image_open, image_sync, map_settle}
 use Rattle.crash_site.specs.Folder.{Folder, opened}
 use Rattle.crash_site.specs.Disk.{Disk, only, entered}
@@ -22,6 +22,10 @@ opened_file (Some f) = f
 pub opened_bytes : (o : Option File) → (opened_file o).bytes ≡ bytes_of o
 opened_bytes None = refl
 opened_bytes (Some f) = refl
+
+opened_kind : (o : Option File) → kind_of (Some (opened_file o)) false ≡ kind_of o true
+opened_kind None = refl
+opened_kind (Some f) = refl
 
 pub opened_image : (d : Folder) (name : List ℕ) (o : Option File) → (opened d name true o).image ≡ Some name
 opened_image d name None = refl
@@ -86,3 +90,9 @@ pub barrier_output : (s : Setting) (d : Disk)
 barrier_output s d =
     ap bytes_of (opened_own d.reads s.outfile (d.reads.files s.outfile) refl)
     ∙ opened_bytes (d.reads.files s.outfile)
+
+pub barrier_kind : (s : Setting) (d : Disk)
+    → kind_of ((at_barrier s d).reads.files s.outfile) false ≡ kind_of (d.reads.files s.outfile) true
+barrier_kind s d =
+    ap (λ (o : Option File). kind_of o false) (opened_own d.reads s.outfile (d.reads.files s.outfile) refl)
+    ∙ opened_kind (d.reads.files s.outfile)

@@ -4,7 +4,7 @@ use Rattle.std.specs.List.{list_any, count_by}
 use Rattle.std.proofs.lemmas.List.Elements.{All-head, All-tail}
 use Rattle.block_list.specs.declared.status.Status.{Status}
 use Rattle.mapfile_text.specs.declared.state.MapState.{MapState}
-use Rattle.crash_site.specs.Files.{File, bytes_of}
+use Rattle.crash_site.specs.Files.{File, bytes_of, kind_of}
 use Rattle.crash_site.specs.Calls.{Call, Entry, Done, Failed, map_read}
 use Rattle.crash_site.specs.Disk.{Disk, entered, disk_after}
 use Rattle.crash_site.specs.Left.{Leaves, in_part, until, MayBeLeft}
@@ -69,6 +69,7 @@ module _ (b : Behind) (s : Setting) (g : Gain) where
   none_safely = record {
     before = λ k files le left none. could_same b s.outfile files (left_none k files left);
     output = λ k files le left is none. absurd (none_taken k is);
+    there = λ k files le left is. absurd (none_taken k is);
     mapfile = λ k files le left is none. absurd (none_taken k is);
     kept = λ k files began state le left is stands. absurd (none_taken k is);
     others = λ k files name le left output mapfile draft. (files, left_before b files (left_none k files left), refl);
@@ -124,6 +125,13 @@ module _ (b : Behind) (s : Setting) (g : Gain) where
         h.output k files (omega (arith, le)) (left_later k files left) (sym (barrier_later k) ∙ is)
         (sym (write_later k) ∙ none)
 
+    there_by : (k : ℕ) (files : List ℕ → Option File) → k ≤ suc (length es) → Left (e ∷ es) k files
+        → has_barrier (take k (e ∷ es)) ≡ true
+        → kind_of (files s.outfile) false ≡ kind_of (files_before b s.outfile) true
+    there_by zero files le left is = absurd (cc)
+    there_by (suc k) files le left is =
+        h.there k files (omega (arith, le)) (left_later k files left) (sym (barrier_later k) ∙ is)
+
     mapfile_by : (k : ℕ) (files : List ℕ → Option File) → k ≤ suc (length es) → Left (e ∷ es) k files
         → has_barrier (take k (e ∷ es)) ≡ true → published (take (k + 1) (e ∷ es)) ≡ 0
         → files s.names.map ≡ files_before b s.names.map
@@ -152,7 +160,14 @@ module _ (b : Behind) (s : Setting) (g : Gain) where
 
     behind_one : Safely (e ∷ es)
     behind_one =
-        record { before = before_by; output = output_by; mapfile = mapfile_by; kept = kept_by; others = others_by }
+        record {
+          before = before_by;
+          output = output_by;
+          there = there_by;
+          mapfile = mapfile_by;
+          kept = kept_by;
+          others = others_by;
+        }
 
   -- So a rescue behind such reads stops safely where it does without them,
   pub behind_reads : (maps : List Call) (rest : List Entry) → AreMapReads maps → Safely rest

@@ -8,7 +8,7 @@ use Rattle.block_list.specs.Map.{Has}
 use Rattle.mapfile_text.specs.Pieces.{pieces_of}
 use Rattle.mapfile_text.proofs.PieceLemmas.{in_pieces}
 use Rattle.faulty_source.specs.Journal.{Reading, kept}
-use Rattle.crash_site.specs.Files.{File, empty_file, written, bytes_of}
+use Rattle.crash_site.specs.Files.{File, empty_file, written, bytes_of, kind_of}
 use Rattle.crash_site.specs.Calls.{Call, Done, Failed, image_write, image_sync, draft_begin, draft_append, draft_sync, draft_publish, map_settle}
 use Rattle.crash_site.specs.Disk.{Showing, Disk, only, or_this, entered}
 use Rattle.crash_site.specs.Left.{MayShow, Leaves}
@@ -53,8 +53,9 @@ pub record Next (c : Base) (statuses : List Status) : Type 0 where
 keeps_by : (a : RunPromise) (r p w n : ℕ) (statuses : List Status) (file : Option File) (g : File)
     (files : List ℕ → Option File) → r ≤ n → n ≤ p → files a.s.names.map ≡ file
     → IsSave a.mapfile a.began a.s.line a.saves n file statuses → files a.s.outfile ≡ Some g
-    → Held a.s a.reads a.start statuses g.bytes → (w ≡ 0 → g.bytes ≡ a.start) → Keeps a r p w files
-keeps_by a r p w n statuses file g files no_older no_newer map_is saved out_is held un = record {
+    → Held a.s a.reads a.start statuses g.bytes → (w ≡ 0 → g.bytes ≡ a.start) → kind_of (Some g) false ≡ a.kind
+    → Keeps a r p w files
+keeps_by a r p w n statuses file g files no_older no_newer map_is saved out_is held un there = record {
   number = n;
   no_older = no_older;
   no_newer = no_newer;
@@ -62,6 +63,7 @@ keeps_by a r p w n statuses file g files no_older no_newer map_is saved out_is h
   is_save = subst (λ (o : Option File). IsSave a.mapfile a.began a.s.line a.saves n o statuses) (sym map_is) saved;
   held = subst (λ (i : List ℕ). Held a.s a.reads a.start statuses i) (sym (ap bytes_of out_is)) held;
   unwritten = λ none. ap bytes_of out_is ∙ un none;
+  there = ap (λ (o : Option File). kind_of o false) out_is ∙ there;
 }
 
 shown_as : (d : Disk) (n : List ℕ) (v : Showing) (files : List ℕ → Option File) → d.shows n ≡ v → Leaves d files
@@ -75,7 +77,7 @@ holds_old c ok p w d good some map_is st files h =
     let f = stood_found c ok w (d.shows c.a.s.outfile) (files c.a.s.outfile) st (h c.a.s.outfile) in
     keeps_by c.a c.number p w c.number c.statuses c.mapfile f.0 files (omega arith) some
     (found_only c.mapfile (files c.a.s.names.map) (shown_as d c.a.s.names.map (only c.mapfile) files map_is h))
-    good.saved f.1 f.2.held f.2.unwritten
+    good.saved f.1 f.2.held f.2.unwritten f.2.there
 
 sure_stood : (c : Base) (w : ℕ) (d : Disk) → Sure d c.a.s.outfile (Some c.new) → StoodFile c w c.new
     → Stood c w (d.shows c.a.s.outfile)
@@ -104,10 +106,11 @@ unmoved_holds c statuses p w d good next some h files leaves =
     ⊎_elim
     (λ (was : MayShow (only c.mapfile) (files c.a.s.names.map)).
     keeps_by c.a c.number p w c.number c.statuses c.mapfile c.new files (omega arith) (omega (arith, some))
-    (found_only c.mapfile (files c.a.s.names.map) was) good.saved out_is h.stood.held h.stood.unwritten)
+    (found_only c.mapfile (files c.a.s.names.map) was) good.saved out_is h.stood.held h.stood.unwritten
+    h.stood.there)
     (λ (is : files c.a.s.names.map ≡ Some (text_file c.text)).
     keeps_by c.a c.number p w (suc c.number) statuses (Some (text_file c.text)) c.new files (omega arith) some is
-    next.saved out_is next.held h.stood.unwritten)
+    next.saved out_is next.held h.stood.unwritten h.stood.there)
     (or_found (Some (text_file c.text)) (only c.mapfile) (files c.a.s.names.map)
     (shown_as d c.a.s.names.map (or_this (Some (text_file c.text)) (only c.mapfile)) files h.shows leaves))
 
@@ -122,11 +125,11 @@ saved_base c statuses = record {
   new = empty_file;
 }
 
-settled_calm : (c : Base) (statuses : List Status) (w : ℕ) (d : Disk) → Next c statuses → (w ≡ 0 → c.new.bytes ≡ c.a.start)
+settled_calm : (c : Base) (statuses : List Status) (w : ℕ) (d : Disk) → Next c statuses → StoodFile c w c.new
     → Settled c d → Calm (saved_base c statuses) w c.new d
-settled_calm c statuses w d next un h =
+settled_calm c statuses w d next was h =
     let stood : StoodFile (saved_base c statuses) w c.new
-    = record { held = next.held; longer = next.longer; unwritten = un } in
+    = record { held = next.held; longer = next.longer; unwritten = was.unwritten; there = was.there } in
     record {
       image = h.image;
       map = record { shows = h.map.shows; reads = h.map.reads };
@@ -171,7 +174,7 @@ each_publish c ok statuses w d rest three good next h go =
           unmoved_holds c statuses (suc c.number) w d2 good next (omega arith) (moved_unmoved c w d2 h2),
           unmoved_holds c statuses (suc c.number) w d2 good next (omega arith) (moved_unmoved c w d2 h2),
           go (entered d2 (Done (map_settle c.a.s.names.map)))
-              (settled_calm c statuses w (entered d2 (Done (map_settle c.a.s.names.map))) next h2.stood.unwritten
+              (settled_calm c statuses w (entered d2 (Done (map_settle c.a.s.names.map))) next h2.stood
               (moved_settled c w d2 h2)),
         ),
       ),
@@ -205,7 +208,8 @@ each_save c ok statuses w d rest three good next h go =
 -- a run that has saved the same, and is about to save another text
 recast_file : (c : Base) (text : List ℕ) (new : File) (w : ℕ) (file : File) → StoodFile c w file
     → StoodFile (record c { text = text; new = new }) w file
-recast_file c text new w file h = record { held = h.held; longer = h.longer; unwritten = h.unwritten }
+recast_file c text new w file h =
+    record { held = h.held; longer = h.longer; unwritten = h.unwritten; there = h.there }
 
 recast_stood : (c : Base) (text : List ℕ) (new : File) (w : ℕ) (v : Showing) → Stood c w v
     → Stood (record c { text = text; new = new }) w v

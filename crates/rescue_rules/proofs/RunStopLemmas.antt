@@ -1,9 +1,9 @@
 -- A run behind a barrier keeps what was promised at whatever moment it is stopped.
-use Rattle.std.proofs.Common.{◌≡◌, ℕ, suc, List, [], ◌∷◌, ◌++◌, length, take, refl, sym, ap, subst, arith}
+use Rattle.std.proofs.Common.{◌≡◌, ℕ, suc, false, List, Option, [], ◌∷◌, ◌++◌, length, take, refl, sym, ap, subst, arith}
 use Rattle.std.proofs.Math.Numerals.{add-one}
 use Rattle.std.specs.List.{count_by}
 use Rattle.block_list.specs.declared.status.Status.{Status}
-use Rattle.crash_site.specs.Files.{bytes_of, empty_file}
+use Rattle.crash_site.specs.Files.{File, bytes_of, empty_file, kind_of}
 use Rattle.crash_site.specs.Calls.{Call, Entry, Done, Failed}
 use Rattle.crash_site.specs.Disk.{Showing, Disk}
 use Rattle.rescue_rules.specs.Setting.{Setting, IsSensible}
@@ -64,6 +64,7 @@ first_calm s ok began m es d order alike run h =
                 (held_first s ok began m es c.a.start order alike run);
             longer = omega (arith, ap length bytes);
             unwritten = λ none. bytes;
+            there = sym (ap (λ (o : Option File). kind_of o false) h.reads);
           }));
       reads = h.reads;
       sound = h.sound;

@@ -1,11 +1,12 @@
 -- What a stop may show while a run writes and saves, at each stage.
 use Rattle.std.specs.Bool.{⊤}
-use Rattle.std.proofs.Common.{◌≡◌, ◌≢◌, ⊎_elim, ℕ, suc, ◌+◌, ◌≤◌, ◌<◌, Bool, true, false, List, [], ◌∷◌, ◌++◌, length, map, Option, Some, None, refl, sym, ◌∙◌, ap, subst, arith, inl, inr}
+use Rattle.std.proofs.Common.{◌≡◌, ◌≢◌, ⊎_elim, ℕ, suc, ◌+◌, ◌≤◌, ◌<◌, Bool, true, false, if◌then◌else◌, List, [], ◌∷◌, ◌++◌, length, map, Option, Some, None, refl, sym, ◌∙◌, ap, subst, arith, inl, inr}
 use Rattle.std.specs.Str.{bytes_eq}
 use Rattle.std.proofs.lemmas.Bool.{cond-true}
 use Rattle.std.proofs.lemmas.Option.{same_Some}
 use Rattle.block_list.specs.declared.status.Status.{Status}
-use Rattle.crash_site.specs.Files.{File, empty_file, put, written_file, bytes_of}
+use Rattle.crash_site.specs.Files.{File, empty_file, put, written_file, bytes_of, kind_of}
+use Rattle.crash_site.specs.declared.site.ImageKind.TheVariants.{Regular, Other}
 use Rattle.crash_site.specs.Calls.{Call, Entry, Done, Failed, image_open, image_read, image_write, image_sync, map_read, draft_begin, draft_append, draft_sync, draft_publish, map_settle, map_remove}
 use Rattle.crash_site.specs.Folder.{Folder, with_piece, appended, published, after_done, after_failed}
 use Rattle.crash_site.specs.Disk.{Showing, Disk, only, or_this, with_range, loosened, under, under_some, with_draft, with_text, publishing, after_part, entered}
@@ -32,11 +33,12 @@ pub record Base : Type 0 where
 abbrev pub text_file : List ℕ → File
 text_file text = record { bytes = text; regular = true }
 
--- an output that holds what the mapfile promises
+-- an output that holds what the mapfile promises, of the kind that it had
 pub record StoodFile (c : Base) (written : ℕ) (file : File) : Type 0 where
   pub held : Held c.a.s c.a.reads c.a.start c.statuses file.bytes
   pub longer : length c.a.start ≤ length file.bytes
   pub unwritten : written ≡ 0 → file.bytes ≡ c.a.start
+  pub there : kind_of (Some file) false ≡ c.a.kind
 
 abbrev pub one_version : File → List (ℕ × ℕ) → Showing
 one_version file loose =
@@ -61,6 +63,7 @@ stood_matches c ok w v st g m =
       unwritten = λ is0. ap bytes_of
           (same_held (Some st.file) (Some g) (subst (λ (l : List (ℕ × ℕ)). Matches st.file l g) (st.none is0) m))
           ∙ st.kept.unwritten is0;
+      there = ap (λ (b : Bool). if b then Regular else Other) m.regular ∙ st.kept.there;
     }
 
 shown_matches : (file : File) (loose : List (ℕ × ℕ)) (g : File) → MayShow (one_version file loose) (Some g)
@@ -102,7 +105,12 @@ stood_written c w pos len v may st = record {
   loose = (pos, len) ∷ st.loose;
   is = ap (loosened pos len) st.is;
   owned = λ y loose. ⊎_elim (λ (here : (pos ≤ y) × (y < pos + len)). may y here.0 here.1) (λ l. st.owned y l) loose;
-  kept = record { held = st.kept.held; longer = st.kept.longer; unwritten = λ none. absurd (omega (arith, none)) };
+  kept = record {
+    held = st.kept.held;
+    longer = st.kept.longer;
+    unwritten = λ none. absurd (omega (arith, none));
+    there = st.kept.there;
+  };
   none = λ none. absurd (omega (arith, none));
 }
 

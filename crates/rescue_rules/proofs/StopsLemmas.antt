@@ -7,7 +7,7 @@ use Rattle.mapfile_text.specs.declared.state.MapState.{MapState}
 use Rattle.faulty_source.specs.Journal.{Reading}
 use Rattle.crash_site.specs.declared.site.SiteCall.TheVariants.{MapRead as MapReadName}
 use Rattle.crash_site.specs.declared.site.MapRead.{MapRead}
-use Rattle.crash_site.specs.Files.{File, bytes_of}
+use Rattle.crash_site.specs.Files.{File, bytes_of, kind_of}
 use Rattle.crash_site.specs.Calls.{Call, Entry, Done, Failed, image_open, image_sync, map_read, map_settle}
 use Rattle.crash_site.specs.Folder.{Folder}
 use Rattle.crash_site.specs.Disk.{Disk, at_rest, disk_after}
@@ -38,7 +38,7 @@ use Rattle.rescue_rules.proofs.MoveStages.{Holds}
 use Rattle.rescue_rules.proofs.RunStopLemmas.{each_run, rests_hold}
 use Rattle.rescue_rules.proofs.FitLemmas.{begins_fits}
 use Rattle.rescue_rules.proofs.SnapshotLemmas.{IsReadable, IsTame, all_readable, one_of, events_timed}
-use Rattle.rescue_rules.proofs.BarrierLemmas.{at_barrier, barrier_rests, barrier_mapfile, barrier_output}
+use Rattle.rescue_rules.proofs.BarrierLemmas.{at_barrier, barrier_rests, barrier_mapfile, barrier_output, barrier_kind}
 use Rattle.rescue_rules.proofs.MapfileLemmas.{settling_calls}
 use Rattle.rescue_rules.proofs.GoesLemmas.{broke_cut, all_calls, reads_of, Course, Way, AnyMap, OneMap, way}
 use Rattle.rescue_rules.proofs.BeforeLemmas.{disk_before, sound_before, left_at, could_before}
@@ -223,6 +223,14 @@ output_stands b s g began state k files ok three course left is none =
     (tally_is is_write (take (k + 1) g.calls) ∙ uncounted is_write (take (k + 1) g.calls) none)
     ∙ old_bytes b s began state g
 
+output_there : (b : Behind) (s : Setting) (g : Gain) (began : List Status) (state : Option MapState) (k : ℕ)
+    (files : List ℕ → Option File) → IsSensible s → AreThreeNames s
+    → Course s began state g → LeftAt b g k files → has_barrier (take k g.calls) ≡ true
+    → kind_of (files s.outfile) false ≡ kind_of (files_before b s.outfile) true
+output_there b s g began state k files ok three course left is =
+    (found_keeps b s g began state k files ok three course left is).there
+    ∙ barrier_kind s (disk_before b) ∙ ap (λ (o : Option File). kind_of o true) (reads_before b s.outfile)
+
 no_save : (old : Option File) (began : List Status) (line : List ℕ) (saves : List Snapshot) (n : ℕ) (found : Option File)
     (statuses : List Status) → IsSave old began line saves n found statuses → n ≤ 0 → found ≡ old
 no_save old began line saves zero found statuses h few = h.0
@@ -349,6 +357,7 @@ goes_on_safely b s g ok on three low times goes =
           (reads_of s course.given course.at course.answer ++ all_calls s m (events_in g)) g.calls k files course.cut none
           (left_at b g k files left);
       output = λ k files le left is none. output_stands b s g map at k files ok three course left is none;
+      there = λ k files le left is. output_there b s g map at k files ok three course left is;
       mapfile = λ k files le left is none. map_stands b s g map at k files ok three course left is none;
       kept = λ k files began state le left is stands.
           kept_by b s g began state k files ok three low times (course_over s (files_before b) g began state w stands) left is

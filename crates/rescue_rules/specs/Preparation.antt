@@ -1,5 +1,5 @@
 -- What trying again and trimming again make of a map before a run.
-use Rattle.std.specs.Prelude.{◌≡◌, ◌⊎◌, ◌↔◌, ℕ, ◌+◌, Bool, List, [], ◌∷◌, length, if◌then◌else◌}
+use Rattle.std.specs.Prelude.{◌≡◌, ◌↔◌, ℕ, ◌+◌, Bool, List, [], ◌∷◌, length, if◌then◌else◌}
 use Rattle.block_list.specs.declared.status.Status.{Status}
 use Rattle.block_list.specs.declared.status.Status.TheVariants.{NonTried, NonTrimmed, NonScraped, BadSector, Finished}
 use Rattle.block_list.specs.Map.{Has}
@@ -37,12 +37,6 @@ prepared domain again retrim map = changed_from domain (prepared_status again re
 pub record IsChanged (domain : ℕ → Bool) (change : Status → Status) (old new : List Status) : Type 0 where
   pub size : length new ≡ length old
   pub each : (x : ℕ) (status : Status) → Has old status x → Has new (if_asked (domain x) change status) x
-
--- as many positions, and some have their status changed so; each of the others has the one that it had
-pub record IsPartlyChanged (domain : ℕ → Bool) (change : Status → Status) (old new : List Status) : Type 0 where
-  pub size : length new ≡ length old
-  pub each : (x : ℕ) (status : Status) → Has old status x
-      → Has new status x ⊎ Has new (if_asked (domain x) change status) x
 
 -- a position is finished in one map exactly where it is in the other
 pub record AreFinishedAlike (a b : List Status) : Type 0 where

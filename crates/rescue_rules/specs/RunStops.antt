@@ -1,8 +1,9 @@
 -- What may be found at whatever moment a run is stopped that saves while it goes.
-use Rattle.std.specs.Prelude.{◌≡◌, ⊤, ℕ, ◌+◌, ◌≤◌, true, List, [], ◌∷◌, ◌++◌, take, count_by, Option, Some}
+use Rattle.std.specs.Prelude.{◌≡◌, ⊤, ℕ, ◌+◌, ◌≤◌, true, false, List, [], ◌∷◌, ◌++◌, take, count_by, Option, Some}
 use Rattle.block_list.specs.declared.status.Status.{Status}
 use Rattle.faulty_source.specs.Journal.{Reading}
-use Rattle.crash_site.specs.Files.{File, bytes_of}
+use Rattle.crash_site.specs.declared.site.ImageKind.{ImageKind}
+use Rattle.crash_site.specs.Files.{File, bytes_of, kind_of}
 use Rattle.crash_site.specs.Calls.{Call, Entry, Done, Failed}
 use Rattle.crash_site.specs.Disk.{Disk, only, disk_after}
 use Rattle.crash_site.specs.Left.{Leaves, until}
@@ -26,19 +27,20 @@ ComesTo [] (e ∷ es) = ⊥
 ComesTo (c ∷ cs) (Done x ∷ es) = (x ≡ c) × ComesTo cs es
 ComesTo (c ∷ cs) (Failed x ∷ es) = (x ≡ c) × (es ≡ [])
 
--- what a run has to keep: its setting, the mapfile that it begins with and its map, the output's bytes then, its reads,
--- and what it saves
+-- what a run has to keep: its setting, the mapfile that it begins with and its map, the output's bytes and kind then,
+-- its reads, and what it saves
 pub record RunPromise : Type 0 where
   pub s : Setting
   pub mapfile : Option File
   pub began : List Status
   pub start : List ℕ
+  pub kind : ImageKind
   pub reads : List Reading
   pub saves : List Snapshot
 
 -- The mapfile found is one that the run saved, or the one that it began with: no older than the last save that had
 -- returned, and no newer than the last that had begun to be published. The output holds what that mapfile's map
--- promises, and stands until a write has begun.
+-- promises, stands until a write has begun, and is there, of the kind that it had.
 pub record Keeps (a : RunPromise) (returned published written : ℕ) (files : List ℕ → Option File) : Type 0 where
   pub number : ℕ
   pub no_older : returned ≤ number
@@ -47,6 +49,7 @@ pub record Keeps (a : RunPromise) (returned published written : ℕ) (files : Li
   pub is_save : IsSave a.mapfile a.began a.s.line a.saves number (files a.s.names.map) statuses
   pub held : Held a.s a.reads a.start statuses (bytes_of (files a.s.outfile))
   pub unwritten : written ≡ 0 → bytes_of (files a.s.outfile) ≡ a.start
+  pub there : kind_of (files a.s.outfile) false ≡ a.kind
 
 -- The output is open; it and the mapfile are durable as they read.
 pub record Rests (s : Setting) (d : Disk) : Type 0 where
@@ -64,6 +67,7 @@ promise_of_run s began m events d = record {
   mapfile = d.reads.files s.names.map;
   began = began;
   start = bytes_of (d.reads.files s.outfile);
+  kind = kind_of (d.reads.files s.outfile) false;
   reads = reads_of events;
   saves = snapshots s m events;
 }

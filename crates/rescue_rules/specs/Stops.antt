@@ -3,7 +3,7 @@ use Rattle.std.specs.Prelude.{◌≡◌, ◌≢◌, ◌⊎◌, ℕ, zero, suc, �
 use Rattle.std.specs.List.{list_any}
 use Rattle.block_list.specs.declared.status.Status.{Status}
 use Rattle.mapfile_text.specs.declared.state.MapState.{MapState}
-use Rattle.crash_site.specs.Files.{File, bytes_of, empty_file}
+use Rattle.crash_site.specs.Files.{File, bytes_of, empty_file, kind_of}
 use Rattle.crash_site.specs.Calls.{Entry, Done, Failed, image_write, image_sync, draft_publish, map_settle}
 use Rattle.crash_site.specs.Folder.{Folder, after}
 use Rattle.crash_site.specs.Left.{MayBeLeft}
@@ -100,6 +100,10 @@ pub record StopsSafely (b : Behind) (s : Setting) (g : Gain) : Type 0 where
   pub output : (k : ℕ) (files : List ℕ → Option File) → k ≤ length g.calls → LeftAt b g k files
       → has_barrier (take k g.calls) ≡ true → list_any is_write (take (k + 1) g.calls) ≡ false
       → bytes_of (files s.outfile) ≡ bytes_of (files_before b s.outfile)
+  -- it is there, of the kind that it had; an absent one was made, regular
+  pub there : (k : ℕ) (files : List ℕ → Option File) → k ≤ length g.calls → LeftAt b g k files
+      → has_barrier (take k g.calls) ≡ true
+      → kind_of (files s.outfile) false ≡ kind_of (files_before b s.outfile) true
   pub mapfile : (k : ℕ) (files : List ℕ → Option File) → k ≤ length g.calls → LeftAt b g k files
       → has_barrier (take k g.calls) ≡ true → published (take (k + 1) g.calls) ≡ 0
       → files s.names.map ≡ files_before b s.names.map

@@ -6,5 +6,3 @@ pub mod book;
 pub mod fetch;
 pub mod land;
 pub mod token;
-#[cfg(test)]
-mod turn_tests;

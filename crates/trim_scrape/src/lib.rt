@@ -3,5 +3,3 @@
 
 pub mod laws;
 pub mod phases;
-#[cfg(test)]
-mod phases_tests;

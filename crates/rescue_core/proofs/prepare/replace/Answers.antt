@@ -1,23 +1,32 @@
-use Rattle.std.proofs.Common.{arith}
-use Rattle.rescue_core.proofs.PrepareLemmas.{replaced_all, replaced_partly, replaced_more, run_within, none_replaced, on_err}
+use Rattle.std.proofs.Common.{◌≡◌, ◌≢◌, ◌+◌, ◌-◌, ◌≤◌, true, length, arith}
+use Rattle.block_list.proofs.Places.{length-marked}
+use Rattle.rescue_core.proofs.PrepareLemmas.{replaced_all, replaced_more, run_within}
+use Rattle.rescue_core.proofs.RoomLemmas.{spare_left, spends_more}
 use Rattle.rescue_core.proofs.prepare.replace.Goals as goal
 
-pub loop-run-init : goal.loop-run-init
-loop-run-init g c = none_replaced _ c.args.from c.args.to _
+pub set-requires-clause-spare : goal.set-requires-clause-spare
+set-requires-clause-spare g c =
+    let apart : c.args.from ≢ c.args.to = λ e. let is : c.is.result ≡ true = c.is.ensures.1 e in cc in
+    spare_left _ _ _ _ _ _ c.loop-run.invariant.0 _ _ c.in-Some.ensures.first c.in-Some.ensures.run _ _ _
+    c.loop-run.invariant.1 (c.requires.room.changes.some apart) c.requires.room.enough
 
-pub returns-in_err-reserve-clause-partly : goal.returns-in_err-reserve-clause-partly
-returns-in_err-reserve-clause-partly g c =
-    rw c.reserve.ensures.statuses (on_err _ _ (replaced_partly _ _ _ _ _ _ c.loop-run.invariant))
-
-pub set-requires-clause-within : goal.set-requires-clause-within
-set-requires-clause-within g c =
-    let within = run_within _ _ _ _ _ _ c.loop-run.invariant _ _ c.in-Some.ensures.first c.in-Some.ensures.run in
-    rw c.reserve.ensures.statuses (omega (arith, within, c.in-Some.ensures.run.begun))
+pub loop-run-smaller : goal.loop-run-smaller
+loop-run-smaller g c =
+    let mid = g.T.Tiles.statuses c.loop-run.tiles in
+    let run = c.in-Some.run' in
+    let within = run_within _ _ _ _ _ _ c.loop-run.invariant.0 _ _ c.in-Some.ensures.first c.in-Some.ensures.run in
+    let there : run.from + (run.to - run.from) ≤ length mid = omega (arith, within, c.in-Some.ensures.run.begun) in
+    let size : length (g.T.Tiles.statuses c.set.new.self) ≡ length mid
+    = rw c.set.ensures.marked (length-marked mid run.from (run.to - run.from) c.args.to there) in
+    omega (arith, size, within, c.in-Some.ensures.run.begun, c.in-Some.ensures.first.after)
 
 pub loop-run-preserved : goal.loop-run-preserved
-loop-run-preserved g c =
-    let is = rw c.reserve.ensures.statuses at c.set.ensures.marked in
-    replaced_more _ _ _ _ _ _ c.loop-run.invariant _ _ c.in-Some.ensures.first c.in-Some.ensures.run _ is
+loop-run-preserved g c = (
+  replaced_more _ _ _ _ _ _ c.loop-run.invariant.0 _ _ c.in-Some.ensures.first c.in-Some.ensures.run _
+      c.set.ensures.marked,
+  spends_more _ _ _ _ _ _ c.loop-run.invariant.0 _ _ c.in-Some.ensures.first c.in-Some.ensures.run _ _ _
+      c.set.ensures.spare c.loop-run.invariant.1,
+)
 
 pub returns-clause-changed : goal.returns-clause-changed
-returns-clause-changed g c = replaced_all _ _ _ _ _ _ c.loop-run.invariant c.in_default.ensures.none
+returns-clause-changed g c = replaced_all _ _ _ _ _ _ c.loop-run.invariant.0 c.in_default.ensures.none

@@ -3,11 +3,13 @@ use Rattle.rescue_domain.specs.Parts.{covers}
 use Rattle.rescue_rules.specs.Preparation.{IsChanged}
 use Rattle.rescue_core.specs.Preparing.{replaced}
 use Rattle.rescue_core.proofs.PrepareLemmas.{below}
+use Rattle.rescue_core.proofs.RoomLemmas.{Spends}
 use Rattle.rescue_core.proofs.prepare.replace.Given as goal
 
 abbrev pub invariant-loop-run : goal.invariant-loop-run
 invariant-loop-run g l =
     IsChanged (below (covers l.domain) l.at) (replaced l.from l.to) (g.T.Tiles.statuses l.fn.tiles) (g.T.Tiles.statuses l.tiles)
+    × Spends (covers l.domain) (g.T.Tiles.statuses l.fn.tiles) l.from l.at (g.T.Tiles.spare l.fn.tiles) (g.T.Tiles.spare l.tiles)
 
 abbrev pub decreases-loop-run : goal.decreases-loop-run
 decreases-loop-run g l = length (g.T.Tiles.statuses l.tiles) - l.at
