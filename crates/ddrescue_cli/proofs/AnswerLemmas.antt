@@ -15,8 +15,8 @@ use Rattle.ddrescue_cli.specs.declared.ending.Ending.TheVariants.{Done, SourceFa
 use Rattle.ddrescue_cli.specs.declared.ending.Which.TheVariants.{RunMap}
 use Rattle.rescue_command.specs.Command.{Command}
 use Rattle.ddrescue_cli.specs.Asked.{names_by}
-use Rattle.ddrescue_cli.specs.Answers.{FitsCommand, IsBehindMaps, IsOpenedAs, OrUntouched, may_be_early, drafting_left}
-use Rattle.ddrescue_cli.specs.Steps.{EndsRun, LoadCause, OutputStop}
+use Rattle.ddrescue_cli.specs.Answers.{FitsCommand, IsRescueCall, IsBehindMaps, IsOpenedAs, OrUntouched, may_be_early, drafting_left}
+use Rattle.ddrescue_cli.specs.Steps.{EndsRun, IsLate, IsRunCall, LoadCause, OutputStop}
 
 resume_leaves : (call : SiteCall) → IsResumeCall call → drafting_after_fault call false ≡ false
 resume_leaves call (inl is) = rw is refl
@@ -28,6 +28,25 @@ pub load_leaves : (e : Ending) (faults faults' : ℕ) → LoadCause e faults fau
 load_leaves e faults faults' (inl c) = rw c.0 refl
 load_leaves e faults faults' (inr (inl c)) = rw c.1 refl
 load_leaves e faults faults' (inr (inr c)) = rw c.1 (resume_leaves c.0 c.2)
+
+-- the calls of a load and of a run are those of a rescue
+resume_rescues : (call : SiteCall) → IsResumeCall call → IsRescueCall call
+resume_rescues call (inl is) = subst IsRescueCall (sym is) tt
+resume_rescues call (inr (inl is)) = subst IsRescueCall (sym is) tt
+resume_rescues call (inr (inr is)) = subst IsRescueCall (sym is) tt
+
+run_rescues : (call : SiteCall) → IsRunCall call → IsRescueCall call
+run_rescues ImageOpen own = tt
+run_rescues ImageRead own = own
+run_rescues ImageWrite own = tt
+run_rescues ImageSync own = tt
+run_rescues MapRead own = tt
+run_rescues DraftBegin own = tt
+run_rescues DraftAppend own = tt
+run_rescues DraftSync own = tt
+run_rescues DraftPublish own = tt
+run_rescues MapSettle own = tt
+run_rescues MapRemove own = own
 
 -- once the output is asked for no call is early
 behind_open : (call : SiteCall) (source source' : SourceState) (P : Type 0) → P
@@ -88,14 +107,14 @@ load_fits c n e faults faults' by starved (inl cause) = rw cause.0 tt
 load_fits c n e faults faults' by starved (inr (inl cause)) =
     let P : Ending → Type 0 = λ v. FitsCommand v c in
     subst P (sym cause.1) (mapfile_there c n cause.0 by (λ none. sym cause.1 ∙ starved none))
-load_fits c n e faults faults' by starved (inr (inr cause)) = rw cause.1 tt
+load_fits c n e faults faults' by starved (inr (inr cause)) = rw cause.1 (resume_rescues cause.0 cause.2)
 
-pub run_fits : (c : Command) (e : Ending) → EndsRun e → FitsCommand e c
-run_fits c e (Finished, is) = rw is tt
-run_fits c e (Stopped InputLost, is) = rw is tt
-run_fits c e (Stopped (Site call), is) = rw is tt
-run_fits c e (Stopped NoRoom, is) = rw is tt
-run_fits c e (SaveFailed call earlier, is) = rw is tt
+pub run_fits : (c : Command) (e : Ending) → EndsRun e → IsLate e → FitsCommand e c
+run_fits c e (Finished, is) late = rw is tt
+run_fits c e (Stopped InputLost, is) late = rw is tt
+run_fits c e (Stopped (Site call), is) late = rw is (run_rescues call (late.names call None is))
+run_fits c e (Stopped NoRoom, is) late = rw is tt
+run_fits c e (SaveFailed call earlier, is) late = rw is (run_rescues call (late.names call earlier is))
 
 -- each of these answers comes behind the words and the maps that options name
 pub run_says : (e : Ending) → EndsRun e → IsBehindMaps e

@@ -1,5 +1,5 @@
 -- What words ask for is sensible.
-use Rattle.std.proofs.Common.{◌≡◌, ℕ, ◌<◌, ◌≤◌, List, refl, arith, length}
+use Rattle.std.proofs.Common.{ℕ, List, refl, arith, length}
 use Rattle.rescue_rules.specs.Setting.{IsSensible}
 use Rattle.rescue_command.specs.Options.{sectors_of}
 use Rattle.rescue_command.specs.Command.{Command, Asks, AreInLimits}

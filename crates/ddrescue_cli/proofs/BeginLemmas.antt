@@ -5,7 +5,7 @@ use Rattle.block_list.specs.declared.block.Run.{Run}
 use Rattle.block_list.specs.declared.status.Status.{Status}
 use Rattle.mapfile_text.specs.declared.state.MapState.{MapState}
 use Rattle.save_resume.specs.MapNames.{MapNames}
-use Rattle.rescue_domain.specs.Domain.{whole_domain}
+use Rattle.rescue_domain.specs.Domain.{whole_domain, in_map}
 use Rattle.rescue_domain.specs.Parts.{covers}
 use Rattle.rescue_rules.specs.Setting.{Setting}
 use Rattle.rescue_rules.specs.Machine.{Machine}
@@ -19,7 +19,7 @@ use Rattle.copy_passes.proofs.StartLemmas.{start_may_copy, shown_may_copy}
 use Rattle.rescue_command.specs.declared.options.Options.{Options}
 use Rattle.rescue_command.specs.Options.{sectors_of}
 use Rattle.rescue_command.specs.Command.{AreInLimits}
-use Rattle.ddrescue_cli.specs.Asked.{Maps, ArePlacedBy, in_map, in_list, domain_asked}
+use Rattle.ddrescue_cli.specs.Asked.{Maps, ArePlacedBy, in_list, domain_asked}
 use Rattle.ddrescue_cli.specs.Steps.{Fits}
 use Rattle.ddrescue_cli.specs.Running.{settings_by, IsRunOver}
 

@@ -1,12 +1,15 @@
 -- Nothing else ends a rescue than its end, a refusal, a failure or want of memory.
-use Rattle.std.proofs.Common.{◌≡◌, ◌≢◌, ℕ, ◌+◌, ◌-◌, ◌<◌, ◌^◌, true, false, List, length, Option, Some, None, refl, sym, ◌∙◌, ap, arith, subst}
+use Rattle.std.specs.Bool.{MatchBool, OnFalse}
+use Rattle.std.proofs.Common.{◌≡◌, ◌≢◌, ℕ, ◌-◌, ◌<◌, ◌^◌, Bool, true, false, List, length, Option, Some, None, refl, sym, ◌∙◌, ap, arith}
 use Rattle.fault_count.specs.Counts.{raised}
 use Rattle.crash_site.specs.Files.{File}
 use Rattle.rescue_rules.specs.declared.stop.Stop.TheVariants.{SourceLost as InputLost, Site, NoMemory as NoRoom}
-use Rattle.option_words.specs.declared.fault.UsageFault.TheVariants.{Word, BadValue, Operands, PlaceTooLarge}
+use Rattle.option_words.specs.declared.fault.WordFault.TheVariants.{NoMemory as WordNoMemory}
+use Rattle.option_words.specs.declared.fault.UsageFault.{UsageFault}
+use Rattle.option_words.specs.declared.fault.UsageFault.TheVariants.{Word}
 use Rattle.rescue_rules.specs.Setting.{Setting}
-use Rattle.rescue_command.specs.Command.{Command, Asks}
-use Rattle.rescue_command.proofs.MeaningLemmas.{asked_or_refused, one_command}
+use Rattle.rescue_command.specs.Command.{Command, Asks, AreRefused, rescue_grammar}
+use Rattle.option_values.proofs.MeaningLemmas.{asked_or_refused, one_command}
 use Rattle.ddrescue_cli.specs.declared.ending.Operand.{Operand}
 use Rattle.ddrescue_cli.specs.declared.ending.Which.{Which}
 use Rattle.ddrescue_cli.specs.declared.ending.Which.TheVariants.{DomainMap, TestMap, RunMap}
@@ -14,7 +17,8 @@ use Rattle.ddrescue_cli.specs.declared.ending.Ending.{Ending}
 use Rattle.ddrescue_cli.specs.declared.ending.Ending.TheVariants.{Done, Usage, SameName, NoMap, SourceFault, NotRegular, MapRefused, SourceLost, SiteFault, NoMemory}
 use Rattle.ddrescue_cli.specs.Names.{first_same}
 use Rattle.ddrescue_cli.specs.Asked.{names_by}
-use Rattle.ddrescue_cli.specs.Answers.{NameOneFileTwice, SaysOfWords, Causes}
+use Rattle.ddrescue_cli.specs.Answers.{is_of_words, AreAccepted, NameOneFileTwice, SaysOfWords, Causes}
+use Rattle.ddrescue_cli.specs.Refusals.{PlacesRefused}
 use Rattle.ddrescue_cli.specs.Alone.{MapfilePasses, IsRefusedAs, FilesAllow, PlacesAllow}
 use Rattle.ddrescue_cli.specs.Told.{Told, files_of}
 use Rattle.ddrescue_cli.specs.Laws.{NothingFailed, NothingIsRefused, IsDoneUnless, setting}
@@ -27,7 +31,7 @@ not_risen n now below same rose = omega (arith, below, same, rose)
 never_same : (words : List (List ℕ)) (c : Command) (first second : Operand) → Asks words c
     → first_same c.infile c.outfile (names_by c) ≡ None → NameOneFileTwice words first second → ⊥
 never_same words c first second asks apart twice =
-    let same : twice.command ≡ c = one_command words twice.command c twice.asks asks in
+    let same : twice.command ≡ c = one_command rescue_grammar words twice.command c twice.asks asks in
     let both : None ≡ Some (first, second) =
     sym apart ∙ ap (λ (d : Command). first_same d.infile d.outfile (names_by d)) (sym same) ∙ twice.same in
     cc
@@ -39,18 +43,20 @@ never_refused DomainMap c s files e pass (name, is, refused) = pass.output.maps.
 never_refused TestMap c s files e pass (before, name, is, refused) = pass.output.maps.test name e is refused
 never_refused RunMap c s files e pass (output, refused) = pass.accepted e refused
 
+-- words that ask for something bring no fault, and nor do places that fit
+never_usage : (t : Told) (c : Command) (s : Setting) (fault : UsageFault) → Asks t.words c → NothingIsRefused c s t → (of_words : Bool)
+    → MatchBool of_words (AreRefused t.words fault × (fault ≢ Word WordNoMemory)) (AreAccepted t.words)
+    → OnFalse of_words (PlacesRefused c.options (length t.source.bytes) (Usage fault)) → ⊥
+never_usage t c s fault asks n true says places = asked_or_refused rescue_grammar t.words c fault asks says.0
+never_usage t c s fault asks n false says places = n.places (Usage fault) places
+
 -- what is left for an answer
 left_done : (t : Told) (c : Command) (s : Setting) (e : Ending) → Asks t.words c → NothingFailed t → NothingIsRefused c s t
     → SaysOfWords e t.words → Causes e t.source t.source' t.site t.site' → FilesAllow e c s (files_of t)
     → PlacesAllow e c.options (length t.source.bytes) → e ≢ NoMemory → e ≡ Done
 left_done t c s Done asks f n says cause files places room = refl
-left_done t c s (Usage (Word fault)) asks f n says cause files places room =
-    absurd (asked_or_refused t.words c (Word fault) asks says.0)
-left_done t c s (Usage (BadValue k)) asks f n says cause files places room =
-    absurd (asked_or_refused t.words c (BadValue k) asks says)
-left_done t c s (Usage (Operands k)) asks f n says cause files places room =
-    absurd (asked_or_refused t.words c (Operands k) asks says)
-left_done t c s (Usage PlaceTooLarge) asks f n says cause files places room = absurd (n.places (Usage PlaceTooLarge) places)
+left_done t c s (Usage fault) asks f n says cause files places room =
+    absurd (never_usage t c s fault asks n (is_of_words fault) says places)
 left_done t c s (SameName first second) asks f n says cause files places room =
     absurd (never_same t.words c first second asks n.names says)
 left_done t c s (NoMap which) asks f n says cause files places room =

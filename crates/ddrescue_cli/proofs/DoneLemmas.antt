@@ -47,10 +47,11 @@ use Rattle.ddrescue_cli.specs.declared.ending.Which.{Which}
 use Rattle.ddrescue_cli.specs.declared.ending.Which.TheVariants.{DomainMap, TestMap, RunMap}
 use Rattle.rescue_command.specs.declared.options.Options.{Options}
 use Rattle.rescue_command.specs.Command.{Command, Asks}
-use Rattle.ddrescue_cli.specs.Names.{command_line}
+use Rattle.option_words.specs.Words.{command_line}
+use Rattle.ddrescue_cli.specs.Names.{program_name}
 use Rattle.ddrescue_cli.specs.Asked.{Maps}
 use Rattle.ddrescue_cli.proofs.AskedLemmas.{asked_sensible}
-use Rattle.ddrescue_cli.specs.Maps.{map_mode}
+use Rattle.save_resume.specs.Named.{map_mode}
 use Rattle.ddrescue_cli.specs.Refusals.{NamedMapRefused, MapfileRefused, PlacesRefused}
 use Rattle.ddrescue_cli.specs.Told.{Told, AllTell, what_was_done, calls_before, files_of, asked}
 use Rattle.ddrescue_cli.specs.Work.{answer_of, OrRefused, ThenRead, ThenMap, ThenRun, RunsOver, WorksOn, WorksBehindWords, Works}
@@ -297,11 +298,11 @@ record DoneWork (s : Setting) (files : List ℕ → Option File) (g : Gain) : Ty
 done_behind : (c : Command) (s : Setting) (files : List ℕ → Option File) (e : Ending) (g : Gain) → Done ≡ e
     → WorksBehindWords c s files e g → DoneWork s files g
 done_behind c s files e g is works =
-    let tests : Ending → Gain → Type 0 = ThenMap TestMap (map_mode c.options) c.test_map files (WorksOn c s files) in
-    let d : DoneMap tests e g = done_map DomainMap (map_mode c.options) c.domain_map files tests e g is works in
+    let tests : Ending → Gain → Type 0 = ThenMap TestMap (map_mode c.options.loose) c.test_map files (WorksOn c s files) in
+    let d : DoneMap tests e g = done_map DomainMap (map_mode c.options.loose) c.domain_map files tests e g is works in
     let h : Gain = record g { calls = d.rest } in
     let m : DoneMap (WorksOn c s files) e h =
-    done_map TestMap (map_mode c.options) c.test_map files (WorksOn c s files) e h is d.next in
+    done_map TestMap (map_mode c.options.loose) c.test_map files (WorksOn c s files) e h is d.next in
     record {
       maps = d.maps ++ m.maps;
       are = All-append IsMapRead d.maps m.maps d.are m.are;
@@ -355,7 +356,7 @@ last_finished s m over = ap (λ (b : Bool). if b then finished_snapshot m else s
 record Left (c : Command) (maps : Maps) (t : Told) (began : List Status) (state : Option MapState) : Type 0 where
   mapfile : files_in t.site' (asked c maps t).names.map
       ≡ Some (record {
-        bytes = text_of (command_line t.words) (finished_snapshot (comes_to c maps t began state));
+        bytes = text_of (command_line program_name t.words) (finished_snapshot (comes_to c maps t began state));
         regular = true;
       })
   held : Held (asked c maps t) (what_was_done maps t).reads (bytes_of (files_of t c.outfile))

@@ -1,5 +1,5 @@
 -- What an answer says that came as a map was read that an option names, and one that came behind these maps.
-use Rattle.std.proofs.Common.{◌≡◌, ◌≢◌, ◌⊎◌, ℕ, Bool, true, false, List, Option, Some, None, refl, sym, ap, ◌∙◌, inl, inr, subst}
+use Rattle.std.proofs.Common.{◌≡◌, ℕ, Bool, true, false, List, Option, Some, None, refl, sym, ap, ◌∙◌, inl, inr, subst}
 use Rattle.fault_count.specs.Counts.{raised}
 use Rattle.mapfile_text.specs.declared.read.MapError.{MapError}
 use Rattle.mapfile_text.specs.declared.read.MapError.TheVariants.{NoStatusLine}
@@ -8,7 +8,6 @@ use Rattle.crash_site.specs.declared.site.SiteCall.{SiteCall}
 use Rattle.crash_site.specs.declared.site.SiteCall.TheVariants.{ImageOpen, ImageRead, ImageWrite, ImageSync, MapRead, DraftBegin, DraftAppend, DraftSync, DraftPublish, MapSettle, MapRemove}
 use Rattle.crash_site.specs.Files.{File}
 use Rattle.crash_site.specs.SiteState.{SiteState}
-use Rattle.option_words.specs.declared.fault.UsageFault.TheVariants.{Word, BadValue, Operands, PlaceTooLarge}
 use Rattle.rescue_rules.specs.declared.stop.Stop.TheVariants.{SourceLost as InputLost, Site, NoMemory as NoRoom}
 use Rattle.rescue_command.specs.declared.options.Options.{Options}
 use Rattle.rescue_command.specs.Command.{Command}
@@ -16,8 +15,8 @@ use Rattle.ddrescue_cli.specs.declared.ending.Which.{Which}
 use Rattle.ddrescue_cli.specs.declared.ending.Which.TheVariants.{DomainMap, TestMap, RunMap}
 use Rattle.ddrescue_cli.specs.declared.ending.Ending.{Ending}
 use Rattle.ddrescue_cli.specs.declared.ending.Ending.TheVariants.{Done, Usage, SameName, NoMap, SourceFault, NotRegular, MapRefused, SourceLost, SiteFault, NoMemory}
-use Rattle.ddrescue_cli.specs.Alone.{AllStand, OutputMayBeMade, OutputMade, RefusalLeaves, CallLeaves, IsLeft, PlacesAllow}
-use Rattle.ddrescue_cli.specs.Answers.{Rises, Causes, FitsCommand, HasMap, IsNamedByOption, IsBehindMaps, IsBehindWords, IsOpenedAs, OpensOnce, OrUntouched, UnlessEarly, may_be_early, is_early, drafting_left}
+use Rattle.ddrescue_cli.specs.Alone.{OutputMayBeMade, OutputMade, RefusalLeaves, CallLeaves, IsLeft, PlacesAllow}
+use Rattle.ddrescue_cli.specs.Answers.{is_of_words, Rises, Causes, FitsCommand, HasMap, IsNamedByOption, IsBehindMaps, IsBehindWords, IsOpenedAs, OpensOnce, OrUntouched, UnlessEarly, may_be_early, is_early, drafting_left}
 use Rattle.ddrescue_cli.specs.Steps.{MapCause}
 
 -- what holds of each answer of such a read
@@ -119,10 +118,7 @@ causes_behind NoMemory s s' d d1 d' same c = rises_behind _ _ _ s s' d d1 d' sam
 -- an answer behind the maps is one behind the words
 pub words_behind : (e : Ending) → IsBehindMaps e → IsBehindWords e
 words_behind Done behind = tt
-words_behind (Usage (Word f)) behind = absurd behind
-words_behind (Usage (BadValue n)) behind = absurd behind
-words_behind (Usage (Operands n)) behind = absurd behind
-words_behind (Usage PlaceTooLarge) behind = tt
+words_behind (Usage fault) behind = behind
 words_behind (SameName a b) behind = absurd behind
 words_behind (NoMap which) behind = absurd behind
 words_behind SourceFault behind = tt
@@ -157,10 +153,7 @@ call_opens call maps s s' P h =
 
 pub opens_behind : (e : Ending) (maps : Bool) (infile : List ℕ) (s s' : SourceState) → IsOpenedAs e false infile s s' → IsOpenedAs e maps infile s s'
 opens_behind Done maps infile s s' h = h
-opens_behind (Usage (Word f)) maps infile s s' h = h
-opens_behind (Usage (BadValue n)) maps infile s s' h = h
-opens_behind (Usage (Operands n)) maps infile s s' h = h
-opens_behind (Usage PlaceTooLarge) maps infile s s' h = h
+opens_behind (Usage fault) maps infile s s' h = h
 opens_behind (SameName a b) maps infile s s' h = h
 opens_behind (NoMap which) maps infile s s' h = h
 opens_behind SourceFault maps infile s s' h = h
@@ -170,6 +163,11 @@ opens_behind SourceLost maps infile s s' h = h
 opens_behind (SiteFault call earlier) maps infile s s' h = call_opens call maps s s' (s'.name ≡ infile) h
 opens_behind NoMemory maps infile s s' h = h
 
+-- behind the words the source may have been asked
+unless_late : (b : Bool) (s s' : SourceState) (P : Type 0) → b ≡ false → P → UnlessEarly b s s' P
+unless_late true s s' P off p = absurd (cc)
+unless_late false s s' P off p = p
+
 mapfile_opens : (which : Which) (s s' : SourceState) (P : Type 0) → IsBehindMaps (MapRefused which NoStatusLine) → P
     → UnlessEarly (is_early which) s s' P
 mapfile_opens DomainMap s s' P behind p = absurd behind
@@ -178,10 +176,8 @@ mapfile_opens RunMap s s' P behind p = p
 
 pub once_behind : (e : Ending) (maps : Bool) (s s' : SourceState) → IsBehindMaps e → s'.opens ≡ raised s.opens → OpensOnce e maps s s'
 once_behind Done maps s s' behind once = once
-once_behind (Usage (Word f)) maps s s' behind once = absurd behind
-once_behind (Usage (BadValue n)) maps s s' behind once = absurd behind
-once_behind (Usage (Operands n)) maps s s' behind once = absurd behind
-once_behind (Usage PlaceTooLarge) maps s s' behind once = once
+once_behind (Usage fault) maps s s' behind once =
+    unless_late (is_of_words fault) s s' (s'.opens ≡ raised s.opens) behind once
 once_behind (SameName a b) maps s s' behind once = absurd behind
 once_behind (NoMap which) maps s s' behind once = absurd behind
 once_behind SourceFault maps s s' behind once = once
@@ -213,10 +209,7 @@ call_leaves MapRemove maps out files files' h = h
 pub left_behind : (e : Ending) (maps : Bool) (out : List ℕ) (files files' : List ℕ → Option File) → IsLeft e false out files files'
     → IsLeft e maps out files files'
 left_behind Done maps out files files' h = h
-left_behind (Usage (Word f)) maps out files files' h = h
-left_behind (Usage (BadValue n)) maps out files files' h = h
-left_behind (Usage (Operands n)) maps out files files' h = h
-left_behind (Usage PlaceTooLarge) maps out files files' h = h
+left_behind (Usage fault) maps out files files' h = h
 left_behind (SameName a b) maps out files files' h = h
 left_behind (NoMap which) maps out files files' h = h
 left_behind SourceFault maps out files files' h = h

@@ -5,7 +5,7 @@ use Rattle.std.proofs.lemmas.Bool.{false_from_ne_true}
 use Rattle.block_list.specs.declared.status.Status.{Status}
 use Rattle.faulty_source.specs.SourceState.{SourceState, Stays as SourceStays}
 use Rattle.crash_site.specs.declared.site.SiteCall.{SiteCall}
-use Rattle.crash_site.specs.declared.site.SiteCall.TheVariants.{ImageOpen, ImageWrite, ImageSync, MapRead, DraftBegin, DraftAppend, DraftSync, DraftPublish, MapSettle}
+use Rattle.crash_site.specs.declared.site.SiteCall.TheVariants.{ImageWrite, ImageSync, DraftBegin, DraftAppend, DraftSync, DraftPublish, MapSettle}
 use Rattle.crash_site.specs.Calls.{Call, Entry, Done as Returned, Made, BrokeAt, image_sync, draft_append, draft_sync}
 use Rattle.crash_site.specs.SiteState.{SiteState, Breaks}
 use Rattle.mapfile_text.specs.declared.state.Current.TheVariants.{Finished}
@@ -37,7 +37,7 @@ use Rattle.rescue_core.specs.Turning.{IsEvent, stepped, move_by, Halted, Starved
 use Rattle.rescue_core.specs.Closing.{Saves, Saved, Unsaved as UnsavedEnd, Closes, closing_snapshot, end_of as core_end}
 use Rattle.copy_passes.specs.Turns.{Across, IsFrom, IsAlike, moved_to, Went, WentUpTo}
 use Rattle.trim_scrape.specs.Behind.{IsBehind}
-use Rattle.ddrescue_cli.specs.Steps.{IsLate}
+use Rattle.ddrescue_cli.specs.Steps.{IsRunCall, IsLate}
 use Rattle.ddrescue_cli.specs.declared.ending.Ending.TheVariants.{SiteFault}
 use Rattle.ddrescue_cli.specs.Work.{answer_of}
 use Rattle.ddrescue_cli.specs.Running.{EndsCalls, WentToEnd}
@@ -182,47 +182,45 @@ save_ends r r1 events stop spare end old a b by same text made tells (UnsavedEnd
 saves_as : (stop : Option Stop) (r q : RunState) (end : RunEnd) (a b : SiteState) → r ≡ q → Saves stop r end a b → Saves stop q end a b
 saves_as stop r q end a b is saves = subst (λ (p : RunState). Saves stop p end a b) is saves
 
--- a call of a save is none of the opening's that a save doesn't make
+-- a call of a save is one of a run
 appends_named : (call : SiteCall) (ps : List (List ℕ)) (rest : List Call) → IsNameIn call (map draft_append ps ++ rest)
     → (call ≡ DraftAppend) ⊎ IsNameIn call rest
 appends_named call [] rest h = inr h
 appends_named call (p ∷ ps) rest h = ⊎_elim (λ is. inl is) (λ later. appends_named call ps rest later) h
 
-other_call : (call name : SiteCall) → call ≡ name → (name ≡ ImageOpen → ⊥) → (name ≡ MapRead → ⊥) → (call ≡ ImageOpen) ⊎ (call ≡ MapRead) → ⊥
-other_call call name is apart read (inl at) = apart (sym is ∙ at)
-other_call call name is apart read (inr at) = read (sym is ∙ at)
+own_call : (call name : SiteCall) → call ≡ name → IsRunCall name → IsRunCall call
+own_call call name is own = subst IsRunCall (sym is) own
 
 publish_named : (call : SiteCall) (n : MapNames) → (call ≡ DraftAppend) ⊎ IsNameIn call (draft_sync ∷ publish_calls n)
-    → (call ≡ ImageOpen) ⊎ (call ≡ MapRead) → ⊥
-publish_named call n (inl is) = other_call call DraftAppend is (λ x. cc) (λ x. cc)
-publish_named call n (inr (inl is)) = other_call call DraftSync is (λ x. cc) (λ x. cc)
-publish_named call n (inr (inr (inl is))) = other_call call DraftPublish is (λ x. cc) (λ x. cc)
-publish_named call n (inr (inr (inr (inl is)))) = other_call call MapSettle is (λ x. cc) (λ x. cc)
+    → IsRunCall call
+publish_named call n (inl is) = own_call call DraftAppend is tt
+publish_named call n (inr (inl is)) = own_call call DraftSync is tt
+publish_named call n (inr (inr (inl is))) = own_call call DraftPublish is tt
+publish_named call n (inr (inr (inr (inl is)))) = own_call call MapSettle is tt
 publish_named call n (inr (inr (inr (inr h)))) = absurd h
 
-save_named : (call : SiteCall) (n : MapNames) (text : List ℕ) → IsNameIn call (save_calls n text) → (call ≡ ImageOpen) ⊎ (call ≡ MapRead) → ⊥
-save_named call n text (inl is) = other_call call ImageSync is (λ x. cc) (λ x. cc)
-save_named call n text (inr (inl is)) = other_call call DraftBegin is (λ x. cc) (λ x. cc)
+save_named : (call : SiteCall) (n : MapNames) (text : List ℕ) → IsNameIn call (save_calls n text) → IsRunCall call
+save_named call n text (inl is) = own_call call ImageSync is tt
+save_named call n text (inr (inl is)) = own_call call DraftBegin is tt
 save_named call n text (inr (inr h)) = publish_named call n (appends_named call (pieces_of text) (draft_sync ∷ publish_calls n) h)
 
 -- nor is one of a run's end
 closing_named : (call : SiteCall) (there : Bool) (n : MapNames) (text : List ℕ)
-    → IsNameIn call (if there then save_calls n text else image_sync ∷ []) → (call ≡ ImageOpen) ⊎ (call ≡ MapRead) → ⊥
+    → IsNameIn call (if there then save_calls n text else image_sync ∷ []) → IsRunCall call
 closing_named call true n text h = save_named call n text h
-closing_named call false n text (inl is) = other_call call ImageSync is (λ x. cc) (λ x. cc)
+closing_named call false n text (inl is) = own_call call ImageSync is tt
 closing_named call false n text (inr h) = absurd h
 
-call_late : (call : SiteCall) (earlier : Option Stop) → ((call ≡ ImageOpen) ⊎ (call ≡ MapRead) → ⊥) → IsLate (SiteFault call earlier)
-call_late call earlier other = record {
-  no_open = λ behind is. let same : call ≡ ImageOpen = cc in other (inl same);
-  no_read = λ behind is. let same : call ≡ MapRead = cc in other (inr same);
+call_late : (call : SiteCall) (earlier : Option Stop) → IsRunCall call → IsLate (SiteFault call earlier)
+call_late call earlier own = record {
+  names = λ named behind is. own_call named call (let same : named ≡ call = cc in same) own;
 }
 
 stop_late : (stop : Option Stop) → ((call : SiteCall) → stop ≡ Some (Site call) → ⊥) → IsLate (answer_of (end_of stop))
-stop_late None other = record { no_open = λ earlier is. cc; no_read = λ earlier is. cc }
-stop_late (Some SourceLost) other = record { no_open = λ earlier is. cc; no_read = λ earlier is. cc }
+stop_late None other = record { names = λ call earlier is. absurd (cc) }
+stop_late (Some SourceLost) other = record { names = λ call earlier is. absurd (cc) }
 stop_late (Some (Site call)) other = absurd (other call refl)
-stop_late (Some NoMemory) other = record { no_open = λ earlier is. cc; no_read = λ earlier is. cc }
+stop_late (Some NoMemory) other = record { names = λ call earlier is. absurd (cc) }
 
 saves_late : (stop : Option Stop) (r : RunState) (end : RunEnd) (a b : SiteState) → ((call : SiteCall) → stop ≡ Some (Site call) → ⊥)
     → Saves stop r end a b → IsLate (answer_of end)
@@ -291,10 +289,10 @@ broken_calls r r1 es e call end old a b more is made broke =
 broken_end : (r r1 : RunState) (call : SiteCall) (end : RunEnd) (request : Request) (e : Event) (o : Across) (source2 : SourceState)
     (site2 : SiteState) (clock2 : ClockState) → (w : Went r r1 o) → (more : EventMore r r1 w.events e)
     → IsEvent request e o.source' source2 o.clock' clock2 → SourceStays o.source o.source' → end ≡ Stopped (Site call)
-    → ((call ≡ ImageOpen) ⊎ (call ≡ MapRead) → ⊥)
+    → IsRunCall call
     → (IsTrue o.site.tells → BrokeAt call (move_calls (setting_in r1) (move_by r1 e)) o.site'.calls site2.calls)
     → WentToEnd r end (record o { source' = source2; site' = site2; clock' = clock2 })
-broken_end r r1 call end request e o source2 site2 clock2 w more is stays ended other broke =
+broken_end r r1 call end request e o source2 site2 clock2 w more is stays ended own broke =
     let m : ReadsMore r w.events e (record o { source' = source2; site' = site2; clock' = clock2 }) =
     read_more r r1 o request source2 site2 clock2 e w is stays in
     let times : List ℕ = times_of (w.events ++ e ∷ []) in
@@ -309,7 +307,7 @@ broken_end r r1 call end request e o source2 site2 clock2 w more is stays ended 
     })
     (λ tells. broken_calls r r1 w.events e call end o.site.calls o.site'.calls site2.calls more ended (w.made.made tells) (broke tells))
     (λ done. let never : Stopped (Site call) ≡ Done = sym ended ∙ done in absurd (cc))
-    (subst (λ (x : RunEnd). IsLate (answer_of x)) (sym ended) (call_late call None other))
+    (subst (λ (x : RunEnd). IsLate (answer_of x)) (sym ended) (call_late call None own))
 
 event_next : (r r1 : RunState) (request : Request) (e : Event) (o : Across) (source2 : SourceState) (clock2 : ClockState)
     → (w : Went r r1 o) → IsRequest (setting_in r1) r1.machine request.pos (request.pos + request.len)
@@ -393,7 +391,7 @@ halted_end r r1 r2 stop end request o source2 site2 site3 clock2 w stays same as
     let C : Stop → Type 0 = λ x. Closes (Some x) r2 end site2 site3 in
     let closed : (end ≡ Stopped (Site ImageWrite)) × (site3 ≡ site2) = subst C is closes in
     broken_end r r1 ImageWrite end request e o source2 site3 clock2 w (event_next r r1 request e o source2 clock2 w asks event) event stays closed.0
-    (other_call ImageWrite ImageWrite refl (λ x. cc) (λ x. cc))
+    tt
     (λ tells. broken_write r1 e o.site' site2 site3 closed.1 breaks (rw same tells))
 halted_end r r1 r2 stop end request o source2 site2 site3 clock2 w stays same asks (Unsaved call is e event steps due named broke rose) closes =
     let C : Stop → Type 0 = λ x. Closes (Some x) r2 end site2 site3 in

@@ -20,7 +20,7 @@ use Rattle.ddrescue_cli.specs.declared.ending.Which.{Which}
 use Rattle.ddrescue_cli.specs.declared.ending.Which.TheVariants.{DomainMap, TestMap}
 use Rattle.rescue_command.specs.declared.options.Options.{Options}
 use Rattle.rescue_command.specs.Command.{Command}
-use Rattle.ddrescue_cli.specs.Maps.{map_mode}
+use Rattle.save_resume.specs.Named.{map_mode}
 use Rattle.ddrescue_cli.specs.Refusals.{MapfileRefused, PlacesRefused}
 use Rattle.ddrescue_cli.specs.Work.{OrRefused, ThenRead, ThenMap, ThenRun, WorksOn, WorksBehindWords, RunsOver}
 use Rattle.ddrescue_cli.specs.Steps.{IsOnlyMaps}
@@ -179,9 +179,9 @@ map_goes which mode (Some n) s files Q e g on next (inr (inr (load, rest, loaded
 pub work_goes : (c : Command) (s : Setting) (files : List ℕ → Option File) (e : Ending) (g : Gain) → s.has_mapfile ≡ true
     → WorksBehindWords c s files e g → Goes s files g
 work_goes c s files e g on works =
-    map_goes DomainMap (map_mode c.options) c.domain_map s files
-    (ThenMap TestMap (map_mode c.options) c.test_map files (WorksOn c s files)) e g on
-    (λ h more. map_goes TestMap (map_mode c.options) c.test_map s files (WorksOn c s files) e h on
+    map_goes DomainMap (map_mode c.options.loose) c.domain_map s files
+    (ThenMap TestMap (map_mode c.options.loose) c.test_map files (WorksOn c s files)) e g on
+    (λ h more. map_goes TestMap (map_mode c.options.loose) c.test_map s files (WorksOn c s files) e h on
     (λ k last. BehindMaps [] k.calls (All-nil IsMapRead) refl (goes_on c s files e k on last)) more) works
 
 -- where nothing was done but that maps were read, a stop is safe, whatever the input's length
@@ -218,6 +218,7 @@ nothing_stops b s g none = record {
     output = inl refl;
   };
   output = λ k files le left is still. absurd (no_barrier g k none le is);
+  there = λ k files le left is. absurd (no_barrier g k none le is);
   mapfile = λ k files le left is still. absurd (no_barrier g k none le is);
   kept = λ k files began state le left is stands. absurd (no_barrier g k none le is);
   others = λ k files name le left output mapfile draft. (files, nothing_left b g k files none le left, refl);

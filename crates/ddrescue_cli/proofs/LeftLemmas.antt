@@ -145,11 +145,11 @@ loaded_leaves n out end start d0 d1 d2 made same loaded =
 -- a run names no open and no read of a mapfile
 call_leaves : (call : SiteCall) (earlier : Option Stop) (out : List ℕ) (files files' : List ℕ → Option File)
     → IsLate (SiteFault call earlier) → CallLeaves call false out files files'
-call_leaves ImageOpen earlier out files files' late = absurd (late.no_open earlier refl)
+call_leaves ImageOpen earlier out files files' late = absurd (late.names ImageOpen earlier refl)
 call_leaves ImageRead earlier out files files' late = tt
 call_leaves ImageWrite earlier out files files' late = tt
 call_leaves ImageSync earlier out files files' late = tt
-call_leaves MapRead earlier out files files' late = absurd (late.no_read earlier refl)
+call_leaves MapRead earlier out files files' late = absurd (late.names MapRead earlier refl)
 call_leaves DraftBegin earlier out files files' late = tt
 call_leaves DraftAppend earlier out files files' late = tt
 call_leaves DraftSync earlier out files files' late = tt

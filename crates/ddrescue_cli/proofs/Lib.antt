@@ -20,7 +20,6 @@ pub mod MapsLemmas
 pub mod OpenedLemmas
 pub mod OutputLemmas
 pub mod PhaseLemmas
-pub mod PlaceLemmas
 pub mod PromiseLemmas
 pub mod RanLemmas
 pub mod RescueLemmas

@@ -15,7 +15,8 @@ use Rattle.crash_site.specs.Files.{File}
 use Rattle.save_resume.proofs.MapLemmas.{map_is_not_blank}
 use Rattle.rescue_command.specs.Command.{Command}
 use Rattle.ddrescue_cli.specs.Asked.{Maps}
-use Rattle.ddrescue_cli.specs.Maps.{AreAskedFor, AreMapsOf, IsMapOf, IsNamedMap, Lists, NoFile, NoText, Blocks, map_mode, mapfile_of}
+use Rattle.save_resume.specs.Named.{IsMapOf, map_mode}
+use Rattle.ddrescue_cli.specs.Maps.{AreAskedFor, AreMapsOf, IsNamedMap, Lists, NoFile, NoText, Blocks, mapfile_of}
 use Rattle.ddrescue_cli.specs.Laws.{MapsAreThere}
 
 -- no file, or one
@@ -200,8 +201,8 @@ pub record MapsOf (c : Command) (files : List ℕ → Option File) : Type 0 wher
 
 pub maps_of : (c : Command) (files : List ℕ → Option File) → MapsOf c files
 maps_of c files =
-    let domain : NamedMap c.domain_map (map_mode c.options) files = named_map c.domain_map (map_mode c.options) files in
-    let test : NamedMap c.test_map (map_mode c.options) files = named_map c.test_map (map_mode c.options) files in
+    let domain : NamedMap c.domain_map (map_mode c.options.loose) files = named_map c.domain_map (map_mode c.options.loose) files in
+    let test : NamedMap c.test_map (map_mode c.options.loose) files = named_map c.test_map (map_mode c.options.loose) files in
     let list : Listed c.options.complete_only (mapfile_of c files) = listed_in c.options.complete_only (mapfile_of c files) in
     record {
       maps = record { domain = domain.statuses; test = test.statuses; listed = list.listed };

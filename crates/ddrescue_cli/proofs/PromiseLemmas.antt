@@ -1,6 +1,6 @@
 -- The promise of a rescue, by what its work did.
 use Rattle.std.proofs.Common.{◌≡◌, ◌≢◌, ◌⊎◌, ℕ, ◌+◌, ◌<◌, ◌^◌, Bool, true, false, IsTrue, List, [], ◌∷◌, ◌++◌, length, Option, Some, None, is_some, Result, Ok, Err, refl, sym, ap, ◌∙◌, inl, inr, subst, arith, append-nil, length-append}
-use Rattle.std.specs.Bool.{⊤}
+use Rattle.std.specs.Bool.{⊤, MatchBool}
 use Rattle.std.specs.Prelude.{codes, option_map}
 use Rattle.std.specs.Str.{bytes_eq}
 use Rattle.std.proofs.lemmas.Bool.{cond_both}
@@ -13,7 +13,7 @@ use Rattle.crash_site.specs.SiteState.{SiteState, Keeps as SiteKeeps}
 use Rattle.option_words.specs.declared.fault.WordFault.{WordFault}
 use Rattle.option_words.specs.declared.fault.WordFault.TheVariants.{NoMemory as WordNoMemory}
 use Rattle.option_words.specs.declared.fault.UsageFault.{UsageFault}
-use Rattle.option_words.specs.declared.fault.UsageFault.TheVariants.{Word, BadValue, Operands, PlaceTooLarge}
+use Rattle.option_words.specs.declared.fault.UsageFault.TheVariants.{Word, BadValue, Conflict, Modes, Operands, PlaceTooLarge}
 use Rattle.option_words.specs.Words.{word}
 use Rattle.option_words.specs.declared.reading.Item.{Item}
 use Rattle.option_words.specs.Reading.{WordFaultAt}
@@ -24,24 +24,25 @@ use Rattle.rescue_console.specs.ConsoleState.{ConsoleState}
 use Rattle.rescue_rules.specs.Setting.{Setting}
 use Rattle.rescue_rules.specs.Work.{Gain, IsNothing}
 use Rattle.rescue_rules.specs.Stops.{StopsSafely}
-use Rattle.rescue_rules.specs.Laws.{AreThreeNames, AreTimes}
+use Rattle.rescue_rules.specs.Laws.{AreThreeNames}
 use Rattle.rescue_rules.proofs.StopsLemmas.{goes_safely}
 use Rattle.rescue_core.specs.RunState.{names_in}
 use Rattle.rescue_command.specs.declared.options.Options.{Options}
-use Rattle.rescue_command.specs.Command.{Command, Asks, AreRefused, Unread, Wrong, IsAsked, IsRefusal as IsRefusedFor, MapOptions, command_by, command_with, empty_operand, is_too_large, maps_in, unless_empty}
-use Rattle.rescue_command.specs.Options.{cluster_row, last_of, options_in, word_in}
+use Rattle.rescue_command.specs.Command.{Command, Asks, AreRefused, Unread, Wrong, IsAsked, IsRefusal as IsRefusedFor, MapOptions, cluster_word, command_by, command_with, empty_operand, is_too_large, maps_in, unless_empty}
+use Rattle.rescue_command.specs.Options.{options_in}
 use Rattle.ddrescue_cli.specs.declared.ending.Operand.{Operand}
 use Rattle.ddrescue_cli.specs.declared.ending.Operand.TheVariants.{Infile, Outfile, Mapfile, Draft}
 use Rattle.ddrescue_cli.specs.declared.ending.Ending.{Ending}
 use Rattle.ddrescue_cli.specs.declared.ending.Ending.TheVariants.{Done, Usage, SameName, NoMap, SourceFault, NotRegular, MapRefused, SourceLost, SiteFault, NoMemory}
-use Rattle.ddrescue_cli.specs.Names.{first_same, AreNamedApart, command_line}
+use Rattle.option_words.specs.Words.{command_line}
+use Rattle.ddrescue_cli.specs.Names.{first_same, AreNamedApart, program_name}
 use Rattle.ddrescue_cli.specs.Asked.{Maps, names_by}
 use Rattle.ddrescue_cli.specs.Maps.{names_maps, seen_through}
 use Rattle.ddrescue_cli.specs.Told.{Told, AllTell, gained, what_was_done, calls_before, files_of, asked}
-use Rattle.ddrescue_cli.specs.Refusals.{NamesRefused}
+use Rattle.ddrescue_cli.specs.Refusals.{NamesRefused, PlacesRefused}
 use Rattle.ddrescue_cli.specs.Work.{WorksBehindWords}
-use Rattle.ddrescue_cli.specs.Answers.{AreAccepted, SaysOfWords, Causes, FitsCommand, IsOpenedAs, OpensOnce, IsRefusedByPlan, IsBehindWords, drafting_left, NameOneFileTwice}
-use Rattle.ddrescue_cli.specs.Alone.{PlacesAllow, FilesAllow, IsLeft}
+use Rattle.ddrescue_cli.specs.Answers.{is_of_words, AreAccepted, SaysOfWords, UnlessEarly, Causes, FitsCommand, IsOpenedAs, OpensOnce, IsRefusedByPlan, IsBehindWords, drafting_left, NameOneFileTwice}
+use Rattle.ddrescue_cli.specs.Alone.{AllStand, OutputMade, MapfilePasses, PlacesAllow, FilesAllow, IsLeft}
 use Rattle.copy_passes.specs.Turns.{Across}
 use Rattle.ddrescue_cli.specs.Steps.{TellAll, IsOnlyMaps, WorkedOn, Worked}
 use Rattle.ddrescue_cli.specs.Ddrescue.{HasGained, Says, Promise, Ddrescue}
@@ -55,10 +56,7 @@ use Rattle.ddrescue_cli.proofs.WorkLemmas.{across, none_seen}
 -- an answer that comes before anything was done
 abbrev pub IsEarly : Ending → Type 0
 IsEarly Done = ⊥
-IsEarly (Usage (Word fault)) = ⊤
-IsEarly (Usage (BadValue n)) = ⊤
-IsEarly (Usage (Operands given)) = ⊤
-IsEarly (Usage PlaceTooLarge) = ⊥
+IsEarly (Usage fault) = is_of_words fault ≡ true
 IsEarly (SameName first second) = ⊤
 IsEarly (NoMap which) = ⊥
 IsEarly SourceFault = ⊥
@@ -68,13 +66,23 @@ IsEarly SourceLost = ⊥
 IsEarly (SiteFault call earlier) = ⊥
 IsEarly NoMemory = ⊤
 
+-- what holds where a fault is found in the words, and what where it is found behind them
+first_of_two : (b : Bool) (P Q : Type 0) → b ≡ true → P → MatchBool b P Q
+first_of_two true P Q on p = p
+first_of_two false P Q on p = absurd (cc)
+
+second_of_two : (b : Bool) (P Q : Type 0) → b ≡ false → Q → MatchBool b P Q
+second_of_two true P Q off q = absurd (cc)
+second_of_two false P Q off q = q
+
+unless_early : (b : Bool) (s : SourceState) (P : Type 0) → b ≡ true → UnlessEarly b s s P
+unless_early true s P on = refl
+unless_early false s P on = absurd (cc)
+
 -- what such an answer says of the objects, which nothing changed
 early_causes : (e : Ending) (s : SourceState) (d : SiteState) → IsEarly e → Causes e s s d d
 early_causes NoMemory s d early = record { faults = refl; losses_ = refl; site_faults = refl }
-early_causes (Usage (Word f)) s d early = record { faults = refl; losses_ = refl; site_faults = refl }
-early_causes (Usage (BadValue n)) s d early = record { faults = refl; losses_ = refl; site_faults = refl }
-early_causes (Usage (Operands n)) s d early = record { faults = refl; losses_ = refl; site_faults = refl }
-early_causes (Usage PlaceTooLarge) s d early = absurd early
+early_causes (Usage fault) s d early = record { faults = refl; losses_ = refl; site_faults = refl }
 early_causes (SameName a b) s d early = record { faults = refl; losses_ = refl; site_faults = refl }
 early_causes Done s d early = absurd early
 early_causes (NoMap which) s d early = absurd early
@@ -86,10 +94,7 @@ early_causes (SiteFault call earlier) s d early = absurd early
 
 early_opens : (e : Ending) (maps : Bool) (infile : List ℕ) (s : SourceState) → IsEarly e → IsOpenedAs e maps infile s s
 early_opens NoMemory maps infile s early = inl refl
-early_opens (Usage (Word f)) maps infile s early = refl
-early_opens (Usage (BadValue n)) maps infile s early = refl
-early_opens (Usage (Operands n)) maps infile s early = refl
-early_opens (Usage PlaceTooLarge) maps infile s early = absurd early
+early_opens (Usage fault) maps infile s early = unless_early (is_of_words fault) s (s.name ≡ infile) early
 early_opens (SameName a b) maps infile s early = refl
 early_opens Done maps infile s early = absurd early
 early_opens (NoMap which) maps infile s early = absurd early
@@ -101,10 +106,8 @@ early_opens (SiteFault call earlier) maps infile s early = absurd early
 
 early_opens_none : (e : Ending) (maps : Bool) (s : SourceState) → IsEarly e → OpensOnce e maps s s
 early_opens_none NoMemory maps s early = inl refl
-early_opens_none (Usage (Word f)) maps s early = refl
-early_opens_none (Usage (BadValue n)) maps s early = refl
-early_opens_none (Usage (Operands n)) maps s early = refl
-early_opens_none (Usage PlaceTooLarge) maps s early = absurd early
+early_opens_none (Usage fault) maps s early =
+    unless_early (is_of_words fault) s (s.opens ≡ raised s.opens) early
 early_opens_none (SameName a b) maps s early = refl
 early_opens_none Done maps s early = absurd early
 early_opens_none (NoMap which) maps s early = absurd early
@@ -116,10 +119,7 @@ early_opens_none (SiteFault call earlier) maps s early = absurd early
 
 early_drafts : (e : Ending) → IsEarly e → drafting_left e ≡ false
 early_drafts NoMemory early = refl
-early_drafts (Usage (Word f)) early = refl
-early_drafts (Usage (BadValue n)) early = refl
-early_drafts (Usage (Operands n)) early = refl
-early_drafts (Usage PlaceTooLarge) early = absurd early
+early_drafts (Usage fault) early = refl
 early_drafts (SameName a b) early = refl
 early_drafts Done early = absurd early
 early_drafts (NoMap which) early = absurd early
@@ -131,10 +131,7 @@ early_drafts (SiteFault call earlier) early = absurd early
 
 early_places : (e : Ending) (o : Options) (end : ℕ) → IsEarly e → PlacesAllow e o end
 early_places NoMemory o end early = tt
-early_places (Usage (Word f)) o end early = tt
-early_places (Usage (BadValue n)) o end early = tt
-early_places (Usage (Operands n)) o end early = tt
-early_places (Usage PlaceTooLarge) o end early = absurd early
+early_places (Usage fault) o end early = first_of_two (is_of_words fault) ⊤ (PlacesRefused o end (Usage fault)) early tt
 early_places (SameName a b) o end early = tt
 early_places Done o end early = absurd early
 early_places (NoMap which) o end early = absurd early
@@ -146,10 +143,7 @@ early_places (SiteFault call earlier) o end early = absurd early
 
 early_allows : (e : Ending) (c : Command) (s : Setting) (files : List ℕ → Option File) → IsEarly e → FilesAllow e c s files
 early_allows NoMemory c s files early = tt
-early_allows (Usage (Word f)) c s files early = tt
-early_allows (Usage (BadValue n)) c s files early = tt
-early_allows (Usage (Operands n)) c s files early = tt
-early_allows (Usage PlaceTooLarge) c s files early = absurd early
+early_allows (Usage fault) c s files early = first_of_two (is_of_words fault) ⊤ (MapfilePasses c s files) early tt
 early_allows (SameName a b) c s files early = tt
 early_allows Done c s files early = absurd early
 early_allows (NoMap which) c s files early = absurd early
@@ -162,10 +156,8 @@ early_allows (SiteFault call earlier) c s files early = absurd early
 early_leaves : (e : Ending) (maps : Bool) (outfile : List ℕ) (files : List ℕ → Option File) → IsEarly e
     → IsLeft e maps outfile files files
 early_leaves NoMemory maps outfile files early = tt
-early_leaves (Usage (Word f)) maps outfile files early = λ name. refl
-early_leaves (Usage (BadValue n)) maps outfile files early = λ name. refl
-early_leaves (Usage (Operands n)) maps outfile files early = λ name. refl
-early_leaves (Usage PlaceTooLarge) maps outfile files early = absurd early
+early_leaves (Usage fault) maps outfile files early =
+    first_of_two (is_of_words fault) (AllStand files files) (OutputMade outfile files files) early (λ name. refl)
 early_leaves (SameName a b) maps outfile files early = λ name. refl
 early_leaves Done maps outfile files early = absurd early
 early_leaves (NoMap which) maps outfile files early = absurd early
@@ -185,7 +177,7 @@ early_fits SourceFault c early = tt
 early_fits NotRegular c early = absurd early
 early_fits (MapRefused which error) c early = absurd early
 early_fits SourceLost c early = tt
-early_fits (SiteFault call earlier) c early = tt
+early_fits (SiteFault call earlier) c early = absurd early
 
 early_stops : (e : Ending) → IsEarly e → e ≡ Done → ⊥
 early_stops e early is = let P : Ending → Type 0 = IsEarly in subst P is early
@@ -293,9 +285,9 @@ by_else : (fault : UsageFault) (words : List (List ℕ)) (items : List Item) (r 
 by_else fault words items (Err n) operands other is = other.value n (cc)
 by_else fault words items (Ok o) operands other is =
     let P : Result Command UsageFault → Type 0 = λ r. r ≡ Err fault → ⊥ in
-    cond_both (is_too_large o) (Err (BadValue (word_in (last_of cluster_row items))))
+    cond_both (is_too_large o) (Err (BadValue (cluster_word items)))
     (unless_empty (empty_operand words operands) (command_with words (maps_in words items) o operands))
-    P (λ on same. other.value (word_in (last_of cluster_row items)) (cc))
+    P (λ on same. other.value (cluster_word items) (cc))
     (λ off same. unless_else fault (empty_operand words operands) words (maps_in words items) o operands other same) is
 
 -- no words are refused for a place
@@ -305,27 +297,35 @@ never_place words (Wrong rows items operands options reading is) =
     by_else PlaceTooLarge words items (options_in words items) operands (record { value = λ n same. cc; number = λ n same. cc }) is
 
 -- nor for want of memory
-never_starved : (words : List (List ℕ)) (f : WordFault) → AreRefused words (Word f) → f ≢ WordNoMemory
-never_starved words f (Unread rows g options at is) none =
-    let same : g ≡ WordNoMemory = let of : f ≡ g = cc in sym of ∙ none in
+never_starved : (words : List (List ℕ)) (fault : UsageFault) → AreRefused words fault → fault ≢ Word WordNoMemory
+never_starved words fault (Unread rows g options at is) none =
+    let same : g ≡ WordNoMemory = let of : Word g ≡ Word WordNoMemory = sym is ∙ none in cc in
     never_memory rows words (subst (λ (h : WordFault). WordFaultAt rows words h) same at)
-never_starved words f (Wrong rows items operands options reading is) none =
-    by_else (Word f) words items (options_in words items) operands (record { value = λ n same. cc; number = λ n same. cc }) is
+never_starved words fault (Wrong rows items operands options reading is) none =
+    by_else (Word WordNoMemory) words items (options_in words items) operands
+    (record { value = λ n same. cc; number = λ n same. cc }) (is ∙ ap (λ (f : UsageFault). Err f) none)
 
-refused_says : (words : List (List ℕ)) (fault : UsageFault) → AreRefused words fault
-    → IsEarly (Usage fault) × SaysOfWords (Usage fault) words
-refused_says words (Word f) refused = (tt, (refused, never_starved words f refused))
-refused_says words (BadValue n) refused = (tt, refused)
-refused_says words (Operands n) refused = (tt, refused)
-refused_says words PlaceTooLarge refused = absurd (never_place words refused)
+-- so a fault of refused words is found in them
+found_in_words : (words : List (List ℕ)) (fault : UsageFault) → AreRefused words fault → is_of_words fault ≡ true
+found_in_words words (Word f) refused = refl
+found_in_words words (BadValue n) refused = refl
+found_in_words words (Conflict n) refused = refl
+found_in_words words (Modes n) refused = refl
+found_in_words words (Operands n) refused = refl
+found_in_words words PlaceTooLarge refused = absurd (never_place words refused)
+
+refused_says : (words : List (List ℕ)) (fault : UsageFault) → AreRefused words fault → SaysOfWords (Usage fault) words
+refused_says words fault refused =
+    first_of_two (is_of_words fault) (AreRefused words fault × (fault ≢ Word WordNoMemory)) (AreAccepted words)
+    (found_in_words words fault refused) (refused, never_starved words fault refused)
 
 -- the promise where the words are refused
 pub refused_kept : (words : List (List ℕ)) (fault : UsageFault) (quiet : Bool) (s : SourceState) (d : SiteState) (k : ClockState)
     (p p' : ConsoleState) → IsRefusedFor words fault quiet → d.is_drafting ≡ false
     → Says (told_still words (Usage fault) s d k p p') → Ddrescue (told_still words (Usage fault) s d k p p')
 refused_kept words fault quiet s d k p p' r none says =
-    let early : IsEarly (Usage fault) × SaysOfWords (Usage fault) words = refused_says words fault r.refused in
-    still_kept words (Usage fault) s d k p p' early.0 early.1 (λ c asks. absurd (r.nothing c asks)) none says
+    still_kept words (Usage fault) s d k p p' (found_in_words words fault r.refused) (refused_says words fault r.refused)
+    (λ c asks. absurd (r.nothing c asks)) none says
 
 -- and where two files have one name, or memory ran out behind the words
 same_kept : (words : List (List ℕ)) (e : Ending) (s : SourceState) (d : SiteState) (k : ClockState) (p p' : ConsoleState) (c : Command)
@@ -437,10 +437,8 @@ gains_as c maps t w = record {
 -- an answer behind the words and the names
 behind_says : (e : Ending) (words : List (List ℕ)) → IsBehindWords e → AreAccepted words → SaysOfWords e words
 behind_says Done words behind accepted = accepted
-behind_says (Usage (Word f)) words behind accepted = absurd behind
-behind_says (Usage (BadValue n)) words behind accepted = absurd behind
-behind_says (Usage (Operands n)) words behind accepted = absurd behind
-behind_says (Usage PlaceTooLarge) words behind accepted = accepted
+behind_says (Usage fault) words behind accepted =
+    second_of_two (is_of_words fault) (AreRefused words fault × (fault ≢ Word WordNoMemory)) (AreAccepted words) behind accepted
 behind_says (SameName a b) words behind accepted = absurd behind
 behind_says (NoMap which) words behind accepted = accepted
 behind_says SourceFault words behind accepted = accepted
@@ -479,14 +477,14 @@ pub record SaysBy (c : Command) (line : List ℕ) (t : Told) : Type 0 where
 
 -- the same by the words' command line
 abbrev SaysOf : Command → Told → Type 0
-SaysOf c t = SaysBy c (command_line t.words) t
+SaysOf c t = SaysBy c (command_line program_name t.words) t
 
 tell_all : (t : Told) → AllTell t → TellAll (across_of t)
 tell_all t tell = record { source = tell.source; site = tell.site; clock = tell.clock }
 
 work_promised : (c : Command) (t : Told) → Asks t.words c → first_same c.infile c.outfile (names_by c) ≡ None → SaysOf c t → Promise c t
 work_promised c t asks different r =
-    let w : Worked c (command_line t.words) (length t.source.bytes) (files_of t) t.answer (across_of t) = r.worked in
+    let w : Worked c (command_line program_name t.words) (length t.source.bytes) (files_of t) t.answer (across_of t) = r.worked in
     record {
       maps = w.maps;
       asked_maps = w.asked_maps;
@@ -519,7 +517,7 @@ says_kept t c a different r says =
       gains = λ tell. gains_as c r.worked.maps t (r.worked.told (tell_all t tell));
     }
 
-pub work_kept : (t : Told) (c planned : Command) (line : List ℕ) → IsAsked t.words c → planned ≡ c → line ≡ command_line t.words
+pub work_kept : (t : Told) (c planned : Command) (line : List ℕ) → IsAsked t.words c → planned ≡ c → line ≡ command_line program_name t.words
     → first_same c.infile c.outfile (names_by c) ≡ None → SaysBy planned line t → Says t → Ddrescue t
 work_kept t c planned line a is line_is different r says =
     says_kept t c a different

@@ -191,11 +191,11 @@ ran_told s statuses state moment end o before w first small tell =
     }
 
 call_refused : (call : SiteCall) (earlier : Option Stop) → IsLate (SiteFault call earlier) → IsOfOpening call → ⊥
-call_refused ImageOpen earlier late opening = late.no_open earlier refl
+call_refused ImageOpen earlier late opening = late.names ImageOpen earlier refl
 call_refused ImageRead earlier late opening = opening
 call_refused ImageWrite earlier late opening = opening
 call_refused ImageSync earlier late opening = opening
-call_refused MapRead earlier late opening = late.no_read earlier refl
+call_refused MapRead earlier late opening = late.names MapRead earlier refl
 call_refused DraftBegin earlier late opening = opening
 call_refused DraftAppend earlier late opening = opening
 call_refused DraftSync earlier late opening = opening
@@ -311,5 +311,5 @@ ran_unbegun s statuses state moment a d k k' long fresh first small = record {
     well = λ done. absurd (let no : NoMemory ≡ Done = done in cc);
   };
   ends = (Stopped NoRoom, refl);
-  late = record { no_open = λ earlier is. cc; no_read = λ earlier is. cc };
+  late = record { names = λ call earlier is. absurd (cc) };
 }

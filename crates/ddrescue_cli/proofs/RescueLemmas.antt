@@ -1,5 +1,5 @@
 -- What a rescue did, by its reads of maps and what was done behind them.
-use Rattle.std.proofs.Common.{◌≡◌, ◌⊎◌, ℕ, ◌<◌, ◌^◌, Bool, true, false, ◌||◌, IsTrue, List, [], ◌∷◌, ◌++◌, map, Option, Some, None, is_some, Result, Ok, Err, refl, sym, ap, ◌∙◌, inl, inr, subst, append_assoc, append-nil}
+use Rattle.std.proofs.Common.{◌≡◌, ◌⊎◌, ℕ, ◌<◌, ◌^◌, Bool, true, false, ◌||◌, IsTrue, List, [], ◌++◌, map, Option, Some, None, is_some, Result, Ok, Err, refl, sym, ap, ◌∙◌, inl, inr, subst, append_assoc, append-nil}
 use Rattle.std.specs.Prelude.{option_map}
 use Rattle.std.proofs.lemmas.List.Elements.{All-nil, All-append}
 use Rattle.block_list.specs.declared.status.Status.{Status}
@@ -15,20 +15,19 @@ use Rattle.crash_site.proofs.LawLemmas.{after-append}
 use Rattle.rescue_console.specs.ClockState.{ClockState}
 use Rattle.rescue_rules.specs.Setting.{Setting}
 use Rattle.rescue_rules.specs.Work.{Gain, IsNothing, AreMapReads}
-use Rattle.rescue_command.specs.declared.options.Options.{Options}
 use Rattle.rescue_command.specs.Command.{Command}
 use Rattle.ddrescue_cli.specs.declared.ending.Which.{Which}
 use Rattle.ddrescue_cli.specs.declared.ending.Which.TheVariants.{DomainMap, TestMap}
 use Rattle.ddrescue_cli.specs.declared.ending.Ending.{Ending}
-use Rattle.ddrescue_cli.specs.declared.ending.Ending.TheVariants.{NoMap, MapRefused, SiteFault, NoMemory}
+use Rattle.ddrescue_cli.specs.declared.ending.Ending.TheVariants.{SiteFault, NoMemory}
 use Rattle.ddrescue_cli.specs.Asked.{Maps, setting_of}
-use Rattle.ddrescue_cli.specs.Maps.{AreAskedFor, AreMapsOf, IsNamedMap, map_mode, names_maps}
+use Rattle.save_resume.specs.Named.{map_mode}
+use Rattle.ddrescue_cli.specs.Maps.{IsNamedMap, names_maps}
 use Rattle.ddrescue_cli.specs.Refusals.{NamedMapRefused}
-use Rattle.ddrescue_cli.specs.Alone.{HasRead, MapsPass, OutputPasses, UnlessMaps, FilesAllow, IsLeft}
+use Rattle.ddrescue_cli.specs.Alone.{MapsPass, OutputPasses, UnlessMaps, FilesAllow, IsLeft}
 use Rattle.ddrescue_cli.specs.Answers.{is_early}
 use Rattle.ddrescue_cli.specs.Work.{HasOnlyCalls, ThenMap, WorksOn, WorksBehindWords}
-use Rattle.copy_passes.specs.Turns.{Across}
-use Rattle.ddrescue_cli.specs.Steps.{Gains, TellAll, IsRead, ReadStopped, Broke, NoRoom, IsRefused, statuses_in, ReadsMap, MapCause, IsOnlyMaps, IsListing, WorkedOn, OpenedOn, Opened, Worked}
+use Rattle.ddrescue_cli.specs.Steps.{IsRead, ReadStopped, Broke, NoRoom, IsRefused, statuses_in, ReadsMap, MapCause, IsOnlyMaps, IsListing, WorkedOn, OpenedOn, Opened, Worked}
 use Rattle.ddrescue_cli.proofs.AloneLemmas.{none_read}
 use Rattle.ddrescue_cli.proofs.EarlyLemmas.{map_stops, map_places, map_leaves, left_behind}
 use Rattle.ddrescue_cli.proofs.GainLemmas.{GainsBroken, broke_behind, broke_gains}
@@ -194,7 +193,7 @@ maps_fail true P is = tt
 maps_fail false P is = absurd (cc)
 
 domain_allows : (c : Command) (e : Ending) (files : List ℕ → Option File) (s : Setting) → names_maps c ≡ true
-    → HasStopped DomainMap (map_mode c.options) c.domain_map files e → FilesAllow e c s files
+    → HasStopped DomainMap (map_mode c.options.loose) c.domain_map files e → FilesAllow e c s files
 domain_allows c e files s named (inl is) = rw is (maps_fail (names_maps c) (OutputPasses c s files) named)
 domain_allows c e files s named (inr (inl is)) = rw is tt
 domain_allows c e files s named (inr (inr (n, is, inl none))) = rw none.1 (n, is, inl (none.0, refl))
@@ -202,8 +201,8 @@ domain_allows c e files s named (inr (inr (n, is, inr refused))) =
     rw refused.2 (n, is, inr (refused.0, refused.1, refl))
 
 test_allows : (c : Command) (e : Ending) (files : List ℕ → Option File) (s : Setting) → names_maps c ≡ true
-    → ((n : List ℕ) (v : Ending) → c.domain_map ≡ Some n → NamedMapRefused DomainMap (map_mode c.options) (files n) v → ⊥)
-    → HasStopped TestMap (map_mode c.options) c.test_map files e → FilesAllow e c s files
+    → ((n : List ℕ) (v : Ending) → c.domain_map ≡ Some n → NamedMapRefused DomainMap (map_mode c.options.loose) (files n) v → ⊥)
+    → HasStopped TestMap (map_mode c.options.loose) c.test_map files e → FilesAllow e c s files
 test_allows c e files s named passes (inl is) = rw is (maps_fail (names_maps c) (OutputPasses c s files) named)
 test_allows c e files s named passes (inr (inl is)) = rw is tt
 test_allows c e files s named passes (inr (inr (n, is, inl none))) = rw none.1 (passes, n, is, inl (none.0, refl))
@@ -211,7 +210,7 @@ test_allows c e files s named passes (inr (inr (n, is, inr refused))) =
     rw refused.2 (passes, n, is, inr (refused.0, refused.1, refl))
 
 stops_at_domain : (c : Command) (e : Ending) (old new : SiteState) → names_maps c ≡ true
-    → HasStoppedIn DomainMap (map_mode c.options) c.domain_map (files_in old) e old new → StopsInMaps c e old new
+    → HasStoppedIn DomainMap (map_mode c.options.loose) c.domain_map (files_in old) e old new → StopsInMaps c e old new
 stops_at_domain c e old new named h = record {
   maps = h.maps;
   reads = h.reads;
@@ -219,7 +218,7 @@ stops_at_domain c e old new named h = record {
   made = h.made;
   ends = h.ends;
   stand = h.stand;
-  works = λ s. h.goes (ThenMap TestMap (map_mode c.options) c.test_map (files_in old) (WorksOn c s (files_in old)));
+  works = λ s. h.goes (ThenMap TestMap (map_mode c.options.loose) c.test_map (files_in old) (WorksOn c s (files_in old)));
   allows = λ s. domain_allows c e (files_in old) s named h.why;
 }
 
@@ -237,8 +236,8 @@ ends_behind front maps more (inr broke) =
     inr (broke_past MapRead front maps [] (map Returned front ++ more) (broke_front front maps more broke))
 
 stops_at_test : (c : Command) (domain : Option (List Status)) (e : Ending) (old mid new : SiteState) → names_maps c ≡ true
-    → HasGoneOn DomainMap (map_mode c.options) c.domain_map domain (files_in old) old mid
-    → HasStoppedIn TestMap (map_mode c.options) c.test_map (files_in old) e mid new → StopsInMaps c e old new
+    → HasGoneOn DomainMap (map_mode c.options.loose) c.domain_map domain (files_in old) old mid
+    → HasStoppedIn TestMap (map_mode c.options.loose) c.test_map (files_in old) e mid new → StopsInMaps c e old new
 stops_at_test c domain e old mid new named f h = record {
   maps = f.front ++ h.maps;
   reads = All-append IsMapRead f.front h.maps f.reads h.reads;
@@ -246,7 +245,7 @@ stops_at_test c domain e old mid new named f h = record {
   made = h.made ∙ ap (λ (r : List Entry). r ++ h.more) f.made ∙ append_assoc old.calls (map Returned f.front) h.more;
   ends = ends_behind f.front h.maps h.more h.ends;
   stand = h.stand ∙ f.stand;
-  works = λ s. f.goes (ThenMap TestMap (map_mode c.options) c.test_map (files_in old) (WorksOn c s (files_in old))) e
+  works = λ s. f.goes (ThenMap TestMap (map_mode c.options.loose) c.test_map (files_in old) (WorksOn c s (files_in old))) e
       (calls_only h.more) (h.goes (WorksOn c s (files_in old)));
   allows = λ s. test_allows c e (files_in old) s named f.passes h.why;
 }
@@ -304,51 +303,51 @@ named_some f (Some n) named = refl
 
 -- a map was read in this mode
 in_mode : (which : Which) (c : Command) (mode : Mode) (name : Option (List ℕ)) (r : Result (Option Tiled) Ending) (old new : SiteState)
-    → mode ≡ map_mode c.options → ReadsMap which mode name r old new → ReadsMap which (map_mode c.options) name r old new
+    → mode ≡ map_mode c.options.loose → ReadsMap which mode name r old new → ReadsMap which (map_mode c.options.loose) name r old new
 in_mode which c mode name r old new is read = subst (λ (m : Mode). ReadsMap which m name r old new) is read
 
 -- The rescue stopped in its first read, or in its second.
 pub worked_domain : (c : Command) (mode : Mode) (line : List ℕ) (end : ℕ) (e : Ending) (source : SourceState) (old new : SiteState)
-    (clock : ClockState) → mode ≡ map_mode c.options → ReadsMap DomainMap mode c.domain_map (Err e) old new → Stays old new
+    (clock : ClockState) → mode ≡ map_mode c.options.loose → ReadsMap DomainMap mode c.domain_map (Err e) old new → Stays old new
     → is_some c.domain_map ≡ true → MapCause DomainMap e old.faults new.faults
     → Worked c line end (files_in old) e (across source source old new clock clock)
 worked_domain c mode line end e source old new clock is read stays named cause =
     let maps : names_maps c ≡ true = names_domain c named in
     worked_stop DomainMap c line end e source old new clock old.faults new.faults refl maps cause
     (λ tells. stops_at_domain c e old new maps
-    (stopped_in DomainMap (map_mode c.options) c.domain_map e old new tells stays (in_mode DomainMap c mode c.domain_map (Err e) old new is read)))
+    (stopped_in DomainMap (map_mode c.options.loose) c.domain_map e old new tells stays (in_mode DomainMap c mode c.domain_map (Err e) old new is read)))
 
 pub worked_test : (c : Command) (mode : Mode) (line : List ℕ) (end : ℕ) (domain : Option Tiled) (e : Ending) (source : SourceState)
-    (old mid new : SiteState) (clock : ClockState) → mode ≡ map_mode c.options → ReadsMap DomainMap mode c.domain_map (Ok domain) old mid
+    (old mid new : SiteState) (clock : ClockState) → mode ≡ map_mode c.options.loose → ReadsMap DomainMap mode c.domain_map (Ok domain) old mid
     → Stays old mid → ReadsMap TestMap mode c.test_map (Err e) mid new → Stays mid new → is_some c.test_map ≡ true
     → MapCause TestMap e mid.faults new.faults → Worked c line end (files_in old) e (across source source old new clock clock)
 worked_test c mode line end domain e source old mid new clock is read stays read' stays' named cause =
     let maps : names_maps c ≡ true = names_test c named in
     worked_stop TestMap c line end e source old new clock mid.faults new.faults refl maps cause
     (λ tells.
-    let f : HasGoneOn DomainMap (map_mode c.options) c.domain_map (statuses_in domain) (files_in old) old mid =
-    went_on DomainMap (map_mode c.options) c.domain_map domain old mid tells stays (in_mode DomainMap c mode c.domain_map (Ok domain) old mid is read) in
+    let f : HasGoneOn DomainMap (map_mode c.options.loose) c.domain_map (statuses_in domain) (files_in old) old mid =
+    went_on DomainMap (map_mode c.options.loose) c.domain_map domain old mid tells stays (in_mode DomainMap c mode c.domain_map (Ok domain) old mid is read) in
     stops_at_test c (statuses_in domain) e old mid new maps f
-    (subst (λ (files : List ℕ → Option File). HasStoppedIn TestMap (map_mode c.options) c.test_map files e mid new) f.stand
-    (stopped_in TestMap (map_mode c.options) c.test_map e mid new (rw stays.keeps.tells tells) stays'
+    (subst (λ (files : List ℕ → Option File). HasStoppedIn TestMap (map_mode c.options.loose) c.test_map files e mid new) f.stand
+    (stopped_in TestMap (map_mode c.options.loose) c.test_map e mid new (rw stays.keeps.tells tells) stays'
     (in_mode TestMap c mode c.test_map (Err e) mid new is read'))))
 
 -- It went on behind both.
 record BehindMaps (c : Command) (domain test : Option (List Status)) (old mid new : SiteState) : Type 1 where
-  first : HasGoneOn DomainMap (map_mode c.options) c.domain_map domain (files_in old) old mid
-  second : HasGoneOn TestMap (map_mode c.options) c.test_map test (files_in old) mid new
+  first : HasGoneOn DomainMap (map_mode c.options.loose) c.domain_map domain (files_in old) old mid
+  second : HasGoneOn TestMap (map_mode c.options.loose) c.test_map test (files_in old) mid new
 
 behind_maps : (c : Command) (domain test : Option Tiled) (old mid new : SiteState) → IsTrue old.tells
-    → ReadsMap DomainMap (map_mode c.options) c.domain_map (Ok domain) old mid → Stays old mid
-    → ReadsMap TestMap (map_mode c.options) c.test_map (Ok test) mid new → Stays mid new
+    → ReadsMap DomainMap (map_mode c.options.loose) c.domain_map (Ok domain) old mid → Stays old mid
+    → ReadsMap TestMap (map_mode c.options.loose) c.test_map (Ok test) mid new → Stays mid new
     → BehindMaps c (statuses_in domain) (statuses_in test) old mid new
 behind_maps c domain test old mid new tells read stays read' stays' =
-    let f : HasGoneOn DomainMap (map_mode c.options) c.domain_map (statuses_in domain) (files_in old) old mid =
-    went_on DomainMap (map_mode c.options) c.domain_map domain old mid tells stays read in
+    let f : HasGoneOn DomainMap (map_mode c.options.loose) c.domain_map (statuses_in domain) (files_in old) old mid =
+    went_on DomainMap (map_mode c.options.loose) c.domain_map domain old mid tells stays read in
     record {
       first = f;
-      second = subst (λ (files : List ℕ → Option File). HasGoneOn TestMap (map_mode c.options) c.test_map (statuses_in test) files mid new)
-          f.stand (went_on TestMap (map_mode c.options) c.test_map test mid new (rw stays.keeps.tells tells) stays' read');
+      second = subst (λ (files : List ℕ → Option File). HasGoneOn TestMap (map_mode c.options.loose) c.test_map (statuses_in test) files mid new)
+          f.stand (went_on TestMap (map_mode c.options.loose) c.test_map test mid new (rw stays.keeps.tells tells) stays' read');
     }
 
 short_behind : (c : Command) (domain test : Option (List Status)) (old mid new : SiteState) (s : Setting) (g : Gain)
@@ -380,7 +379,7 @@ worked_on c domain test s e s0 s1 old mid new last k k' b w = record {
     times = w.gains.times;
     fit = w.gains.fit;
   };
-  works = b.first.goes (ThenMap TestMap (map_mode c.options) c.test_map (files_in old) (WorksOn c s (files_in old))) e
+  works = b.first.goes (ThenMap TestMap (map_mode c.options.loose) c.test_map (files_in old) (WorksOn c s (files_in old))) e
       (behind_calls b.second.front w.gain) (b.second.goes (WorksOn c s (files_in old)) e w.gain w.works);
   short = short_behind c domain test old mid new s w.gain b w.short;
 }
@@ -389,7 +388,7 @@ abbrev maps_with : (domain test : Option (List Status)) → (listed : Option (�
 maps_with domain test listed = record { domain = domain; test = test; listed = listed }
 
 pub worked_behind : (c : Command) (mode : Mode) (line : List ℕ) (end : ℕ) (domain test : Option Tiled) (e : Ending) (s0 s1 : SourceState)
-    (old mid new last : SiteState) (k k' : ClockState) → mode ≡ map_mode c.options → ReadsMap DomainMap mode c.domain_map (Ok domain) old mid
+    (old mid new last : SiteState) (k k' : ClockState) → mode ≡ map_mode c.options.loose → ReadsMap DomainMap mode c.domain_map (Ok domain) old mid
     → Stays old mid → ReadsMap TestMap mode c.test_map (Ok test) mid new → Stays mid new
     → Opened c line (statuses_in domain) (statuses_in test) end (files_in new) e (across s0 s1 new last k k')
     → Worked c line end (files_in old) e (across s0 s1 old last k k')

@@ -18,7 +18,7 @@ use Rattle.ddrescue_cli.specs.declared.ending.Ending.{Ending}
 use Rattle.ddrescue_cli.specs.declared.ending.Ending.TheVariants.{Done, SameName, MapRefused}
 use Rattle.ddrescue_cli.specs.declared.ending.Which.{Which}
 use Rattle.ddrescue_cli.specs.declared.ending.Which.TheVariants.{DomainMap, TestMap, RunMap}
-use Rattle.ddrescue_cli.specs.Maps.{map_mode}
+use Rattle.save_resume.specs.Named.{map_mode}
 use Rattle.ddrescue_cli.specs.Refusals.{NamesRefused, NamedMapRefused, OutputRefused, MapfileRefused, PlacesRefused}
 use Rattle.ddrescue_cli.specs.Work.{Works, WorksBehindWords, WorksOn, OrRefused, ThenRead, ThenMap, ThenLoad, ThenRun, RunsOver, answer_of}
 use Rattle.ddrescue_cli.specs.Laws.{IsVerdict, HasOneVerdict}
@@ -57,10 +57,10 @@ abbrev BehindMaps : Options → Setting → (List ℕ → Option File) → Endin
 BehindMaps o s files = Unless (OutputRefused s.forced (files s.outfile)) (BehindOutput o s files)
 
 abbrev BehindDomain : Command → Setting → (List ℕ → Option File) → Ending → Type 0
-BehindDomain c s files = Unless (OfMap TestMap (map_mode c.options) c.test_map files) (BehindMaps c.options s files)
+BehindDomain c s files = Unless (OfMap TestMap (map_mode c.options.loose) c.test_map files) (BehindMaps c.options s files)
 
 abbrev BehindNames : Command → Setting → (List ℕ → Option File) → Ending → Type 0
-BehindNames c s files = Unless (OfMap DomainMap (map_mode c.options) c.domain_map files) (BehindDomain c s files)
+BehindNames c s files = Unless (OfMap DomainMap (map_mode c.options.loose) c.domain_map files) (BehindDomain c s files)
 
 -- no verdict is one of these
 never : (e v : Ending) → e ≡ v → (IsVerdict v → ⊥) → IsVerdict e → ⊥
@@ -137,17 +137,17 @@ of_map which mode (Some name) files Q V e g (inr (inr (load, rest, loaded, all, 
     inr (accepted, behind (record g { calls = rest }) next)
 
 of_test : (c : Command) (s : Setting) (files : List ℕ → Option File) (e : Ending) (g : Gain)
-    → ThenMap TestMap (map_mode c.options) c.test_map files (WorksOn c s files) e g → IsVerdict e
+    → ThenMap TestMap (map_mode c.options.loose) c.test_map files (WorksOn c s files) e g → IsVerdict e
     → BehindDomain c s files e
 of_test c s files e g test verdict =
-    of_map TestMap (map_mode c.options) c.test_map files (WorksOn c s files) (BehindMaps c.options s files) e g
+    of_map TestMap (map_mode c.options.loose) c.test_map files (WorksOn c s files) (BehindMaps c.options s files) e g
     test verdict (λ g' works. of_work c s files e g' works verdict)
 
 of_maps : (c : Command) (s : Setting) (files : List ℕ → Option File) (e : Ending) (g : Gain)
     → WorksBehindWords c s files e g → IsVerdict e → BehindNames c s files e
 of_maps c s files e g maps verdict =
-    of_map DomainMap (map_mode c.options) c.domain_map files
-    (ThenMap TestMap (map_mode c.options) c.test_map files (WorksOn c s files)) (BehindDomain c s files) e g
+    of_map DomainMap (map_mode c.options.loose) c.domain_map files
+    (ThenMap TestMap (map_mode c.options.loose) c.test_map files (WorksOn c s files)) (BehindDomain c s files) e g
     maps verdict (λ g' test. of_test c s files e g' test verdict)
 
 verdict_of : (c : Command) (s : Setting) (files : List ℕ → Option File) (e : Ending) (g : Gain) → Works c s files e g
@@ -192,10 +192,10 @@ one_behind o s files =
 
 one_verdict : (c : Command) (s : Setting) (files : List ℕ → Option File) → AtMostOne (BehindNames c s files)
 one_verdict c s files =
-    unless_one (OfMap DomainMap (map_mode c.options) c.domain_map files) (BehindDomain c s files)
-    (one_map DomainMap (map_mode c.options) c.domain_map files)
-    (unless_one (OfMap TestMap (map_mode c.options) c.test_map files) (BehindMaps c.options s files)
-    (one_map TestMap (map_mode c.options) c.test_map files) (one_behind c.options s files))
+    unless_one (OfMap DomainMap (map_mode c.options.loose) c.domain_map files) (BehindDomain c s files)
+    (one_map DomainMap (map_mode c.options.loose) c.domain_map files)
+    (unless_one (OfMap TestMap (map_mode c.options.loose) c.test_map files) (BehindMaps c.options s files)
+    (one_map TestMap (map_mode c.options.loose) c.test_map files) (one_behind c.options s files))
 
 pub has_one_verdict : HasOneVerdict
 has_one_verdict c s files e e' g g' w w' v v' =

@@ -1,5 +1,6 @@
 -- What is said where the input tells, whatever the files do, and where the files tell, whatever the input does.
-use Rattle.std.specs.Prelude.{◌≡◌, ◌≢◌, ◌⊎◌, ⊤, ℕ, ◌≤◌, length, Bool, true, false, List, [], ◌++◌, All, Option, Some, None}
+use Rattle.std.specs.Prelude.{◌≡◌, ◌≢◌, ◌⊎◌, ⊤, ℕ, ◌≤◌, length, Bool, true, false, MatchBool, List, [], ◌++◌, All, Option, Some, None}
+use Rattle.std.specs.Bool.{OnFalse}
 use Rattle.faulty_source.specs.Journal.{Reading}
 use Rattle.faulty_source.specs.SourceState.{SourceState}
 use Rattle.block_list.specs.declared.status.Status.{Status}
@@ -7,7 +8,6 @@ use Rattle.mapfile_text.specs.declared.state.MapState.{MapState}
 use Rattle.crash_site.specs.declared.site.SiteCall.{SiteCall}
 use Rattle.crash_site.specs.declared.site.SiteCall.TheVariants.{ImageOpen, ImageRead, ImageWrite, ImageSync, MapRead, DraftBegin, DraftAppend, DraftSync, DraftPublish, MapSettle, MapRemove}
 use Rattle.crash_site.specs.Files.{File, empty_file}
-use Rattle.option_words.specs.declared.fault.UsageFault.TheVariants.{Word, BadValue, Operands, PlaceTooLarge}
 use Rattle.rescue_rules.specs.Setting.{Setting}
 use Rattle.rescue_rules.specs.Start.{IsFresh}
 use Rattle.rescue_rules.specs.Work.{mapfile_in}
@@ -24,7 +24,9 @@ use Rattle.ddrescue_cli.specs.declared.ending.Which.{Which}
 use Rattle.ddrescue_cli.specs.declared.ending.Which.TheVariants.{DomainMap, TestMap, RunMap}
 use Rattle.ddrescue_cli.specs.declared.ending.Ending.{Ending}
 use Rattle.ddrescue_cli.specs.declared.ending.Ending.TheVariants.{Done, Usage, SameName, NoMap, SourceFault, NotRegular, MapRefused, SourceLost, SiteFault, NoMemory}
-use Rattle.ddrescue_cli.specs.Maps.{map_mode, names_maps, seen_through}
+use Rattle.save_resume.specs.Named.{map_mode}
+use Rattle.ddrescue_cli.specs.Maps.{names_maps, seen_through}
+use Rattle.ddrescue_cli.specs.Answers.{is_of_words}
 use Rattle.ddrescue_cli.specs.Refusals.{is_other, NamedMapRefused, OutputRefused, MapfileRefused, PlacesRefused}
 
 -- a call that a run doesn't make: the open of the output, and a read of a map
@@ -79,9 +81,9 @@ pub record HasRead (s : Setting) (test : Option (List Status)) (e : Ending) (sou
 -- the maps that options name aren't refused
 pub record MapsPass (c : Command) (files : List ℕ → Option File) : Type 0 where
   pub domain : (name : List ℕ) (e : Ending) → c.domain_map ≡ Some name
-      → NamedMapRefused DomainMap (map_mode c.options) (files name) e → ⊥
+      → NamedMapRefused DomainMap (map_mode c.options.loose) (files name) e → ⊥
   pub test : (name : List ℕ) (e : Ending) → c.test_map ≡ Some name
-      → NamedMapRefused TestMap (map_mode c.options) (files name) e → ⊥
+      → NamedMapRefused TestMap (map_mode c.options.loose) (files name) e → ⊥
 
 -- what the failure of a call shows of the files, where it comes once the output is open: no map that options name is
 -- refused; the output is a regular file or absent, or something else is allowed
@@ -157,10 +159,8 @@ RefusalLeaves RunMap outfile files files' = OutputMade outfile files files'
 -- what an answer before the first read leaves of the files as they read; of others nothing is said here
 abbrev pub IsLeft : Ending → (names_maps : Bool) → (outfile : List ℕ) → (files files' : List ℕ → Option File) → Type 0
 IsLeft Done maps outfile files files' = ⊤
-IsLeft (Usage (Word fault)) maps outfile files files' = AllStand files files'
-IsLeft (Usage (BadValue n)) maps outfile files files' = AllStand files files'
-IsLeft (Usage (Operands given)) maps outfile files files' = AllStand files files'
-IsLeft (Usage PlaceTooLarge) maps outfile files files' = OutputMade outfile files files'
+IsLeft (Usage fault) maps outfile files files' =
+    MatchBool (is_of_words fault) (AllStand files files') (OutputMade outfile files files')
 IsLeft (SameName first second) maps outfile files files' = AllStand files files'
 IsLeft (NoMap which) maps outfile files files' = AllStand files files'
 IsLeft SourceFault maps outfile files files' = AllStand files files'
@@ -173,19 +173,17 @@ IsLeft NoMemory maps outfile files files' = ⊤
 -- the map that an option names for this is refused, with this answer
 abbrev pub IsRefusedAs : Which → Command → Setting → (files : List ℕ → Option File) → Ending → Type 0
 IsRefusedAs DomainMap c s files e =
-    (name : List ℕ) × (c.domain_map ≡ Some name) × NamedMapRefused DomainMap (map_mode c.options) (files name) e
+    (name : List ℕ) × (c.domain_map ≡ Some name) × NamedMapRefused DomainMap (map_mode c.options.loose) (files name) e
 IsRefusedAs TestMap c s files e =
-    ((n : List ℕ) (v : Ending) → c.domain_map ≡ Some n → NamedMapRefused DomainMap (map_mode c.options) (files n) v → ⊥)
-    × (name : List ℕ) × (c.test_map ≡ Some name) × NamedMapRefused TestMap (map_mode c.options) (files name) e
+    ((n : List ℕ) (v : Ending) → c.domain_map ≡ Some n
+    → NamedMapRefused DomainMap (map_mode c.options.loose) (files n) v → ⊥)
+    × (name : List ℕ) × (c.test_map ≡ Some name) × NamedMapRefused TestMap (map_mode c.options.loose) (files name) e
 IsRefusedAs RunMap c s files e = OutputPasses c s files × MapfileRefused (mapfile_in s files) e
 
 -- what an answer says of the files
 abbrev pub FilesAllow : Ending → Command → Setting → (files : List ℕ → Option File) → Type 0
 FilesAllow Done c s files = MapfilePasses c s files
-FilesAllow (Usage (Word fault)) c s files = ⊤
-FilesAllow (Usage (BadValue n)) c s files = ⊤
-FilesAllow (Usage (Operands given)) c s files = ⊤
-FilesAllow (Usage PlaceTooLarge) c s files = MapfilePasses c s files
+FilesAllow (Usage fault) c s files = OnFalse (is_of_words fault) (MapfilePasses c s files)
 FilesAllow (SameName first second) c s files = ⊤
 FilesAllow (NoMap which) c s files = IsRefusedAs which c s files (NoMap which)
 FilesAllow SourceFault c s files = MapsPass c files
@@ -217,10 +215,7 @@ CallPlaced MapRemove o end = ArePlaced o end
 -- what an answer says of these places
 abbrev pub PlacesAllow : Ending → Options → (end : ℕ) → Type 0
 PlacesAllow Done o end = ArePlaced o end
-PlacesAllow (Usage (Word fault)) o end = ⊤
-PlacesAllow (Usage (BadValue n)) o end = ⊤
-PlacesAllow (Usage (Operands given)) o end = ⊤
-PlacesAllow (Usage PlaceTooLarge) o end = PlacesRefused o end (Usage PlaceTooLarge)
+PlacesAllow (Usage fault) o end = OnFalse (is_of_words fault) (PlacesRefused o end (Usage fault))
 PlacesAllow (SameName first second) o end = ⊤
 PlacesAllow (NoMap which) o end = ⊤
 PlacesAllow SourceFault o end = ⊤

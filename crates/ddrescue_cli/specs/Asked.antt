@@ -1,8 +1,9 @@
 -- What a command asks for of an input.
-use Rattle.std.specs.Prelude.{◌≡◌, ℕ, ◌+◌, ◌-◌, ◌^◌, ◌<◌, ◌≤◌, Bool, true, not, List, Option, Some, None, is_some, unwrap_or, option_map}
+use Rattle.std.specs.Prelude.{ℕ, Bool, not, List, Option, Some, None, is_some, unwrap_or, option_map}
 use Rattle.save_resume.specs.MapNames.{MapNames, names_of}
 use Rattle.block_list.specs.declared.status.Status.{Status}
-use Rattle.rescue_domain.specs.Domain.{whole_domain, finished_in, listed_in}
+use Rattle.rescue_domain.specs.Domain.{whole_domain, in_map, listed_in}
+use Rattle.rescue_domain.specs.Places.{place_from, AreAllPlaced, IsAnyBeyond}
 use Rattle.rescue_rules.specs.Setting.{Setting}
 use Rattle.rescue_core.specs.RunState.{names_in}
 use Rattle.rescue_command.specs.declared.options.Options.{Options}
@@ -15,15 +16,15 @@ output_from o = unwrap_or o.output_position o.input_position
 
 -- where a position stands there
 abbrev pub place_by : Options → ℕ → ℕ
-place_by o x = x - o.input_position + output_from o
+place_by o x = place_from o.input_position (output_from o) x
 
 -- each position that is asked for of an input with this length ends in the output below 2^63
 abbrev pub ArePlacedBy : Options → (end : ℕ) → Type 0
-ArePlacedBy o end = (x : ℕ) → whole_domain o.input_position o.size end x ≡ true → place_by o x < 2 ^ 63 - 1
+ArePlacedBy o end = AreAllPlaced (whole_domain o.input_position o.size end) o.input_position (output_from o)
 
 -- one of these positions would end there at 2^63 or behind it
 abbrev pub IsBeyond : Options → (end : ℕ) → Type 0
-IsBeyond o end = (x : ℕ) × (whole_domain o.input_position o.size end x ≡ true) × (2 ^ 63 ≤ place_by o x + 1)
+IsBeyond o end = IsAnyBeyond (whole_domain o.input_position o.size end) o.input_position (output_from o)
 
 -- What maps say of the positions that are to be rescued: the statuses of the domain map and of the test map, if they
 -- are named; and, if the positions that the mapfile lists are to be rescued alone, where these begin and end.
@@ -31,11 +32,6 @@ pub record Maps : Type 0 where
   pub domain : Option (List Status)
   pub test : Option (List Status)
   pub listed : Option (ℕ × ℕ)
-
--- those of the positions that are finished in a map, if there is one
-abbrev pub in_map : (ℕ → Bool) → Option (List Status) → ℕ → Bool
-in_map domain None = domain
-in_map domain (Some map) = finished_in domain map
 
 -- those from one position on, below another, if they are given
 abbrev pub in_list : (ℕ → Bool) → Option (ℕ × ℕ) → ℕ → Bool

@@ -2,6 +2,7 @@
 use Rattle.std.specs.Prelude.{◌≡◌, ◌≢◌, ⊤, ℕ, ◌-◌, ◌^◌, ◌<◌, true, None, IsTrue, List, length, slice_get, Option, Some}
 use Rattle.block_list.specs.declared.status.Status.{Status}
 use Rattle.mapfile_text.specs.declared.state.MapState.{MapState}
+use Rattle.option_words.specs.Words.{command_line}
 use Rattle.crash_site.specs.Files.{File, bytes_of}
 use Rattle.crash_site.specs.SiteState.{files_in}
 use Rattle.rescue_rules.specs.Setting.{Setting}
@@ -17,7 +18,7 @@ use Rattle.rescue_rules.specs.Stops.{has_barrier, IsKept}
 use Rattle.ddrescue_cli.specs.declared.ending.Ending.{Ending}
 use Rattle.ddrescue_cli.specs.declared.ending.Ending.TheVariants.{Done, Usage, SameName, NoMap, SourceFault, NotRegular, MapRefused, SourceLost, SiteFault, NoMemory}
 use Rattle.rescue_command.specs.Command.{Command, Asks}
-use Rattle.ddrescue_cli.specs.Names.{command_line, first_same}
+use Rattle.ddrescue_cli.specs.Names.{program_name, first_same}
 use Rattle.ddrescue_cli.specs.Asked.{Maps, names_by}
 use Rattle.ddrescue_cli.specs.Alone.{MapfilePasses, ArePlaced}
 use Rattle.ddrescue_cli.specs.Maps.{AreMapsOf}
@@ -66,7 +67,7 @@ pub record IsFinished (c : Command) (maps : Maps) (t : Told) : Type 0 where
   -- the mapfile, if there is one, is the map of all reads, and says that it is finished
   pub mapfile : (asked c maps t).has_mapfile ≡ true → files_in t.site' (asked c maps t).names.map
       ≡ Some (record {
-        bytes = text_of (command_line t.words) (finished_snapshot (comes_to c maps t statuses state));
+        bytes = text_of (command_line program_name t.words) (finished_snapshot (comes_to c maps t statuses state));
         regular = true;
       })
   -- and the output holds what that map promises

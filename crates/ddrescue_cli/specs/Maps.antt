@@ -1,31 +1,16 @@
 -- The maps that the options of a rescue name, and what they stand for.
-use Rattle.std.specs.Prelude.{◌≡◌, ℕ, ◌≤◌, Bool, true, false, ◌||◌, List, length, map, Option, Some, None, is_some, if◌then◌else◌}
+use Rattle.std.specs.Prelude.{◌≡◌, ℕ, ◌≤◌, Bool, true, false, ◌||◌, List, length, map, Option, Some, None, is_some}
 use Rattle.block_list.specs.declared.status.Status.{Status}
-use Rattle.block_list.specs.declared.status.Status.TheVariants.{NonTried}
 use Rattle.mapfile_text.specs.declared.state.MapState.{MapState}
 use Rattle.mapfile_text.specs.declared.read.Mode.{Mode}
-use Rattle.mapfile_text.specs.declared.read.Mode.TheVariants.{Tight, Loose}
+use Rattle.mapfile_text.specs.declared.read.Mode.TheVariants.{Tight}
 use Rattle.mapfile_text.specs.MapText.{text_limit, IsMapText, Blank}
 use Rattle.faulty_source.specs.Journal.{Reading}
 use Rattle.crash_site.specs.Files.{File}
+use Rattle.save_resume.specs.Named.{map_mode, IsMapOf}
 use Rattle.rescue_domain.specs.Testing.{seen}
-use Rattle.rescue_command.specs.declared.options.Options.{Options}
 use Rattle.rescue_command.specs.Command.{Command}
 use Rattle.ddrescue_cli.specs.Asked.{Maps}
-
--- how such a map is read: where that is asked for it may have gaps, which aren't finished
-abbrev pub map_mode : Options → Mode
-map_mode o = if o.loose then Loose NonTried else Tight
-
--- a file is there, and its text, which isn't too long, has these statuses
-pub record IsMapOf (file : Option File) (mode : Mode) (statuses : List Status) : Type 0 where
-  pub there : File
-  pub is : file ≡ Some there
-  pub within : length there.bytes ≤ text_limit
-  pub shown : MapState
-  pub first : ℕ
-  pub listed : Bool
-  pub reads : IsMapText there.bytes mode shown first listed statuses
 
 -- The positions that a mapfile lists, from the first block's beginning up to the last one's end. A mapfile without
 -- blocks, one of comments and blank lines alone, and an absent one list no position.
@@ -60,8 +45,8 @@ pub record AreAskedFor (c : Command) (maps : Maps) : Type 0 where
 -- The maps are what the files are.
 -- Where a file isn't there or is no map, nothing is said here: then the rescue is refused.
 pub record AreMapsOf (c : Command) (files : List ℕ → Option File) (maps : Maps) : Type 0 where
-  pub domain : IsNamedMap c.domain_map (map_mode c.options) files maps.domain
-  pub test : IsNamedMap c.test_map (map_mode c.options) files maps.test
+  pub domain : IsNamedMap c.domain_map (map_mode c.options.loose) files maps.domain
+  pub test : IsNamedMap c.test_map (map_mode c.options.loose) files maps.test
   pub listed : (first end : ℕ) → c.options.complete_only ≡ true → Lists (mapfile_of c files) first end
       → maps.listed ≡ Some (first, end)
 

@@ -1,7 +1,6 @@
--- The names of a rescue's files, and its command line.
-use Rattle.std.specs.Prelude.{◌≡◌, ℕ, false, List, ◌∷◌, ◌++◌, Option, Some, None, if◌then◌else◌, codes}
+-- The names of a rescue's files, and the program's own.
+use Rattle.std.specs.Prelude.{◌≡◌, ℕ, false, List, Option, Some, None, if◌then◌else◌, codes}
 use Rattle.std.specs.Str.{bytes_eq}
-use Rattle.std.specs.List.{flat_map}
 use Rattle.save_resume.specs.MapNames.{MapNames}
 use Rattle.ddrescue_cli.specs.declared.ending.Operand.{Operand}
 use Rattle.ddrescue_cli.specs.declared.ending.Operand.TheVariants.{Infile, Outfile, Mapfile, Draft}
@@ -22,6 +21,6 @@ abbrev pub AreNamedApart : (outfile : List ℕ) → Option MapNames → Type 0
 AreNamedApart outfile None = Unit {0}
 AreNamedApart outfile (Some n) = (bytes_eq outfile n.map ≡ false) × (bytes_eq outfile n.draft ≡ false)
 
--- the command line: the program's name, and a space before each word
-abbrev pub command_line : List (List ℕ) → List ℕ
-command_line words = codes "ddrescue" ++ flat_map (λ w. 32 ∷ w) words
+-- the program's name, which begins its command line and its messages
+abbrev pub program_name : List ℕ
+program_name = codes "ddrescue"

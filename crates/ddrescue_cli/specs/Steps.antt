@@ -1,5 +1,5 @@
 -- What the steps of a rescue did, by what the objects tell.
-use Rattle.std.specs.Prelude.{◌≡◌, ◌≢◌, ◌⊎◌, ℕ, ◌<◌, ◌≤◌, ◌^◌, Bool, true, false, IsTrue, List, [], ◌∷◌, ◌++◌, length, map, Option, Some, None, Result, Ok, Err, IfSome, if◌then◌else◌}
+use Rattle.std.specs.Prelude.{◌≡◌, ◌≢◌, ◌⊎◌, ⊤, ℕ, ◌<◌, ◌≤◌, ◌^◌, Bool, true, false, IsTrue, List, [], ◌∷◌, ◌++◌, length, map, Option, Some, None, Result, Ok, Err, IfSome, if◌then◌else◌}
 use Rattle.fault_count.specs.Counts.{Rose}
 use Rattle.block_list.specs.declared.status.Status.{Status}
 use Rattle.mapfile_text.specs.declared.state.MapState.{MapState}
@@ -9,10 +9,12 @@ use Rattle.mapfile_text.specs.declared.read.MapError.{MapError}
 use Rattle.mapfile_text.specs.declared.read.MapError.TheVariants.{NoStatusLine, NoMemory as OutOfMemory}
 use Rattle.faulty_source.specs.Journal.{Reading}
 use Rattle.crash_site.specs.declared.site.SiteCall.{SiteCall}
-use Rattle.crash_site.specs.declared.site.SiteCall.TheVariants.{ImageOpen, ImageSync, MapRead, MapSettle}
+use Rattle.crash_site.specs.declared.site.SiteCall.TheVariants.{ImageOpen, ImageRead, ImageWrite, ImageSync, MapRead, DraftBegin, DraftAppend, DraftSync, DraftPublish, MapSettle, MapRemove}
 use Rattle.crash_site.specs.Files.{File}
 use Rattle.crash_site.specs.Calls.{Call, Entry, Done as Returned, Made, BrokeAt, image_open}
 use Rattle.crash_site.specs.SiteState.{SiteState, files_in, Makes, Breaks}
+use Rattle.save_resume.specs.declared.named.NamedFault.{NamedFault}
+use Rattle.save_resume.specs.declared.named.NamedFault.TheVariants.{ReadFailed, Absent, Refused as NotRead, NoMemory as Starving}
 use Rattle.save_resume.specs.MapNames.{MapNames}
 use Rattle.save_resume.specs.Loading.{BeginsLoad, IsLoad}
 use Rattle.save_resume.specs.Resuming.{barrier_calls, IsResumeCall}
@@ -31,7 +33,8 @@ use Rattle.rescue_command.specs.declared.options.Options.{Options}
 use Rattle.rescue_command.specs.Command.{Command}
 use Rattle.ddrescue_cli.specs.declared.ending.Which.{Which}
 use Rattle.ddrescue_cli.specs.Asked.{Maps, setting_of}
-use Rattle.ddrescue_cli.specs.Maps.{AreAskedFor, AreMapsOf, IsMapOf, Lists, mapfile_of, names_maps, seen_through}
+use Rattle.save_resume.specs.Named.{IsMapOf}
+use Rattle.ddrescue_cli.specs.Maps.{AreAskedFor, AreMapsOf, Lists, mapfile_of, names_maps, seen_through}
 use Rattle.ddrescue_cli.specs.Refusals.{is_other, NamedMapRefused, MapfileRefused}
 use Rattle.ddrescue_cli.specs.Alone.{HasRead, MapsPass, PlacesAllow, FilesAllow, IsLeft}
 use Rattle.ddrescue_cli.specs.Work.{HasOnlyCalls, answer_of, RunsOver, WorksOn, WorksBehindWords}
@@ -117,10 +120,23 @@ pub record RanOn (s : Setting) (test : Option (List Status)) (statuses : List St
   pub gains : Gains test o gain
   pub runs : RunsOver s statuses state e gain
 
--- an answer that doesn't name a call of the opening that a save doesn't make
+-- a call that a run makes: a write of the output, or one of those of a save
+abbrev pub IsRunCall : SiteCall → Type 0
+IsRunCall ImageOpen = ⊥
+IsRunCall ImageRead = ⊥
+IsRunCall ImageWrite = ⊤
+IsRunCall ImageSync = ⊤
+IsRunCall MapRead = ⊥
+IsRunCall DraftBegin = ⊤
+IsRunCall DraftAppend = ⊤
+IsRunCall DraftSync = ⊤
+IsRunCall DraftPublish = ⊤
+IsRunCall MapSettle = ⊤
+IsRunCall MapRemove = ⊥
+
+-- an answer that names no call but one that a run makes
 pub record IsLate (e : Ending) : Type 0 where
-  pub no_open : (earlier : Option Stop) → e ≡ SiteFault ImageOpen earlier → ⊥
-  pub no_read : (earlier : Option Stop) → e ≡ SiteFault MapRead earlier → ⊥
+  pub names : (call : SiteCall) (earlier : Option Stop) → e ≡ SiteFault call earlier → IsRunCall call
 
 -- an answer that ends a run
 abbrev pub EndsRun : Ending → Type 0
@@ -157,6 +173,13 @@ pub data ReadStopped (which : Which) (mode : Mode) (name : List ℕ) (file : Opt
 abbrev pub statuses_in : Option Tiled → Option (List Status)
 statuses_in None = None
 statuses_in (Some tiles) = Some tiles.statuses
+
+-- the answer for a map that an option names and that couldn't be loaded
+abbrev pub refusal_of : Which → NamedFault → Ending
+refusal_of which ReadFailed = SiteFault MapRead None
+refusal_of which Absent = NoMap which
+refusal_of which (NotRead error) = MapRefused which error
+refusal_of which Starving = NoMemory
 
 -- What the read of a map did that an option may name, by its outcome: without a name nothing.
 abbrev pub ReadsMap : Which → Mode → Option (List ℕ) → Result (Option Tiled) Ending → (old new : SiteState) → Type 0

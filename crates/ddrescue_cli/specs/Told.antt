@@ -1,5 +1,6 @@
 -- What a call of `ddrescue` was handed, and all that the objects tell of it.
 use Rattle.std.specs.Prelude.{ℕ, IsTrue, List, length, drop, Option}
+use Rattle.option_words.specs.Words.{command_line}
 use Rattle.faulty_source.specs.SourceState.{SourceState}
 use Rattle.crash_site.specs.Files.{File}
 use Rattle.crash_site.specs.SiteState.{SiteState, files_in}
@@ -10,7 +11,7 @@ use Rattle.rescue_rules.specs.Work.{Gain}
 use Rattle.rescue_rules.specs.Stops.{Behind}
 use Rattle.ddrescue_cli.specs.declared.ending.Ending.{Ending}
 use Rattle.rescue_command.specs.Command.{Command}
-use Rattle.ddrescue_cli.specs.Names.{command_line}
+use Rattle.ddrescue_cli.specs.Names.{program_name}
 use Rattle.ddrescue_cli.specs.Asked.{Maps, setting_of}
 use Rattle.ddrescue_cli.specs.Maps.{seen_through}
 
@@ -55,4 +56,4 @@ files_of t = files_in t.site
 
 -- what a command asks for of the input by maps
 abbrev pub asked : Command → Maps → Told → Setting
-asked c maps t = setting_of c (command_line t.words) (length t.source.bytes) maps
+asked c maps t = setting_of c (command_line program_name t.words) (length t.source.bytes) maps

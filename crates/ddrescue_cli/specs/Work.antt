@@ -21,7 +21,7 @@ use Rattle.ddrescue_cli.specs.declared.ending.Ending.TheVariants.{Done, SourceLo
 use Rattle.rescue_command.specs.Command.{Command}
 use Rattle.ddrescue_cli.specs.declared.ending.Which.{Which}
 use Rattle.ddrescue_cli.specs.declared.ending.Which.TheVariants.{DomainMap, TestMap}
-use Rattle.ddrescue_cli.specs.Maps.{map_mode}
+use Rattle.save_resume.specs.Named.{map_mode}
 use Rattle.ddrescue_cli.specs.Refusals.{NamesRefused, NamedMapRefused, InputRefused, OutputRefused, MapfileRefused, PlacesRefused}
 
 -- Where there is a refusal it is the answer, or memory ran out; else the work goes on, unless memory ran out.
@@ -109,8 +109,8 @@ WorksOn c s files =
 -- the work behind the words: the maps that options name come first
 abbrev pub WorksBehindWords : Command → Setting → (List ℕ → Option File) → Ending → Gain → Type 0
 WorksBehindWords c s files =
-    ThenMap DomainMap (map_mode c.options) c.domain_map files
-    (ThenMap TestMap (map_mode c.options) c.test_map files
+    ThenMap DomainMap (map_mode c.options.loose) c.domain_map files
+    (ThenMap TestMap (map_mode c.options.loose) c.test_map files
     (WorksOn c s files))
 
 -- the whole work for a command, by a setting that is made of it

@@ -4,9 +4,7 @@ ghost use Rattle.rescue_command.specs.Command.{AreInLimits};
 ghost use Rattle.ddrescue_cli.specs.Asked.{output_from, ArePlacedBy, IsBeyond};
 
 use rescue_command::options::Options;
-
-/// The largest end of a place in the output.
-const LIMIT: u64 = 1 << 63;
+use rescue_domain::places;
 
 /// Where the rescue begins in the output.
 pub(crate) fn output_from(options: &Options) -> u64
@@ -25,9 +23,6 @@ pub(crate) fn places_fit(options: &Options, end: u64) -> bool
     ensures fit { result ≡ true → ArePlacedBy options.now end }
     ensures beyond { result ≡ false → IsBeyond options.now end }
 {
-    let last = match options.size {
-        Some(size) => end.min(options.input_position.saturating_add(size)),
-        None => end,
-    };
-    last <= options.input_position || last - options.input_position + output_from(options) < LIMIT
+    let to = output_from(options);
+    places::places_fit(options.input_position, options.size, to, end)
 }

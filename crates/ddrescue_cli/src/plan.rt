@@ -1,10 +1,10 @@
 //! What a rescue needs before it opens a file.
 ghost use Rattle.std.specs.Prelude.{◌≡◌, ◌⊎◌, None, IfOk, IfErr, OnOk, option_map};
-ghost use Rattle.std.specs.String.{string_bytes};
 ghost use Rattle.rescue_rules.specs.Snapshots.{heading_at};
 ghost use Rattle.save_resume.specs.MapNames.{names_of};
 ghost use Rattle.rescue_command.specs.Command.{told_by};
-ghost use Rattle.ddrescue_cli.specs.Names.{first_same, command_line};
+ghost use Rattle.option_words.specs.Words.{command_line};
+ghost use Rattle.ddrescue_cli.specs.Names.{first_same, program_name};
 ghost use Rattle.ddrescue_cli.specs.Asked.{names_by};
 ghost use Rattle.ddrescue_cli.specs.Refusals.{NamesRefused};
 ghost use Rattle.ddrescue_cli.specs.declared.ending.Ending.TheVariants.{NoMemory as OutOfMemory};
@@ -15,7 +15,10 @@ use mapfile_text::heading::{Heading, Program};
 use option_words::words::Words;
 use rescue_command::command::Command;
 use save_resume::names::Names;
-use std::alloc::{AllocError, Global};
+use std::alloc::Global;
+
+/// The program's name, which begins its command line and its messages.
+pub(crate) const PROGRAM: &str = "ddrescue";
 
 /// The first two files that have one name.
 fn find_same(infile: &str, outfile: &str, names: &Option<Names>) -> Option<(Operand, Operand)>
@@ -38,25 +41,11 @@ fn find_same(infile: &str, outfile: &str, names: &Option<Names>) -> Option<(Oper
     }
 }
 
-/// The program's name, and a space before each word.
-fn joined(alloc: Global, words: &Words) -> Result<String, AllocError>
-    ensures { IfOk result (λ line. string_bytes line ≡ command_line words.now) }
-{
-    let mut line = String::from_str(alloc, "ddrescue")?;
-    for i in 0..words.len() {
-        line.push(' ')?;
-        line.push_str(words.get(i + 1))?;
-    }
-    Ok(line)
-}
-
 /// The heading of the mapfile, with the command line.
 fn make_heading(alloc: Global, words: &Words) -> Result<Heading, NoMemory>
-    ensures { IfOk result (λ h. h ≡ heading_at (command_line words.now) 0 0) }
+    ensures { IfOk result (λ h. h ≡ heading_at (command_line program_name words.now) 0 0) }
 {
-    let Ok(line) = joined(alloc, words) else {
-        return Err(NoMemory);
-    };
+    let line = words.command_line(alloc, PROGRAM)?;
     Heading::new(alloc, Program::Ddrescue, line.as_str())
 }
 
@@ -87,7 +76,7 @@ pub(crate) fn make_plan<'a>(
 ) -> Result<Plan<'a>, Ending>
     ensures command { IfOk result (λ p. told_by p.command ≡ told_by command.entry) }
     ensures names { IfOk result (λ p. p.names ≡ names_by (told_by command.entry)) }
-    ensures heading { IfOk result (λ p. p.heading ≡ heading_at (command_line words.now) 0 0) }
+    ensures heading { IfOk result (λ p. p.heading ≡ heading_at (command_line program_name words.now) 0 0) }
     ensures different { OnOk result (first_same (told_by command.entry).infile (told_by command.entry).outfile
         (names_by (told_by command.entry)) ≡ None) }
     ensures refused { IfErr result (λ e. NamesRefused (told_by command.entry) e ⊎ (e ≡ OutOfMemory)) }

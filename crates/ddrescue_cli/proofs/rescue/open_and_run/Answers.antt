@@ -128,7 +128,7 @@ pub returns-clause-words : goal.returns-clause-words
 returns-clause-words g c = run_says _ (c.run_tested.ensures.ran [] []).ends
 
 pub returns-clause-fits : goal.returns-clause-fits
-returns-clause-fits g c = run_fits _ _ (c.run_tested.ensures.ran [] []).ends
+returns-clause-fits g c = run_fits _ _ (c.run_tested.ensures.ran [] []).ends (c.run_tested.ensures.ran [] []).late
 
 pub returns-clause-refused : goal.returns-clause-refused
 returns-clause-refused g c = λ planned is. absurd (run_passes_input _ (c.run_tested.ensures.ran [] []).ends is)

@@ -1,7 +1,7 @@
 use Rattle.std.proofs.Common.{ap, subst}
 use Rattle.mapfile_text.specs.HeadingLines.{HeadingLines}
-use Rattle.rescue_command.specs.declared.command.CommandError.{CommandError}
-use Rattle.rescue_command.specs.declared.command.CommandError.TheVariants.{Usage}
+use Rattle.option_values.specs.declared.command_error.CommandError.{CommandError}
+use Rattle.option_values.specs.declared.command_error.CommandError.TheVariants.{Usage}
 use Rattle.rescue_command.specs.Command.{told_by, IsErrorOf}
 use Rattle.ddrescue_cli.proofs.PromiseLemmas.{starved_kept, refused_kept, plan_kept, work_kept, named_apart}
 use Rattle.ddrescue_cli.proofs.rescue.work.Goals as goal
