@@ -1,10 +1,13 @@
-# The usual ways into the repository. `make check` runs the gate.
+# The usual ways into the repository: `make` proves and builds the program, `make scenes` the player of transcripts, and
+# `make check` runs the gate.
 PREFIX ?= /usr/local
 SOURCES := crates.txt $(shell find crates -path '*/out' -prune -o -type f -print)
 
-.PHONY: all check install clean
+.PHONY: all scenes check install clean
 
-all: bin/ddrescue bin/rescue_scenes
+all: bin/ddrescue
+
+scenes: bin/rescue_scenes
 
 # Proves and builds the program, and tries it on an empty input.
 bin/ddrescue: $(SOURCES)
@@ -21,7 +24,7 @@ bin/rescue_scenes: $(SOURCES)
 check:
 	bash .ci/run
 
-install: bin/ddrescue bin/rescue_scenes
+install: bin/ddrescue
 	install -D bin/ddrescue $(DESTDIR)$(PREFIX)/bin/ddrescue
 	install -D -m 644 man/ddrescue.1 $(DESTDIR)$(PREFIX)/share/man/man1/ddrescue.1
 
