@@ -2,6 +2,7 @@
 ghost use Rattle.std.specs.Prelude.{◌≡◌, ◌≢◌, ◌+◌, ◌-◌, ◌/◌, ◌<◌, ◌≤◌, ◌^◌, min, max, false, [], length, take, IsSome, OnOk, OnErr, IfOk, IfErr};
 ghost use Rattle.std.specs.Io.KnownBytes.{Appends, Consumes, IsAtEnd};
 ghost use Rattle.std.specs.IoError.{error_kind};
+ghost use Rattle.std.specs.Duration.{as_nanos};
 ghost use Rattle.std.specs.Time.{instant_nanos, system_time_nanos};
 ghost use Rattle.fault_count.specs.Counts.{HasCause};
 
@@ -11,7 +12,7 @@ use crate::feed::{Feed, FeedFault};
 use fault_count::FaultCount;
 use real_files::place;
 use std::io::{self, ErrorKind, Read, Stderr, Stdin, Stdout, Write};
-use std::time::{Instant, SystemTime, UNIX_EPOCH};
+use std::time::{Duration, Instant, SystemTime, UNIX_EPOCH};
 
 /// Where a clock began: the time of day then, in milliseconds since 1970, and the instant.
 #[derive(Clone, Copy)]
@@ -53,9 +54,21 @@ impl SystemClock {
         let Ok(now) = Instant::now(&self.rt) else {
             return self.last;
         };
-        if self.start.is_none() {
-            self.start = start_of(SystemTime::now(&self.rt), now);
-        }
+        let Some(start) = self.start else {
+            return self.begin(now);
+        };
+        self.last = reading_at(start, now, self.last);
+        self.last
+    }
+
+    /// The first reading of a clock, which begins now if the time of day can be read.
+    #[cold]
+    #[inline(never)]
+    fn begin(&mut self, now: Instant) -> u64
+        ensures later { self.old.last ≤ result }
+        ensures last { self.new.last ≡ result }
+    {
+        self.start = start_of(SystemTime::now(&self.rt), now);
         if let Some(start) = self.start {
             self.last = reading_at(start, now, self.last);
         }
@@ -94,9 +107,19 @@ fn reading_at(start: Start, now: Instant, last: u64) -> u64
     ensures { result ≡ max last
         (min (start.time + (instant_nanos now - instant_nanos start.at) / 1_000_000) (2 ^ 64 - 1)) }
 {
-    let passed = now.duration_since(start.at).as_millis();
-    let passed = u64::try_from(passed).unwrap_or(u64::MAX);
+    let passed = whole_milliseconds(now.duration_since(start.at));
     last.max(start.time.saturating_add(passed))
+}
+
+/// The whole milliseconds of a time that passed.
+#[inline]
+fn whole_milliseconds(passed: Duration) -> u64
+    ensures { result ≡ min (as_nanos passed / 1_000_000) (2 ^ 64 - 1) }
+{
+    let seconds = passed.as_secs();
+    seconds
+        .saturating_mul(1_000)
+        .saturating_add(u64::from(passed.subsec_millis()))
 }
 
 impl Clock for SystemClock {
