@@ -1,0 +1,12 @@
+pub mod WalkLemmas
+pub mod MapLemmas
+pub mod AreaLemmas
+pub mod CountLemmas
+pub mod SummaryLemmas
+pub mod ChangeLemmas
+pub mod BlockLemmas
+pub mod CreatedLemmas
+pub mod ListedLemmas
+pub mod ListingLemmas
+pub mod MarkLemmas
+pub mod NumberLemmas

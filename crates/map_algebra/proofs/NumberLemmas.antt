@@ -1,0 +1,90 @@
+-- Numbers of lines, one after another.
+use Rattle.std.proofs.Common.{◌≡◌, ℕ, suc, ◌+◌, ◌≤◌, Bool, not, eqb, List, [], ◌∷◌, ◌++◌, length, append_assoc, Option, Some, None, Result, Ok, Err, refl, sym, ap, ◌∙◌, arith}
+use Rattle.std.proofs.lemmas.List.Sums.{length-filter, count_by-le-length}
+use Rattle.std.proofs.lemmas.List.Splits.{length-slice_split}
+use Rattle.mapfile_text.specs.Lines.{Line, lines, numbered, filled}
+use Rattle.mapfile_text.specs.Cursor.{OpenLine, line_of}
+use Rattle.map_algebra.specs.declared.shape.Shape.{Shape}
+use Rattle.map_algebra.specs.declared.numbers.NumberError.{NumberError}
+use Rattle.map_algebra.specs.declared.numbers.NumberError.TheVariants.{BadNumber}
+use Rattle.map_algebra.specs.Numbers.{number_in, in_front_of, numbers_of, checked}
+
+length-numbered : (n : ℕ) (ls : List (List ℕ)) → length (numbered n ls) ≡ length ls
+length-numbered n [] = refl
+length-numbered n (l ∷ ls) = ap suc (length-numbered (n + 1) ls)
+
+-- a text has at most as many lines that aren't blank as newlines, and one
+pub few_filled : (text : List ℕ) → length (filled text) ≤ length text + 1
+few_filled text =
+    let newline : ℕ → Bool = λ b. eqb b 10 in
+    omega (
+      arith,
+      length-filter (λ (l : Line). not (eqb (length l.fields) 0)) (numbered 1 (lines text)),
+      count_by-le-length (λ (l : Line). not (eqb (length l.fields) 0)) (numbered 1 (lines text)),
+      length-numbered 1 (lines text),
+      length-slice_split newline text,
+      count_by-le-length newline text,
+    )
+
+-- so many numbers, and those of the lines that are left
+abbrev pub counted : ℕ → Result (List ℕ) ℕ → Result ℕ NumberError
+counted n (Ok ks) = Ok (n + length ks)
+counted n (Err line) = Err (BadNumber line)
+
+abbrev as_ok : ℕ → Result ℕ NumberError
+as_ok n = Ok n
+
+pub counted-begin : (r : Result (List ℕ) ℕ) → checked r ≡ counted 0 r
+counted-begin (Ok ks) = let e : length ks ≡ 0 + length ks = omega arith in ap as_ok e
+counted-begin (Err line) = refl
+
+counted-more : (line n k : ℕ) (r : Result (List ℕ) ℕ) → counted n (in_front_of line (Some k) r) ≡ counted (n + 1) r
+counted-more line n k (Ok ks) =
+    let e : n + length (k ∷ ks) ≡ n + 1 + length ks = omega arith in ap as_ok e
+counted-more line n k (Err other) = refl
+
+pub counted-next : (s : Shape) (total : Result ℕ NumberError) (n : ℕ) (ls : List Line) (l : OpenLine) (k : ℕ)
+    → total ≡ counted n (numbers_of s ls) → ls ≡ line_of l ∷ l.behind → number_in s (line_of l).fields ≡ Some k
+    → total ≡ counted (n + 1) (numbers_of s l.behind)
+counted-next s total n ls l k t e o =
+    t ∙ ap (λ (ls : List Line). counted n (numbers_of s ls)) e
+    ∙ ap (λ (o : Option ℕ). counted n (in_front_of l.number o (numbers_of s l.behind))) o
+    ∙ counted-more l.number n k (numbers_of s l.behind)
+
+pub counted-fault : (s : Shape) (total : Result ℕ NumberError) (n : ℕ) (ls : List Line) (l : OpenLine)
+    → total ≡ counted n (numbers_of s ls) → ls ≡ line_of l ∷ l.behind → number_in s (line_of l).fields ≡ None
+    → total ≡ Err (BadNumber l.number)
+counted-fault s total n ls l t e o =
+    t ∙ ap (λ (ls : List Line). counted n (numbers_of s ls)) e
+    ∙ ap (λ (o : Option ℕ). counted n (in_front_of l.number o (numbers_of s l.behind))) o
+
+pub counted-end : (s : Shape) (total : Result ℕ NumberError) (n : ℕ) (ls : List Line)
+    → total ≡ counted n (numbers_of s ls) → ls ≡ [] → total ≡ Ok n
+counted-end s total n ls t e =
+    let z : n + 0 ≡ n = omega arith in
+    t ∙ ap (λ (ls : List Line). counted n (numbers_of s ls)) e ∙ ap as_ok z
+
+-- some numbers in front of those of the lines that are left
+abbrev pub behind : List ℕ → Result (List ℕ) ℕ → Result (List ℕ) ℕ
+behind ks (Ok more) = Ok (ks ++ more)
+behind ks (Err line) = Err line
+
+abbrev as_list : List ℕ → Result (List ℕ) ℕ
+as_list ks = Ok ks
+
+pub behind-begin : (r : Result (List ℕ) ℕ) → r ≡ behind [] r
+behind-begin (Ok ks) = refl
+behind-begin (Err line) = refl
+
+behind-more : (line k : ℕ) (ks : List ℕ) (r : Result (List ℕ) ℕ)
+    → behind ks (in_front_of line (Some k) r) ≡ behind (ks ++ k ∷ []) r
+behind-more line k ks (Ok more) = ap as_list (sym (append_assoc ks (k ∷ []) more))
+behind-more line k ks (Err other) = refl
+
+pub behind-next : (s : Shape) (total : Result (List ℕ) ℕ) (ks : List ℕ) (ls : List Line) (l : OpenLine) (k : ℕ)
+    → total ≡ behind ks (numbers_of s ls) → ls ≡ line_of l ∷ l.behind → number_in s (line_of l).fields ≡ Some k
+    → total ≡ behind (ks ++ k ∷ []) (numbers_of s l.behind)
+behind-next s total ks ls l k t e o =
+    t ∙ ap (λ (ls : List Line). behind ks (numbers_of s ls)) e
+    ∙ ap (λ (o : Option ℕ). behind ks (in_front_of l.number o (numbers_of s l.behind))) o
+    ∙ behind-more l.number k ks (numbers_of s l.behind)

@@ -1,0 +1,20 @@
+-- A number is at most that of a position's block where its first place lies in front of the position's.
+use Rattle.std.proofs.Common.{ℕ, ◌+◌, ◌-◌, ◌*◌, ◌/◌, ◌≤◌, le_trans, arith}
+use Rattle.std.proofs.lemmas.Nat.{le-div}
+use Rattle.std.proofs.Math.Nat.{div-mul-le_self, mul-le-mul_right}
+use Rattle.map_algebra.proofs.listing.first_of.Goals as goal
+
+pub returns : goal.returns
+returns c = λ x short behind placed.
+    let s = c.args.shape in
+    let n = c.args.number in
+    let p : ℕ = x - s.ipos + s.opos in (
+      λ h.
+          let low : n * s.size ≤ p =
+          le_trans (mul-le-mul_right {m = n} {n = p / s.size} s.size h) (div-mul-le_self p s.size) in
+          omega (arith, low, placed, behind, c.saturating_mul.ensures, c.saturating_sub.ensures, c.saturating_add.ensures),
+      λ h.
+          let low : n * s.size ≤ p =
+          omega (arith, h, short, placed, behind, c.saturating_mul.ensures, c.saturating_sub.ensures, c.saturating_add.ensures) in
+          le-div n p s.size c.requires low,
+    )

@@ -1,0 +1,54 @@
+-- What the definitions mean.
+use Rattle.std.specs.Prelude.{◌≡◌, ◌↔◌, ℕ, ◌+◌, ◌<◌, Bool, true, false, ◌&&◌, ◌||◌, List, sum_by}
+use Rattle.block_list.specs.declared.status.Status.{Status}
+use Rattle.block_list.specs.Map.{Has}
+use Rattle.block_list.specs.Places.{IsRunUp}
+use Rattle.rescue_domain.specs.Domain.{IsIn}
+use Rattle.rescue_domain.specs.Finished.{is_finished_at}
+use Rattle.map_algebra.specs.declared.combine.Op.{Op}
+use Rattle.map_algebra.specs.declared.combine.Op.TheVariants.{And, Or, Xor}
+use Rattle.map_algebra.specs.declared.summary.Count.{Count}
+use Rattle.map_algebra.specs.At.{status_at, map_by}
+use Rattle.map_algebra.specs.Combine.{combined_map}
+use Rattle.map_algebra.specs.Compare.{FinishAlikeIn}
+use Rattle.map_algebra.specs.Summary.{begins_area, summary_of}
+
+-- a map by statuses has each of them
+abbrev pub MapHasEach : Type 0
+MapHasEach = (status : ℕ → Status) (end x : ℕ) → x < end → Has (map_by status end) (status x) x
+
+-- an area begins where a run of the set begins, and each run begins one
+abbrev pub AreasAreRuns : Type 0
+AreasAreRuns =
+    (set : ℕ → Bool) (bound x : ℕ) → ((y : ℕ) → IsIn set y → y < bound)
+    → (begins_area set x ≡ true)
+    ↔ ((end : ℕ) × IsRunUp (IsIn set) x end × ((y : ℕ) → y + 1 ≡ x → IsIn set y → ⊥))
+
+-- each position of a domain is counted in one line of its summary
+abbrev pub LinesAddUp : Type 0
+LinesAddUp =
+    (domain : ℕ → Bool) (statuses : List Status)
+    → sum_by (λ (c : Count). c.bytes) (summary_of domain statuses).lines ≡ (summary_of domain statuses).domain
+
+-- In the domain, and finishes what both maps finish, or what either does;
+abbrev pub AndFinishesBoth : Type 0
+AndFinishesBoth =
+    (domain : ℕ → Bool) (first second : List Status) (x : ℕ) → domain x ≡ true
+    → is_finished_at (combined_map And domain first second) x ≡ (is_finished_at first x && is_finished_at second x)
+
+abbrev pub OrFinishesEither : Type 0
+OrFinishesEither =
+    (domain : ℕ → Bool) (first second : List Status) (x : ℕ) → domain x ≡ true
+    → is_finished_at (combined_map Or domain first second) x ≡ (is_finished_at first x || is_finished_at second x)
+
+-- and no operation changes a position outside of it
+abbrev pub OthersStand : Type 0
+OthersStand =
+    (op : Op) (domain : ℕ → Bool) (first second : List Status) (x : ℕ) → domain x ≡ false
+    → status_at (combined_map op domain first second) x ≡ status_at first x
+
+-- xor with the second once more gives back what the first has finished
+abbrev pub XorUndoesItself : Type 0
+XorUndoesItself =
+    (domain : ℕ → Bool) (first second : List Status)
+    → FinishAlikeIn domain (combined_map Xor domain (combined_map Xor domain first second) second) first

@@ -1,0 +1,11 @@
+pub mod At
+pub mod Blocks
+pub mod Change
+pub mod Combine
+pub mod Compare
+pub mod Create
+pub mod Listing
+pub mod Numbers
+pub mod Summary
+pub mod Laws
+pub mod BlockLaws

@@ -1,0 +1,25 @@
+//! What the definitions mean.
+ghost use Rattle.map_algebra.specs.Laws.{MapHasEach, AndFinishesBoth, OrFinishesEither, OthersStand, XorUndoesItself, AreasAreRuns, LinesAddUp};
+
+/// A map by statuses has each of them.
+pub fn a_map_has_each_status()
+    ensures { MapHasEach }
+{}
+
+/// What two maps in one finish.
+pub fn combined_maps_finish_alike()
+    ensures both { AndFinishesBoth }
+    ensures either { OrFinishesEither }
+    ensures stand { OthersStand }
+    ensures undone { XorUndoesItself }
+{}
+
+/// An area begins where a run does.
+pub fn areas_are_runs()
+    ensures { AreasAreRuns }
+{}
+
+/// The lines of a summary add up to the domain.
+pub fn lines_add_up()
+    ensures { LinesAddUp }
+{}

@@ -1,0 +1,15 @@
+//! Operations on maps by position: changed, two in one or compared, counted; and lists of the blocks of the output.
+#![tactic(auto)]
+
+pub mod block_laws;
+mod blocks;
+pub mod change;
+pub mod combine;
+pub mod compare;
+pub mod create;
+pub mod laws;
+pub mod listing;
+pub mod numbers;
+mod pieces;
+pub mod shape;
+pub mod summary;

@@ -1,0 +1,184 @@
+//! Walks along a map and a domain, a piece at a time, and the map that a walk makes.
+ghost use Rattle.std.specs.Prelude.{◌≡◌, ◌-◌, ◌<◌, ◌≤◌, ◌^◌, ◌++◌, length, replicate, OnOk, OnErr};
+ghost use Rattle.block_list.specs.Status.{same};
+ghost use Rattle.block_list.specs.Stretches.{IsStretchAt};
+ghost use Rattle.rescue_domain.specs.Parts.{covers};
+ghost use Rattle.rescue_domain.specs.Stretch.{IsConstant};
+ghost use Rattle.map_algebra.specs.At.{status_at};
+
+use block_list::block::Block;
+use block_list::plain_tiles::PlainTiles;
+use block_list::status::Status;
+use block_list::tiles::{NoMemory, Tiles};
+use rescue_domain::domain::Domain;
+
+/// Positions up to `to` of one status.
+#[derive(Clone, Copy)]
+pub(crate) struct Stretch {
+    pub to: u64,
+    pub status: Status,
+}
+
+/// Positions up to `to` of one status, all of them in a domain, or none.
+#[derive(Clone, Copy)]
+pub(crate) struct Piece {
+    pub to: u64,
+    pub status: Status,
+    pub inside: bool,
+}
+
+/// Positions up to `to` of one status in each of two maps, all of them in a domain, or none.
+#[derive(Clone, Copy)]
+pub(crate) struct Pair {
+    pub to: u64,
+    pub first: Status,
+    pub second: Status,
+    pub inside: bool,
+}
+
+/// Where to look first, in a map and in a domain. It changes no answer; a walk upwards with one of these goes over the
+/// stretches of the map and the intervals of the domain once.
+#[derive(Clone, Copy)]
+pub(crate) struct Near {
+    stretch: usize,
+    part: usize,
+}
+
+impl Near {
+    /// In front of all.
+    pub(crate) fn start() -> Near {
+        Near {
+            stretch: 0,
+            part: 0,
+        }
+    }
+}
+
+/// The same for two maps.
+#[derive(Clone, Copy)]
+pub(crate) struct PairNear {
+    first: Near,
+    second: usize,
+}
+
+impl PairNear {
+    /// In front of all.
+    pub(crate) fn start() -> PairNear {
+        PairNear {
+            first: Near::start(),
+            second: 0,
+        }
+    }
+}
+
+/// The stretch of a map that holds a position. `near` is the number of the stretch to look at first, and then that of
+/// this one. A position in front of that first stretch is found by halves, and `near` is 0 then.
+fn stretch_near<T: Tiles>(tiles: &T, near: &mut usize, x: u64) -> Block
+    requires { x < length (T.statuses tiles.now) }
+    ensures { IsStretchAt (T.statuses tiles.now) x result }
+{
+    let count = tiles.blocks();
+    while *near < count {
+        let block = tiles.block(*near);
+        if x < block.pos {
+            break;
+        }
+        if x - block.pos < block.size {
+            return block;
+        }
+        *near += 1;
+    }
+    *near = 0;
+    tiles.stretch_at(x)
+}
+
+/// The status of a position, and up to where, at most a limit, the positions behind it have it too.
+pub(crate) fn status_from<T: Tiles>(tiles: &T, near: &mut usize, x: u64, limit: u64) -> Stretch
+    requires { x < limit }
+    ensures stretch { IsConstant (status_at (T.statuses tiles.now)) x result.to result.status }
+    ensures limit { result.to ≤ limit }
+{
+    if tiles.end() <= x {
+        return Stretch {
+            to: limit,
+            status: Status::NonTried,
+        };
+    }
+    let block = stretch_near(tiles, near, x);
+    Stretch {
+        to: limit.min(block.pos + block.size),
+        status: block.status,
+    }
+}
+
+/// The piece at a position, up to a limit at most.
+pub(crate) fn piece_at<T: Tiles>(
+    tiles: &T,
+    domain: &Domain,
+    near: &mut Near,
+    x: u64,
+    limit: u64,
+) -> Piece
+    requires { x < limit }
+    ensures status { IsConstant (status_at (T.statuses tiles.now)) x result.to result.status }
+    ensures inside { IsConstant (covers domain.now) x result.to result.inside }
+    ensures limit { result.to ≤ limit }
+{
+    let stretch = status_from(tiles, &mut near.stretch, x, limit);
+    let part = domain.stretch_at(&mut near.part, x, stretch.to);
+    Piece {
+        to: part.to,
+        status: stretch.status,
+        inside: part.inside,
+    }
+}
+
+/// The same of two maps.
+pub(crate) fn pair_at<T: Tiles, U: Tiles>(
+    first: &T,
+    second: &U,
+    domain: &Domain,
+    near: &mut PairNear,
+    x: u64,
+    limit: u64,
+) -> Pair
+    requires { x < limit }
+    ensures first { IsConstant (status_at (T.statuses first.now)) x result.to result.first }
+    ensures second { IsConstant (status_at (U.statuses second.now)) x result.to result.second }
+    ensures inside { IsConstant (covers domain.now) x result.to result.inside }
+    ensures limit { result.to ≤ limit }
+{
+    let piece = piece_at(first, domain, &mut near.first, x, limit);
+    let other = status_from(second, &mut near.second, x, piece.to);
+    Pair {
+        to: other.to,
+        first: piece.status,
+        second: other.status,
+        inside: piece.inside,
+    }
+}
+
+/// Gives a status to the positions from a map's end up to another, if that lies behind. The map is as before where the
+/// memory for one block wasn't there.
+pub(crate) fn put(tiles: &mut PlainTiles, to: u64, status: Status) -> Result<(), NoMemory>
+    requires { to < 2 ^ 63 }
+    ensures ok { OnOk result (tiles.new.statuses
+        ≡ tiles.old.statuses ++ replicate (to - length tiles.old.statuses) status) }
+    ensures err { OnErr result (tiles.new.statuses ≡ tiles.old.statuses) }
+{
+    let pos = tiles.end();
+    let size = to.saturating_sub(pos);
+    tiles
+        .push(Block { pos, size, status })
+        .map_err(|_| NoMemory)
+}
+
+/// Whether a status is that of a finished position.
+pub(crate) fn is_finished(status: Status) -> bool
+    ensures { result ≡ same status Status.Finished }
+{
+    match status {
+        Status::Finished => true,
+        _ => false,
+    }
+}

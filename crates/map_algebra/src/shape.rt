@@ -1,0 +1,12 @@
+//! Where blocks stand in the output.
+
+/// Blocks of `size` bytes each in the output, in which the position `ipos` stands at the place `opos`.
+#[derive(Clone, Copy, Debug, PartialEq, Eq)]
+pub struct Shape {
+    /// The first position that stands in the output.
+    pub ipos: u64,
+    /// Its place there.
+    pub opos: u64,
+    /// How many bytes a block has.
+    pub size: u64,
+}
