@@ -1,0 +1,5 @@
+pub mod Modes
+pub mod Options
+pub mod Command
+pub mod Laws
+pub mod Examples
