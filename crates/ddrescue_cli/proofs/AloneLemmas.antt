@@ -1,5 +1,5 @@
 -- What is said where one of the objects tells.
-use Rattle.std.proofs.Common.{◌≡◌, ℕ, Bool, true, false, IsTrue, List, [], ◌++◌, replicate, Option, Some, None, Ok, Err, refl, sym, ap, ◌∙◌, inl, inr, subst, append-nil, arith}
+use Rattle.std.proofs.Common.{◌≡◌, ℕ, Bool, List, [], ◌++◌, replicate, Option, None, refl, sym, ap, ◌∙◌, inl, inr, subst, append-nil, arith}
 use Rattle.std.proofs.lemmas.List.{length-replicate}
 use Rattle.std.proofs.lemmas.List.Elements.{All-nil}
 use Rattle.block_list.specs.declared.status.Status.{Status}
@@ -7,9 +7,7 @@ use Rattle.block_list.specs.declared.status.Status.TheVariants.{NonTried}
 use Rattle.faulty_source.specs.SourceState.{SourceState}
 use Rattle.crash_site.specs.declared.site.SiteCall.{SiteCall}
 use Rattle.crash_site.specs.declared.site.SiteCall.TheVariants.{ImageOpen, ImageRead, ImageWrite, ImageSync, MapRead, DraftBegin, DraftAppend, DraftSync, DraftPublish, MapSettle, MapRemove}
-use Rattle.crash_site.specs.Files.{File}
-use Rattle.crash_site.specs.Calls.{Entry}
-use Rattle.crash_site.specs.SiteState.{SiteState, files_in}
+use Rattle.crash_site.specs.SiteState.{SiteState}
 use Rattle.save_resume.specs.MapNames.{MapNames}
 use Rattle.save_resume.specs.Resuming.{IsResumeCall}
 use Rattle.option_words.specs.declared.fault.UsageFault.TheVariants.{PlaceTooLarge}
@@ -22,15 +20,13 @@ use Rattle.rescue_rules.specs.Moves.{IsMove}
 use Rattle.rescue_rules.specs.Beginning.{machine_over}
 use Rattle.ddrescue_cli.specs.declared.ending.Ending.{Ending}
 use Rattle.ddrescue_cli.specs.declared.ending.Ending.TheVariants.{Done, Usage, NotRegular, MapRefused, SiteFault, NoMemory}
-use Rattle.ddrescue_cli.specs.declared.load.Start.{Start}
 use Rattle.ddrescue_cli.specs.Asked.{Maps, ArePlacedBy, IsBeyond}
-use Rattle.ddrescue_cli.specs.Maps.{names_maps}
-use Rattle.ddrescue_cli.specs.Refusals.{MapfileRefused, PlacesRefused}
+use Rattle.ddrescue_cli.specs.Refusals.{PlacesRefused}
 use Rattle.copy_passes.specs.Turns.{IsFrom}
-use Rattle.ddrescue_cli.specs.Alone.{HasRead, MapsPass, MapfilePasses, OutputPasses, UnlessMaps, CallPasses, FilesAllow, ArePlaced, CallPlaced, PlacesAllow}
-use Rattle.ddrescue_cli.specs.Steps.{EndsRun, OutputStop, LoadStopped, InBarrier, InRead, Starved, Refused, LoadCause}
+use Rattle.ddrescue_cli.specs.Alone.{HasRead, ArePlaced, CallPlaced, PlacesAllow}
+use Rattle.ddrescue_cli.specs.Steps.{EndsRun, OutputStop, LoadCause}
 use Rattle.ddrescue_cli.proofs.RanLemmas.{none_asked}
-use Rattle.ddrescue_cli.proofs.WorkLemmas.{HasLoaded, IsRegular, here, none_seen, placed_passes, setting_by}
+use Rattle.ddrescue_cli.proofs.WorkLemmas.{none_seen, placed_passes, setting_by}
 
 -- nothing was read
 pub none_read : (s : Setting) (test : Option (List Status)) (e : Ending) (s0 s1 : SourceState) → (e ≡ Done → ⊥)
@@ -90,81 +86,6 @@ run_has_read c n l end all maps test e s0 s1 s2 whole same bytes r =
       well = r.well;
     } in
     subst P whole own
-
--- what the files allow, by where a rescue stopped
-pub output_allows : (c : Command) (s : Setting) (e : Ending) (old new : SiteState) → IsTrue old.tells
-    → OutputStop e s.outfile s.forced old new → MapsPass c (files_in old) → FilesAllow e c s (files_in old)
-output_allows c s e old new td (inl stop) pass = rw stop.0 (pass, (stop.1, stop.2 td, refl))
-output_allows c s e old new td (inr stop) pass = rw stop.0 pass
-
--- a read of a mapfile may be of a map that an option names
-unless_maps : (maps : Bool) (P : Type 0) → P → UnlessMaps maps P
-unless_maps true P p = tt
-unless_maps false P p = p
-
-load_allows : (c : Command) (n : MapNames) (l : List ℕ) (end : ℕ) (maps : Maps) (e : Ending) (d : SiteState)
-    (calls calls' : List Entry) → IsRegular c.options.forced c.outfile d
-    → LoadStopped n (files_in d n.map) e calls calls' → MapsPass c (files_in d)
-    → FilesAllow e c (setting_by c (Some n) l end maps) (files_in d)
-load_allows c n l end maps e d calls calls' regular (InBarrier call is (inl (name, lost))) pass =
-    rw (is, name) (record { maps = pass; regular = regular })
-load_allows c n l end maps e d calls calls' regular (InBarrier call is (inr (inl (name, lost)))) pass =
-    rw (is, name) (record { maps = pass; regular = regular })
-load_allows c n l end maps e d calls calls' regular (InBarrier call is (inr (inr broke))) pass = absurd broke
-load_allows c n l end maps e d calls calls' regular (InRead load is begins broke) pass =
-    rw is (unless_maps (names_maps c) (OutputPasses c (setting_by c (Some n) l end maps) (files_in d))
-    (record { maps = pass; regular = regular }))
-load_allows c n l end maps e d calls calls' regular (Starved load is begins made) pass = rw is tt
-load_allows c n l end maps e d calls calls' regular (Refused load refused loaded made) pass =
-    let P : Ending → Type 0 = λ v. FilesAllow v c (setting_by c (Some n) l end maps) (files_in d) in
-    subst P (sym refused.3) (record { maps = pass; regular = regular }, (refused.0, refused.1, refused.2, refl))
-
--- the same of a mapfile as it reads behind the open of the output, and without one
-pub load_allows_behind : (c : Command) (n : Option MapNames) (l : List ℕ) (end all : ℕ) (maps : Maps) (e : Ending)
-    (d0 d1 d2 : SiteState) → HasLoaded c n end (Err e) d0 d1 d2 → MapsPass c (files_in d0)
-    → FilesAllow e c (setting_by c n l all maps) (files_in d0)
-load_allows_behind c (Some n) l end all maps e d0 d1 d2 h pass =
-    let P : Option File → Type 0 = λ f. LoadStopped n f e d1.calls d2.calls in
-    load_allows c n l all maps e d0 d1.calls d2.calls h.regular
-    (subst P (here c.outfile n d0 d1 h.apart h.made) h.loaded.0) pass
-load_allows_behind c None l end all maps e d0 d1 d2 h pass = rw h.loaded.1 tt
-
--- a load that went on to its end
-pub load_passes : (c : Command) (n : Option MapNames) (l : List ℕ) (end all : ℕ) (maps : Maps) (start : Start)
-    (d0 d1 d2 : SiteState) → HasLoaded c n end (Ok start) d0 d1 d2 → MapsPass c (files_in d0)
-    → MapfilePasses c (setting_by c n l all maps) (files_in d0)
-load_passes c (Some n) l end all maps start d0 d1 d2 h pass =
-    let P : Option File → Type 0 = λ f. (v : Ending) → MapfileRefused f v → ⊥ in
-    record {
-      output = record { maps = pass; regular = h.regular };
-      accepted = subst P (here c.outfile n d0 d1 h.apart h.made) h.loaded.accepted;
-    }
-load_passes c None l end all maps start d0 d1 d2 h pass = record {
-  output = record { maps = pass; regular = h.regular };
-  accepted = λ v refused. let no : None ≡ Some _ = refused.1.is in cc;
-}
-
-call_passes : (call : SiteCall) (c : Command) (s : Setting) (files : List ℕ → Option File) → MapfilePasses c s files
-    → CallPasses call c s files
-call_passes ImageOpen c s files pass = pass.output.maps
-call_passes ImageRead c s files pass = pass
-call_passes ImageWrite c s files pass = pass
-call_passes ImageSync c s files pass = pass.output
-call_passes MapRead c s files pass = unless_maps (names_maps c) (OutputPasses c s files) pass.output
-call_passes DraftBegin c s files pass = pass
-call_passes DraftAppend c s files pass = pass
-call_passes DraftSync c s files pass = pass
-call_passes DraftPublish c s files pass = pass
-call_passes MapSettle c s files pass = pass.output
-call_passes MapRemove c s files pass = pass
-
-pub run_allows : (c : Command) (s : Setting) (files : List ℕ → Option File) (e : Ending) → EndsRun e
-    → MapfilePasses c s files → FilesAllow e c s files
-run_allows c s files e (Finished, is) pass = rw is pass
-run_allows c s files e (Stopped InputLost, is) pass = rw is pass
-run_allows c s files e (Stopped (Site call), is) pass = rw is (call_passes call c s files pass)
-run_allows c s files e (Stopped NoRoom, is) pass = rw is tt
-run_allows c s files e (SaveFailed call earlier, is) pass = rw is (call_passes call c s files pass)
 
 -- what is said of the places, by where a rescue stopped
 pub output_places : (o : Options) (end : ℕ) (e : Ending) (out : List ℕ) (forced : Bool) (old new : SiteState)

@@ -1,5 +1,5 @@
 -- What stands behind the answer of a rescue.
-use Rattle.std.proofs.Common.{◌≡◌, ℕ, ◌+◌, ◌*◌, ◌-◌, ◌≤◌, zero, suc, Bool, true, false, if◌then◌else◌, refl, List, [], ◌++◌, ◌∷◌, map, filter, length, take, drop, Option, Some, None, sym, ◌∙◌, ap, subst, arith, inl, inr, ⊎_elim, length-append}
+use Rattle.std.proofs.Common.{◌≡◌, ℕ, ◌+◌, ◌*◌, ◌-◌, ◌≤◌, zero, suc, Bool, true, false, if◌then◌else◌, refl, List, [], ◌++◌, ◌∷◌, map, filter, length, take, drop, Option, Some, None, option_map, sym, ◌∙◌, ap, subst, arith, inl, inr, ⊎_elim, length-append}
 use Rattle.std.specs.List.{count_by, slice_get}
 use Rattle.std.proofs.Math.Seq.{take-length}
 use Rattle.std.proofs.lemmas.Bool.{cases_Bool}
@@ -19,6 +19,7 @@ use Rattle.crash_site.proofs.DiskLemmas.{reads_until}
 use Rattle.crash_site.proofs.LawLemmas.{after-append}
 use Rattle.faulty_source.specs.Journal.{Reading}
 use Rattle.option_words.specs.declared.fault.UsageFault.TheVariants.{PlaceTooLarge}
+use Rattle.save_resume.specs.MapNames.{names_of}
 use Rattle.save_resume.specs.Loading.{BeginsLoad, IsLoad}
 use Rattle.save_resume.specs.Resuming.{barrier_calls}
 use Rattle.rescue_rules.specs.Setting.{Setting}
@@ -40,7 +41,7 @@ use Rattle.rescue_rules.specs.declared.stop.Stop.{Stop}
 use Rattle.rescue_rules.specs.declared.stop.Stop.TheVariants.{SourceLost as InputLost, Site, NoMemory as NoRoom}
 use Rattle.rescue_rules.specs.declared.stop.RunEnd.{RunEnd}
 use Rattle.rescue_rules.specs.Work.{Gain, begins, events_in, opening_calls, mapfile_in, IsLoadOf, AreMapReads, EndsBy, end_of, Ends, IsSaved as RunSaved, IsUnsaved, IsBroken}
-use Rattle.rescue_rules.specs.Stops.{LeftAt, has_barrier, is_settle, is_publish, returned, published, files_before, IsSave, IsKept}
+use Rattle.rescue_rules.specs.Stops.{LeftAt, has_barrier, is_settle, is_publish, returned, published, files_before, IsSave, IsKept, StopsSafely}
 use Rattle.ddrescue_cli.specs.declared.ending.Ending.{Ending}
 use Rattle.ddrescue_cli.specs.declared.ending.Ending.TheVariants.{Done, Usage, SameName, NoMap, SourceFault, NotRegular, MapRefused, SourceLost, SiteFault, NoMemory}
 use Rattle.ddrescue_cli.specs.declared.ending.Which.{Which}
@@ -49,13 +50,18 @@ use Rattle.rescue_command.specs.declared.options.Options.{Options}
 use Rattle.rescue_command.specs.Command.{Command, Asks}
 use Rattle.option_words.specs.Words.{command_line}
 use Rattle.ddrescue_cli.specs.Names.{program_name}
-use Rattle.ddrescue_cli.specs.Asked.{Maps}
+use Rattle.ddrescue_cli.specs.Asked.{Maps, setting_of}
 use Rattle.ddrescue_cli.proofs.AskedLemmas.{asked_sensible}
+use Rattle.ddrescue_cli.proofs.GainLemmas.{gained_is}
 use Rattle.save_resume.specs.Named.{map_mode}
 use Rattle.ddrescue_cli.specs.Refusals.{NamedMapRefused, MapfileRefused, PlacesRefused}
-use Rattle.ddrescue_cli.specs.Told.{Told, AllTell, what_was_done, calls_before, files_of, asked}
-use Rattle.ddrescue_cli.specs.Work.{answer_of, OrRefused, ThenRead, ThenMap, ThenRun, RunsOver, WorksOn, WorksBehindWords, Works}
-use Rattle.ddrescue_cli.specs.Ddrescue.{Ddrescue}
+use Rattle.ddrescue_cli.specs.Told.{Told, AllTell, what_was_done, calls_before, files_of, asked, asked_to}
+use Rattle.work_steps.specs.Work.{Opening, Deeds, Step, Look, Read, Works, with_calls, with_opens}
+use Rattle.ddrescue_cli.specs.Maps.{file_of, mapfile_of}
+use Rattle.ddrescue_cli.specs.Outside.{found_in, HasGainedReads}
+use Rattle.ddrescue_cli.specs.Work.{answer_of, Rescues, RunsOver, rescue_faults, map_rows, mapfile_rows, opened_rows, rescue_rows, worked_rows}
+use Rattle.ddrescue_cli.proofs.WorkLemmas.{WorksOpened, setting_by}
+use Rattle.ddrescue_cli.specs.Ddrescue.{IsWork, Promise, Ddrescue}
 use Rattle.ddrescue_cli.specs.Laws.{maps_by, done_by, HoldsAtEnd, IsFinished, DoneIsSaved, comes_to}
 use Rattle.trim_scrape.proofs.EndingLemmas.{run_ends_well}
 use Rattle.ddrescue_cli.proofs.OutputLemmas.{holds_whole}
@@ -83,11 +89,53 @@ left_at_end maps t d tell =
     (subst Q (sym (d.gains tell).calls)
     (left_all t.site.start calls k (sym (length-append t.site.calls gained))))
 
+-- What was done where all tell: it is the objects' own, and the work and its stops are by that.
+pub record OwnWork (c : Command) (maps : Maps) (t : Told) : Type 0 where
+  pub opens : List Opening
+  pub works : Works rescue_faults (rescue_rows c (found_in c (files_of t)) (length t.source.bytes))
+      (Rescues (asked c maps t) (mapfile_of c (files_of t))) t.answer
+      (record { opens = opens; gain = what_was_done maps t })
+  pub stops : (asked c maps t).has_mapfile ≡ true → StopsSafely (calls_before t) (asked c maps t) (what_was_done maps t)
+
+-- what the objects gained is what the work did
+gain_is : (c : Command) (maps : Maps) (end : ℕ) (t : Told) → AllTell t → (w : IsWork c maps end t)
+    → w.did.gain ≡ what_was_done maps t
+gain_is c maps end t tell w =
+    let h : HasGainedReads maps.test t.source t.source' w.did.gain.reads = w.reads tell.source in
+    rw (
+      gained_is t.site.calls t.site'.calls w.did.gain.calls w.calls,
+      gained_is t.source.journal t.source'.journal h.raw h.journal,
+      gained_is t.clock.readings t.clock'.readings w.did.gain.times (w.times tell.clock),
+      h.seen_are,
+    )
+    refl
+
+own_work : (c : Command) (maps : Maps) (end : ℕ) (t : Told) → AllTell t → end ≡ length t.source.bytes
+    → IsWork c maps end t → OwnWork c maps t
+own_work c maps end t tell own w =
+    let g : Gain = what_was_done maps t in
+    let same : w.did.gain ≡ g = gain_is c maps end t tell w in
+    let W : ℕ → Gain → Type 0 = λ n did. Works rescue_faults (rescue_rows c (found_in c (files_of t)) n)
+    (Rescues (asked_to c maps t n) (mapfile_of c (files_of t))) t.answer
+    (record { opens = w.did.opens; gain = did }) in
+    let S : ℕ → Gain → Type 0 = λ n did. (asked_to c maps t n).has_mapfile ≡ true
+    → StopsSafely (calls_before t) (asked_to c maps t n) did in
+    record {
+      opens = w.did.opens;
+      works = subst (λ (n : ℕ). W n g) own (subst (W end) same w.works);
+      stops = subst (λ (n : ℕ). S n g) own (subst (S end) same w.stops);
+    }
+
+pub own_by : (t : Told) (c : Command) (d : Ddrescue t) (asks : Asks t.words c) → AllTell t → OwnWork c (maps_by d asks) t
+own_by t c d asks tell =
+    let p : Promise c t = d.asked_for c asks in
+    own_work c p.maps p.end t tell (p.own_end tell.source) (p.work tell.site)
+
 pub holds_at_end : HoldsAtEnd
 holds_at_end t c began state d asks tell on is stands =
     let calls : List Entry = (done_by d asks).calls in
     let whole : take (length calls) calls ≡ calls = take-length calls in
-    ((d.asked_for c asks).stops tell on).kept (length calls) (files_in t.site') began state (omega arith)
+    ((own_by t c d asks tell).stops on).kept (length calls) (files_in t.site') began state (omega arith)
     (left_at_end (maps_by d asks) t d tell) (ap has_barrier whole ∙ is) stands
 
 -- a run that ended with a save
@@ -147,14 +195,14 @@ record DoneRest (s : Setting) (mapfile : Option File) (g : Gain) : Type 0 where
   stands : Stands mapfile s.end statuses state
   over : DoneOver s statuses state g
 
-done_rest : (o : Options) (s : Setting) (mapfile : Option File) (e : Ending) (g : Gain) → Done ≡ e
-    → OrRefused (PlacesRefused o s.end) (ThenRun s mapfile) e g → DoneRest s mapfile g
-done_rest o s mapfile e g is (inl (refused, none)) = absurd (let no : Done ≡ Usage PlaceTooLarge = is ∙ refused.1 in cc)
-done_rest o s mapfile e g is (inr (placed, ran)) = record {
-  statuses = ran.0;
-  state = ran.1;
-  stands = ran.2;
-  over = done_over s ran.0 ran.1 e g is ran.3;
+done_rest : (o : Options) (s : Setting) (mapfile : Option File) (e : Ending) (d : Deeds) → Done ≡ e
+    → Works rescue_faults (Look (PlacesRefused o s.end) ∷ []) (Rescues s mapfile) e d → DoneRest s mapfile d.gain
+done_rest o s mapfile e d is (inl (refused, none)) = absurd (let no : Done ≡ Usage PlaceTooLarge = is ∙ refused.1 in cc)
+done_rest o s mapfile e d is (inr (placed, (none, (shown, at, stand, runs)))) = record {
+  statuses = shown;
+  state = at;
+  stands = stand;
+  over = done_over s shown at e d.gain is runs;
 }
 
 -- a load behind the barrier, and that run
@@ -165,23 +213,22 @@ record DoneLoad (s : Setting) (files : List ℕ → Option File) (calls : List E
   grew : calls ≡ map Returned load ++ run
   rest : DoneRest s (mapfile_in s files) (record g { calls = run })
 
-done_load : (o : Options) (s : Setting) (files : List ℕ → Option File) (e : Ending) (g : Gain) → Done ≡ e
-    → ThenRead s.names.map (files s.names.map)
-    (OrRefused (MapfileRefused (files s.names.map))
-    (OrRefused (PlacesRefused o s.end) (ThenRun s (mapfile_in s files)))) e g
-    → DoneLoad s files g.calls g
-done_load o s files e g is (inl (load, failed, begun, broke, only)) =
+done_load : (o : Options) (s : Setting) (files : List ℕ → Option File) (e : Ending) (d : Deeds) → Done ≡ e
+    → Works rescue_faults (Read (Some s.names.map) (files s.names.map) ∷ Look (MapfileRefused (files s.names.map))
+    ∷ Look (PlacesRefused o s.end) ∷ []) (Rescues s (mapfile_in s files)) e d
+    → DoneLoad s files d.gain.calls d.gain
+done_load o s files e d is (inl (load, failed, begun, broke, only)) =
     absurd (let no : Done ≡ SiteFault MapRead None = is ∙ failed in cc)
-done_load o s files e g is (inr (inl (load, starved, begun, all, only))) =
+done_load o s files e d is (inr (inl (load, starved, begun, all, only))) =
     absurd (let no : Done ≡ NoMemory = is ∙ starved in cc)
-done_load o s files e g is (inr (inr (load, run, loaded, all, inl (refused, none)))) =
+done_load o s files e d is (inr (inr (load, run, loaded, all, inl (refused, none)))) =
     absurd (let no : Done ≡ MapRefused RunMap refused.0 = is ∙ refused.3 in cc)
-done_load o s files e g is (inr (inr (load, run, loaded, all, inr (accepted, next)))) = record {
+done_load o s files e d is (inr (inr (load, run, loaded, all, inr (accepted, next)))) = record {
   load = load;
   loaded = loaded;
   run = run;
   grew = all;
-  rest = done_rest o s (mapfile_in s files) e (record g { calls = run }) is next;
+  rest = done_rest o s (mapfile_in s files) e (with_calls d run) is next;
 }
 
 -- what a rescue that is done did
@@ -236,30 +283,47 @@ done_without s files g rest off grew d =
           ∙ ap (λ (front : List Call). map Returned (front ++ []) ++ last) (sym (opened_alone s off));
     }
 
-done_runs : (c : Command) (s : Setting) (files : List ℕ → Option File) (e : Ending) (g : Gain) → Done ≡ e
-    → WorksOn c s files e g → DoneRun s files g
-done_runs c s files e g is (inl (refused, none)) = absurd (let no : Done ≡ SourceFault = is ∙ refused in cc)
-done_runs c s files e g is (inr (inl (call, failed, broke, only))) =
-    absurd (let no : Done ≡ SiteFault call None = is ∙ failed in cc)
-done_runs c s files e g is (inr (inr (rest, grew, inl (refused, none)))) =
-    absurd (let no : Done ≡ NotRegular = is ∙ refused.2 in cc)
-done_runs c s files e g is (inr (inr (rest, grew, inr (ok, inl (on, inl (call, failed, broke, only)))))) =
-    absurd (let no : Done ≡ SiteFault call None = is ∙ failed in cc)
-done_runs c s files e g is (inr (inr (rest, grew, inr (ok, inl (on, inr (more, grew', read)))))) =
-    done_with s files g rest more on grew grew' (done_load c.options s files e (record g { calls = more }) is read)
-done_runs c s files e g is (inr (inr (rest, grew, inr (ok, inr (off, inl (starved, none)))))) =
+-- what follows the opening of the output
+done_output : (c : Command) (mapfile : Option (List ℕ)) (line : List ℕ) (end : ℕ) (maps : Maps)
+    (files : List ℕ → Option File) (e : Ending) (d : Deeds) (rest : List Entry) → Done ≡ e
+    → d.gain.calls ≡ opened (setting_by c (option_map names_of mapfile) line end maps) ++ rest
+    → Works rescue_faults (mapfile_rows c.options mapfile (file_of mapfile files) end)
+    (Rescues (setting_by c (option_map names_of mapfile) line end maps) (file_of mapfile files)) e (with_calls d rest)
+    → DoneRun (setting_by c (option_map names_of mapfile) line end maps) files d.gain
+done_output c None line end maps files e d rest is grew (inl (call, failed, broke, only)) = absurd broke
+done_output c None line end maps files e d rest is grew (inr (more, same, inl (starved, none))) =
     absurd (let no : Done ≡ NoMemory = is ∙ starved in cc)
-done_runs c s files e g is (inr (inr (rest, grew, inr (ok, inr (off, inr next))))) =
-    done_without s files g rest off grew
-    (done_rest c.options s (mapfile_in s files) e (record g { calls = rest }) is next)
+done_output c None line end maps files e d rest is grew (inr (more, same, inr (absent, inl (refused, none)))) =
+    absurd (let no : Done ≡ MapRefused RunMap refused.0 = is ∙ refused.3 in cc)
+done_output c None line end maps files e d rest is grew (inr (more, same, inr (absent, inr (passes, w)))) =
+    let s : Setting = setting_by c None line end maps in
+    done_without s files d.gain more refl (grew ∙ ap (λ (r : List Entry). opened s ++ r) same)
+    (done_rest c.options s None e (with_calls d more) is w)
+done_output c (Some n) line end maps files e d rest is grew (inl (call, failed, broke, only)) =
+    absurd (let no : Done ≡ SiteFault call None = is ∙ failed in cc)
+done_output c (Some n) line end maps files e d rest is grew (inr (more, grew', read)) =
+    let s : Setting = setting_by c (Some (names_of n)) line end maps in
+    done_with s files d.gain rest more refl grew grew' (done_load c.options s files e (with_calls d more) is read)
+
+done_runs : (c : Command) (line : List ℕ) (end : ℕ) (maps : Maps) (files : List ℕ → Option File) (e : Ending)
+    (d : Deeds) → Done ≡ e → WorksOpened c (setting_of c line end maps) files e d
+    → DoneRun (setting_of c line end maps) files d.gain
+done_runs c line end maps files e d is (inl (refused, opens, none)) =
+    absurd (let no : Done ≡ SourceFault = is ∙ refused in cc)
+done_runs c line end maps files e d is (inr (os, opens, inl (call, failed, broke, only))) =
+    absurd (let no : Done ≡ SiteFault call None = is ∙ failed in cc)
+done_runs c line end maps files e d is (inr (os, opens, inr (rest, grew, inl (refused, none)))) =
+    absurd (let no : Done ≡ NotRegular = is ∙ refused.2 in cc)
+done_runs c line end maps files e d is (inr (os, opens, inr (rest, grew, inr (passes, w)))) =
+    done_output c c.mapfile line end maps files e (with_opens d os) rest is grew w
 
 -- the reads of a map that an option names, and what follows it
-record DoneMap (Q : Ending → Gain → Type 0) (e : Ending) (g : Gain) : Type 0 where
+record DoneMap (more : List (Step Ending)) (run : Ending → Deeds → Type 0) (e : Ending) (d : Deeds) : Type 0 where
   maps : List Call
   are : AreMapReads maps
   rest : List Entry
-  grew : g.calls ≡ map Returned maps ++ rest
-  next : Q e (record g { calls = rest })
+  grew : d.gain.calls ≡ map Returned maps ++ rest
+  next : Works rescue_faults more run e (with_calls d rest)
 
 -- no refusal of it is done
 done_named : (which : Which) (mode : Mode) (file : Option File) (e : Ending) → Done ≡ e
@@ -268,23 +332,27 @@ done_named which mode file e is (inl refused) = let no : Done ≡ NoMap which = 
 done_named which mode file e is (inr refused) = let no : Done ≡ MapRefused which refused.0 = is ∙ refused.2 in cc
 
 done_map : (which : Which) (mode : Mode) (name : Option (List ℕ)) (files : List ℕ → Option File)
-    (Q : Ending → Gain → Type 0) (e : Ending) (g : Gain) → Done ≡ e → ThenMap which mode name files Q e g
-    → DoneMap Q e g
-done_map which mode None files Q e g is next =
-    record { maps = []; are = All-nil IsMapRead; rest = g.calls; grew = refl; next = next }
-done_map which mode (Some name) files Q e g is (inl (load, failed, begun, broke, only)) =
-    absurd (let no : Done ≡ SiteFault MapRead None = is ∙ failed in cc)
-done_map which mode (Some name) files Q e g is (inr (inl (load, starved, begun, all, only))) =
+    (more : List (Step Ending)) (run : Ending → Deeds → Type 0) (e : Ending) (d : Deeds) → Done ≡ e
+    → Works rescue_faults (map_rows which mode name (file_of name files) ++ more) run e d → DoneMap more run e d
+done_map which mode None files more run e d is (inl (starved, none)) =
     absurd (let no : Done ≡ NoMemory = is ∙ starved in cc)
-done_map which mode (Some name) files Q e g is (inr (inr (load, rest, loaded, all, inl (refused, none)))) =
-    absurd (done_named which mode (files name) e is refused)
-done_map which mode (Some name) files Q e g is (inr (inr (load, rest, loaded, all, inr (accepted, next)))) =
+done_map which mode None files more run e d is (inr (absent, inl (refused, none))) =
+    absurd (done_named which mode None e is refused.1)
+done_map which mode None files more run e d is (inr (absent, inr (passes, w))) =
+    record { maps = []; are = All-nil IsMapRead; rest = d.gain.calls; grew = refl; next = w }
+done_map which mode (Some name) files more run e d is (inl (load, failed, begun, broke, only)) =
+    absurd (let no : Done ≡ SiteFault MapRead None = is ∙ failed in cc)
+done_map which mode (Some name) files more run e d is (inr (inl (load, starved, begun, all, only))) =
+    absurd (let no : Done ≡ NoMemory = is ∙ starved in cc)
+done_map which mode (Some name) files more run e d is (inr (inr (load, back, loaded, all, inl (refused, none)))) =
+    absurd (done_named which mode (files name) e is refused.1)
+done_map which mode (Some name) files more run e d is (inr (inr (load, back, loaded, all, inr (accepted, w)))) =
     record {
       maps = load;
       are = load_reads name (files name) load loaded.begins;
-      rest = rest;
+      rest = back;
       grew = all;
-      next = next;
+      next = w;
     }
 
 -- what a rescue that is done did behind its reads of such maps
@@ -295,29 +363,40 @@ record DoneWork (s : Setting) (files : List ℕ → Option File) (g : Gain) : Ty
   grew : g.calls ≡ map Returned maps ++ rest
   run : DoneRun s files (record g { calls = rest })
 
-done_behind : (c : Command) (s : Setting) (files : List ℕ → Option File) (e : Ending) (g : Gain) → Done ≡ e
-    → WorksBehindWords c s files e g → DoneWork s files g
-done_behind c s files e g is works =
-    let tests : Ending → Gain → Type 0 = ThenMap TestMap (map_mode c.options.loose) c.test_map files (WorksOn c s files) in
-    let d : DoneMap tests e g = done_map DomainMap (map_mode c.options.loose) c.domain_map files tests e g is works in
-    let h : Gain = record g { calls = d.rest } in
-    let m : DoneMap (WorksOn c s files) e h =
-    done_map TestMap (map_mode c.options.loose) c.test_map files (WorksOn c s files) e h is d.next in
+done_behind : (c : Command) (line : List ℕ) (end : ℕ) (maps : Maps) (files : List ℕ → Option File) (e : Ending)
+    (d : Deeds) → Done ≡ e
+    → Works rescue_faults (worked_rows c (found_in c files) end)
+    (Rescues (setting_of c line end maps) (mapfile_of c files)) e d
+    → DoneWork (setting_of c line end maps) files d.gain
+done_behind c line end maps files e d is works =
+    let run : Ending → Deeds → Type 0 = Rescues (setting_of c line end maps) (mapfile_of c files) in
+    let opening : List (Step Ending) = opened_rows c (found_in c files) end in
+    let tests : List (Step Ending) =
+    map_rows TestMap (map_mode c.options.loose) c.test_map (file_of c.test_map files) ++ opening in
+    let f : DoneMap tests run e d =
+    done_map DomainMap (map_mode c.options.loose) c.domain_map files tests run e d is works in
+    let h : Deeds = with_calls d f.rest in
+    let m : DoneMap opening run e h =
+    done_map TestMap (map_mode c.options.loose) c.test_map files opening run e h is f.next in
     record {
-      maps = d.maps ++ m.maps;
-      are = All-append IsMapRead d.maps m.maps d.are m.are;
+      maps = f.maps ++ m.maps;
+      are = All-append IsMapRead f.maps m.maps f.are m.are;
       rest = m.rest;
-      grew = d.grew ∙ ap (λ (r : List Entry). map Returned d.maps ++ r) m.grew
-          ∙ made_both d.maps m.maps m.rest;
-      run = done_runs c s files e (record g { calls = m.rest }) is m.next;
+      grew = f.grew ∙ ap (λ (r : List Entry). map Returned f.maps ++ r) m.grew
+          ∙ made_both f.maps m.maps m.rest;
+      run = done_runs c line end maps files e (with_calls h m.rest) is m.next;
     }
 
-done_works : (c : Command) (s : Setting) (files : List ℕ → Option File) (e : Ending) (g : Gain) → Done ≡ e
-    → Works c s files e g → DoneWork s files g
-done_works c s files e g is (inl (inl refused, nothing)) =
+done_works : (c : Command) (line : List ℕ) (end : ℕ) (maps : Maps) (files : List ℕ → Option File) (e : Ending)
+    (d : Deeds) → Done ≡ e
+    → Works rescue_faults (rescue_rows c (found_in c files) end)
+    (Rescues (setting_of c line end maps) (mapfile_of c files)) e d
+    → DoneWork (setting_of c line end maps) files d.gain
+done_works c line end maps files e d is (inl (starved, none)) =
+    absurd (let no : Done ≡ NoMemory = is ∙ starved in cc)
+done_works c line end maps files e d is (inr (inl (refused, none))) =
     absurd (let no : Done ≡ SameName refused.0 refused.1 = is ∙ refused.3 in cc)
-done_works c s files e g is (inl (inr starved, nothing)) = absurd (let no : Done ≡ NoMemory = is ∙ starved in cc)
-done_works c s files e g is (inr (right, works)) = done_behind c s files e g is works
+done_works c line end maps files e d is (inr (inr (passes, w))) = done_behind c line end maps files e d is w
 
 -- the last of several saves
 save_last : (old : Option File) (began : List Status) (line : List ℕ) (saves : List Snapshot) (last : Snapshot)
@@ -501,6 +580,8 @@ finished_by t c d asks tell w =
 
 pub done_is_saved : DoneIsSaved
 done_is_saved t c d asks tell is =
+    let maps : Maps = maps_by d asks in
+    let w : OwnWork c maps t = own_by t c d asks tell in
     finished_by t c d asks tell
-    (done_works c (asked c (maps_by d asks) t) (files_of t) t.answer (done_by d asks) (sym is)
-    ((d.asked_for c asks).work tell))
+    (done_works c (command_line program_name t.words) (length t.source.bytes) maps (files_of t) t.answer
+    (record { opens = w.opens; gain = what_was_done maps t }) (sym is) w.works)

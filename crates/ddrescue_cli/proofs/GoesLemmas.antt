@@ -1,5 +1,5 @@
 -- The work of a rescue goes as it should.
-use Rattle.std.proofs.Common.{◌≡◌, ℕ, ◌+◌, ◌≤◌, true, false, ◌⊎◌, List, [], ◌∷◌, ◌++◌, map, length, take, Option, Some, None, refl, sym, ap, ◌∙◌, inl, inr, subst, arith, append-nil}
+use Rattle.std.proofs.Common.{◌≡◌, ℕ, ◌+◌, ◌≤◌, true, false, ◌⊎◌, List, [], ◌∷◌, ◌++◌, map, length, take, Option, Some, None, option_map, refl, sym, ap, ◌∙◌, inl, inr, subst, arith, append-nil}
 use Rattle.std.proofs.lemmas.List.Elements.{All-nil, All-append}
 use Rattle.block_list.specs.declared.status.Status.{Status}
 use Rattle.mapfile_text.specs.declared.state.MapState.{MapState}
@@ -8,6 +8,7 @@ use Rattle.crash_site.specs.declared.site.SiteCall.TheVariants.{MapRead}
 use Rattle.crash_site.specs.Files.{File}
 use Rattle.crash_site.specs.Calls.{Call, Entry, Done as Returned, Lost, BrokeAt, image_open, image_sync, map_settle}
 use Rattle.crash_site.specs.Left.{MayBeLeft}
+use Rattle.save_resume.specs.MapNames.{names_of}
 use Rattle.save_resume.specs.Loading.{BeginsLoad, IsLoad}
 use Rattle.save_resume.specs.Resuming.{barrier_calls}
 use Rattle.rescue_rules.specs.declared.stop.RunEnd.{RunEnd}
@@ -22,7 +23,12 @@ use Rattle.rescue_command.specs.declared.options.Options.{Options}
 use Rattle.rescue_command.specs.Command.{Command}
 use Rattle.save_resume.specs.Named.{map_mode}
 use Rattle.ddrescue_cli.specs.Refusals.{MapfileRefused, PlacesRefused}
-use Rattle.ddrescue_cli.specs.Work.{OrRefused, ThenRead, ThenMap, ThenRun, WorksOn, WorksBehindWords, RunsOver}
+use Rattle.work_steps.specs.Work.{Deeds, Step, Look, Read, Works, with_calls, with_opens}
+use Rattle.ddrescue_cli.specs.Asked.{Maps, setting_of}
+use Rattle.ddrescue_cli.specs.Maps.{file_of, mapfile_of}
+use Rattle.ddrescue_cli.specs.Outside.{found_in}
+use Rattle.ddrescue_cli.specs.Work.{Rescues, RunsOver, rescue_faults, map_rows, mapfile_rows, opened_rows, worked_rows}
+use Rattle.ddrescue_cli.proofs.WorkLemmas.{WorksOpened, setting_by}
 use Rattle.ddrescue_cli.specs.Steps.{IsOnlyMaps}
 use Rattle.rescue_rules.proofs.MapfileLemmas.{settling_calls, opening_is}
 use Rattle.rescue_rules.proofs.CutLemmas.{Cut, cut_all}
@@ -101,46 +107,66 @@ over_goes s files e g load statuses state run on loaded stands grew (inr (end, i
     run_goes s files g load statuses state end run on loaded stands grew runs
 
 -- a load behind the barrier, and what follows it
-loaded_goes : (o : Options) (s : Setting) (files : List ℕ → Option File) (e : Ending) (g : Gain) (load : List Call) (run : List Entry)
-    → s.has_mapfile ≡ true → IsLoad s.names.map (files s.names.map) load → g.calls ≡ map Returned (settling_calls s ++ load) ++ run
-    → OrRefused (MapfileRefused (files s.names.map)) (OrRefused (PlacesRefused o s.end) (ThenRun s (mapfile_in s files))) e (record g { calls = run })
-    → GoesOn s files g
-loaded_goes o s files e g load run on loaded grew (inl (refused, none)) =
-    load_goes s files g load on loaded.begins none.reads (inl (alone_behind s load g.calls run grew none.calls))
-loaded_goes o s files e g load run on loaded grew (inr (accepted, inl (refused, none))) =
-    load_goes s files g load on loaded.begins none.reads (inl (alone_behind s load g.calls run grew none.calls))
-loaded_goes o s files e g load run on loaded grew (inr (accepted, inr (placed, ran))) =
-    over_goes s files e g load ran.0 ran.1 run on loaded ran.2 grew ran.3
+loaded_goes : (o : Options) (s : Setting) (files : List ℕ → Option File) (e : Ending) (d : Deeds) (load : List Call) (run : List Entry)
+    → s.has_mapfile ≡ true → IsLoad s.names.map (files s.names.map) load → d.gain.calls ≡ map Returned (settling_calls s ++ load) ++ run
+    → Works rescue_faults (Look (MapfileRefused (files s.names.map)) ∷ Look (PlacesRefused o s.end) ∷ []) (Rescues s (mapfile_in s files)) e
+    (with_calls d run)
+    → GoesOn s files d.gain
+loaded_goes o s files e d load run on loaded grew (inl (refused, none)) =
+    load_goes s files d.gain load on loaded.begins none.gain.reads (inl (alone_behind s load d.gain.calls run grew none.gain.calls))
+loaded_goes o s files e d load run on loaded grew (inr (accepted, inl (refused, none))) =
+    load_goes s files d.gain load on loaded.begins none.gain.reads (inl (alone_behind s load d.gain.calls run grew none.gain.calls))
+loaded_goes o s files e d load run on loaded grew (inr (accepted, inr (placed, (none, (statuses, state, stands, runs))))) =
+    over_goes s files e d.gain load statuses state run on loaded stands grew runs
 
-read_goes : (o : Options) (s : Setting) (files : List ℕ → Option File) (e : Ending) (g : Gain) (rest more : List Entry) → s.has_mapfile ≡ true
-    → g.calls ≡ opened s ++ rest → rest ≡ map Returned (barrier_calls s.names) ++ more
-    → ThenRead s.names.map (files s.names.map)
-    (OrRefused (MapfileRefused (files s.names.map)) (OrRefused (PlacesRefused o s.end) (ThenRun s (mapfile_in s files)))) e (record g { calls = more })
-    → GoesOn s files g
-read_goes o s files e g rest more on grew grew' (inl (load, is, begins, broke, only)) =
-    load_goes s files g load on begins only.reads (inr (broke_settled s load g.calls more (settled_more s g.calls rest more grew grew') broke))
-read_goes o s files e g rest more on grew grew' (inr (inl (load, is, begins, all, only))) =
-    load_goes s files g load on begins only.reads (inl (settled_more s g.calls rest more grew grew' ∙ ap (λ r. settled s ++ r) all))
-read_goes o s files e g rest more on grew grew' (inr (inr (load, run, loaded, all, next))) =
-    loaded_goes o s files e g load run on loaded (settled_more s g.calls rest more grew grew' ∙ ap (λ r. settled s ++ r) all) next
+read_goes : (o : Options) (s : Setting) (files : List ℕ → Option File) (e : Ending) (d : Deeds) (rest more : List Entry) → s.has_mapfile ≡ true
+    → d.gain.calls ≡ opened s ++ rest → rest ≡ map Returned (barrier_calls s.names) ++ more
+    → Works rescue_faults (Read (Some s.names.map) (files s.names.map) ∷ Look (MapfileRefused (files s.names.map)) ∷ Look (PlacesRefused o s.end) ∷ [])
+    (Rescues s (mapfile_in s files)) e (with_calls d more)
+    → GoesOn s files d.gain
+read_goes o s files e d rest more on grew grew' (inl (load, is, begins, broke, only)) =
+    load_goes s files d.gain load on begins only.reads (inr (broke_settled s load d.gain.calls more (settled_more s d.gain.calls rest more grew grew') broke))
+read_goes o s files e d rest more on grew grew' (inr (inl (load, is, begins, all, only))) =
+    load_goes s files d.gain load on begins only.reads (inl (settled_more s d.gain.calls rest more grew grew' ∙ ap (λ r. settled s ++ r) all))
+read_goes o s files e d rest more on grew grew' (inr (inr (load, run, loaded, all, next))) =
+    loaded_goes o s files e d load run on loaded (settled_more s d.gain.calls rest more grew grew' ∙ ap (λ r. settled s ++ r) all) next
 
-goes_on : (c : Command) (s : Setting) (files : List ℕ → Option File) (e : Ending) (g : Gain) → s.has_mapfile ≡ true → WorksOn c s files e g → GoesOn s files g
-goes_on c s files e g on (inl (refused, none)) = opening_goes s files g [] (settling_calls s) on refl none.reads (inl none.calls)
-goes_on c s files e g on (inr (inl (call, is, inl (name, lost), only))) =
-    opening_goes s files g [] (settling_calls s) on refl only.reads (inr (image_open s.outfile true, barrier_calls s.names, refl, lost))
-goes_on c s files e g on (inr (inl (call, is, inr broke, only))) = absurd broke
-goes_on c s files e g on (inr (inr (rest, grew, inl (refused, none)))) =
-    opening_goes s files g (image_open s.outfile true ∷ []) (barrier_calls s.names) on refl none.reads (inl (grew ∙ ap (λ r. opened s ++ r) none.calls))
-goes_on c s files e g on (inr (inr (rest, grew, inr (passes, inr (off, more))))) = absurd (let never : true ≡ false = sym on ∙ off in cc)
-goes_on c s files e g on (inr (inr (rest, grew, inr (passes, inl (has, inl (call, is, inl (name, lost), only)))))) =
-    opening_goes s files g (image_open s.outfile true ∷ []) (barrier_calls s.names) on refl only.reads
-    (inr (map_settle s.names.map, image_sync ∷ [], refl, lost_settled s g.calls rest grew lost))
-goes_on c s files e g on (inr (inr (rest, grew, inr (passes, inl (has, inl (call, is, inr (inl (name, lost)), only)))))) =
-    opening_goes s files g (image_open s.outfile true ∷ map_settle s.names.map ∷ []) (image_sync ∷ []) on refl only.reads
-    (inr (image_sync, [], refl, lost_synced s g.calls rest grew lost))
-goes_on c s files e g on (inr (inr (rest, grew, inr (passes, inl (has, inl (call, is, inr (inr broke), only)))))) = absurd broke
-goes_on c s files e g on (inr (inr (rest, grew, inr (passes, inl (has, inr (more, grew', read)))))) =
-    read_goes c.options s files e g rest more on grew grew' read
+-- what follows the opening of the output
+output_goes : (c : Command) (mapfile : Option (List ℕ)) (line : List ℕ) (end : ℕ) (maps : Maps) (files : List ℕ → Option File) (e : Ending)
+    (d : Deeds) (rest : List Entry) → (setting_by c (option_map names_of mapfile) line end maps).has_mapfile ≡ true
+    → d.gain.calls ≡ opened (setting_by c (option_map names_of mapfile) line end maps) ++ rest
+    → Works rescue_faults (mapfile_rows c.options mapfile (file_of mapfile files) end)
+    (Rescues (setting_by c (option_map names_of mapfile) line end maps) (file_of mapfile files)) e (with_calls d rest)
+    → GoesOn (setting_by c (option_map names_of mapfile) line end maps) files d.gain
+output_goes c None line end maps files e d rest on grew w = absurd (cc)
+output_goes c (Some n) line end maps files e d rest on grew (inl (call, is, inl (name, lost), only)) =
+    let s : Setting = setting_by c (Some (names_of n)) line end maps in
+    opening_goes s files d.gain (image_open s.outfile true ∷ []) (barrier_calls s.names) on refl only.reads
+    (inr (map_settle s.names.map, image_sync ∷ [], refl, lost_settled s d.gain.calls rest grew lost))
+output_goes c (Some n) line end maps files e d rest on grew (inl (call, is, inr (inl (name, lost)), only)) =
+    let s : Setting = setting_by c (Some (names_of n)) line end maps in
+    opening_goes s files d.gain (image_open s.outfile true ∷ map_settle s.names.map ∷ []) (image_sync ∷ []) on refl only.reads
+    (inr (image_sync, [], refl, lost_synced s d.gain.calls rest grew lost))
+output_goes c (Some n) line end maps files e d rest on grew (inl (call, is, inr (inr broke), only)) = absurd broke
+output_goes c (Some n) line end maps files e d rest on grew (inr (more, grew', read)) =
+    read_goes c.options (setting_by c (Some (names_of n)) line end maps) files e d rest more on grew grew' read
+
+goes_on : (c : Command) (line : List ℕ) (end : ℕ) (maps : Maps) (files : List ℕ → Option File) (e : Ending) (d : Deeds)
+    → (setting_of c line end maps).has_mapfile ≡ true → WorksOpened c (setting_of c line end maps) files e d
+    → GoesOn (setting_of c line end maps) files d.gain
+goes_on c line end maps files e d on (inl (is, opens, none)) =
+    let s : Setting = setting_of c line end maps in
+    opening_goes s files d.gain [] (settling_calls s) on refl none.reads (inl none.calls)
+goes_on c line end maps files e d on (inr (os, opens, inl (call, is, inl (name, lost), only))) =
+    let s : Setting = setting_of c line end maps in
+    opening_goes s files d.gain [] (settling_calls s) on refl only.reads (inr (image_open s.outfile true, barrier_calls s.names, refl, lost))
+goes_on c line end maps files e d on (inr (os, opens, inl (call, is, inr broke, only))) = absurd broke
+goes_on c line end maps files e d on (inr (os, opens, inr (rest, grew, inl (refused, none)))) =
+    let s : Setting = setting_of c line end maps in
+    opening_goes s files d.gain (image_open s.outfile true ∷ []) (barrier_calls s.names) on refl none.gain.reads
+    (inl (grew ∙ ap (λ r. opened s ++ r) none.gain.calls))
+goes_on c line end maps files e d on (inr (os, opens, inr (rest, grew, inr (passes, w)))) =
+    output_goes c c.mapfile line end maps files e (with_opens d os) rest on grew w
 
 -- behind reads of maps
 goes_behind : (s : Setting) (files : List ℕ → Option File) (g : Gain) (load : List Call) (rest : List Entry) → AreMapReads load
@@ -161,28 +187,37 @@ none_goes s files g on none unread =
     BehindMaps [] g.calls (All-nil IsMapRead) refl (opening_goes s files g [] (settling_calls s) on refl unread (inl none))
 
 -- a rescue that reads a map, if an option names one, and goes on as it should
-map_goes : (which : Which) (mode : Mode) (name : Option (List ℕ)) (s : Setting) (files : List ℕ → Option File) (Q : Ending → Gain → Type 0)
-    (e : Ending) (g : Gain) → s.has_mapfile ≡ true → ((h : Gain) → Q e h → Goes s files h) → ThenMap which mode name files Q e g
-    → Goes s files g
-map_goes which mode None s files Q e g on next works = next g works
-map_goes which mode (Some n) s files Q e g on next (inl (load, is, begins, broke, only)) =
+map_goes : (which : Which) (mode : Mode) (name : Option (List ℕ)) (s : Setting) (files : List ℕ → Option File) (more : List (Step Ending))
+    (run : Ending → Deeds → Type 0) (e : Ending) (d : Deeds) → s.has_mapfile ≡ true
+    → ((h : Deeds) → Works rescue_faults more run e h → Goes s files h.gain)
+    → Works rescue_faults (map_rows which mode name (file_of name files) ++ more) run e d → Goes s files d.gain
+map_goes which mode None s files more run e d on next (inl (is, none)) = none_goes s files d.gain on none.gain.calls none.gain.reads
+map_goes which mode None s files more run e d on next (inr (absent, inl (refused, none))) =
+    none_goes s files d.gain on none.gain.calls none.gain.reads
+map_goes which mode None s files more run e d on next (inr (absent, inr (passes, w))) = next d w
+map_goes which mode (Some n) s files more run e d on next (inl (load, is, begins, broke, only)) =
     InMaps load (load_reads n (files n) load begins) only.reads broke
-map_goes which mode (Some n) s files Q e g on next (inr (inl (load, is, begins, all, only))) =
-    goes_behind s files g load [] (load_reads n (files n) load begins) (all ∙ sym (append-nil (map Returned load)))
-    (none_goes s files (record g { calls = [] }) on refl only.reads)
-map_goes which mode (Some n) s files Q e g on next (inr (inr (load, rest, loaded, grew, inl (refused, none)))) =
-    goes_behind s files g load rest (load_reads n (files n) load loaded.begins) grew
-    (none_goes s files (record g { calls = rest }) on none.calls none.reads)
-map_goes which mode (Some n) s files Q e g on next (inr (inr (load, rest, loaded, grew, inr (accepted, more)))) =
-    goes_behind s files g load rest (load_reads n (files n) load loaded.begins) grew (next (record g { calls = rest }) more)
+map_goes which mode (Some n) s files more run e d on next (inr (inl (load, is, begins, all, only))) =
+    goes_behind s files d.gain load [] (load_reads n (files n) load begins) (all ∙ sym (append-nil (map Returned load)))
+    (none_goes s files (with_calls d []).gain on refl only.reads)
+map_goes which mode (Some n) s files more run e d on next (inr (inr (load, rest, loaded, grew, inl (refused, none)))) =
+    goes_behind s files d.gain load rest (load_reads n (files n) load loaded.begins) grew
+    (none_goes s files (with_calls d rest).gain on none.gain.calls none.gain.reads)
+map_goes which mode (Some n) s files more run e d on next (inr (inr (load, rest, loaded, grew, inr (accepted, w)))) =
+    goes_behind s files d.gain load rest (load_reads n (files n) load loaded.begins) grew (next (with_calls d rest) w)
 
-pub work_goes : (c : Command) (s : Setting) (files : List ℕ → Option File) (e : Ending) (g : Gain) → s.has_mapfile ≡ true
-    → WorksBehindWords c s files e g → Goes s files g
-work_goes c s files e g on works =
+pub work_goes : (c : Command) (line : List ℕ) (end : ℕ) (maps : Maps) (files : List ℕ → Option File) (e : Ending) (d : Deeds)
+    → (setting_of c line end maps).has_mapfile ≡ true
+    → Works rescue_faults (worked_rows c (found_in c files) end) (Rescues (setting_of c line end maps) (mapfile_of c files)) e d
+    → Goes (setting_of c line end maps) files d.gain
+work_goes c line end maps files e d on works =
+    let s : Setting = setting_of c line end maps in
+    let run : Ending → Deeds → Type 0 = Rescues s (mapfile_of c files) in
+    let opening : List (Step Ending) = opened_rows c (found_in c files) end in
     map_goes DomainMap (map_mode c.options.loose) c.domain_map s files
-    (ThenMap TestMap (map_mode c.options.loose) c.test_map files (WorksOn c s files)) e g on
-    (λ h more. map_goes TestMap (map_mode c.options.loose) c.test_map s files (WorksOn c s files) e h on
-    (λ k last. BehindMaps [] k.calls (All-nil IsMapRead) refl (goes_on c s files e k on last)) more) works
+    (map_rows TestMap (map_mode c.options.loose) c.test_map (file_of c.test_map files) ++ opening) run e d on
+    (λ h more. map_goes TestMap (map_mode c.options.loose) c.test_map s files opening run e h on
+    (λ k last. BehindMaps [] k.gain.calls (All-nil IsMapRead) refl (goes_on c line end maps files e k on last)) more) works
 
 -- where nothing was done but that maps were read, a stop is safe, whatever the input's length
 maps_cut : (maps : List Call) (calls : List Entry) → (calls ≡ map Returned maps) ⊎ BrokeAt MapRead maps [] calls → Cut maps calls

@@ -22,7 +22,7 @@ use Rattle.save_resume.specs.MapNames.{MapNames, names_of}
 use Rattle.rescue_console.specs.ClockState.{ClockState, Keeps as ClockKeeps}
 use Rattle.rescue_console.specs.ConsoleState.{ConsoleState}
 use Rattle.rescue_rules.specs.Setting.{Setting}
-use Rattle.rescue_rules.specs.Work.{Gain, IsNothing}
+use Rattle.rescue_rules.specs.Work.{IsNothing}
 use Rattle.rescue_rules.specs.Stops.{StopsSafely}
 use Rattle.rescue_rules.specs.Laws.{AreThreeNames}
 use Rattle.rescue_rules.proofs.StopsLemmas.{goes_safely}
@@ -37,21 +37,23 @@ use Rattle.ddrescue_cli.specs.declared.ending.Ending.TheVariants.{Done, Usage, S
 use Rattle.option_words.specs.Words.{command_line}
 use Rattle.ddrescue_cli.specs.Names.{first_same, AreNamedApart, program_name}
 use Rattle.ddrescue_cli.specs.Asked.{Maps, names_by}
-use Rattle.ddrescue_cli.specs.Maps.{names_maps, seen_through}
-use Rattle.ddrescue_cli.specs.Told.{Told, AllTell, gained, what_was_done, calls_before, files_of, asked}
+use Rattle.ddrescue_cli.specs.Maps.{mapfile_of, names_maps}
+use Rattle.ddrescue_cli.specs.Told.{Told, AllTell, gained, calls_before, files_of, asked, asked_to}
 use Rattle.ddrescue_cli.specs.Refusals.{NamesRefused, PlacesRefused}
-use Rattle.ddrescue_cli.specs.Work.{WorksBehindWords}
+use Rattle.work_steps.specs.Work.{Deeds, IsIdle, Works}
+use Rattle.ddrescue_cli.specs.Outside.{found_in, HasGainedReads}
+use Rattle.ddrescue_cli.specs.Work.{Rescues, rescue_faults, rescue_rows}
 use Rattle.ddrescue_cli.specs.Answers.{is_of_words, AreAccepted, SaysOfWords, UnlessEarly, Causes, FitsCommand, IsOpenedAs, OpensOnce, IsRefusedByPlan, IsBehindWords, drafting_left, NameOneFileTwice}
-use Rattle.ddrescue_cli.specs.Alone.{AllStand, OutputMade, MapfilePasses, PlacesAllow, FilesAllow, IsLeft}
+use Rattle.ddrescue_cli.specs.Alone.{AllStand, OutputMade, HasRead, PlacesAllow, IsLeft}
 use Rattle.copy_passes.specs.Turns.{Across}
-use Rattle.ddrescue_cli.specs.Steps.{TellAll, IsOnlyMaps, WorkedOn, Worked}
-use Rattle.ddrescue_cli.specs.Ddrescue.{HasGained, Says, Promise, Ddrescue}
+use Rattle.ddrescue_cli.specs.Steps.{IsOnlyMaps, WorkedOn, Worked}
+use Rattle.ddrescue_cli.specs.Ddrescue.{HasGained, Says, IsWork, Promise, Ddrescue}
 use Rattle.ddrescue_cli.proofs.AloneLemmas.{none_read}
-use Rattle.ddrescue_cli.proofs.AskedLemmas.{asked_sensible}
+use Rattle.ddrescue_cli.proofs.AskedLemmas.{sensible_to}
 use Rattle.ddrescue_cli.proofs.GainLemmas.{gained_is}
 use Rattle.ddrescue_cli.proofs.GoesLemmas.{work_goes, nothing_stops, maps_stop}
 use Rattle.ddrescue_cli.proofs.MapsLemmas.{MapsOf, maps_of}
-use Rattle.ddrescue_cli.proofs.WorkLemmas.{across, none_seen}
+use Rattle.ddrescue_cli.proofs.WorkLemmas.{across, calls_alone, idle, none_seen}
 
 -- an answer that comes before anything was done
 abbrev pub IsEarly : Ending → Type 0
@@ -141,18 +143,6 @@ early_places (MapRefused which error) o end early = absurd early
 early_places SourceLost o end early = absurd early
 early_places (SiteFault call earlier) o end early = absurd early
 
-early_allows : (e : Ending) (c : Command) (s : Setting) (files : List ℕ → Option File) → IsEarly e → FilesAllow e c s files
-early_allows NoMemory c s files early = tt
-early_allows (Usage fault) c s files early = first_of_two (is_of_words fault) ⊤ (MapfilePasses c s files) early tt
-early_allows (SameName a b) c s files early = tt
-early_allows Done c s files early = absurd early
-early_allows (NoMap which) c s files early = absurd early
-early_allows SourceFault c s files early = absurd early
-early_allows NotRegular c s files early = absurd early
-early_allows (MapRefused which error) c s files early = absurd early
-early_allows SourceLost c s files early = absurd early
-early_allows (SiteFault call earlier) c s files early = absurd early
-
 early_leaves : (e : Ending) (maps : Bool) (outfile : List ℕ) (files : List ℕ → Option File) → IsEarly e
     → IsLeft e maps outfile files files
 early_leaves NoMemory maps outfile files early = tt
@@ -207,13 +197,12 @@ told_still words e s d k console console' = record {
   console' = console';
 }
 
-nothing_gained : (maps : Maps) (words : List (List ℕ)) (e : Ending) (s : SourceState) (d : SiteState) (k : ClockState) (p p' : ConsoleState)
-    → IsNothing (what_was_done maps (told_still words e s d k p p'))
-nothing_gained maps words e s d k p p' = record {
-  calls = gained_none d.calls;
-  reads = ap (seen_through maps.test) (gained_none s.journal) ∙ none_seen maps.test;
-  times = gained_none k.readings;
-}
+-- where memory ran out, or the names are refused, before anything was done
+early_works : (c : Command) (s : Setting) (files : List ℕ → Option File) (e : Ending) (d : Deeds) → IsIdle d
+    → NamesRefused c e ⊎ (e ≡ NoMemory)
+    → Works rescue_faults (rescue_rows c (found_in c files) s.end) (Rescues s (mapfile_of c files)) e d
+early_works c s files e d none (inl refused) = inr (inl (refused, none))
+early_works c s files e d none (inr is) = inl (is, none)
 
 -- what such a call promises of what its words ask for
 still_promised : (words : List (List ℕ)) (e : Ending) (s : SourceState) (d : SiteState) (k : ClockState) (p p' : ConsoleState) (c : Command)
@@ -221,21 +210,28 @@ still_promised : (words : List (List ℕ)) (e : Ending) (s : SourceState) (d : S
 still_promised words e s d k p p' c early refused =
     let t : Told = told_still words e s d k p p' in
     let m : MapsOf c (files_of t) = maps_of c (files_of t) in
-    let nothing : IsNothing (what_was_done m.maps t) = nothing_gained m.maps words e s d k p p' in
     record {
       maps = m.maps;
       asked_maps = m.asked;
       are = λ tells. m.are;
+      end = length s.bytes;
+      own_end = λ tells. refl;
       fits = early_fits e c early;
       input = λ tells. early_opens e (names_maps c) c.infile s early;
       opened = early_opens_none e (names_maps c) s early;
       refused = λ planned is. absurd (early_passes e early is);
       read = λ tells. none_read (asked c m.maps t) m.maps.test e s s (early_stops e early) refl;
       places = λ tells. early_places e c.options (length s.bytes) early;
-      files = λ tells. early_allows e c (asked c m.maps t) (files_of t) early;
       left = λ tells. early_leaves e (names_maps c) c.outfile (files_of t) early;
-      work = λ tell. inl (refused, nothing);
-      stops = λ tell on. nothing_stops (calls_before t) (asked c m.maps t) (what_was_done m.maps t) nothing;
+      work = λ tells. record {
+        did = calls_alone [];
+        opens = refl;
+        calls = sym (append-nil d.calls);
+        reads = λ tell. record { raw = []; journal = sym (append-nil s.journal); seen_are = none_seen m.maps.test };
+        times = λ tell. sym (append-nil k.readings);
+        works = early_works c (asked c m.maps t) (files_of t) e (calls_alone []) idle refused;
+        stops = λ on. nothing_stops (calls_before t) (asked c m.maps t) (calls_alone []).gain idle.gain;
+      };
     }
 
 still_kept : (words : List (List ℕ)) (e : Ending) (s : SourceState) (d : SiteState) (k : ClockState) (p p' : ConsoleState)
@@ -380,9 +376,9 @@ three_by outfile (Some name) on apart = record {
   apart = longer name;
 }
 
-three_names : (c : Command) (maps : Maps) (t : Told) → (asked c maps t).has_mapfile ≡ true
-    → first_same c.infile c.outfile (names_by c) ≡ None → AreThreeNames (asked c maps t)
-three_names c maps t on different =
+three_names : (c : Command) (maps : Maps) (t : Told) (end : ℕ) → (asked_to c maps t end).has_mapfile ≡ true
+    → first_same c.infile c.outfile (names_by c) ≡ None → AreThreeNames (asked_to c maps t end)
+three_names c maps t end on different =
     let three : AreThree c.outfile (names_in (names_by c)) =
     three_by c.outfile c.mapfile on (apart_of c.infile c.outfile (names_by c) different) in
     record { map = three.map; draft = three.draft; apart = three.apart }
@@ -391,48 +387,49 @@ three_names c maps t on different =
 abbrev pub across_of : Told → Across
 across_of t = across t.source t.source' t.site t.site' t.clock t.clock'
 
--- what was done by these maps
-abbrev DidBy : Command → Maps → Told → Type 0
-DidBy c maps t = WorkedOn c (asked c maps t) maps.test (files_of t) t.answer (across_of t)
+-- what was done by these maps, for an input with this length
+abbrev DidBy : Command → Maps → (end : ℕ) → Told → Type 0
+DidBy c maps end t = WorkedOn c (asked_to c maps t end) maps.test (files_of t) t.answer (across_of t)
 
-stops_by : (c : Command) (maps : Maps) (t : Told) → Asks t.words c → first_same c.infile c.outfile (names_by c) ≡ None
-    → (asked c maps t).has_mapfile ≡ true → (w : DidBy c maps t)
-    → IsNothing w.gain ⊎ ((asked c maps t).end < 2 ^ 63) ⊎ IsOnlyMaps w.gain → StopsSafely (calls_before t) (asked c maps t) w.gain
-stops_by c maps t asks different on w (inl none) = nothing_stops (calls_before t) (asked c maps t) w.gain none
-stops_by c maps t asks different on w (inr (inl short)) =
-    goes_safely (calls_before t) (asked c maps t) w.gain (asked_sensible c maps t asks) on (three_names c maps t on different) short
-    w.gains.fit (work_goes c (asked c maps t) (files_of t) t.answer w.gain on w.works)
-stops_by c maps t asks different on w (inr (inr only)) = maps_stop (calls_before t) (asked c maps t) w.gain only
+stops_by : (c : Command) (maps : Maps) (end : ℕ) (t : Told) → Asks t.words c → first_same c.infile c.outfile (names_by c) ≡ None
+    → (asked_to c maps t end).has_mapfile ≡ true → (w : DidBy c maps end t)
+    → IsNothing w.did.gain ⊎ (end < 2 ^ 63) ⊎ IsOnlyMaps w.did.gain
+    → StopsSafely (calls_before t) (asked_to c maps t end) w.did.gain
+stops_by c maps end t asks different on w (inl none) = nothing_stops (calls_before t) (asked_to c maps t end) w.did.gain none
+stops_by c maps end t asks different on w (inr (inl short)) =
+    goes_safely (calls_before t) (asked_to c maps t end) w.did.gain (sensible_to c maps t end asks) on
+    (three_names c maps t end on different) short w.gains.fit
+    (work_goes c (command_line program_name t.words) end maps (files_of t) t.answer w.did on w.works)
+stops_by c maps end t asks different on w (inr (inr only)) = maps_stop (calls_before t) (asked_to c maps t end) w.did.gain only
 
--- what the objects gained is what the work did
-gain_is : (c : Command) (maps : Maps) (t : Told) → (w : DidBy c maps t) → w.gain ≡ what_was_done maps t
-gain_is c maps t w =
-    rw (
-      gained_is t.site.calls t.site'.calls w.gain.calls w.gains.calls,
-      gained_is t.source.journal t.source'.journal w.gains.raw w.gains.reads,
-      gained_is t.clock.readings t.clock'.readings w.gain.times w.gains.times,
-      w.gains.seen_are,
-    )
-    refl
+-- no two files have one name
+names_pass : (c : Command) → first_same c.infile c.outfile (names_by c) ≡ None → (e : Ending) → NamesRefused c e → ⊥
+names_pass c different e (first, second, same, is) =
+    let pair : Operand × Operand = (first, second) in
+    let never : None ≡ Some pair = sym different ∙ same in absurd (cc)
 
-works_as : (c : Command) (maps : Maps) (t : Told) → DidBy c maps t
-    → WorksBehindWords c (asked c maps t) (files_of t) t.answer (what_was_done maps t)
-works_as c maps t w =
-    let P : Gain → Type 0 = λ g. WorksBehindWords c (asked c maps t) (files_of t) t.answer g in
-    subst P (gain_is c maps t w) w.works
-
-stops_as : (c : Command) (maps : Maps) (t : Told) → Asks t.words c → first_same c.infile c.outfile (names_by c) ≡ None
-    → (asked c maps t).has_mapfile ≡ true → DidBy c maps t → StopsSafely (calls_before t) (asked c maps t) (what_was_done maps t)
-stops_as c maps t asks different on w =
-    let P : Gain → Type 0 = λ g. StopsSafely (calls_before t) (asked c maps t) g in
-    subst P (gain_is c maps t w) (stops_by c maps t asks different on w w.short)
-
-gains_as : (c : Command) (maps : Maps) (t : Told) → DidBy c maps t → HasGained t
-gains_as c maps t w = record {
-  reads = w.gains.reads ∙ ap (λ r. t.source.journal ++ r) (sym (gained_is t.source.journal t.source'.journal w.gains.raw w.gains.reads));
-  calls = w.gains.calls ∙ ap (λ r. t.site.calls ++ r) (sym (gained_is t.site.calls t.site'.calls w.gain.calls w.gains.calls));
-  times = w.gains.times ∙ ap (λ r. t.clock.readings ++ r) (sym (gained_is t.clock.readings t.clock'.readings w.gain.times w.gains.times));
+-- the work, and that a stop is safe
+is_work : (c : Command) (maps : Maps) (end : ℕ) (t : Told) → Asks t.words c → first_same c.infile c.outfile (names_by c) ≡ None
+    → DidBy c maps end t → IsWork c maps end t
+is_work c maps end t asks different w = record {
+  did = w.did;
+  opens = w.opens;
+  calls = w.gains.calls;
+  reads = w.gains.reads;
+  times = w.gains.times;
+  works = inr (inr (names_pass c different, w.works));
+  stops = λ on. stops_by c maps end t asks different on w w.short;
 }
+
+gains_as : (c : Command) (maps : Maps) (end : ℕ) (t : Told) → AllTell t → IsWork c maps end t → HasGained t
+gains_as c maps end t tell w =
+    let h : HasGainedReads maps.test t.source t.source' w.did.gain.reads = w.reads tell.source in
+    record {
+      reads = h.journal ∙ ap (λ r. t.source.journal ++ r) (sym (gained_is t.source.journal t.source'.journal h.raw h.journal));
+      calls = w.calls ∙ ap (λ r. t.site.calls ++ r) (sym (gained_is t.site.calls t.site'.calls w.did.gain.calls w.calls));
+      times = w.times tell.clock
+          ∙ ap (λ r. t.clock.readings ++ r) (sym (gained_is t.clock.readings t.clock'.readings w.did.gain.times (w.times tell.clock)));
+    }
 
 -- an answer behind the words and the names
 behind_says : (e : Ending) (words : List (List ℕ)) → IsBehindWords e → AreAccepted words → SaysOfWords e words
@@ -448,12 +445,6 @@ behind_says SourceLost words behind accepted = accepted
 behind_says (SiteFault call earlier) words behind accepted = accepted
 behind_says NoMemory words behind accepted = tt
 
--- no two files have one name
-names_pass : (c : Command) → first_same c.infile c.outfile (names_by c) ≡ None → (e : Ending) → NamesRefused c e → ⊥
-names_pass c different e (first, second, same, is) =
-    let pair : Operand × Operand = (first, second) in
-    let never : None ≡ Some pair = sym different ∙ same in absurd (cc)
-
 pub named_apart : (words : List (List ℕ)) (c : Command) → IsAsked words c → first_same c.infile c.outfile (names_by c) ≡ None
     → (first second : Operand) → NameOneFileTwice words first second → ⊥
 named_apart words c a different first second twice =
@@ -463,7 +454,7 @@ named_apart words c a different first second twice =
 
 -- What a rescue did for a command behind its words, and what is said of its answer.
 pub record SaysBy (c : Command) (line : List ℕ) (t : Told) : Type 0 where
-  pub worked : Worked c line (length t.source.bytes) (files_of t) t.answer (across_of t)
+  pub worked : Worked c line (files_of t) t.answer (across_of t)
   pub words : IsBehindWords t.answer
   pub fits : FitsCommand t.answer c
   pub input : IsTrue t.source.tells → IsOpenedAs t.answer (names_maps c) c.infile t.source t.source'
@@ -479,12 +470,9 @@ pub record SaysBy (c : Command) (line : List ℕ) (t : Told) : Type 0 where
 abbrev SaysOf : Command → Told → Type 0
 SaysOf c t = SaysBy c (command_line program_name t.words) t
 
-tell_all : (t : Told) → AllTell t → TellAll (across_of t)
-tell_all t tell = record { source = tell.source; site = tell.site; clock = tell.clock }
-
 work_promised : (c : Command) (t : Told) → Asks t.words c → first_same c.infile c.outfile (names_by c) ≡ None → SaysOf c t → Promise c t
 work_promised c t asks different r =
-    let w : Worked c (command_line program_name t.words) (length t.source.bytes) (files_of t) t.answer (across_of t) = r.worked in
+    let w : Worked c (command_line program_name t.words) (files_of t) t.answer (across_of t) = r.worked in
     record {
       maps = w.maps;
       asked_maps = w.asked_maps;
@@ -493,12 +481,13 @@ work_promised c t asks different r =
       input = r.input;
       opened = r.once;
       refused = r.refused;
-      read = w.read;
-      places = w.placed;
-      files = w.allowed;
+      end = w.end;
+      own_end = w.own_end;
+      read = λ tells. subst (λ (n : ℕ). HasRead (asked_to c w.maps t n) w.maps.test t.answer t.source t.source') (w.own_end tells)
+          (w.read tells);
+      places = λ tells. subst (λ (n : ℕ). PlacesAllow t.answer c.options n) (w.own_end tells) (w.placed tells);
       left = w.left;
-      work = λ tell. inr (names_pass c different, works_as c w.maps t (w.told (tell_all t tell)));
-      stops = λ tell there. stops_as c w.maps t asks different there (w.told (tell_all t tell));
+      work = λ tells. is_work c w.maps w.end t asks different (w.told tells);
     }
 
 -- the promise of an answer behind the words
@@ -514,7 +503,7 @@ says_kept t c a different r says =
       source = r.source;
       site = r.site;
       clock = r.clock;
-      gains = λ tell. gains_as c r.worked.maps t (r.worked.told (tell_all t tell));
+      gains = λ tell. gains_as c kept.maps kept.end t tell (kept.work tell.site);
     }
 
 pub work_kept : (t : Told) (c planned : Command) (line : List ℕ) → IsAsked t.words c → planned ≡ c → line ≡ command_line program_name t.words

@@ -44,7 +44,7 @@ use Rattle.ddrescue_cli.specs.Asked.{Maps, setting_asked, domain_asked}
 use Rattle.copy_passes.specs.Turns.{Across, IsFrom}
 use Rattle.ddrescue_cli.specs.Alone.{IsOfOpening, IsBeforeReads, HasRead}
 use Rattle.ddrescue_cli.specs.Work.{answer_of}
-use Rattle.ddrescue_cli.specs.Steps.{TellAll, IsLate, RanOn, Ran}
+use Rattle.ddrescue_cli.specs.Steps.{IsLate, RanOn, Ran}
 use Rattle.ddrescue_cli.specs.Running.{settings_by, IsRunOver, EndsCalls, WentToEnd}
 use Rattle.ddrescue_cli.proofs.TurnLemmas.{timed_more}
 
@@ -159,9 +159,9 @@ in_words i o n l opts end maps statuses state moment r at a is w =
 -- the run with all its calls, reads and readings
 ran_told : (s : Setting) (statuses : List Status) (state : Option MapState) (moment : ℕ) (end : RunEnd) (o : Across) (before : ClockState)
     → (w : InWords s statuses state moment end o) → ReadsClock (moment ∷ []) before o.clock → moment < 2 ^ 64
-    → TellAll (record o { clock = before }) → RanOn s None statuses state (answer_of end) (record o { clock = before })
-ran_told s statuses state moment end o before w first small tell =
-    let c = w.calls tell.site in
+    → IsTrue o.site.tells → RanOn s None statuses state (answer_of end) (record o { clock = before })
+ran_told s statuses state moment end o before w first small tells =
+    let c = w.calls tells in
     let times : List ℕ = moment ∷ (times_of w.events ++ w.spare) in
     let g : Gain = record { calls = c.0; reads = reads_of w.events; times = times } in
     let m : Machine = machine_over s statuses state moment in
@@ -171,11 +171,9 @@ ran_told s statuses state moment end o before w first small tell =
     record {
       gain = g;
       gains = record {
-        raw = reads_of w.events;
-        reads = w.read tell.source;
-        seen_are = refl;
+        reads = λ tell. record { raw = reads_of w.events; journal = w.read tell; seen_are = refl };
         calls = c.1;
-        times = all.told tell.clock;
+        times = λ tell. all.told tell;
         fit = All-cons (λ t. t < 2 ^ 64) moment (times_of w.events ++ w.spare) small w.fit;
       };
       runs = inr (
@@ -260,7 +258,7 @@ ran_went i o n l opts end maps statuses state moment r at e a before long fresh 
     in_words i o n l opts end maps statuses state moment r at a is w in
     subst (λ (x : Ending). Ran s None statuses state x (record a { clock = before })) (sym answered)
     (record {
-      told = λ tell. ran_told s statuses state moment at a before words first small tell;
+      told = λ tells. ran_told s statuses state moment at a before words first small tells;
       read = λ tells. ran_read s statuses state moment at a long fresh words w.late tells;
       ends = (at, refl);
       late = w.late;
@@ -281,14 +279,12 @@ pub ran_unbegun : (s : Setting) (statuses : List Status) (state : Option MapStat
     → ReadsClock (moment ∷ []) k k' → moment < 2 ^ 64
     → Ran s None statuses state NoMemory (record { source = a; source' = a; site = d; site' = d; clock = k; clock' = k' })
 ran_unbegun s statuses state moment a d k k' long fresh first small = record {
-  told = λ tell. record {
+  told = λ tells. record {
     gain = record { calls = []; reads = []; times = moment ∷ [] };
     gains = record {
-      raw = [];
-      reads = sym (append-nil a.journal);
-      seen_are = refl;
+      reads = λ tell. record { raw = []; journal = sym (append-nil a.journal); seen_are = refl };
       calls = sym (append-nil d.calls);
-      times = first.told tell.clock;
+      times = λ tell. first.told tell;
       fit = All-cons (λ t. t < 2 ^ 64) moment [] small (All-nil (λ t. t < 2 ^ 64));
     };
     runs = inl (record { answer = refl; calls = refl; reads = refl; times = omega arith });

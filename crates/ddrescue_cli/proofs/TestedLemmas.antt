@@ -16,6 +16,7 @@ use Rattle.ddrescue_cli.specs.declared.ending.Ending.{Ending}
 use Rattle.ddrescue_cli.specs.declared.ending.Ending.TheVariants.{Done, Usage, SameName, NoMap, SourceFault, NotRegular, MapRefused, SourceLost, SiteFault, NoMemory}
 use Rattle.ddrescue_cli.specs.Alone.{IsBeforeReads, HasRead}
 use Rattle.ddrescue_cli.specs.Answers.{Rises, Causes}
+use Rattle.ddrescue_cli.specs.Outside.{HasGainedReads}
 use Rattle.ddrescue_cli.specs.Steps.{EndsRun, IsLate, Ran}
 use Rattle.ddrescue_cli.proofs.RanLemmas.{run_refused}
 
@@ -74,16 +75,16 @@ module _ (reference : ℕ) (tests : List Status) (old new : SourceState)
       (across site site' clock clock' (state_seen reference tests old) (state_seen reference tests new))
       → Ran s (Some tests) statuses state e (across site site' clock clock' old new)
   ran_seen s statuses state e site site' clock clock' ran = record {
-    told = λ tell.
-        let on = ran.told (record { source = tell.source; site = tell.site; clock = tell.clock }) in
-        let reads : List Reading = on.gains.raw in
-        let g : GainsSeen tests reads old.journal new.journal = gains_seen reads tell.source on.gains.reads in
+    told = λ tells.
+        let on = ran.told tells in
         record {
           gain = on.gain;
           gains = record {
-            raw = g.gains.reads;
-            reads = g.gains.told;
-            seen_are = g.seen ∙ on.gains.seen_are;
+            reads = λ tell.
+                let h : HasGainedReads None (state_seen reference tests old) (state_seen reference tests new) on.gain.reads =
+                on.gains.reads tell in
+                let g : GainsSeen tests h.raw old.journal new.journal = gains_seen h.raw tell h.journal in
+                record { raw = g.gains.reads; journal = g.gains.told; seen_are = g.seen ∙ h.seen_are };
             calls = on.gains.calls;
             times = on.gains.times;
             fit = on.gains.fit;

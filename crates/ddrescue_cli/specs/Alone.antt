@@ -10,7 +10,6 @@ use Rattle.crash_site.specs.declared.site.SiteCall.TheVariants.{ImageOpen, Image
 use Rattle.crash_site.specs.Files.{File, empty_file}
 use Rattle.rescue_rules.specs.Setting.{Setting}
 use Rattle.rescue_rules.specs.Start.{IsFresh}
-use Rattle.rescue_rules.specs.Work.{mapfile_in}
 use Rattle.rescue_rules.specs.Step.{Event}
 use Rattle.rescue_rules.specs.Moves.{state_after, has_ended, IsRun}
 use Rattle.rescue_rules.specs.Beginning.{machine_over}
@@ -19,15 +18,13 @@ use Rattle.copy_passes.specs.Turns.{IsFrom}
 use Rattle.trim_scrape.specs.Bounds.{AskFew}
 use Rattle.trim_scrape.specs.Endings.{EndsWell}
 use Rattle.rescue_command.specs.declared.options.Options.{Options}
-use Rattle.rescue_command.specs.Command.{Command}
 use Rattle.ddrescue_cli.specs.declared.ending.Which.{Which}
 use Rattle.ddrescue_cli.specs.declared.ending.Which.TheVariants.{DomainMap, TestMap, RunMap}
 use Rattle.ddrescue_cli.specs.declared.ending.Ending.{Ending}
 use Rattle.ddrescue_cli.specs.declared.ending.Ending.TheVariants.{Done, Usage, SameName, NoMap, SourceFault, NotRegular, MapRefused, SourceLost, SiteFault, NoMemory}
-use Rattle.save_resume.specs.Named.{map_mode}
-use Rattle.ddrescue_cli.specs.Maps.{names_maps, seen_through}
+use Rattle.ddrescue_cli.specs.Maps.{seen_through}
 use Rattle.ddrescue_cli.specs.Answers.{is_of_words}
-use Rattle.ddrescue_cli.specs.Refusals.{is_other, NamedMapRefused, OutputRefused, MapfileRefused, PlacesRefused}
+use Rattle.ddrescue_cli.specs.Refusals.{PlacesRefused}
 
 -- a call that a run doesn't make: the open of the output, and a read of a map
 abbrev pub IsOfOpening : SiteCall → Type 0
@@ -77,44 +74,6 @@ pub record HasRead (s : Setting) (test : Option (List Status)) (e : Ending) (sou
   pub few : AskFew s (machine_over s statuses state time) events
   pub done : e ≡ Done → has_ended s (state_after s (machine_over s statuses state time) events) ≡ true
   pub well : e ≡ Done → EndsWell s (machine_over s statuses state time) events
-
--- the maps that options name aren't refused
-pub record MapsPass (c : Command) (files : List ℕ → Option File) : Type 0 where
-  pub domain : (name : List ℕ) (e : Ending) → c.domain_map ≡ Some name
-      → NamedMapRefused DomainMap (map_mode c.options.loose) (files name) e → ⊥
-  pub test : (name : List ℕ) (e : Ending) → c.test_map ≡ Some name
-      → NamedMapRefused TestMap (map_mode c.options.loose) (files name) e → ⊥
-
--- what the failure of a call shows of the files, where it comes once the output is open: no map that options name is
--- refused; the output is a regular file or absent, or something else is allowed
-pub record OutputPasses (c : Command) (s : Setting) (files : List ℕ → Option File) : Type 0 where
-  pub maps : MapsPass c files
-  pub regular : s.forced ≡ false → is_other (files s.outfile) ≡ false
-
--- and where it comes once the mapfile is read, too: nor is the mapfile refused, if there is one
-pub record MapfilePasses (c : Command) (s : Setting) (files : List ℕ → Option File) : Type 0 where
-  pub output : OutputPasses c s files
-  pub accepted : (e : Ending) → MapfileRefused (mapfile_in s files) e → ⊥
-
--- a read of a map may fail before the output is open, if options name maps
-abbrev pub UnlessMaps : (names_maps : Bool) → Type 0 → Type 0
-UnlessMaps true P = ⊤
-UnlessMaps false P = P
-
--- what the failure of a call shows of the files, by when such a call comes first: that no named map is refused at the
--- open of the output, something of the output up to the reads of the mapfile, and of both files behind them
-abbrev pub CallPasses : SiteCall → Command → Setting → (files : List ℕ → Option File) → Type 0
-CallPasses ImageOpen c s files = MapsPass c files
-CallPasses ImageRead c s files = MapfilePasses c s files
-CallPasses ImageWrite c s files = MapfilePasses c s files
-CallPasses ImageSync c s files = OutputPasses c s files
-CallPasses MapRead c s files = UnlessMaps (names_maps c) (OutputPasses c s files)
-CallPasses DraftBegin c s files = MapfilePasses c s files
-CallPasses DraftAppend c s files = MapfilePasses c s files
-CallPasses DraftSync c s files = MapfilePasses c s files
-CallPasses DraftPublish c s files = MapfilePasses c s files
-CallPasses MapSettle c s files = OutputPasses c s files
-CallPasses MapRemove c s files = MapfilePasses c s files
 
 -- every file reads as it did
 abbrev pub AllStand : (files files' : List ℕ → Option File) → Type 0
@@ -169,29 +128,6 @@ IsLeft (MapRefused which error) maps outfile files files' = RefusalLeaves which 
 IsLeft SourceLost maps outfile files files' = ⊤
 IsLeft (SiteFault call earlier) maps outfile files files' = CallLeaves call maps outfile files files'
 IsLeft NoMemory maps outfile files files' = ⊤
-
--- the map that an option names for this is refused, with this answer
-abbrev pub IsRefusedAs : Which → Command → Setting → (files : List ℕ → Option File) → Ending → Type 0
-IsRefusedAs DomainMap c s files e =
-    (name : List ℕ) × (c.domain_map ≡ Some name) × NamedMapRefused DomainMap (map_mode c.options.loose) (files name) e
-IsRefusedAs TestMap c s files e =
-    ((n : List ℕ) (v : Ending) → c.domain_map ≡ Some n
-    → NamedMapRefused DomainMap (map_mode c.options.loose) (files n) v → ⊥)
-    × (name : List ℕ) × (c.test_map ≡ Some name) × NamedMapRefused TestMap (map_mode c.options.loose) (files name) e
-IsRefusedAs RunMap c s files e = OutputPasses c s files × MapfileRefused (mapfile_in s files) e
-
--- what an answer says of the files
-abbrev pub FilesAllow : Ending → Command → Setting → (files : List ℕ → Option File) → Type 0
-FilesAllow Done c s files = MapfilePasses c s files
-FilesAllow (Usage fault) c s files = OnFalse (is_of_words fault) (MapfilePasses c s files)
-FilesAllow (SameName first second) c s files = ⊤
-FilesAllow (NoMap which) c s files = IsRefusedAs which c s files (NoMap which)
-FilesAllow SourceFault c s files = MapsPass c files
-FilesAllow NotRegular c s files = MapsPass c files × OutputRefused s.forced (files s.outfile) NotRegular
-FilesAllow (MapRefused which error) c s files = IsRefusedAs which c s files (MapRefused which error)
-FilesAllow SourceLost c s files = MapfilePasses c s files
-FilesAllow (SiteFault call earlier) c s files = CallPasses call c s files
-FilesAllow NoMemory c s files = ⊤
 
 -- each position that is asked for has a place in the output
 abbrev pub ArePlaced : Options → (end : ℕ) → Type 0

@@ -1,5 +1,5 @@
 -- What the definitions mean.
-use Rattle.std.specs.Prelude.{◌≡◌, ◌≢◌, ⊤, ℕ, ◌-◌, ◌^◌, ◌<◌, true, None, IsTrue, List, length, slice_get, Option, Some}
+use Rattle.std.specs.Prelude.{◌≡◌, ◌≢◌, ⊤, ℕ, ◌-◌, ◌^◌, ◌<◌, true, IsTrue, List, length, slice_get, Option, Some}
 use Rattle.block_list.specs.declared.status.Status.{Status}
 use Rattle.mapfile_text.specs.declared.state.MapState.{MapState}
 use Rattle.option_words.specs.Words.{command_line}
@@ -18,12 +18,14 @@ use Rattle.rescue_rules.specs.Stops.{has_barrier, IsKept}
 use Rattle.ddrescue_cli.specs.declared.ending.Ending.{Ending}
 use Rattle.ddrescue_cli.specs.declared.ending.Ending.TheVariants.{Done, Usage, SameName, NoMap, SourceFault, NotRegular, MapRefused, SourceLost, SiteFault, NoMemory}
 use Rattle.rescue_command.specs.Command.{Command, Asks}
-use Rattle.ddrescue_cli.specs.Names.{program_name, first_same}
-use Rattle.ddrescue_cli.specs.Asked.{Maps, names_by}
-use Rattle.ddrescue_cli.specs.Alone.{MapfilePasses, ArePlaced}
+use Rattle.ddrescue_cli.specs.Names.{program_name}
+use Rattle.ddrescue_cli.specs.Asked.{Maps}
 use Rattle.ddrescue_cli.specs.Maps.{AreMapsOf}
 use Rattle.ddrescue_cli.specs.Told.{Told, AllTell, what_was_done, calls_before, files_of, asked}
-use Rattle.ddrescue_cli.specs.Work.{Works}
+use Rattle.work_steps.specs.Work.{Deeds, Works}
+use Rattle.work_steps.specs.Verdicts.{RefuseNothing}
+use Rattle.ddrescue_cli.specs.Outside.{Found, found_in}
+use Rattle.ddrescue_cli.specs.Work.{Rescues, rescue_faults, rescue_rows}
 use Rattle.ddrescue_cli.specs.Ddrescue.{Ddrescue}
 
 -- the maps of a promise, and the setting and the work by them
@@ -95,23 +97,21 @@ pub record NothingFailed (t : Told) : Type 0 where
   pub reads_count : t.source.losses < 2 ^ 64 - 1
   pub calls_count : t.site.faults < 2 ^ 64 - 1
 
--- nothing of what the words ask for is refused: the names of the files are apart, the maps that options name and the
--- mapfile are maps, the output may be written to, and each position has a place in it
-pub record NothingIsRefused (c : Command) (s : Setting) (t : Told) : Type 0 where
-  pub names : first_same c.infile c.outfile (names_by c) ≡ None
-  pub files : MapfilePasses c s (files_of t)
-  pub places : ArePlaced c.options (length t.source.bytes)
+-- no row of the work refuses anything: the names of the files are apart, the maps that options name and the mapfile are
+-- maps, the output may be written to, and each position has a place in it
+abbrev pub NothingIsRefused : Command → Told → Type 0
+NothingIsRefused c t = RefuseNothing (rescue_rows c (found_in c (files_of t)) (length t.source.bytes))
 
 -- Where nothing failed, nothing is refused and memory doesn't run out, the rescue is done.
 abbrev pub IsDoneUnless : Type 0
 IsDoneUnless = (t : Told) (c : Command) (d : Ddrescue t) (asks : Asks t.words c) → AllTell t → NothingFailed t
-    → NothingIsRefused c (setting d asks) t → t.answer ≢ NoMemory → t.answer ≡ Done
+    → NothingIsRefused c t → t.answer ≢ NoMemory → t.answer ≡ Done
 
 -- There are such maps for any files: those that the files say.
 abbrev pub MapsAreThere : Type 0
 MapsAreThere = (c : Command) (files : List ℕ → Option File) → (maps : Maps) × AreMapsOf c files maps
 
--- an answer that a command, an input's length and files bring, whatever the calls and memory do
+-- an answer that a command, an input's length and the files that were found bring, whatever the calls and memory do
 abbrev pub IsVerdict : Ending → Type 0
 IsVerdict Done = ⊤
 IsVerdict (Usage fault) = ⊤
@@ -126,5 +126,7 @@ IsVerdict NoMemory = ⊥
 
 -- They bring one such answer at most.
 abbrev pub HasOneVerdict : Type 0
-HasOneVerdict = (c : Command) (s : Setting) (files : List ℕ → Option File) (e e' : Ending) (g g' : Gain)
-    → Works c s files e g → Works c s files e' g' → IsVerdict e → IsVerdict e' → e ≡ e'
+HasOneVerdict = (c : Command) (s : Setting) (found : Found) (e e' : Ending) (d d' : Deeds)
+    → Works rescue_faults (rescue_rows c found s.end) (Rescues s found.mapfile) e d
+    → Works rescue_faults (rescue_rows c found s.end) (Rescues s found.mapfile) e' d'
+    → IsVerdict e → IsVerdict e' → e ≡ e'

@@ -7,7 +7,6 @@ use Rattle.block_list.specs.Tiled.{Tiled}
 use Rattle.mapfile_text.specs.declared.read.Mode.{Mode}
 use Rattle.mapfile_text.specs.declared.read.MapError.{MapError}
 use Rattle.mapfile_text.specs.declared.read.MapError.TheVariants.{NoStatusLine, NoMemory as OutOfMemory}
-use Rattle.faulty_source.specs.Journal.{Reading}
 use Rattle.crash_site.specs.declared.site.SiteCall.{SiteCall}
 use Rattle.crash_site.specs.declared.site.SiteCall.TheVariants.{ImageOpen, ImageRead, ImageWrite, ImageSync, MapRead, DraftBegin, DraftAppend, DraftSync, DraftPublish, MapSettle, MapRemove}
 use Rattle.crash_site.specs.Files.{File}
@@ -34,10 +33,12 @@ use Rattle.rescue_command.specs.Command.{Command}
 use Rattle.ddrescue_cli.specs.declared.ending.Which.{Which}
 use Rattle.ddrescue_cli.specs.Asked.{Maps, setting_of}
 use Rattle.save_resume.specs.Named.{IsMapOf}
-use Rattle.ddrescue_cli.specs.Maps.{AreAskedFor, AreMapsOf, Lists, mapfile_of, names_maps, seen_through}
+use Rattle.ddrescue_cli.specs.Maps.{AreAskedFor, AreMapsOf, Lists, mapfile_of, names_maps}
 use Rattle.ddrescue_cli.specs.Refusals.{is_other, NamedMapRefused, MapfileRefused}
-use Rattle.ddrescue_cli.specs.Alone.{HasRead, MapsPass, PlacesAllow, FilesAllow, IsLeft}
-use Rattle.ddrescue_cli.specs.Work.{HasOnlyCalls, answer_of, RunsOver, WorksOn, WorksBehindWords}
+use Rattle.ddrescue_cli.specs.Alone.{HasRead, PlacesAllow, IsLeft}
+use Rattle.work_steps.specs.Work.{Deeds, Works}
+use Rattle.ddrescue_cli.specs.Outside.{found_in, AreOpens, HasGainedReads}
+use Rattle.ddrescue_cli.specs.Work.{answer_of, RunsOver, Rescues, rescue_faults, opened_rows, worked_rows}
 
 -- how a rescue ends whose parts returned this
 abbrev pub ending_of : Result Ending Ending → Ending
@@ -98,19 +99,12 @@ LoadCause e faults faults' =
     × (faults' ≡ faults))
     ⊎ ((call : SiteCall) × (e ≡ SiteFault call None) × IsResumeCall call × Rose faults faults')
 
--- the input, the site and the clock tell
-pub record TellAll (o : Across) : Type 0 where
-  pub source : IsTrue o.source.tells
-  pub site : IsTrue o.site.tells
-  pub clock : IsTrue o.clock'.tells
-
--- journal, record and readings gained this at their ends; the reads as they are seen
+-- The record gained this at its end; and so did the journal where the input tells, as it is seen, and the readings
+-- where the clock tells.
 pub record Gains (test : Option (List Status)) (o : Across) (g : Gain) : Type 0 where
-  pub raw : List Reading
-  pub reads : o.source'.journal ≡ o.source.journal ++ raw
-  pub seen_are : seen_through test raw ≡ g.reads
+  pub reads : IsTrue o.source.tells → HasGainedReads test o.source o.source' g.reads
   pub calls : o.site'.calls ≡ o.site.calls ++ g.calls
-  pub times : o.clock'.readings ≡ o.clock.readings ++ g.times
+  pub times : IsTrue o.clock'.tells → o.clock'.readings ≡ o.clock.readings ++ g.times
   pub fit : AreTimes g.times
 
 -- what a run did over a map that it began with, up to its end or to where it stopped
@@ -142,10 +136,10 @@ pub record IsLate (e : Ending) : Type 0 where
 abbrev pub EndsRun : Ending → Type 0
 EndsRun e = (end : RunEnd) × (e ≡ answer_of end)
 
--- the same by which objects tell; and how it ended, whether they do or not
+-- that where the files tell, the reads where the input tells; and how it ended, whether they do or not
 pub record Ran (s : Setting) (test : Option (List Status)) (statuses : List Status) (state : Option MapState)
     (e : Ending) (o : Across) : Type 0 where
-  pub told : TellAll o → RanOn s test statuses state e o
+  pub told : IsTrue o.site.tells → RanOn s test statuses state e o
   pub read : IsTrue o.source.tells → HasRead s test e o.source o.source'
   pub ends : EndsRun e
   pub late : IsLate e
@@ -212,54 +206,58 @@ pub record IsOnlyMaps (g : Gain) : Type 0 where
   pub maps : List Call
   pub are : AreMapReads maps
   pub calls : (g.calls ≡ map Returned maps) ⊎ BrokeAt MapRead maps [] g.calls
-  pub only : HasOnlyCalls g
+  pub reads : g.reads ≡ []
+  pub times : g.times ≡ []
 
 -- what the work behind the words did, up to its end or to where it stopped
 pub record WorkedOn (c : Command) (s : Setting) (test : Option (List Status)) (files : List ℕ → Option File)
     (e : Ending) (o : Across) : Type 0 where
-  pub gain : Gain
-  pub gains : Gains test o gain
-  pub works : WorksBehindWords c s files e gain
-  pub short : IsNothing gain ⊎ (s.end < 2 ^ 63) ⊎ IsOnlyMaps gain
+  pub did : Deeds
+  pub opens : AreOpens did.opens o.source o.source'
+  pub gains : Gains test o did.gain
+  pub works : Works rescue_faults (worked_rows c (found_in c files) s.end) (Rescues s (mapfile_of c files)) e did
+  pub short : IsNothing did.gain ⊎ (s.end < 2 ^ 63) ⊎ IsOnlyMaps did.gain
 
 -- what the work behind the maps that options name did, up to its end or to where it stopped
 pub record OpenedOn (c : Command) (s : Setting) (test : Option (List Status)) (files : List ℕ → Option File)
     (e : Ending) (o : Across) : Type 0 where
-  pub gain : Gain
-  pub gains : Gains test o gain
-  pub works : WorksOn c s files e gain
-  pub short : IsNothing gain ⊎ (s.end < 2 ^ 63)
+  pub did : Deeds
+  pub opens : AreOpens did.opens o.source o.source'
+  pub gains : Gains test o did.gain
+  pub works : Works rescue_faults (opened_rows c (found_in c files) s.end) (Rescues s (mapfile_of c files)) e did
+  pub short : IsNothing did.gain ⊎ (s.end < 2 ^ 63)
 
 -- what the mapfile lists, where that is asked for
 abbrev pub IsListing : Command → (List ℕ → Option File) → (listed : Option (ℕ × ℕ)) → Type 0
 IsListing c files listed =
     (first end : ℕ) → c.options.complete_only ≡ true → Lists (mapfile_of c files) first end → listed ≡ Some (first, end)
 
--- The same by which objects tell, with these statuses of the maps that options name.
--- Nothing is said of these maps' files here.
-pub record Opened (c : Command) (line : List ℕ) (domain test : Option (List Status)) (end : ℕ)
-    (files : List ℕ → Option File) (e : Ending) (o : Across) : Type 0 where
+-- The same by which objects tell, with these statuses of the maps that options name, and a length of the input that is
+-- its own where it tells. Nothing is said of these maps' files here.
+pub record Opened (c : Command) (line : List ℕ) (domain test : Option (List Status)) (files : List ℕ → Option File)
+    (e : Ending) (o : Across) : Type 0 where
+  pub end : ℕ
+  pub own_end : IsTrue o.source.tells → end ≡ length o.source.bytes
   pub listed : Option (ℕ × ℕ)
   pub whole : c.options.complete_only ≡ false → listed ≡ None
   pub are : IsTrue o.site.tells → IsListing c files listed
-  pub told : TellAll o
+  pub told : IsTrue o.site.tells
       → OpenedOn c (setting_of c line end (record { domain = domain; test = test; listed = listed })) test files e o
   pub read : IsTrue o.source.tells
       → HasRead (setting_of c line end (record { domain = domain; test = test; listed = listed })) test e
       o.source o.source'
   pub placed : IsTrue o.source.tells → PlacesAllow e c.options end
-  pub allowed : IsTrue o.site.tells → MapsPass c files
-      → FilesAllow e c (setting_of c line end (record { domain = domain; test = test; listed = listed })) files
   pub left : IsTrue o.site.tells → IsLeft e false c.outfile files (files_in o.site')
 
 -- the same by which objects tell, and by some maps, which are what the files say where they tell
-pub record Worked (c : Command) (line : List ℕ) (end : ℕ) (files : List ℕ → Option File) (e : Ending) (o : Across)
+pub record Worked (c : Command) (line : List ℕ) (files : List ℕ → Option File) (e : Ending) (o : Across)
     : Type 0 where
+  pub end : ℕ
+  pub own_end : IsTrue o.source.tells → end ≡ length o.source.bytes
   pub maps : Maps
   pub asked_maps : AreAskedFor c maps
   pub are : IsTrue o.site.tells → AreMapsOf c files maps
-  pub told : TellAll o → WorkedOn c (setting_of c line end maps) maps.test files e o
+  pub told : IsTrue o.site.tells → WorkedOn c (setting_of c line end maps) maps.test files e o
   pub read : IsTrue o.source.tells → HasRead (setting_of c line end maps) maps.test e o.source o.source'
   pub placed : IsTrue o.source.tells → PlacesAllow e c.options end
-  pub allowed : IsTrue o.site.tells → FilesAllow e c (setting_of c line end maps) files
   pub left : IsTrue o.site.tells → IsLeft e (names_maps c) c.outfile files (files_in o.site')

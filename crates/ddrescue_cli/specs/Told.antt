@@ -54,6 +54,10 @@ calls_before t = record { start = t.site.start; earlier = t.site.calls }
 abbrev pub files_of : Told → List ℕ → Option File
 files_of t = files_in t.site
 
--- what a command asks for of the input by maps
+-- what a command asks for by maps of an input with this length
+abbrev pub asked_to : Command → Maps → Told → (end : ℕ) → Setting
+asked_to c maps t end = setting_of c (command_line program_name t.words) end maps
+
+-- what it asks for of the input
 abbrev pub asked : Command → Maps → Told → Setting
-asked c maps t = setting_of c (command_line program_name t.words) (length t.source.bytes) maps
+asked c maps t = asked_to c maps t (length t.source.bytes)

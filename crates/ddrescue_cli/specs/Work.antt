@@ -1,60 +1,73 @@
--- The work of a rescue: its steps in order, what each does on the files, and where it refuses. It says which answers
--- may be given, and which calls and reads were made by then.
-use Rattle.std.specs.Prelude.{◌≡◌, ◌⊎◌, ℕ, ◌≤◌, true, false, List, [], ◌∷◌, ◌++◌, length, map, Option, Some, None}
+-- The work of a rescue: its steps in order, each a row, and the run behind them.
+use Rattle.std.specs.Prelude.{◌≡◌, ◌⊎◌, ℕ, ◌≤◌, true, List, [], ◌∷◌, ◌++◌, length, Option, Some, None, is_some, option_map}
 use Rattle.block_list.specs.declared.status.Status.{Status}
 use Rattle.mapfile_text.specs.declared.read.Mode.{Mode}
 use Rattle.mapfile_text.specs.declared.state.MapState.{MapState}
-use Rattle.crash_site.specs.declared.site.SiteCall.{SiteCall}
-use Rattle.crash_site.specs.declared.site.SiteCall.TheVariants.{MapRead}
 use Rattle.crash_site.specs.Files.{File}
-use Rattle.crash_site.specs.Calls.{Call, Entry, Done as Returned, BrokeAt, image_open}
-use Rattle.save_resume.specs.Loading.{BeginsLoad, IsLoad}
+use Rattle.crash_site.specs.Calls.{Call, image_open}
+use Rattle.save_resume.specs.MapNames.{MapNames, names_of}
+use Rattle.save_resume.specs.Named.{map_mode}
 use Rattle.save_resume.specs.Resuming.{barrier_calls}
 use Rattle.rescue_rules.specs.Setting.{Setting}
 use Rattle.rescue_rules.specs.Start.{Stands}
 use Rattle.rescue_rules.specs.declared.stop.Stop.TheVariants.{SourceLost as InputLost, Site, NoMemory as NoRoom}
 use Rattle.rescue_rules.specs.declared.stop.RunEnd.{RunEnd}
 use Rattle.rescue_rules.specs.declared.stop.RunEnd.TheVariants.{Done as Finished, Stopped, SaveFailed}
-use Rattle.rescue_rules.specs.Work.{Gain, IsNothing, Runs, mapfile_in}
-use Rattle.ddrescue_cli.specs.declared.ending.Ending.{Ending}
-use Rattle.ddrescue_cli.specs.declared.ending.Ending.TheVariants.{Done, SourceLost, SiteFault, NoMemory}
+use Rattle.rescue_rules.specs.Work.{Gain, Runs}
+use Rattle.work_steps.specs.Work.{Deeds, Faults, Step, Take, Look, Open, Make, Read}
+use Rattle.rescue_command.specs.declared.options.Options.{Options}
 use Rattle.rescue_command.specs.Command.{Command}
+use Rattle.ddrescue_cli.specs.declared.ending.Ending.{Ending}
+use Rattle.ddrescue_cli.specs.declared.ending.Ending.TheVariants.{Done, SourceFault, SourceLost, SiteFault, NoMemory}
 use Rattle.ddrescue_cli.specs.declared.ending.Which.{Which}
 use Rattle.ddrescue_cli.specs.declared.ending.Which.TheVariants.{DomainMap, TestMap}
-use Rattle.save_resume.specs.Named.{map_mode}
-use Rattle.ddrescue_cli.specs.Refusals.{NamesRefused, NamedMapRefused, InputRefused, OutputRefused, MapfileRefused, PlacesRefused}
+use Rattle.ddrescue_cli.specs.Refusals.{NamesRefused, NamedMapRefused, OutputRefused, MapfileRefused, PlacesRefused}
+use Rattle.ddrescue_cli.specs.Outside.{Found}
 
--- Where there is a refusal it is the answer, or memory ran out; else the work goes on, unless memory ran out.
-abbrev pub OrElse : (Ending → Type 0) → (Ending → Gain → Type 0) → Ending → Gain → Type 0
-OrElse P Q e g = ((P e ⊎ (e ≡ NoMemory)) × IsNothing g) ⊎ (((e' : Ending) → P e' → ⊥) × Q e g)
+-- how a rescue answers faults
+abbrev pub rescue_faults : Faults Ending
+rescue_faults = record { call = λ call. SiteFault call None; memory = NoMemory; input = SourceFault }
 
--- the same where memory can't run out
-abbrev pub OrRefused : (Ending → Type 0) → (Ending → Gain → Type 0) → Ending → Gain → Type 0
-OrRefused P Q e g = (P e × IsNothing g) ⊎ (((e' : Ending) → P e' → ⊥) × Q e g)
+-- a refusal of what a name stands for, if there is one
+abbrev pub IfNamed : Option (List ℕ) → (Ending → Type 0) → Ending → Type 0
+IfNamed name refuses e = (is_some name ≡ true) × refuses e
 
--- the answer may be a refusal, or the work goes on
-abbrev pub OrMay : (Ending → Type 0) → (Ending → Gain → Type 0) → Ending → Gain → Type 0
-OrMay P Q e g = (P e × IsNothing g) ⊎ Q e g
+-- A map that an option names, if one does, is read, and may be absent or refused.
+abbrev pub map_rows : Which → Mode → (name : Option (List ℕ)) → (file : Option File) → List (Step Ending)
+map_rows which mode name file = Read name file ∷ Look (IfNamed name (NamedMapRefused which mode file)) ∷ []
 
--- nothing was done but calls on the files
-pub record HasOnlyCalls (g : Gain) : Type 0 where
-  pub reads : g.reads ≡ []
-  pub times : g.times ≡ []
+-- the barrier before a mapfile is read, if there is one
+abbrev pub barrier_of : Option MapNames → List Call
+barrier_of None = []
+barrier_of (Some names) = barrier_calls names
 
--- These calls are made, and the work goes on, unless one fails.
-abbrev pub Then : List Call → (Ending → Gain → Type 0) → Ending → Gain → Type 0
-Then calls Q e g =
-    ((call : SiteCall) × (e ≡ SiteFault call None) × BrokeAt call calls [] g.calls × HasOnlyCalls g)
-    ⊎ ((rest : List Entry) × (g.calls ≡ map Returned calls ++ rest) × Q e (record g { calls = rest }))
+-- What follows the opening of the output: with a mapfile the barrier makes durable what stands, and the mapfile is read
+-- and may be refused. Then each position that is asked for wants a place in the output.
+abbrev pub mapfile_rows : Options → (mapfile : Option (List ℕ)) → (file : Option File) → (end : ℕ) → List (Step Ending)
+mapfile_rows o mapfile file end =
+    Make (barrier_of (option_map names_of mapfile))
+    ∷ Read mapfile file
+    ∷ Look (MapfileRefused file)
+    ∷ Look (PlacesRefused o end)
+    ∷ []
 
--- A mapfile is read, and the work goes on, unless a read fails or memory runs out.
-abbrev pub ThenRead : List ℕ → Option File → (Ending → Gain → Type 0) → Ending → Gain → Type 0
-ThenRead name file Q e g =
-    ((load : List Call) × (e ≡ SiteFault MapRead None) × BeginsLoad name file load × BrokeAt MapRead load [] g.calls
-    × HasOnlyCalls g)
-    ⊎ ((load : List Call) × (e ≡ NoMemory) × BeginsLoad name file load × (g.calls ≡ map Returned load) × HasOnlyCalls g)
-    ⊎ ((load : List Call) × (rest : List Entry) × IsLoad name file load × (g.calls ≡ map Returned load ++ rest)
-    × Q e (record g { calls = rest }))
+-- what follows the maps that options name: the input is opened, and the output, which may be refused
+abbrev pub opened_rows : Command → Found → (end : ℕ) → List (Step Ending)
+opened_rows c found end =
+    Open c.infile
+    ∷ Make (image_open c.outfile true ∷ [])
+    ∷ Look (OutputRefused c.options.forced found.output)
+    ∷ mapfile_rows c.options c.mapfile found.mapfile end
+
+-- what follows the names
+abbrev pub worked_rows : Command → Found → (end : ℕ) → List (Step Ending)
+worked_rows c found end =
+    map_rows DomainMap (map_mode c.options.loose) c.domain_map found.domain
+    ++ map_rows TestMap (map_mode c.options.loose) c.test_map found.test ++ opened_rows c found end
+
+-- The steps of a rescue before its run.
+abbrev pub rescue_rows : Command → Found → (end : ℕ) → List (Step Ending)
+rescue_rows c found end = Take ∷ Look (NamesRefused c) ∷ worked_rows c found end
 
 -- the answer of a run that ended so
 abbrev pub answer_of : RunEnd → Ending
@@ -75,44 +88,12 @@ pub record IsUnbegun (e : Ending) (g : Gain) : Type 0 where
 abbrev pub RunsOver : Setting → List Status → Option MapState → Ending → Gain → Type 0
 RunsOver s statuses state e g = IsUnbegun e g ⊎ ((end : RunEnd) × (e ≡ answer_of end) × Runs s statuses state g end)
 
--- With a mapfile the barrier makes durable what stands, and the mapfile is read and may be refused; without one memory
--- may run out. Then the work goes on.
-abbrev pub ThenLoad : Setting → (List ℕ → Option File) → (Ending → Gain → Type 0) → Ending → Gain → Type 0
-ThenLoad s files Q e g =
-    ((s.has_mapfile ≡ true) × Then (barrier_calls s.names)
-    (ThenRead s.names.map (files s.names.map) (OrRefused (MapfileRefused (files s.names.map)) Q)) e g)
-    ⊎ ((s.has_mapfile ≡ false) × OrMay (λ v. v ≡ NoMemory) Q e g)
-
--- A map that an option names is read, if one is, and may be absent or refused; then the work goes on.
-abbrev pub ThenMap : Which → Mode → Option (List ℕ) → (List ℕ → Option File) → (Ending → Gain → Type 0)
-    → Ending → Gain → Type 0
-ThenMap which mode None files Q = Q
-ThenMap which mode (Some name) files Q =
-    ThenRead name (files name) (OrRefused (NamedMapRefused which mode (files name)) Q)
-
 -- the run over the map that the mapfile stands for, or no mapfile
-abbrev pub ThenRun : Setting → Option File → Ending → Gain → Type 0
+abbrev pub ThenRun : Setting → (mapfile : Option File) → Ending → Gain → Type 0
 ThenRun s mapfile e g =
     (statuses : List Status) × (state : Option MapState) × Stands mapfile s.end statuses state
     × RunsOver s statuses state e g
 
--- the work behind the maps, over files as they read before it
-abbrev pub WorksOn : Command → Setting → (List ℕ → Option File) → Ending → Gain → Type 0
-WorksOn c s files =
-    OrMay InputRefused
-    (Then (image_open s.outfile true ∷ [])
-    (OrRefused (OutputRefused s.forced (files s.outfile))
-    (ThenLoad s files
-    (OrRefused (PlacesRefused c.options s.end)
-    (ThenRun s (mapfile_in s files))))))
-
--- the work behind the words: the maps that options name come first
-abbrev pub WorksBehindWords : Command → Setting → (List ℕ → Option File) → Ending → Gain → Type 0
-WorksBehindWords c s files =
-    ThenMap DomainMap (map_mode c.options.loose) c.domain_map files
-    (ThenMap TestMap (map_mode c.options.loose) c.test_map files
-    (WorksOn c s files))
-
--- the whole work for a command, by a setting that is made of it
-abbrev pub Works : Command → Setting → (List ℕ → Option File) → Ending → Gain → Type 0
-Works c s files = OrElse (NamesRefused c) (WorksBehindWords c s files)
+-- That run is behind the steps, and opens no input.
+abbrev pub Rescues : Setting → (mapfile : Option File) → Ending → Deeds → Type 0
+Rescues s mapfile e d = (d.opens ≡ []) × ThenRun s mapfile e d.gain

@@ -3,17 +3,19 @@ use Rattle.std.proofs.Common.{[], refl, sym, ◌∙◌}
 use Rattle.std.proofs.lemmas.Result.{err_from_is_err_and}
 use Rattle.faulty_source.proofs.Keeping.{keeps_more}
 use Rattle.rescue_command.specs.Command.{told_by}
-use Rattle.ddrescue_cli.proofs.OpenedLemmas.{input_fails, output_fails, load_fails, place_fails, run_goes}
+use Rattle.ddrescue_cli.proofs.OpenedLemmas.{not_opened, input_fails, output_fails, load_fails, place_fails, run_goes}
 use Rattle.ddrescue_cli.proofs.AnswerLemmas.{load_fits, load_leaves, load_opened, load_says, load_passes_input, output_fits, output_opened, output_says, output_passes_input, run_fits, run_opened, run_says, run_passes_input}
 use Rattle.ddrescue_cli.proofs.rescue.open_and_run.Goals as goal
 
 pub returns-in_default-clause-opened : goal.returns-in_default-clause-opened
 returns-in_default-clause-opened g c = input_fails _ _ _ _ _ _ _ _ c.open_input.ensures.call.journal
+    (not_opened _ c.open_input.result _ _ c.in_default.not-Ok c.open_input.ensures.call c.open_input.ensures.plan)
 
 pub returns-in_err-open_output-clause-opened : goal.returns-in_err-open_output-clause-opened
 returns-in_err-open_output-clause-opened g c =
     let p = err_from_is_err_and c.from_residual.result c.from_residual.ensures.1 in
     rw (p.1, p.2) (output_fails _ _ _ _ c.in-Ok.end _ _ _ _ (g.D.Site.state c.open_output.new.site) _ (record {
+      opened = (c.open_input.ensures.call.opens, c.in-Ok.ensures.call.named);
       same = c.open_input.ensures.call.journal;
       bytes = c.open_input.ensures.call.keeps.bytes;
       tells = c.open_input.ensures.call.keeps.tells;
@@ -50,6 +52,7 @@ returns-in_err-start-clause-opened g c =
     let p = err_from_is_err_and c.from_residual-in_err-start.result c.from_residual-in_err-start.ensures.1 in
     rw (p.1, p.2) (load_fails (told_by c.args.plan.command) _ _ _ c.args.plan.names c.in-Ok.end _ _ _
     (g.D.Site.state c.args.site.now) (g.D.Site.state c.open_output.new.site) _ _ _ _ c.requires.names (record {
+      opened = (c.open_input.ensures.call.opens, c.in-Ok.ensures.call.named);
       same = c.open_input.ensures.call.journal;
       bytes = c.open_input.ensures.call.keeps.bytes;
       tells = c.open_input.ensures.call.keeps.tells;
@@ -93,6 +96,7 @@ pub returns-then-not-places_fit-clause-opened : goal.returns-then-not-places_fit
 returns-then-not-places_fit-clause-opened g c =
     place_fails (told_by c.args.plan.command) _ _ _ c.args.plan.names c.in-Ok.end c.in_ok-start.start _ _
     (g.D.Site.state c.args.site.now) (g.D.Site.state c.open_output.new.site) _ _ c.requires.names (record {
+      opened = (c.open_input.ensures.call.opens, c.in-Ok.ensures.call.named);
       same = c.open_input.ensures.call.journal;
       bytes = c.open_input.ensures.call.keeps.bytes;
       tells = c.open_input.ensures.call.keeps.tells;
@@ -111,6 +115,7 @@ returns-clause-opened g c =
     run_goes (told_by c.args.plan.command) _ _ _ c.args.plan.names c.in-Ok.end c.in_ok-start.start _ _
     (g.S.Source.state c.open_input.new.self) _ (g.D.Site.state c.args.site.now) (g.D.Site.state c.open_output.new.site)
     (g.D.Site.state c.load.new.site) _ _ _ c.requires.names (record {
+      opened = (c.open_input.ensures.call.opens, c.in-Ok.ensures.call.named);
       same = c.open_input.ensures.call.journal;
       bytes = c.open_input.ensures.call.keeps.bytes;
       tells = c.open_input.ensures.call.keeps.tells;
@@ -121,7 +126,7 @@ returns-clause-opened g c =
       made = (c.open_output.ensures.keeps.start td, c.in_ok-open_output.ensures.made.made td);
       regular = c.in_ok-open_output.ensures.regular td;
       loaded = c.in_ok-start.ensures.loaded (rw c.open_output.ensures.keeps.tells td);
-    }) (c.load.ensures.site.keeps.tells ∙ c.open_output.ensures.keeps.tells) (c.if-not-places_fit.ensures.fit refl)
+    }) (c.load.ensures.site.keeps.tells ∙ c.open_output.ensures.keeps.tells) (c.if-not-places_fit.ensures.fit refl) c.run_tested.ensures.source
     (c.run_tested.ensures.ran c.args.plan.command.infile.now c.args.plan.command.outfile.now)
 
 pub returns-clause-words : goal.returns-clause-words
