@@ -50,8 +50,8 @@ record IsOfOptions (words : List (List ℕ)) (items : List Item) (o : LogOptions
   given : m ≡ Some c.mode
   parts : IsOf words items o c.mode c
 
-mode_part : (words : List (List ℕ)) (items : List Item) (o : LogOptions) (m : Option LogMode) (os : List ℕ) (c : Command)
-    → with_mode words items o m os ≡ told c → IsOfOptions words items o m c
+mode_part : (words : List (List ℕ)) (items : List Item) (o : LogOptions) (m : Option LogMode) (os : List ℕ)
+    (c : Command) → with_mode words items o m os ≡ told c → IsOfOptions words items o m c
 mode_part words items o None os c e = absurd (cc)
 mode_part words items o (Some m) os c e =
     let p = operand_part words items o m os c
@@ -92,8 +92,9 @@ options_by : (words : List (List ℕ)) (items : List Item) (r : Result LogOption
     → command_by words items r os ≡ told c → AreAccepted words items r c
 options_by words items (Err n) os c e = absurd (cc)
 options_by words items (Ok o) os c e =
-    let s = short_part (size_word items) (unless_empty (empty_operand words os) (with_mode words items o o.mode os)) c e in
-    let named = unless_part (empty_operand words os) (with_mode words items o o.mode os) c s.read in
+    let asked = with_mode words items o o.mode os in
+    let s = short_part (size_word items) (unless_empty (empty_operand words os) asked) c e in
+    let named = unless_part (empty_operand words os) asked c s.read in
     let p = mode_part words items o o.mode os c named in
     record {
       read = ap Ok (sym p.parts.options);

@@ -244,6 +244,14 @@ size_keeps : (s : ℕ) (o o' : LogOptions) (v : Option (List ℕ))
 size_keeps s o o' v = value_keeps s o o' 115 v (λ n. record o { size = Some n }) (size_by s v) (λ n. refl)
     (λ n p h. with_size s o h n (size_by_below s v n p)) (λ n. refl) (λ n. refl) refl refl
 
+list_keeps : (s : ℕ) (o o' : LogOptions) (v : Option (List ℕ))
+    → as_mode o (option_map ListBlocks (option_and_then types_of v)) ≡ Some o' → Keeps s o (Some 108) v o'
+list_keeps s o o' v =
+    alone_keeps s o o' 108 v _ refl (mapped_alone ListBlocks (λ y. refl) (option_and_then types_of v))
+
+same_keeps : (s : ℕ) (o o' : LogOptions) (v : Option (List ℕ)) → Some o ≡ Some o' → Keeps s o (Some 118) v o'
+same_keeps s o o' v = flag_keeps s o o' 118 v o refl (λ h. h) (or_false o.quiet) refl refl
+
 rows_keep : EachRow RowKeeps option_rows
 rows_keep = (
   (λ s o o' v. alone_keeps s o o' 97 v _ refl (mapped_alone Change (λ y. refl) (option_and_then change_of v))),
@@ -262,7 +270,7 @@ rows_keep = (
               (
                 (λ s o o' v. input_keeps s o o' v),
                 (
-                  (λ s o o' v. alone_keeps s o o' 108 v _ refl (mapped_alone ListBlocks (λ y. refl) (option_and_then types_of v))),
+                  (λ s o o' v. list_keeps s o o' v),
                   (
                     (λ s o o' v. flag_keeps s o o' 76 v _ refl (λ h. h) (or_false o.quiet) refl refl),
                     (
@@ -282,7 +290,7 @@ rows_keep = (
                                   (
                                     (λ s o o' v. alone_keeps s o o' 116 v _ refl (λ x. given_alone _ x refl)),
                                     (
-                                      (λ s o o' v. flag_keeps s o o' 118 v _ refl (λ h. h) (or_false o.quiet) refl refl),
+                                      (λ s o o' v. same_keeps s o o' v),
                                       (
                                         (λ s o o' v. map_keeps s o o' 120 v (Combine Xor) refl refl),
                                         (
@@ -357,7 +365,8 @@ name_counts : (words : List (List ℕ)) (l : ℕ) (i : Item) (items : List Item)
     → last_value option_meanings words l (i ∷ items) ≡ value_of words i.value
 name_counts words l i items of none =
     let value = λ (x : Option Item). option_and_then (λ i. value_of words i.value) x in
-    ap (λ x. value (later x (cond (is_of option_meanings l i) (Some i) None))) (none_counts option_meanings l items none)
+    ap (λ x. value (later x (cond (is_of option_meanings l i) (Some i) None)))
+    (none_counts option_meanings l items none)
     ∙ ap (λ b. value (later None (cond b (Some i) None))) of
 
 module _ (words : List (List ℕ)) (i : Item) (items : List Item) (o p o' : LogOptions) where
@@ -443,4 +452,5 @@ kept_by words items (Ok n) o at e =
 pub options_keep : (words : List (List ℕ)) (items : List Item) (o : LogOptions) → options_in words items ≡ Ok o
     → AreKept words items o
 options_keep words items o e =
-    kept_by words items (set_in_turn (with_sector option_meanings block_letter words) (Ok default_sector) items) o refl e
+    kept_by words items (set_in_turn (with_sector option_meanings block_letter words) (Ok default_sector) items) o
+    refl e

@@ -29,7 +29,8 @@ within_block s k x some h =
     let p : ℕ = x - s.ipos + s.opos in
     let e : p / s.size ≡ k = eqb-true (block_of s x) k parts.1 in
     let low : k * s.size ≤ p = subst (λ (q : ℕ). q * s.size ≤ p) e (div-mul-le_self p s.size) in
-    let high : p < k * s.size + s.size = subst (λ (q : ℕ). p < q * s.size + s.size) e (lt-div-mul-add {a = p} {b = s.size} some) in
+    let high : p < k * s.size + s.size =
+    subst (λ (q : ℕ). p < q * s.size + s.size) e (lt-div-mul-add {a = p} {b = s.size} some) in
     (omega (arith, low, begun), omega (arith, high, begun))
 
 -- some number has the block in which a position stands

@@ -19,14 +19,15 @@ block_of s x = place_from s.ipos s.opos x / s.size
 abbrev pub is_in_block : Shape → (k x : ℕ) → Bool
 is_in_block s k x = nat_le s.ipos x && nat_eq (block_of s x) k
 
--- where the positions of a block begin, and where they end; at the same place where it has none
+-- where the positions of a block begin
 abbrev pub begin_of : Shape → (k : ℕ) → ℕ
 begin_of s k = s.ipos + (k * s.size - s.opos)
 
+-- and where they end: at the same place where it has none
 abbrev pub end_of : Shape → (k : ℕ) → ℕ
 end_of s k = s.ipos + (k * s.size + s.size - s.opos)
 
--- it stands in one of these blocks
+-- a position stands in one of these blocks
 abbrev pub is_in_blocks : Shape → List ℕ → ℕ → Bool
 is_in_blocks s ks x = list_any (λ k. is_in_block s k x) ks
 

@@ -15,7 +15,8 @@ command_of-requires-clause-operands c = let r = c.in-Ok.reading in
 pub returns-in-Ok-command_of-clause-asked : goal.returns-in-Ok-command_of-clause-asked
 returns-in-Ok-command_of-clause-asked c = let r = c.in-Ok.reading in
     reading_asks c.args.words.now c.option_table-table.result r.items.items r.operands.items
-    (told_by c.in-Ok-command_of.command) c.option_table-table.ensures c.in-Ok.ensures.reading c.in-Ok-command_of.ensures.asked
+    (told_by c.in-Ok-command_of.command) c.option_table-table.ensures c.in-Ok.ensures.reading
+    c.in-Ok-command_of.ensures.asked
 
 pub returns-clause-refused : goal.returns-clause-refused
 returns-clause-refused c = let r = c.in-Ok.reading in

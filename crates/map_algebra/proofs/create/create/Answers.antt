@@ -20,7 +20,9 @@ returns c =
     let ks = c.args.numbers.now in
     let domain = covers c.args.domain.now in
     let sorted = c.deref.result.now in
-    let moved : IsPermutation ks sorted = subst (IsPermutation ks) (sym c.deref.ensures.value) c.in_ok-sorted.ensures.same in
+    let moved : IsPermutation ks sorted =
+    subst (IsPermutation ks) (sym c.deref.ensures.value) c.in_ok-sorted.ensures.same in
     IfOk-weaker c.created.result _ _
-    (λ map e. e ∙ created_is s ks sorted domain c.args.listed c.args.rest c.args.end c.in_ok-marks.marks.statuses c.in_ok-marks.ensures moved)
+    (λ map e. e ∙ created_is s ks sorted domain c.args.listed c.args.rest c.args.end c.in_ok-marks.marks.statuses
+    c.in_ok-marks.ensures moved)
     c.created.ensures

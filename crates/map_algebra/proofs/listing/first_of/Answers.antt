@@ -8,13 +8,16 @@ pub returns : goal.returns
 returns c = λ x short behind placed.
     let s = c.args.shape in
     let n = c.args.number in
-    let p : ℕ = x - s.ipos + s.opos in (
+    let p : ℕ = x - s.ipos + s.opos in
+    let product = c.saturating_mul.ensures in
+    let less = c.saturating_sub.ensures in
+    let more = c.saturating_add.ensures in (
       λ h.
           let low : n * s.size ≤ p =
           le_trans (mul-le-mul_right {m = n} {n = p / s.size} s.size h) (div-mul-le_self p s.size) in
-          omega (arith, low, placed, behind, c.saturating_mul.ensures, c.saturating_sub.ensures, c.saturating_add.ensures),
+          omega (arith, low, placed, behind, product, less, more),
       λ h.
           let low : n * s.size ≤ p =
-          omega (arith, h, short, placed, behind, c.saturating_mul.ensures, c.saturating_sub.ensures, c.saturating_add.ensures) in
+          omega (arith, h, short, placed, behind, product, less, more) in
           le-div n p s.size c.requires low,
     )
