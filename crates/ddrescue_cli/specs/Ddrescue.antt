@@ -46,7 +46,8 @@ pub record IsWork (c : Command) (maps : Maps) (end : ℕ) (t : Told) : Type 0 wh
   pub calls : t.site'.calls ≡ t.site.calls ++ did.gain.calls
   pub reads : IsTrue t.source.tells → HasGainedReads maps.test t.source t.source' did.gain.reads
   pub times : IsTrue t.clock'.tells → t.clock'.readings ≡ t.clock.readings ++ did.gain.times
-  -- The answer is the first refusal of the work's rows, or how its run ended; and what was done is the work up to there.
+  -- The answer is the first refusal of the work's rows, or how its run ended; and what was done is the work up to
+  -- there.
   pub works : Works rescue_faults (rescue_rows c (found_in c (files_of t)) end)
       (Rescues (asked_to c maps t end) (mapfile_of c (files_of t))) t.answer did
   -- At whatever moment a rescue with a mapfile is stopped, what is found could be found before, until the barrier has

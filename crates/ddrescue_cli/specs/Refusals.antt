@@ -29,10 +29,6 @@ NamedMapRefused which mode file e =
     ((file ≡ None) × (e ≡ NoMap which))
     ⊎ ((error : MapError) × IsRefusedFor file mode error × (e ≡ MapRefused which error))
 
--- the infile can't be opened, which is no matter of the words or the files
-abbrev pub InputRefused : Ending → Type 0
-InputRefused e = e ≡ SourceFault
-
 -- something stands there that is no regular file
 abbrev pub is_other : Option File → Bool
 is_other None = false
