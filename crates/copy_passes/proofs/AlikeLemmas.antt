@@ -25,6 +25,7 @@ alike_by s m n same =
       whole_at = sym b.whole_at ∙ ap (λ (k : Machine). k.whole_at) same ∙ a.whole_at;
       due_at = sym b.due_at ∙ ap (λ (k : Machine). k.due_at) same ∙ a.due_at;
       shown = sym b.shown ∙ ap (λ (k : Machine). k.shown) same ∙ a.shown;
+      over = sym b.over ∙ ap (λ (k : Machine). k.over) same ∙ a.over;
       next = same;
     }
 

@@ -6,23 +6,24 @@ use Rattle.std.proofs.lemmas.List.Folds.{list_any_at}
 use Rattle.std.proofs.lemmas.List.FromFn.{length-range_with_len, get_or-range_with_len}
 use Rattle.block_list.specs.declared.status.Status.TheVariants.{NonTried}
 use Rattle.block_list.specs.Map.{Has}
-use Rattle.faulty_source.specs.Journal.{is_whole}
-use Rattle.rescue_domain.specs.Parts.{covers}
+use Rattle.faulty_source.specs.Journal.{is_failed}
 use Rattle.rescue_rules.specs.declared.phase.Phase.{Phase}
 use Rattle.rescue_rules.specs.declared.phase.Phase.TheVariants.{Copying}
 use Rattle.rescue_rules.specs.Setting.{Setting}
 use Rattle.rescue_rules.specs.Passes.{Pass, taken, is_up, numbered, copying_passes, passes_behind, passes_from}
-use Rattle.rescue_rules.specs.Machine.{Machine, pass_of, start_of, has_taken, is_wanted, IsWanted, Search, search_in, search_of, IsNextRun, cut_start, cut_end, is_ahead, IsRequest, has_request}
-use Rattle.rescue_rules.specs.Step.{Event, trims, is_copying, is_trimming, is_slow, is_jump, cursor_after, step}
+use Rattle.rescue_rules.specs.Machine.{Machine, pass_of, start_of, has_taken, is_live, is_wanted, IsWanted, Search, search_in, search_of, IsNextRun, cut_start, cut_end, is_ahead, IsRequest, has_request}
+use Rattle.rescue_rules.specs.Step.{Event, trims, is_copying, is_trimming, is_slow, is_jump, reach, cursor_after, step}
 use Rattle.rescue_rules.specs.MachineLaws.{StepsBy}
+use Rattle.rescue_rules.proofs.OverLemmas.{live_was, wanted_live, wanted_before}
 use Rattle.rescue_rules.proofs.ReadyLemmas.{order_lead}
 use Rattle.rescue_rules.proofs.SearchLemmas.{wanted_within}
 use Rattle.rescue_rules.proofs.StatusLemmas.{wanted_taken}
-use Rattle.rescue_rules.proofs.StepLemmas.{move_steps, wanted_domain}
+use Rattle.rescue_rules.proofs.StepLemmas.{move_steps}
 use Rattle.rescue_core.proofs.PassLemmas.{next_passes, copying_leads}
 use Rattle.rescue_core.specs.RunState.{RunState, setting_in, passed, IsGone}
 use Rattle.rescue_core.specs.Turning.{stepped}
 use Rattle.copy_passes.specs.Copying.{LeavesNone, IsCopying}
+use Rattle.copy_passes.proofs.TopLemmas.{top_of, top_within, reach_few, takes_far, below_top}
 use Rattle.copy_passes.proofs.TriedLemmas.{untried}
 
 -- the direction of a run's pass
@@ -85,7 +86,7 @@ nearest r p q c asks =
     (subst (λ (f : Search). IsFoundBy f P s.sector asks.start asks.end p q) (search_is s r.machine r.pass (pass_is r c))
     (asks.run, asks.starts, asks.ends))
 
--- where a read from p up to q puts the cursor, with a jump
+-- where a read from p that goes up to q puts the cursor, with a jump
 abbrev pub cursor_by : Bool → (len p q jump : ℕ) → ℕ
 cursor_by up len p q jump = if up then min len (q + jump) else p - jump
 
@@ -93,54 +94,78 @@ abbrev jump_of : Setting → Machine → Event → ℕ
 jump_of s m e = if is_jump s m e then m.skip else 0
 
 cursor_is : (r : RunState) (e : Event) → IsCopying r → cursor_after (setting_in r) r.machine e
-    ≡ cursor_by (is_upward r) (length r.machine.map) e.reading.pos (e.reading.pos + e.reading.asked) (jump_of (setting_in r) r.machine e)
+    ≡ cursor_by (is_upward r) (length r.machine.map) e.reading.pos (reach e.reading) (jump_of (setting_in r) r.machine e)
 cursor_is r e c =
     cond-false (is_trimming r.machine) e.reading.pos
-    (cursor_by (is_upward r) (length r.machine.map) e.reading.pos (e.reading.pos + e.reading.asked) (jump_of (setting_in r) r.machine e))
+    (cursor_by (is_upward r) (length r.machine.map) e.reading.pos (reach e.reading) (jump_of (setting_in r) r.machine e))
     (untrimming r c)
 
--- how much of a map lies ahead of a cursor
-abbrev pub ahead_by : Bool → (len cursor : ℕ) → ℕ
-ahead_by true len cursor = len - cursor
-ahead_by false len cursor = cursor
+-- how much of what is left of a map lies ahead of a cursor
+abbrev pub ahead_by : Bool → (top cursor : ℕ) → ℕ
+ahead_by true top cursor = top - cursor
+ahead_by false top cursor = cursor
 
 abbrev pub ahead_of : RunState → ℕ
-ahead_of r = ahead_by (is_upward r) (length r.machine.map) r.machine.cursor
+ahead_of r = ahead_by (is_upward r) (top_of r.machine) r.machine.cursor
 
-pub less_by : (up : Bool) (P : ℕ → Type 0) (len cursor p q jump new : ℕ) → IsNearest up P cursor p q → p < q → q ≤ len
-    → new ≡ cursor_by up len p q jump → ahead_by up len new < ahead_by up len cursor
-less_by true P len cursor p q jump new near some there is =
-    let at : new ≡ min len (q + jump) = is in omega (arith, at, near.ahead, some, there)
-less_by false P len cursor p q jump new near some there is =
-    let at : new ≡ p - jump = is in omega (arith, at, near.ahead, some, there)
+-- A read takes the positions from p up to q, of those below a top, and reaches up to an end: it reaches over all that it
+-- asked for, or the top is where it reached.
+pub record Takes (p q reach top top' : ℕ) : Type 0 where
+  pub some : p < q
+  pub there : q ≤ top
+  pub far : ((q ≤ reach) × (top' ≤ top)) ⊎ (top' ≤ reach)
+
+pub less_by : (up : Bool) (P : ℕ → Type 0) (len top top' cursor p q reach jump new : ℕ) → IsNearest up P cursor p q
+    → Takes p q reach top top' → top ≤ len → top' ≤ len → new ≡ cursor_by up len p reach jump
+    → ahead_by up top' new < ahead_by up top cursor
+less_by true P len top top' cursor p q reach jump new near t top_in top_in' is =
+    let at : new ≡ min len (reach + jump) = is in
+    ⊎_elim
+    (λ (all : (q ≤ reach) × (top' ≤ top)). omega (arith, at, near.ahead, t.some, t.there, all.0, all.1, top_in))
+    (λ (end : top' ≤ reach). omega (arith, at, near.ahead, t.some, t.there, end, top_in'))
+    t.far
+less_by false P len top top' cursor p q reach jump new near t top_in top_in' is =
+    let at : new ≡ p - jump = is in omega (arith, at, near.ahead, t.some)
 
 -- the last pass jumps over nothing
-never_jumps : (copying whole slow : Bool) → (copying && (if whole then (slow && false) else false)) ≡ false
-never_jumps true true true = refl
-never_jumps true true false = refl
-never_jumps true false slow = refl
-never_jumps false whole slow = refl
+never_jumps : (copying failed slow : Bool) → (copying && (if failed then false else (slow && false))) ≡ false
+never_jumps true true slow = refl
+never_jumps true false true = refl
+never_jumps true false false = refl
+never_jumps false failed slow = refl
 
 last_jump : (r : RunState) (e : Event) → IsCopying r → r.pass ≡ copying_passes → jump_of (setting_in r) r.machine e ≡ 0
 last_jump r e c last =
     let s : Setting = setting_in r in
     let m : Machine = r.machine in
     let number : (pass_of m).number ≡ 5 = ap (λ (p : Pass). p.number) (pass_is r c) ∙ last in
-    let J : ℕ → Bool = λ n. is_copying m && (if is_whole e.reading then is_slow s e && nat_le n 2 else nat_le n 4) in
-    cond-false (is_jump s m e) m.skip 0 (ap J number ∙ never_jumps (is_copying m) (is_whole e.reading) (is_slow s e))
+    let J : ℕ → Bool = λ n. is_copying m && (if is_failed e.reading then nat_le n 4 else is_slow s e && nat_le n 2) in
+    cond-false (is_jump s m e) m.skip 0 (ap J number ∙ never_jumps (is_copying m) (is_failed e.reading) (is_slow s e))
+
+pub takes_by : (s : Setting) (m : Machine) (e : Event) → StepsBy s m e
+    → Takes e.reading.pos (e.reading.pos + e.reading.asked) (reach e.reading) (top_of m) (top_of (step s m e))
+takes_by s m e by = record {
+  some = omega (arith, by.some);
+  there =
+      let last : ℕ = e.reading.pos + e.reading.asked - 1 in
+      let in_top : last < top_of m = below_top m last (omega (arith, by.some, by.there))
+      (wanted_before s m last (by.wanted last (omega (arith, by.some)) (omega (arith, by.some)))) in
+      omega (arith, in_top, by.some);
+  far = takes_far m (step s m e) e.reading refl by.size;
+}
 
 -- what lay ahead of the cursor, and wasn't asked for, lies ahead still
 abbrev pub lies_ahead : Bool → (cursor x : ℕ) → Bool
 lies_ahead up cursor x = if up then nat_le cursor x else nat_lt x cursor
 
-pub still_ahead : (up : Bool) (P : ℕ → Type 0) (len cursor p q new x : ℕ) → IsNearest up P cursor p q → p < q → q ≤ len
-    → new ≡ cursor_by up len p q 0 → lies_ahead up cursor x ≡ true → P x → (x < p) ⊎ (q ≤ x) → lies_ahead up new x ≡ true
-still_ahead true P len cursor p q new x near some there is ahead holds apart =
-    let at : new ≡ min len (q + 0) = is in
+pub still_ahead : (up : Bool) (P : ℕ → Type 0) (len cursor p q reach new x : ℕ) → IsNearest up P cursor p q → reach ≤ q
+    → new ≡ cursor_by up len p reach 0 → lies_ahead up cursor x ≡ true → P x → (x < p) ⊎ (q ≤ x) → lies_ahead up new x ≡ true
+still_ahead true P len cursor p q reach new x near few is ahead holds apart =
+    let at : new ≡ min len (reach + 0) = is in
     let from : p ≤ x = near.least x (leb-true cursor x ahead) holds in
     let far : q ≤ x = ⊎_elim (λ (low : x < p). absurd (omega (arith, low, from))) (λ (high : q ≤ x). high) apart in
-    le-leb new x (omega (arith, at, far))
-still_ahead false P len cursor p q new x near some there is ahead holds apart =
+    le-leb new x (omega (arith, at, far, few))
+still_ahead false P len cursor p q reach new x near few is ahead holds apart =
     let at : new ≡ p - 0 = is in
     let to : x < q = near.greatest x (ltb-true x cursor ahead) holds in
     let low : x < p = ⊎_elim (λ (low : x < p). low) (λ (high : q ≤ x). absurd (omega (arith, high, to))) apart in
@@ -163,8 +188,9 @@ two_of s number few =
       ap (λ (n : ℕ). map (numbered Copying) (range_with_len number n) ++ passes_behind s Copying) some,
     )
 
--- copying asks for the non-tried positions of the domain, and for no others
-pub wanted_here : (r : RunState) (x : ℕ) → IsCopying r → covers r.domain x ≡ true → Has r.machine.map NonTried x
+-- copying asks for the non-tried positions that are left of the domain, and for no others
+pub wanted_here : (r : RunState) (x : ℕ) → IsCopying r → is_live (setting_in r) r.machine x ≡ true
+    → Has r.machine.map NonTried x
     → is_wanted (setting_in r) r.machine x ≡ true
 wanted_here r x c inside has =
     let first : (ps : List Pass) × (passes_from (setting_in r) Copying r.pass ≡ numbered Copying r.pass ∷ ps)
@@ -172,7 +198,7 @@ wanted_here r x c inside has =
     let takes : has_taken r.machine.passes (slice_get r.machine.map x) ≡ true =
     ap (λ (ps : List Pass). has_taken ps (slice_get r.machine.map x)) (c.passes ∙ first.1)
     ∙ ap (has_taken (numbered Copying r.pass ∷ first.0)) has in
-    and_from (covers r.domain x) (has_taken r.machine.passes (slice_get r.machine.map x)) inside takes
+    and_from (is_live (setting_in r) r.machine x) (has_taken r.machine.passes (slice_get r.machine.map x)) inside takes
 
 non_tried_here : (s : Setting) (m : Machine) (number x : ℕ) → pass_of m ≡ numbered Copying number → is_wanted s m x ≡ true
     → Has m.map NonTried x
@@ -186,8 +212,8 @@ ahead_is s m number x is = ap (λ (f : Search). is_ahead f x) (search_is s m num
 -- the last pass leaves nothing behind an event of its request
 leaves_none : (r : RunState) (e : Event) → IsCopying r → r.pass ≡ copying_passes
     → IsRequest (setting_in r) r.machine e.reading.pos (e.reading.pos + e.reading.asked) → StepsBy (setting_in r) r.machine e
-    → LeavesNone (setting_in r) (stepped r e).machine
-leaves_none r e c last asks by =
+    → length e.reading.given ≤ e.reading.asked → LeavesNone (setting_in r) (stepped r e).machine
+leaves_none r e c last asks by few =
     let s : Setting = setting_in r in
     let m : Machine = r.machine in
     let n : Machine = step s m e in
@@ -195,18 +221,19 @@ leaves_none r e c last asks by =
     let q : ℕ = e.reading.pos + e.reading.asked in
     let P : ℕ → Type 0 = IsWanted s m in
     let here : pass_of m ≡ numbered Copying r.pass = pass_is r c in
-    let cursor : n.cursor ≡ cursor_by (is_upward r) (length m.map) p q 0 =
-    cursor_is r e c ∙ ap (cursor_by (is_upward r) (length m.map) p q) (last_jump r e c last) in
+    let cursor : n.cursor ≡ cursor_by (is_upward r) (length m.map) p (reach e.reading) 0 =
+    cursor_is r e c ∙ ap (cursor_by (is_upward r) (length m.map) p (reach e.reading)) (last_jump r e c last) in
     record {
       ahead = λ x wanted.
           let was : Has m.map NonTried x × ((x < p) ⊎ (q ≤ x)) =
-          untried s m e.reading x c.lead by.there by.kept_asked (non_tried_here s n r.pass x here wanted) in
-          let before : is_wanted s m x ≡ true = wanted_here r x c (wanted_domain s n x wanted) was.0 in
+          untried s m e.reading x c.lead by.there by.kept_asked (wanted_before s n x wanted) (non_tried_here s n r.pass x here wanted) in
+          let live : is_live s m x ≡ true = live_was s m n e.reading x refl (wanted_live s n x wanted) in
+          let before : is_wanted s m x ≡ true = wanted_here r x c live was.0 in
           let ahead : lies_ahead (is_upward r) m.cursor x ≡ true =
           sym (ahead_is s m r.pass x here) ∙ (c.last last).ahead x before in
           ahead_is s n r.pass x here
-          ∙ still_ahead (is_upward r) P (length m.map) m.cursor p q n.cursor x (nearest r p q c asks) (omega (arith, by.some)) by.there
-          cursor ahead before was.1;
+          ∙ still_ahead (is_upward r) P (length m.map) m.cursor p q (reach e.reading) n.cursor x (nearest r p q c asks)
+          (reach_few e.reading few) cursor ahead before was.1;
     }
 
 -- An event of its request, and what it does.
@@ -224,19 +251,18 @@ copy_steps r e c asks few =
     let p : ℕ = e.reading.pos in
     let q : ℕ = e.reading.pos + e.reading.asked in
     let by : StepsBy s m e = move_steps s m e c.sensible (order_lead s m c.lead) asks few in
-    let less : ahead_by (is_upward r) (length m.map) (cursor_after s m e) < ahead_by (is_upward r) (length m.map) m.cursor =
-    less_by (is_upward r) (IsWanted s m) (length m.map) m.cursor p q (jump_of s m e) (cursor_after s m e) (nearest r p q c asks)
-    (omega (arith, by.some)) by.there (cursor_is r e c) in
     record {
       steps = by;
-      less = subst (λ (n : ℕ). ahead_by (is_upward r) n (cursor_after s m e) < ahead_of r) (sym by.size) less;
+      less = less_by (is_upward r) (IsWanted s m) (length m.map) (top_of m) (top_of (step s m e)) m.cursor p q
+          (reach e.reading) (jump_of s m e) (cursor_after s m e) (nearest r p q c asks) (takes_by s m e by)
+          (top_within m) (omega (arith, top_within (step s m e), by.size)) (cursor_is r e c);
       copying = record {
         sensible = c.sensible;
         phase = c.phase;
         few = c.few;
         passes = c.passes;
         lead = by.order.lead (untrimming r c);
-        last = λ last. leaves_none r e c last asks by;
+        last = λ last. leaves_none r e c last asks by few;
       };
     }
 

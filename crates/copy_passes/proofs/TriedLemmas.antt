@@ -1,18 +1,19 @@
--- What a read asked for isn't non-tried behind it.
-use Rattle.std.proofs.Common.{◌≡◌, ◌⊎◌, ℕ, ◌+◌, ◌-◌, ◌<◌, ◌≤◌, List, length, Some, sym, ap, ◌∙◌, arith, subst, inl, inr, ⊎_elim}
+-- What a read asked for isn't non-tried behind it, if it is still left of the domain.
+use Rattle.std.proofs.Common.{◌≡◌, ◌⊎◌, ℕ, ◌+◌, ◌-◌, ◌<◌, ◌≤◌, true, List, length, Some, sym, ap, ◌∙◌, arith, inl, inr, ⊎_elim}
 use Rattle.std.specs.List.{slice_get}
 use Rattle.std.proofs.lemmas.Bool.{cond_both, cases_lt}
 use Rattle.block_list.specs.declared.status.Status.{Status}
 use Rattle.block_list.specs.declared.status.Status.TheVariants.{NonTried, NonTrimmed, BadSector, Finished}
 use Rattle.block_list.specs.Map.{Has, marked}
 use Rattle.block_list.proofs.Places.{length-marked}
-use Rattle.faulty_source.specs.Journal.{Reading, is_whole, kept}
+use Rattle.faulty_source.specs.Ends.{is_before}
+use Rattle.faulty_source.specs.Journal.{Reading, is_failed, kept}
 use Rattle.rescue_rules.specs.declared.stop.TrimMode.{TrimMode}
 use Rattle.rescue_rules.specs.declared.stop.TrimMode.TheVariants.{Lead}
 use Rattle.rescue_rules.specs.Setting.{Setting}
 use Rattle.rescue_rules.specs.Machine.{Machine}
-use Rattle.rescue_rules.specs.Step.{rest_status, scraped, map_after}
-use Rattle.rescue_rules.proofs.GivenLemmas.{kept_whole}
+use Rattle.rescue_rules.specs.Step.{rest_status, scraped, over_after, map_after}
+use Rattle.rescue_rules.proofs.OverLemmas.{good_reaches}
 use Rattle.rescue_rules.proofs.MarkLemmas.{marked_inside, marked_outside}
 
 -- what a read makes isn't non-tried
@@ -44,35 +45,37 @@ unmarked map map' pos size t x m other has =
     (cases_lt x (pos + size)))
     (cases_lt x pos)
 
--- A read leaves non-tried only what was so, and was not asked for.
+-- A read leaves non-tried of what is left only what was so, and was not asked for.
 pub untried : (s : Setting) (m : Machine) (r : Reading) (x : ℕ) → m.mode ≡ Lead → r.pos + r.asked ≤ length m.map
-    → kept s.sector r ≤ r.asked → Has (map_after s m r) NonTried x
+    → kept s.sector r ≤ r.asked → is_before (over_after m r) x ≡ true → Has (map_after s m r) NonTried x
     → Has m.map NonTried x × ((x < r.pos) ⊎ (r.pos + r.asked ≤ x))
-untried s m r x lead there few =
+untried s m r x lead there few before =
     let k : ℕ = kept s.sector r in
-    let whole : List Status = marked m.map r.pos k Finished in
+    let good : List Status = marked m.map r.pos k Finished in
     let t : Status = rest_status s m (r.asked - k) in
-    let rest : List Status = marked whole (r.pos + k) (r.asked - k) t in
-    let size : length whole ≡ length m.map = length-marked m.map r.pos k Finished (omega (arith, there, few)) in
-    let first : Marked m.map whole r.pos k Finished x = marks m.map r.pos k Finished x (omega (arith, there, few)) in
-    let second : Marked whole rest (r.pos + k) (r.asked - k) t x =
-    marks whole (r.pos + k) (r.asked - k) t x (omega (arith, there, few, size)) in
+    let rest : List Status = marked good (r.pos + k) (r.asked - k) t in
+    let size : length good ≡ length m.map = length-marked m.map r.pos k Finished (omega (arith, there, few)) in
+    let first : Marked m.map good r.pos k Finished x = marks m.map r.pos k Finished x (omega (arith, there, few)) in
+    let second : Marked good rest (r.pos + k) (r.asked - k) t x =
+    marks good (r.pos + k) (r.asked - k) t x (omega (arith, there, few, size)) in
     let finished : Finished ≡ NonTried → ⊥ = λ is. cc in
-    cond_both (is_whole r) whole (scraped m.mode r.pos rest)
+    cond_both (is_failed r) (scraped m.mode r.pos rest) good
     (λ (map : List Status). Has map NonTried x → Has m.map NonTried x × ((x < r.pos) ⊎ (r.pos + r.asked ≤ x)))
-    (λ on has.
-    let all : k ≡ r.asked = kept_whole s.sector r on in
-    let was : Has m.map NonTried x × ((x < r.pos) ⊎ (r.pos + k ≤ x)) = unmarked m.map whole r.pos k Finished x first finished has in
-    (was.0, subst (λ (n : ℕ). (x < r.pos) ⊎ (r.pos + n ≤ x)) all was.1))
-    (λ off has.
+    (λ failed has.
     let left : Has rest NonTried x = ap (λ (mode : TrimMode). slice_get (scraped mode r.pos rest) x) (sym lead) ∙ has in
-    let later : Has whole NonTried x × ((x < r.pos + k) ⊎ (r.pos + k + (r.asked - k) ≤ x)) =
-    unmarked whole rest (r.pos + k) (r.asked - k) t x second (rest_tried s m (r.asked - k)) left in
-    let was : Has m.map NonTried x × ((x < r.pos) ⊎ (r.pos + k ≤ x)) = unmarked m.map whole r.pos k Finished x first finished later.0 in (
+    let later : Has good NonTried x × ((x < r.pos + k) ⊎ (r.pos + k + (r.asked - k) ≤ x)) =
+    unmarked good rest (r.pos + k) (r.asked - k) t x second (rest_tried s m (r.asked - k)) left in
+    let was : Has m.map NonTried x × ((x < r.pos) ⊎ (r.pos + k ≤ x)) = unmarked m.map good r.pos k Finished x first finished later.0 in (
       was.0,
       ⊎_elim (λ (below : x < r.pos). inl below)
           (λ (above : r.pos + k ≤ x). ⊎_elim
           (λ (inside : x < r.pos + k). absurd (omega (arith, above, inside)))
           (λ (behind : r.pos + k + (r.asked - k) ≤ x). inr (omega (arith, behind, few)))
           later.1) was.1,
+    ))
+    (λ all has.
+    let was : Has m.map NonTried x × ((x < r.pos) ⊎ (r.pos + k ≤ x)) = unmarked m.map good r.pos k Finished x first finished has in (
+      was.0,
+      ⊎_elim (λ (below : x < r.pos). inl below)
+          (λ (above : r.pos + k ≤ x). inr (good_reaches m r s.sector x all before above)) was.1,
     ))

@@ -30,7 +30,7 @@ abbrev pub IsFrom : (bytes : List ℕ) → Reading → Type 0
 IsFrom bytes r = r.given ≡ slice_range bytes r.pos (r.pos + length r.given)
 
 -- Two states that differ at most in the passes without a request that one of them has gone on over: they have the
--- same map, counts, times and shown state, and go on to the same request, or both to the end.
+-- same map, counts, times, shown state and end, and go on to the same request, or both to the end.
 pub record IsAlike (s : Setting) (m n : Machine) : Type 0 where
   pub map : n.map ≡ m.map
   pub failed : n.failed ≡ m.failed
@@ -39,6 +39,7 @@ pub record IsAlike (s : Setting) (m n : Machine) : Type 0 where
   pub whole_at : n.whole_at ≡ m.whole_at
   pub due_at : n.due_at ≡ m.due_at
   pub shown : n.shown ≡ m.shown
+  pub over : n.over ≡ m.over
   pub next : ready s n ≡ ready s m
 
 -- a run in the pass of another, where that one stands

@@ -28,9 +28,9 @@ all_gain_more (x ∷ xs) (y ∷ ys) (z ∷ zs) f g = (gains_more x y z f.0 g.0, 
 pub keeps_self : (s : SourceState) → Keeps s s
 keeps_self s = record {
   tells = refl;
-  may_lose = refl;
   planned = refl;
   bytes = λ tells. refl;
+  end = λ tells. refl;
   opens = omega arith;
   faults = omega arith;
   losses = omega arith;
@@ -41,9 +41,9 @@ keeps_self s = record {
 pub keeps_more : (a b c : SourceState) → Keeps a b → Keeps b c → Keeps a c
 keeps_more a b c f g = record {
   tells = g.tells ∙ f.tells;
-  may_lose = g.may_lose ∙ f.may_lose;
   planned = g.planned ∙ f.planned;
   bytes = λ tells. g.bytes (rw f.tells tells) ∙ f.bytes tells;
+  end = λ tells. g.end (rw f.tells tells) ∙ f.end tells;
   opens = omega (arith, f.opens, g.opens);
   faults = omega (arith, f.faults, g.faults);
   losses = omega (arith, f.losses, g.losses);

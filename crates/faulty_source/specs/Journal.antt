@@ -1,10 +1,13 @@
-use Rattle.std.specs.Prelude.{◌≡◌, ℕ, ◌+◌, ◌-◌, ◌*◌, ◌/◌, Bool, List, [], ◌∷◌, ◌++◌, length, nat_eq, nat_le, nat_lt, ◌&&◌, if◌then◌else◌}
+-- The reads of an input, as its journal has them.
+use Rattle.std.specs.Prelude.{◌≡◌, ℕ, ◌+◌, ◌-◌, ◌*◌, ◌/◌, Bool, List, [], ◌∷◌, ◌++◌, length, nat_eq, nat_le, nat_lt, ◌&&◌, ◌||◌, not, if◌then◌else◌}
 
--- one read that was answered: where it began, how many bytes were asked for, and the bytes that were given
+-- one read that was answered: where it began, how many bytes were asked for, the bytes that were given, and whether the
+-- input ended behind them
 pub record Reading : Type 0 where
   pub pos : ℕ
   pub asked : ℕ
   pub given : List ℕ
+  pub ended : Bool
 
 -- the read gave all that it was asked for
 abbrev pub is_whole : Reading → Bool
@@ -14,9 +17,15 @@ is_whole r = nat_eq (length r.given) r.asked
 abbrev pub floor : ℕ → ℕ → ℕ
 floor b x = x / b * b
 
--- How many bytes of a read are kept: all of a whole one, else those up to the last sector's boundary that it came to.
+-- the read failed: it gave fewer bytes than it was asked for, and met no end
+abbrev pub is_failed : Reading → Bool
+is_failed r = not (is_whole r || r.ended)
+
+-- How many bytes of a read are kept: all of a whole one and of one that met the end, else those up to the last sector's
+-- boundary that it came to.
 abbrev pub kept : ℕ → Reading → ℕ
-kept sector r = if is_whole r then r.asked else floor sector (r.pos + length r.given) - r.pos
+kept sector r =
+    if is_whole r then r.asked else if r.ended then length r.given else floor sector (r.pos + length r.given) - r.pos
 
 -- the kept part of the read covers x
 abbrev pub covers : ℕ → Reading → ℕ → Bool

@@ -1,7 +1,10 @@
-use Rattle.std.specs.Prelude.{◌≡◌, ◌⊎◌, ⊤, ℕ, ◌+◌, ◌-◌, ◌<◌, ◌≤◌, Bool, true, false, ◌&&◌, List, [], ◌∷◌, length, map, slice_range, Option, Some, None, nat_le, nat_lt, if◌then◌else◌}
+-- How an input in memory fails and ends.
+use Rattle.std.specs.Prelude.{◌≡◌, ◌⊎◌, ⊤, ℕ, ◌+◌, ◌-◌, ◌<◌, ◌≤◌, Bool, true, false, not, ◌&&◌, List, [], ◌∷◌, length, map, slice_range, Option, Some, None, nat_le, nat_lt, if◌then◌else◌}
 use Rattle.std.specs.List.{list_any}
 use Rattle.faulty_source.specs.declared.memory.BadRange.{BadRange}
 use Rattle.faulty_source.specs.declared.memory.ReadEntry.{ReadEntry}
+use Rattle.faulty_source.specs.declared.source.Got.{Got}
+use Rattle.faulty_source.specs.Got.{count_of, is_end}
 use Rattle.faulty_source.specs.Journal.{Reading}
 
 -- the greatest length of a name under which an input in memory opens, in bytes
@@ -29,16 +32,21 @@ one_less (Some n) = Some (n - 1)
 abbrev pub met : List BadRange → ℕ → List BadRange
 met bad x = map (λ r. if is_bad_at x r then record r { attempts = one_less r.attempts } else r) bad
 
--- A read of asked bytes at pos gives n of them: up to the first bad position, the end of the bytes, or all.
-pub record IsGiven (bytes : List ℕ) (bad : List BadRange) (pos asked n : ℕ) : Type 0 where
-  pub few : n ≤ asked
-  pub good : (x : ℕ) → pos ≤ x → x < pos + n → is_bad bad x ≡ false
-  pub there : n ≡ 0 ⊎ (pos + n ≤ length bytes)
-  pub stops : n < asked → (is_bad bad (pos + n) ≡ true) ⊎ (length bytes ≤ pos + n)
+-- What a read of asked bytes at pos gives, of an input that ends here: one that meets a bad position in front of the
+-- end gives what comes before that; any other gives all that there is, and meets the end where that is less than was
+-- asked for.
+pub record IsGiven (end : ℕ) (bad : List BadRange) (pos asked : ℕ) (got : Got) : Type 0 where
+  pub few : count_of got ≤ asked
+  pub good : (x : ℕ) → pos ≤ x → x < pos + count_of got → is_bad bad x ≡ false
+  pub there : count_of got ≡ 0 ⊎ (pos + count_of got ≤ end)
+  pub ended : is_end got ≡ true → (count_of got < asked) × (end ≤ pos + count_of got)
+  pub failed : is_end got ≡ false → count_of got < asked
+      → (pos + count_of got < end) × (is_bad bad (pos + count_of got) ≡ true)
 
 -- the bad ranges after that read
-abbrev pub bad_after : List ℕ → List BadRange → ℕ → ℕ → ℕ → List BadRange
-bad_after bytes bad pos asked n = if nat_lt n asked && nat_lt (pos + n) (length bytes) then met bad (pos + n) else bad
+abbrev pub bad_after : List BadRange → (pos asked : ℕ) → Got → List BadRange
+bad_after bad pos asked got =
+    if nat_lt (count_of got) asked && not (is_end got) then met bad (pos + count_of got) else bad
 
 -- the ranges ascend, none is empty, and no two meet
 abbrev pub AreApart : ℕ → List BadRange → Type 0
@@ -47,8 +55,9 @@ AreApart low (r ∷ rs) = (low ≤ r.from) × (r.from < r.to) × AreApart r.to r
 
 -- what an entry of the list of reads says of a read that gave its bytes
 abbrev pub entry_of : Reading → ReadEntry
-entry_of r = record { pos = r.pos; asked = r.asked; given = length r.given }
+entry_of r = record { pos = r.pos; asked = r.asked; given = length r.given; ended = r.ended }
 
 -- the read that an entry stands for
 abbrev pub reading_of : List ℕ → ReadEntry → Reading
-reading_of bytes e = record { pos = e.pos; asked = e.asked; given = slice_range bytes e.pos (e.pos + e.given) }
+reading_of bytes e =
+    record { pos = e.pos; asked = e.asked; given = slice_range bytes e.pos (e.pos + e.given); ended = e.ended }

@@ -1,6 +1,7 @@
 //! What the outcome of a call of the system means.
 ghost use Rattle.std.specs.Prelude.{◌≡◌, ◌≢◌, ◌⊎◌, ◌↔◌, true, false, Ok, Err, None, Some, IsOk, IsErr, IsErrAnd, IfOk, IfErr};
-ghost use Rattle.std.specs.IoError.{error_kind};
+ghost use Rattle.std.specs.IoError.{error_kind, raw_os_error};
+ghost use Rattle.real_files.specs.Medium.{is_medium_code};
 
 use std::fs::TryLockError;
 use std::io::{self, ErrorKind};
@@ -62,4 +63,26 @@ pub fn removable(outcome: io::Result<()>) -> io::Result<()>
         Err(error) => Err(error),
         Ok(()) => Err(ErrorKind::NotFound.into()),
     }
+}
+
+/// The kernel's numbers of errors by which a medium doesn't give what is asked for: it can't be read there, there is no
+/// data, the data is damaged, it takes too long, or a device behind another one failed.
+const EIO: i32 = 5;
+
+const ENODATA: i32 = 61;
+
+const EILSEQ: i32 = 84;
+
+const ETIMEDOUT: i32 = 110;
+
+const EREMOTEIO: i32 = 121;
+
+/// Whether a read failed at its medium, so that others may go on, and not since the file or device is gone.
+pub fn is_of_medium(error: &io::Error) -> bool
+    ensures { result ≡ is_medium_code (raw_os_error error.now) }
+{
+    matches!(
+        error.raw_os_error(),
+        Some(EIO | ENODATA | EILSEQ | ETIMEDOUT | EREMOTEIO)
+    )
 }

@@ -1,12 +1,13 @@
 -- What an event does to a position.
 use Rattle.std.proofs.Common.{◌≡◌, ◌⊎◌, ℕ, ◌+◌, ◌-◌, ◌<◌, ◌≤◌, true, false, ◌&&◌, nat_lt, List, length, refl, sym, ap, subst, ◌∙◌, arith, inl, inr, ⊎_elim}
 use Rattle.std.specs.List.{slice_get}
-use Rattle.std.proofs.lemmas.Bool.{cases_lt, cond_both, cond-false, and_parts, true_from_ne_false}
+use Rattle.std.proofs.lemmas.Bool.{cases_lt, cond_both, cond-true, and_parts, true_from_ne_false}
 use Rattle.block_list.specs.declared.status.Status.{Status}
 use Rattle.block_list.specs.declared.status.Status.TheVariants.{NonTrimmed, NonScraped, BadSector, Finished}
 use Rattle.block_list.specs.Map.{Has, marked}
 use Rattle.block_list.proofs.Places.{length-marked}
-use Rattle.faulty_source.specs.Journal.{Reading, is_whole, kept}
+use Rattle.faulty_source.specs.Ends.{is_before}
+use Rattle.faulty_source.specs.Journal.{Reading, is_failed, kept}
 use Rattle.rescue_rules.specs.declared.stop.TrimMode.{TrimMode}
 use Rattle.rescue_rules.specs.declared.stop.TrimMode.TheVariants.{Lead, Tail}
 use Rattle.rescue_rules.specs.declared.phase.Phase.{Phase}
@@ -14,10 +15,10 @@ use Rattle.rescue_rules.specs.declared.phase.Phase.TheVariants.{Copying, Trimmin
 use Rattle.rescue_rules.specs.Setting.{Setting, IsSensible}
 use Rattle.rescue_rules.specs.Passes.{taken}
 use Rattle.rescue_rules.specs.Machine.{Machine, pass_of, IsRequest}
-use Rattle.rescue_rules.specs.Step.{Event, trims, is_copying, is_trimming, rest_status, scraped, step}
+use Rattle.rescue_rules.specs.Step.{Event, trims, is_copying, is_trimming, rest_status, scraped, over_after, step}
 use Rattle.rescue_rules.specs.MachineLaws.{IsInOrder, StepsBy, AsksFor}
-use Rattle.rescue_rules.proofs.GivenLemmas.{kept_whole}
 use Rattle.rescue_rules.proofs.MarkLemmas.{marked_inside, marked_outside}
+use Rattle.rescue_rules.proofs.OverLemmas.{good_reaches}
 use Rattle.rescue_rules.proofs.StatusLemmas.{wanted_taken}
 use Rattle.rescue_rules.proofs.StepLemmas.{asks_back}
 
@@ -40,11 +41,14 @@ tail_trims : (s : Setting) (m : Machine) (low : ℕ) → IsInOrder s m → m.mod
 tail_trims s m low order is =
     true_from_ne_false (is_trimming m) (λ off. let e : Tail low ≡ Lead = sym is ∙ order.lead off in absurd (cc))
 
--- A position that was asked for is finished, or was missed by a read that wasn't whole. One that wasn't asked for lies
--- between the front and the back of a run that is trimmed, and is left for scraping, or it stands.
+-- A position that was asked for is finished, or was missed by a read that failed, or stands and isn't left of the domain
+-- any more. One that wasn't asked for lies between the front and the back of a run that is trimmed, and is left for
+-- scraping, or it stands.
 pub data Change (s : Setting) (m : Machine) (r : Reading) (map : List Status) (x : ℕ) : Type 0 where
   Kept : AsksFor r x → Has map Finished x → Change s m r map x
-  Missed : AsksFor r x → is_whole r ≡ false → (size : ℕ) → Has map (rest_status s m size) x → Change s m r map x
+  Missed : AsksFor r x → is_failed r ≡ true → (size : ℕ) → Has map (rest_status s m size) x → Change s m r map x
+  CutOff : AsksFor r x → (is_before (over_after m r) x ≡ true → ⊥) → slice_get map x ≡ slice_get m.map x
+      → Change s m r map x
   Between : (AsksFor r x → ⊥) → is_trimming m ≡ true → Has m.map NonTrimmed x → Has map NonScraped x
       → Change s m r map x
   Stands : (AsksFor r x → ⊥) → slice_get map x ≡ slice_get m.map x → Change s m r map x
@@ -143,21 +147,24 @@ rest_outside s m r x a apart =
     (⊎_elim (λ (lt : x < r.pos + kept s.sector r). inl lt) (λ (ge : r.pos + r.asked ≤ x). inr (omega (arith, a.few)))
     apart)
 
--- a whole read,
-change_whole : (s : Setting) (m : Machine) (r : Reading) (x : ℕ) → Asked s m r → is_whole r ≡ true
+-- a read that didn't fail,
+change_good : (s : Setting) (m : Machine) (r : Reading) (x : ℕ) → Asked s m r → is_failed r ≡ false
     → Change s m r (with_kept s m r) x
-change_whole s m r x a whole =
-    let all : kept s.sector r ≡ r.asked = kept_whole s.sector r whole in
+change_good s m r x a good =
     ⊎_elim (λ (lt : x < r.pos). Stands (λ asks. omega (arith, lt, asks.from)) (kept_outside s m r x a (inl lt)))
     (λ (from : r.pos ≤ x). ⊎_elim
-    (λ (to : x < r.pos + r.asked). Kept (record { from = from; to = to })
-    (kept_inside s m r x a from (omega (arith, to, all))))
-    (λ (ge : r.pos + r.asked ≤ x). Stands (λ asks. omega (arith, ge, asks.to))
-    (kept_outside s m r x a (inr (omega (arith, ge, all)))))
+    (λ (here : x < r.pos + kept s.sector r). Kept (record { from = from; to = omega (arith, here, a.few) })
+    (kept_inside s m r x a from here))
+    (λ (late : r.pos + kept s.sector r ≤ x). ⊎_elim
+    (λ (to : x < r.pos + r.asked). CutOff (record { from = from; to = to })
+    (λ before. let far : r.pos + r.asked ≤ x = good_reaches m r s.sector x good before late in omega (arith, far, to))
+    (kept_outside s m r x a (inr late)))
+    (λ (ge : r.pos + r.asked ≤ x). Stands (λ asks. omega (arith, ge, asks.to)) (kept_outside s m r x a (inr late)))
     (cases_lt x (r.pos + r.asked)))
+    (cases_lt x (r.pos + kept s.sector r)))
     (cases_lt x r.pos)
 
--- and one that isn't whole, before what it asked for,
+-- and one that failed, before what it asked for,
 change_before : (s : Setting) (m : Machine) (r : Reading) (x : ℕ) → Asked s m r → x < r.pos
     → Change s m r (scraped m.mode r.pos (with_rest s m r)) x
 change_before s m r x a to =
@@ -171,9 +178,9 @@ change_before s m r x a to =
     (scraped_before m.mode r.pos (with_rest s m r) x (omega (arith, size_rest s m r a, a.there)) a.back to)
 
 -- and behind its position
-change_behind : (s : Setting) (m : Machine) (r : Reading) (x : ℕ) → Asked s m r → is_whole r ≡ false → r.pos ≤ x
+change_behind : (s : Setting) (m : Machine) (r : Reading) (x : ℕ) → Asked s m r → is_failed r ≡ true → r.pos ≤ x
     → Change s m r (scraped m.mode r.pos (with_rest s m r)) x
-change_behind s m r x a part from =
+change_behind s m r x a failed from =
     let same : slice_get (scraped m.mode r.pos (with_rest s m r)) x ≡ slice_get (with_rest s m r) x =
     scraped_behind m.mode r.pos (with_rest s m r) x (omega (arith, size_rest s m r a, a.there)) a.back from in
     ⊎_elim
@@ -182,7 +189,7 @@ change_behind s m r x a part from =
     (same ∙ rest_outside s m r x a (inl to) ∙ kept_inside s m r x a from to))
     (λ (late : r.pos + kept s.sector r ≤ x). ⊎_elim
     (λ (to : x < r.pos + r.asked).
-    Missed (record { from = from; to = to }) part (r.asked - kept s.sector r) (same ∙ rest_inside s m r x a late to))
+    Missed (record { from = from; to = to }) failed (r.asked - kept s.sector r) (same ∙ rest_inside s m r x a late to))
     (λ (ge : r.pos + r.asked ≤ x).
     Stands (λ asks. omega (arith, ge, asks.to)) (same ∙ rest_outside s m r x a (inr ge)
     ∙ kept_outside s m r x a (inr late)))
@@ -195,22 +202,22 @@ pub changes : (s : Setting) (m : Machine) (e : Event) (x : ℕ) → IsSensible s
 changes s m e x ok order request by =
     let r : Reading = e.reading in
     let a : Asked s m r = asked s m e ok order request by in
-    cond_both (is_whole r) (with_kept s m r) (scraped m.mode r.pos (with_rest s m r))
+    cond_both (is_failed r) (scraped m.mode r.pos (with_rest s m r)) (with_kept s m r)
     (λ (map : List Status). Change s m r map x)
-    (λ whole. change_whole s m r x a whole)
-    (λ part. ⊎_elim (λ (to : x < r.pos). change_before s m r x a to)
-    (λ (from : r.pos ≤ x). change_behind s m r x a part from)
+    (λ failed. ⊎_elim (λ (to : x < r.pos). change_before s m r x a to)
+    (λ (from : r.pos ≤ x). change_behind s m r x a failed from)
     (cases_lt x r.pos))
+    (λ good. change_good s m r x a good)
 
 -- behind a failed read at a run's back all that lies between its front and its back is for scraping
 pub change_between : (s : Setting) (m : Machine) (e : Event) (low x : ℕ) → IsSensible s → IsInOrder s m
-    → IsRequest s m e.reading.pos (e.reading.pos + e.reading.asked) → StepsBy s m e → is_whole e.reading ≡ false
+    → IsRequest s m e.reading.pos (e.reading.pos + e.reading.asked) → StepsBy s m e → is_failed e.reading ≡ true
     → m.mode ≡ Tail low → low ≤ x → x < e.reading.pos → Has (step s m e).map NonScraped x
-change_between s m e low x ok order request by part is from to =
+change_between s m e low x ok order request by failed is from to =
     let r : Reading = e.reading in
     let a : Asked s m r = asked s m e ok order request by in
     ap (λ (map : List Status). slice_get map x)
-    (cond-false (is_whole r) (with_kept s m r) (scraped m.mode r.pos (with_rest s m r)) part)
+    (cond-true (is_failed r) (scraped m.mode r.pos (with_rest s m r)) (with_kept s m r) failed)
     ∙ ap (λ (mode : TrimMode). slice_get (scraped mode r.pos (with_rest s m r)) x) is
     ∙ marked_inside (with_rest s m r) low (r.pos - low) NonScraped x
     (omega (arith, size_rest s m r a, a.there, a.back low is)) from (omega (arith, to, a.back low is))

@@ -1,20 +1,26 @@
 -- Where a run stands behind a read, by the parts of its place.
 use Rattle.std.proofs.Common.{◌≡◌, ℕ, ◌+◌, ◌-◌, min, Bool, length, cond}
+use Rattle.transfer_token.specs.declared.token.Request.{Request}
 use Rattle.rescue_rules.specs.declared.phase.Phase.{Phase}
 use Rattle.rescue_rules.specs.Passes.{is_up, numbered}
 use Rattle.rescue_rules.specs.Step.{Event, trims, is_jump, cursor_after}
 use Rattle.rescue_core.specs.declared.settings.Settings.{Settings}
 use Rattle.rescue_core.specs.declared.state.Place.{Place}
 use Rattle.rescue_core.specs.RunState.{RunState, setting_in}
-use Rattle.rescue_core.specs.TurnParts.{RunsAt}
+use Rattle.rescue_core.specs.TurnParts.{RunsAt, IsReadOf}
 
-pub cursor_is : (settings : Settings) (phase : Phase) (place : Place) (r : RunState) (e : Event) (top pos len : ℕ)
-    (jumped : Bool) → RunsAt settings phase place r → e.reading.pos ≡ pos → e.reading.asked ≡ len
-    → jumped ≡ is_jump (setting_in r) r.machine e → length r.machine.map ≡ top
+pub cursor_is : (settings : Settings) (phase : Phase) (place : Place) (r : RunState) (e : Event) (request : Request)
+    (given : ℕ) (ended : Bool) (top : ℕ) (jumped : Bool) → RunsAt settings phase place r
+    → IsReadOf request given ended e.reading → jumped ≡ is_jump (setting_in r) r.machine e → length r.machine.map ≡ top
     → cursor_after (setting_in r) r.machine e
-    ≡ cond (trims phase) pos (cond (is_up (setting_in r) (numbered phase place.pass)) (min top (pos + len + cond jumped place.skip 0))
-    (pos - cond jumped place.skip 0))
-cursor_is settings phase place r e top pos len jumped at is asked jump size =
+    ≡ cond (trims phase) request.pos (cond (is_up (setting_in r) (numbered phase place.pass))
+    (min top (request.pos + cond ended given request.len + cond jumped place.skip 0))
+    (request.pos - cond jumped place.skip 0))
+cursor_is settings phase place r e request given ended top jumped at read jump size =
     let p = at.pass in
     let q = at.skip in
+    let pos = read.pos in
+    let asked = read.asked in
+    let count = read.count in
+    let end = read.end in
     cc

@@ -1,5 +1,5 @@
 -- Where a pass begins, and the search of a machine that stands at a place.
-use Rattle.std.proofs.Common.{◌≡◌, ℕ, Bool, true, false, List, [], ◌∷◌, length, drop, refl, sym, ap, ◌∙◌}
+use Rattle.std.proofs.Common.{◌≡◌, ℕ, Bool, true, false, List, [], ◌∷◌, length, drop, Option, refl, sym, ap, ◌∙◌}
 use Rattle.std.specs.List.{slice_index_or}
 use Rattle.std.proofs.lemmas.Bool.{cond-true, cond-false}
 use Rattle.block_list.specs.declared.status.Status.{Status}
@@ -31,12 +31,19 @@ leads_by s phase number (p ∷ ps) are is = ap (λ (q : Pass). q ∷ ps) is
 
 pub stands : (s : Setting) (map : List Status) (phase : Phase) (place : Place) (tally : Tally)
     → pass_of (machine_at s map phase place tally) ≡ numbered phase place.pass
-    → StandsAt (machine_at s map phase place tally) phase place map
+    → StandsAt (machine_at s map phase place tally) phase place map tally.over
 stands s map phase place tally pass =
-    record { passes = leads_by s phase place.pass (passes_from s phase place.pass) refl pass; cursor = refl; mode = refl; map = refl }
+    record {
+      passes = leads_by s phase place.pass (passes_from s phase place.pass) refl pass;
+      cursor = refl;
+      mode = refl;
+      map = refl;
+      over = refl;
+    }
 
 -- the pass of a machine that stands at a place
-pub pass_is : (m : Machine) (phase : Phase) (place : Place) (map : List Status) → StandsAt m phase place map
+pub pass_is : (m : Machine) (phase : Phase) (place : Place) (map : List Status) {over : Option ℕ}
+    → StandsAt m phase place map over
     → pass_of m ≡ numbered phase place.pass
 pass_is m phase place map stands = ap (λ (ps : List Pass). slice_index_or ps 0 (numbered Copying 1)) stands.passes
 
@@ -47,7 +54,8 @@ from_cursor up cursor size = record { up = up; from = cursor; front = up; size =
 abbrev from_start : Bool → (start size : ℕ) → Search
 from_start up start size = record { up = up; from = start; front = true; size = size }
 
-search_is : (s : Setting) (m : Machine) (phase at : Phase) (place : Place) (map : List Status) → StandsAt m phase place map
+search_is : (s : Setting) (m : Machine) (phase at : Phase) (place : Place) (map : List Status) {over : Option ℕ}
+    → StandsAt m phase place map over
     → phase ≡ at → search_of s m ≡ search_in s m at place.mode
 search_is s m phase at place map stands is =
     ap (λ (p : Pass). search_in s m p.phase m.mode) (pass_is m phase place map stands)
@@ -55,7 +63,7 @@ search_is s m phase at place map stands is =
     ∙ ap (λ (p : Phase). search_in s m p place.mode) is
 
 pub cursor_search : (s : Setting) (m : Machine) (phase at : Phase) (place : Place) (map : List Status) (most : ℕ) (up : Bool)
-    → StandsAt m phase place map → phase ≡ at
+    {over : Option ℕ} → StandsAt m phase place map over → phase ≡ at
     → search_in s m at place.mode ≡ from_cursor (is_up s (pass_of m)) m.cursor most
     → up ≡ is_up s (numbered phase place.pass) → from_cursor up place.cursor most ≡ search_of s m
 cursor_search s m phase at place map most up stands is found goes =
@@ -65,7 +73,7 @@ cursor_search s m phase at place map most up stands is found goes =
     ∙ sym (search_is s m phase at place map stands is)
 
 pub lead_search : (s : Setting) (m : Machine) (phase : Phase) (place : Place) (map : List Status) (start : ℕ) (up : Bool)
-    → StandsAt m phase place map → phase ≡ Trimming → place.mode ≡ Lead → up ≡ is_up s (numbered phase place.pass)
+    {over : Option ℕ} → StandsAt m phase place map over → phase ≡ Trimming → place.mode ≡ Lead → up ≡ is_up s (numbered phase place.pass)
     → start ≡ start_of s (numbered phase place.pass) map → from_start up start s.sector ≡ search_of s m
 lead_search s m phase place map start up stands is lead goes begins =
     ap (λ (b : Bool). from_start b start s.sector) (goes ∙ ap (is_up s) (sym (pass_is m phase place map stands)))

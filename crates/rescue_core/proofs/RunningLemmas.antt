@@ -1,26 +1,27 @@
 -- A run stands behind an event of its request as between any turns.
-use Rattle.std.proofs.Common.{◌≡◌, ◌⊎◌, ℕ, ◌+◌, ◌-◌, ◌*◌, ◌<◌, ◌≤◌, min, Bool, true, false, ◌&&◌, not, nat_lt, if◌then◌else◌, ◌∷◌, [], length, refl, sym, ap, subst, ◌∙◌, arith, inl, inr, ⊎_elim}
+use Rattle.std.proofs.Common.{◌≡◌, ◌⊎◌, ℕ, ◌+◌, ◌-◌, ◌*◌, ◌<◌, ◌≤◌, min, Bool, true, false, ◌||◌, not, nat_lt, if◌then◌else◌, ◌∷◌, [], length, refl, sym, ap, subst, ◌∙◌, arith, inl, inr, ⊎_elim}
 use Rattle.std.specs.List.{slice_get}
-use Rattle.std.proofs.lemmas.Bool.{cases_lt, cond_both, cond-true, and_from, lt-ltb, true≢false}
+use Rattle.std.proofs.lemmas.Bool.{cases_lt, cond_both, cond-true, and_from, and_parts, lt-ltb, not-false, true≢false}
 use Rattle.std.proofs.lemmas.Option.{same_Some}
 use Rattle.block_list.specs.declared.status.Status.TheVariants.{NonTrimmed, NonScraped, BadSector, Finished}
 use Rattle.block_list.specs.Map.{Has}
-use Rattle.faulty_source.specs.Journal.{Reading, is_whole}
-use Rattle.rescue_domain.specs.Parts.{covers}
+use Rattle.faulty_source.specs.Ends.{is_before}
+use Rattle.faulty_source.specs.Journal.{Reading, is_failed}
 use Rattle.rescue_rules.specs.declared.phase.Phase.{Phase}
 use Rattle.rescue_rules.specs.declared.phase.Phase.TheVariants.{Trimming}
 use Rattle.rescue_rules.specs.declared.stop.TrimMode.{TrimMode}
 use Rattle.rescue_rules.specs.declared.stop.TrimMode.TheVariants.{Lead, Tail}
 use Rattle.rescue_rules.specs.Setting.{Setting}
 use Rattle.rescue_rules.specs.Passes.{Pass, is_up, numbered}
-use Rattle.rescue_rules.specs.Machine.{Machine, Search, pass_of, has_taken, is_wanted, IsWanted, search_in, search_of, IsNextRun, cut_start, IsRequest}
-use Rattle.rescue_rules.specs.Step.{Event, copies, trims, is_copying, is_trimming, is_slow, is_jump, mode_after, cursor_after, skip_after, rest_status, step}
+use Rattle.rescue_rules.specs.Machine.{Machine, Search, pass_of, has_taken, is_live, is_wanted, IsWanted, search_in, search_of, IsNextRun, cut_start, IsRequest}
+use Rattle.rescue_rules.specs.Step.{Event, copies, trims, is_copying, is_trimming, is_slow, reach, is_jump, mode_after, cursor_after, skip_after, rest_status, over_after, step}
 use Rattle.rescue_rules.specs.MachineLaws.{StepsBy, AsksFor}
+use Rattle.rescue_rules.proofs.OverLemmas.{live_was}
 use Rattle.rescue_rules.proofs.StepLemmas.{move_steps}
 use Rattle.rescue_core.specs.RunState.{RunState, setting_in, led_from, IsLed, IsRunning}
 use Rattle.rescue_core.specs.Turning.{stepped}
 use Rattle.rescue_core.proofs.RequestLemmas.{start_up}
-use Rattle.rescue_core.proofs.ChangeLemmas.{Kept, Missed, Between, Stands, rest_is, changes, change_between}
+use Rattle.rescue_core.proofs.ChangeLemmas.{Kept, Missed, CutOff, Between, Stands, rest_is, changes, change_between}
 use Rattle.rescue_core.proofs.TurnLemmas.{sensible_in, wanted_in}
 
 -- the cursor behind an event lies within the map
@@ -28,7 +29,7 @@ cursor_within : (s : Setting) (m : Machine) (e : Event) → e.reading.pos + e.re
     → cursor_after s m e ≤ length m.map
 cursor_within s m e there =
     let jump : ℕ = if is_jump s m e then m.skip else 0 in
-    let up : ℕ = min (length m.map) (e.reading.pos + e.reading.asked + jump) in
+    let up : ℕ = min (length m.map) (reach e.reading + jump) in
     cond_both (is_trimming m) e.reading.pos (if is_up s (pass_of m) then up else e.reading.pos - jump)
     (λ (x : ℕ). x ≤ length m.map)
     (λ trims. omega arith)
@@ -40,22 +41,22 @@ skip_within : (s : Setting) (m : Machine) (e : Event) → s.skip ≤ s.skip_max 
     → skip_after s m e ≤ s.skip_max
 skip_within s m e first now =
     cond_both (is_jump s m e) (min (2 * m.skip) s.skip_max)
-    (if is_whole e.reading && not (is_slow s e) then s.skip else m.skip) (λ (x : ℕ). x ≤ s.skip_max)
+    (if is_failed e.reading || is_slow s e then m.skip else s.skip) (λ (x : ℕ). x ≤ s.skip_max)
     (λ jumps. omega arith)
-    (λ other. cond_both (is_whole e.reading && not (is_slow s e)) s.skip m.skip (λ (x : ℕ). x ≤ s.skip_max)
-    (λ good. first) (λ bad. now))
+    (λ other. cond_both (is_failed e.reading || is_slow s e) m.skip s.skip (λ (x : ℕ). x ≤ s.skip_max)
+    (λ bad. now) (λ good. first))
 
 -- how far trimming upwards comes by a read before a run, and by one at its back
-lead_after : (whole more : Bool) (p q x : ℕ) → x < led_from (mode_after Lead whole more p q) p
-    → (x < p) ⊎ ((whole ≡ false) × (x < q))
+lead_after : (good more : Bool) (p q x : ℕ) → x < led_from (mode_after Lead good more p q) p
+    → (x < p) ⊎ ((good ≡ false) × (x < q))
 lead_after true more p q x lt = inl lt
 lead_after false more p q x lt =
     cond_both more (Tail q) Lead
     (λ (mode : TrimMode). x < led_from mode p → (x < p) ⊎ ((false ≡ false) × (x < q)))
     (λ on below. inr (refl, below)) (λ off below. inl below) lt
 
-tail_after : (low : ℕ) (whole more : Bool) (p q x : ℕ) → x < led_from (mode_after (Tail low) whole more p q) p
-    → (x < low) ⊎ ((whole ≡ false) × (x < p))
+tail_after : (low : ℕ) (good more : Bool) (p q x : ℕ) → x < led_from (mode_after (Tail low) good more p q) p
+    → (x < low) ⊎ ((good ≡ false) × (x < p))
 tail_after low true more p q x lt =
     ⊎_elim
     (λ (before : low < p).
@@ -84,8 +85,9 @@ phase_in : (r : RunState) (room : ℕ) (e : Event) → Trims r room e → (pass_
 phase_in r room e t = ap (λ (p : Pass). p.phase) t.running.pass ∙ t.phase
 
 untrimmed : (r : RunState) (room : ℕ) (e : Event) (x : ℕ) → Trims r room e
+    → is_live (setting_in r) (step (setting_in r) r.machine e) x ≡ true
     → Has (step (setting_in r) r.machine e).map NonTrimmed x → IsUntrimmed r e x
-untrimmed r room e x t has =
+untrimmed r room e x t live has =
     let s : Setting = setting_in r in
     let m : Machine = r.machine in
     elim (changes s m e x (sensible_in r room t.running) t.running.order t.request t.by) [
@@ -98,22 +100,25 @@ untrimmed r room e x t has =
           (λ (bad : rest_status s m size ≡ BadSector).
           absurd (let no : BadSector ≡ NonTrimmed = sym bad ∙ found in cc))
           (rest_is s m size)
+      | CutOff asks beyond same ↦
+          absurd (beyond (and_parts (s.domain x) (is_before (over_after m e.reading) x) live).1)
       | Between apart on was is ↦
           absurd (let no : NonScraped ≡ NonTrimmed = same_Some NonScraped NonTrimmed (sym is ∙ has) in cc)
       | Stands apart same ↦ record { was = sym same ∙ has; apart = apart }
     ]
 
--- a position of the domain that is left to trim is wanted
-trims_wanted : (r : RunState) (room : ℕ) (e : Event) (x : ℕ) → Trims r room e → covers r.domain x ≡ true
+-- a position that is left of the domain, and left to trim, is wanted
+trims_wanted : (r : RunState) (room : ℕ) (e : Event) (x : ℕ) → Trims r room e
+    → is_live (setting_in r) r.machine x ≡ true
     → Has r.machine.map NonTrimmed x → is_wanted (setting_in r) r.machine x ≡ true
-trims_wanted r room e x t inside has =
+trims_wanted r room e x t live has =
     let s : Setting = setting_in r in
     let m : Machine = r.machine in
     let wanted : is_wanted s m e.reading.pos ≡ true = t.by.wanted e.reading.pos (omega arith) (omega (arith, t.by.some)) in
     let pass : pass_of m ≡ numbered Trimming r.pass
     = t.running.pass ∙ ap (λ (phase : Phase). numbered phase r.pass) t.phase in
     sym (wanted_in s m m.map Trimming r.pass 1 e.reading.pos x wanted pass)
-    ∙ and_from (s.domain x) (has_taken (numbered Trimming 1 ∷ []) (slice_get m.map x)) inside
+    ∙ and_from (is_live s m x) (has_taken (numbered Trimming 1 ∷ []) (slice_get m.map x)) live
     (ap (has_taken (numbered Trimming 1 ∷ [])) has)
 
 -- before a run nothing is left before the request,
@@ -135,64 +140,69 @@ none_before r room e x t lead below wanted =
     omega (arith, below, starts, run.0.least x (omega arith) wanted)
 
 led_lead : (r : RunState) (room : ℕ) (e : Event) (x : ℕ) → Trims r room e → r.machine.mode ≡ Lead
-    → covers r.domain x ≡ true → IsUntrimmed r e x
-    → (x < e.reading.pos) ⊎ ((is_whole e.reading ≡ false) × (x < e.reading.pos + e.reading.asked)) → ⊥
-led_lead r room e x t lead inside left far =
+    → is_live (setting_in r) r.machine x ≡ true → IsUntrimmed r e x
+    → (x < e.reading.pos) ⊎ ((not (is_failed e.reading) ≡ false) × (x < e.reading.pos + e.reading.asked)) → ⊥
+led_lead r room e x t lead live left far =
     let early : x < e.reading.pos → ⊥
-    = λ below. none_before r room e x t lead below (trims_wanted r room e x t inside left.was) in
+    = λ below. none_before r room e x t lead below (trims_wanted r room e x t live left.was) in
     ⊎_elim early
-    (λ (part : (is_whole e.reading ≡ false) × (x < e.reading.pos + e.reading.asked)).
+    (λ (part : (not (is_failed e.reading) ≡ false) × (x < e.reading.pos + e.reading.asked)).
     ⊎_elim early (λ (from : e.reading.pos ≤ x). left.apart (record { from = from; to = part.1 }))
     (cases_lt x e.reading.pos))
     far
 
 -- and at its back nothing before that run's front, nor behind a failed read what lies between them.
 led_tail : (r : RunState) (room : ℕ) (e : Event) (low x : ℕ) → Trims r room e → r.machine.mode ≡ Tail low
-    → covers r.domain x ≡ true → Has (step (setting_in r) r.machine e).map NonTrimmed x → IsUntrimmed r e x
-    → (x < low) ⊎ ((is_whole e.reading ≡ false) × (x < e.reading.pos)) → ⊥
-led_tail r room e low x t tail inside has left far =
+    → is_live (setting_in r) r.machine x ≡ true → Has (step (setting_in r) r.machine e).map NonTrimmed x → IsUntrimmed r e x
+    → (x < low) ⊎ ((not (is_failed e.reading) ≡ false) × (x < e.reading.pos)) → ⊥
+led_tail r room e low x t tail live has left far =
     let s : Setting = setting_in r in
     let m : Machine = r.machine in
     let early : x < low → ⊥
     = λ below.
-    t.running.led t.phase t.up x (subst (λ (mode : TrimMode). x < led_from mode m.cursor) (sym tail) below) inside left.was in
+    t.running.led t.phase t.up x (subst (λ (mode : TrimMode). x < led_from mode m.cursor) (sym tail) below) live left.was in
     ⊎_elim early
-    (λ (part : (is_whole e.reading ≡ false) × (x < e.reading.pos)).
+    (λ (part : (not (is_failed e.reading) ≡ false) × (x < e.reading.pos)).
     ⊎_elim early
     (λ (from : low ≤ x).
     let is : Has (step s m e).map NonScraped x
-    = change_between s m e low x (sensible_in r room t.running) t.running.order t.request t.by part.0 tail from part.1 in
+    = change_between s m e low x (sensible_in r room t.running) t.running.order t.request t.by
+    (not-false (is_failed e.reading) part.0) tail from part.1 in
     let no : NonScraped ≡ NonTrimmed = same_Some NonScraped NonTrimmed (sym is ∙ has) in cc)
     (cases_lt x low))
     far
 
 led_by : (r : RunState) (room : ℕ) (e : Event) (mode : TrimMode) (x : ℕ) → Trims r room e → r.machine.mode ≡ mode
-    → covers r.domain x ≡ true → Has (step (setting_in r) r.machine e).map NonTrimmed x
-    → x < led_from (mode_after mode (is_whole e.reading)
+    → is_live (setting_in r) (step (setting_in r) r.machine e) x ≡ true
+    → Has (step (setting_in r) r.machine e).map NonTrimmed x
+    → x < led_from (mode_after mode (not (is_failed e.reading))
     (is_wanted (setting_in r) (record r.machine { map = (step (setting_in r) r.machine e).map })
     (e.reading.pos + e.reading.asked)) e.reading.pos (e.reading.pos + e.reading.asked)) e.reading.pos → ⊥
-led_by r room e Lead x t is inside has below =
-    led_lead r room e x t is inside (untrimmed r room e x t has) (lead_after (is_whole e.reading) _ _ _ x below)
-led_by r room e (Tail low) x t is inside has below =
-    led_tail r room e low x t is inside has (untrimmed r room e x t has)
-    (tail_after low (is_whole e.reading) _ _ _ x below)
+led_by r room e Lead x t is live has below =
+    let s : Setting = setting_in r in
+    led_lead r room e x t is (live_was s r.machine (step s r.machine e) e.reading x refl live)
+    (untrimmed r room e x t live has) (lead_after (not (is_failed e.reading)) _ _ _ x below)
+led_by r room e (Tail low) x t is live has below =
+    let s : Setting = setting_in r in
+    led_tail r room e low x t is (live_was s r.machine (step s r.machine e) e.reading x refl live) has
+    (untrimmed r room e x t live has) (tail_after low (not (is_failed e.reading)) _ _ _ x below)
 
 led_steps : (r : RunState) (room : ℕ) (e : Event) → IsRunning r room
     → IsRequest (setting_in r) r.machine e.reading.pos (e.reading.pos + e.reading.asked)
     → StepsBy (setting_in r) r.machine e → IsLed (stepped r e)
-led_steps r room e i request by phase up x below inside has =
+led_steps r room e i request by phase up x below live has =
     let s : Setting = setting_in r in
     let m : Machine = r.machine in
     let t : Trims r room e = record { running = i; request = request; by = by; phase = phase; up = up } in
     let on : is_trimming m ≡ true = ap trims (phase_in r room e t) in
     let r' : Reading = e.reading in
     let more : Bool = is_wanted s (record m { map = (step s m e).map }) (r'.pos + r'.asked) in
-    let mode : (step s m e).mode ≡ mode_after m.mode (is_whole r') more r'.pos (r'.pos + r'.asked)
-    = cond-true (is_trimming m) (mode_after m.mode (is_whole r') more r'.pos (r'.pos + r'.asked)) Lead on in
+    let mode : (step s m e).mode ≡ mode_after m.mode (not (is_failed r')) more r'.pos (r'.pos + r'.asked)
+    = cond-true (is_trimming m) (mode_after m.mode (not (is_failed r')) more r'.pos (r'.pos + r'.asked)) Lead on in
     let cursor : (step s m e).cursor ≡ r'.pos
     = cond-true (is_trimming m) r'.pos _ on in
-    led_by r room e m.mode x t refl inside has
-    (subst (λ (n : ℕ). x < led_from (mode_after m.mode (is_whole r') more r'.pos (r'.pos + r'.asked)) n) cursor
+    led_by r room e m.mode x t refl live has
+    (subst (λ (n : ℕ). x < led_from (mode_after m.mode (not (is_failed r')) more r'.pos (r'.pos + r'.asked)) n) cursor
     (subst (λ (n : TrimMode). x < led_from n (step s m e).cursor) mode below))
 
 -- a run stands behind an event of its request as between any turns

@@ -15,11 +15,12 @@ use Rattle.rescue_rules.specs.declared.phase.Phase.{Phase}
 use Rattle.rescue_rules.specs.declared.phase.Phase.TheVariants.{Copying, Trimming, Scraping, Retrying}
 use Rattle.rescue_rules.specs.Setting.{Setting, IsSensible}
 use Rattle.rescue_rules.specs.Passes.{Pass, taken, numbered}
-use Rattle.rescue_rules.specs.Machine.{Machine, pass_of, is_wanted, IsRequest, has_request}
+use Rattle.rescue_rules.specs.Machine.{Machine, pass_of, is_live, is_wanted, IsRequest, has_request}
 use Rattle.rescue_rules.specs.Step.{Event, copies, trims, is_copying, is_trimming}
 use Rattle.rescue_rules.specs.Moves.{ready, no_pass_left}
 use Rattle.rescue_rules.proofs.SearchLemmas.{request_seen}
-use Rattle.rescue_rules.proofs.StepLemmas.{Asks, request_asks, wanted_domain}
+use Rattle.rescue_rules.proofs.OverLemmas.{live_was, wanted_live}
+use Rattle.rescue_rules.proofs.StepLemmas.{Asks, request_asks}
 use Rattle.rescue_rules.proofs.StatusLemmas.{non_tried_stood, non_trimmed_stood, non_scraped_stood, wanted_taken}
 use Rattle.rescue_rules.proofs.ReadyLemmas.{ready_here, ready_on, ready_end, spent_request}
 use Rattle.rescue_core.specs.RunState.{RunState, setting_in, passed, IsRunning, IsGone}
@@ -54,7 +55,7 @@ is_turn r room e is request =
 -- a phase whose status is gone asks for nothing
 never_asked : (r : RunState) (room : ℕ) (e : Event) → IsTurn r room e → IsGone (taken (pass_of r.machine).phase) r → ⊥
 never_asked r room e t gone =
-    gone e.reading.pos (wanted_domain (setting_in r) r.machine e.reading.pos t.wanted)
+    gone e.reading.pos (wanted_live (setting_in r) r.machine e.reading.pos t.wanted)
     (wanted_taken (setting_in r) r.machine e.reading.pos t.wanted)
 
 copies_is : (phase : Phase) → copies phase ≡ true → phase ≡ Copying
@@ -90,15 +91,20 @@ never_trims r room e t gone low at =
     = t.running.trims (sym (ap (λ (p : Pass). p.phase) t.running.pass) ∙ trims) in
     never_asked r room e t (subst (λ (phase : Phase). IsGone (taken phase) r) (sym trims) (gone on))
 
+-- what is left of the domain behind an event was left before
+live_before : (r : RunState) (e : Event) (x : ℕ) → is_live (setting_in r) (stepped r e).machine x ≡ true
+    → is_live (setting_in r) r.machine x ≡ true
+live_before r e x live = live_was (setting_in r) r.machine (stepped r e).machine e.reading x refl live
+
 tried_steps : (r : RunState) (room : ℕ) (e : Event) → IsTurn r room e → IsGone NonTried r → IsGone NonTried (stepped r e)
-tried_steps r room e t gone x inside has =
-    gone x inside (non_tried_stood (setting_in r) r.machine e.reading x has)
+tried_steps r room e t gone x live has =
+    gone x (live_before r e x live) (non_tried_stood (setting_in r) r.machine e.reading x has)
 
 trimmed_steps : (r : RunState) (room : ℕ) (e : Event) → IsTurn r room e → IsTrimmed r → IsTrimmed (stepped r e)
 trimmed_steps r room e t known = record {
   tried = tried_steps r room e t known.tried;
-  trimmed = λ on x inside has. ⊎_elim
-      (λ (was : Has r.machine.map NonTrimmed x). known.trimmed on x inside was)
+  trimmed = λ on x live has. ⊎_elim
+      (λ (was : Has r.machine.map NonTrimmed x). known.trimmed on x (live_before r e x live) was)
       (λ (copying : is_copying r.machine ≡ true). never_copies r room e t known.tried copying)
       (non_trimmed_stood (setting_in r) r.machine e.reading x has);
 }
@@ -106,8 +112,8 @@ trimmed_steps r room e t known = record {
 scraped_steps : (r : RunState) (room : ℕ) (e : Event) → IsTurn r room e → IsScraped r → IsScraped (stepped r e)
 scraped_steps r room e t known = record {
   trimmed = trimmed_steps r room e t known.trimmed;
-  scraped = λ on x inside has. ⊎_elim
-      (λ (was : Has r.machine.map NonScraped x). known.scraped on x inside was)
+  scraped = λ on x live has. ⊎_elim
+      (λ (was : Has r.machine.map NonScraped x). known.scraped on x (live_before r e x live) was)
       (λ (back : (low : ℕ) × (r.machine.mode ≡ Tail low)).
       never_trims r room e t known.trimmed.trimmed back.0 back.1)
       (non_scraped_stood (setting_in r) r.machine e.reading x has);
@@ -152,7 +158,7 @@ known_halted reached request stop r r' room source source' site site' clock cloc
     elim h [
       | Starved why same read wrote told ↦ subst (Known reached) (sym same) known
       | Lost why same read wrote before few told ↦ subst (Known reached) (sym same) known
-      | Unwritten why same e event wrote ↦ subst (Known reached) (sym same) known
+      | Unwritten why same e event named wrote ↦ subst (Known reached) (sym same) known
       | Unsaved call why e event same due named wrote rose ↦ subst (Known reached) (sym same)
           (known_event reached r room request e source source' clock clock' is asks event known)
     ]
@@ -200,7 +206,7 @@ known_passes Over r phase pass next off known =
           ∙ known.spent;
     }
 
--- No pass has a request left where no position of the domain has a status that a pass left asks for.
+-- No pass has a request left where no position that is left of the domain has a status that a pass left asks for.
 pub none_left : (r : RunState) → All (λ p. IsGone (taken p.phase) r) r.machine.passes
     → no_pass_left (ready (setting_in r) r.machine).passes ≡ true
 none_left r gone = ap (λ (m : Machine). no_pass_left m.passes) (ready_end (setting_in r) r.machine gone)

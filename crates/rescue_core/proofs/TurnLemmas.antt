@@ -15,7 +15,7 @@ use Rattle.rescue_rules.specs.declared.phase.Phase.{Phase}
 use Rattle.rescue_rules.specs.declared.phase.Phase.TheVariants.{Copying, Trimming, Scraping, Retrying}
 use Rattle.rescue_rules.specs.Setting.{Setting, IsSensible}
 use Rattle.rescue_rules.specs.Passes.{Pass, taken, numbered}
-use Rattle.rescue_rules.specs.Machine.{Machine, pass_of, has_taken, is_wanted, ceiling, Search, search_in, search_of, cut_start, cut_end, IsRequest}
+use Rattle.rescue_rules.specs.Machine.{Machine, pass_of, has_taken, is_live, is_wanted, ceiling, Search, search_in, search_of, cut_start, cut_end, IsRequest}
 use Rattle.rescue_rules.specs.Step.{Event, map_after, step}
 use Rattle.rescue_rules.proofs.RoundLemmas.{ceiling_above}
 use Rattle.rescue_rules.proofs.StepLemmas.{Asks, request_asks, wanted_domain, asks_back}
@@ -112,12 +112,12 @@ taken_in (p ∷ ps) phase n k (Some status) found has is =
 
 pub wanted_in : (s : Setting) (m : Machine) (map : List Status) (phase : Phase) (n k pos x : ℕ)
     → is_wanted s m pos ≡ true → pass_of m ≡ numbered phase n
-    → (s.domain x && has_taken (numbered phase k ∷ []) (slice_get map x))
-    ≡ (s.domain x && has_taken m.passes (slice_get map x))
+    → (is_live s m x && has_taken (numbered phase k ∷ []) (slice_get map x))
+    ≡ (is_live s m x && has_taken m.passes (slice_get map x))
 wanted_in s m map phase n k pos x wanted pass =
-    ap (λ b. s.domain x && b)
+    ap (λ b. is_live s m x && b)
     (taken_in m.passes phase n k (slice_get map x) (slice_get m.map pos)
-    (and_parts (s.domain pos) (has_taken m.passes (slice_get m.map pos)) wanted).1 pass)
+    (and_parts (is_live s m pos) (has_taken m.passes (slice_get m.map pos)) wanted).1 pass)
 
 -- a run behind an event, by its parts
 pub run_steps : (settings : Settings) (domain : List Run) (names : Option MapNames) (line : List ℕ) (map map' : List Status)

@@ -4,7 +4,8 @@ use Rattle.std.specs.List.{slice_get}
 use Rattle.block_list.specs.declared.block.Run.{Run}
 use Rattle.block_list.specs.declared.status.Status.{Status}
 use Rattle.mapfile_text.specs.declared.state.MapState.{MapState}
-use Rattle.faulty_source.specs.Journal.{Reading, is_whole}
+use Rattle.faulty_source.specs.Ends.{is_before}
+use Rattle.faulty_source.specs.Journal.{Reading}
 use Rattle.faulty_source.specs.SourceState.{SourceState}
 use Rattle.crash_site.specs.declared.site.SiteCall.{SiteCall}
 use Rattle.crash_site.specs.Calls.{Call}
@@ -21,7 +22,7 @@ use Rattle.rescue_rules.specs.declared.stop.Stop.{Stop}
 use Rattle.rescue_rules.specs.declared.stop.Stop.TheVariants.{Site}
 use Rattle.rescue_rules.specs.Setting.{Setting}
 use Rattle.rescue_rules.specs.Passes.{Pass, numbered, current_of}
-use Rattle.rescue_rules.specs.Machine.{Machine, has_taken, is_wanted, IsRequest}
+use Rattle.rescue_rules.specs.Machine.{Machine, has_taken, is_live, is_wanted, IsRequest}
 use Rattle.rescue_rules.specs.Step.{Event, is_timely, map_after, step}
 use Rattle.rescue_rules.specs.Snapshots.{text_of, snapshot_of}
 use Rattle.rescue_rules.specs.RunCalls.{write_calls, move_calls}
@@ -36,7 +37,7 @@ use Rattle.rescue_core.specs.declared.state.Tally.{Tally}
 use Rattle.rescue_core.specs.declared.turn.Turn.{Turn}
 use Rattle.rescue_core.specs.RunState.{RunState, names_in, setting_in, run_at, HasPlaces, IsRunning}
 use Rattle.rescue_core.specs.Turning.{turn_of, stepped, move_by, Turned, Halted, Unsaved}
-use Rattle.rescue_core.specs.TurnParts.{place_of, tally_of, RunsAt, IsReadOf, fetched_of, Gathers}
+use Rattle.rescue_core.specs.TurnParts.{place_of, tally_of, RunsAt, IsReadOf, fetched_of, end_met, Gathers}
 use Rattle.rescue_core.proofs.TurnLemmas.{sensible_in, Fits, request_fits, wanted_in, run_steps}
 use Rattle.rescue_core.proofs.RunningLemmas.{running_steps}
 use Rattle.rescue_core.proofs.TurnCallLemmas.{timely_due, named_there, untimely_calls, timely_calls, timely_breaks, timely_rose}
@@ -48,17 +49,22 @@ Marks settings phase place request kept map map' =
     → reading.pos ≡ request.pos → IsCut settings.sector reading (fetched_of kept)
     → map' ≡ map_after (setting_in r) r.machine reading
 
+abbrev pub Meets : Settings → Kept → Option ℕ → Type 0
+Meets settings kept end = (reading : Reading) → IsCut settings.sector reading (fetched_of kept) → end ≡ end_met reading
+
 abbrev pub Places : Settings → Phase → Place → Request → Turn → (top : ℕ) → (more : Bool) → Place → Type 0
 Places settings phase place request turn top more place' =
-    (r : RunState) (e : Event) → RunsAt settings phase place r → IsReadOf request turn.given e.reading
+    (r : RunState) (e : Event) → RunsAt settings phase place r → IsReadOf request turn.given turn.ended e.reading
     → turn ≡ turn_of r e → length r.machine.map ≡ top
-    → (phase ≡ Trimming → more ≡ is_wanted (setting_in r) (step (setting_in r) r.machine e) (request.pos + request.len))
+    → (phase ≡ Trimming → more ≡ is_wanted (setting_in r)
+    (record r.machine { map = map_after (setting_in r) r.machine e.reading }) (request.pos + request.len))
     → place' ≡ place_of place.pass (step (setting_in r) r.machine e)
 
-abbrev pub Tallies : Tally → (whole : Bool) → (after : ℕ) → MapState → Tally → Type 0
-Tallies tally whole after shown tally' =
-    (r : RunState) (e : Event) → tally ≡ tally_of r.machine → whole ≡ is_whole e.reading → e.after ≡ after
-    → shown ≡ (step (setting_in r) r.machine e).shown → tally' ≡ tally_of (step (setting_in r) r.machine e)
+abbrev pub Tallies : Tally → Turn → (after : ℕ) → MapState → (end : Option ℕ) → Tally → Type 0
+Tallies tally turn after shown end tally' =
+    (r : RunState) (e : Event) → tally ≡ tally_of r.machine → turn ≡ turn_of r e → e.after ≡ after
+    → shown ≡ (step (setting_in r) r.machine e).shown → end ≡ end_met e.reading
+    → tally' ≡ tally_of (step (setting_in r) r.machine e)
 
 -- the parts of a run before a turn, and behind it
 pub record Parts : Type 0 where
@@ -103,16 +109,18 @@ pub record Does (p : Parts) (request : Request) (got : Gathered) (line' : List �
   pub old : List Status
   pub old_is : old ≡ p.map
   pub marks : Marks p.settings p.phase p.place request got.kept old map'
+  pub end : Option ℕ
+  pub meets : Meets p.settings got.kept end
   pub more : Bool
   pub more_is : p.phase ≡ Trimming → more
-      ≡ (covers p.domain (request.pos + request.len)
+      ≡ ((covers p.domain (request.pos + request.len) && is_before p.tally.over (request.pos + request.len))
       && has_taken (numbered p.phase 1 ∷ []) (slice_get map' (request.pos + request.len)))
   pub top : ℕ
   pub top_is : top ≡ length map'
   pub places : Places p.settings p.phase p.place request got.turn top more place'
   pub shown : MapState
   pub shown_is : shown ≡ record { pos = place'.cursor; current = current_of p.phase; pass = place'.pass }
-  pub tallies : Tallies p.tally got.turn.whole got.after shown tally'
+  pub tallies : Tallies p.tally got.turn got.after shown end tally'
   pub line_is : line' ≡ p.line
 
 pub begins_of : (T : Type 0) (statuses : T → List Status) (was : Inside T) (r : RunState) (request : Request)
@@ -194,14 +202,19 @@ does_step p r room request got line' map' place' tally' source source' site site
     let n : Machine = step s m e in
     let turn : got.turn ≡ turn_of before e = g.turn before refl in
     let at : RunsAt p.settings p.phase p.place before = stands_at p r room request b in
-    let read : IsReadOf request got.turn.given e.reading
-    = record { pos = g.is.pos; asked = g.is.asked; count = sym (ap (λ (t : Turn). t.given) turn) } in
+    let read : IsReadOf request got.turn.given got.turn.ended e.reading
+    = record {
+      pos = g.is.pos;
+      asked = g.is.asked;
+      count = sym (ap (λ (t : Turn). t.given) turn);
+      end = sym (ap (λ (t : Turn). t.ended) turn);
+    } in
     let map_is : map' ≡ n.map
     = marks_map p r room request got d.old map' source source' site site' clock clock' b g d.old_is d.marks in
     let x : ℕ = request.pos + request.len in
-    let more : p.phase ≡ Trimming → d.more ≡ is_wanted s n x
+    let more : p.phase ≡ Trimming → d.more ≡ is_wanted s (record m { map = n.map }) x
     = λ trims. d.more_is trims
-    ∙ ap (λ (l : List Status). covers p.domain x && has_taken (numbered p.phase 1 ∷ []) (slice_get l x)) map_is
+    ∙ ap (λ (l : List Status). is_live s m x && has_taken (numbered p.phase 1 ∷ []) (slice_get l x)) map_is
     ∙ wanted_in s m n.map p.phase p.place.pass 1 request.pos x (begins_fits p r room request b).wanted b.running.pass in
     let size : length m.map ≡ d.top
     = sym (marks_size p r room request got d.old map' source source' site site' clock clock' b g d.old_is d.marks)
@@ -212,7 +225,7 @@ does_step p r room request got line' map' place' tally' source source' site site
     ∙ ap (λ (q : Place). record { pos = q.cursor; current = current_of p.phase; pass = q.pass }) place_is
     ∙ ap (λ (q : Pass). record { pos = n.cursor; current = current_of q.phase; pass = q.number }) (sym b.running.pass) in
     let tally_is : tally' ≡ tally_of n
-    = d.tallies before e refl (ap (λ (t : Turn). t.whole) turn) g.after shown in
+    = d.tallies before e refl turn g.after shown (d.meets e.reading g.cut) in
     ap (λ (l : List ℕ). run_at p.settings p.domain p.names l map' p.phase place' tally') d.line_is
     ∙ run_steps p.settings p.domain p.names p.line p.map map' p.phase p.place place' p.tally tally' e map_is place_is tally_is
 

@@ -1,5 +1,5 @@
 -- What a pass asks for, and its request by what a search finds.
-use Rattle.std.proofs.Common.{◌≡◌, ℕ, ◌-◌, ◌<◌, ◌≤◌, Bool, true, false, if◌then◌else◌, nat_le, nat_lt, List, ◌∷◌, length, drop, Option, Some, None, IfNone, refl, sym, ap, subst, ◌∙◌, arith, ⊎_elim}
+use Rattle.std.proofs.Common.{◌≡◌, ℕ, ◌-◌, ◌<◌, ◌≤◌, Bool, true, false, ◌&&◌, if◌then◌else◌, nat_le, nat_lt, List, ◌∷◌, length, drop, Option, Some, None, IfNone, refl, sym, ap, subst, ◌∙◌, arith, ⊎_elim}
 use Rattle.std.specs.List.{slice_get}
 use Rattle.std.proofs.lemmas.Bool.{cases_lt, and_from, and_parts, le-leb, lt-ltb, true≢false, false_from_ne_true}
 use Rattle.std.proofs.lemmas.Option.{slice_get_within}
@@ -10,10 +10,10 @@ use Rattle.rescue_rules.specs.declared.phase.Phase.{Phase}
 use Rattle.rescue_rules.specs.declared.phase.Phase.TheVariants.{Trimming}
 use Rattle.rescue_rules.specs.declared.stop.TrimMode.{TrimMode}
 use Rattle.rescue_rules.specs.declared.stop.TrimMode.TheVariants.{Lead}
-use Rattle.rescue_domain.specs.Parts.{covers}
+use Rattle.faulty_source.specs.Ends.{is_before}
 use Rattle.rescue_rules.specs.Setting.{Setting}
 use Rattle.rescue_rules.specs.Passes.{Pass, taken, is_up, numbered}
-use Rattle.rescue_rules.specs.Machine.{Machine, Search, has_taken, is_wanted, IsWanted, search_of, IsNextRun, cut_start, cut_end, IsRequest, is_ahead, has_request}
+use Rattle.rescue_rules.specs.Machine.{Machine, Search, has_taken, is_live, is_wanted, IsWanted, search_of, IsNextRun, cut_start, cut_end, IsRequest, is_ahead, has_request}
 use Rattle.rescue_rules.proofs.SearchLemmas.{request_found}
 use Rattle.rescue_core.specs.declared.state.Place.{Place}
 use Rattle.rescue_core.specs.RunState.{RunState, setting_in, led_from, IsLed}
@@ -21,11 +21,16 @@ use Rattle.rescue_core.specs.Search.{IsMarked}
 use Rattle.rescue_core.specs.Requesting.{StandsAt, IsCutOf}
 use Rattle.rescue_core.proofs.RequestLemmas.{start_up, lead_search}
 
+-- what is left of a setting's domain
+abbrev pub left_in : Setting → Option ℕ → ℕ → Bool
+left_in s over x = s.domain x && is_before over x
+
 -- a pass asks for what is marked with its phase's status
-marked_wanted : (s : Setting) (m : Machine) (p : Pass) (x : ℕ) → m.passes ≡ p ∷ drop 1 m.passes → IsMarked s.domain m.map (taken p.phase) x
+marked_wanted : (s : Setting) (m : Machine) (p : Pass) (x : ℕ) → m.passes ≡ p ∷ drop 1 m.passes
+    → IsMarked (is_live s m) m.map (taken p.phase) x
     → is_wanted s m x ≡ true
 marked_wanted s m p x begins marked =
-    and_from (s.domain x) (has_taken m.passes (slice_get m.map x)) marked.within
+    and_from (is_live s m x) (has_taken m.passes (slice_get m.map x)) marked.within
     (ap (λ (ps : List Pass). has_taken ps (slice_get m.map x)) begins ∙ ap (has_taken (p ∷ drop 1 m.passes)) marked.has
     ∙ same_self (taken p.phase))
 
@@ -34,9 +39,9 @@ taken_is p ps None is = absurd (true≢false (sym is))
 taken_is p ps (Some status) is = ap (λ (t : Status). Some t) (equal_from_same status (taken p.phase) is)
 
 wanted_marked : (s : Setting) (m : Machine) (p : Pass) (x : ℕ) → m.passes ≡ p ∷ drop 1 m.passes → is_wanted s m x ≡ true
-    → IsMarked s.domain m.map (taken p.phase) x
+    → IsMarked (is_live s m) m.map (taken p.phase) x
 wanted_marked s m p x begins wanted =
-    let both = and_parts (s.domain x) (has_taken m.passes (slice_get m.map x)) wanted in
+    let both = and_parts (is_live s m x) (has_taken m.passes (slice_get m.map x)) wanted in
     record {
       within = both.0;
       has = taken_is p (drop 1 m.passes) (slice_get m.map x) (ap (λ (ps : List Pass). has_taken ps (slice_get m.map x)) (sym begins) ∙ both.1);
@@ -86,17 +91,19 @@ run_there up domain map status from start end r =
     omega (arith, last.0, slice_get_within map (end - 1) status last.1.has)
 
 -- what is cut from a run that a machine's search finds is its request
-pub request_is : (s : Setting) (m : Machine) (phase : Phase) (place : Place) (map : List Status) (status : Status) (f : Search)
-    (start end pos to : ℕ) → StandsAt m phase place map → status ≡ taken phase → f ≡ search_of s m
-    → IsNextRun f.up (IsMarked s.domain map status) f.from start end → pos ≡ cut_start f s.sector start end
+pub request_is : (s : Setting) (m : Machine) (phase : Phase) (place : Place) (map : List Status) (over : Option ℕ)
+    (status : Status) (f : Search) (start end pos to : ℕ) → StandsAt m phase place map over → status ≡ taken phase
+    → f ≡ search_of s m → IsNextRun f.up (IsMarked (left_in s over) map status) f.from start end → pos ≡ cut_start f s.sector start end
     → to ≡ cut_end f s.sector start end → IsRequest s m pos to
-request_is s m phase place map status f start end pos to stands asks is run starts ends =
+request_is s m phase place map over status f start end pos to stands asks is run starts ends =
     let p : Pass = numbered phase place.pass in
-    let marked : IsNextRun f.up (IsMarked s.domain m.map (taken phase)) f.from start end
-    = subst (λ (statuses : List Status). IsNextRun f.up (IsMarked s.domain statuses (taken phase)) f.from start end) (sym stands.map)
-    (subst (λ (t : Status). IsNextRun f.up (IsMarked s.domain map t) f.from start end) asks run) in
+    let marked : IsNextRun f.up (IsMarked (is_live s m) m.map (taken phase)) f.from start end
+    = subst (λ (o : Option ℕ). IsNextRun f.up (IsMarked (left_in s o) m.map (taken phase)) f.from start end) (sym stands.over)
+    (subst (λ (statuses : List Status). IsNextRun f.up (IsMarked (left_in s over) statuses (taken phase)) f.from start end)
+    (sym stands.map)
+    (subst (λ (t : Status). IsNextRun f.up (IsMarked (left_in s over) map t) f.from start end) asks run)) in
     let wanted : IsNextRun f.up (IsWanted s m) f.from start end
-    = run_alike f.up (IsMarked s.domain m.map (taken phase)) (IsWanted s m) f.from start end
+    = run_alike f.up (IsMarked (is_live s m) m.map (taken phase)) (IsWanted s m) f.from start end
     (λ x holds. marked_wanted s m p x stands.passes holds) (λ x holds. wanted_marked s m p x stands.passes holds) marked in
     record {
       start = start;
@@ -114,25 +121,26 @@ some_ahead false P from start end r none =
     none (end - 1) r.0.holds (lt-ltb (end - 1) from (omega (arith, r.0.some, r.0.below)))
 
 -- where nothing that is marked lies ahead a machine has no request
-pub no_request : (s : Setting) (m : Machine) (phase : Phase) (place : Place) (map : List Status) (status : Status) (f : Search)
-    → StandsAt m phase place map → status ≡ taken phase → f ≡ search_of s m
-    → ((x : ℕ) → is_ahead f x ≡ true → IsMarked s.domain map status x → ⊥) → has_request s m ≡ false
-no_request s m phase place map status f stands asks is none =
+pub no_request : (s : Setting) (m : Machine) (phase : Phase) (place : Place) (map : List Status) (over : Option ℕ)
+    (status : Status) (f : Search) → StandsAt m phase place map over → status ≡ taken phase → f ≡ search_of s m
+    → ((x : ℕ) → is_ahead f x ≡ true → IsMarked (left_in s over) map status x → ⊥) → has_request s m ≡ false
+no_request s m phase place map over status f stands asks is none =
     false_from_ne_true (has_request s m) (λ has.
     let found = request_found s m has in
     let g : Search = search_of s m in
     some_ahead g.up (IsWanted s m) g.from found.2.start found.2.end found.2.run (λ x wanted ahead.
     none x (subst (λ (h : Search). is_ahead h x ≡ true) (sym is) ahead)
-    (subst (λ (t : Status). IsMarked s.domain map t x) (sym asks)
-    (subst (λ (statuses : List Status). IsMarked s.domain statuses (taken phase) x) stands.map
-    (wanted_marked s m (numbered phase place.pass) x stands.passes wanted)))))
+    (subst (λ (t : Status). IsMarked (left_in s over) map t x) (sym asks)
+    (subst (λ (statuses : List Status). IsMarked (left_in s over) statuses (taken phase) x) stands.map
+    (subst (λ (o : Option ℕ). IsMarked (left_in s o) m.map (taken phase) x) stands.over
+    (wanted_marked s m (numbered phase place.pass) x stands.passes wanted))))))
 
 -- what is cut of the next run of a machine's search is its request
-pub cut_is : (s : Setting) (m : Machine) (phase : Phase) (place : Place) (map : List Status) (status : Status) (f : Search)
-    (pos to : ℕ) → StandsAt m phase place map → status ≡ taken phase → f ≡ search_of s m
-    → IsCutOf f s.sector s.domain map status pos to → IsRequest s m pos to
-cut_is s m phase place map status f pos to stands asks is cut =
-    request_is s m phase place map status f cut.start cut.end pos to stands asks is cut.run cut.starts cut.ends
+pub cut_is : (s : Setting) (m : Machine) (phase : Phase) (place : Place) (map : List Status) (over : Option ℕ)
+    (status : Status) (f : Search) (pos to : ℕ) → StandsAt m phase place map over → status ≡ taken phase
+    → f ≡ search_of s m → IsCutOf f s.sector (left_in s over) map status pos to → IsRequest s m pos to
+cut_is s m phase place map over status f pos to stands asks is cut =
+    request_is s m phase place map over status f cut.start cut.end pos to stands asks is cut.run cut.starts cut.ends
 
 -- before a run, upwards, trimming finds the same from where nothing is left before
 abbrev upwards : ℕ → ℕ → Search
@@ -154,27 +162,28 @@ clear_run domain map from start end clear run = (
   run.1,
 )
 
-from_front : (s : Setting) (m : Machine) (place : Place) (map : List Status) → StandsAt m Trimming place map
-    → place.mode ≡ Lead → is_up s (numbered Trimming place.pass) ≡ true → upwards 0 s.sector ≡ search_of s m
+from_front : (s : Setting) (m : Machine) (place : Place) (map : List Status) {over : Option ℕ}
+    → StandsAt m Trimming place map over → place.mode ≡ Lead → is_up s (numbered Trimming place.pass) ≡ true → upwards 0 s.sector ≡ search_of s m
 from_front s m place map stands lead up =
     lead_search s m Trimming place map 0 true stands refl lead (sym up)
     (sym (start_up s (numbered Trimming place.pass) map up))
 
-pub lead_is : (s : Setting) (m : Machine) (place : Place) (map : List Status) (pos to : ℕ)
-    → StandsAt m Trimming place map → place.mode ≡ Lead → is_up s (numbered Trimming place.pass) ≡ true
-    → IsClear s.domain map place.cursor
-    → IsCutOf (upwards place.cursor s.sector) s.sector s.domain map NonTrimmed pos to → IsRequest s m pos to
-lead_is s m place map pos to stands lead up clear cut =
-    request_is s m Trimming place map NonTrimmed (upwards 0 s.sector) cut.start cut.end pos to stands refl
+pub lead_is : (s : Setting) (m : Machine) (place : Place) (map : List Status) (over : Option ℕ) (pos to : ℕ)
+    → StandsAt m Trimming place map over → place.mode ≡ Lead → is_up s (numbered Trimming place.pass) ≡ true
+    → IsClear (left_in s over) map place.cursor
+    → IsCutOf (upwards place.cursor s.sector) s.sector (left_in s over) map NonTrimmed pos to → IsRequest s m pos to
+lead_is s m place map over pos to stands lead up clear cut =
+    request_is s m Trimming place map over NonTrimmed (upwards 0 s.sector) cut.start cut.end pos to stands refl
     (from_front s m place map stands lead up)
-    (clear_run s.domain map place.cursor cut.start cut.end clear cut.run) cut.starts cut.ends
+    (clear_run (left_in s over) map place.cursor cut.start cut.end clear cut.run) cut.starts cut.ends
 
-pub lead_none : (s : Setting) (m : Machine) (place : Place) (map : List Status) → StandsAt m Trimming place map
-    → place.mode ≡ Lead → is_up s (numbered Trimming place.pass) ≡ true → IsClear s.domain map place.cursor
-    → ((x : ℕ) → is_ahead (upwards place.cursor s.sector) x ≡ true → IsMarked s.domain map NonTrimmed x → ⊥)
+pub lead_none : (s : Setting) (m : Machine) (place : Place) (map : List Status) (over : Option ℕ)
+    → StandsAt m Trimming place map over → place.mode ≡ Lead → is_up s (numbered Trimming place.pass) ≡ true
+    → IsClear (left_in s over) map place.cursor
+    → ((x : ℕ) → is_ahead (upwards place.cursor s.sector) x ≡ true → IsMarked (left_in s over) map NonTrimmed x → ⊥)
     → has_request s m ≡ false
-lead_none s m place map stands lead up clear none =
-    no_request s m Trimming place map NonTrimmed (upwards 0 s.sector) stands refl
+lead_none s m place map over stands lead up clear none =
+    no_request s m Trimming place map over NonTrimmed (upwards 0 s.sector) stands refl
     (from_front s m place map stands lead up)
     (λ x ahead marked. ⊎_elim (λ (lt : x < place.cursor). clear x lt marked)
     (λ (ge : place.cursor ≤ x). none x (le-leb place.cursor x ge) marked) (cases_lt x place.cursor))
@@ -185,6 +194,7 @@ if_none (Some x) next holds = holds
 
 -- nothing is left to trim before the cursor of a run that trims upwards, before a run
 pub led_clear : (r : RunState) → r.phase ≡ Trimming → is_up (setting_in r) (numbered r.phase r.pass) ≡ true
-    → r.machine.mode ≡ Lead → IsLed r → IsClear (covers r.domain) r.machine.map r.machine.cursor
+    → r.machine.mode ≡ Lead → IsLed r
+    → IsClear (is_live (setting_in r) r.machine) r.machine.map r.machine.cursor
 led_clear r phase up lead led x below marked =
     led phase up x (subst (λ (mode : TrimMode). x < led_from mode r.machine.cursor) (sym lead) below) marked.within marked.has

@@ -1,5 +1,5 @@
 -- How a run comes to its next request.
-use Rattle.std.specs.Prelude.{◌≡◌, ℕ, Bool, List, ◌∷◌, drop}
+use Rattle.std.specs.Prelude.{◌≡◌, ℕ, Bool, List, ◌∷◌, drop, Option}
 use Rattle.block_list.specs.declared.status.Status.{Status}
 use Rattle.rescue_rules.specs.declared.phase.Phase.{Phase}
 use Rattle.rescue_rules.specs.Passes.{numbered}
@@ -12,12 +12,14 @@ use Rattle.rescue_core.specs.Search.{IsMarked}
 abbrev pub search_by : Search → RulesSearch
 search_by f = record { up = f.up; from = f.from; front = f.front; size = f.size }
 
--- a machine stands at a place of a phase, over a map
-pub record StandsAt (m : Machine) (phase : Phase) (place : Place) (statuses : List Status) : Type 0 where
+-- a machine stands at a place of a phase, over a map, and this is where the input was found to end, if it was
+pub record StandsAt (m : Machine) (phase : Phase) (place : Place) (statuses : List Status) (end : Option ℕ)
+    : Type 0 where
   pub passes : m.passes ≡ numbered phase place.pass ∷ drop 1 m.passes
   pub cursor : m.cursor ≡ place.cursor
   pub mode : m.mode ≡ place.mode
   pub map : m.map ≡ statuses
+  pub over : m.over ≡ end
 
 -- what is cut of the next run of a search, from p up to q: a run of positions of a domain that have a status
 pub record IsCutOf (f : RulesSearch) (sector : ℕ) (domain : ℕ → Bool) (map : List Status) (status : Status)

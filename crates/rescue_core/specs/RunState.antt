@@ -12,7 +12,7 @@ use Rattle.rescue_rules.specs.declared.stop.TrimMode.{TrimMode}
 use Rattle.rescue_rules.specs.declared.stop.TrimMode.TheVariants.{Lead, Tail}
 use Rattle.rescue_rules.specs.Setting.{Setting}
 use Rattle.rescue_rules.specs.Passes.{passes_from, is_up, numbered}
-use Rattle.rescue_rules.specs.Machine.{Machine, pass_of}
+use Rattle.rescue_rules.specs.Machine.{Machine, pass_of, is_live}
 use Rattle.rescue_rules.specs.MachineLaws.{IsInOrder}
 use Rattle.rescue_rules.specs.Moves.{begun}
 use Rattle.rescue_rules.specs.Beginning.{first_pass, nothing_shown, machine_of}
@@ -107,6 +107,7 @@ machine_at s map phase place tally = record {
   whole_at = tally.whole_at;
   due_at = tally.due_at;
   shown = tally.shown;
+  over = tally.over;
 }
 
 -- the run that these parts make
@@ -121,9 +122,9 @@ run_at settings domain names line map phase place tally = record {
   machine = machine_at (setting_with settings domain names line) map phase place tally;
 }
 
--- no position of the domain has this status
+-- no position that is left of the domain has this status
 abbrev pub IsGone : Status → RunState → Type 0
-IsGone status r = (x : ℕ) → covers r.domain x ≡ true → Has r.machine.map status x → ⊥
+IsGone status r = (x : ℕ) → is_live (setting_in r) r.machine x ≡ true → Has r.machine.map status x → ⊥
 
 -- how far trimming upwards has come: to its last read, or at a run's back to what is left of that run
 abbrev pub led_from : TrimMode → (cursor : ℕ) → ℕ
@@ -133,7 +134,8 @@ led_from (Tail low) cursor = low
 -- before that it has left nothing to trim
 abbrev pub IsLed : RunState → Type 0
 IsLed r = r.phase ≡ Trimming → is_up (setting_in r) (numbered r.phase r.pass) ≡ true → (x : ℕ)
-    → x < led_from r.machine.mode r.machine.cursor → covers r.domain x ≡ true → Has r.machine.map NonTrimmed x → ⊥
+    → x < led_from r.machine.mode r.machine.cursor → is_live (setting_in r) r.machine x ≡ true
+    → Has r.machine.map NonTrimmed x → ⊥
 
 -- what holds of a run between its turns, with a buffer for so many bytes
 pub record IsRunning (r : RunState) (room : ℕ) : Type 0 where

@@ -12,8 +12,8 @@ pub data Reached : Type 0 where
   Scraped : Reached
   Over : Reached
 
--- behind copying no position of the domain is non-tried; behind trimming none is non-trimmed either, unless trimming is
--- off
+-- behind copying no position that is left of the domain is non-tried; behind trimming none is non-trimmed either,
+-- unless trimming is off
 pub record IsTrimmed (r : RunState) : Type 0 where
   pub tried : IsGone NonTried r
   pub trimmed : r.settings.no_trim ≡ false → IsGone NonTrimmed r

@@ -1,12 +1,13 @@
 -- What the parts of a turn take, and what they make.
-use Rattle.std.specs.Prelude.{◌≡◌, ⊤, ℕ, ◌≤◌, List, length, take}
+use Rattle.std.specs.Prelude.{◌≡◌, ⊤, ℕ, ◌+◌, ◌≤◌, Bool, List, length, take, Option, Some, None, if◌then◌else◌}
+use Rattle.faulty_source.specs.Got.{count_of, is_end}
 use Rattle.faulty_source.specs.Journal.{Reading}
 use Rattle.faulty_source.specs.SourceState.{SourceState}
 use Rattle.crash_site.specs.SiteState.{SiteState, Makes}
 use Rattle.rescue_console.specs.ClockState.{ClockState}
 use Rattle.transfer_token.specs.declared.token.Request.{Request}
 use Rattle.transfer_token.specs.declared.fetch.Fetched.{Fetched}
-use Rattle.transfer_token.specs.declared.fetch.Fetched.TheVariants.{Whole, Part, Nothing}
+use Rattle.transfer_token.specs.declared.fetch.Fetched.TheVariants.{Whole, Part, Nothing, Ended, Empty}
 use Rattle.transfer_token.specs.Tokens.{IsCut}
 use Rattle.rescue_rules.specs.declared.phase.Phase.{Phase}
 use Rattle.rescue_rules.specs.declared.stop.TrimMode.{TrimMode}
@@ -18,7 +19,7 @@ use Rattle.rescue_rules.specs.Step.{Event}
 use Rattle.rescue_rules.specs.RunCalls.{write_calls}
 use Rattle.rescue_core.specs.declared.gather.Gathered.{Gathered}
 use Rattle.rescue_core.specs.declared.landing.Kept.{Kept}
-use Rattle.rescue_core.specs.declared.landing.Kept.TheVariants.{Whole as WholeKept, Part as PartKept, Nothing as NothingKept}
+use Rattle.rescue_core.specs.declared.landing.Kept.TheVariants.{Whole as WholeKept, Part as PartKept, Nothing as NothingKept, Ended as EndedKept, Empty as EmptyKept}
 use Rattle.rescue_core.specs.declared.settings.Settings.{Settings}
 use Rattle.rescue_core.specs.declared.state.Place.{Place}
 use Rattle.rescue_core.specs.declared.state.Tally.{Tally}
@@ -39,6 +40,7 @@ tally_of m = record {
   whole_at = m.whole_at;
   due_at = m.due_at;
   shown = m.shown;
+  over = m.over;
 }
 
 -- a run with these settings, in this phase and at this place
@@ -48,11 +50,12 @@ pub record RunsAt (settings : Settings) (phase : Phase) (place : Place) (r : Run
   pub mode : r.machine.mode ≡ place.mode
   pub skip : r.machine.skip ≡ place.skip
 
--- a read of what was requested, which gave so many bytes
-pub record IsReadOf (request : Request) (given : ℕ) (reading : Reading) : Type 0 where
+-- a read of what was requested, which gave so many bytes, and met the input's end or didn't
+pub record IsReadOf (request : Request) (given : ℕ) (ended : Bool) (reading : Reading) : Type 0 where
   pub pos : reading.pos ≡ request.pos
   pub asked : reading.asked ≡ request.len
   pub count : length reading.given ≡ given
+  pub end : reading.ended ≡ ended
 
 -- A read of what was requested between two readings of the clock, and what it was cut into; what it gave stands at the
 -- buffer's front.
@@ -60,7 +63,8 @@ pub record IsTimed (request : Request) (sector : ℕ) (timed : Timed) (buf : Lis
     (clock clock' : ClockState) : Type 0 where
   pub event : Event
   pub is : IsEvent request event source source' clock clock'
-  pub count : length event.reading.given ≡ timed.given
+  pub count : length event.reading.given ≡ count_of timed.got
+  pub ended : event.reading.ended ≡ is_end timed.got
   pub before : event.before ≡ timed.before
   pub after : event.after ≡ timed.after
   pub cut : IsCut sector event.reading timed.fetched
@@ -71,6 +75,12 @@ abbrev pub fetched_of : Kept → Fetched
 fetched_of (WholeKept landed) = Whole landed
 fetched_of (PartKept landed missed) = Part landed missed
 fetched_of (NothingKept missed) = Nothing missed
+fetched_of (EndedKept landed over) = Ended landed over
+fetched_of (EmptyKept over) = Empty over
+
+-- where a read met the input's end, if it did
+abbrev pub end_met : Reading → Option ℕ
+end_met r = if r.ended then Some (r.pos + length r.given) else None
 
 -- a read that was cut into this, whose bytes stand at the buffer's front, and whose first byte has this place
 pub record IsCutAt (fetched : Fetched) (buf : List ℕ) (at : ℕ) (s : Setting) (r : Reading) : Type 0 where

@@ -1,5 +1,5 @@
 -- What a turn does, by its outcome.
-use Rattle.std.specs.Prelude.{◌≡◌, ℕ, ◌+◌, ◌<◌, ◌≤◌, ◌^◌, true, ◌&&◌, IsTrue, [], ◌∷◌, ◌++◌, length, map, slice_range}
+use Rattle.std.specs.Prelude.{◌≡◌, ℕ, ◌+◌, ◌<◌, ◌≤◌, ◌^◌, true, IsTrue, [], ◌∷◌, ◌++◌, length, map, slice_range}
 use Rattle.fault_count.specs.Counts.{Rose}
 use Rattle.faulty_source.specs.Journal.{is_whole, kept}
 use Rattle.faulty_source.specs.SourceState.{SourceState, Reads, Loses}
@@ -25,6 +25,8 @@ pub record IsEvent (request : Request) (e : Event) (source source' : SourceState
   pub pos : e.reading.pos ≡ request.pos
   pub asked : e.reading.asked ≡ request.len
   pub few : length e.reading.given ≤ request.len
+  -- it met the input's end only where it gave less than it was asked for
+  pub ends : e.reading.ended ≡ true → length e.reading.given < request.len
   pub right : IsTrue source.tells
       → e.reading.given ≡ slice_range source.bytes request.pos (request.pos + length e.reading.given)
   pub read : Reads (e.reading ∷ []) source source'
@@ -40,13 +42,15 @@ stepped r e = record r { machine = step (setting_in r) r.machine e }
 abbrev pub move_by : RunState → Event → Move
 move_by r e = record { before = r.machine; event = e; after = step (setting_in r) r.machine e }
 
--- what a turn answers of its event: how much was given and kept, and whether it was whole and slow
+-- what a turn answers of its event: how much was given and kept, whether it was whole and slow, and whether it met the
+-- input's end
 abbrev pub turn_of : RunState → Event → Turn
 turn_of r e = record {
   kept = kept r.settings.sector e.reading;
   given = length e.reading.given;
   whole = is_whole e.reading;
-  slow = is_whole e.reading && is_slow (setting_in r) e;
+  slow = is_slow (setting_in r) e;
+  ended = e.reading.ended;
 }
 
 -- A whole turn: one event of the request, its step, its write, and the save that is due behind it.
@@ -70,6 +74,7 @@ pub data Halted (request : Request) (stop : Stop) (r r' : RunState) (source sour
       → Halted request stop r r' source source' site site' clock clock'
   -- in the write of what was kept, and nothing is marked
   Unwritten : stop ≡ Site ImageWrite → r' ≡ r → (event : Event) → IsEvent request event source source' clock clock'
+      → IsNameIn ImageWrite (write_calls (setting_in r) event.reading)
       → Breaks ImageWrite (write_calls (setting_in r) event.reading) site site'
       → Halted request stop r r' source source' site site' clock clock'
   -- in a call of the save that was due, behind the event's step

@@ -63,7 +63,7 @@ pub(crate) fn gather<S: Source, D: Site, K: Clock>(
     };
     let Timed {
         fetched,
-        given,
+        got,
         before,
         after,
     } = timed;
@@ -71,6 +71,6 @@ pub(crate) fn gather<S: Source, D: Site, K: Clock>(
     let Ok(kept) = land_kept(fetched, buf, site, at) else {
         return Err(Stop::Site(SiteCall::ImageWrite));
     };
-    let turn = turn_behind(settings, request, given, kept.size(), before, after);
+    let turn = turn_behind(settings, request, got, kept.size(), before, after);
     Ok(Gathered { kept, turn, after })
 }

@@ -4,6 +4,7 @@ ghost use Rattle.faulty_source.specs.Journal.{Reading, kept};
 ghost use Rattle.crash_site.specs.SiteState.{Stays, Makes, Breaks};
 ghost use Rattle.crash_site.specs.declared.site.SiteCall.TheVariants.{ImageWrite};
 ghost use Rattle.transfer_token.specs.Tokens.{size_of, IfLoaded, IsCut};
+ghost use Rattle.save_resume.specs.Saving.{IsNameIn};
 ghost use Rattle.rescue_rules.specs.Setting.{Setting};
 ghost use Rattle.rescue_rules.specs.RunCalls.{write_calls};
 ghost use Rattle.rescue_core.specs.TurnParts.{fetched_of, IsCutAt};
@@ -11,13 +12,15 @@ ghost use Rattle.rescue_core.specs.TurnParts.{fetched_of, IsCutAt};
 use crash_site::site::{Site, SiteFault};
 use transfer_token::fetch::Fetched;
 use transfer_token::land::land;
-use transfer_token::token::{Landed, Missed};
+use transfer_token::token::{Landed, Missed, Over};
 
 /// What was fetched, once its kept part stands in the output.
 pub(crate) enum Kept {
     Whole(Landed),
     Part(Landed, Missed),
     Nothing(Missed),
+    Ended(Landed, Over),
+    Empty(Over),
 }
 
 impl Kept {
@@ -26,11 +29,11 @@ impl Kept {
         ensures { (sector : ℕ) (r : Reading) → IsCut sector r (fetched_of self.now) → result ≡ kept sector r }
     {
         match self {
-            Kept::Whole(landed) | Kept::Part(landed, _) => {
+            Kept::Whole(landed) | Kept::Part(landed, _) | Kept::Ended(landed, _) => {
                 let run = landed.range();
                 run.to - run.from
             }
-            Kept::Nothing(_) => 0,
+            Kept::Nothing(_) | Kept::Empty(_) => 0,
         }
     }
 }
@@ -49,6 +52,8 @@ pub(crate) fn land_kept<D: Site>(
     ensures kept { IfOk result (λ kept. fetched_of kept ≡ fetched) }
     ensures written { OnOk result ((s : Setting) (r : Reading) → IsCutAt fetched buf.now at s r
         → Makes (write_calls s r) (D.state site.old) (D.state site.new)) }
+    ensures named { OnErr result ((s : Setting) (r : Reading) → IsCutAt fetched buf.now at s r
+        → IsNameIn ImageWrite (write_calls s r)) }
     ensures failed { OnErr result ((s : Setting) (r : Reading) → IsCutAt fetched buf.now at s r
         → Breaks ImageWrite (write_calls s r) (D.state site.old) (D.state site.new)) }
     ensures site { Stays (D.state site.old) (D.state site.new) }
@@ -70,5 +75,14 @@ pub(crate) fn land_kept<D: Site>(
             }
         },
         Fetched::Nothing(missed) => Ok(Kept::Nothing(missed)),
+        Fetched::Ended(loaded, over) => match land(loaded, buf, site, at) {
+            Ok(landed) => Ok(Kept::Ended(landed, over)),
+            Err(unlanded) => {
+                let _range = unlanded.set_aside();
+                let _end = over.end();
+                Err(SiteFault)
+            }
+        },
+        Fetched::Empty(over) => Ok(Kept::Empty(over)),
     }
 }

@@ -7,7 +7,7 @@ ghost use Rattle.rescue_rules.specs.Machine.{Machine, pass_of};
 ghost use Rattle.rescue_rules.specs.Setting.{Setting};
 ghost use Rattle.rescue_rules.specs.Step.{map_after, rest_status, scraped, copies};
 ghost use Rattle.rescue_core.specs.RunState.{RunState, setting_in};
-ghost use Rattle.rescue_core.specs.TurnParts.{RunsAt, fetched_of, IsBackOf};
+ghost use Rattle.rescue_core.specs.TurnParts.{RunsAt, fetched_of, end_met, IsBackOf};
 
 use crate::landing::Kept;
 use crate::settings::Settings;
@@ -19,7 +19,7 @@ use rescue_rules::stop::TrimMode;
 use transfer_token::book::{book, book_missed};
 use transfer_token::token::{Missed, Request};
 
-/// Marks what was kept of a request, and what was missed.
+/// Marks what was kept of a request, and what was missed; answers where the input ended, if the read met its end.
 pub(crate) fn mark<T: Tiles>(
     tiles: &mut T,
     kept: Kept,
@@ -27,27 +27,38 @@ pub(crate) fn mark<T: Tiles>(
     settings: &Settings,
     phase: Phase,
     place: Place,
-)
+) -> Option<u64>
     requires spans { Spans request (fetched_of kept) }
     requires within { request.pos + request.len ≤ length (T.statuses tiles.old) }
     requires back { IsBackOf place.mode request.pos }
     requires spare { 6 ≤ T.spare tiles.old }
-    ensures { (r : RunState) (reading : Reading) → RunsAt settings.now phase place r
+    ensures map { (r : RunState) (reading : Reading) → RunsAt settings.now phase place r
         → r.machine.map ≡ T.statuses tiles.old → reading.pos ≡ request.pos
         → IsCut settings.now.sector reading (fetched_of kept)
         → T.statuses tiles.new ≡ map_after (setting_in r) r.machine reading }
+    ensures end { (reading : Reading) → IsCut settings.now.sector reading (fetched_of kept) → result ≡ end_met reading }
 {
     match kept {
-        Kept::Whole(landed) => book(tiles, landed),
+        Kept::Whole(landed) => {
+            book(tiles, landed);
+            None
+        }
         Kept::Part(landed, missed) => {
             book(tiles, landed);
             mark_missed(tiles, missed, settings, phase);
             mark_between(tiles, place.mode, request.pos);
+            None
         }
         Kept::Nothing(missed) => {
             mark_missed(tiles, missed, settings, phase);
             mark_between(tiles, place.mode, request.pos);
+            None
         }
+        Kept::Ended(landed, over) => {
+            book(tiles, landed);
+            Some(over.end())
+        }
+        Kept::Empty(over) => Some(over.end()),
     }
 }
 

@@ -3,7 +3,7 @@ ghost use Rattle.std.specs.Prelude.{◌≡◌, ◌+◌, ◌<◌, ◌≤◌, ◌^
 ghost use Rattle.rescue_rules.specs.declared.phase.Phase.TheVariants.{Trimming};
 ghost use Rattle.rescue_rules.specs.Passes.{numbered};
 ghost use Rattle.rescue_rules.specs.Machine.{pass_of, is_wanted};
-ghost use Rattle.rescue_rules.specs.Step.{Event, is_jump, cursor_after, mode_after, skip_after, step};
+ghost use Rattle.rescue_rules.specs.Step.{Event, map_after, is_jump, cursor_after, mode_after, skip_after, step};
 ghost use Rattle.rescue_core.specs.RunState.{RunState, setting_in, IsSound};
 ghost use Rattle.rescue_core.specs.Turning.{turn_of};
 ghost use Rattle.rescue_core.specs.TurnParts.{RunsAt, IsReadOf, place_of};
@@ -30,21 +30,23 @@ pub(crate) fn place_behind(
     requires sound { IsSound settings.now }
     requires skip { place.skip ≤ settings.now.skip_max }
     requires within { request.pos + request.len ≤ top }
+    requires given { turn.given ≤ request.len }
     requires short { top < 2 ^ 63 }
-    ensures { (r : RunState) (e : Event) → RunsAt settings.now phase place r → IsReadOf request turn.given e.reading
-        → turn ≡ turn_of r e → length r.machine.map ≡ top
+    ensures { (r : RunState) (e : Event) → RunsAt settings.now phase place r
+        → IsReadOf request turn.given turn.ended e.reading → turn ≡ turn_of r e → length r.machine.map ≡ top
         → (phase ≡ Trimming
-        → more ≡ is_wanted (setting_in r) (step (setting_in r) r.machine e) (request.pos + request.len))
+        → more ≡ is_wanted (setting_in r)
+        (record r.machine { map = map_after (setting_in r) r.machine e.reading }) (request.pos + request.len))
         → result ≡ place_of place.pass (step (setting_in r) r.machine e) }
 {
     let jumped = jumps(phase, place.pass, turn);
     Place {
         pass: place.pass,
-        cursor: cursor_behind(settings, phase, place, top, request, jumped),
+        cursor: cursor_behind(settings, phase, place, top, request, turn, jumped),
         mode: if phase == Phase::Trimming {
             mode_behind(
                 place.mode,
-                turn.whole,
+                !turn.failed(),
                 more,
                 request.pos,
                 request.pos + request.len as u64,
@@ -64,20 +66,27 @@ fn cursor_behind(
     place: Place,
     top: u64,
     request: Request,
+    turn: Turn,
     jumped: bool,
 ) -> u64
     requires small { place.skip < 2 ^ 63 }
     requires within { request.pos + request.len ≤ top }
     requires short { top < 2 ^ 63 }
-    ensures { (r : RunState) (e : Event) → RunsAt settings.now phase place r → e.reading.pos ≡ request.pos
-        → e.reading.asked ≡ request.len → jumped ≡ is_jump (setting_in r) r.machine e → length r.machine.map ≡ top
-        → result ≡ cursor_after (setting_in r) r.machine e }
+    requires given { turn.given ≤ request.len }
+    ensures { (r : RunState) (e : Event) → RunsAt settings.now phase place r
+        → IsReadOf request turn.given turn.ended e.reading → jumped ≡ is_jump (setting_in r) r.machine e
+        → length r.machine.map ≡ top → result ≡ cursor_after (setting_in r) r.machine e }
 {
     let jump = if jumped { place.skip } else { 0 };
+    let size = if turn.ended {
+        turn.given
+    } else {
+        request.len as u64
+    };
     if phase == Phase::Trimming {
         request.pos
     } else if is_up(settings, place.pass) {
-        top.min(request.pos + request.len as u64 + jump)
+        top.min(request.pos + size + jump)
     } else {
         request.pos.saturating_sub(jump)
     }
@@ -91,10 +100,10 @@ fn skip_behind(settings: &Settings, skip: u64, jumped: bool, turn: Turn) -> u64
 {
     if jumped {
         settings.skip_max.min(2 * skip)
-    } else if turn.whole && !turn.slow {
-        settings.skip
-    } else {
+    } else if turn.failed() || turn.slow {
         skip
+    } else {
+        settings.skip
     }
 }
 
@@ -103,19 +112,19 @@ fn jumps(phase: Phase, pass: u32, turn: Turn) -> bool
     ensures { (r : RunState) (e : Event) → pass_of r.machine ≡ numbered phase pass → turn ≡ turn_of r e
         → result ≡ is_jump (setting_in r) r.machine e }
 {
-    let far = if turn.whole {
-        turn.slow && pass <= 2
-    } else {
+    let far = if turn.failed() {
         pass <= 4
+    } else {
+        turn.slow && pass <= 2
     };
     far && phase == Phase::Copying
 }
 
 /// The mode of trimming behind a read from one position up to another.
-fn mode_behind(mode: TrimMode, whole: bool, more: bool, from: u64, to: u64) -> TrimMode
-    ensures { result ≡ mode_after mode whole more from to }
+fn mode_behind(mode: TrimMode, good: bool, more: bool, from: u64, to: u64) -> TrimMode
+    ensures { result ≡ mode_after mode good more from to }
 {
-    match (mode, whole) {
+    match (mode, good) {
         (TrimMode::Lead, false) if more => TrimMode::Tail(to),
         (TrimMode::Tail(low), true) if low < from => TrimMode::Tail(low),
         _ => TrimMode::Lead,

@@ -1,14 +1,18 @@
 //! What is made of a map before a run.
-ghost use Rattle.std.specs.Prelude.{◌≡◌, ℕ, ◌+◌, ◌*◌, ◌≤◌, Bool, List, OnOk, OnErr, IfOk};
+ghost use Rattle.std.specs.Prelude.{◌≡◌, ℕ, ◌+◌, ◌*◌, ◌≤◌, Bool, List, OnOk, OnErr, IfOk, IfSome, IfNone};
 ghost use Rattle.block_list.specs.declared.status.Status.{Status};
+ghost use Rattle.block_list.specs.Places.{IsFirst, IsRunUp};
 ghost use Rattle.rescue_domain.specs.Parts.{covers};
 ghost use Rattle.rescue_rules.specs.Preparation.{prepared_status, prepared, IsChanged};
+ghost use Rattle.rescue_core.specs.Search.{IsMarked};
 ghost use Rattle.rescue_core.specs.Preparing.{replaced, HasChanges, HasRoom, TakesRoom};
 
 use crate::search::find_up;
+use block_list::block::Run;
 use block_list::status::Status;
 use block_list::tiles::{NoMemory, Tiles};
 use rescue_domain::domain::Domain;
+use rescue_domain::live::Live;
 
 /// Prepares a map for a run over a domain. `again` leaves to copy what was left to trim or to scrape; then `retrim`
 /// leaves to trim what failed. All memory for more blocks is taken before the first change.
@@ -52,6 +56,19 @@ fn prepared_to(again: bool, retrim: bool, status: Status) -> Status
     }
 }
 
+/// The first run, at or after a position, of positions of a domain that have a status.
+fn find_in<T: Tiles>(domain: &Domain, tiles: &T, from: u64, status: Status) -> Option<Run>
+    ensures first { IfSome result (λ run.
+        IsFirst (IsMarked (covers domain.now) (T.statuses tiles.now) status) from run.from) }
+    ensures run { IfSome result (λ run.
+        IsRunUp (IsMarked (covers domain.now) (T.statuses tiles.now) status) run.from run.to) }
+    ensures none { IfNone result ((x : ℕ) → from ≤ x
+        → IsMarked (covers domain.now) (T.statuses tiles.now) status x → ⊥) }
+{
+    let all = Live { domain, over: None };
+    find_up(all, tiles, from, status)
+}
+
 /// The blocks that giving the positions of a domain with one status another may take, beside others.
 fn room_behind<T: Tiles>(
     tiles: &T,
@@ -67,7 +84,7 @@ fn room_behind<T: Tiles>(
     }
     let mut room = others;
     let mut at = 0;
-    while let Some(run) = find_up(domain, tiles, at, from) {
+    while let Some(run) = find_in(domain, tiles, at, from) {
         room = room.checked_add(2).ok_or(NoMemory)?;
         at = run.to;
     }
@@ -85,7 +102,7 @@ fn replace<T: Tiles>(tiles: &mut T, domain: &Domain, from: Status, to: Status)
         return;
     }
     let mut at = 0;
-    while let Some(run) = find_up(domain, tiles, at, from) {
+    while let Some(run) = find_in(domain, tiles, at, from) {
         tiles.set(run.from, run.to - run.from, to);
         at = run.to;
     }

@@ -4,7 +4,7 @@ ghost use Rattle.block_list.specs.declared.block.Run.{Run};
 ghost use Rattle.block_list.specs.declared.status.Status.{Status};
 ghost use Rattle.block_list.specs.declared.status.Status.TheVariants.{NonTrimmed};
 ghost use Rattle.save_resume.specs.MapNames.{MapNames};
-ghost use Rattle.rescue_domain.specs.Parts.{covers};
+ghost use Rattle.rescue_domain.specs.Live.{lives};
 ghost use Rattle.rescue_rules.specs.declared.phase.Phase.{Phase};
 ghost use Rattle.rescue_rules.specs.declared.phase.Phase.TheVariants.{Trimming};
 ghost use Rattle.rescue_rules.specs.declared.stop.TrimMode.TheVariants.{Lead};
@@ -20,7 +20,7 @@ use crate::state::Place;
 use block_list::block::Run;
 use block_list::status::Status;
 use block_list::tiles::Tiles;
-use rescue_domain::domain::Domain;
+use rescue_domain::live::Live;
 use rescue_rules::phase::Phase;
 use rescue_rules::stop::TrimMode;
 use transfer_token::token::Request;
@@ -70,7 +70,7 @@ pub(crate) fn status_of(phase: Phase) -> Status
 fn search_at(settings: &Settings, phase: Phase, place: &Place, end: u64) -> Search
     requires sound { IsSound settings.now }
     ensures is { (domain : List Run) (names : Option MapNames) (line : List ℕ) (m : Machine) (map : List Status)
-        → length map ≡ end → StandsAt m phase place.now map
+        (over : Option ℕ) → length map ≡ end → StandsAt m phase place.now map over
         → search_by result ≡ search_of (setting_with settings.now domain names line) m }
     ensures least { settings.now.sector ≤ result.size }
     ensures most { result.size ≤ settings.now.cluster }
@@ -107,17 +107,17 @@ fn search_at(settings: &Settings, phase: Phase, place: &Place, end: u64) -> Sear
     }
 }
 
-/// The next run of positions of the domain that have a status, by a search.
-fn next_run<T: Tiles>(domain: &Domain, tiles: &T, search: Search, status: Status) -> Option<Run>
-    ensures run { IfSome result (λ run. IsNextRun search.up (IsMarked (covers domain.now) (T.statuses tiles.now) status)
+/// The next run of positions left of a domain that have a status, by a search.
+fn next_run<T: Tiles>(live: Live<'_>, tiles: &T, search: Search, status: Status) -> Option<Run>
+    ensures run { IfSome result (λ run. IsNextRun search.up (IsMarked (lives live.entry) (T.statuses tiles.now) status)
         search.from run.from run.to) }
     ensures none { IfNone result ((x : ℕ) → is_ahead (search_by search) x ≡ true
-        → IsMarked (covers domain.now) (T.statuses tiles.now) status x → ⊥) }
+        → IsMarked (lives live.entry) (T.statuses tiles.now) status x → ⊥) }
 {
     if search.up {
-        find_up(domain, tiles, search.from, status)
+        find_up(live, tiles, search.from, status)
     } else {
-        find_down(domain, tiles, search.from, status)
+        find_down(live, tiles, search.from, status)
     }
 }
 
@@ -151,7 +151,7 @@ fn cut(search: Search, sector: u64, run: Run) -> Request
 /// What is cut of the next run that a search finds.
 fn request_by<T: Tiles>(
     settings: &Settings,
-    domain: &Domain,
+    live: Live<'_>,
     tiles: &T,
     search: Search,
     status: Status,
@@ -160,41 +160,41 @@ fn request_by<T: Tiles>(
     requires least { settings.now.sector ≤ search.size }
     requires most { search.size ≤ settings.now.cluster }
     requires short { length (T.statuses tiles.now) < 2 ^ 63 }
-    ensures some { IfSome result (λ q. IsCutOf (search_by search) settings.now.sector (covers domain.now)
+    ensures some { IfSome result (λ q. IsCutOf (search_by search) settings.now.sector (lives live.entry)
         (T.statuses tiles.now) status q.pos (q.pos + q.len)) }
     ensures none { IfNone result ((x : ℕ) → is_ahead (search_by search) x ≡ true
-        → IsMarked (covers domain.now) (T.statuses tiles.now) status x → ⊥) }
+        → IsMarked (lives live.entry) (T.statuses tiles.now) status x → ⊥) }
     ensures len { IfSome result (λ q. 0 < q.len) }
     ensures size { IfSome result (λ q. q.len ≤ settings.now.cluster) }
     ensures within { IfSome result (λ q. q.pos + q.len ≤ length (T.statuses tiles.now)) }
     ensures short { IfSome result (λ q. q.pos + q.len < 2 ^ 63) }
 {
-    let run = next_run(domain, tiles, search, status)?;
+    let run = next_run(live, tiles, search, status)?;
     Some(cut(search, settings.sector, run))
 }
 
 /// The next request of a phase at a place, of a machine that stands there.
 pub(crate) fn next_request<T: Tiles>(
     settings: &Settings,
-    domain: &Domain,
+    live: Live<'_>,
     tiles: &T,
     phase: Phase,
     place: &Place,
 ) -> Option<Request>
     requires sound { IsSound settings.now }
     ensures some { IfSome result (λ q. (names : Option MapNames) (line : List ℕ) (m : Machine)
-        → StandsAt m phase place.now (T.statuses tiles.now)
-        → IsRequest (setting_with settings.now domain.now names line) m q.pos (q.pos + q.len)) }
+        → StandsAt m phase place.now (T.statuses tiles.now) live.entry.over
+        → IsRequest (setting_with settings.now live.entry.domain.now names line) m q.pos (q.pos + q.len)) }
     ensures none { IfNone result ((names : Option MapNames) (line : List ℕ) (m : Machine)
-        → StandsAt m phase place.now (T.statuses tiles.now)
-        → has_request (setting_with settings.now domain.now names line) m ≡ false) }
+        → StandsAt m phase place.now (T.statuses tiles.now) live.entry.over
+        → has_request (setting_with settings.now live.entry.domain.now names line) m ≡ false) }
     ensures len { IfSome result (λ q. 0 < q.len) }
     ensures most { IfSome result (λ q. q.len ≤ settings.now.cluster) }
     ensures within { IfSome result (λ q. q.pos + q.len ≤ length (T.statuses tiles.now)) }
     ensures short { IfSome result (λ q. q.pos + q.len < 2 ^ 63) }
 {
     let search = search_at(settings, phase, place, tiles.end());
-    request_by(settings, domain, tiles, search, status_of(phase))
+    request_by(settings, live, tiles, search, status_of(phase))
 }
 
 /// Whether a phase at a place trims upwards, and stands before a run.
@@ -213,23 +213,23 @@ pub(crate) fn leads_up(settings: &Settings, phase: Phase, place: &Place) -> bool
 /// The next request of trimming upwards, before a run, where nothing is left to trim before the cursor.
 pub(crate) fn next_lead<T: Tiles>(
     settings: &Settings,
-    domain: &Domain,
+    live: Live<'_>,
     tiles: &T,
     place: &Place,
 ) -> Option<Request>
     requires sound { IsSound settings.now }
     requires mode { place.now.mode ≡ Lead }
     requires up { (names : Option MapNames) (line : List ℕ)
-        → is_up (setting_with settings.now domain.now names line) (numbered Trimming place.now.pass) ≡ true }
+        → is_up (setting_with settings.now live.domain.now names line) (numbered Trimming place.now.pass) ≡ true }
     requires clear { (x : ℕ) → x < place.now.cursor
-        → IsMarked (covers domain.now) (T.statuses tiles.now) NonTrimmed x → ⊥ }
+        → IsMarked (lives live) (T.statuses tiles.now) NonTrimmed x → ⊥ }
     requires short { length (T.statuses tiles.now) < 2 ^ 63 }
     ensures some { IfSome result (λ q. (names : Option MapNames) (line : List ℕ) (m : Machine)
-        → StandsAt m Trimming place.now (T.statuses tiles.now)
-        → IsRequest (setting_with settings.now domain.now names line) m q.pos (q.pos + q.len)) }
+        → StandsAt m Trimming place.now (T.statuses tiles.now) live.entry.over
+        → IsRequest (setting_with settings.now live.entry.domain.now names line) m q.pos (q.pos + q.len)) }
     ensures none { IfNone result ((names : Option MapNames) (line : List ℕ) (m : Machine)
-        → StandsAt m Trimming place.now (T.statuses tiles.now)
-        → has_request (setting_with settings.now domain.now names line) m ≡ false) }
+        → StandsAt m Trimming place.now (T.statuses tiles.now) live.entry.over
+        → has_request (setting_with settings.now live.entry.domain.now names line) m ≡ false) }
     ensures len { IfSome result (λ q. 0 < q.len) }
     ensures most { IfSome result (λ q. q.len ≤ settings.now.cluster) }
     ensures within { IfSome result (λ q. q.pos + q.len ≤ length (T.statuses tiles.now)) }
@@ -241,5 +241,5 @@ pub(crate) fn next_lead<T: Tiles>(
         front: true,
         size: settings.sector,
     };
-    request_by(settings, domain, tiles, search, Status::NonTrimmed)
+    request_by(settings, live, tiles, search, Status::NonTrimmed)
 }

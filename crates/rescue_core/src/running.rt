@@ -29,6 +29,7 @@ use mapfile_text::state::MapState;
 use rescue_console::clock::Clock;
 use rescue_console::console::Console;
 use rescue_domain::domain::Domain;
+use rescue_domain::live::Live;
 use rescue_rules::phase::Phase;
 use rescue_rules::stop::{RunEnd, Stop};
 use save_resume::draft::SaveFault;
@@ -145,16 +146,14 @@ impl<T: Tiles> Running<T> {
         ensures within { IfSome result (λ q. q.pos + q.len ≤ length self.now.machine.map) }
         ensures short { IfSome result (λ q. q.pos + q.len < 2 ^ 63) }
     {
+        let live = Live {
+            domain: &self.domain,
+            over: self.tally.over,
+        };
         if leads_up(&self.settings, self.phase, &self.place) {
-            next_lead(&self.settings, &self.domain, &self.tiles, &self.place)
+            next_lead(&self.settings, live, &self.tiles, &self.place)
         } else {
-            next_request(
-                &self.settings,
-                &self.domain,
-                &self.tiles,
-                self.phase,
-                &self.place,
-            )
+            next_request(&self.settings, live, &self.tiles, self.phase, &self.place)
         }
     }
 
@@ -218,7 +217,7 @@ impl<T: Tiles> Running<T> {
             site,
             clock,
         )?;
-        mark(
+        let met = mark(
             &mut self.tiles,
             kept,
             request,
@@ -227,7 +226,11 @@ impl<T: Tiles> Running<T> {
             self.place,
         );
         let end = request.pos + request.len as u64;
-        let more = trims_on(&self.domain, &self.tiles, self.phase, end);
+        let live = Live {
+            domain: &self.domain,
+            over: self.tally.over,
+        };
+        let more = trims_on(live, &self.tiles, self.phase, end);
         self.place = place_behind(
             &self.settings,
             self.phase,
@@ -240,9 +243,10 @@ impl<T: Tiles> Running<T> {
         let due = is_due(self.tally, after);
         self.tally = tally_behind(
             self.tally,
-            turn.whole,
+            turn,
             after,
             shown_at(self.phase, self.place),
+            met,
         );
         if due {
             let saved = save_now(

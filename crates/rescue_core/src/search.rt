@@ -1,25 +1,25 @@
-//! Where the next positions of the domain lie that have a status, in both directions.
+//! Where the next positions lie that are left of a domain and have a status, in both directions.
 ghost use Rattle.std.specs.Prelude.{◌≡◌, ℕ, ◌<◌, ◌≤◌, IfSome, IfNone};
 ghost use Rattle.block_list.specs.Places.{IsFirst, IsLast, IsRunUp, IsRunDown};
-ghost use Rattle.rescue_domain.specs.Parts.{covers};
+ghost use Rattle.rescue_domain.specs.Live.{lives};
 ghost use Rattle.rescue_core.specs.Search.{IsMarked};
 
 use block_list::block::Run;
 use block_list::status::Status;
 use block_list::tiles::Tiles;
-use rescue_domain::domain::Domain;
+use rescue_domain::live::Live;
 
-/// The first run, at or after a position, of positions of the domain that have a status.
-pub fn find_up<T: Tiles>(domain: &Domain, tiles: &T, from: u64, status: Status) -> Option<Run>
+/// The first run, at or after a position, of positions left of a domain that have a status.
+pub fn find_up<T: Tiles>(live: Live<'_>, tiles: &T, from: u64, status: Status) -> Option<Run>
     ensures first { IfSome result (λ run.
-        IsFirst (IsMarked (covers domain.now) (T.statuses tiles.now) status) from run.from) }
+        IsFirst (IsMarked (lives live.entry) (T.statuses tiles.now) status) from run.from) }
     ensures run { IfSome result (λ run.
-        IsRunUp (IsMarked (covers domain.now) (T.statuses tiles.now) status) run.from run.to) }
+        IsRunUp (IsMarked (lives live.entry) (T.statuses tiles.now) status) run.from run.to) }
     ensures none { IfNone result ((x : ℕ) → from ≤ x
-        → IsMarked (covers domain.now) (T.statuses tiles.now) status x → ⊥) }
+        → IsMarked (lives live.entry) (T.statuses tiles.now) status x → ⊥) }
 {
     let mut at = from;
-    while let Some(part) = domain.next_in(at) {
+    while let Some(part) = live.next_in(at) {
         let found = tiles.find_forward(part.from, status)?;
         if found.from < part.to {
             return Some(Run {
@@ -32,17 +32,17 @@ pub fn find_up<T: Tiles>(domain: &Domain, tiles: &T, from: u64, status: Status) 
     None
 }
 
-/// The last run that ends at or before a position, of positions of the domain that have a status.
-pub fn find_down<T: Tiles>(domain: &Domain, tiles: &T, before: u64, status: Status) -> Option<Run>
+/// The last run that ends at or before a position, of positions left of a domain that have a status.
+pub fn find_down<T: Tiles>(live: Live<'_>, tiles: &T, before: u64, status: Status) -> Option<Run>
     ensures last { IfSome result (λ run.
-        IsLast (IsMarked (covers domain.now) (T.statuses tiles.now) status) before run.to) }
+        IsLast (IsMarked (lives live.entry) (T.statuses tiles.now) status) before run.to) }
     ensures run { IfSome result (λ run.
-        IsRunDown (IsMarked (covers domain.now) (T.statuses tiles.now) status) run.from run.to) }
+        IsRunDown (IsMarked (lives live.entry) (T.statuses tiles.now) status) run.from run.to) }
     ensures none { IfNone result ((x : ℕ) → x < before
-        → IsMarked (covers domain.now) (T.statuses tiles.now) status x → ⊥) }
+        → IsMarked (lives live.entry) (T.statuses tiles.now) status x → ⊥) }
 {
     let mut at = before;
-    while let Some(part) = domain.last_in(at) {
+    while let Some(part) = live.last_in(at) {
         let found = tiles.find_backward(part.to, status)?;
         if part.from < found.to {
             return Some(Run {

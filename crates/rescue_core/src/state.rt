@@ -75,17 +75,19 @@ impl Place {
 pub(crate) struct Tally {
     /// How many reads failed.
     pub failed: u64,
-    /// The start, the last event, the last whole read and the last save that was due.
+    /// The start, the last event, the last read that didn't fail and the last save that was due.
     pub began: u64,
     pub now: u64,
     pub whole_at: u64,
     pub due_at: u64,
     /// What a saved mapfile shows.
     pub shown: MapState,
+    /// Where the input was found to end, if it was.
+    pub over: Option<u64>,
 }
 
 impl Tally {
-    ghost use Rattle.std.specs.Prelude.{◌≡◌};
+    ghost use Rattle.std.specs.Prelude.{◌≡◌, None};
     ghost use Rattle.rescue_core.specs.RunState.{first_shown};
 
     /// That of a run which begins at this moment, and may go on from a state that a mapfile showed.
@@ -97,6 +99,7 @@ impl Tally {
           whole_at = moment;
           due_at = moment;
           shown = first_shown loaded;
+          over = None;
         } }
     {
         let nothing = MapState {
@@ -111,6 +114,7 @@ impl Tally {
             whole_at: moment,
             due_at: moment,
             shown: loaded.unwrap_or(nothing),
+            over: None,
         }
     }
 }

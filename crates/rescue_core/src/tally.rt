@@ -1,16 +1,18 @@
 //! What a run has come to behind a read.
-ghost use Rattle.std.specs.Prelude.{◌≡◌, ◌+◌, ◌*◌, ◌<◌, ◌≤◌, ◌^◌, length};
-ghost use Rattle.faulty_source.specs.Journal.{is_whole, kept as kept_by};
+ghost use Rattle.std.specs.Prelude.{◌≡◌, ℕ, Some, None, ◌+◌, ◌*◌, ◌<◌, ◌≤◌, ◌^◌, length};
+ghost use Rattle.faulty_source.specs.Got.{count_of, is_end};
+ghost use Rattle.faulty_source.specs.Journal.{kept as kept_by};
 ghost use Rattle.rescue_rules.specs.Passes.{numbered, current_of};
 ghost use Rattle.rescue_rules.specs.Machine.{Machine, pass_of};
-ghost use Rattle.rescue_rules.specs.Step.{Event, is_slow, is_timely, step};
+ghost use Rattle.rescue_rules.specs.Step.{Event, is_timely, earlier, step};
 ghost use Rattle.rescue_core.specs.RunState.{RunState, setting_in};
 ghost use Rattle.rescue_core.specs.Turning.{turn_of};
-ghost use Rattle.rescue_core.specs.TurnParts.{IsReadOf, tally_of};
+ghost use Rattle.rescue_core.specs.TurnParts.{IsReadOf, end_met, tally_of};
 
 use crate::settings::Settings;
 use crate::state::{Place, Tally};
 use crate::turn::Turn;
+use faulty_source::source::Got;
 use mapfile_text::state::{Current, MapState};
 use rescue_rules::phase::Phase;
 use transfer_token::token::Request;
@@ -18,21 +20,22 @@ use transfer_token::token::Request;
 /// So many milliseconds lie between two due saves.
 const SAVE_INTERVAL: u64 = 30000;
 
-/// What a turn answers of a read that gave so many bytes between two times, of which so many were kept.
+/// What a turn answers of what a read gave between two times, of which so many bytes were kept.
 pub(crate) fn turn_behind(
     settings: &Settings,
     request: Request,
-    given: usize,
+    got: Got,
     kept: u64,
     before: u64,
     after: u64,
 ) -> Turn
-    requires { given < 2 ^ 32 }
-    ensures { (r : RunState) (e : Event) → r.settings ≡ settings.now → IsReadOf request given e.reading
+    requires { count_of got < 2 ^ 32 }
+    ensures { (r : RunState) (e : Event) → r.settings ≡ settings.now
+        → IsReadOf request (count_of got) (is_end got) e.reading
         → kept ≡ kept_by r.settings.sector e.reading → e.before ≡ before → e.after ≡ after → result ≡ turn_of r e }
 {
-    let whole = given == request.len;
-    let given = given as u64;
+    let whole = got.count() == request.len;
+    let given = got.count() as u64;
     let slow = settings.min_rate > 0
         && given * 1000
             < settings
@@ -43,6 +46,7 @@ pub(crate) fn turn_behind(
         given,
         whole,
         slow: whole && slow,
+        ended: got.is_end(),
     }
 }
 
@@ -53,26 +57,46 @@ pub(crate) fn is_due(tally: Tally, after: u64) -> bool
     after.saturating_sub(tally.due_at) >= SAVE_INTERVAL
 }
 
-/// What a run has come to behind a read at this time.
-pub(crate) fn tally_behind(tally: Tally, whole: bool, after: u64, shown: MapState) -> Tally
-    ensures { (r : RunState) (e : Event) → tally ≡ tally_of r.machine → whole ≡ is_whole e.reading → e.after ≡ after
-        → shown ≡ (step (setting_in r) r.machine e).shown → result ≡ tally_of (step (setting_in r) r.machine e) }
+/// What a run has come to behind a read at this time, which met the input's end there if it did.
+pub(crate) fn tally_behind(
+    tally: Tally,
+    turn: Turn,
+    after: u64,
+    shown: MapState,
+    end: Option<u64>,
+) -> Tally
+    ensures { (r : RunState) (e : Event) → tally ≡ tally_of r.machine → turn ≡ turn_of r e → e.after ≡ after
+        → shown ≡ (step (setting_in r) r.machine e).shown → end ≡ end_met e.reading
+        → result ≡ tally_of (step (setting_in r) r.machine e) }
 {
     Tally {
-        failed: if whole {
-            tally.failed
-        } else {
+        failed: if turn.failed() {
             tally.failed.saturating_add(1)
+        } else {
+            tally.failed
         },
         began: tally.began,
         now: after,
-        whole_at: if whole { after } else { tally.whole_at },
+        whole_at: if turn.failed() { tally.whole_at } else { after },
         due_at: if is_due(tally, after) {
             after
         } else {
             tally.due_at
         },
         shown,
+        over: earlier(tally.over, end),
+    }
+}
+
+/// The earlier of two ends, if there are any.
+fn earlier(over: Option<u64>, end: Option<u64>) -> Option<u64>
+    ensures met { (at : ℕ) → end ≡ Some at → result ≡ Some (earlier over at) }
+    ensures none { end ≡ None → result ≡ over }
+{
+    match (over, end) {
+        (Some(over), Some(end)) => Some(over.min(end)),
+        (None, end) => end,
+        (over, None) => over,
     }
 }
 

@@ -13,8 +13,8 @@ use transfer_token::token::Request;
 /// What came of a request.
 pub(crate) struct Timed {
     pub fetched: Fetched,
-    /// How many bytes the read gave.
-    pub given: usize,
+    /// What the read gave.
+    pub got: Got,
     /// The times before it and behind it, in milliseconds since 1970.
     pub before: u64,
     pub after: u64,
@@ -44,11 +44,11 @@ pub(crate) fn read_timed<S: Source, K: Clock>(
     ensures clock { Keeps (K.state clock.old) (K.state clock.new) }
 {
     let before = clock.now_ms();
-    let (Got(given), fetched) = fetch(source, buf, request, sector)?;
+    let (got, fetched) = fetch(source, buf, request, sector)?;
     let after = clock.now_ms();
     Ok(Timed {
         fetched,
-        given,
+        got,
         before,
         after,
     })

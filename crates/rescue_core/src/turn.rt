@@ -1,3 +1,5 @@
+ghost use Rattle.std.specs.Prelude.{◌≡◌, not, ◌||◌};
+
 /// What a turn did.
 #[derive(Clone, Copy, Debug, PartialEq, Eq)]
 pub struct Turn {
@@ -8,4 +10,15 @@ pub struct Turn {
     pub whole: bool,
     /// Whether it was whole, and slow.
     pub slow: bool,
+    /// Whether the input ended behind what was given, which is then no failure.
+    pub ended: bool,
+}
+
+impl Turn {
+    /// Whether the read failed: it gave less than was asked for, and not since the input ended.
+    pub(crate) fn failed(&self) -> bool
+        ensures { result ≡ not (self.now.whole || self.now.ended) }
+    {
+        !self.whole && !self.ended
+    }
 }

@@ -1,12 +1,15 @@
 -- How many positions come before the first that isn't finished.
-use Rattle.std.proofs.Common.{◌≡◌, ℕ, zero, suc, ◌+◌, ◌-◌, ◌<◌, ◌≤◌, min, Bool, true, false, IsTrue, cond, List, [], ◌∷◌, ◌++◌, length, map, take, drop, Option, Some, None, Ok, refl, ap, sym, subst, ◌∙◌, arith, ⊎_elim}
+use Rattle.std.proofs.Common.{◌≡◌, ℕ, zero, suc, ◌+◌, ◌-◌, ◌<◌, ◌≤◌, nat_lt, min, Bool, true, false, IsTrue, cond, List, [], ◌∷◌, ◌++◌, length, map, take, drop, Option, Some, None, Ok, refl, ap, sym, subst, ◌∙◌, arith, ⊎_elim}
 use Rattle.std.specs.List.{slice_get}
-use Rattle.std.proofs.lemmas.Bool.{cases_lt, false_from_ne_true}
+use Rattle.std.proofs.lemmas.Bool.{cases_lt, cond-true, cond-false, lt-ltb, le-ltb, false_from_ne_true}
 use Rattle.block_list.specs.declared.status.Status.{Status}
 use Rattle.std.proofs.lemmas.List.{length-take-le, take-take, map-append, append_cancel_left}
 use Rattle.block_list.specs.declared.status.Status.TheVariants.{NonTried, NonTrimmed, NonScraped, BadSector, Finished}
 use Rattle.block_list.specs.Map.{Has}
 use Rattle.block_list.specs.Places.{IsRunUp}
+use Rattle.faulty_source.specs.declared.source.Got.{Got}
+use Rattle.faulty_source.specs.declared.source.Got.TheVariants.{Read}
+use Rattle.faulty_source.specs.Got.{count_of, is_end}
 use Rattle.faulty_source.specs.Journal.{Reading, Gains}
 use Rattle.faulty_source.specs.SourceState.{SourceState, Below, Keeps, Stays, Reads, AnswersRead}
 use Rattle.rescue_domain.specs.Finished.{is_finished, is_finished_at}
@@ -77,9 +80,9 @@ keeps_seen : (reference : ℕ) (statuses : List Status) (old new : SourceState) 
     → Keeps (state_seen reference statuses old) (state_seen reference statuses new)
 keeps_seen reference statuses old new keeps gains = record {
   tells = keeps.tells;
-  may_lose = keeps.may_lose;
   planned = refl;
   bytes = keeps.bytes;
+  end = keeps.end;
   opens = keeps.opens;
   faults = keeps.faults;
   losses = keeps.losses;
@@ -87,43 +90,86 @@ keeps_seen reference statuses old new keeps gains = record {
   journals_below = λ tells. (gains tells, keeps.journals_below tells);
 }
 
--- a read of the source below, as it is seen
-module _ (reference : ℕ) (statuses : List Status) (pos asked given : ℕ) (buf : List ℕ) (l : given ≤ length buf) where
-  seen_read : seen statuses (record { pos = pos; asked = asked; given = take given buf })
-      ≡ record { pos = pos; asked = asked; given = take (finished_front statuses pos given) buf }
-  seen_read =
-      let n : length (take given buf) ≡ given = length-take-le given buf l in
-      let few = (front_is statuses pos given).few in
-      rw (n, take-take (finished_front statuses pos given) given buf few) refl
+-- a read that gave more than is finished is seen as one that failed behind that,
+seen_cut : (statuses : List Status) (r : Reading) (n : ℕ) → length r.given ≡ n → finished_front statuses r.pos n < n
+    → seen statuses r ≡ record r { given = take (finished_front statuses r.pos n) r.given; ended = false }
+seen_cut statuses r n count fewer =
+    let front : ℕ = finished_front statuses r.pos (length r.given) in
+    cond-true (nat_lt front (length r.given)) (record r { given = take front r.given; ended = false }) r
+    (lt-ltb front (length r.given) (subst (λ (k : ℕ). finished_front statuses r.pos k < k) (sym count) fewer))
+    ∙ ap (λ (k : ℕ). record r { given = take (finished_front statuses r.pos k) r.given; ended = false }) count
 
-  pub read_seen : {E : Type 0} (old new : SourceState)
-      → AnswersRead {E = E} pos asked buf (Ok (record { 0 = given })) old new
-      → AnswersRead {E = E} pos asked buf (Ok (record { 0 = finished_front statuses pos given }))
-      (state_seen reference statuses old) (state_seen reference statuses new)
-  read_seen old new a =
-      let few = (front_is statuses pos given).few in
-      let k : ℕ = finished_front statuses pos given in
-      record {
-        stays = record {
-          keeps = keeps_seen reference statuses old new a.stays.keeps
-              (λ tells. record { reads = record { pos = pos; asked = asked; given = take given buf } ∷ []; told = a.told tells });
-          input = a.stays.input;
-          name = a.stays.name;
-          opens = a.stays.opens;
-          faults = a.stays.faults;
-        };
-        right = λ t.
-            let e = ap (take k) (a.right t) in
-            let z : pos + given - pos ≡ given = omega arith in
-            let y : pos + k - pos ≡ k = omega arith in
-            sym (take-take k given buf few) ∙ e ∙ rw (z, y) (take-take k given (drop pos old.bytes) few);
-        told = λ t.
-            let e = ap (map (seen statuses)) (a.told t) in
-            e ∙ map-append (seen statuses) old.journal _ ∙ ap (λ r. map (seen statuses) old.journal ++ r ∷ []) seen_read;
-        kept = a.kept;
-        lost = a.lost;
-        sure = a.sure;
-      }
+-- and one that gave no more than that as it was
+seen_all : (statuses : List Status) (r : Reading) (n : ℕ) → length r.given ≡ n → n ≤ finished_front statuses r.pos n
+    → seen statuses r ≡ r
+seen_all statuses r n count all =
+    let front : ℕ = finished_front statuses r.pos (length r.given) in
+    cond-false (nat_lt front (length r.given)) (record r { given = take front r.given; ended = false }) r
+    (le-ltb front (length r.given) (subst (λ (k : ℕ). k ≤ finished_front statuses r.pos k) (sym count) all))
+
+-- a read of the source below, as it is seen
+module _ (reference : ℕ) (statuses : List Status) (pos asked : ℕ) (got : Got) (buf : List ℕ) (l : count_of got ≤ length buf) where
+  abbrev reading : Reading
+  reading = record { pos = pos; asked = asked; given = take (count_of got) buf; ended = is_end got }
+
+  abbrev front : ℕ
+  front = finished_front statuses pos (count_of got)
+
+  stays_seen : {E : Type 0} (old new : SourceState) → AnswersRead {E = E} pos asked buf (Ok got) old new
+      → Stays (state_seen reference statuses old) (state_seen reference statuses new)
+  stays_seen old new a = record {
+    keeps = keeps_seen reference statuses old new a.stays.keeps
+        (λ tells. record { reads = reading ∷ []; told = a.told tells });
+    input = a.stays.input;
+    name = a.stays.name;
+    opens = a.stays.opens;
+    faults = a.stays.faults;
+  }
+
+  told_seen : {E : Type 0} (old new : SourceState) (r : Reading) → AnswersRead {E = E} pos asked buf (Ok got) old new
+      → seen statuses reading ≡ r → IsTrue old.tells
+      → map (seen statuses) new.journal ≡ map (seen statuses) old.journal ++ r ∷ []
+  told_seen old new r a is tells =
+      ap (map (seen statuses)) (a.told tells) ∙ map-append (seen statuses) old.journal (reading ∷ [])
+      ∙ ap (λ (read : Reading). map (seen statuses) old.journal ++ read ∷ []) is
+
+  -- it failed at the first position that isn't finished, if it gave a byte of one
+  pub read_cut : {E : Type 0} (old new : SourceState) → AnswersRead {E = E} pos asked buf (Ok got) old new
+      → front < count_of got
+      → AnswersRead {E = E} pos asked buf (Ok (Read front)) (state_seen reference statuses old) (state_seen reference statuses new)
+  read_cut old new a fewer = record {
+    stays = stays_seen old new a;
+    right = λ t.
+        let e = ap (take front) (a.right t) in
+        let z : pos + count_of got - pos ≡ count_of got = omega arith in
+        let y : pos + front - pos ≡ front = omega arith in
+        let few = (front_is statuses pos (count_of got)).few in
+        sym (take-take front (count_of got) buf few) ∙ e
+        ∙ rw (z, y) (take-take front (count_of got) (drop pos old.bytes) few);
+    told = told_seen old new _ a
+        (seen_cut statuses reading (count_of got) (length-take-le (count_of got) buf l) fewer
+        ∙ ap (λ (given : List ℕ). record { pos = pos; asked = asked; given = given; ended = false })
+        (take-take front (count_of got) buf (front_is statuses pos (count_of got)).few));
+    ends = λ is. absurd (cc);
+    over = λ is. absurd (cc);
+    kept = a.kept;
+    lost = a.lost;
+  }
+
+  -- else it is as it was
+  pub read_all : {E : Type 0} (old new : SourceState) → AnswersRead {E = E} pos asked buf (Ok got) old new
+      → count_of got ≤ front
+      → AnswersRead {E = E} pos asked buf (Ok got) (state_seen reference statuses old) (state_seen reference statuses new)
+  read_all old new a all = record {
+    stays = stays_seen old new a;
+    right = a.right;
+    told = told_seen old new reading a
+        (seen_all statuses reading (count_of got) (length-take-le (count_of got) buf l) all);
+    ends = a.ends;
+    over = a.over;
+    kept = a.kept;
+    lost = a.lost;
+  }
 
 -- What a call did to a source in test mode that was made of one in this state, and leaves it in that one:
 module _ (reference reference' : ℕ) (statuses statuses' : List Status) (old new test : SourceState)
@@ -156,9 +202,9 @@ module _ (reference reference' : ℕ) (statuses statuses' : List Status) (old ne
   pub keeps_below : Keeps old new
   keeps_below = record {
     tells = keeps.tells;
-    may_lose = keeps.may_lose;
     planned = ap (λ (b : Below). b.is_planned) same_below;
     bytes = keeps.bytes;
+    end = keeps.end;
     opens = keeps.opens;
     faults = keeps.faults;
     losses = keeps.losses;

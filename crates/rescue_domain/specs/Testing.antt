@@ -1,5 +1,5 @@
 -- What a source gives of its reads in test mode: what a test map says is finished.
-use Rattle.std.specs.Prelude.{◌≡◌, ℕ, zero, suc, ◌+◌, ◌<◌, ◌≤◌, true, false, List, ◌∷◌, length, map, take, if◌then◌else◌}
+use Rattle.std.specs.Prelude.{◌≡◌, ℕ, zero, suc, ◌+◌, ◌<◌, ◌≤◌, true, false, nat_lt, List, ◌∷◌, length, map, take, if◌then◌else◌}
 use Rattle.block_list.specs.declared.status.Status.{Status}
 use Rattle.faulty_source.specs.Journal.{Reading, Gains}
 use Rattle.faulty_source.specs.SourceState.{SourceState}
@@ -16,9 +16,13 @@ pub record IsFront (statuses : List Status) (pos n front : ℕ) : Type 0 where
   pub finished : (x : ℕ) → pos ≤ x → x < pos + front → is_finished_at statuses x ≡ true
   pub stops : front < n → is_finished_at statuses (pos + front) ≡ false
 
--- a read as it is seen in test mode: what it gave in front of the first position that isn't finished
+-- a read as it is seen in test mode: where it gave a byte of a position that isn't finished, it failed at the first of
+-- these; else it is as it was
 abbrev pub seen : (statuses : List Status) → Reading → Reading
-seen statuses r = record r { given = take (finished_front statuses r.pos (length r.given)) r.given }
+seen statuses r =
+    if nat_lt (finished_front statuses r.pos (length r.given)) (length r.given)
+    then record r { given = take (finished_front statuses r.pos (length r.given)) r.given; ended = false }
+    else r
 
 -- a journal gained reads, which are seen as these
 pub record GainsSeen (statuses : List Status) (reads old new : List Reading) : Type 0 where

@@ -3,5 +3,6 @@
 
 pub mod domain;
 pub mod laws;
+pub mod live;
 pub mod places;
 pub mod test_source;

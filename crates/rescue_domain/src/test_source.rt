@@ -6,9 +6,10 @@ use block_list::status::Status;
 use block_list::tiles::Tiles;
 use faulty_source::source::{Got, Source, SourceFault, SourceLost};
 
-/// A source for trying how a rescue goes. It asks the source below it for all of each read, and gives what came of it
-/// in front of the first position that isn't finished in a map of positions. A position at the map's end or behind it
-/// isn't finished. All else is as that source does it: what opens, its length, and how often something failed.
+/// A source for trying how a rescue goes. It asks the source below it for all of each read. What came of it in front of
+/// the first position that isn't finished in a map of positions it gives as a read that failed there; where all of it
+/// is finished, it answers as that source did. A position at the map's end or behind it isn't finished. All else is as
+/// that source does it: what opens, its length, and how often something failed.
 #[derive(Drop)]
 pub struct TestSource<'a, S, T> {
     inner: &'a mut S,
@@ -36,8 +37,14 @@ impl<S: Source, T: Tiles> Source for TestSource<'_, S, T> {
     }
 
     fn read_at(&mut self, pos: u64, buf: &mut [u8]) -> Result<Got, SourceLost> {
-        let Got(given) = self.inner.read_at(pos, buf)?;
-        Ok(Got(count_finished(self.tiles, pos, given)))
+        let got = self.inner.read_at(pos, buf)?;
+        let given = got.count();
+        let front = count_finished(self.tiles, pos, given);
+        if front < given {
+            Ok(Got::Read(front))
+        } else {
+            Ok(got)
+        }
     }
 }
 

@@ -17,6 +17,7 @@ pub mod RequestLemmas
 pub mod MoveLemmas
 pub mod NamelessLemmas
 pub mod SearchLemmas
+pub mod OverLemmas
 pub mod StepLemmas
 pub mod StatusLemmas
 pub mod ReadyLemmas

@@ -9,7 +9,7 @@ use Rattle.mapfile_text.specs.declared.state.MapState.{MapState}
 use Rattle.rescue_rules.specs.declared.stop.TrimMode.TheVariants.{Lead, Tail}
 use Rattle.rescue_rules.specs.Setting.{Setting}
 use Rattle.rescue_rules.specs.Passes.{Pass, taken}
-use Rattle.rescue_rules.specs.Machine.{Machine, has_taken, is_wanted, has_request}
+use Rattle.rescue_rules.specs.Machine.{Machine, has_taken, is_live, is_wanted, has_request}
 use Rattle.rescue_rules.specs.Moves.{begun, ended, at_next, no_pass_left, ready}
 use Rattle.rescue_rules.specs.Preparation.{prepared}
 use Rattle.rescue_rules.specs.Beginning.{shown_at_first, machine_of, goes_on_from, machine_over}
@@ -55,16 +55,26 @@ pub record Stays (m n : Machine) : Type 0 where
   pub whole_at : n.whole_at ≡ m.whole_at
   pub due_at : n.due_at ≡ m.due_at
   pub shown : n.shown ≡ m.shown
+  pub over : n.over ≡ m.over
 
 stays_same : (m : Machine) → Stays m m
-stays_same m = record { map = refl; failed = refl; began = refl; now = refl; whole_at = refl; due_at = refl; shown = refl }
+stays_same m = record {
+  map = refl;
+  failed = refl;
+  began = refl;
+  now = refl;
+  whole_at = refl;
+  due_at = refl;
+  shown = refl;
+  over = refl;
+}
 
 pub stays_next : (s : Setting) (m : Machine) (ps : List Pass) → Stays m (at_next s m ps)
 stays_next s m [] =
-    record { map = refl; failed = refl; began = refl; now = refl; whole_at = refl; due_at = refl; shown = refl }
+    record { map = refl; failed = refl; began = refl; now = refl; whole_at = refl; due_at = refl; shown = refl; over = refl }
 stays_next s m (p ∷ ps) =
     cond_both (has_request s (begun s m p ps)) (begun s m p ps) (at_next s m ps) (Stays m)
-    (λ on. record { map = refl; failed = refl; began = refl; now = refl; whole_at = refl; due_at = refl; shown = refl })
+    (λ on. record { map = refl; failed = refl; began = refl; now = refl; whole_at = refl; due_at = refl; shown = refl; over = refl })
     (λ off. stays_next s m ps)
 
 pub stays_ready : (s : Setting) (m : Machine) → Stays m (ready s m)
@@ -94,39 +104,39 @@ taken_has : (s : Setting) (map : List Status) (p : Pass) (ps : List Pass) (o : O
 taken_has s map p ps None is = absurd (cc)
 taken_has s map p ps (Some status) is = ap (λ (t : Status). Some t) (equal_from_same status (taken p.phase) is)
 
-request_none : (s : Setting) (m : Machine) (p : Pass) (ps : List Pass) → m.passes ≡ p ∷ ps → HasNone s m.map p
+request_none : (s : Setting) (m : Machine) (p : Pass) (ps : List Pass) → m.passes ≡ p ∷ ps → HasNone s m p
     → has_request s m ≡ false
 request_none s m p ps is none =
     false_from_ne_true (has_request s m) (λ on.
     let w : (x : ℕ) × (is_wanted s m x ≡ true) = wanted_found s m on in
-    let both : (s.domain w.0 ≡ true) × (has_taken m.passes (slice_get m.map w.0) ≡ true)
-    = and_parts (s.domain w.0) (has_taken m.passes (slice_get m.map w.0)) w.1 in
+    let both : (is_live s m w.0 ≡ true) × (has_taken m.passes (slice_get m.map w.0) ≡ true)
+    = and_parts (is_live s m w.0) (has_taken m.passes (slice_get m.map w.0)) w.1 in
     none w.0 both.0 (taken_has s m.map p ps (slice_get m.map w.0)
     (subst (λ (qs : List Pass). has_taken qs (slice_get m.map w.0) ≡ true) is both.1)))
 
-pub next_end : (s : Setting) (m : Machine) (ps : List Pass) → All (HasNone s m.map) ps → at_next s m ps ≡ ended m
+pub next_end : (s : Setting) (m : Machine) (ps : List Pass) → All (HasNone s m) ps → at_next s m ps ≡ ended m
 next_end s m [] none = refl
 next_end s m (p ∷ ps) none =
     cond-false (has_request s (begun s m p ps)) (begun s m p ps) (at_next s m ps)
-    (request_none s (begun s m p ps) p ps refl (All-head (HasNone s m.map) p ps none))
-    ∙ next_end s m ps (All-tail (HasNone s m.map) p ps none)
+    (request_none s (begun s m p ps) p ps refl (All-head (HasNone s m) p ps none))
+    ∙ next_end s m ps (All-tail (HasNone s m) p ps none)
 
 -- no request is left where no position of the domain has a status that a pass asks for
-pub no_request : (s : Setting) (m : Machine) → All (HasNone s m.map) m.passes → has_request s m ≡ false
+pub no_request : (s : Setting) (m : Machine) → All (HasNone s m) m.passes → has_request s m ≡ false
 no_request s m none = of m.passes refl none
   where
-    of : (ps : List Pass) → m.passes ≡ ps → All (HasNone s m.map) ps → has_request s m ≡ false
+    of : (ps : List Pass) → m.passes ≡ ps → All (HasNone s m) ps → has_request s m ≡ false
     of [] is h = false_from_ne_true (has_request s m) (λ on.
         let w : (x : ℕ) × (is_wanted s m x ≡ true) = wanted_found s m on in
-        true≢false (sym (and_parts (s.domain w.0) (has_taken m.passes (slice_get m.map w.0)) w.1).1
+        true≢false (sym (and_parts (is_live s m w.0) (has_taken m.passes (slice_get m.map w.0)) w.1).1
         ∙ ap (λ qs. has_taken qs (slice_get m.map w.0)) is))
-    of (p ∷ ps) is h = request_none s m p ps is (All-head (HasNone s m.map) p ps h)
+    of (p ∷ ps) is h = request_none s m p ps is (All-head (HasNone s m) p ps h)
 
 -- so such a state goes on to the end
-pub ready_end : (s : Setting) (m : Machine) → All (HasNone s m.map) m.passes → ready s m ≡ ended m
+pub ready_end : (s : Setting) (m : Machine) → All (HasNone s m) m.passes → ready s m ≡ ended m
 ready_end s m none =
     cond-false (has_request s m) m (at_next s m (drop 1 m.passes)) (no_request s m none)
-    ∙ next_end s m (drop 1 m.passes) (All-drop (HasNone s m.map) 1 m.passes none)
+    ∙ next_end s m (drop 1 m.passes) (All-drop (HasNone s m) 1 m.passes none)
 
 -- Going on leads to a request, or to the end.
 next_leads : (s : Setting) (m : Machine) (ps : List Pass)
@@ -150,7 +160,7 @@ none_is (p ∷ ps) none = absurd (cc)
 
 pub spent_request : (s : Setting) (m : Machine) → no_pass_left m.passes ≡ true → has_request s m ≡ false
 spent_request s m none =
-    no_request s m (subst (All (HasNone s m.map)) (sym (none_is m.passes none)) (All-nil (HasNone s m.map)))
+    no_request s m (subst (All (HasNone s m)) (sym (none_is m.passes none)) (All-nil (HasNone s m)))
 
 pub state_leads_on : StateLeadsOn
 state_leads_on s m = record { there = ready_leads s m; spent = ready_end s m }

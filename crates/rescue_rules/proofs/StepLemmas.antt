@@ -1,27 +1,29 @@
 -- What a request asks for, and what an event of it does.
-use Rattle.std.proofs.Common.{◌≡◌, ◌⊎◌, ℕ, ◌+◌, ◌-◌, ◌*◌, ◌<◌, ◌≤◌, Bool, true, false, ◌&&◌, nat_lt, List, [], ◌∷◌, length, map, Some, refl, sym, ap, subst, ◌∙◌, arith, inl, inr, ⊎_elim}
+use Rattle.std.proofs.Common.{◌≡◌, ◌⊎◌, ℕ, ◌+◌, ◌-◌, ◌*◌, ◌<◌, ◌≤◌, Bool, true, false, ◌&&◌, not, nat_lt, Option, List, [], ◌∷◌, length, map, Some, refl, sym, ap, subst, ◌∙◌, arith, inl, inr, ⊎_elim}
 use Rattle.std.specs.List.{slice_get}
 use Rattle.std.proofs.Math.Nat.{mul-le-mul_right}
-use Rattle.std.proofs.lemmas.Bool.{cases_lt, ltb-true, and_parts, cond-true, cond-false, cond_both, true_from_ne_false, true≢false}
+use Rattle.std.proofs.lemmas.Bool.{cases_lt, ltb-true, and_parts, and_from, not-true, not-false, cond-false, cond_both, true_from_ne_false, true≢false}
 use Rattle.std.proofs.lemmas.Option.{same_Some}
 use Rattle.block_list.specs.declared.status.Status.{Status}
 use Rattle.block_list.specs.declared.status.Status.TheVariants.{NonTrimmed, NonScraped, BadSector, Finished}
 use Rattle.block_list.specs.Status.{same}
 use Rattle.block_list.specs.Map.{Has, marked}
 use Rattle.block_list.proofs.Places.{length-marked}
-use Rattle.faulty_source.specs.Journal.{Reading, is_whole, kept, covers}
+use Rattle.faulty_source.specs.Ends.{is_before}
+use Rattle.faulty_source.specs.Journal.{Reading, is_failed, kept, covers}
 use Rattle.rescue_rules.specs.declared.stop.TrimMode.{TrimMode}
 use Rattle.rescue_rules.specs.declared.stop.TrimMode.TheVariants.{Lead, Tail}
 use Rattle.rescue_rules.specs.declared.phase.Phase.{Phase}
 use Rattle.rescue_rules.specs.declared.phase.Phase.TheVariants.{Copying, Trimming, Scraping, Retrying}
 use Rattle.rescue_rules.specs.Setting.{Setting, IsSensible}
 use Rattle.rescue_rules.specs.Passes.{Pass, taken}
-use Rattle.rescue_rules.specs.Machine.{Machine, pass_of, has_taken, is_wanted, IsWanted, Search, search_in, search_of, IsNextRun, cut_start, cut_end, IsRequest}
-use Rattle.rescue_rules.specs.Step.{Event, trims, is_copying, is_trimming, rest_status, scraped, map_after, mode_after, step}
+use Rattle.rescue_rules.specs.Machine.{Machine, pass_of, has_taken, is_live, is_wanted, IsWanted, Search, search_in, search_of, IsNextRun, cut_start, cut_end, IsRequest}
+use Rattle.rescue_rules.specs.Step.{Event, trims, is_copying, is_trimming, rest_status, scraped, over_after, map_after, mode_after, step}
 use Rattle.rescue_rules.specs.MachineLaws.{IsInOrder, MoveSteps}
 use Rattle.rescue_rules.proofs.MarkLemmas.{marked_inside, marked_outside}
 use Rattle.rescue_rules.proofs.RoundLemmas.{Inside, cut_inside}
-use Rattle.rescue_rules.proofs.GivenLemmas.{kept_whole, covers_here, Covered, covered_here, kept_given}
+use Rattle.rescue_rules.proofs.OverLemmas.{before_over, failed_over}
+use Rattle.rescue_rules.proofs.GivenLemmas.{covers_here, Covered, covered_here, kept_given}
 use Rattle.rescue_rules.proofs.SearchLemmas.{wanted_within}
 
 -- a stretch of places
@@ -84,16 +86,13 @@ none_taken (p ∷ ps) = never_taken p.phase
 pub finished_unwanted : (s : Setting) (m : Machine) (x : ℕ) → Has m.map Finished x → is_wanted s m x ≡ true → ⊥
 finished_unwanted s m x has wanted =
     let t : has_taken m.passes (slice_get m.map x) ≡ true
-    = (and_parts (s.domain x) (has_taken m.passes (slice_get m.map x)) wanted).1 in
+    = (and_parts (is_live s m x) (has_taken m.passes (slice_get m.map x)) wanted).1 in
     true≢false (sym t ∙ ap (has_taken m.passes) has ∙ none_taken m.passes)
 
 pub wanted_domain : (s : Setting) (m : Machine) (x : ℕ) → is_wanted s m x ≡ true → s.domain x ≡ true
-wanted_domain s m x wanted = (and_parts (s.domain x) (has_taken m.passes (slice_get m.map x)) wanted).0
-
--- the status of a position says whether it is wanted
-same_wanted : (s : Setting) (m n : Machine) (x : ℕ) → m.passes ≡ n.passes → slice_get m.map x ≡ slice_get n.map x
-    → is_wanted s m x ≡ is_wanted s n x
-same_wanted s m n x passes status = cc
+wanted_domain s m x wanted =
+    (and_parts (s.domain x) (is_before m.over x)
+    (and_parts (is_live s m x) (has_taken m.passes (slice_get m.map x)) wanted).0).0
 
 -- in the mode of a run's back, trimming asks for the back of the run that begins there
 trims_is : (phase : Phase) → trims phase ≡ true → phase ≡ Trimming
@@ -201,11 +200,11 @@ pos_there s m r t = omega (arith, length-with_rest s m r t, t.asks.there)
 -- a read leaves the map's length
 length-map_after : (s : Setting) (m : Machine) (r : Reading) → Taking s m r → length (map_after s m r) ≡ length m.map
 length-map_after s m r t =
-    cond_both (is_whole r) (with_kept s m r) (scraped m.mode r.pos (with_rest s m r))
+    cond_both (is_failed r) (scraped m.mode r.pos (with_rest s m r)) (with_kept s m r)
     (λ (map : List Status). length map ≡ length m.map)
-    (λ whole. length-with_kept s m r t)
-    (λ part. length-scraped m.mode r.pos (with_rest s m r) (pos_there s m r t) (back_low s m r t)
+    (λ failed. length-scraped m.mode r.pos (with_rest s m r) (pos_there s m r t) (back_low s m r t)
     ∙ length-with_rest s m r t)
+    (λ good. length-with_kept s m r t)
 
 -- outside what was asked for
 abbrev Apart : Reading → ℕ → Type 0
@@ -229,21 +228,21 @@ rest_apart s m r x t apart =
 after_apart : (s : Setting) (m : Machine) (r : Reading) (x : ℕ) → Taking s m r → Apart r x
     → ((low : ℕ) → m.mode ≡ Tail low → (x < low) ⊎ (r.pos ≤ x)) → slice_get (map_after s m r) x ≡ slice_get m.map x
 after_apart s m r x t apart off =
-    cond_both (is_whole r) (with_kept s m r) (scraped m.mode r.pos (with_rest s m r))
+    cond_both (is_failed r) (scraped m.mode r.pos (with_rest s m r)) (with_kept s m r)
     (λ (map : List Status). slice_get map x ≡ slice_get m.map x)
-    (λ whole. kept_apart s m r x t apart)
-    (λ part. scraped_outside m.mode r.pos (with_rest s m r) x (pos_there s m r t) (back_low s m r t) off
+    (λ failed. scraped_outside m.mode r.pos (with_rest s m r) x (pos_there s m r t) (back_low s m r t) off
     ∙ rest_apart s m r x t apart)
+    (λ good. kept_apart s m r x t apart)
 
 -- it makes nothing finished there
 only_apart : (s : Setting) (m : Machine) (r : Reading) (x : ℕ) → Taking s m r → Apart r x → Has (map_after s m r) Finished x
     → Has m.map Finished x
 only_apart s m r x t apart =
-    cond_both (is_whole r) (with_kept s m r) (scraped m.mode r.pos (with_rest s m r))
+    cond_both (is_failed r) (scraped m.mode r.pos (with_rest s m r)) (with_kept s m r)
     (λ (map : List Status). Has map Finished x → Has m.map Finished x)
-    (λ whole has. sym (kept_apart s m r x t apart) ∙ has)
-    (λ part has. sym (rest_apart s m r x t apart)
+    (λ failed has. sym (rest_apart s m r x t apart)
     ∙ scraped_only m.mode r.pos (with_rest s m r) x (pos_there s m r t) (back_low s m r t) has)
+    (λ good has. sym (kept_apart s m r x t apart) ∙ has)
 
 -- what is kept becomes finished
 kept_finished : (s : Setting) (m : Machine) (r : Reading) (x : ℕ) → Taking s m r → r.pos ≤ x → x < r.pos + kept s.sector r
@@ -251,13 +250,13 @@ kept_finished : (s : Setting) (m : Machine) (r : Reading) (x : ℕ) → Taking s
 kept_finished s m r x t from to =
     let is : Has (with_kept s m r) Finished x
     = marked_inside m.map r.pos (kept s.sector r) Finished x (omega (arith, t.asks.there, t.few)) from to in
-    cond_both (is_whole r) (with_kept s m r) (scraped m.mode r.pos (with_rest s m r))
+    cond_both (is_failed r) (scraped m.mode r.pos (with_rest s m r)) (with_kept s m r)
     (λ (map : List Status). Has map Finished x)
-    (λ whole. is)
-    (λ part. scraped_outside m.mode r.pos (with_rest s m r) x (pos_there s m r t) (back_low s m r t) (λ low at. inr from)
+    (λ failed. scraped_outside m.mode r.pos (with_rest s m r) x (pos_there s m r t) (back_low s m r t) (λ low at. inr from)
     ∙ marked_outside (with_kept s m r) (r.pos + kept s.sector r) (r.asked - kept s.sector r)
     (rest_status s m (r.asked - kept s.sector r)) x (rest_there s m r t) (inl to)
     ∙ is)
+    (λ good. is)
 
 rest_not_finished : (s : Setting) (m : Machine) (size : ℕ) → rest_status s m size ≡ Finished → ⊥
 rest_not_finished s m size =
@@ -271,12 +270,14 @@ rest_unfinished s m r x t from to =
     let is : Has (with_rest s m r) (rest_status s m (r.asked - kept s.sector r)) x
     = marked_inside (with_kept s m r) (r.pos + kept s.sector r) (r.asked - kept s.sector r)
     (rest_status s m (r.asked - kept s.sector r)) x (rest_there s m r t) from (omega (arith, t.few)) in
-    cond_both (is_whole r) (with_kept s m r) (scraped m.mode r.pos (with_rest s m r))
+    cond_both (is_failed r) (scraped m.mode r.pos (with_rest s m r)) (with_kept s m r)
     (λ (map : List Status). Has map Finished x → ⊥)
-    (λ whole has. absurd (omega (arith, kept_whole s.sector r whole)))
-    (λ part has. rest_not_finished s m (r.asked - kept s.sector r)
+    (λ failed has. rest_not_finished s m (r.asked - kept s.sector r)
     (same_Some (rest_status s m (r.asked - kept s.sector r)) Finished
     (sym is ∙ scraped_only m.mode r.pos (with_rest s m r) x (pos_there s m r t) (back_low s m r t) has)))
+    (λ good has. finished_unwanted s m x
+    (sym (marked_outside m.map r.pos (kept s.sector r) Finished x (omega (arith, t.asks.there, t.few)) (inr from)) ∙ has)
+    (t.asks.wanted x (omega (arith, from)) to))
 
 after_only : (s : Setting) (m : Machine) (r : Reading) (x : ℕ) → Taking s m r → Has (map_after s m r) Finished x
     → Has m.map Finished x ⊎ (covers s.sector r x ≡ true)
@@ -311,11 +312,11 @@ finished_off s m r x t has low is =
     (cases_lt x r.pos))
     (cases_lt x low)
 
--- the mode behind a read is at a run's back only where that run has more, or where it was there
-tail_after : (mode : TrimMode) (whole more : Bool) (p q low : ℕ) (P : ℕ → Type 0) → (more ≡ true → P q)
+-- the mode behind a read is at a run's back only where it failed and that run has more, or where it was there
+tail_after : (mode : TrimMode) (whole more : Bool) (p q low : ℕ) (P : ℕ → Type 0) → (whole ≡ false → more ≡ true → P q)
     → ((at : ℕ) → mode ≡ Tail at → whole ≡ true → at < p → P at) → mode_after mode whole more p q ≡ Tail low → P low
 tail_after Lead true more p q low P new old is = absurd (cc)
-tail_after Lead false true p q low P new old is = let e : q ≡ low = cc in subst P e (new refl)
+tail_after Lead false true p q low P new old is = let e : q ≡ low = cc in subst P e (new refl refl)
 tail_after Lead false false p q low P new old is = absurd (cc)
 tail_after (Tail at) true more p q low P new old is =
     cond_both (nat_lt at p) (Tail at) Lead (λ (mode : TrimMode). mode ≡ Tail low → P low)
@@ -329,23 +330,32 @@ step_tail : (s : Setting) (m : Machine) (e : Event) → IsInOrder s m → Taking
 step_tail s m e order t low =
     let r : Reading = e.reading in
     let n : Machine = record m { map = map_after s m r } in
-    cond_both (is_trimming m) (mode_after m.mode (is_whole r) (is_wanted s n (r.pos + r.asked)) r.pos (r.pos + r.asked)) Lead
-    (λ (mode : TrimMode). mode ≡ Tail low → is_wanted s n low ≡ true)
-    (λ on. tail_after m.mode (is_whole r) (is_wanted s n (r.pos + r.asked)) r.pos (r.pos + r.asked) low
-    (λ (x : ℕ). is_wanted s n x ≡ true) (λ more. more)
-    (λ at is whole lt.
-    same_wanted s n m at refl
-    (ap (λ (map : List Status). slice_get map at)
-    (cond-true (is_whole r) (with_kept s m r) (scraped m.mode r.pos (with_rest s m r)) whole)
-    ∙ kept_apart s m r at t (inl lt))
-    ∙ order.tail at is))
+    cond_both (is_trimming m) (mode_after m.mode (not (is_failed r)) (is_wanted s n (r.pos + r.asked)) r.pos (r.pos + r.asked)) Lead
+    (λ (mode : TrimMode). mode ≡ Tail low → is_wanted s (step s m e) low ≡ true)
+    (λ on. tail_after m.mode (not (is_failed r)) (is_wanted s n (r.pos + r.asked)) r.pos (r.pos + r.asked) low
+    (λ (x : ℕ). is_wanted s (step s m e) x ≡ true)
+    (λ failed more.
+    ap (λ (o : Option ℕ). (s.domain (r.pos + r.asked) && is_before o (r.pos + r.asked)) && has_taken m.passes (slice_get (map_after s m r) (r.pos + r.asked)))
+    (failed_over m r (not-false (is_failed r) failed))
+    ∙ more)
+    (λ at is good lt.
+    let wanted : is_wanted s m at ≡ true = order.tail at is in
+    let parts = and_parts (is_live s m at) (has_taken m.passes (slice_get m.map at)) wanted in
+    let live = and_parts (s.domain at) (is_before m.over at) parts.0 in
+    let same : slice_get (map_after s m r) at ≡ slice_get m.map at
+    = ap (λ (map : List Status). slice_get map at)
+    (cond-false (is_failed r) (scraped m.mode r.pos (with_rest s m r)) (with_kept s m r) (not-true (is_failed r) good))
+    ∙ kept_apart s m r at t (inl lt) in
+    and_from (s.domain at && is_before (over_after m r) at) (has_taken m.passes (slice_get (map_after s m r) at))
+    (and_from (s.domain at) (is_before (over_after m r) at) live.0 (before_over m r at live.1 lt))
+    (ap (λ (o : Option Status). has_taken m.passes o) same ∙ parts.1)))
     (λ off is. absurd (cc))
 
 step_lead : (s : Setting) (m : Machine) (e : Event) → is_trimming (step s m e) ≡ false → (step s m e).mode ≡ Lead
 step_lead s m e off =
     let r : Reading = e.reading in
     let n : Machine = record m { map = map_after s m r } in
-    cond-false (is_trimming m) (mode_after m.mode (is_whole r) (is_wanted s n (r.pos + r.asked)) r.pos (r.pos + r.asked)) Lead off
+    cond-false (is_trimming m) (mode_after m.mode (not (is_failed r)) (is_wanted s n (r.pos + r.asked)) r.pos (r.pos + r.asked)) Lead off
 
 pub move_steps : MoveSteps
 move_steps s m e ok order request few =

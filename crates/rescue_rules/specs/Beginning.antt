@@ -47,6 +47,7 @@ machine_of s map from shown time = record {
   whole_at = time;
   due_at = time;
   shown = shown;
+  over = None;
 }
 
 -- a mapfile showed that its rescue was copying

@@ -44,7 +44,11 @@ small_start end cluster skip = machine_of (small end cluster skip) (replicate en
 -- a read of so many bytes that gave so many
 abbrev pub event_at : (pos asked given : ℕ) → Event
 event_at pos asked given =
-    record { reading = record { pos = pos; asked = asked; given = replicate given 7 }; before = 0; after = 0 }
+    record {
+      reading = record { pos = pos; asked = asked; given = replicate given 7; ended = false };
+      before = 0;
+      after = 0;
+    }
 
 -- the pass of each event and the cursor behind it
 abbrev pub trail : Setting → Machine → List Event → List (Pass × ℕ)

@@ -5,6 +5,7 @@ use Rattle.block_list.specs.declared.status.Status.{Status}
 use Rattle.block_list.specs.Status.{same}
 use Rattle.block_list.specs.Places.{IsFirst, IsLast, IsRunUp, IsRunDown}
 use Rattle.mapfile_text.specs.declared.state.MapState.{MapState}
+use Rattle.faulty_source.specs.Ends.{is_before}
 use Rattle.faulty_source.specs.Journal.{floor}
 use Rattle.rescue_rules.specs.declared.stop.TrimMode.{TrimMode}
 use Rattle.rescue_rules.specs.declared.stop.TrimMode.TheVariants.{Lead, Tail}
@@ -20,7 +21,8 @@ pub record Machine : Type 0 where
   pub cursor : ℕ
   pub mode : TrimMode
   pub skip : ℕ
-  -- how many reads failed; the times of the start, of the last event, of the last whole read and of the last due save
+  -- how many reads failed; the times of the start, of the last event, of the last read that didn't fail and of the
+  -- last due save
   pub failed : ℕ
   pub began : ℕ
   pub now : ℕ
@@ -28,6 +30,8 @@ pub record Machine : Type 0 where
   pub due_at : ℕ
   -- where a mapfile would say that it stands
   pub shown : MapState
+  -- where reads met the input's end, if they did: what lies there or behind isn't asked for any more
+  pub over : Option ℕ
 
 -- the pass that it is in
 abbrev pub pass_of : Machine → Pass
@@ -37,14 +41,18 @@ pass_of m = slice_index_or m.passes 0 (numbered Copying 1)
 abbrev pub start_of : Setting → Pass → List Status → ℕ
 start_of s p map = if is_up s p then 0 else length map
 
--- a pass asks for positions of the domain with its phase's status
+-- a pass asks for positions that are left of the domain and have its phase's status
 abbrev pub has_taken : List Pass → Option Status → Bool
 has_taken [] status = false
 has_taken (p ∷ ps) None = false
 has_taken (p ∷ ps) (Some status) = same status (taken p.phase)
 
+-- the positions that are left of the domain
+abbrev pub is_live : Setting → Machine → ℕ → Bool
+is_live s m x = s.domain x && is_before m.over x
+
 abbrev pub is_wanted : Setting → Machine → ℕ → Bool
-is_wanted s m x = s.domain x && has_taken m.passes (slice_get m.map x)
+is_wanted s m x = is_live s m x && has_taken m.passes (slice_get m.map x)
 
 abbrev pub IsWanted : Setting → Machine → ℕ → Type 0
 IsWanted s m x = is_wanted s m x ≡ true

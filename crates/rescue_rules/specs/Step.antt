@@ -1,10 +1,11 @@
--- What a read changes: the marks, the mode of trimming, the cursor and the skip, the counts and the times.
-use Rattle.std.specs.Prelude.{ℕ, ◌+◌, ◌-◌, ◌*◌, min, Bool, true, false, ◌&&◌, not, nat_le, nat_lt, List, length, Option, Some, None, if◌then◌else◌}
+-- What a read changes: the marks, the mode of trimming, the cursor and the skip, the counts and the times, and what is
+-- left of the domain.
+use Rattle.std.specs.Prelude.{ℕ, ◌+◌, ◌-◌, ◌*◌, min, Bool, true, false, ◌&&◌, ◌||◌, not, nat_le, nat_lt, List, length, Option, Some, None, if◌then◌else◌}
 use Rattle.block_list.specs.declared.status.Status.{Status}
 use Rattle.block_list.specs.declared.status.Status.TheVariants.{NonTrimmed, NonScraped, BadSector, Finished}
 use Rattle.block_list.specs.Map.{marked}
 use Rattle.fault_count.specs.Counts.{raised}
-use Rattle.faulty_source.specs.Journal.{Reading, is_whole, kept}
+use Rattle.faulty_source.specs.Journal.{Reading, is_whole, is_failed, kept}
 use Rattle.rescue_rules.specs.declared.stop.TrimMode.{TrimMode}
 use Rattle.rescue_rules.specs.declared.stop.TrimMode.TheVariants.{Lead, Tail}
 use Rattle.rescue_rules.specs.Setting.{Setting}
@@ -36,7 +37,7 @@ is_trimming m = trims (pass_of m).phase
 
 -- a whole read is slow that gave too few bytes a second
 abbrev pub is_slow : Setting → Event → Bool
-is_slow s e = nat_lt (length e.reading.given * 1000) (s.min_rate * (e.after - e.before))
+is_slow s e = is_whole e.reading && nat_lt (length e.reading.given * 1000) (s.min_rate * (e.after - e.before))
 
 -- what isn't kept is for trimming, if copying asked for it and it is longer than a sector; else it is bad
 abbrev pub rest_status : Setting → Machine → ℕ → Status
@@ -47,17 +48,27 @@ abbrev pub scraped : TrimMode → ℕ → List Status → List Status
 scraped Lead p map = map
 scraped (Tail low) p map = marked map low (p - low) NonScraped
 
--- the kept part is finished, and the rest is marked as failed
+-- the earlier of two ends, if there is another
+abbrev pub earlier : Option ℕ → ℕ → ℕ
+earlier None end = end
+earlier (Some other) end = min other end
+
+-- where the input was found to end, behind a read
+abbrev pub over_after : Machine → Reading → Option ℕ
+over_after m r = if r.ended then Some (earlier m.over (r.pos + length r.given)) else m.over
+
+-- the kept part is finished, and of a read that failed the rest is marked; what an end cut off stands
 abbrev pub map_after : Setting → Machine → Reading → List Status
 map_after s m r =
-    let whole : List Status = marked m.map r.pos (kept s.sector r) Finished in
+    let good : List Status = marked m.map r.pos (kept s.sector r) Finished in
     let rest : ℕ = r.asked - kept s.sector r in
-    if is_whole r then whole
-    else scraped m.mode r.pos (marked whole (r.pos + kept s.sector r) rest (rest_status s m rest))
+    if is_failed r
+    then scraped m.mode r.pos (marked good (r.pos + kept s.sector r) rest (rest_status s m rest))
+    else good
 
 -- Trimming goes from a run's front to its back where a read failed and there is more of the run; it stays there until
 -- the run has no more or a read fails.
-abbrev pub mode_after : TrimMode → (whole more : Bool) → (p q : ℕ) → TrimMode
+abbrev pub mode_after : TrimMode → (good more : Bool) → (p q : ℕ) → TrimMode
 mode_after Lead true more p q = Lead
 mode_after Lead false more p q = if more then Tail q else Lead
 mode_after (Tail low) true more p q = if nat_lt low p then Tail low else Lead
@@ -66,21 +77,25 @@ mode_after (Tail low) false more p q = Lead
 -- copying jumps behind a read that failed in its first four passes, or was slow in its first two
 abbrev pub is_jump : Setting → Machine → Event → Bool
 is_jump s m e = is_copying m
-    && (if is_whole e.reading then is_slow s e && nat_le (pass_of m).number 2 else nat_le (pass_of m).number 4)
+    && (if is_failed e.reading then nat_le (pass_of m).number 4 else is_slow s e && nat_le (pass_of m).number 2)
+
+-- how far upwards a read goes: to its end, or to that of the input
+abbrev pub reach : Reading → ℕ
+reach r = r.pos + (if r.ended then length r.given else r.asked)
 
 -- the cursor goes to the read's far end, or beyond it by a jump, within the map; in trimming to the read's position
 abbrev pub cursor_after : Setting → Machine → Event → ℕ
 cursor_after s m e =
     let jump : ℕ = if is_jump s m e then m.skip else 0 in
     if is_trimming m then e.reading.pos
-    else if is_up s (pass_of m) then min (length m.map) (e.reading.pos + e.reading.asked + jump)
+    else if is_up s (pass_of m) then min (length m.map) (reach e.reading + jump)
     else e.reading.pos - jump
 
--- a jump doubles the next one, and a whole read that isn't slow makes it small again
+-- a jump doubles the next one, and a read that neither failed nor was slow makes it small again
 abbrev pub skip_after : Setting → Machine → Event → ℕ
 skip_after s m e =
     if is_jump s m e then min (2 * m.skip) s.skip_max
-    else if is_whole e.reading && not (is_slow s e) then s.skip else m.skip
+    else if is_failed e.reading || is_slow s e then m.skip else s.skip
 
 -- so many milliseconds lie between two due saves
 abbrev pub save_interval : ℕ
@@ -97,14 +112,15 @@ step s m e =
     record n {
       cursor = cursor_after s m e;
       mode = if is_trimming m
-          then mode_after m.mode (is_whole r) (is_wanted s n (r.pos + r.asked)) r.pos (r.pos + r.asked)
+          then mode_after m.mode (not (is_failed r)) (is_wanted s n (r.pos + r.asked)) r.pos (r.pos + r.asked)
           else Lead;
       skip = skip_after s m e;
-      failed = if is_whole r then m.failed else raised m.failed;
+      failed = if is_failed r then raised m.failed else m.failed;
       now = e.after;
-      whole_at = if is_whole r then e.after else m.whole_at;
+      whole_at = if is_failed r then m.whole_at else e.after;
       due_at = if is_timely m e then e.after else m.due_at;
       shown = record { pos = cursor_after s m e; current = current_of (pass_of m).phase; pass = (pass_of m).number };
+      over = over_after m r;
     }
 
 -- a limit that a run has met: so many reads failed, or so many milliseconds went by without a whole one

@@ -20,7 +20,7 @@ fn a_file_is_read_at_a_place(rt: HostRuntime) -> Result<(), Fail> {
     let mut source = FileSource::new(rt.clone()?);
     let mut buf = [0; 8];
     assert_eq!(rt; source.open_input(path.as_path().as_str())?, 6);
-    assert_eq!(rt; source.read_at(2, &mut buf)?, Got(4));
+    assert_eq!(rt; source.read_at(2, &mut buf)?, Got::End(4));
     assert_eq!(rt; buf, *b"cdef\0\0\0\0");
     fs::remove_file(&rt, &path)?;
     Ok(())

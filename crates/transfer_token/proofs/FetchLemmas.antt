@@ -1,13 +1,16 @@
 -- What a read that was cut leaves at the buffer's front.
-use Rattle.std.proofs.Common.{◌≡◌, ℕ, ◌+◌, ◌-◌, ◌≤◌, IsTrue, List, [], ◌∷◌, ◌++◌, length, take, drop, slice_range, sym, ap, ◌∙◌, arith, refl, take-take, length-take-le}
+use Rattle.std.proofs.Common.{◌≡◌, ℕ, ◌+◌, ◌-◌, ◌<◌, ◌≤◌, true, false, if◌then◌else◌, IsTrue, List, [], ◌∷◌, ◌++◌, length, take, drop, slice_range, sym, ap, ◌∙◌, arith, refl, take-take, length-take-le}
+use Rattle.std.proofs.lemmas.Bool.{cond-true, cond-false}
 use Rattle.std.proofs.lemmas.List.{take-append-le}
 use Rattle.std.proofs.Math.Nat.{div-mul-le_self}
 use Rattle.block_list.specs.declared.block.Run.{Run}
-use Rattle.faulty_source.specs.Journal.{Reading, kept}
+use Rattle.faulty_source.specs.declared.source.Got.{Got}
+use Rattle.faulty_source.specs.Got.{count_of, is_end}
+use Rattle.faulty_source.specs.Journal.{Reading, is_whole, floor, kept}
 use Rattle.faulty_source.specs.SourceState.{SourceState, Reads}
 use Rattle.transfer_token.specs.declared.token.Request.{Request}
 use Rattle.transfer_token.specs.declared.fetch.Fetched.{Fetched}
-use Rattle.transfer_token.specs.declared.fetch.Fetched.TheVariants.{Whole, Part, Nothing}
+use Rattle.transfer_token.specs.declared.fetch.Fetched.TheVariants.{Whole, Part, Nothing, Ended, Empty}
 use Rattle.transfer_token.specs.Tokens.{between, size_of, IsCut, Spans, IfLoaded, Holds, Fetches}
 
 -- the range is the part of the read that is kept
@@ -18,17 +21,29 @@ IsKept sector r loaded = loaded ≡ between r.pos (r.pos + kept sector r)
 kept_few : (sector : ℕ) (r : Reading) → kept sector r ≤ length r.given
 kept_few sector r = grind (arith, div-mul-le_self)
 
+-- of one that met the end all is kept that was given
+kept_ended : (sector : ℕ) (r : Reading) → is_whole r ≡ false → r.ended ≡ true → kept sector r ≡ length r.given
+kept_ended sector r part ended =
+    let rest : ℕ = floor sector (r.pos + length r.given) - r.pos in
+    cond-false (is_whole r) r.asked (if r.ended then length r.given else rest) part
+    ∙ cond-true r.ended (length r.given) rest ended
+
 -- what was loaded is that part
 loaded_is_kept : (sector : ℕ) (r : Reading) (fetched : Fetched) → IsCut sector r fetched → IfLoaded fetched (IsKept sector r)
-loaded_is_kept sector r (Whole loaded) cut = rw cut.0 cut.1
+loaded_is_kept sector r (Whole loaded) cut = rw cut.0 cut.2
 loaded_is_kept sector r (Part loaded missed) cut = cut.2
 loaded_is_kept sector r (Nothing missed) cut = tt
+loaded_is_kept sector r (Ended loaded over) cut =
+    cut.3 ∙ ap (λ (k : ℕ). between r.pos (r.pos + k)) (sym (kept_ended sector r cut.0 cut.1))
+loaded_is_kept sector r (Empty over) cut = tt
 
 -- what follows of each range follows of the loaded one
 if_loaded : (fetched : Fetched) (P Q : Run → Type 0) → ((loaded : Run) → P loaded → Q loaded) → IfLoaded fetched P → IfLoaded fetched Q
 if_loaded (Whole loaded) P Q step h = step loaded h
 if_loaded (Part loaded missed) P Q step h = step loaded h
 if_loaded (Nothing missed) P Q step h = tt
+if_loaded (Ended loaded over) P Q step h = step loaded h
+if_loaded (Empty over) P Q step h = tt
 
 -- the buffer's front has that part of what the read gave
 front_given : (sector : ℕ) (r : Reading) (buf : List ℕ) (loaded : Run) → take (length r.given) buf ≡ r.given → IsKept sector r loaded
@@ -59,15 +74,17 @@ loaded_holds sector r fetched buf source cut front right =
     if_loaded fetched (IsKept sector r) (Holds sector r source buf) holds (loaded_is_kept sector r fetched cut)
 
 -- what a read gave into the front of a buffer was fetched, and cut
-pub fetched_so : (request : Request) (sector n : ℕ) (fetched : Fetched) (part rest : List ℕ) (old new : SourceState)
-    → n ≤ length part → n ≤ request.len → (IsTrue old.tells → take n part ≡ slice_range old.bytes request.pos (request.pos + n))
-    → Reads (record { pos = request.pos; asked = request.len; given = take n part } ∷ []) old new
-    → ((r : Reading) → r.pos ≡ request.pos → r.asked ≡ request.len → length r.given ≡ n → IsCut sector r fetched) → Spans request fetched
-    → Fetches request sector n fetched (part ++ rest) old new
-fetched_so request sector n fetched part rest old new there few right read cuts spans =
-    let reading : Reading = record { pos = request.pos; asked = request.len; given = take n part } in
+pub fetched_so : (request : Request) (sector : ℕ) (got : Got) (fetched : Fetched) (part rest : List ℕ) (old new : SourceState)
+    → count_of got ≤ length part → count_of got ≤ request.len → (is_end got ≡ true → count_of got < request.len)
+    → (IsTrue old.tells → take (count_of got) part ≡ slice_range old.bytes request.pos (request.pos + count_of got))
+    → Reads (record { pos = request.pos; asked = request.len; given = take (count_of got) part; ended = is_end got } ∷ []) old new
+    → ((r : Reading) → r.pos ≡ request.pos → r.asked ≡ request.len → length r.given ≡ count_of got → r.ended ≡ is_end got → IsCut sector r fetched)
+    → Spans request fetched → Fetches request sector got fetched (part ++ rest) old new
+fetched_so request sector got fetched part rest old new there few ends right read cuts spans =
+    let n : ℕ = count_of got in
+    let reading : Reading = record { pos = request.pos; asked = request.len; given = take n part; ended = is_end got } in
     let count : length (take n part) ≡ n = length-take-le n part there in
-    let cut : IsCut sector reading fetched = cuts reading refl refl count in
+    let cut : IsCut sector reading fetched = cuts reading refl refl count refl in
     let front : take (length (take n part)) (part ++ rest) ≡ take n part = ap (λ k. take k (part ++ rest)) count ∙ take-append-le n part rest there in
     let own : IsTrue old.tells → take n part ≡ slice_range old.bytes request.pos (request.pos + length (take n part)) = rw count right in
     record {
@@ -75,7 +92,9 @@ fetched_so request sector n fetched part rest old new there few right read cuts 
       pos = refl;
       asked = refl;
       count = count;
+      ended = refl;
       few = rw count few;
+      ends = λ is. rw count (ends is);
       right = own;
       read = read;
       cut = cut;

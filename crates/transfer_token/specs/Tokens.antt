@@ -3,11 +3,13 @@ use Rattle.std.specs.Prelude.{◌≡◌, ⊤, ℕ, ◌+◌, ◌-◌, ◌<◌, �
 use Rattle.block_list.specs.declared.block.Run.{Run}
 use Rattle.block_list.specs.declared.status.Status.{Status}
 use Rattle.block_list.specs.declared.status.Status.TheVariants.{NonTried, NonTrimmed, NonScraped, BadSector, Finished}
-use Rattle.faulty_source.specs.Journal.{Reading, is_whole, kept}
+use Rattle.faulty_source.specs.declared.source.Got.{Got}
+use Rattle.faulty_source.specs.Got.{count_of, is_end}
+use Rattle.faulty_source.specs.Journal.{Reading, is_whole, is_failed, kept}
 use Rattle.faulty_source.specs.SourceState.{SourceState, Reads}
 use Rattle.transfer_token.specs.declared.token.Request.{Request}
 use Rattle.transfer_token.specs.declared.fetch.Fetched.{Fetched}
-use Rattle.transfer_token.specs.declared.fetch.Fetched.TheVariants.{Whole, Part, Nothing}
+use Rattle.transfer_token.specs.declared.fetch.Fetched.TheVariants.{Whole, Part, Nothing, Ended, Empty}
 
 -- the positions from p up to q
 abbrev pub between : ℕ → ℕ → Run
@@ -17,29 +19,49 @@ between p q = record { from = p; to = q }
 abbrev pub size_of : Run → ℕ
 size_of r = r.to - r.from
 
--- What a read is cut into: its kept part, and the rest. A whole read has no rest, and one that isn't may have no kept
--- part.
+-- What a read is cut into: its kept part, and the rest. A whole read has no rest, and one that failed may have no kept
+-- part. Of one that met the end all is kept that it gave, if it gave something, and the rest is over.
 abbrev pub IsCut : (sector : ℕ) → Reading → Fetched → Type 0
-IsCut sector r (Whole loaded) = (is_whole r ≡ true) × (loaded ≡ between r.pos (r.pos + r.asked))
+IsCut sector r (Whole loaded) =
+    (is_whole r ≡ true) × (r.ended ≡ false) × (loaded ≡ between r.pos (r.pos + r.asked))
 IsCut sector r (Part loaded missed) =
-    (is_whole r ≡ false) × (0 < kept sector r) × (loaded ≡ between r.pos (r.pos + kept sector r))
+    (is_failed r ≡ true) × (0 < kept sector r) × (loaded ≡ between r.pos (r.pos + kept sector r))
     × (missed ≡ between (r.pos + kept sector r) (r.pos + r.asked))
 IsCut sector r (Nothing missed) =
-    (is_whole r ≡ false) × (kept sector r ≡ 0) × (missed ≡ between r.pos (r.pos + r.asked))
+    (is_failed r ≡ true) × (kept sector r ≡ 0) × (missed ≡ between r.pos (r.pos + r.asked))
+IsCut sector r (Ended loaded over) =
+    (is_whole r ≡ false) × (r.ended ≡ true) × (0 < length r.given)
+    × (loaded ≡ between r.pos (r.pos + length r.given)) × (over ≡ r.pos + length r.given)
+IsCut sector r (Empty over) =
+    (is_whole r ≡ false) × (r.ended ≡ true) × (length r.given ≡ 0) × (over ≡ r.pos)
 
--- What came of a request spans it: its parts join, and none is empty.
+-- what a read from here to the input's end is cut into
+abbrev pub IsEndedCut : (from end : ℕ) → Fetched → Type 0
+IsEndedCut from end (Whole loaded) = ⊥
+IsEndedCut from end (Part loaded missed) = ⊥
+IsEndedCut from end (Nothing missed) = ⊥
+IsEndedCut from end (Ended loaded over) = (from < end) × (loaded ≡ between from end) × (over ≡ end)
+IsEndedCut from end (Empty over) = (from ≡ end) × (over ≡ end)
+
+-- What came of a request spans it: its parts join, and none is empty. Where the input ended within it, they span what
+-- lies in front of the end.
 abbrev pub Spans : Request → Fetched → Type 0
 Spans request (Whole loaded) = loaded ≡ between request.pos (request.pos + request.len)
 Spans request (Part loaded missed) =
     (loaded.from ≡ request.pos) × (loaded.from < loaded.to) × (missed.from ≡ loaded.to) × (missed.from < missed.to)
     × (missed.to ≡ request.pos + request.len)
 Spans request (Nothing missed) = missed ≡ between request.pos (request.pos + request.len)
+Spans request (Ended loaded over) =
+    (loaded.from ≡ request.pos) × (loaded.from < loaded.to) × (over ≡ loaded.to) × (over < request.pos + request.len)
+Spans request (Empty over) = over ≡ request.pos
 
 -- if something was loaded, its range has this property
 abbrev pub IfLoaded : Fetched → (Run → Type 0) → Type 0
 IfLoaded (Whole loaded) holds = holds loaded
 IfLoaded (Part loaded missed) holds = holds loaded
 IfLoaded (Nothing missed) holds = ⊤
+IfLoaded (Ended loaded over) holds = holds loaded
+IfLoaded (Empty over) holds = ⊤
 
 -- At the buffer's front stand the bytes of the loaded range: those that the read gave first, as many as are kept, and
 -- so the input's own.
@@ -47,15 +69,17 @@ pub record Holds (sector : ℕ) (r : Reading) (source : SourceState) (buf : List
   pub given : take (size_of loaded) buf ≡ take (kept sector r) r.given
   pub own : IsTrue source.tells → take (size_of loaded) buf ≡ slice_range source.bytes loaded.from loaded.to
 
--- One read was made of what was requested, which gave so many bytes, and cut; what it gave stands at the buffer's
--- front.
-pub record Fetches (request : Request) (sector given : ℕ) (fetched : Fetched) (buf : List ℕ) (old new : SourceState)
-    : Type 0 where
+-- One read was made of what was requested, which answered this, and cut; what it gave stands at the buffer's front.
+pub record Fetches (request : Request) (sector : ℕ) (got : Got) (fetched : Fetched) (buf : List ℕ)
+    (old new : SourceState) : Type 0 where
   pub reading : Reading
   pub pos : reading.pos ≡ request.pos
   pub asked : reading.asked ≡ request.len
-  pub count : length reading.given ≡ given
+  pub count : length reading.given ≡ count_of got
+  pub ended : reading.ended ≡ is_end got
   pub few : length reading.given ≤ request.len
+  -- it met the input's end only where it gave less than it was asked for
+  pub ends : reading.ended ≡ true → length reading.given < request.len
   pub right : IsTrue old.tells → reading.given ≡ slice_range old.bytes reading.pos (reading.pos + length reading.given)
   pub read : Reads (reading ∷ []) old new
   pub cut : IsCut sector reading fetched

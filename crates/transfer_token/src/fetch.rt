@@ -1,9 +1,10 @@
-ghost use Rattle.std.specs.Prelude.{◌≡◌, ◌+◌, ◌<◌, ◌≤◌, ◌^◌, true, false, length, IfOk, IsOk, OnErr};
+ghost use Rattle.std.specs.Prelude.{◌≡◌, ◌+◌, ◌<◌, ◌≤◌, ◌^◌, true, false, length, IfOk, OnErr};
+ghost use Rattle.faulty_source.specs.Got.{count_of, is_end};
 ghost use Rattle.faulty_source.specs.SourceState.{Stays, Loses};
 ghost use Rattle.faulty_source.specs.Journal.{Reading};
-ghost use Rattle.transfer_token.specs.Tokens.{Fetches, IsCut, Spans};
+ghost use Rattle.transfer_token.specs.Tokens.{Fetches, IsCut, IsEndedCut, Spans};
 
-use crate::token::{Loaded, Missed, Request};
+use crate::token::{Loaded, Missed, Over, Request};
 use block_list::block::Run;
 use faulty_source::source::{Got, Source, SourceLost};
 
@@ -15,10 +16,14 @@ pub enum Fetched {
     Part(Loaded, Missed),
     /// Nothing of it was kept.
     Nothing(Missed),
+    /// The input ended behind what was read, all of which is kept.
+    Ended(Loaded, Over),
+    /// The input ended at its front or before.
+    Empty(Over),
 }
 
-/// Reads what is requested, once, to the buffer's front, and cuts it: of a read that failed whole sectors are kept.
-/// Answers how much the read gave, and what it is cut into.
+/// Reads what is requested, once, to the buffer's front, and cuts it: of a read that failed whole sectors are kept, and
+/// of one that met the input's end all that it gave. Answers what the read gave, and what it is cut into.
 pub fn fetch<S: Source>(
     source: &mut S,
     buf: &mut [u8],
@@ -30,29 +35,32 @@ pub fn fetch<S: Source>(
     requires sector { 0 < sector }
     requires opened { (S.state source.old).is_open ≡ true }
     requires short { request.pos + request.len < 2 ^ 63 }
-    ensures fetched { IfOk result (λ f. Fetches request sector f.0.0 f.1 buf.new (S.state source.old)
+    ensures fetched { IfOk result (λ f. Fetches request sector f.0 f.1 buf.new (S.state source.old)
         (S.state source.new)) }
-    ensures sure { (S.state source.old).may_lose ≡ false → IsOk result }
     ensures lost { OnErr result (Loses (S.state source.old) (S.state source.new)) }
     ensures same { length buf.new ≡ length buf.old }
     ensures source { Stays (S.state source.old) (S.state source.new) }
 {
-    let Got(given) = source.read_at(request.pos, &mut buf[..request.len])?;
-    Ok((Got(given), cut(request, given, sector)))
+    let got = source.read_at(request.pos, &mut buf[..request.len])?;
+    Ok((got, cut(request, got, sector)))
 }
 
 /// Cuts what a read gave.
-fn cut(request: Request, given: usize, sector: u64) -> Fetched
+fn cut(request: Request, got: Got, sector: u64) -> Fetched
     requires some { 0 < request.len }
-    requires few { given ≤ request.len }
+    requires few { count_of got ≤ request.len }
+    requires ends { is_end got ≡ true → count_of got < request.len }
     requires sector { 0 < sector }
     requires short { request.pos + request.len < 2 ^ 63 }
-    ensures cut { (r : Reading) → r.pos ≡ request.pos → r.asked ≡ request.len → length r.given ≡ given
-        → IsCut sector r result }
+    ensures cut { (r : Reading) → r.pos ≡ request.pos → r.asked ≡ request.len → length r.given ≡ count_of got
+        → r.ended ≡ is_end got → IsCut sector r result }
     ensures spans { Spans request result }
 {
     let (from, to) = (request.pos, request.pos + request.len as u64);
-    let stop = from + given as u64;
+    let stop = from + got.count() as u64;
+    if got.is_end() {
+        return cut_ended(from, stop);
+    }
     let at = stop / sector * sector;
     if stop == to {
         Fetched::Whole(Loaded {
@@ -70,5 +78,21 @@ fn cut(request: Request, given: usize, sector: u64) -> Fetched
         Fetched::Nothing(Missed {
             run: Run { from, to },
         })
+    }
+}
+
+/// Cuts what a read gave that met the input's end.
+fn cut_ended(from: u64, end: u64) -> Fetched
+    requires { from ≤ end }
+    ensures { IsEndedCut from end result }
+{
+    let over = Over { end };
+    if from < end {
+        let loaded = Loaded {
+            run: Run { from, to: end },
+        };
+        Fetched::Ended(loaded, over)
+    } else {
+        Fetched::Empty(over)
     }
 }

@@ -132,3 +132,26 @@ impl Missed {
         run
     }
 }
+
+/// The input ended here, so that nothing is left to ask for from this position on. Only `end` spends it.
+pub struct Over {
+    pub(crate) end: u64,
+}
+
+impl Model for Over {
+    ghost use Rattle.std.specs.Prelude.{ℕ};
+
+    ghost Value = { ℕ };
+
+    ghost view = { λ over. over.end };
+}
+
+impl Over {
+    /// Where the input ended, as a position of it.
+    pub fn end(self) -> u64
+        ensures { result ≡ self }
+    {
+        let Over { end } = self;
+        end
+    }
+}

@@ -1,5 +1,5 @@
--- What a read behind copying asked for is finished behind it, or bad.
-use Rattle.std.proofs.Common.{◌≡◌, ◌⊎◌, ℕ, ◌+◌, ◌-◌, ◌<◌, ◌≤◌, Bool, true, false, ◌&&◌, nat_lt, if◌then◌else◌, List, length, Some, refl, sym, ap, ◌∙◌, arith, subst, inl, inr, ⊎_elim}
+-- What a read behind copying asked for is finished behind it, or bad, if it is still left of the domain.
+use Rattle.std.proofs.Common.{◌≡◌, ◌⊎◌, ℕ, ◌+◌, ◌-◌, ◌<◌, ◌≤◌, Bool, true, false, ◌&&◌, nat_lt, if◌then◌else◌, List, length, Some, refl, sym, ap, ◌∙◌, arith, inl, inr, ⊎_elim}
 use Rattle.std.specs.List.{slice_get}
 use Rattle.std.proofs.lemmas.Bool.{cases_lt, cond_both}
 use Rattle.std.proofs.lemmas.Option.{same_Some}
@@ -7,15 +7,17 @@ use Rattle.block_list.specs.declared.status.Status.{Status}
 use Rattle.block_list.specs.declared.status.Status.TheVariants.{NonTrimmed, NonScraped, BadSector, Finished}
 use Rattle.block_list.specs.Map.{Has, marked}
 use Rattle.block_list.proofs.Places.{length-marked}
-use Rattle.faulty_source.specs.Journal.{Reading, is_whole, kept}
+use Rattle.faulty_source.specs.Ends.{is_before}
+use Rattle.faulty_source.specs.Journal.{Reading, is_failed, kept}
 use Rattle.rescue_rules.specs.declared.stop.TrimMode.{TrimMode}
 use Rattle.rescue_rules.specs.declared.stop.TrimMode.TheVariants.{Lead, Tail}
 use Rattle.rescue_rules.specs.Setting.{Setting, IsSensible}
 use Rattle.rescue_rules.specs.Machine.{Machine, IsRequest}
-use Rattle.rescue_rules.specs.Step.{Event, is_copying, rest_status, scraped, step}
+use Rattle.rescue_rules.specs.Step.{Event, is_copying, rest_status, scraped, over_after, step}
 use Rattle.rescue_rules.specs.MachineLaws.{IsInOrder, StepsBy}
-use Rattle.rescue_rules.proofs.GivenLemmas.{kept_whole, covers_here}
+use Rattle.rescue_rules.proofs.GivenLemmas.{covers_here}
 use Rattle.rescue_rules.proofs.MarkLemmas.{marked_inside, marked_outside}
+use Rattle.rescue_rules.proofs.OverLemmas.{good_reaches}
 use Rattle.rescue_rules.proofs.StepLemmas.{asks_back, move_steps}
 
 -- An event of a request of a phase behind copying, and what it does.
@@ -45,8 +47,8 @@ scraped_before (Tail low) p map x there back from =
     marked_outside map low (p - low) NonScraped x (omega (arith, le, there)) (inr (omega (arith, le, from)))
 
 rest_marked : (s : Setting) (m : Machine) (e : Event) (x : ℕ) → StepsLater s m e
-    → e.reading.pos + kept s.sector e.reading ≤ x → x < e.reading.pos + e.reading.asked → Has (step s m e).map BadSector x
-rest_marked s m e x l from to =
+    → is_before (over_after m e.reading) x ≡ true → e.reading.pos + kept s.sector e.reading ≤ x → x < e.reading.pos + e.reading.asked → Has (step s m e).map BadSector x
+rest_marked s m e x l before from to =
     let r : Reading = e.reading in
     let k : ℕ = kept s.sector r in
     let t : Status = rest_status s m (r.asked - k) in
@@ -55,17 +57,17 @@ rest_marked s m e x l from to =
     let size : length whole ≡ length m.map = length-marked m.map r.pos k Finished (omega (arith, l.steps.there, l.steps.kept_asked)) in
     let there : r.pos + k + (r.asked - k) ≤ length whole = omega (arith, size, l.steps.there, l.steps.kept_asked) in
     let size_rest : length rest ≡ length whole = length-marked whole (r.pos + k) (r.asked - k) t there in
-    cond_both (is_whole r) whole (scraped m.mode r.pos rest) (λ (map : List Status). Has map BadSector x)
-    (λ on. absurd (omega (arith, kept_whole s.sector r on, from, to)))
-    (λ off.
+    cond_both (is_failed r) (scraped m.mode r.pos rest) whole (λ (map : List Status). Has map BadSector x)
+    (λ failed.
     scraped_before m.mode r.pos rest x (omega (arith, size, size_rest, l.steps.there)) l.back (omega (arith, from))
     ∙ marked_inside whole (r.pos + k) (r.asked - k) t x there from (omega (arith, to, l.steps.kept_asked))
     ∙ ap (λ (u : Status). Some u) (rest_bad s m (r.asked - k) l.later))
+    (λ good. let far : r.pos + r.asked ≤ x = good_reaches m r s.sector x good before from in absurd (omega (arith, far, to)))
 
 -- So a position with another status wasn't asked for.
-pub unasked : (s : Setting) (m : Machine) (e : Event) (u : Status) (x : ℕ) → StepsLater s m e → (Finished ≡ u → ⊥)
-    → (BadSector ≡ u → ⊥) → Has (step s m e).map u x → (x < e.reading.pos) ⊎ (e.reading.pos + e.reading.asked ≤ x)
-unasked s m e u x l unfinished well has =
+pub unasked : (s : Setting) (m : Machine) (e : Event) (u : Status) (x : ℕ) → StepsLater s m e
+    → is_before (over_after m e.reading) x ≡ true → (Finished ≡ u → ⊥) → (BadSector ≡ u → ⊥) → Has (step s m e).map u x → (x < e.reading.pos) ⊎ (e.reading.pos + e.reading.asked ≤ x)
+unasked s m e u x l before unfinished well has =
     let r : Reading = e.reading in
     let k : ℕ = kept s.sector r in
     ⊎_elim (λ (below : x < r.pos). inl below)
@@ -73,7 +75,7 @@ unasked s m e u x l unfinished well has =
     (λ (here : x < r.pos + k).
     absurd (unfinished (same_Some Finished u (sym (l.steps.finishes x (covers_here s.sector r x from here)) ∙ has))))
     (λ (behind : r.pos + k ≤ x). ⊎_elim
-    (λ (to : x < r.pos + r.asked). absurd (well (same_Some BadSector u (sym (rest_marked s m e x l behind to) ∙ has))))
+    (λ (to : x < r.pos + r.asked). absurd (well (same_Some BadSector u (sym (rest_marked s m e x l before behind to) ∙ has))))
     (λ (above : r.pos + r.asked ≤ x). inr above)
     (cases_lt x (r.pos + r.asked)))
     (cases_lt x (r.pos + k)))

@@ -1,23 +1,26 @@
 -- How often a run asks for a position.
-use Rattle.std.proofs.Common.{◌≡◌, ◌⊎◌, ℕ, zero, suc, ◌+◌, true, false, List, [], ◌∷◌, Some, refl, sym, ap, subst, ◌∙◌, inl, inr, ⊎_elim}
+use Rattle.std.proofs.Common.{◌≡◌, ◌⊎◌, ℕ, zero, suc, ◌+◌, true, false, List, [], ◌∷◌, Option, Some, refl, sym, ap, subst, ◌∙◌, inl, inr, ⊎_elim}
 use Rattle.std.proofs.lemmas.List.Elements.{All-get_or}
 use Rattle.std.proofs.lemmas.Option.{get_or_from_slice_get, same_Some, slice_get_within}
 use Rattle.block_list.specs.declared.status.Status.{Status}
 use Rattle.block_list.specs.declared.status.Status.TheVariants.{NonTried, NonTrimmed, NonScraped, BadSector, Finished}
 use Rattle.block_list.specs.Map.{Has}
+use Rattle.faulty_source.specs.Ends.{is_before}
 use Rattle.rescue_rules.specs.declared.phase.Phase.{Phase}
 use Rattle.rescue_rules.specs.declared.phase.Phase.TheVariants.{Copying, Trimming, Scraping, Retrying}
 use Rattle.rescue_rules.specs.Setting.{Setting, IsSensible}
 use Rattle.rescue_rules.specs.Passes.{Pass, taken, numbered, passes_from}
-use Rattle.rescue_rules.specs.Machine.{Machine, pass_of}
+use Rattle.rescue_rules.specs.Machine.{Machine, pass_of, is_wanted}
 use Rattle.rescue_rules.specs.Step.{Event, copies, trims, is_copying, is_trimming, rest_status, step}
 use Rattle.rescue_rules.specs.Moves.{Move, move_of, moves, ready, IsMove, IsRun}
 use Rattle.rescue_rules.specs.MachineLaws.{IsInOrder, AsksFor}
 use Rattle.rescue_rules.proofs.MoveLemmas.{run_first, run_rest}
+use Rattle.rescue_rules.proofs.OverLemmas.{before_was, wanted_before}
+use Rattle.rescue_rules.proofs.ReadyLemmas.{stays_ready}
 use Rattle.rescue_rules.proofs.StepLemmas.{finished_unwanted, request_asks}
 use Rattle.copy_passes.proofs.OnceLemmas.{copying_asks_once}
 use Rattle.trim_scrape.specs.Bounds.{Asks, narrows, is_narrowing, AskFew}
-use Rattle.rescue_core.proofs.ChangeLemmas.{Kept, Missed, Between, Stands, rest_is}
+use Rattle.rescue_core.proofs.ChangeLemmas.{Kept, Missed, CutOff, Between, Stands, rest_is}
 use Rattle.trim_scrape.proofs.OrderLemmas.{AreOrdered, ordered_from}
 use Rattle.trim_scrape.proofs.OwedLemmas.{Owes, owed_before, asked_owed, asked_paid, owed_step}
 use Rattle.trim_scrape.proofs.RunLemmas.{MayRun, Moves, moves_by, has_ready, asked_taken}
@@ -84,6 +87,10 @@ asks_once s m (e ∷ es) (suc i) (suc j) x v w Fits Done once ok may run a b fit
 abbrev IsNarrowed : Machine → ℕ → Type 0
 IsNarrowed m x = Has m.map BadSector x ⊎ Has m.map Finished x
 
+-- or it isn't left of the domain any more
+abbrev IsSettled : Machine → ℕ → Type 0
+IsSettled m x = is_before m.over x ≡ true → IsNarrowed m x
+
 narrowed_has : (m : Machine) (t : Status) (x : ℕ) → IsNarrowed m x → Has m.map t x → (t ≡ BadSector) ⊎ (t ≡ Finished)
 narrowed_has m t x narrowed has =
     ⊎_elim (λ (bad : Has m.map BadSector x). inl (same_Some t BadSector (sym has ∙ bad)))
@@ -116,8 +123,8 @@ narrowed_ready s m x narrowed =
     (λ (done : Has m.map Finished x). inr (has_ready s m Finished x done)) narrowed
 
 narrowing_makes : (s : Setting) (m : Machine) (e : Event) (x : ℕ) → Moves s m e → is_narrowing (ready s m) ≡ true
-    → AsksFor e.reading x → IsNarrowed (move_of s m e).after x
-narrowing_makes s m e x by on asks =
+    → AsksFor e.reading x → IsSettled (move_of s m e).after x
+narrowing_makes s m e x by on asks before =
     elim (by.changes x) [
       | Kept asks' done ↦ inr done
       | Missed asks' part size rest ↦ ⊎_elim
@@ -125,16 +132,22 @@ narrowing_makes s m e x by on asks =
           absurd (narrows_apart (pass_of (ready s m)).phase on is.1))
           (λ (bad : rest_status s (ready s m) size ≡ BadSector). inl (rest ∙ ap (λ (t : Status). Some t) bad))
           (rest_is s (ready s m) size)
+      | CutOff asks' gone same ↦ absurd (gone before)
       | Between apart trims was now ↦ absurd (apart asks)
       | Stands apart same ↦ absurd (apart asks)
     ]
 
-narrowing_keeps : (s : Setting) (m : Machine) (e : Event) (x : ℕ) → Moves s m e → IsNarrowed m x
-    → IsNarrowed (move_of s m e).after x
-narrowing_keeps s m e x by narrowed =
+settled_ready : (s : Setting) (m : Machine) (x : ℕ) → IsSettled m x → IsSettled (ready s m) x
+settled_ready s m x settled before =
+    narrowed_ready s m x
+    (settled (subst (λ (o : Option ℕ). is_before o x ≡ true) (stays_ready s m).over before))
+
+narrowing_keeps : (s : Setting) (m : Machine) (e : Event) (x : ℕ) → Moves s m e → IsSettled m x
+    → IsSettled (move_of s m e).after x
+narrowing_keeps s m e x by settled before =
     let k : Machine = ready s m in
     let at : Phase = (pass_of k).phase in
-    let here : IsNarrowed k x = narrowed_ready s m x narrowed in
+    let here : IsNarrowed k x = settled_ready s m x settled (before_was k e.reading x before) in
     elim (by.changes x) [
       | Kept asks done ↦ inr done
       | Missed asks part size rest ↦ ⊎_elim
@@ -142,19 +155,22 @@ narrowing_keeps s m e x by narrowed =
           absurd (copies_not at is.1 (narrowed_has k (taken at) x here (asked_taken s m e x by asks))))
           (λ (bad : rest_status s k size ≡ BadSector). inl (rest ∙ ap (λ (t : Status). Some t) bad))
           (rest_is s k size)
+      | CutOff asks gone same ↦ absurd (gone before)
       | Between apart trims was now ↦ absurd (narrows_not Trimming refl (narrowed_has k NonTrimmed x here was))
       | Stands apart same ↦ ⊎_elim (λ (bad : Has k.map BadSector x). inl (same ∙ bad))
           (λ (done : Has k.map Finished x). inr (same ∙ done)) here
     ]
 
-narrowing_once : (s : Setting) (x : ℕ) → IsOnce s x (λ k. is_narrowing k ≡ true) (λ k. IsNarrowed k x)
+narrowing_once : (s : Setting) (x : ℕ) → IsOnce s x (λ k. is_narrowing k ≡ true) (λ k. IsSettled k x)
 narrowing_once s x = record {
   makes = λ m e by on asks. narrowing_makes s m e x by on asks;
-  keeps = λ m e by narrowed. narrowing_keeps s m e x by narrowed;
-  bars = λ m e by narrowed on asks.
+  keeps = λ m e by settled. narrowing_keeps s m e x by settled;
+  bars = λ m e by settled on asks.
       let k : Machine = ready s m in
+      let wanted : is_wanted s k x ≡ true = by.steps.wanted x asks.from asks.to in
       narrows_not (pass_of k).phase on
-      (narrowed_has k (taken (pass_of k).phase) x (narrowed_ready s m x narrowed) (asked_taken s m e x by asks));
+      (narrowed_has k (taken (pass_of k).phase) x (settled_ready s m x settled (wanted_before s k x wanted))
+      (asked_taken s m e x by asks));
 }
 
 -- a pass of retrying owes a position nothing that it asked for
@@ -171,7 +187,7 @@ retrying_once s x n =
       keeps = λ m e by paid owes. paid (owed_before s m p x (owed_step s (ready s m) e p x by.request by.steps owes));
       bars = λ m e by paid is asks.
           let k : Machine = ready s m in
-          paid (owed_before s m p x (subst (λ (q : Pass). Owes s k q x) is (asked_owed s k e x by.request asks)));
+          paid (owed_before s m p x (subst (λ (q : Pass). Owes s k q x) is (asked_owed s k e x by.request by.steps asks)));
     }
 
 -- a move of a run asks for nothing that is finished
@@ -189,14 +205,14 @@ unfinished s m es i x v ok run a has =
 asks_few : (s : Setting) (m : Machine) (es : List Event) → IsSensible s → MayRun s m → IsRun s m es → AskFew s m es
 asks_few s m es ok may run =
     let narrows : Machine → Type 0 = λ k. is_narrowing k ≡ true in
-    let narrowed : ℕ → Machine → Type 0 = λ x k. IsNarrowed k x in
+    let settled : ℕ → Machine → Type 0 = λ x k. IsSettled k x in
     let retries : ℕ → Machine → Type 0 = λ n k. pass_of k ≡ numbered Retrying n in
     let paid : ℕ → ℕ → Machine → Type 0 = λ n x k. Owes s k (numbered Retrying n) x → ⊥ in
     record {
       copying = λ i j x v w a b on on'.
           copying_asks_once s m es i j x v w ok may.order run a.is b.is on on' a.asks b.asks;
       narrowing = λ i j x v w a b on on'.
-          asks_once s m es i j x v w narrows (narrowed x) (narrowing_once s x) ok may run a b on on';
+          asks_once s m es i j x v w narrows (settled x) (narrowing_once s x) ok may run a b on on';
       retrying = λ i j x n v w a b is is'.
           asks_once s m es i j x v w (retries n) (paid n x) (retrying_once s x n) ok may run a b is is';
       unfinished = λ i x v a has. unfinished s m es i x v ok run a has;

@@ -1,13 +1,14 @@
 -- How many positions of a map have a status.
-use Rattle.std.proofs.Common.{◌≡◌, ℕ, zero, suc, ◌+◌, ◌<◌, ◌≤◌, true, false, if◌then◌else◌, List, [], ◌∷◌, Some, refl, sym, ap, ◌∙◌, arith}
+use Rattle.std.proofs.Common.{◌≡◌, ℕ, zero, suc, ◌+◌, ◌<◌, ◌≤◌, if◌then◌else◌, List, [], ◌∷◌, Some, take, length-take, sym, ap, ◌∙◌, arith}
 use Rattle.std.specs.List.{count_by}
 use Rattle.std.proofs.lemmas.Bool.{cond-true, cond-false, cond_both}
 use Rattle.std.proofs.lemmas.List.Sums.{sum_by-cons}
-use Rattle.std.proofs.lemmas.Option.{same_Some}
+use Rattle.std.proofs.lemmas.Option.{same_Some, slice_get_within}
 use Rattle.block_list.specs.declared.status.Status.{Status}
 use Rattle.block_list.specs.Status.{same}
 use Rattle.block_list.specs.Map.{Has}
 use Rattle.block_list.proofs.StretchLemmas.{same_self, equal_from_same, other_same}
+use Rattle.rescue_rules.proofs.MarkLemmas.{slice_get-take}
 
 abbrev pub count : Status → List Status → ℕ
 count u map = count_by (λ t. same t u) map
@@ -54,3 +55,14 @@ fewer u (a ∷ old) (t ∷ new) zero was has gone =
 fewer u (a ∷ old) (t ∷ new) (suc p) was has gone =
     let rest : count u new < count u old = fewer u old new p (λ x has. was (suc x) has) has gone in
     omega (arith, rest, count_more u t new, count_more u a old, one_less u a t old new (was 0))
+
+-- The front of a map has what the map has there, and nothing else.
+pub front_within : (k : ℕ) (map : List Status) (x : ℕ) (u : Status) → Has (take k map) u x → x < k
+front_within k map x u has =
+    omega (arith, slice_get_within (take k map) x u has, length-take k map)
+
+pub front_has : (k : ℕ) (map : List Status) (x : ℕ) (u : Status) → x < k → Has map u x → Has (take k map) u x
+front_has k map x u below has = slice_get-take k map x below ∙ has
+
+pub front_had : (k : ℕ) (map : List Status) (x : ℕ) (u : Status) → Has (take k map) u x → Has map u x
+front_had k map x u has = sym (slice_get-take k map x (front_within k map x u has)) ∙ has

@@ -4,7 +4,8 @@ use Rattle.std.specs.List.{range_with_len}
 use Rattle.std.proofs.lemmas.Bool.{cases_lt, cases_Bool, and_from, cond-false, le-leb, lt-leb, lt-ltb}
 use Rattle.std.proofs.lemmas.List.Folds.{list_any_at}
 use Rattle.std.proofs.lemmas.List.FromFn.{length-range_with_len, get_or-range_with_len}
-use Rattle.faulty_source.specs.Journal.{is_whole}
+use Rattle.faulty_source.specs.Ends.{is_before}
+use Rattle.faulty_source.specs.Journal.{is_failed}
 use Rattle.rescue_rules.specs.declared.stop.TrimMode.{TrimMode}
 use Rattle.rescue_rules.specs.declared.stop.TrimMode.TheVariants.{Lead, Tail}
 use Rattle.rescue_rules.specs.declared.phase.Phase.{Phase}
@@ -12,19 +13,23 @@ use Rattle.rescue_rules.specs.declared.phase.Phase.TheVariants.{Copying, Trimmin
 use Rattle.rescue_rules.specs.Setting.{Setting}
 use Rattle.rescue_rules.specs.Passes.{Pass, is_up}
 use Rattle.rescue_rules.specs.Machine.{Machine, pass_of, is_wanted, IsWanted, Search, search_in, search_of, IsNextRun, cut_start, cut_end, is_ahead, IsRequest, has_request}
-use Rattle.rescue_rules.specs.Step.{Event, copies, trims, is_trimming, is_slow, is_jump, cursor_after, step}
+use Rattle.rescue_rules.specs.Step.{Event, copies, trims, is_trimming, is_slow, is_jump, reach, over_after, cursor_after, step}
 use Rattle.rescue_rules.specs.Moves.{begun}
 use Rattle.rescue_rules.specs.MachineLaws.{IsInOrder, StepsBy, AsksFor}
+use Rattle.rescue_rules.proofs.OverLemmas.{before_was, wanted_before}
 use Rattle.rescue_rules.proofs.SearchLemmas.{wanted_within}
 use Rattle.rescue_core.proofs.ChangeLemmas.{trims_is}
+use Rattle.copy_passes.proofs.TopLemmas.{reach_few, reach_some, before_reach}
 
 -- a position lies ahead of a cursor, upwards or downwards
 abbrev pub LiesAhead : (up : Bool) → (cursor x : ℕ) → Type 0
 LiesAhead true cursor x = cursor ≤ x
 LiesAhead false cursor x = x < cursor
 
--- Trimming goes back to its pass's start, so that it leaves each position; any other phase leaves what lies ahead.
+-- Trimming goes back to its pass's start, so that it leaves each position; any other phase leaves what lies ahead; and
+-- neither anything behind the input's end.
 pub record IsLeft (s : Setting) (m : Machine) (x : ℕ) : Type 0 where
+  pub before : is_before m.over x ≡ true
   pub ahead : is_trimming m ≡ false → LiesAhead (is_up s (pass_of m)) m.cursor x
 
 -- all but trimming search from the cursor on, in the pass's direction
@@ -80,7 +85,7 @@ nearest s m p q off asks =
     (subst (λ (f : Search). IsFoundBy f P s.sector asks.start asks.end p q) (search_is s m (pass_of m).phase m.mode off)
     (asks.run, asks.starts, asks.ends))
 
--- where a read from p up to q puts the cursor, with a jump
+-- where a read from p that goes up to q puts the cursor, with a jump
 abbrev cursor_by : Bool → (len p q jump : ℕ) → ℕ
 cursor_by up len p q jump = if up then min len (q + jump) else p - jump
 
@@ -89,45 +94,47 @@ jump_of s m e = if is_jump s m e then m.skip else 0
 
 cursor_is : (s : Setting) (m : Machine) (e : Event) → is_trimming m ≡ false
     → cursor_after s m e ≡ cursor_by (is_up s (pass_of m)) (length m.map) e.reading.pos
-    (e.reading.pos + e.reading.asked) (jump_of s m e)
+    (reach e.reading) (jump_of s m e)
 cursor_is s m e off =
     cond-false (is_trimming m) e.reading.pos
-    (cursor_by (is_up s (pass_of m)) (length m.map) e.reading.pos (e.reading.pos + e.reading.asked) (jump_of s m e)) off
+    (cursor_by (is_up s (pass_of m)) (length m.map) e.reading.pos (reach e.reading) (jump_of s m e)) off
 
--- the cursor goes on, past what was asked for, and without a jump no further
-goes_on_by : (up : Bool) (len cursor p q jump x : ℕ) → p < q → q ≤ len → LiesAhead up cursor p
-    → LiesAhead up (cursor_by up len p q jump) x → LiesAhead up cursor x
-goes_on_by true len cursor p q jump x some there at ahead =
-    let beyond : min len (q + jump) ≤ x = ahead in omega (arith, beyond, at, some, there)
-goes_on_by false len cursor p q jump x some there at ahead =
+-- the cursor goes on, past what was read, and without a jump no further than what was asked for
+goes_on_by : (up : Bool) (len cursor p reached jump x : ℕ) → p ≤ reached → p ≤ len → LiesAhead up cursor p
+    → LiesAhead up (cursor_by up len p reached jump) x → LiesAhead up cursor x
+goes_on_by true len cursor p reached jump x some there at ahead =
+    let beyond : min len (reached + jump) ≤ x = ahead in omega (arith, beyond, at, some, there)
+goes_on_by false len cursor p reached jump x some there at ahead =
     let beyond : x < p - jump = ahead in omega (arith, beyond, at)
 
-goes_past_by : (up : Bool) (len p q jump x : ℕ) → q ≤ len → p ≤ x → x < q → LiesAhead up (cursor_by up len p q jump) x
-    → ⊥
-goes_past_by true len p q jump x there from to ahead =
-    let beyond : min len (q + jump) ≤ x = ahead in omega (arith, beyond, to, there)
-goes_past_by false len p q jump x there from to ahead =
+goes_past_by : (up : Bool) (len p reached jump x : ℕ) → x < len → p ≤ x → x < reached
+    → LiesAhead up (cursor_by up len p reached jump) x → ⊥
+goes_past_by true len p reached jump x there from to ahead =
+    let beyond : min len (reached + jump) ≤ x = ahead in omega (arith, beyond, to, there)
+goes_past_by false len p reached jump x there from to ahead =
     let beyond : x < p - jump = ahead in omega (arith, beyond, from)
 
-goes_to_by : (up : Bool) (len p q x : ℕ) → LiesAhead up (if up then q else p) x
-    → LiesAhead up (cursor_by up len p q 0) x
-goes_to_by true len p q x ahead = let beyond : q ≤ x = ahead in (let e : min len (q + 0) ≤ x = omega arith in e)
-goes_to_by false len p q x ahead = let beyond : x < p = ahead in (let e : x < p - 0 = omega arith in e)
+goes_to_by : (up : Bool) (len p q reached x : ℕ) → reached ≤ q → LiesAhead up (if up then q else p) x
+    → LiesAhead up (cursor_by up len p reached 0) x
+goes_to_by true len p q reached x few ahead =
+    let beyond : q ≤ x = ahead in (let e : min len (reached + 0) ≤ x = omega arith in e)
+goes_to_by false len p q reached x few ahead =
+    let beyond : x < p = ahead in (let e : x < p - 0 = omega arith in e)
 
 -- What was asked for was left, and isn't any more; and nothing is left that wasn't.
 pub asked_left : (s : Setting) (m : Machine) (e : Event) (x : ℕ)
-    → IsRequest s m e.reading.pos (e.reading.pos + e.reading.asked) → AsksFor e.reading x → IsLeft s m x
-asked_left s m e x request asks = record {
+    → IsRequest s m e.reading.pos (e.reading.pos + e.reading.asked) → StepsBy s m e → AsksFor e.reading x → IsLeft s m x
+asked_left s m e x request by asks = record {
+  before = wanted_before s m x (by.wanted x asks.from asks.to);
   ahead = λ off. (nearest s m e.reading.pos (e.reading.pos + e.reading.asked) off request).inside x asks.from asks.to;
 }
 
 pub asked_past : (s : Setting) (m : Machine) (e : Event) (x : ℕ) → is_trimming m ≡ false → StepsBy s m e
     → AsksFor e.reading x → IsLeft s (step s m e) x → ⊥
 asked_past s m e x off by asks left =
-    let p : ℕ = e.reading.pos in
-    let q : ℕ = e.reading.pos + e.reading.asked in
     let up : Bool = is_up s (pass_of m) in
-    goes_past_by up (length m.map) p q (jump_of s m e) x by.there asks.from asks.to
+    goes_past_by up (length m.map) e.reading.pos (reach e.reading) (jump_of s m e) x (omega (arith, by.there, asks.to))
+    asks.from (before_reach m e.reading x left.before asks.to)
     (subst (λ (n : ℕ). LiesAhead up n x) (cursor_is s m e off) (left.ahead off))
 
 pub left_before : (s : Setting) (m : Machine) (e : Event) (x : ℕ)
@@ -138,10 +145,12 @@ left_before s m e x request by left =
     let q : ℕ = e.reading.pos + e.reading.asked in
     let up : Bool = is_up s (pass_of m) in
     record {
+      before = before_was m e.reading x left.before;
       ahead = λ off.
           let at : LiesAhead up m.cursor p = (nearest s m p q off request).inside p (omega arith)
           (omega (arith, by.some)) in
-          goes_on_by up (length m.map) m.cursor p q (jump_of s m e) x (omega (arith, by.some)) by.there at
+          goes_on_by up (length m.map) m.cursor p (reach e.reading) (jump_of s m e) x (reach_some e.reading)
+          (omega (arith, by.there)) at
           (subst (λ (n : ℕ). LiesAhead up n x) (cursor_is s m e off) (left.ahead off));
     }
 
@@ -149,25 +158,26 @@ left_before s m e x request by left =
 pub record JumpsNever (p : Pass) : Type 0 where
   pub last : p.phase ≡ Copying → 4 < p.number
 
-no_jump : (phase : Phase) (number : ℕ) (whole slow : Bool) → (phase ≡ Copying → 4 < number)
-    → (copies phase && (if whole then (slow && nat_le number 2) else nat_le number 4)) ≡ false
-no_jump Copying number true true last = let n : 4 < number = last refl in lt-leb number 2 (omega arith)
-no_jump Copying number true false last = refl
-no_jump Copying number false slow last = lt-leb number 4 (last refl)
-no_jump Trimming number whole slow last = refl
-no_jump Scraping number whole slow last = refl
-no_jump Retrying number whole slow last = refl
+no_jump : (phase : Phase) (number : ℕ) (failed slow : Bool) → (phase ≡ Copying → 4 < number)
+    → (copies phase && (if failed then nat_le number 4 else (slow && nat_le number 2))) ≡ false
+no_jump Copying number false true last = let n : 4 < number = last refl in lt-leb number 2 (omega arith)
+no_jump Copying number false false last = refl
+no_jump Copying number true slow last = lt-leb number 4 (last refl)
+no_jump Trimming number failed slow last = refl
+no_jump Scraping number failed slow last = refl
+no_jump Retrying number failed slow last = refl
 
 jump_none : (s : Setting) (m : Machine) (e : Event) → JumpsNever (pass_of m) → jump_of s m e ≡ 0
 jump_none s m e never =
     cond-false (is_jump s m e) m.skip 0
-    (no_jump (pass_of m).phase (pass_of m).number (is_whole e.reading) (is_slow s e) never.last)
+    (no_jump (pass_of m).phase (pass_of m).number (is_failed e.reading) (is_slow s e) never.last)
 
 -- it leaves what it wants and didn't ask for
 pub left_on : (s : Setting) (m : Machine) (e : Event) (x : ℕ) → JumpsNever (pass_of m)
-    → IsRequest s m e.reading.pos (e.reading.pos + e.reading.asked) → IsWanted s m x → (AsksFor e.reading x → ⊥)
+    → IsRequest s m e.reading.pos (e.reading.pos + e.reading.asked) → length e.reading.given ≤ e.reading.asked
+    → IsWanted s m x → is_before (over_after m e.reading) x ≡ true → (AsksFor e.reading x → ⊥)
     → IsLeft s m x → IsLeft s (step s m e) x
-left_on s m e x never request wanted apart left =
+left_on s m e x never request few wanted before apart left =
     let p : ℕ = e.reading.pos in
     let q : ℕ = e.reading.pos + e.reading.asked in
     let up : Bool = is_up s (pass_of m) in
@@ -178,12 +188,13 @@ left_on s m e x never request wanted apart left =
     (cases_lt x q))
     (cases_lt x p) in
     record {
+      before = before;
       ahead = λ off.
           let beyond : LiesAhead up (if up then q else p) x =
           (nearest s m p q off request).beyond x wanted (left.ahead off) away in
           subst (λ (n : ℕ). LiesAhead up n x)
-          (sym (cursor_is s m e off ∙ ap (cursor_by up (length m.map) p q) (jump_none s m e never)))
-          (goes_to_by up (length m.map) p q x beyond);
+          (sym (cursor_is s m e off ∙ ap (cursor_by up (length m.map) p (reach e.reading)) (jump_none s m e never)))
+          (goes_to_by up (length m.map) p q (reach e.reading) x (reach_few e.reading few) beyond);
     }
 
 -- at its start a pass has left each position
@@ -192,8 +203,9 @@ start_by true len x within = (let e : 0 ≤ x = omega arith in e)
 start_by false len x within = within
 
 pub left_begun : (s : Setting) (m : Machine) (p : Pass) (ps : List Pass) (x : ℕ) → x < length m.map
-    → IsLeft s (begun s m p ps) x
-left_begun s m p ps x within = record { ahead = λ off. start_by (is_up s p) (length m.map) x within }
+    → is_before m.over x ≡ true → IsLeft s (begun s m p ps) x
+left_begun s m p ps x within before =
+    record { before = before; ahead = λ off. start_by (is_up s p) (length m.map) x within }
 
 -- a wanted position ahead is a request
 seen : (s : Setting) (m : Machine) (x : ℕ) → is_wanted s m x ≡ true → is_ahead (search_of s m) x ≡ true

@@ -1,5 +1,5 @@
 -- What a run leaves that went on to its end.
-use Rattle.std.proofs.Common.{◌≡◌, ℕ, ◌<◌, ◌≤◌, min, Bool, true, false, nat_eq, Contains, List, ◌∷◌, length, get_or, Option, Some, None, is_none, sym, ap, subst, ◌∙◌, arith, ⊎_elim}
+use Rattle.std.proofs.Common.{◌≡◌, ℕ, ◌<◌, ◌≤◌, min, Bool, true, false, nat_eq, Contains, List, ◌∷◌, length, get_or, Option, Some, None, is_none, refl, sym, ap, subst, ◌∙◌, arith, ⊎_elim}
 use Rattle.std.specs.List.{slice_index_or}
 use Rattle.std.proofs.lemmas.Bool.{and_parts, cases_lt, cases_Bool, cond-true, eq-eqb}
 use Rattle.std.proofs.lemmas.Option.{slice_get-get_or}
@@ -7,10 +7,11 @@ use Rattle.block_list.specs.declared.status.Status.{Status}
 use Rattle.block_list.specs.declared.status.Status.TheVariants.{NonTried, NonTrimmed, NonScraped, BadSector, Finished}
 use Rattle.block_list.specs.Map.{Has}
 use Rattle.mapfile_text.specs.declared.state.MapState.{MapState}
+use Rattle.faulty_source.specs.Ends.{is_before}
 use Rattle.rescue_rules.specs.declared.phase.Phase.TheVariants.{Copying, Trimming, Scraping, Retrying}
 use Rattle.rescue_rules.specs.Setting.{Setting, IsSensible}
 use Rattle.rescue_rules.specs.Passes.{Pass, taken, is_up, numbered, copying_passes, passes_behind, passes_from}
-use Rattle.rescue_rules.specs.Machine.{Machine, pass_of, start_of}
+use Rattle.rescue_rules.specs.Machine.{Machine, pass_of, start_of, is_live}
 use Rattle.rescue_rules.specs.Step.{Event, limit_met}
 use Rattle.rescue_rules.specs.Moves.{ready, no_pass_left, moves, state_after, has_ended, IsRun}
 use Rattle.rescue_rules.specs.Beginning.{first_pass, first_cursor, machine_of}
@@ -30,11 +31,14 @@ few_passes (Some state) = omega arith
 
 -- a pass's start leaves each position
 left_at_start : (s : Setting) (m : Machine) (p : Pass) (x : ℕ) → pass_of m ≡ p → m.cursor ≡ start_of s p m.map
-    → x < length m.map → IsLeft s m x
-left_at_start s m p x is starts within =
+    → x < length m.map → is_before m.over x ≡ true → IsLeft s m x
+left_at_start s m p x is starts within before =
     let at : m.cursor ≡ start_of s (pass_of m) m.map = starts ∙ ap (λ (q : Pass). start_of s q m.map) (sym is) in
     let up : Bool = is_up s (pass_of m) in
-    record { ahead = λ off. subst (λ (n : ℕ). LiesAhead up n x) (sym at) (start_by up (length m.map) x within) }
+    record {
+      before = before;
+      ahead = λ off. subst (λ (n : ℕ). LiesAhead up n x) (sym at) (start_by up (length m.map) x within);
+    }
 
 -- the last pass of copying begins at its own start
 last_cursor : (s : Setting) (from : Option MapState) (map : List Status) → first_pass from ≡ 5
@@ -57,7 +61,7 @@ owes_last s map from shown time x within =
     let here : pass_of m ≡ numbered Copying 5 =
     ap (λ (ps : List Pass). slice_index_or ps 0 (numbered Copying 1)) are in
     Now (passes_behind s Copying) are (left_at_start s m (numbered Copying 5) x here (last_cursor s from map last)
-    within))
+    within refl))
     (cases_lt (first_pass from) 5)
 
 -- and the passes behind copying
@@ -86,9 +90,9 @@ ended_by s map from shown time es ok run ended =
       over = (and_parts (no_pass_left (ready s k).passes) (is_none (limit_met s k)) ended).0;
     }
 
--- a position of the domain that has a pass's status at the end failed in that pass, which is one of retrying
+-- a position that is left of the domain and has a pass's status at the end failed in that pass, which is one of retrying
 fails : (s : Setting) (m : Machine) (es : List Event) (p : Pass) (x : ℕ) → Ended s m es → JumpsNever p
-    → s.domain x ≡ true
+    → is_live s (state_after s m es) x ≡ true
     → x < length m.map → Has (state_after s m es).map (taken p.phase) x → Owes s m p x → Fails p (moves s m es) x
 fails s m es p x e never inside within has owes =
     owed_fails s m es p x e.ok e.may e.run e.over never inside within has owes
@@ -96,7 +100,8 @@ fails s m es p x e never inside within has owes =
 -- so that no position is non-tried, nor non-trimmed or non-scraped behind a phase that is on.
 left_well : (s : Setting) (map : List Status) (from : Option MapState) (shown : MapState) (time : ℕ) (es : List Event)
     (x : ℕ) (t : Status)
-    → Ended s (machine_of s map from shown time) es → s.domain x ≡ true → x < length map
+    → Ended s (machine_of s map from shown time) es
+    → is_live s (state_after s (machine_of s map from shown time) es) x ≡ true → x < length map
     → Has (state_after s (machine_of s map from shown time) es).map t x
     → IsLeftWell s (machine_of s map from shown time) es x
 left_well s map from shown time es x NonTried e inside within has =

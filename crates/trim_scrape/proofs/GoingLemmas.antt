@@ -1,5 +1,5 @@
 -- Turns behind copying, one after another, and one that stops.
-use Rattle.std.proofs.Common.{◌≡◌, ℕ, ◌+◌, ◌<◌, true, false, List, ◌∷◌, drop, refl, sym, ap, ◌∙◌, subst}
+use Rattle.std.proofs.Common.{◌≡◌, ℕ, ◌+◌, ◌<◌, true, false, drop, refl, sym, ◌∙◌, subst}
 use Rattle.faulty_source.specs.SourceState.{SourceState, Stays as SourceStays}
 use Rattle.crash_site.specs.SiteState.{SiteState, Keeps as SiteKeeps}
 use Rattle.save_resume.proofs.FillLemmas.{keeps_self, keeps_more}
@@ -15,9 +15,9 @@ use Rattle.rescue_rules.specs.Moves.{state_after}
 use Rattle.rescue_core.specs.declared.turn.Turn.{Turn}
 use Rattle.rescue_core.specs.RunState.{RunState, setting_in, passed, HasPlaces}
 use Rattle.rescue_core.specs.Turning.{Turned, Halted}
-use Rattle.copy_passes.specs.Turns.{IsAlike, moved_to, Went, WentUpTo}
+use Rattle.copy_passes.specs.Turns.{IsAlike, WentUpTo}
 use Rattle.copy_passes.proofs.AlikeLemmas.{alike_on, next_pass_is_alike}
-use Rattle.copy_passes.proofs.TurnLemmas.{source_self, source_stays, clock_self, clock_keeps, IsOneMove, one_move, setting_stands, went_none, went_one, went_on}
+use Rattle.copy_passes.proofs.TurnLemmas.{source_self, source_stays, clock_self, clock_keeps, IsOneMove, one_move, went_none, went_one, went_on}
 use Rattle.trim_scrape.specs.Passing.{IsPassOf, IsBefore, GoesOn}
 use Rattle.trim_scrape.proofs.PassingLemmas.{IsInPass, left_of, PassStep, passes_step, GoesNext, goes_next}
 

@@ -8,10 +8,11 @@ use Rattle.block_list.proofs.StretchLemmas.{same_self}
 use Rattle.rescue_rules.specs.declared.phase.Phase.TheVariants.{Copying}
 use Rattle.rescue_rules.specs.Setting.{Setting}
 use Rattle.rescue_rules.specs.Passes.{Pass, taken, numbered}
-use Rattle.rescue_rules.specs.Machine.{Machine, pass_of, has_taken, IsWanted, IsRequest, has_request}
+use Rattle.rescue_rules.specs.Machine.{Machine, pass_of, has_taken, is_live, IsWanted, IsRequest, has_request}
 use Rattle.rescue_rules.specs.Step.{Event, is_trimming, step}
 use Rattle.rescue_rules.specs.Moves.{begun, at_next, ready, no_pass_left}
 use Rattle.rescue_rules.specs.MachineLaws.{IsInOrder, StepsBy, AsksFor}
+use Rattle.rescue_rules.proofs.OverLemmas.{live_before}
 use Rattle.rescue_rules.proofs.ReadyLemmas.{order_begun, spent_request}
 use Rattle.rescue_rules.proofs.SearchLemmas.{request_seen}
 use Rattle.trim_scrape.proofs.CursorLemmas.{IsLeft, asked_left, asked_past, left_before, left_begun, left_seen}
@@ -72,14 +73,14 @@ owed_before s m p x =
     Later (All-contains (Contains (drop 1 m.passes)) (at_next s m (drop 1 m.passes)).passes p all
     (owes_contains s (at_next s m (drop 1 m.passes)) p x owes)))
 
--- a position of the domain with a pass's status is wanted there
-pub wanted_in : (s : Setting) (m : Machine) (p : Pass) (ps : List Pass) (x : ℕ) → m.passes ≡ p ∷ ps → s.domain x ≡ true
+-- a position that is left of the domain with a pass's status is wanted there
+pub wanted_in : (s : Setting) (m : Machine) (p : Pass) (ps : List Pass) (x : ℕ) → m.passes ≡ p ∷ ps → is_live s m x ≡ true
     → Has m.map (taken p.phase) x → IsWanted s m x
 wanted_in s m p ps x is inside has =
     let takes : has_taken m.passes (slice_get m.map x) ≡ true =
     ap (λ (qs : List Pass). has_taken qs (slice_get m.map x)) is ∙ ap (has_taken (p ∷ ps)) has
     ∙ same_self (taken p.phase) in
-    and_from (s.domain x) (has_taken m.passes (slice_get m.map x)) inside takes
+    and_from (is_live s m x) (has_taken m.passes (slice_get m.map x)) inside takes
 
 -- passes that follow one are of its phase or later
 pub all_from : (q p : Pass) (ps : List Pass) → q ≡ p → All (Follows q) ps → All (IsFrom p) ps
@@ -88,14 +89,14 @@ all_from q p ps same all =
 
 -- and still owes what it did, where the position has that pass's status once all passes are of its phase or later.
 owes_next : (s : Setting) (m : Machine) (ps : List Pass) (p : Pass) (x : ℕ) → Contains ps p → AreOrdered ps
-    → x < length m.map → s.domain x ≡ true → (All (IsFrom p) (at_next s m ps).passes → Has m.map (taken p.phase) x)
+    → x < length m.map → is_live s m x ≡ true → (All (IsFrom p) (at_next s m ps).passes → Has m.map (taken p.phase) x)
     → Owes s (at_next s m ps) p x
 owes_next s m [] p x has ordered within inside back = absurd (omega (arith, has.1))
 owes_next s m (q ∷ ps) p x has ordered within inside back =
     cond_both (has_request s (begun s m q ps)) (begun s m q ps) (at_next s m ps)
     (λ (k : Machine). (All (IsFrom p) k.passes → Has m.map (taken p.phase) x) → Owes s k p x)
     (λ on then. ⊎_elim
-    (λ (here : q ≡ p). Now ps (ap (λ (r : Pass). r ∷ ps) here) (left_begun s m q ps x within))
+    (λ (here : q ≡ p). Now ps (ap (λ (r : Pass). r ∷ ps) here) (left_begun s m q ps x within (live_before s m x inside)))
     (λ (later : Contains ps p). Later later)
     (contains_cases q ps p has))
     (λ off then. ⊎_elim
@@ -105,14 +106,14 @@ owes_next s m (q ∷ ps) p x has ordered within inside back =
     let has' : Has m.map (taken p.phase) x = then (all_from q p (at_next s m ps).passes here
     (next_all (Follows q) s m ps ordered.0)) in
     let on : has_request s n ≡ true =
-    left_seen s n x (order_begun s m q ps) (wanted_in s n p ps x is inside has') (left_begun s m q ps x within) in
+    left_seen s n x (order_begun s m q ps) (wanted_in s n p ps x is inside has') (left_begun s m q ps x within (live_before s m x inside)) in
     absurd (true≢false (sym on ∙ off)))
     (λ (later : Contains ps p). owes_next s m ps p x later ordered.1 within inside then)
     (contains_cases q ps p has))
     back
 
 pub owes_ready : (s : Setting) (m : Machine) (p : Pass) (x : ℕ) → IsInOrder s m → AreOrdered m.passes → x < length m.map
-    → s.domain x ≡ true → (All (IsFrom p) (ready s m).passes → Has m.map (taken p.phase) x) → Owes s m p x
+    → is_live s m x ≡ true → (All (IsFrom p) (ready s m).passes → Has m.map (taken p.phase) x) → Owes s m p x
     → Owes s (ready s m) p x
 owes_ready s m p x inorder ordered within inside back owes =
     cond_both (has_request s m) m (at_next s m (drop 1 m.passes))
@@ -146,10 +147,11 @@ passes_are s m on = of m.passes refl
 
 -- What an event asks for was owed by its pass, and isn't any more; and nothing is owed that wasn't.
 pub asked_owed : (s : Setting) (m : Machine) (e : Event) (x : ℕ)
-    → IsRequest s m e.reading.pos (e.reading.pos + e.reading.asked) → AsksFor e.reading x → Owes s m (pass_of m) x
-asked_owed s m e x request asks =
+    → IsRequest s m e.reading.pos (e.reading.pos + e.reading.asked) → StepsBy s m e → AsksFor e.reading x
+    → Owes s m (pass_of m) x
+asked_owed s m e x request by asks =
     let on : has_request s m ≡ true = request_seen s m e.reading.pos (e.reading.pos + e.reading.asked) request in
-    Now (passes_are s m on).0 (passes_are s m on).1 (asked_left s m e x request asks)
+    Now (passes_are s m on).0 (passes_are s m on).1 (asked_left s m e x request by asks)
 
 pub asked_paid : (s : Setting) (m : Machine) (e : Event) (x : ℕ) → is_trimming m ≡ false → AreOrdered m.passes
     → IsRequest s m e.reading.pos (e.reading.pos + e.reading.asked) → StepsBy s m e → AsksFor e.reading x

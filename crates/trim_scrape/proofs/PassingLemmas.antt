@@ -1,32 +1,31 @@
 -- A run within a pass behind copying stays so in a turn.
-use Rattle.std.proofs.Common.{◌≡◌, ◌⊎◌, ℕ, suc, ◌+◌, ◌-◌, ◌<◌, ◌≤◌, Bool, true, false, ◌&&◌, List, [], ◌∷◌, ◌++◌, length, map, drop, Some, refl, sym, ap, ◌∙◌, arith, subst, ⊎_elim}
+use Rattle.std.proofs.Common.{◌≡◌, ℕ, suc, ◌+◌, ◌-◌, ◌<◌, ◌≤◌, true, false, List, [], ◌∷◌, ◌++◌, length, map, drop, take, Some, refl, sym, ap, ◌∙◌, arith, subst, ⊎_elim}
 use Rattle.std.specs.List.{slice_get, slice_index_or, range_with_len}
 use Rattle.std.proofs.lemmas.Bool.{and_from, le-leb, true≢false}
-use Rattle.block_list.specs.declared.status.Status.{Status}
-use Rattle.block_list.specs.declared.status.Status.TheVariants.{NonTrimmed, NonScraped, BadSector, Finished}
+use Rattle.block_list.specs.declared.status.Status.TheVariants.{NonTrimmed, NonScraped}
 use Rattle.block_list.specs.Map.{Has}
 use Rattle.block_list.proofs.StretchLemmas.{same_self}
-use Rattle.rescue_domain.specs.Parts.{covers}
 use Rattle.rescue_rules.specs.declared.stop.TrimMode.{TrimMode}
 use Rattle.rescue_rules.specs.declared.stop.TrimMode.TheVariants.{Lead, Tail}
 use Rattle.rescue_rules.specs.declared.phase.Phase.{Phase}
 use Rattle.rescue_rules.specs.declared.phase.Phase.TheVariants.{Copying, Trimming, Scraping, Retrying}
 use Rattle.rescue_rules.specs.Setting.{Setting, IsSensible}
 use Rattle.rescue_rules.specs.Passes.{Pass, taken, is_up, numbered, passes_behind, passes_from}
-use Rattle.rescue_rules.specs.Machine.{Machine, pass_of, start_of, has_taken, is_wanted, Search, search_in, search_of, is_ahead, IsRequest, has_request}
-use Rattle.rescue_rules.specs.Step.{Event, copies, is_copying, cursor_after, step}
+use Rattle.rescue_rules.specs.Machine.{Machine, pass_of, has_taken, is_live, is_wanted, Search, search_in, search_of, is_ahead, IsRequest, has_request}
+use Rattle.rescue_rules.specs.Step.{Event, copies, is_copying, step}
 use Rattle.rescue_rules.specs.MachineLaws.{IsInOrder}
+use Rattle.rescue_rules.proofs.OverLemmas.{live_was, wanted_live, wanted_before}
 use Rattle.rescue_rules.proofs.ReadyLemmas.{order_begun}
 use Rattle.rescue_rules.proofs.SearchLemmas.{wanted_within}
 use Rattle.rescue_rules.proofs.StatusLemmas.{non_trimmed_stood, non_scraped_stood, wanted_taken}
-use Rattle.rescue_rules.proofs.StepLemmas.{wanted_domain}
 use Rattle.rescue_core.specs.RunState.{RunState, setting_in, passed, IsGone}
 use Rattle.rescue_core.specs.Turning.{stepped}
 use Rattle.copy_passes.specs.Copying.{LeavesNone}
-use Rattle.copy_passes.proofs.CopyingLemmas.{ahead_by, ahead_of, wanted_seen, start_ahead}
+use Rattle.copy_passes.proofs.CopyingLemmas.{ahead_of, wanted_seen, start_ahead}
+use Rattle.copy_passes.proofs.TopLemmas.{top_of, below_top, before_top, top_less}
 use Rattle.trim_scrape.specs.Passing.{IsPassOf, IsDone, IsBefore}
 use Rattle.trim_scrape.proofs.AskedLemmas.{StepsLater, steps_later, unasked}
-use Rattle.trim_scrape.proofs.CountLemmas.{count, fewer}
+use Rattle.trim_scrape.proofs.CountLemmas.{count, fewer, front_has, front_had, front_within}
 use Rattle.trim_scrape.proofs.SweepLemmas.{Sweeps, scraping_sweeps, retrying_sweeps, sweeps_on, ahead_is, ahead_still, ahead_at_start}
 
 -- A run within such a pass: those behind it follow; and in scraping it has left nothing behind.
@@ -52,19 +51,20 @@ never_copies s Retrying number there = refl
 later_is : (r : RunState) → IsInPass r → is_copying r.machine ≡ false
 later_is r i = ap copies (phase_is r i) ∙ never_copies (setting_in r) r.phase r.pass i.there
 
--- it asks for the positions of the domain with its phase's status
-wants : (r : RunState) (x : ℕ) → IsInPass r → covers r.domain x ≡ true → Has r.machine.map (taken r.phase) x
+-- it asks for the positions that are left of the domain with its phase's status
+wants : (r : RunState) (x : ℕ) → IsInPass r → is_live (setting_in r) r.machine x ≡ true
+    → Has r.machine.map (taken r.phase) x
     → is_wanted (setting_in r) r.machine x ≡ true
 wants r x i inside has =
     let ps : List Pass = numbered r.phase r.pass ∷ passes_from (setting_in r) r.phase (r.pass + 1) in
     let takes : has_taken r.machine.passes (slice_get r.machine.map x) ≡ true =
     ap (λ (qs : List Pass). has_taken qs (slice_get r.machine.map x)) i.passes ∙ ap (has_taken ps) has ∙ same_self (taken r.phase) in
-    and_from (covers r.domain x) (has_taken r.machine.passes (slice_get r.machine.map x)) inside takes
+    and_from (is_live (setting_in r) r.machine x) (has_taken r.machine.passes (slice_get r.machine.map x)) inside takes
 
--- what a turn leaves to read: in trimming the non-trimmed positions, and else the map ahead of the cursor
+-- what a turn leaves to read: in trimming the non-trimmed positions that are left, and else the map ahead of the cursor
 abbrev pub left_of : Phase → RunState → ℕ
 left_of Copying r = ahead_of r
-left_of Trimming r = count NonTrimmed r.machine.map
+left_of Trimming r = count NonTrimmed (take (top_of r.machine) r.machine.map)
 left_of Scraping r = ahead_of r
 left_of Retrying r = ahead_of r
 
@@ -73,25 +73,27 @@ trims_less : (r : RunState) (e : Event) → IsInPass r → StepsLater (setting_i
 trims_less r e i l is =
     let s : Setting = setting_in r in
     let m : Machine = r.machine in
+    let n : Machine = step s m e in
     let p : ℕ = e.reading.pos in
+    let wanted : is_wanted s m p ≡ true = l.steps.wanted p (omega arith) (omega (arith, l.steps.some)) in
     let has : Has m.map NonTrimmed p =
-    subst (λ (phase : Phase). Has m.map (taken phase) p) (phase_is r i ∙ is)
-    (wanted_taken s m p (l.steps.wanted p (omega arith) (omega (arith, l.steps.some)))) in
-    fewer NonTrimmed m.map (step s m e).map p
-    (λ x has. ⊎_elim (λ (was : Has m.map NonTrimmed x). was)
+    subst (λ (phase : Phase). Has m.map (taken phase) p) (phase_is r i ∙ is) (wanted_taken s m p wanted) in
+    let below : p < top_of m = below_top m p (wanted_within s m p wanted) (wanted_before s m p wanted) in
+    fewer NonTrimmed (take (top_of m) m.map) (take (top_of n) n.map) p
+    (λ x has. let within : x < top_of n = front_within (top_of n) n.map x NonTrimmed has in
+    front_has (top_of m) m.map x NonTrimmed (top_less m n e.reading x refl l.steps.size within)
+    (⊎_elim (λ (was : Has m.map NonTrimmed x). was)
     (λ (on : is_copying m ≡ true). absurd (true≢false (sym on ∙ l.later)))
-    (non_trimmed_stood s m e.reading x has))
-    has
+    (non_trimmed_stood s m e.reading x (front_had (top_of n) n.map x NonTrimmed has))))
+    (front_has (top_of m) m.map p NonTrimmed below has)
     (λ has. ⊎_elim (λ (low : p < p). omega (arith, low)) (λ (high : p + e.reading.asked ≤ p). omega (arith, high, l.steps.some))
-    (unasked s m e NonTrimmed p l (λ same. cc) (λ same. cc) has))
+    (unasked s m e NonTrimmed p l (before_top n p (front_within (top_of n) n.map p NonTrimmed has)) (λ same. cc) (λ same. cc)
+    (front_had (top_of n) n.map p NonTrimmed has)))
 
 sweeps_less : (r : RunState) (e : Event) → Sweeps (setting_in r) r.machine → StepsLater (setting_in r) r.machine e
     → IsRequest (setting_in r) r.machine e.reading.pos (e.reading.pos + e.reading.asked) → ahead_of (stepped r e) < ahead_of r
 sweeps_less r e w l asks =
-    let s : Setting = setting_in r in
-    let m : Machine = r.machine in
-    subst (λ (n : ℕ). ahead_by (is_up s (pass_of m)) n (cursor_after s m e) < ahead_of r) (sym l.steps.size)
-    (sweeps_on s m e w asks l.steps.some l.steps.there)
+    sweeps_on (setting_in r) r.machine e w asks l.steps
 
 sweeps_in : (r : RunState) (phase : Phase) → IsInPass r → r.phase ≡ phase → pass_of r.machine ≡ numbered phase r.pass
 sweeps_in r phase i is = pass_is r i ∙ ap (λ (at : Phase). numbered at r.pass) is
@@ -108,9 +110,9 @@ reads_less Retrying r e i l asks is =
 
 -- scraping leaves nothing behind
 scrapes_all : (r : RunState) (e : Event) → IsInPass r → StepsLater (setting_in r) r.machine e
-    → IsRequest (setting_in r) r.machine e.reading.pos (e.reading.pos + e.reading.asked) → r.phase ≡ Scraping
-    → LeavesNone (setting_in r) (stepped r e).machine
-scrapes_all r e i l asks is =
+    → IsRequest (setting_in r) r.machine e.reading.pos (e.reading.pos + e.reading.asked)
+    → length e.reading.given ≤ e.reading.asked → r.phase ≡ Scraping → LeavesNone (setting_in r) (stepped r e).machine
+scrapes_all r e i l asks few is =
     let s : Setting = setting_in r in
     let m : Machine = r.machine in
     let n : Machine = step s m e in
@@ -126,10 +128,10 @@ scrapes_all r e i l asks is =
           let e : Tail back.0 ≡ Lead = sym back.1 ∙ i.order.lead w.trimming in absurd (cc))
           (non_scraped_stood s m e.reading x has) in
           let before : is_wanted s m x ≡ true =
-          wants r x i (wanted_domain s n x wanted) (subst (λ (phase : Phase). Has m.map (taken phase) x) (sym is) was) in
+          wants r x i (live_was s m n e.reading x refl (wanted_live s n x wanted)) (subst (λ (phase : Phase). Has m.map (taken phase) x) (sym is) was) in
           ahead_is s n x (scraping_sweeps s n r.pass here)
-          ∙ ahead_still s m e x w asks l.steps.some l.steps.there before ((i.scrapes is).ahead x before)
-          (unasked s m e NonScraped x l (λ same. cc) (λ same. cc) has);
+          ∙ ahead_still s m e x w asks few before ((i.scrapes is).ahead x before)
+          (unasked s m e NonScraped x l (wanted_before s n x wanted) (λ same. cc) (λ same. cc) has);
     }
 
 -- An event of its request, and what it does.
@@ -150,7 +152,7 @@ passes_step r e i asks few =
         there = i.there;
         passes = i.passes;
         order = l.steps.order;
-        scrapes = λ is. scrapes_all r e i l asks is;
+        scrapes = λ is. scrapes_all r e i l asks few is;
       };
     }
 

@@ -2,22 +2,22 @@
 use Rattle.std.specs.Prelude.{◌≡◌, ℕ, ◌<◌, ◌≤◌, true, false, List, length}
 use Rattle.block_list.specs.declared.status.Status.TheVariants.{NonTrimmed, NonScraped, BadSector, Finished}
 use Rattle.block_list.specs.Map.{Has}
-use Rattle.faulty_source.specs.Journal.{is_whole}
+use Rattle.faulty_source.specs.Journal.{is_failed}
 use Rattle.rescue_rules.specs.declared.phase.Phase.TheVariants.{Retrying}
 use Rattle.rescue_rules.specs.Setting.{Setting}
 use Rattle.rescue_rules.specs.Passes.{Pass, numbered}
-use Rattle.rescue_rules.specs.Machine.{Machine, pass_of}
+use Rattle.rescue_rules.specs.Machine.{Machine, pass_of, is_live}
 use Rattle.rescue_rules.specs.Step.{Event}
 use Rattle.rescue_rules.specs.Moves.{Move, moves, state_after}
 use Rattle.trim_scrape.specs.Bounds.{Asks}
 
--- a read of this pass asked for a position, and wasn't whole
+-- a read of this pass asked for a position, and failed
 pub record FailedIn (pass : Pass) (ms : List Move) (x : ℕ) : Type 0 where
   pub number : ℕ
   pub move : Move
   pub asks : Asks ms number x move
   pub pass_is : pass_of move.before ≡ pass
-  pub failed : is_whole move.event.reading ≡ false
+  pub failed : is_failed move.event.reading ≡ true
 
 -- What events leave of a position: it is rescued; or it wasn't trimmed, and trimming is off; or it wasn't scraped, and
 -- scraping is off; or it is bad, and failed once more in each pass of retrying that was asked for.
@@ -29,6 +29,6 @@ pub data IsLeftWell (s : Setting) (m : Machine) (events : List Event) (x : ℕ) 
       → ((n : ℕ) → 0 < n → n ≤ s.retries → FailedIn (numbered Retrying n) (moves s m events) x)
       → IsLeftWell s m events x
 
--- each position of the domain is left so
+-- each position is left so that is still in the domain: that lies before the input's end, if a read met it
 pub record EndsWell (s : Setting) (m : Machine) (events : List Event) : Type 0 where
-  pub each : (x : ℕ) → s.domain x ≡ true → x < length m.map → IsLeftWell s m events x
+  pub each : (x : ℕ) → is_live s (state_after s m events) x ≡ true → x < length m.map → IsLeftWell s m events x

@@ -23,7 +23,8 @@ returns-in_default-land_kept-clause-halted g c = λ r same.
       front = t.front;
       at_is = cc;
     } in
-    Unwritten refl refl t.event t.is (c.in_default-land_kept.ensures.failed (setting_in r) t.event.reading cut_at)
+    Unwritten refl refl t.event t.is (c.in_default-land_kept.ensures.named (setting_in r) t.event.reading cut_at)
+    (c.in_default-land_kept.ensures.failed (setting_in r) t.event.reading cut_at)
 
 pub returns-clause-gathered : goal.returns-clause-gathered
 returns-clause-gathered g c =
@@ -35,7 +36,7 @@ returns-clause-gathered g c =
       event = t.event;
       is = t.is;
       cut = cut;
-      turn = λ r same. c.turn_behind-turn.ensures r t.event same (record { pos = t.is.pos; asked = t.is.asked; count = t.count })
+      turn = λ r same. c.turn_behind-turn.ensures r t.event same (record { pos = t.is.pos; asked = t.is.asked; count = t.count; end = t.ended })
           (c.size.ensures c.args.settings.now.sector t.event.reading cut
           ∙ ap (λ (s : Settings). kept s.sector t.event.reading) (sym same)) t.before t.after;
       after = t.after;

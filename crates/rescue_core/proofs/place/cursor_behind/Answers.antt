@@ -5,15 +5,17 @@ use Rattle.rescue_core.proofs.PlaceLemmas.{cursor_is}
 use Rattle.rescue_core.proofs.place.cursor_behind.Goals as goal
 
 pub returns-then-is_up : goal.returns-then-is_up
-returns-then-is_up c = λ r e at is asked jump size.
-    let h = cursor_is c.args.settings.now c.args.phase c.args.place r e c.args.top c.args.request.pos c.args.request.len c.args.jumped at is asked jump size in
+returns-then-is_up c = λ r e at read jump size.
+    let h = cursor_is c.args.settings.now c.args.phase c.args.place r e c.args.request c.args.turn.given c.args.turn.ended
+    c.args.top c.args.jumped at read jump size in
     let up = c.is_up.ensures r.domain r.names r.line c.args.phase in
     let off : trims c.args.phase ≡ false = search rules in
     grind (arith, common_steps, h, up, off)
 
 pub returns-else-is_up : goal.returns-else-is_up
-returns-else-is_up c = λ r e at is asked jump size.
-    let h = cursor_is c.args.settings.now c.args.phase c.args.place r e c.args.top c.args.request.pos c.args.request.len c.args.jumped at is asked jump size in
+returns-else-is_up c = λ r e at read jump size.
+    let h = cursor_is c.args.settings.now c.args.phase c.args.place r e c.args.request c.args.turn.given c.args.turn.ended
+    c.args.top c.args.jumped at read jump size in
     let up = c.is_up.ensures r.domain r.names r.line c.args.phase in
     let off : trims c.args.phase ≡ false = search rules in
     grind (arith, common_steps, h, up, off)

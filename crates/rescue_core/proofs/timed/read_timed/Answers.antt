@@ -12,7 +12,7 @@ reads_both x y a b c f g = record {
 
 pub returns-clause-timed : goal.returns-clause-timed
 returns-clause-timed g c =
-    let f = c.in_ok-given.ensures.fetched in
+    let f = c.in_ok-got.ensures.fetched in
     let source : SourceState = g.S.Source.state c.args.source.now in
     record {
       event = record { reading = f.reading; before = c.now_ms-before.result; after = c.now_ms-after.result };
@@ -20,6 +20,7 @@ returns-clause-timed g c =
         pos = f.pos;
         asked = f.asked;
         few = f.few;
+        ends = f.ends;
         right = λ tells. f.right tells ∙ ap (λ p. slice_range source.bytes p (p + length f.reading.given)) f.pos;
         read = f.read;
         times = reads_both c.now_ms-before.result c.now_ms-after.result (g.K.Clock.state c.args.clock.now)
@@ -29,6 +30,7 @@ returns-clause-timed g c =
         after = search rules;
       };
       count = f.count;
+      ended = f.ended;
       before = refl;
       after = refl;
       cut = f.cut;
@@ -36,4 +38,4 @@ returns-clause-timed g c =
     }
 
 pub returns-clause-parts : goal.returns-clause-parts
-returns-clause-parts g c = c.in_ok-given.ensures.fetched.spans
+returns-clause-parts g c = c.in_ok-got.ensures.fetched.spans

@@ -1,5 +1,6 @@
 use Rattle.std.proofs.Common.{◌∙◌, length, refl, ap, sym, subst, arith, rules}
 use Rattle.std.proofs.lemmas.Result.{err_from_is_err_and, IfOk-at_ok, IfErr-at_err}
+use Rattle.rescue_core.specs.declared.turn.Turn.{Turn}
 use Rattle.rescue_core.specs.RunState.{IsRunning}
 use Rattle.rescue_core.proofs.TurnedLemmas.{Parts, parts_of, parts_behind, run_of, begins_of, Does, begins_fits, marks_size, does_running, does_untimely, does_saved, does_unsaved, halts_same, room_same}
 use Rattle.faulty_source.proofs.Keeping.{stays_self}
@@ -30,12 +31,25 @@ returns-in_err-kept-clause-halted g c =
     (halts_same p c.args.self.now c.args.request _ (g.T.Tiles.statuses c.reserve.new.self) _ _ _ _ _ _ c.self.view_is
     c.reserve.ensures.statuses halted)
 
-pub mark-requires-clause-within : goal.mark-requires-clause-within
-mark-requires-clause-within g c =
+pub mark-met-requires-clause-within : goal.mark-met-requires-clause-within
+mark-met-requires-clause-within g c =
     let begins = begins_of _ g.T.Tiles.statuses c.self.inside c.args.self.now c.args.request c.self.view_is c.self.invariant.0
     c.requires.places c.requires.request in
     let fits = begins_fits _ _ _ _ begins in
     omega (arith, ap length c.reserve.ensures.statuses)
+
+pub overflow_add-end : goal.overflow_add-end
+overflow_add-end g c =
+    let begins = begins_of _ g.T.Tiles.statuses c.self.inside c.args.self.now c.args.request c.self.view_is c.self.invariant.0
+    c.requires.places c.requires.request in
+    let fits = begins_fits _ _ _ _ begins in
+    omega (arith, fits.short)
+
+pub place_behind-self-inside-requires-clause-given : goal.place_behind-self-inside-requires-clause-given
+place_behind-self-inside-requires-clause-given g c =
+    let p : Parts = parts_of _ g.T.Tiles.statuses c.self.inside in
+    let got = c.in_ok-kept.ensures.gathered in
+    omega (arith, ap (λ (turn : Turn). turn.given) (got.turn (run_of p) refl), got.is.few)
 
 pub place_behind-self-inside-requires-clause-within : goal.place_behind-self-inside-requires-clause-within
 place_behind-self-inside-requires-clause-within g c =
@@ -44,8 +58,8 @@ place_behind-self-inside-requires-clause-within g c =
     c.requires.places c.requires.request in
     let fits = begins_fits _ _ _ _ begins in
     let size = marks_size p c.args.self.now _ c.args.request c.in_ok-kept.field-0 (g.T.Tiles.statuses c.reserve.new.self)
-    (g.T.Tiles.statuses c.mark.new.tiles) _ _ _ _ _ _ begins c.in_ok-kept.ensures.gathered
-    c.reserve.ensures.statuses c.mark.ensures in
+    (g.T.Tiles.statuses c.mark-met.new.tiles) _ _ _ _ _ _ begins c.in_ok-kept.ensures.gathered
+    c.reserve.ensures.statuses c.mark-met.ensures.map in
     omega arith
 
 pub invariant_of-self-in-Err : goal.invariant_of-self-in-Err
@@ -53,11 +67,13 @@ invariant_of-self-in-Err g c =
     let p : Parts = parts_of _ g.T.Tiles.statuses c.self.inside in
     let begins = begins_of _ g.T.Tiles.statuses c.self.inside c.args.self.now c.args.request c.self.view_is c.self.invariant.0
     c.requires.places c.requires.request in
-    let does : Does p c.args.request c.in_ok-kept.field-0 c.save_now-saved.new.heading.line (g.T.Tiles.statuses c.mark.new.tiles)
+    let does : Does p c.args.request c.in_ok-kept.field-0 c.save_now-saved.new.heading.line (g.T.Tiles.statuses c.mark-met.new.tiles)
     c.place_behind-self-inside.result c.tally_behind-self-inside.result = record {
       old = g.T.Tiles.statuses c.reserve.new.self;
       old_is = c.reserve.ensures.statuses;
-      marks = c.mark.ensures;
+      marks = c.mark-met.ensures.map;
+      end = c.mark-met.result;
+      meets = c.mark-met.ensures.end;
       more = c.trims_on-more.result;
       more_is = c.trims_on-more.ensures;
       top = c.end.result;
@@ -71,7 +87,7 @@ invariant_of-self-in-Err g c =
     let running = does_running p c.args.self.now _ c.args.request c.in_ok-kept.field-0 _ _ _ _ _ _ _ _ _ _ begins c.in_ok-kept.ensures.gathered does in
     let room = room_same c.self.inside.buf.len c.gather.new.buf _ c.self.inside.buf.items c.deref_mut.ensures.len
     c.deref_mut.ensures.value c.gather.ensures.same in (
-      subst (λ n. IsRunning (run_of (parts_behind p c.save_now-saved.new.heading.line (g.T.Tiles.statuses c.mark.new.tiles)
+      subst (λ n. IsRunning (run_of (parts_behind p c.save_now-saved.new.heading.line (g.T.Tiles.statuses c.mark-met.new.tiles)
           c.place_behind-self-inside.result c.tally_behind-self-inside.result)) n) (sym room) running,
       c.save_now-saved.ensures.program,
     )
@@ -81,11 +97,13 @@ invariant_of-self-in_default g c =
     let p : Parts = parts_of _ g.T.Tiles.statuses c.self.inside in
     let begins = begins_of _ g.T.Tiles.statuses c.self.inside c.args.self.now c.args.request c.self.view_is c.self.invariant.0
     c.requires.places c.requires.request in
-    let does : Does p c.args.request c.in_ok-kept.field-0 c.save_now-saved.new.heading.line (g.T.Tiles.statuses c.mark.new.tiles)
+    let does : Does p c.args.request c.in_ok-kept.field-0 c.save_now-saved.new.heading.line (g.T.Tiles.statuses c.mark-met.new.tiles)
     c.place_behind-self-inside.result c.tally_behind-self-inside.result = record {
       old = g.T.Tiles.statuses c.reserve.new.self;
       old_is = c.reserve.ensures.statuses;
-      marks = c.mark.ensures;
+      marks = c.mark-met.ensures.map;
+      end = c.mark-met.result;
+      meets = c.mark-met.ensures.end;
       more = c.trims_on-more.result;
       more_is = c.trims_on-more.ensures;
       top = c.end.result;
@@ -99,7 +117,7 @@ invariant_of-self-in_default g c =
     let running = does_running p c.args.self.now _ c.args.request c.in_ok-kept.field-0 _ _ _ _ _ _ _ _ _ _ begins c.in_ok-kept.ensures.gathered does in
     let room = room_same c.self.inside.buf.len c.gather.new.buf _ c.self.inside.buf.items c.deref_mut.ensures.len
     c.deref_mut.ensures.value c.gather.ensures.same in (
-      subst (λ n. IsRunning (run_of (parts_behind p c.save_now-saved.new.heading.line (g.T.Tiles.statuses c.mark.new.tiles)
+      subst (λ n. IsRunning (run_of (parts_behind p c.save_now-saved.new.heading.line (g.T.Tiles.statuses c.mark-met.new.tiles)
           c.place_behind-self-inside.result c.tally_behind-self-inside.result)) n) (sym room) running,
       c.save_now-saved.ensures.program,
     )
@@ -109,11 +127,13 @@ invariant_of-self-else-due g c =
     let p : Parts = parts_of _ g.T.Tiles.statuses c.self.inside in
     let begins = begins_of _ g.T.Tiles.statuses c.self.inside c.args.self.now c.args.request c.self.view_is c.self.invariant.0
     c.requires.places c.requires.request in
-    let does : Does p c.args.request c.in_ok-kept.field-0 c.self.inside.heading.line (g.T.Tiles.statuses c.mark.new.tiles)
+    let does : Does p c.args.request c.in_ok-kept.field-0 c.self.inside.heading.line (g.T.Tiles.statuses c.mark-met.new.tiles)
     c.place_behind-self-inside.result c.tally_behind-self-inside.result = record {
       old = g.T.Tiles.statuses c.reserve.new.self;
       old_is = c.reserve.ensures.statuses;
-      marks = c.mark.ensures;
+      marks = c.mark-met.ensures.map;
+      end = c.mark-met.result;
+      meets = c.mark-met.ensures.end;
       more = c.trims_on-more.result;
       more_is = c.trims_on-more.ensures;
       top = c.end.result;
@@ -127,7 +147,7 @@ invariant_of-self-else-due g c =
     let running = does_running p c.args.self.now _ c.args.request c.in_ok-kept.field-0 _ _ _ _ _ _ _ _ _ _ begins c.in_ok-kept.ensures.gathered does in
     let room = room_same c.self.inside.buf.len c.gather.new.buf _ c.self.inside.buf.items c.deref_mut.ensures.len
     c.deref_mut.ensures.value c.gather.ensures.same in (
-      subst (λ n. IsRunning (run_of (parts_behind p c.self.inside.heading.line (g.T.Tiles.statuses c.mark.new.tiles)
+      subst (λ n. IsRunning (run_of (parts_behind p c.self.inside.heading.line (g.T.Tiles.statuses c.mark-met.new.tiles)
           c.place_behind-self-inside.result c.tally_behind-self-inside.result)) n) (sym room) running,
       c.self.invariant.1,
     )
@@ -137,11 +157,13 @@ returns-else-due-clause-turned g c =
     let p : Parts = parts_of _ g.T.Tiles.statuses c.self.inside in
     let begins = begins_of _ g.T.Tiles.statuses c.self.inside c.args.self.now c.args.request c.self.view_is c.self.invariant.0
     c.requires.places c.requires.request in
-    let does : Does p c.args.request c.in_ok-kept.field-0 c.self.inside.heading.line (g.T.Tiles.statuses c.mark.new.tiles)
+    let does : Does p c.args.request c.in_ok-kept.field-0 c.self.inside.heading.line (g.T.Tiles.statuses c.mark-met.new.tiles)
     c.place_behind-self-inside.result c.tally_behind-self-inside.result = record {
       old = g.T.Tiles.statuses c.reserve.new.self;
       old_is = c.reserve.ensures.statuses;
-      marks = c.mark.ensures;
+      marks = c.mark-met.ensures.map;
+      end = c.mark-met.result;
+      meets = c.mark-met.ensures.end;
       more = c.trims_on-more.result;
       more_is = c.trims_on-more.ensures;
       top = c.end.result;
@@ -161,11 +183,13 @@ returns-in_default-clause-turned g c =
     let p : Parts = parts_of _ g.T.Tiles.statuses c.self.inside in
     let begins = begins_of _ g.T.Tiles.statuses c.self.inside c.args.self.now c.args.request c.self.view_is c.self.invariant.0
     c.requires.places c.requires.request in
-    let does : Does p c.args.request c.in_ok-kept.field-0 c.save_now-saved.new.heading.line (g.T.Tiles.statuses c.mark.new.tiles)
+    let does : Does p c.args.request c.in_ok-kept.field-0 c.save_now-saved.new.heading.line (g.T.Tiles.statuses c.mark-met.new.tiles)
     c.place_behind-self-inside.result c.tally_behind-self-inside.result = record {
       old = g.T.Tiles.statuses c.reserve.new.self;
       old_is = c.reserve.ensures.statuses;
-      marks = c.mark.ensures;
+      marks = c.mark-met.ensures.map;
+      end = c.mark-met.result;
+      meets = c.mark-met.ensures.end;
       more = c.trims_on-more.result;
       more_is = c.trims_on-more.ensures;
       top = c.end.result;
@@ -186,11 +210,13 @@ returns-in-Err-clause-halted g c =
     let p : Parts = parts_of _ g.T.Tiles.statuses c.self.inside in
     let begins = begins_of _ g.T.Tiles.statuses c.self.inside c.args.self.now c.args.request c.self.view_is c.self.invariant.0
     c.requires.places c.requires.request in
-    let does : Does p c.args.request c.in_ok-kept.field-0 c.save_now-saved.new.heading.line (g.T.Tiles.statuses c.mark.new.tiles)
+    let does : Does p c.args.request c.in_ok-kept.field-0 c.save_now-saved.new.heading.line (g.T.Tiles.statuses c.mark-met.new.tiles)
     c.place_behind-self-inside.result c.tally_behind-self-inside.result = record {
       old = g.T.Tiles.statuses c.reserve.new.self;
       old_is = c.reserve.ensures.statuses;
-      marks = c.mark.ensures;
+      marks = c.mark-met.ensures.map;
+      end = c.mark-met.result;
+      meets = c.mark-met.ensures.end;
       more = c.trims_on-more.result;
       more_is = c.trims_on-more.ensures;
       top = c.end.result;
