@@ -1,5 +1,5 @@
 -- What stands behind the answer of a rescue.
-use Rattle.std.proofs.Common.{◌≡◌, ℕ, ◌+◌, ◌*◌, ◌-◌, ◌≤◌, zero, suc, Bool, true, false, if◌then◌else◌, refl, List, [], ◌++◌, ◌∷◌, map, filter, length, take, drop, Option, Some, None, option_map, sym, ◌∙◌, ap, subst, arith, inl, inr, ⊎_elim, length-append}
+use Rattle.std.proofs.Common.{◌≡◌, ℕ, ◌+◌, ◌*◌, ◌-◌, ◌≤◌, zero, suc, Bool, true, false, IsTrue, if◌then◌else◌, refl, List, [], ◌++◌, ◌∷◌, map, filter, length, take, drop, Option, Some, None, option_map, sym, ◌∙◌, ap, subst, arith, inl, inr, ⊎_elim, length-append}
 use Rattle.std.specs.List.{count_by, slice_get}
 use Rattle.std.proofs.Math.Seq.{take-length}
 use Rattle.std.proofs.lemmas.Bool.{cases_Bool}
@@ -22,7 +22,7 @@ use Rattle.option_words.specs.declared.fault.UsageFault.TheVariants.{PlaceTooLar
 use Rattle.save_resume.specs.MapNames.{names_of}
 use Rattle.save_resume.specs.Loading.{BeginsLoad, IsLoad}
 use Rattle.save_resume.specs.Resuming.{barrier_calls}
-use Rattle.rescue_rules.specs.Setting.{Setting}
+use Rattle.rescue_rules.specs.Setting.{Setting, IsSensible}
 use Rattle.rescue_rules.specs.Start.{Stands}
 use Rattle.rescue_rules.specs.Held.{Held}
 use Rattle.rescue_rules.specs.Machine.{Machine}
@@ -41,7 +41,7 @@ use Rattle.rescue_rules.specs.declared.stop.Stop.{Stop}
 use Rattle.rescue_rules.specs.declared.stop.Stop.TheVariants.{SourceLost as InputLost, Site, NoMemory as NoRoom}
 use Rattle.rescue_rules.specs.declared.stop.RunEnd.{RunEnd}
 use Rattle.rescue_rules.specs.Work.{Gain, begins, events_in, opening_calls, mapfile_in, IsLoadOf, AreMapReads, EndsBy, end_of, Ends, IsSaved as RunSaved, IsUnsaved, IsBroken}
-use Rattle.rescue_rules.specs.Stops.{LeftAt, has_barrier, is_settle, is_publish, returned, published, files_before, IsSave, IsKept, StopsSafely}
+use Rattle.rescue_rules.specs.Stops.{LeftAt, has_barrier, is_settle, is_publish, returned, published, files_before, IsSave, IsKept}
 use Rattle.ddrescue_cli.specs.declared.ending.Ending.{Ending}
 use Rattle.ddrescue_cli.specs.declared.ending.Ending.TheVariants.{Done, Usage, SameName, NoMap, SourceFault, NotRegular, MapRefused, SourceLost, SiteFault, NoMemory}
 use Rattle.ddrescue_cli.specs.declared.ending.Which.{Which}
@@ -51,21 +51,19 @@ use Rattle.rescue_command.specs.Command.{Command, Asks}
 use Rattle.option_words.specs.Words.{command_line}
 use Rattle.ddrescue_cli.specs.Names.{program_name}
 use Rattle.ddrescue_cli.specs.Asked.{Maps, setting_of}
-use Rattle.ddrescue_cli.proofs.AskedLemmas.{asked_sensible}
-use Rattle.ddrescue_cli.proofs.GainLemmas.{gained_is}
+use Rattle.ddrescue_cli.proofs.AskedLemmas.{sensible_to}
 use Rattle.save_resume.specs.Named.{map_mode}
 use Rattle.ddrescue_cli.specs.Refusals.{NamedMapRefused, MapfileRefused, PlacesRefused}
-use Rattle.ddrescue_cli.specs.Told.{Told, AllTell, what_was_done, calls_before, files_of, asked, asked_to}
-use Rattle.work_steps.specs.Work.{Opening, Deeds, Step, Look, Read, Works, with_calls, with_opens}
-use Rattle.ddrescue_cli.specs.Maps.{file_of, mapfile_of}
-use Rattle.ddrescue_cli.specs.Outside.{found_in, HasGainedReads}
-use Rattle.ddrescue_cli.specs.Work.{answer_of, Rescues, RunsOver, rescue_faults, map_rows, mapfile_rows, opened_rows, rescue_rows, worked_rows}
-use Rattle.ddrescue_cli.proofs.WorkLemmas.{WorksOpened, setting_by}
-use Rattle.ddrescue_cli.specs.Ddrescue.{IsWork, Promise, Ddrescue}
-use Rattle.ddrescue_cli.specs.Laws.{maps_by, done_by, HoldsAtEnd, IsFinished, DoneIsSaved, comes_to}
+use Rattle.ddrescue_cli.specs.Told.{Told, calls_before, files_of, asked_of}
+use Rattle.work_steps.specs.Work.{Deeds, Step, Look, Read, Works, with_calls, with_opens}
+use Rattle.ddrescue_cli.specs.Maps.{Found, file_of, found_in, mapfile_of}
+use Rattle.ddrescue_cli.specs.Outside.{Outside}
+use Rattle.ddrescue_cli.specs.Work.{answer_of, Rescues, RunsOver, rescue_faults, map_rows, load_rows, opened_rows, rescue_rows, worked_rows}
+use Rattle.ddrescue_cli.specs.Ddrescue.{Promise, Ddrescue}
+use Rattle.ddrescue_cli.specs.Laws.{outside_by, setting, done_by, HoldsAtEnd, IsFinished, DoneIsSaved, comes_to}
 use Rattle.trim_scrape.proofs.EndingLemmas.{run_ends_well}
 use Rattle.ddrescue_cli.proofs.OutputLemmas.{holds_whole}
-use Rattle.ddrescue_cli.proofs.GoesLemmas.{opened, settled, settled_more}
+use Rattle.ddrescue_cli.proofs.GoesLemmas.{WorksOpened, setting_by, opened, settled, settled_more}
 use Rattle.ddrescue_cli.proofs.CountLemmas.{dues, run_entries, settles_once_more, publishes_each}
 use Rattle.ddrescue_cli.proofs.FrontLemmas.{IsMapRead, load_reads, reads_stand, made_both}
 use Rattle.ddrescue_cli.proofs.ReadLemmas.{settles_behind, publishes_behind, barrier_behind}
@@ -77,66 +75,25 @@ left_all start calls k all =
     let P : List Entry → Type 0 = λ r. MayBeLeft start calls k (after start r).files in
     subst P (ap (λ n. take n calls) all ∙ take-length calls) (reads_until start calls k)
 
-left_at_end : (maps : Maps) (t : Told) → Ddrescue t → AllTell t
-    → LeftAt (calls_before t) (what_was_done maps t) (length (what_was_done maps t).calls) (files_in t.site')
-left_at_end maps t d tell =
-    let gained : List Entry = (what_was_done maps t).calls in
+left_at_end : (c : Command) (t : Told) (d : Ddrescue t) (p : Promise c t) → IsTrue t.site.tells
+    → LeftAt (calls_before t) p.outside.did.gain (length p.outside.did.gain.calls) (files_in t.site')
+left_at_end c t d p tells =
+    let gained : List Entry = p.outside.did.gain.calls in
     let calls : List Entry = t.site.calls ++ gained in
     let k : ℕ = length t.site.calls + length gained in
     let P : Folder → Type 0 = λ start. MayBeLeft t.site.start calls k (after start t.site'.calls).files in
     let Q : List Entry → Type 0 = λ r. MayBeLeft t.site.start calls k (after t.site.start r).files in
-    subst P (sym (d.site.start tell.site))
-    (subst Q (sym (d.gains tell).calls)
+    subst P (sym (d.site.start tells))
+    (subst Q (sym (p.agrees.calls tells))
     (left_all t.site.start calls k (sym (length-append t.site.calls gained))))
 
--- What was done where all tell: it is the objects' own, and the work and its stops are by that.
-pub record OwnWork (c : Command) (maps : Maps) (t : Told) : Type 0 where
-  pub opens : List Opening
-  pub works : Works rescue_faults (rescue_rows c (found_in c (files_of t)) (length t.source.bytes))
-      (Rescues (asked c maps t) (mapfile_of c (files_of t))) t.answer
-      (record { opens = opens; gain = what_was_done maps t })
-  pub stops : (asked c maps t).has_mapfile ≡ true → StopsSafely (calls_before t) (asked c maps t) (what_was_done maps t)
-
--- what the objects gained is what the work did
-gain_is : (c : Command) (maps : Maps) (end : ℕ) (t : Told) → AllTell t → (w : IsWork c maps end t)
-    → w.did.gain ≡ what_was_done maps t
-gain_is c maps end t tell w =
-    let h : HasGainedReads maps.test t.source t.source' w.did.gain.reads = w.reads tell.source in
-    rw (
-      gained_is t.site.calls t.site'.calls w.did.gain.calls w.calls,
-      gained_is t.source.journal t.source'.journal h.raw h.journal,
-      gained_is t.clock.readings t.clock'.readings w.did.gain.times (w.times tell.clock),
-      h.seen_are,
-    )
-    refl
-
-own_work : (c : Command) (maps : Maps) (end : ℕ) (t : Told) → AllTell t → end ≡ length t.source.bytes
-    → IsWork c maps end t → OwnWork c maps t
-own_work c maps end t tell own w =
-    let g : Gain = what_was_done maps t in
-    let same : w.did.gain ≡ g = gain_is c maps end t tell w in
-    let W : ℕ → Gain → Type 0 = λ n did. Works rescue_faults (rescue_rows c (found_in c (files_of t)) n)
-    (Rescues (asked_to c maps t n) (mapfile_of c (files_of t))) t.answer
-    (record { opens = w.did.opens; gain = did }) in
-    let S : ℕ → Gain → Type 0 = λ n did. (asked_to c maps t n).has_mapfile ≡ true
-    → StopsSafely (calls_before t) (asked_to c maps t n) did in
-    record {
-      opens = w.did.opens;
-      works = subst (λ (n : ℕ). W n g) own (subst (W end) same w.works);
-      stops = subst (λ (n : ℕ). S n g) own (subst (S end) same w.stops);
-    }
-
-pub own_by : (t : Told) (c : Command) (d : Ddrescue t) (asks : Asks t.words c) → AllTell t → OwnWork c (maps_by d asks) t
-own_by t c d asks tell =
-    let p : Promise c t = d.asked_for c asks in
-    own_work c p.maps p.end t tell (p.own_end tell.source) (p.work tell.site)
-
 pub holds_at_end : HoldsAtEnd
-holds_at_end t c began state d asks tell on is stands =
-    let calls : List Entry = (done_by d asks).calls in
+holds_at_end t c began state d asks tells on is stands =
+    let p : Promise c t = d.asked_for c asks in
+    let calls : List Entry = p.outside.did.gain.calls in
     let whole : take (length calls) calls ≡ calls = take-length calls in
-    ((own_by t c d asks tell).stops on).kept (length calls) (files_in t.site') began state (omega arith)
-    (left_at_end (maps_by d asks) t d tell) (ap has_barrier whole ∙ is) stands
+    (p.stops tells on).kept (length calls) (files_in t.site') began state (omega arith)
+    (left_at_end c t d p tells) (ap has_barrier whole ∙ is) stands
 
 -- a run that ended with a save
 record SavedRun (s : Setting) (m : Machine) (events : List Event) (calls : List Entry) : Type 0 where
@@ -287,7 +244,7 @@ done_without s files g rest off grew d =
 done_output : (c : Command) (mapfile : Option (List ℕ)) (line : List ℕ) (end : ℕ) (maps : Maps)
     (files : List ℕ → Option File) (e : Ending) (d : Deeds) (rest : List Entry) → Done ≡ e
     → d.gain.calls ≡ opened (setting_by c (option_map names_of mapfile) line end maps) ++ rest
-    → Works rescue_faults (mapfile_rows c.options mapfile (file_of mapfile files) end)
+    → Works rescue_faults (load_rows mapfile (file_of mapfile files) ++ Look (PlacesRefused c.options end) ∷ [])
     (Rescues (setting_by c (option_map names_of mapfile) line end maps) (file_of mapfile files)) e (with_calls d rest)
     → DoneRun (setting_by c (option_map names_of mapfile) line end maps) files d.gain
 done_output c None line end maps files e d rest is grew (inl (call, failed, broke, only)) = absurd broke
@@ -432,15 +389,11 @@ last_finished : (s : Setting) (m : Machine) → has_ended s m ≡ true → last_
 last_finished s m over = ap (λ (b : Bool). if b then finished_snapshot m else snapshot_of m) over
 
 -- what stands behind all calls: the mapfile, and the output
-record Left (c : Command) (maps : Maps) (t : Told) (began : List Status) (state : Option MapState) : Type 0 where
-  mapfile : files_in t.site' (asked c maps t).names.map
-      ≡ Some (record {
-        bytes = text_of (command_line program_name t.words) (finished_snapshot (comes_to c maps t began state));
-        regular = true;
-      })
-  held : Held (asked c maps t) (what_was_done maps t).reads (bytes_of (files_of t c.outfile))
-      (comes_to c maps t began state).map
-      (bytes_of (files_in t.site' c.outfile))
+record Left (t : Told) (s : Setting) (g : Gain) (began : List Status) (state : Option MapState) : Type 0 where
+  mapfile : files_in t.site' s.names.map
+      ≡ Some (record { bytes = text_of s.line (finished_snapshot (comes_to s g began state)); regular = true })
+  held : Held s g.reads (bytes_of (files_of t s.outfile)) (comes_to s g began state).map
+      (bytes_of (files_in t.site' s.outfile))
 
 -- all calls of a rescue with a mapfile that is done
 record CallsWith (s : Setting) (g : Gain) (load : List Call) (m : Machine) (events : List Event) : Type 0 where
@@ -448,16 +401,11 @@ record CallsWith (s : Setting) (g : Gain) (load : List Call) (m : Machine) (even
   are : AreMapReads maps
   calls : g.calls ≡ map Returned maps ++ (settled s ++ run_entries s load m events)
 
-saved_by : (c : Command) (maps : Maps) (t : Told) (r : DoneWork (asked c maps t) (files_of t) (what_was_done maps t))
-    → (asked c maps t).has_mapfile ≡ true
-    → CallsWith (asked c maps t) (what_was_done maps t) r.run.load
-    (begins (asked c maps t) r.run.statuses r.run.state (what_was_done maps t)) (events_in (what_was_done maps t))
-    → IsKept (calls_before t) (asked c maps t) (what_was_done maps t) r.run.statuses r.run.state
-    (length (what_was_done maps t).calls) (files_in t.site')
-    → Left c maps t r.run.statuses r.run.state
-saved_by c maps t r on w k =
-    let s : Setting = asked c maps t in
-    let g : Gain = what_was_done maps t in
+saved_by : (t : Told) (s : Setting) (g : Gain) (r : DoneWork s (files_of t) g) → s.has_mapfile ≡ true
+    → CallsWith s g r.run.load (begins s r.run.statuses r.run.state g) (events_in g)
+    → IsKept (calls_before t) s g r.run.statuses r.run.state (length g.calls) (files_in t.site')
+    → Left t s g r.run.statuses r.run.state
+saved_by t s g r on w k =
     let m : Machine = begins s r.run.statuses r.run.state g in
     let es : List Event = events_in g in
     let due : List Snapshot = map (λ v. snapshot_of v.after) (filter (is_due s) (moves s m es)) in
@@ -494,23 +442,27 @@ calls_with s files g w on =
       calls = w.grew ∙ ap (λ (r : List Entry). map Returned w.maps ++ r) (w.run.calls ∙ ap F (opening_is s on));
     }
 
-left_with : (t : Told) (c : Command) (d : Ddrescue t) (asks : Asks t.words c) → AllTell t
-    → (r : DoneWork (asked c (maps_by d asks) t) (files_of t) (done_by d asks))
-    → (asked c (maps_by d asks) t).has_mapfile ≡ true
-    → Left c (maps_by d asks) t r.run.statuses r.run.state
-left_with t c d asks tell r on =
-    let maps : Maps = maps_by d asks in
-    let s : Setting = asked c maps t in
-    let g : Gain = what_was_done maps t in
+left_with : (t : Told) (c : Command) (d : Ddrescue t) (asks : Asks t.words c) → IsTrue t.site.tells
+    → (r : DoneWork (setting d asks) (files_of t) (done_by d asks)) → (setting d asks).has_mapfile ≡ true
+    → Left t (setting d asks) (done_by d asks) r.run.statuses r.run.state
+left_with t c d asks tells r on =
+    let s : Setting = setting d asks in
+    let g : Gain = done_by d asks in
     let w : CallsWith s g r.run.load (begins s r.run.statuses r.run.state g) (events_in g) =
     calls_with s (files_of t) g r on in
     let rest : List Entry =
     settled s ++ run_entries s r.run.load (begins s r.run.statuses r.run.state g) (events_in g) in
     let barrier : has_barrier g.calls ≡ true = ap has_barrier w.calls ∙ barrier_behind w.maps rest w.are in
-    let stands : Stands (files_of t s.names.map) (length t.source.bytes) r.run.statuses r.run.state =
+    let stands : Stands (files_of t s.names.map) s.end r.run.statuses r.run.state =
     subst (λ (o : Option File). Stands o s.end r.run.statuses r.run.state) (mapfile_is s (files_of t) on)
     r.run.stands in
-    saved_by c maps t r on w (holds_at_end t c r.run.statuses r.run.state d asks tell on barrier stands)
+    saved_by t s g r on w (holds_at_end t c r.run.statuses r.run.state d asks tells on barrier stands)
+
+-- what words ask for is sensible
+asked_sensible : (t : Told) (c : Command) (d : Ddrescue t) (asks : Asks t.words c) → IsSensible (setting d asks)
+asked_sensible t c d asks =
+    let o : Outside = outside_by d asks in
+    sensible_to c t.words (command_line program_name t.words) o.end o.maps asks
 
 -- a rescue's run begins in order
 begun_order : (s : Setting) (statuses : List Status) (state : Option MapState) (g : Gain)
@@ -529,13 +481,14 @@ calls_without s files g off r =
     ∙ ap (λ (load : List Call). map Returned (image_open s.outfile true ∷ load) ++ last) (r.loads.none off)
 
 -- without a mapfile all writes of the run stand in the output
-held_without : (c : Command) (maps : Maps) (t : Told) (d : Ddrescue t) → Asks t.words c → AllTell t
-    → (w : DoneWork (asked c maps t) (files_of t) (what_was_done maps t)) → (asked c maps t).has_mapfile ≡ false
-    → Held (asked c maps t) (what_was_done maps t).reads (bytes_of (files_of t c.outfile))
-    (comes_to c maps t w.run.statuses w.run.state).map (bytes_of (files_in t.site' c.outfile))
-held_without c maps t d asks tell w off =
-    let s : Setting = asked c maps t in
-    let g : Gain = what_was_done maps t in
+held_without : (t : Told) (c : Command) (d : Ddrescue t) (asks : Asks t.words c) → IsTrue t.site.tells
+    → (w : DoneWork (setting d asks) (files_of t) (done_by d asks)) → (setting d asks).has_mapfile ≡ false
+    → Held (setting d asks) (done_by d asks).reads (bytes_of (files_of t c.outfile))
+    (comes_to (setting d asks) (done_by d asks) w.run.statuses w.run.state).map (bytes_of (files_in t.site' c.outfile))
+held_without t c d asks tells w off =
+    let p : Promise c t = d.asked_for c asks in
+    let s : Setting = setting d asks in
+    let g : Gain = done_by d asks in
     let m : Machine = begins s w.run.statuses w.run.state g in
     let es : List Event = events_in g in
     let start : Folder = after t.site.start t.site.calls in
@@ -546,24 +499,23 @@ held_without c maps t d asks tell w off =
     ∙ ap (λ (r : List Entry). map Returned w.maps ++ r)
     (calls_without s (files_of t) (record g { calls = w.rest }) off w.run) in
     let now : after t.site'.start t.site'.calls ≡ after start whole =
-    ap (λ (from : Folder). after from t.site'.calls) (d.site.start tell.site)
-    ∙ ap (after t.site.start) (d.gains tell).calls
+    ap (λ (from : Folder). after from t.site'.calls) (d.site.start tells)
+    ∙ ap (after t.site.start) (p.agrees.calls tells)
     ∙ after-append t.site.start t.site.calls g.calls ∙ ap (after start) calls
     ∙ after-append start (map Returned w.maps) whole
     ∙ ap (λ (from : Folder). after from whole) (reads_stand w.maps start w.are) in
     let image : bytes_of (files_in t.site' c.outfile) ≡ output_after s old es =
     ap (λ (f : Folder). bytes_of (f.files c.outfile)) now ∙ (holds_whole s m es start off).holds in
     let held : Held s (reads_of es) old (state_after s m es).map (output_after s old es) =
-    run_holds s m es old (asked_sensible c maps t asks) (begun_order s w.run.statuses w.run.state g) w.run.run in
+    run_holds s m es old (asked_sensible t c d asks) (begun_order s w.run.statuses w.run.state g) w.run.run in
     subst (λ (bytes : List ℕ). Held s g.reads old (state_after s m es).map bytes) (sym image)
     (subst (λ (reads : List Reading). Held s reads old (state_after s m es).map (output_after s old es)) w.run.reads
     held)
 
-finished_by : (t : Told) (c : Command) (d : Ddrescue t) (asks : Asks t.words c) → AllTell t
-    → DoneWork (asked c (maps_by d asks) t) (files_of t) (done_by d asks) → IsFinished c (maps_by d asks) t
-finished_by t c d asks tell w =
-    let maps : Maps = maps_by d asks in
-    let s : Setting = asked c maps t in
+finished_by : (t : Told) (c : Command) (d : Ddrescue t) (asks : Asks t.words c) → IsTrue t.site.tells
+    → DoneWork (setting d asks) (files_of t) (done_by d asks) → IsFinished t (setting d asks) (done_by d asks)
+finished_by t c d asks tells w =
+    let s : Setting = setting d asks in
     record {
       statuses = w.run.statuses;
       state = w.run.state;
@@ -572,16 +524,17 @@ finished_by t c d asks tell w =
       over = w.run.over;
       well = run_ends_well s (prepared s.domain s.again s.retrim w.run.statuses) (goes_on_from s.again w.run.state)
           (shown_at_first w.run.state) (began_at (done_by d asks).times) (events_in (done_by d asks))
-          (asked_sensible c maps t asks) w.run.run w.run.over;
-      mapfile = λ on. (left_with t c d asks tell w on).mapfile;
-      held = ⊎_elim (λ (on : s.has_mapfile ≡ true). (left_with t c d asks tell w on).held)
-          (λ (off : s.has_mapfile ≡ false). held_without c maps t d asks tell w off) (cases_Bool s.has_mapfile);
+          (asked_sensible t c d asks) w.run.run w.run.over;
+      mapfile = λ on. (left_with t c d asks tells w on).mapfile;
+      held = ⊎_elim (λ (on : s.has_mapfile ≡ true). (left_with t c d asks tells w on).held)
+          (λ (off : s.has_mapfile ≡ false). held_without t c d asks tells w off) (cases_Bool s.has_mapfile);
     }
 
 pub done_is_saved : DoneIsSaved
-done_is_saved t c d asks tell is =
-    let maps : Maps = maps_by d asks in
-    let w : OwnWork c maps t = own_by t c d asks tell in
-    finished_by t c d asks tell
-    (done_works c (command_line program_name t.words) (length t.source.bytes) maps (files_of t) t.answer
-    (record { opens = w.opens; gain = what_was_done maps t }) (sym is) w.works)
+done_is_saved t c d asks tells is =
+    let p : Promise c t = d.asked_for c asks in
+    let o : Outside = p.outside in
+    finished_by t c d asks tells
+    (done_works c (command_line program_name t.words) o.end o.maps (files_of t) t.answer o.did (sym is)
+    (subst (λ (f : Found). Works rescue_faults (rescue_rows c f o.end) (Rescues (asked_of c t o) f.mapfile) t.answer o.did)
+    (p.agrees.found tells) p.works))

@@ -1,25 +1,23 @@
 -- How a run ends: its last save, or the turn that it stopped in.
-use Rattle.std.proofs.Common.{◌≡◌, ◌⊎◌, ℕ, ◌+◌, ◌<◌, ◌^◌, Bool, true, false, ◌&&◌, IsTrue, if◌then◌else◌, List, [], ◌∷◌, ◌++◌, map, length, All, Option, Some, None, is_some, is_none, refl, sym, ap, ◌∙◌, arith, subst, append_assoc, append-nil, inl, inr, ⊎_elim}
+use Rattle.std.proofs.Common.{◌≡◌, ℕ, ◌+◌, ◌<◌, ◌^◌, Bool, true, false, ◌&&◌, IsTrue, if◌then◌else◌, List, [], ◌∷◌, ◌++◌, map, length, All, Option, Some, None, is_none, refl, sym, ap, ◌∙◌, arith, subst, append_assoc, append-nil}
 use Rattle.std.proofs.lemmas.List.Elements.{All-nil, All-cons, All-append}
 use Rattle.std.proofs.lemmas.Bool.{false_from_ne_true}
 use Rattle.block_list.specs.declared.status.Status.{Status}
 use Rattle.faulty_source.specs.SourceState.{SourceState, Stays as SourceStays}
 use Rattle.crash_site.specs.declared.site.SiteCall.{SiteCall}
-use Rattle.crash_site.specs.declared.site.SiteCall.TheVariants.{ImageWrite, ImageSync, DraftBegin, DraftAppend, DraftSync, DraftPublish, MapSettle}
-use Rattle.crash_site.specs.Calls.{Call, Entry, Done as Returned, Made, BrokeAt, image_sync, draft_append, draft_sync}
+use Rattle.crash_site.specs.declared.site.SiteCall.TheVariants.{ImageWrite}
+use Rattle.crash_site.specs.Calls.{Call, Entry, Done as Returned, Made, BrokeAt}
 use Rattle.crash_site.specs.SiteState.{SiteState, Breaks}
 use Rattle.mapfile_text.specs.declared.state.Current.TheVariants.{Finished}
 use Rattle.mapfile_text.specs.declared.state.MapState.{MapState}
-use Rattle.mapfile_text.specs.Pieces.{pieces_of}
-use Rattle.save_resume.specs.MapNames.{MapNames}
-use Rattle.save_resume.specs.Saving.{publish_calls, save_calls, IsNameIn}
-use Rattle.save_resume.proofs.CallLemmas.{made_more, broke_front, broke_back}
+use Rattle.save_resume.specs.Saving.{save_calls, IsNameIn}
+use Rattle.save_resume.proofs.CallLemmas.{made_more, broke_front, broke_back, named_front, named_back}
 use Rattle.rescue_console.specs.ClockState.{ClockState, Reads as ReadsClock}
 use Rattle.transfer_token.specs.declared.token.Request.{Request}
 use Rattle.rescue_rules.specs.declared.stop.Stop.{Stop}
 use Rattle.rescue_rules.specs.declared.stop.Stop.TheVariants.{SourceLost, Site, NoMemory}
 use Rattle.rescue_rules.specs.declared.stop.RunEnd.{RunEnd}
-use Rattle.rescue_rules.specs.declared.stop.RunEnd.TheVariants.{Done, Stopped, SaveFailed}
+use Rattle.rescue_rules.specs.declared.stop.RunEnd.TheVariants.{Stopped}
 use Rattle.rescue_rules.specs.Setting.{Setting}
 use Rattle.rescue_rules.specs.declared.phase.Phase.TheVariants.{Retrying}
 use Rattle.rescue_rules.specs.Machine.{Machine, IsRequest, has_request}
@@ -29,7 +27,7 @@ use Rattle.rescue_rules.specs.Snapshots.{Snapshot, text_of, snapshot_of, finishe
 use Rattle.rescue_rules.specs.RunCalls.{write_calls, due_calls, move_calls, run_calls, closing_calls, end_calls}
 use Rattle.rescue_rules.specs.Events.{reads_of, times_of}
 use Rattle.rescue_rules.specs.Laws.{AreTimes}
-use Rattle.rescue_rules.specs.Work.{EndsBy, end_of, IsSaved, IsUnsaved, IsBroken}
+use Rattle.rescue_rules.specs.Work.{EndsBy, Ends, end_of, IsSaved, IsUnsaved, IsBroken}
 use Rattle.rescue_rules.proofs.ReadyLemmas.{ready_here, spent_request}
 use Rattle.rescue_rules.proofs.SearchLemmas.{request_seen}
 use Rattle.rescue_core.specs.RunState.{RunState, names_in, setting_in}
@@ -37,12 +35,9 @@ use Rattle.rescue_core.specs.Turning.{IsEvent, stepped, move_by, Halted, Starved
 use Rattle.rescue_core.specs.Closing.{Saves, Saved, Unsaved as UnsavedEnd, Closes, closing_snapshot, end_of as core_end}
 use Rattle.copy_passes.specs.Turns.{Across, IsFrom, IsAlike, moved_to, Went, WentUpTo}
 use Rattle.trim_scrape.specs.Behind.{IsBehind}
-use Rattle.ddrescue_cli.specs.Steps.{IsRunCall, IsLate}
-use Rattle.ddrescue_cli.specs.declared.ending.Ending.TheVariants.{SiteFault}
-use Rattle.ddrescue_cli.specs.Work.{answer_of}
-use Rattle.ddrescue_cli.specs.Running.{EndsCalls, WentToEnd}
+use Rattle.ddrescue_cli.specs.Running.{WentToEnd}
 use Rattle.ddrescue_cli.proofs.LastLemmas.{behind_all}
-use Rattle.ddrescue_cli.proofs.GainLemmas.{GainsBroken, broke_gains, broke_behind}
+use Rattle.work_steps.proofs.GainLemmas.{MayGain, may_gain, broke_behind}
 use Rattle.ddrescue_cli.proofs.TurnLemmas.{timed_more, EventMore, event_more, ReadsMore, read_more}
 
 ends_as : (stop : Option Stop) → core_end stop ≡ end_of stop
@@ -119,11 +114,16 @@ record IsDone (r : RunState) (events : List Event) (spare : List ℕ) (o : Acros
   timed : ReadsClock (times_of events ++ spare) o.clock o.clock'
   fit : AreTimes (times_of events ++ spare)
 
+-- the calls of a run that ended so, over a record where the site tells
+record EndsCalls (r : RunState) (events : List Event) (spare : ℕ) (end : RunEnd) (tells : Bool) (calls calls' : List Entry)
+    : Type 0 where
+  gained : List Entry
+  grew : IsTrue tells → calls' ≡ calls ++ gained
+  ends : Ends (setting_in r) r.machine events spare gained end
+
 to_end : (r : RunState) (end : RunEnd) (events : List Event) (spare : List ℕ) (o : Across) → IsDone r events spare o
-    → (IsTrue o.site.tells → EndsCalls r events (length spare) end o.site.calls o.site'.calls)
-    → (end ≡ Done → has_ended (setting_in r) (state_after (setting_in r) r.machine events) ≡ true) → IsLate (answer_of end)
-    → WentToEnd r end o
-to_end r end events spare o d calls done late = record {
+    → EndsCalls r events (length spare) end o.site.tells o.site.calls o.site'.calls → WentToEnd r end o
+to_end r end events spare o d c = record {
   events = events;
   spare = spare;
   run = d.run;
@@ -131,9 +131,9 @@ to_end r end events spare o d calls done late = record {
   right = d.right;
   timed = d.timed;
   fit = d.fit;
-  calls = calls;
-  done = done;
-  late = late;
+  gained = c.gained;
+  grew = c.grew;
+  ends = c.ends;
 }
 
 done_went : (r r1 : RunState) (o : Across) (site2 : SiteState) → (w : Went r r1 o) → IsDone r w.events [] (record o { site' = site2 })
@@ -148,92 +148,40 @@ done_went r r1 o site2 w =
     }
 
 -- The save at the end of a run, or a call of it that failed.
-save_ends : (r r1 : RunState) (events : List Event) (stop : Option Stop) (spare : ℕ) (end : RunEnd) (old : List Entry) (a b : SiteState)
-    → EndsBy stop (setting_in r) (behind r events) spare → setting_in r1 ≡ setting_in r
+save_ends : (r r1 : RunState) (events : List Event) (stop : Option Stop) (spare : ℕ) (end : RunEnd) (tells : Bool) (old : List Entry)
+    (a b : SiteState) → EndsBy stop (setting_in r) (behind r events) spare → setting_in r1 ≡ setting_in r
     → closing_snapshot stop r1 ≡ last_snapshot (setting_in r) (behind r events)
-    → Made (run_calls (setting_in r) r.machine events) old a.calls → IsTrue a.tells
-    → Saves stop r1 end a b → EndsCalls r events spare end old b.calls
-save_ends r r1 events stop spare end old a b by same text made tells (Saved is makes rest) =
+    → (IsTrue tells → Made (run_calls (setting_in r) r.machine events) old a.calls) → (IsTrue tells → IsTrue a.tells)
+    → Saves stop r1 end a b → EndsCalls r events spare end tells old b.calls
+save_ends r r1 events stop spare end tells old a b by same text made told (Saved is makes rest) =
     let s : Setting = setting_in r in
     let are : closing_calls (setting_in r1) (closing_snapshot stop r1) ≡ end_calls s r.machine events =
     ap (λ (t : Setting). closing_calls t (closing_snapshot stop r1)) same ∙ ap (closing_calls s) text in
     record {
       gained = map Returned (run_calls s r.machine events ++ end_calls s r.machine events);
-      grew = made_more old a.calls b.calls (run_calls s r.machine events) (end_calls s r.machine events) made
-          (subst (λ (cs : List Call). Made cs a.calls b.calls) are (makes.made tells));
+      grew = λ t. made_more old a.calls b.calls (run_calls s r.machine events) (end_calls s r.machine events) (made t)
+          (subst (λ (cs : List Call). Made cs a.calls b.calls) are (makes.made (told t)));
       ends = IsSaved stop by (is ∙ ends_as stop) refl;
     }
-save_ends r r1 events stop spare end old a b by same text made tells (UnsavedEnd call is named breaks rest) =
+save_ends r r1 events stop spare end tells old a b by same text made told (UnsavedEnd call is named breaks rest) =
     let s : Setting = setting_in r in
     let are : closing_calls (setting_in r1) (closing_snapshot stop r1) ≡ end_calls s r.machine events =
     ap (λ (t : Setting). closing_calls t (closing_snapshot stop r1)) same ∙ ap (closing_calls s) text in
-    let g : GainsBroken call (end_calls s r.machine events) a.calls b.calls =
-    broke_gains call (end_calls s r.machine events) a.calls b.calls
-    (subst (λ (cs : List Call). BrokeAt call cs a.calls b.calls) are (breaks.broke tells)) in
+    let g : MayGain tells call (end_calls s r.machine events) a.calls b.calls =
+    may_gain tells call (end_calls s r.machine events) a.calls b.calls
+    (subst (λ (cs : List Call). IsNameIn call cs) are named)
+    (λ t. subst (λ (cs : List Call). BrokeAt call cs a.calls b.calls) are (breaks.broke (told t))) in
     let calls : List Entry = map Returned (run_calls s r.machine events) in
     let Q : List Entry → Type 0 = λ from. BrokeAt call (end_calls s r.machine events) from (calls ++ g.more) in
     record {
       gained = calls ++ g.more;
-      grew = g.grew ∙ ap (λ (c : List Entry). c ++ g.more) made ∙ append_assoc old calls g.more;
+      grew = λ t. g.grew t ∙ ap (λ (c : List Entry). c ++ g.more) (made t) ∙ append_assoc old calls g.more;
       ends = IsUnsaved stop call by is
           (subst Q (append-nil calls) (broke_behind call (end_calls s r.machine events) calls [] g.more g.broke));
     }
 
 saves_as : (stop : Option Stop) (r q : RunState) (end : RunEnd) (a b : SiteState) → r ≡ q → Saves stop r end a b → Saves stop q end a b
 saves_as stop r q end a b is saves = subst (λ (p : RunState). Saves stop p end a b) is saves
-
--- a call of a save is one of a run
-appends_named : (call : SiteCall) (ps : List (List ℕ)) (rest : List Call) → IsNameIn call (map draft_append ps ++ rest)
-    → (call ≡ DraftAppend) ⊎ IsNameIn call rest
-appends_named call [] rest h = inr h
-appends_named call (p ∷ ps) rest h = ⊎_elim (λ is. inl is) (λ later. appends_named call ps rest later) h
-
-own_call : (call name : SiteCall) → call ≡ name → IsRunCall name → IsRunCall call
-own_call call name is own = subst IsRunCall (sym is) own
-
-publish_named : (call : SiteCall) (n : MapNames) → (call ≡ DraftAppend) ⊎ IsNameIn call (draft_sync ∷ publish_calls n)
-    → IsRunCall call
-publish_named call n (inl is) = own_call call DraftAppend is tt
-publish_named call n (inr (inl is)) = own_call call DraftSync is tt
-publish_named call n (inr (inr (inl is))) = own_call call DraftPublish is tt
-publish_named call n (inr (inr (inr (inl is)))) = own_call call MapSettle is tt
-publish_named call n (inr (inr (inr (inr h)))) = absurd h
-
-save_named : (call : SiteCall) (n : MapNames) (text : List ℕ) → IsNameIn call (save_calls n text) → IsRunCall call
-save_named call n text (inl is) = own_call call ImageSync is tt
-save_named call n text (inr (inl is)) = own_call call DraftBegin is tt
-save_named call n text (inr (inr h)) = publish_named call n (appends_named call (pieces_of text) (draft_sync ∷ publish_calls n) h)
-
--- nor is one of a run's end
-closing_named : (call : SiteCall) (there : Bool) (n : MapNames) (text : List ℕ)
-    → IsNameIn call (if there then save_calls n text else image_sync ∷ []) → IsRunCall call
-closing_named call true n text h = save_named call n text h
-closing_named call false n text (inl is) = own_call call ImageSync is tt
-closing_named call false n text (inr h) = absurd h
-
-call_late : (call : SiteCall) (earlier : Option Stop) → IsRunCall call → IsLate (SiteFault call earlier)
-call_late call earlier own = record {
-  names = λ named behind is. own_call named call (let same : named ≡ call = cc in same) own;
-}
-
-stop_late : (stop : Option Stop) → ((call : SiteCall) → stop ≡ Some (Site call) → ⊥) → IsLate (answer_of (end_of stop))
-stop_late None other = record { names = λ call earlier is. absurd (cc) }
-stop_late (Some SourceLost) other = record { names = λ call earlier is. absurd (cc) }
-stop_late (Some (Site call)) other = absurd (other call refl)
-stop_late (Some NoMemory) other = record { names = λ call earlier is. absurd (cc) }
-
-saves_late : (stop : Option Stop) (r : RunState) (end : RunEnd) (a b : SiteState) → ((call : SiteCall) → stop ≡ Some (Site call) → ⊥)
-    → Saves stop r end a b → IsLate (answer_of end)
-saves_late stop r end a b other (Saved is makes rest) =
-    subst (λ (e : RunEnd). IsLate (answer_of e)) (sym (is ∙ ends_as stop)) (stop_late stop other)
-saves_late stop r end a b other (UnsavedEnd call is named breaks rest) =
-    subst (λ (e : RunEnd). IsLate (answer_of e)) (sym is)
-    (call_late call stop (closing_named call (is_some r.names) (names_in r.names) (text_of r.line (closing_snapshot stop r)) named))
-
--- only a save without a stop ends a run that is done
-saves_done : (stop : Stop) (r : RunState) (end : RunEnd) (a b : SiteState) → Saves (Some stop) r end a b → end ≡ Done → ⊥
-saves_done stop r end a b (Saved is makes rest) done = let never : Stopped stop ≡ Done = sym is ∙ done in cc
-saves_done stop r end a b (UnsavedEnd call is named breaks rest) done = let never : SaveFailed call (Some stop) ≡ Done = sym is ∙ done in cc
 
 -- a run that went on to its end
 ended_done : (r r1 : RunState) (end : RunEnd) (o : Across) (site2 : SiteState) → Went r r1 o
@@ -242,10 +190,8 @@ ended_done : (r r1 : RunState) (end : RunEnd) (o : Across) (site2 : SiteState) �
 ended_done r r1 end o site2 w over same saves =
     let over' : has_ended (setting_in r) (behind r w.events) ≡ true = behind_over r r1 w.events true w.stands w.state over in
     to_end r end w.events [] (record o { site' = site2 }) (done_went r r1 o site2 w)
-    (λ tells. save_ends r r1 w.events None 0 end o.site.calls o.site' site2 (over', refl) (setting_stands r r1 w.stands)
-    (saves_over r r1 w.events w.state over') (w.made.made tells) (rw same tells) saves)
-    (λ done. over')
-    (saves_late None r1 end o.site' site2 (λ call is. cc) saves)
+    (save_ends r r1 w.events None 0 end o.site.tells o.site.calls o.site' site2 (over', refl) (setting_stands r r1 w.stands)
+    (saves_over r r1 w.events w.state over') w.made.made (λ tells. rw same tells) saves)
 
 -- a run that came behind its last phase
 pub run_end : (r r1 : RunState) (end : RunEnd) (o : Across) (site2 : SiteState) → Went r r1 o → IsBehind Retrying r1
@@ -256,32 +202,31 @@ run_end r r1 end o site2 w behind same saves = ended_done r r1 end o site2 w (be
 stopped_saves : (r r1 r2 : RunState) (stop : Stop) (end : RunEnd) (p q : ℕ) (spare : List ℕ) (o : Across) (site2 : SiteState)
     (source2 : SourceState) (clock2 : ClockState) → (w : Went r r1 o) → IsRequest (setting_in r1) r1.machine p q → r2 ≡ r1
     → ((m : Machine) → has_ended (setting_in r) m ≡ false → EndsBy (Some stop) (setting_in r) m (length spare))
-    → ((call : SiteCall) → Some stop ≡ Some (Site call) → ⊥)
     → o.site'.tells ≡ o.site.tells → IsDone r w.events spare (record o { source' = source2; site' = site2; clock' = clock2 })
     → Saves (Some stop) r2 end o.site' site2 → WentToEnd r end (record o { source' = source2; site' = site2; clock' = clock2 })
-stopped_saves r r1 r2 stop end p q spare o site2 source2 clock2 w asks still by other same d saves =
+stopped_saves r r1 r2 stop end p q spare o site2 source2 clock2 w asks still by same d saves =
     let on : has_ended (setting_in r) (behind r w.events) ≡ false =
     behind_over r r1 w.events false w.stands w.state (asked_on (setting_in r1) r1.machine p q asks) in
     to_end r end w.events spare (record o { source' = source2; site' = site2; clock' = clock2 }) d
-    (λ tells. save_ends r r1 w.events (Some stop) (length spare) end o.site.calls o.site' site2 (by (behind r w.events) on)
-    (setting_stands r r1 w.stands) (saves_on r r1 w.events stop w.state on) (w.made.made tells) (rw same tells)
-    (saves_as (Some stop) r2 r1 end o.site' site2 still saves))
-    (λ done. absurd (saves_done stop r2 end o.site' site2 saves done))
-    (saves_late (Some stop) r2 end o.site' site2 other saves)
+    (save_ends r r1 w.events (Some stop) (length spare) end o.site.tells o.site.calls o.site' site2
+    (by (behind r w.events) on) (setting_stands r r1 w.stands) (saves_on r r1 w.events stop w.state on) w.made.made
+    (λ tells. rw same tells) (saves_as (Some stop) r2 r1 end o.site' site2 still saves))
 
 -- a run that broke off in its event's calls
-broken_calls : (r r1 : RunState) (es : List Event) (e : Event) (call : SiteCall) (end : RunEnd) (old a b : List Entry)
-    → EventMore r r1 es e → end ≡ Stopped (Site call) → Made (run_calls (setting_in r) r.machine es) old a
-    → BrokeAt call (move_calls (setting_in r1) (move_by r1 e)) a b → EndsCalls r (es ++ e ∷ []) 0 end old b
-broken_calls r r1 es e call end old a b more is made broke =
+broken_calls : (r r1 : RunState) (es : List Event) (e : Event) (call : SiteCall) (end : RunEnd) (tells : Bool) (old a b : List Entry)
+    → EventMore r r1 es e → end ≡ Stopped (Site call) → (IsTrue tells → Made (run_calls (setting_in r) r.machine es) old a)
+    → IsNameIn call (move_calls (setting_in r1) (move_by r1 e))
+    → (IsTrue tells → BrokeAt call (move_calls (setting_in r1) (move_by r1 e)) a b)
+    → EndsCalls r (es ++ e ∷ []) 0 end tells old b
+broken_calls r r1 es e call end tells old a b more is made named broke =
     let calls : List Entry = map Returned (run_calls (setting_in r) r.machine es) in
     let moves : List Call = move_calls (setting_in r1) (move_by r1 e) in
-    let g : GainsBroken call moves a b = broke_gains call moves a b broke in
+    let g : MayGain tells call moves a b = may_gain tells call moves a b named broke in
     let Q : List Entry → Type 0 = λ from. BrokeAt call moves from (calls ++ g.more) in
     let M : List Call → Type 0 = λ cs. BrokeAt call cs calls (calls ++ g.more) in
     record {
       gained = calls ++ g.more;
-      grew = g.grew ∙ ap (λ (c : List Entry). c ++ g.more) made ∙ append_assoc old calls g.more;
+      grew = λ t. g.grew t ∙ ap (λ (c : List Entry). c ++ g.more) (made t) ∙ append_assoc old calls g.more;
       ends = IsBroken es e call refl refl is
           (subst M (sym more.calls) (subst Q (append-nil calls) (broke_behind call moves calls [] g.more g.broke)));
     }
@@ -289,10 +234,10 @@ broken_calls r r1 es e call end old a b more is made broke =
 broken_end : (r r1 : RunState) (call : SiteCall) (end : RunEnd) (request : Request) (e : Event) (o : Across) (source2 : SourceState)
     (site2 : SiteState) (clock2 : ClockState) → (w : Went r r1 o) → (more : EventMore r r1 w.events e)
     → IsEvent request e o.source' source2 o.clock' clock2 → SourceStays o.source o.source' → end ≡ Stopped (Site call)
-    → IsRunCall call
+    → IsNameIn call (move_calls (setting_in r1) (move_by r1 e))
     → (IsTrue o.site.tells → BrokeAt call (move_calls (setting_in r1) (move_by r1 e)) o.site'.calls site2.calls)
     → WentToEnd r end (record o { source' = source2; site' = site2; clock' = clock2 })
-broken_end r r1 call end request e o source2 site2 clock2 w more is stays ended own broke =
+broken_end r r1 call end request e o source2 site2 clock2 w more is stays ended named broke =
     let m : ReadsMore r w.events e (record o { source' = source2; site' = site2; clock' = clock2 }) =
     read_more r r1 o request source2 site2 clock2 e w is stays in
     let times : List ℕ = times_of (w.events ++ e ∷ []) in
@@ -305,9 +250,7 @@ broken_end r r1 call end request e o source2 site2 clock2 w more is stays ended 
       timed = subst (λ (ts : List ℕ). ReadsClock ts o.clock clock2) none m.timed;
       fit = subst AreTimes none m.fit;
     })
-    (λ tells. broken_calls r r1 w.events e call end o.site.calls o.site'.calls site2.calls more ended (w.made.made tells) (broke tells))
-    (λ done. let never : Stopped (Site call) ≡ Done = sym ended ∙ done in absurd (cc))
-    (subst (λ (x : RunEnd). IsLate (answer_of x)) (sym ended) (call_late call None own))
+    (broken_calls r r1 w.events e call end o.site.tells o.site.calls o.site'.calls site2.calls more ended w.made.made named broke)
 
 event_next : (r r1 : RunState) (request : Request) (e : Event) (o : Across) (source2 : SourceState) (clock2 : ClockState)
     → (w : Went r r1 o) → IsRequest (setting_in r1) r1.machine request.pos (request.pos + request.len)
@@ -369,6 +312,17 @@ broken_save r r2 e call a b c still steps due broke =
     subst C (sym still) (broke_back call writes (due_calls s v) a.calls (a.calls ++ map Returned writes) b.calls refl
     (subst (λ (cs : List Call). BrokeAt call cs (a.calls ++ map Returned writes) b.calls) (sym made) there))
 
+due_named : (r r2 : RunState) (e : Event) (call : SiteCall) → r2 ≡ stepped r e → is_due (setting_in r) (move_by r e) ≡ true
+    → IsNameIn call (save_calls (names_in r.names) (text_of r.line (snapshot_of r2.machine)))
+    → IsNameIn call (due_calls (setting_in r) (move_by r e))
+due_named r r2 e call steps due named =
+    let s : Setting = setting_in r in
+    let saves : List Call = save_calls s.names (text_of s.line (snapshot_of (move_by r e).after)) in
+    let P : RunState → Type 0 = λ q. IsNameIn call (save_calls (names_in r.names) (text_of r.line (snapshot_of q.machine))) in
+    let there : IsNameIn call saves = subst P steps named in
+    let made : due_calls s (move_by r e) ≡ saves = ap (λ (on : Bool). if on then saves else []) due in
+    subst (λ (cs : List Call). IsNameIn call cs) (sym made) there
+
 -- where the turn stopped
 pub halted_end : (r r1 r2 : RunState) (stop : Stop) (end : RunEnd) (request : Request) (o : Across) (source2 : SourceState)
     (site2 site3 : SiteState) (clock2 : ClockState) → Went r r1 o → SourceStays o.source o.source' → o.site'.tells ≡ o.site.tells
@@ -379,25 +333,25 @@ halted_end r r1 r2 stop end request o source2 site2 site3 clock2 w stays same as
     let C : Stop → Type 0 = λ x. Closes (Some x) r2 end site2 site3 in
     let S : SiteState → Type 0 = λ d. Saves (Some NoMemory) r2 end d site3 in
     stopped_saves r r1 r2 NoMemory end request.pos (request.pos + request.len) [] o site3 source2 clock2 w asks still
-    (λ m on. (on, refl, refl)) (λ call at. cc) same (done_still r r1 o source2 site3 clock2 w untouched unread) (subst S unmade (subst C is closes))
+    (λ m on. (on, refl, refl)) same (done_still r r1 o source2 site3 clock2 w untouched unread) (subst S unmade (subst C is closes))
 halted_end r r1 r2 stop end request o source2 site2 site3 clock2 w stays same asks (Lost is still loses unmade before small times) closes =
     let C : Stop → Type 0 = λ x. Closes (Some x) r2 end site2 site3 in
     let S : SiteState → Type 0 = λ d. Saves (Some SourceLost) r2 end d site3 in
     stopped_saves r r1 r2 SourceLost end request.pos (request.pos + request.len) (before ∷ []) o site3 source2 clock2 w asks still
-    (λ m on. (on, refl, refl)) (λ call at. cc) same
+    (λ m on. (on, refl, refl)) same
     (done_lost r r1 before o source2 site3 clock2 w (λ tells. loses.untold (rw stays.keeps.tells tells)) small times)
     (subst S unmade (subst C is closes))
-halted_end r r1 r2 stop end request o source2 site2 site3 clock2 w stays same asks (Unwritten is still e event breaks) closes =
+halted_end r r1 r2 stop end request o source2 site2 site3 clock2 w stays same asks (Unwritten is still e event named breaks) closes =
     let C : Stop → Type 0 = λ x. Closes (Some x) r2 end site2 site3 in
     let closed : (end ≡ Stopped (Site ImageWrite)) × (site3 ≡ site2) = subst C is closes in
     broken_end r r1 ImageWrite end request e o source2 site3 clock2 w (event_next r r1 request e o source2 clock2 w asks event) event stays closed.0
-    tt
+    (named_front ImageWrite (write_calls (setting_in r1) e.reading) (due_calls (setting_in r1) (move_by r1 e)) named)
     (λ tells. broken_write r1 e o.site' site2 site3 closed.1 breaks (rw same tells))
 halted_end r r1 r2 stop end request o source2 site2 site3 clock2 w stays same asks (Unsaved call is e event steps due named broke rose) closes =
     let C : Stop → Type 0 = λ x. Closes (Some x) r2 end site2 site3 in
     let closed : (end ≡ Stopped (Site call)) × (site3 ≡ site2) = subst C is closes in
     broken_end r r1 call end request e o source2 site3 clock2 w (event_next r r1 request e o source2 clock2 w asks event) event stays closed.0
-    (save_named call (names_in r1.names) (text_of r1.line (snapshot_of r2.machine)) named)
+    (named_back call (write_calls (setting_in r1) e.reading) (due_calls (setting_in r1) (move_by r1 e)) (due_named r1 r2 e call steps due named))
     (λ tells. broken_save r1 r2 e call o.site' site2 site3 closed.1 steps due (broke (rw same tells)))
 
 pub stopped_end : (r r2 : RunState) (stop : Stop) (end : RunEnd) (o : Across) (site3 : SiteState) → WentUpTo stop r r2 o

@@ -7,16 +7,11 @@ use Rattle.std.proofs.lemmas.List.Elements.{All-head, All-tail}
 use Rattle.std.proofs.lemmas.Option.{slice_get_within}
 use Rattle.faulty_source.specs.Journal.{Reading, covers}
 use Rattle.rescue_rules.specs.Given.{given, last_of_both}
-use Rattle.rescue_rules.specs.Events.{reads_of}
 use Rattle.rescue_rules.proofs.GivenLemmas.{given_covered, given_uncovered}
 use Rattle.rescue_rules.proofs.MarkLemmas.{slice_get-take, slice_get-drop}
-use Rattle.ddrescue_cli.specs.Asked.{Maps}
-use Rattle.ddrescue_cli.specs.Maps.{seen_through}
-use Rattle.ddrescue_cli.specs.Told.{gained, asked}
 use Rattle.copy_passes.specs.Turns.{IsFrom}
-use Rattle.ddrescue_cli.specs.Alone.{HasRead}
-use Rattle.ddrescue_cli.specs.Laws.{maps_by, GivenIsInput}
-use Rattle.ddrescue_cli.proofs.GainLemmas.{gained_is}
+use Rattle.ddrescue_cli.specs.Ddrescue.{Promise}
+use Rattle.ddrescue_cli.specs.Laws.{GivenIsInput}
 
 -- a byte of a range of a list
 of_range : (bytes : List ℕ) (p q k v : ℕ) → slice_get (slice_range bytes p q) k ≡ Some v
@@ -66,9 +61,5 @@ from_input bytes b (r ∷ rs) x v all is =
 
 pub given_is_input : GivenIsInput
 given_is_input t c x b d asks tells is =
-    let maps : Maps = maps_by d asks in
-    let h : HasRead (asked c maps t) maps.test t.answer t.source t.source' = (d.asked_for c asks).read tells in
-    let P : List Reading → Type 0 = λ r. given c.options.sector r x ≡ Some b in
-    let seen : seen_through maps.test (gained t.source.journal t.source'.journal) ≡ reads_of h.events =
-    ap (seen_through maps.test) (gained_is t.source.journal t.source'.journal h.raw h.gained) ∙ h.seen_are in
-    from_input t.source.bytes c.options.sector (reads_of h.events) x b h.right (subst P seen is)
+    let p : Promise c t = d.asked_for c asks in
+    from_input t.source.bytes c.options.sector p.outside.did.gain.reads x b (p.agrees.reads tells).right is

@@ -8,7 +8,7 @@ use Rattle.crash_site.specs.declared.site.SiteCall.TheVariants.{MapRead}
 use Rattle.crash_site.specs.Files.{File}
 use Rattle.crash_site.specs.Calls.{Call, Entry, Done as Returned, Lost, BrokeAt, image_open, image_sync, map_settle}
 use Rattle.crash_site.specs.Left.{MayBeLeft}
-use Rattle.save_resume.specs.MapNames.{names_of}
+use Rattle.save_resume.specs.MapNames.{MapNames, names_of}
 use Rattle.save_resume.specs.Loading.{BeginsLoad, IsLoad}
 use Rattle.save_resume.specs.Resuming.{barrier_calls}
 use Rattle.rescue_rules.specs.declared.stop.RunEnd.{RunEnd}
@@ -24,18 +24,25 @@ use Rattle.rescue_command.specs.Command.{Command}
 use Rattle.save_resume.specs.Named.{map_mode}
 use Rattle.ddrescue_cli.specs.Refusals.{MapfileRefused, PlacesRefused}
 use Rattle.work_steps.specs.Work.{Deeds, Step, Look, Read, Works, with_calls, with_opens}
-use Rattle.ddrescue_cli.specs.Asked.{Maps, setting_of}
-use Rattle.ddrescue_cli.specs.Maps.{file_of, mapfile_of}
-use Rattle.ddrescue_cli.specs.Outside.{found_in}
-use Rattle.ddrescue_cli.specs.Work.{Rescues, RunsOver, rescue_faults, map_rows, mapfile_rows, opened_rows, worked_rows}
-use Rattle.ddrescue_cli.proofs.WorkLemmas.{WorksOpened, setting_by}
+use Rattle.ddrescue_cli.specs.Asked.{Maps, setting_asked, setting_of}
+use Rattle.ddrescue_cli.specs.Maps.{file_of, found_in, mapfile_of}
+use Rattle.ddrescue_cli.specs.Work.{Rescues, RunsOver, rescue_faults, map_rows, load_rows, opened_rows, worked_rows}
 use Rattle.ddrescue_cli.specs.Steps.{IsOnlyMaps}
 use Rattle.rescue_rules.proofs.MapfileLemmas.{settling_calls, opening_is}
 use Rattle.rescue_rules.proofs.CutLemmas.{Cut, cut_all}
 use Rattle.rescue_rules.proofs.GoesLemmas.{broke_cut}
 use Rattle.rescue_rules.proofs.MapReadLemmas.{cut_reads}
-use Rattle.ddrescue_cli.proofs.GainLemmas.{lost_behind, broke_behind}
+use Rattle.work_steps.proofs.GainLemmas.{lost_behind, broke_behind}
 use Rattle.ddrescue_cli.proofs.FrontLemmas.{IsMapRead, load_reads, broke_past, made_both}
+
+-- what a command asks for with these names of a mapfile and its draft, if there is one
+abbrev pub setting_by : Command → Option MapNames → (line : List ℕ) → (end : ℕ) → Maps → Setting
+setting_by c n l end maps = setting_asked c.infile c.outfile n l c.options end maps
+
+-- the work behind the maps that options name, among files
+abbrev pub WorksOpened : Command → Setting → (List ℕ → Option File) → Ending → Deeds → Type 0
+WorksOpened c s files =
+    Works rescue_faults (opened_rows c (found_in c files) s.end) (Rescues s (mapfile_of c files))
 
 -- the first call of a rescue, and the three of its opening
 abbrev pub opened : Setting → List Entry
@@ -135,7 +142,7 @@ read_goes o s files e d rest more on grew grew' (inr (inr (load, run, loaded, al
 output_goes : (c : Command) (mapfile : Option (List ℕ)) (line : List ℕ) (end : ℕ) (maps : Maps) (files : List ℕ → Option File) (e : Ending)
     (d : Deeds) (rest : List Entry) → (setting_by c (option_map names_of mapfile) line end maps).has_mapfile ≡ true
     → d.gain.calls ≡ opened (setting_by c (option_map names_of mapfile) line end maps) ++ rest
-    → Works rescue_faults (mapfile_rows c.options mapfile (file_of mapfile files) end)
+    → Works rescue_faults (load_rows mapfile (file_of mapfile files) ++ Look (PlacesRefused c.options end) ∷ [])
     (Rescues (setting_by c (option_map names_of mapfile) line end maps) (file_of mapfile files)) e (with_calls d rest)
     → GoesOn (setting_by c (option_map names_of mapfile) line end maps) files d.gain
 output_goes c None line end maps files e d rest on grew w = absurd (cc)

@@ -12,8 +12,7 @@ use Rattle.save_resume.specs.Resuming.{IsReadAs, IsRefusedFor, IsLikeNone, NoFil
 use Rattle.save_resume.proofs.AnswerLemmas.{has_answer, read_as_one, read_is_not_refused}
 use Rattle.save_resume.proofs.MapLemmas.{map_is_not_blank}
 use Rattle.rescue_command.specs.Command.{Command}
-use Rattle.ddrescue_cli.specs.Maps.{Lists, NoFile, NoText, Blocks, mapfile_of}
-use Rattle.ddrescue_cli.specs.Steps.{IsListing}
+use Rattle.ddrescue_cli.specs.Maps.{Lists, NoFile, NoText, Blocks, IsListing}
 
 -- a listing begins and ends here
 pub record IsAt (first end first' end' : ℕ) : Type 0 where
@@ -89,10 +88,10 @@ lists_agree file a b a' b' (Blocks there is within shown listed statuses reads z
     (record { there = there'; is = is'; within = within'; reads = reads' }) in
     record { first_is = same.first_is; end_is = z ∙ ap length same.statuses_is ∙ sym z' }
 
--- a listing of a command's mapfile among files: the one that it has, if it has one
-pub record Listing (c : Command) (files : List ℕ → Option File) (listed : Option (ℕ × ℕ)) : Type 0 where
+-- a listing of a command's mapfile: the one that it has, if it has one
+pub record Listing (c : Command) (file : Option File) (listed : Option (ℕ × ℕ)) : Type 0 where
   pub whole : c.options.complete_only ≡ false → listed ≡ None
-  pub are : IsListing c files listed
+  pub are : IsListing c file listed
 
 -- where that is asked for
 abbrev pub listed_if : Bool → (first end : ℕ) → Option (ℕ × ℕ)
@@ -107,13 +106,17 @@ here_if : (complete : Bool) (first end a b : ℕ) → complete ≡ true → IsAt
 here_if true first end a b on at = let x : a ≡ first = at.first_is in let y : b ≡ end = at.end_is in cc
 here_if false first end a b on at = cc
 
-pub is_listing : (c : Command) (files : List ℕ → Option File) (first end : ℕ)
-    → ((a b : ℕ) → Lists (mapfile_of c files) a b → IsAt a b first end)
-    → Listing c files (listed_if c.options.complete_only first end)
-is_listing c files first end only = record {
+pub is_listing : (c : Command) (file : Option File) (first end : ℕ) → ((a b : ℕ) → Lists file a b → IsAt a b first end)
+    → Listing c file (listed_if c.options.complete_only first end)
+is_listing c file first end only = record {
   whole = whole_if c.options.complete_only first end;
   are = λ a b on lists. here_if c.options.complete_only first end a b on (only a b lists);
 }
+
+-- that of one that lists this
+pub own_listing : (c : Command) (file : Option File) (first end : ℕ) → Lists file first end
+    → Listing c file (listed_if c.options.complete_only first end)
+own_listing c file first end own = is_listing c file first end (λ a b lists. lists_agree file a b first end lists own)
 
 -- each mapfile has at most one
 record OneListing (file : Option File) : Type 0 where
@@ -143,8 +146,8 @@ one_listing file =
           ]
     ]
 
--- so there is a listing whatever the files are
-pub some_listing : (c : Command) (files : List ℕ → Option File) → (listed : Option (ℕ × ℕ)) × Listing c files listed
-some_listing c files =
-    let at : OneListing (mapfile_of c files) = one_listing (mapfile_of c files) in
-    (listed_if c.options.complete_only at.first at.end, is_listing c files at.first at.end at.only)
+-- so there is a listing whatever the mapfile is
+pub some_listing : (c : Command) (file : Option File) → (listed : Option (ℕ × ℕ)) × Listing c file listed
+some_listing c file =
+    let at : OneListing file = one_listing file in
+    (listed_if c.options.complete_only at.first at.end, is_listing c file at.first at.end at.only)

@@ -1,25 +1,48 @@
--- What a rescue did behind the maps that options name, by where it ended and by which objects tell.
-use Rattle.std.proofs.Common.{◌≡◌, ℕ, ◌<◌, ◌^◌, IsTrue, List, length, Option, Some, None, option_map, Result, Ok, Err, refl, ◌∙◌, subst}
+-- What a rescue did behind the maps that options name, by where it ended, whatever the objects tell.
+use Rattle.std.proofs.Common.{◌≡◌, ℕ, ◌+◌, ◌-◌, ◌<◌, ◌≤◌, ◌^◌, Bool, true, false, IsTrue, List, [], ◌∷◌, ◌++◌, map, length, All, Option, Some, None, option_map, Result, Ok, Err, refl, sym, ap, ◌∙◌, inl, inr, subst, arith, append_assoc, append-nil}
+use Rattle.std.specs.Str.{bytes_eq}
+use Rattle.std.proofs.lemmas.Bool.{false_from_ne_true}
+use Rattle.std.proofs.lemmas.List.Elements.{All-nil}
+use Rattle.std.proofs.lemmas.Slice.Eq.{bytes_eq-Decides}
 use Rattle.block_list.specs.declared.status.Status.{Status}
 use Rattle.faulty_source.specs.SourceState.{SourceState, Stays as SourceStays, AnswersOpen, PlansOpen}
 use Rattle.crash_site.specs.Files.{File}
+use Rattle.crash_site.specs.Folder.{Folder, opened, after}
+use Rattle.crash_site.specs.Calls.{Entry, Done as Returned, Made, image_open}
 use Rattle.crash_site.specs.SiteState.{SiteState, files_in, Keeps}
+use Rattle.crash_site.proofs.LawLemmas.{after-append}
 use Rattle.save_resume.specs.MapNames.{MapNames, names_of}
 use Rattle.rescue_console.specs.ClockState.{ClockState}
-use Rattle.rescue_rules.specs.Setting.{Setting}
 use Rattle.option_words.specs.declared.fault.UsageFault.TheVariants.{PlaceTooLarge}
+use Rattle.copy_passes.specs.Turns.{Across, IsFrom}
+use Rattle.work_steps.specs.Work.{Opened as IsOpened, Unopened, Deeds, Look, Works}
+use Rattle.work_steps.specs.Parts.{only_calls, WentThrough}
+use Rattle.work_steps.specs.Holds.{behind_entries, behind_open}
+use Rattle.work_steps.proofs.PartLemmas.{stopped_more, through_then}
+use Rattle.rescue_command.specs.declared.options.Options.{Options}
 use Rattle.rescue_command.specs.Command.{Command}
 use Rattle.ddrescue_cli.specs.declared.ending.Ending.{Ending}
 use Rattle.ddrescue_cli.specs.declared.ending.Ending.TheVariants.{Usage, SourceFault}
 use Rattle.ddrescue_cli.specs.declared.load.Start.{Start}
 use Rattle.ddrescue_cli.specs.Names.{AreNamedApart}
-use Rattle.ddrescue_cli.specs.Asked.{Maps, names_by, setting_of, ArePlacedBy, IsBeyond}
-use Rattle.ddrescue_cli.specs.Maps.{Lists, file_of, mapfile_of}
-use Rattle.ddrescue_cli.specs.Steps.{LoadCause, Loaded, OutputStop, Ran, IsListing, Opened}
-use Rattle.ddrescue_cli.proofs.ListingLemmas.{Listing, listed_if, whole_if, is_listing, some_listing, lists_agree}
-use Rattle.ddrescue_cli.proofs.WorkLemmas.{across, IsOpen, IsNotOpen, HasOpened, HasLoaded, here, setting_by, opened_nothing, opened_output, opened_stopped, opened_beyond, opened_run}
-use Rattle.ddrescue_cli.proofs.AloneLemmas.{none_read, output_stopped, load_stopped, run_has_read, output_places, load_places, beyond_places, run_places}
-use Rattle.ddrescue_cli.proofs.LeftLemmas.{output_leaves, load_leaves_files, loaded_leaves, run_leaves}
+use Rattle.ddrescue_cli.specs.Asked.{names_by, place_by, setting_asked, setting_of, ArePlacedBy, IsBeyond}
+use Rattle.ddrescue_cli.specs.Maps.{Found, file_of, found_in, mapfile_of, seen_through}
+use Rattle.ddrescue_cli.specs.Refusals.{PlacesRefused}
+use Rattle.ddrescue_cli.specs.Outside.{AreOpens, HasGainedReads}
+use Rattle.ddrescue_cli.specs.Work.{Rescues, rescue_faults, output_rows, load_rows, opened_rows}
+use Rattle.ddrescue_cli.specs.Steps.{Gains, Ran, OpensOutput, Loads, mapfile_by, maps_of, Opened}
+use Rattle.ddrescue_cli.proofs.ListingLemmas.{Listing, listed_if, own_listing, some_listing}
+
+-- what objects tell before and behind, named apart
+abbrev pub across : (s s' : SourceState) (d d' : SiteState) (k k' : ClockState) → Across
+across s s' d d' k k' = record { source = s; source' = s'; site = d; site' = d'; clock = k; clock' = k' }
+
+-- an open of this input, which went well or failed
+abbrev pub IsOpen : List ℕ → (s0 s1 : SourceState) → Type 0
+IsOpen infile s0 s1 = AreOpens (IsOpened infile ∷ []) s0 s1
+
+abbrev pub IsNotOpen : List ℕ → (s0 s1 : SourceState) → Type 0
+IsNotOpen infile s0 s1 = AreOpens (Unopened infile ∷ []) s0 s1
 
 -- the input was opened, and not read yet; where it tells, this is its length
 pub record HasInput (infile : List ℕ) (end : ℕ) (s0 s1 : SourceState) : Type 0 where
@@ -37,153 +60,294 @@ not_opened infile (Ok n) s0 s1 never call plan = absurd (never n refl)
 not_opened infile (Err e) s0 s1 never call plan =
     (call.opens, call.input, λ planned. (plan planned).answers.0 refl)
 
--- it couldn't be opened
+-- no read is seen where there is none
+pub none_seen : (test : Option (List Status)) → seen_through test [] ≡ []
+none_seen None = refl
+none_seen (Some map) = refl
+
+-- nothing but calls was gained
+pub gains_alone : (test : Option (List Status)) (s0 s1 : SourceState) (d0 d1 : SiteState) (k : ClockState)
+    (calls : List Entry) → (IsTrue s0.tells → s1.journal ≡ s0.journal)
+    → (IsTrue d0.tells → d1.calls ≡ d0.calls ++ calls)
+    → Gains test (across s0 s1 d0 d1 k k) (record { calls = calls; reads = []; times = [] })
+gains_alone test s0 s1 d0 d1 k calls same grew = record {
+  calls = grew;
+  reads = λ tell. record {
+    raw = [];
+    journal = same tell ∙ sym (append-nil s0.journal);
+    seen_are = none_seen test;
+    right = All-nil (IsFrom s0.bytes);
+  };
+  times = λ tell. sym (append-nil k.readings);
+  fit = All-nil (λ t. t < 2 ^ 64);
+}
+
+-- the input couldn't be opened
 pub input_fails : (c : Command) (l : List ℕ) (domain test : Option (List Status)) (s0 s1 : SourceState) (d : SiteState)
     (k : ClockState) → (IsTrue s0.tells → s1.journal ≡ s0.journal) → IsNotOpen c.infile s0 s1
-    → Opened c l domain test (files_in d) SourceFault (across s0 s1 d d k k)
+    → Opened c l domain test SourceFault (across s0 s1 d d k k)
 input_fails c l domain test s0 s1 d k same opens =
-    let some : (listed : Option (ℕ × ℕ)) × Listing c (files_in d) listed = some_listing c (files_in d) in
-    let s : Setting = setting_of c l (length s0.bytes) (record { domain = domain; test = test; listed = some.0 }) in
+    let found : Found = found_in c (files_in d) in
+    let some : (listed : Option (ℕ × ℕ)) × Listing c found.mapfile listed = some_listing c found.mapfile in
     record {
+      found = found;
+      output = λ td. refl;
+      mapfile = λ td. refl;
       end = length s0.bytes;
       own_end = λ ts. refl;
       listed = some.0;
       whole = some.1.whole;
-      are = λ td. some.1.are;
-      told = λ td. opened_nothing c s test (files_in d) s0 s1 d k same opens;
-      read = λ ts. none_read s test SourceFault s0 s1 (λ done. cc) (same ts);
-      placed = λ ts. tt;
-      left = λ td name. refl;
+      lists = some.1.are;
+      did = record { opens = Unopened c.infile ∷ []; gain = record { calls = []; reads = []; times = [] } };
+      opens = opens;
+      gains = gains_alone test s0 s1 d d k [] same (λ td. sym (append-nil d.calls));
+      works = inl (refl, refl, record { calls = refl; reads = refl; times = refl });
+      short = inl (record { calls = refl; reads = refl; times = refl });
     }
 
 -- the output was refused, or couldn't be opened
 pub output_fails : (c : Command) (l : List ℕ) (domain test : Option (List Status)) (end : ℕ) (e : Ending)
-    (s0 s1 : SourceState) (d0 d1 : SiteState) (k : ClockState) → HasInput c.infile end s0 s1 → Keeps d0 d1
-    → OutputStop e c.outfile c.options.forced d0 d1
-    → Opened c l domain test (files_in d0) e (across s0 s1 d0 d1 k k)
-output_fails c l domain test end e s0 s1 d0 d1 k input keeps stop =
-    let some : (listed : Option (ℕ × ℕ)) × Listing c (files_in d0) listed = some_listing c (files_in d0) in
-    let s : Setting = setting_of c l end (record { domain = domain; test = test; listed = some.0 }) in
+    (s0 s1 : SourceState) (d0 d1 : SiteState) (k : ClockState) → HasInput c.infile end s0 s1
+    → OpensOutput {T = Unit {0}} c.options.forced c.outfile (Err e) d0 d1
+    → Opened c l domain test e (across s0 s1 d0 d1 k k)
+output_fails c l domain test end e s0 s1 d0 d1 k input o =
+    let found : Found = record (found_in c (files_in d0)) { output = o.file } in
+    let some : (listed : Option (ℕ × ℕ)) × Listing c found.mapfile listed = some_listing c found.mapfile in
     record {
+      found = found;
+      output = o.is_own;
+      mapfile = λ td. refl;
       end = end;
       own_end = input.all;
       listed = some.0;
       whole = some.1.whole;
-      are = λ td. some.1.are;
-      told = λ td. opened_output c s test e s0 s1 d0 d1 k input.same input.opened td input.short stop;
-      read = λ ts. none_read s test e s0 s1 (output_stopped e c.outfile c.options.forced d0 d1 stop) (input.same ts);
-      placed = λ ts. output_places c.options end e c.outfile c.options.forced d0 d1 stop;
-      left = λ td. output_leaves e c.outfile c.options.forced d0 d1 keeps td stop;
+      lists = some.1.are;
+      did = behind_open c.infile (only_calls o.calls);
+      opens = input.opened;
+      gains = gains_alone test s0 s1 d0 d1 k o.calls input.same o.gained;
+      works = inr (
+        [],
+        refl,
+        stopped_more rescue_faults (output_rows c.options.forced c.outfile o.file)
+            (load_rows c.mapfile found.mapfile ++ Look (PlacesRefused c.options end) ∷ [])
+            (Rescues (setting_of c l end (maps_of domain test some.0)) found.mapfile) e (only_calls o.calls) o.did,
+      );
+      short = inr input.short;
     }
 
--- a load under a command's own names
-own_names : (c : Command) (n : Option MapNames) (end : ℕ) (r : Result Start Ending) (d0 d1 d2 : SiteState)
-    → n ≡ names_by c → (IsTrue d0.tells → HasLoaded c n end r d0 d1 d2) → IsTrue d0.tells
-    → HasLoaded c (names_by c) end r d0 d1 d2
-own_names c n end r d0 d1 d2 names loads td =
-    subst (λ (m : Option MapNames). HasLoaded c m end r d0 d1 d2) names (loads td)
+-- ---- the mapfile behind the open of the output
+
+-- a name isn't another where the other isn't it
+bytes_eq-flip : (xs ys : List ℕ) → bytes_eq xs ys ≡ false → bytes_eq ys xs ≡ false
+bytes_eq-flip xs ys e = false_from_ne_true (bytes_eq ys xs) (λ t.
+    let same : ys ≡ xs = (bytes_eq-Decides ys xs).0 t in
+    let h : bytes_eq xs ys ≡ true = (bytes_eq-Decides xs ys).1 (sym same) in cc)
+
+opened_apart : (d : Folder) (out name : List ℕ) → bytes_eq out name ≡ false → (file : Option File)
+    → (opened d out true file).files name ≡ d.files name
+opened_apart d out name apart None = let e : bytes_eq name out ≡ false = bytes_eq-flip out name apart in rw e refl
+opened_apart d out name apart (Some f) = refl
+
+-- the mapfile as it reads isn't touched when another file is opened
+open_apart : (start start' : Folder) (out name : List ℕ) (old new : List Entry) → start' ≡ start
+    → bytes_eq out name ≡ false → Made (image_open out true ∷ []) old new
+    → (after start' new).files name ≡ (after start old).files name
+open_apart start start' out name old new same apart made =
+    ap (λ s. (after s new).files name) same ∙ ap (λ r. (after start r).files name) made
+    ∙ ap (λ (d : Folder). d.files name) (after-append start old (Returned (image_open out true) ∷ []))
+    ∙ opened_apart (after start old) out name apart ((after start old).files out)
+
+-- The output is open, and the mapfile was loaded with this outcome, if there is one.
+pub record HasLoaded (c : Command) (n : Option MapNames) (end : ℕ) (r : Result Start Ending) (d0 d1 d2 : SiteState)
+    : Type 0 where
+  pub names : n ≡ names_by c
+  pub apart : AreNamedApart c.outfile n
+  pub output : OpensOutput {T = Unit {0}} c.options.forced c.outfile (Ok tt) d0 d1
+  pub keeps : Keeps d0 d1
+  pub loads : Loads (mapfile_by n) end r d1 d2
+
+by_names : (mapfile : Option (List ℕ)) → mapfile_by (option_map names_of mapfile) ≡ mapfile
+by_names None = refl
+by_names (Some name) = refl
+
+own_loads : (c : Command) (n : Option MapNames) (end : ℕ) (r : Result Start Ending) (d0 d1 d2 : SiteState)
+    → HasLoaded c n end r d0 d1 d2 → Loads c.mapfile end r d1 d2
+own_loads c n end r d0 d1 d2 h =
+    subst (λ (m : Option (List ℕ)). Loads m end r d1 d2) (ap mapfile_by h.names ∙ by_names c.mapfile) h.loads
+
+mapfile_stands : (out : List ℕ) (mapfile : Option (List ℕ)) (d0 d1 : SiteState)
+    → AreNamedApart out (option_map names_of mapfile) → d1.start ≡ d0.start
+    → Made (image_open out true ∷ []) d0.calls d1.calls → file_of mapfile (files_in d1) ≡ file_of mapfile (files_in d0)
+mapfile_stands out None d0 d1 apart same made = refl
+mapfile_stands out (Some name) d0 d1 apart same made =
+    open_apart d0.start d1.start out name d0.calls d1.calls same apart.0 made
+
+-- the calls of an open that went well
+only_open : (forced : Bool) (out : List ℕ) (file : Option File) (calls : List Entry)
+    → WentThrough (output_rows forced out file) calls → calls ≡ Returned (image_open out true) ∷ []
+only_open forced out file calls t =
+    t.1 ∙ ap (λ (r : List Entry). Returned (image_open out true) ∷ r) t.2.1
+
+-- the mapfile that was loaded is the one that stood there before
+own_mapfile : (c : Command) (n : Option MapNames) (end : ℕ) (r : Result Start Ending) (d0 d1 d2 : SiteState)
+    → (h : HasLoaded c n end r d0 d1 d2) → (file : Option File) → (IsTrue d1.tells → file ≡ file_of c.mapfile (files_in d1))
+    → IsTrue d0.tells → file ≡ mapfile_of c (files_in d0)
+own_mapfile c n end r d0 d1 d2 h file own td =
+    own (rw h.keeps.tells td)
+    ∙ mapfile_stands c.outfile c.mapfile d0 d1 (subst (AreNamedApart c.outfile) h.names h.apart) (h.keeps.start td)
+    (h.output.gained td ∙ ap (λ (r : List Entry). d0.calls ++ r)
+    (only_open c.options.forced c.outfile h.output.file h.output.calls h.output.did.1))
+
+-- calls one behind another, and then others
+grew_both : (d0 d1 d2 more : List Entry) (o l : List Entry) → d1 ≡ d0 ++ o → d2 ≡ d1 ++ l → d2 ++ more ≡ d0 ++ (o ++ (l ++ more))
+grew_both d0 d1 d2 more o l first second =
+    ap (λ r. r ++ more) second ∙ append_assoc d1 l more ∙ ap (λ r. r ++ (l ++ more)) first ∙ append_assoc d0 o (l ++ more)
 
 -- the load of the mapfile stopped
 pub load_fails : (c : Command) (l : List ℕ) (domain test : Option (List Status)) (n : Option MapNames) (end : ℕ)
-    (e : Ending) (s0 s1 : SourceState) (d0 d1 d2 : SiteState) (k : ClockState) (faults faults' : ℕ) → n ≡ names_by c
-    → HasInput c.infile end s0 s1 → (IsTrue d0.tells → HasLoaded c n end (Err e) d0 d1 d2) → LoadCause e faults faults'
-    → Opened c l domain test (files_in d0) e (across s0 s1 d0 d2 k k)
-load_fails c l domain test n end e s0 s1 d0 d1 d2 k faults faults' names input loads cause =
-    let some : (listed : Option (ℕ × ℕ)) × Listing c (files_in d0) listed = some_listing c (files_in d0) in
-    let maps : Maps = record { domain = domain; test = test; listed = some.0 } in
-    let own : IsTrue d0.tells → HasLoaded c (names_by c) end (Err e) d0 d1 d2 =
-    own_names c n end (Err e) d0 d1 d2 names loads in
+    (e : Ending) (s0 s1 : SourceState) (d0 d1 d2 : SiteState) (k : ClockState) → HasInput c.infile end s0 s1
+    → HasLoaded c n end (Err e) d0 d1 d2 → Opened c l domain test e (across s0 s1 d0 d2 k k)
+load_fails c l domain test n end e s0 s1 d0 d1 d2 k input h =
+    let o : OpensOutput {T = Unit {0}} c.options.forced c.outfile (Ok tt) d0 d1 = h.output in
+    let p : Loads c.mapfile end (Err e) d1 d2 = own_loads c n end (Err e) d0 d1 d2 h in
+    let found : Found = record (found_in c (files_in d0)) { output = o.file; mapfile = p.file } in
+    let some : (listed : Option (ℕ × ℕ)) × Listing c p.file listed = some_listing c p.file in
     record {
+      found = found;
+      output = o.is_own;
+      mapfile = own_mapfile c n end (Err e) d0 d1 d2 h p.file p.is_own;
       end = end;
       own_end = input.all;
       listed = some.0;
       whole = some.1.whole;
-      are = λ td. some.1.are;
-      told = λ td. opened_stopped c l end maps test e s0 s1 d0 d1 d2 k input.same input.opened input.short (own td);
-      read = λ ts. none_read (setting_of c l end maps) test e s0 s1 (load_stopped e faults faults' cause)
-          (input.same ts);
-      placed = λ ts. load_places c.options end e faults faults' cause;
-      left = λ td. load_leaves_files (names_by c) e c.outfile end d0 d1 d2 (own td).made (own td).loaded;
+      lists = some.1.are;
+      did = behind_open c.infile (behind_entries o.calls (only_calls p.calls));
+      opens = input.opened;
+      gains = gains_alone test s0 s1 d0 d2 k (o.calls ++ p.calls) input.same
+          (λ td. p.gained (rw h.keeps.tells td) ∙ ap (λ r. r ++ p.calls) (o.gained td)
+          ∙ append_assoc d0.calls o.calls p.calls);
+      works = inr (
+        [],
+        refl,
+        through_then rescue_faults (output_rows c.options.forced c.outfile o.file)
+            (load_rows c.mapfile p.file ++ Look (PlacesRefused c.options end) ∷ [])
+            (Rescues (setting_of c l end (maps_of domain test some.0)) p.file) e o.calls (only_calls p.calls) o.did.1
+            (stopped_more rescue_faults (load_rows c.mapfile p.file) (Look (PlacesRefused c.options end) ∷ [])
+            (Rescues (setting_of c l end (maps_of domain test some.0)) p.file) e (only_calls p.calls) p.did),
+      );
+      short = inr input.short;
     }
 
--- what the mapfile lists that was loaded
-loaded_lists : (out : List ℕ) (mapfile : Option (List ℕ)) (end : ℕ) (start : Start) (d0 d1 d2 : SiteState)
-    → AreNamedApart out (option_map names_of mapfile) → HasOpened out d0 d1
-    → Loaded (option_map names_of mapfile) end (Ok start) d1 d2
-    → Lists (file_of mapfile (files_in d0)) start.first start.listed_end
-loaded_lists out None end start d0 d1 d2 apart made loaded = loaded.2
-loaded_lists out (Some name) end start d0 d1 d2 apart made loaded =
-    let P : Option File → Type 0 = λ f. Lists f start.first start.listed_end in
-    subst P (here out (names_of name) d0 d1 apart made) loaded.lists
-
--- the maps by a mapfile that was loaded
-abbrev pub maps_with : Command → (domain test : Option (List Status)) → Start → Maps
-maps_with c domain test start = record {
-  domain = domain;
-  test = test;
-  listed = listed_if c.options.complete_only start.first start.listed_end;
-}
-
--- the listing that was loaded is the mapfile's
-loaded_listing : (c : Command) (end : ℕ) (start : Start) (d0 d1 d2 : SiteState)
-    → HasLoaded c (names_by c) end (Ok start) d0 d1 d2
-    → IsListing c (files_in d0) (listed_if c.options.complete_only start.first start.listed_end)
-loaded_listing c end start d0 d1 d2 h =
-    let own : Lists (mapfile_of c (files_in d0)) start.first start.listed_end =
-    loaded_lists c.outfile c.mapfile end start d0 d1 d2 h.apart h.made h.loaded in
-    let listing : Listing c (files_in d0) (listed_if c.options.complete_only start.first start.listed_end) =
-    is_listing c (files_in d0) start.first start.listed_end
-    (λ a b lists. lists_agree (mapfile_of c (files_in d0)) a b start.first start.listed_end lists own) in
-    listing.are
+-- what is done behind a load that went on to its end
+loaded_goes : (c : Command) (found : Found) (end : ℕ) (run : Ending → Deeds → Type 0) (e : Ending)
+    (output load : List Entry) (d : Deeds) → WentThrough (output_rows c.options.forced c.outfile found.output) output
+    → WentThrough (load_rows c.mapfile found.mapfile) load
+    → Works rescue_faults (Look (PlacesRefused c.options end) ∷ []) run e d
+    → Works rescue_faults (opened_rows c found end) run e
+    (behind_open c.infile (behind_entries output (behind_entries load d)))
+loaded_goes c found end run e output load d t u w =
+    inr (
+      d.opens,
+      refl,
+      through_then rescue_faults (output_rows c.options.forced c.outfile found.output)
+          (load_rows c.mapfile found.mapfile ++ Look (PlacesRefused c.options end) ∷ []) run e output
+          (behind_entries load d) t
+          (through_then rescue_faults (load_rows c.mapfile found.mapfile) (Look (PlacesRefused c.options end) ∷ []) run e
+          load d u w),
+    )
 
 -- a position has no place in the output
 pub place_fails : (c : Command) (l : List ℕ) (domain test : Option (List Status)) (n : Option MapNames) (end : ℕ)
-    (start : Start) (s0 s1 : SourceState) (d0 d1 d2 : SiteState) (k : ClockState) → n ≡ names_by c → HasInput c.infile end s0 s1
-    → (IsTrue d0.tells → HasLoaded c n end (Ok start) d0 d1 d2) → (IsTrue d0.tells → d2.start ≡ d1.start)
-    → IsBeyond c.options end
-    → Opened c l domain test (files_in d0) (Usage PlaceTooLarge) (across s0 s1 d0 d2 k k)
-place_fails c l domain test n end start s0 s1 d0 d1 d2 k names input loads stays far =
-    let maps : Maps = maps_with c domain test start in
-    let own : IsTrue d0.tells → HasLoaded c (names_by c) end (Ok start) d0 d1 d2 =
-    own_names c n end (Ok start) d0 d1 d2 names loads in
+    (start : Start) (s0 s1 : SourceState) (d0 d1 d2 : SiteState) (k : ClockState) → HasInput c.infile end s0 s1
+    → HasLoaded c n end (Ok start) d0 d1 d2 → IsBeyond c.options end
+    → Opened c l domain test (Usage PlaceTooLarge) (across s0 s1 d0 d2 k k)
+place_fails c l domain test n end start s0 s1 d0 d1 d2 k input h far =
+    let o : OpensOutput {T = Unit {0}} c.options.forced c.outfile (Ok tt) d0 d1 = h.output in
+    let p : Loads c.mapfile end (Ok start) d1 d2 = own_loads c n end (Ok start) d0 d1 d2 h in
+    let found : Found = record (found_in c (files_in d0)) { output = o.file; mapfile = p.file } in
+    let listing : Listing c p.file (listed_if c.options.complete_only start.first start.listed_end) =
+    own_listing c p.file start.first start.listed_end p.did.0.lists in
+    let listed : Option (ℕ × ℕ) = listed_if c.options.complete_only start.first start.listed_end in
     record {
+      found = found;
+      output = o.is_own;
+      mapfile = own_mapfile c n end (Ok start) d0 d1 d2 h p.file p.is_own;
       end = end;
       own_end = input.all;
-      listed = maps.listed;
-      whole = whole_if c.options.complete_only start.first start.listed_end;
-      are = λ td. loaded_listing c end start d0 d1 d2 (own td);
-      told = λ td. opened_beyond c l end maps test start s0 s1 d0 d1 d2 k input.same input.opened input.short (own td) far;
-      read = λ ts. none_read (setting_of c l end maps) test (Usage PlaceTooLarge) s0 s1 (λ done. cc) (input.same ts);
-      placed = λ ts. beyond_places c.options end end refl far;
-      left = λ td. loaded_leaves (names_by c) c.outfile end start d0 d1 d2 (own td).made (stays td) (own td).loaded;
+      listed = listed;
+      whole = listing.whole;
+      lists = listing.are;
+      did = behind_open c.infile (behind_entries o.calls (behind_entries p.calls (only_calls [])));
+      opens = input.opened;
+      gains = gains_alone test s0 s1 d0 d2 k (o.calls ++ (p.calls ++ [])) input.same
+          (λ td. sym (append-nil d2.calls)
+          ∙ grew_both d0.calls d1.calls d2.calls [] o.calls p.calls (o.gained td) (p.gained (rw h.keeps.tells td)));
+      works = loaded_goes c found end (Rescues (setting_of c l end (maps_of domain test listed)) p.file)
+          (Usage PlaceTooLarge) o.calls p.calls (only_calls []) o.did.1 p.did.1
+          (inl ((far, refl), record { opens = refl; gain = record { calls = refl; reads = refl; times = refl } }));
+      short = inr input.short;
     }
+
+-- each has one
+placed_passes : (o : Options) (end : ℕ) → ArePlacedBy o end → (e : Ending) → PlacesRefused o end e → ⊥
+placed_passes o end placed e refused =
+    let x : ℕ = refused.0.0 in
+    let near : place_by o x < 2 ^ 63 - 1 = placed x refused.0.1 in
+    let far : 2 ^ 63 ≤ place_by o x + 1 = refused.0.2 in
+    omega (arith, near, far)
 
 -- a run had begun
 pub run_goes : (c : Command) (l : List ℕ) (domain test : Option (List Status)) (n : Option MapNames) (end : ℕ)
-    (start : Start) (e : Ending) (s0 s1 s2 : SourceState) (d0 d1 d2 d3 : SiteState) (k k' : ClockState) → n ≡ names_by c
-    → HasInput c.infile end s0 s1 → (IsTrue d0.tells → HasLoaded c n end (Ok start) d0 d1 d2) → d2.tells ≡ d0.tells
+    (start : Start) (e : Ending) (s0 s1 s2 : SourceState) (d0 d1 d2 d3 : SiteState) (k k' : ClockState)
+    → HasInput c.infile end s0 s1 → HasLoaded c n end (Ok start) d0 d1 d2 → d2.tells ≡ d0.tells
     → ArePlacedBy c.options end → SourceStays s1 s2
-    → Ran (setting_by c n l end (maps_with c domain test start)) test start.tiles.statuses start.state e
-    (across s1 s2 d2 d3 k k') → Opened c l domain test (files_in d0) e (across s0 s2 d0 d3 k k')
-run_goes c l domain test n end start e s0 s1 s2 d0 d1 d2 d3 k k' names input loads tells placed stays ran =
-    let maps : Maps = maps_with c domain test start in
-    let own : IsTrue d0.tells → HasLoaded c (names_by c) end (Ok start) d0 d1 d2 =
-    own_names c n end (Ok start) d0 d1 d2 names loads in
-    let went : Ran (setting_by c (names_by c) l end maps) test start.tiles.statuses start.state e
+    → Ran (setting_asked c.infile c.outfile n l c.options end
+    (maps_of domain test (listed_if c.options.complete_only start.first start.listed_end))) test start.tiles.statuses
+    start.state e (across s1 s2 d2 d3 k k')
+    → Opened c l domain test e (across s0 s2 d0 d3 k k')
+run_goes c l domain test n end start e s0 s1 s2 d0 d1 d2 d3 k k' input h told placed stays r =
+    let o : OpensOutput {T = Unit {0}} c.options.forced c.outfile (Ok tt) d0 d1 = h.output in
+    let p : Loads c.mapfile end (Ok start) d1 d2 = own_loads c n end (Ok start) d0 d1 d2 h in
+    let found : Found = record (found_in c (files_in d0)) { output = o.file; mapfile = p.file } in
+    let listing : Listing c p.file (listed_if c.options.complete_only start.first start.listed_end) =
+    own_listing c p.file start.first start.listed_end p.did.0.lists in
+    let listed : Option (ℕ × ℕ) = listed_if c.options.complete_only start.first start.listed_end in
+    let ran : Ran (setting_of c l end (maps_of domain test listed)) test start.tiles.statuses start.state e
     (across s1 s2 d2 d3 k k') =
-    subst (λ (m : Option MapNames). Ran (setting_by c m l end maps) test start.tiles.statuses start.state e
-    (across s1 s2 d2 d3 k k')) names ran in
+    subst (λ (m : Option MapNames). Ran (setting_asked c.infile c.outfile m l c.options end (maps_of domain test listed))
+    test start.tiles.statuses start.state e (across s1 s2 d2 d3 k k')) h.names r in
     record {
+      found = found;
+      output = o.is_own;
+      mapfile = own_mapfile c n end (Ok start) d0 d1 d2 h p.file p.is_own;
       end = end;
       own_end = input.all;
-      listed = maps.listed;
-      whole = whole_if c.options.complete_only start.first start.listed_end;
-      are = λ td. loaded_listing c end start d0 d1 d2 (own td);
-      told = λ td. opened_run c l end maps test start e s0 s1 s2 d0 d1 d2 d3 k k' input.same input.tells
-          (stays.opens ∙ input.opened.0, λ ts. stays.name (rw input.tells ts) ∙ input.opened.1 ts) input.short (own td)
-          placed (went.told (rw tells td));
-      read = λ ts. run_has_read c (names_by c) l end end maps test e s0 s1 s2 refl (input.same ts)
-          (input.bytes ts) (went.read (rw input.tells ts));
-      placed = λ ts. run_places c.options end end e refl placed ran.ends;
-      left = λ td. run_leaves e c.outfile (files_in d0) (files_in d3) ran.ends ran.late;
+      listed = listed;
+      whole = listing.whole;
+      lists = listing.are;
+      did = behind_open c.infile
+          (behind_entries o.calls (behind_entries p.calls (record { opens = []; gain = ran.gain })));
+      opens = (stays.opens ∙ input.opened.0, λ ts. stays.name (rw input.tells ts) ∙ input.opened.1 ts);
+      gains = record {
+        calls = λ td. ran.gains.calls (rw told td)
+            ∙ grew_both d0.calls d1.calls d2.calls ran.gain.calls o.calls p.calls (o.gained td)
+            (p.gained (rw h.keeps.tells td));
+        reads = λ ts.
+            let g : HasGainedReads test s1 s2 ran.gain.reads = ran.gains.reads (rw input.tells ts) in
+            record {
+              raw = g.raw;
+              journal = g.journal ∙ ap (λ j. j ++ g.raw) (input.same ts);
+              seen_are = g.seen_are;
+              right = subst (λ (bytes : List ℕ). All (IsFrom bytes) ran.gain.reads) (input.bytes ts) g.right;
+            };
+        times = ran.gains.times;
+        fit = ran.gains.fit;
+      };
+      works = loaded_goes c found end (Rescues (setting_of c l end (maps_of domain test listed)) p.file) e o.calls p.calls
+          (record { opens = []; gain = ran.gain }) o.did.1 p.did.1
+          (inr (
+            placed_passes c.options end placed,
+            (refl, (start.tiles.statuses, start.state, p.did.0.stands, ran.runs)),
+          ));
+      short = inr input.short;
     }

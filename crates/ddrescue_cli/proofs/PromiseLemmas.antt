@@ -1,14 +1,13 @@
 -- The promise of a rescue, by what its work did.
-use Rattle.std.proofs.Common.{◌≡◌, ◌≢◌, ◌⊎◌, ℕ, ◌+◌, ◌<◌, ◌^◌, Bool, true, false, IsTrue, List, [], ◌∷◌, ◌++◌, length, Option, Some, None, is_some, Result, Ok, Err, refl, sym, ap, ◌∙◌, inl, inr, subst, arith, append-nil, length-append}
+use Rattle.std.proofs.Common.{◌≡◌, ◌≢◌, ◌⊎◌, ℕ, ◌+◌, ◌<◌, ◌^◌, Bool, true, false, List, [], ◌∷◌, length, Option, Some, None, is_some, Result, Ok, Err, refl, sym, ap, ◌∙◌, inl, inr, subst, arith, append-nil, length-append}
 use Rattle.std.specs.Bool.{⊤, MatchBool}
+use Rattle.std.proofs.lemmas.List.Elements.{All-nil}
 use Rattle.std.specs.Prelude.{codes, option_map}
 use Rattle.std.specs.Str.{bytes_eq}
 use Rattle.std.proofs.lemmas.Bool.{cond_both}
 use Rattle.std.proofs.lemmas.Slice.Eq.{bytes_eq-Decides}
-use Rattle.fault_count.specs.Counts.{raised}
 use Rattle.faulty_source.specs.SourceState.{SourceState, Keeps as SourceKeeps}
 use Rattle.faulty_source.proofs.Keeping.{keeps_self}
-use Rattle.crash_site.specs.Files.{File}
 use Rattle.crash_site.specs.SiteState.{SiteState, Keeps as SiteKeeps}
 use Rattle.option_words.specs.declared.fault.WordFault.{WordFault}
 use Rattle.option_words.specs.declared.fault.WordFault.TheVariants.{NoMemory as WordNoMemory}
@@ -21,10 +20,8 @@ use Rattle.option_words.proofs.MemoryLemmas.{never_memory}
 use Rattle.save_resume.specs.MapNames.{MapNames, names_of}
 use Rattle.rescue_console.specs.ClockState.{ClockState, Keeps as ClockKeeps}
 use Rattle.rescue_console.specs.ConsoleState.{ConsoleState}
-use Rattle.rescue_rules.specs.Setting.{Setting}
-use Rattle.rescue_rules.specs.Work.{IsNothing}
 use Rattle.rescue_rules.specs.Stops.{StopsSafely}
-use Rattle.rescue_rules.specs.Laws.{AreThreeNames}
+use Rattle.rescue_rules.specs.Laws.{AreTimes, AreThreeNames}
 use Rattle.rescue_rules.proofs.StopsLemmas.{goes_safely}
 use Rattle.rescue_core.specs.RunState.{names_in}
 use Rattle.rescue_command.specs.declared.options.Options.{Options}
@@ -33,154 +30,53 @@ use Rattle.rescue_command.specs.Options.{options_in}
 use Rattle.ddrescue_cli.specs.declared.ending.Operand.{Operand}
 use Rattle.ddrescue_cli.specs.declared.ending.Operand.TheVariants.{Infile, Outfile, Mapfile, Draft}
 use Rattle.ddrescue_cli.specs.declared.ending.Ending.{Ending}
-use Rattle.ddrescue_cli.specs.declared.ending.Ending.TheVariants.{Done, Usage, SameName, NoMap, SourceFault, NotRegular, MapRefused, SourceLost, SiteFault, NoMemory}
+use Rattle.ddrescue_cli.specs.declared.ending.Ending.TheVariants.{Usage, SameName, NoMemory}
 use Rattle.option_words.specs.Words.{command_line}
 use Rattle.ddrescue_cli.specs.Names.{first_same, AreNamedApart, program_name}
-use Rattle.ddrescue_cli.specs.Asked.{Maps, names_by}
-use Rattle.ddrescue_cli.specs.Maps.{mapfile_of, names_maps}
-use Rattle.ddrescue_cli.specs.Told.{Told, AllTell, gained, calls_before, files_of, asked, asked_to}
-use Rattle.ddrescue_cli.specs.Refusals.{NamesRefused, PlacesRefused}
+use Rattle.ddrescue_cli.specs.Asked.{Maps, names_by, setting_of}
+use Rattle.ddrescue_cli.specs.Maps.{Found, found_in}
+use Rattle.ddrescue_cli.specs.Outside.{Outside}
+use Rattle.ddrescue_cli.specs.Told.{Told, across_of, calls_before, files_of, asked_of}
+use Rattle.ddrescue_cli.specs.Refusals.{NamesRefused}
+use Rattle.ddrescue_cli.specs.Work.{Rescues, rescue_faults, rescue_rows, worked_rows}
+use Rattle.ddrescue_cli.specs.Answers.{is_of_words, AreAccepted, SaysOfWords, Causes, drafting_left, NameOneFileTwice}
+use Rattle.ddrescue_cli.specs.Steps.{IsOnlyMaps, Worked}
+use Rattle.ddrescue_cli.specs.Ddrescue.{Says, Promise, Ddrescue}
 use Rattle.work_steps.specs.Work.{Deeds, IsIdle, Works}
-use Rattle.ddrescue_cli.specs.Outside.{found_in, HasGainedReads}
-use Rattle.ddrescue_cli.specs.Work.{Rescues, rescue_faults, rescue_rows}
-use Rattle.ddrescue_cli.specs.Answers.{is_of_words, AreAccepted, SaysOfWords, UnlessEarly, Causes, FitsCommand, IsOpenedAs, OpensOnce, IsRefusedByPlan, IsBehindWords, drafting_left, NameOneFileTwice}
-use Rattle.ddrescue_cli.specs.Alone.{AllStand, OutputMade, HasRead, PlacesAllow, IsLeft}
-use Rattle.copy_passes.specs.Turns.{Across}
-use Rattle.ddrescue_cli.specs.Steps.{IsOnlyMaps, WorkedOn, Worked}
-use Rattle.ddrescue_cli.specs.Ddrescue.{HasGained, Says, IsWork, Promise, Ddrescue}
-use Rattle.ddrescue_cli.proofs.AloneLemmas.{none_read}
+use Rattle.work_steps.specs.Parts.{only_calls}
+use Rattle.work_steps.proofs.HoldsLemmas.{holds}
+use Rattle.copy_passes.specs.Turns.{IsFrom}
 use Rattle.ddrescue_cli.proofs.AskedLemmas.{sensible_to}
-use Rattle.ddrescue_cli.proofs.GainLemmas.{gained_is}
 use Rattle.ddrescue_cli.proofs.GoesLemmas.{work_goes, nothing_stops, maps_stop}
-use Rattle.ddrescue_cli.proofs.MapsLemmas.{MapsOf, maps_of}
-use Rattle.ddrescue_cli.proofs.WorkLemmas.{across, calls_alone, idle, none_seen}
+use Rattle.ddrescue_cli.proofs.MapsLemmas.{MapsOf, maps_for}
+use Rattle.ddrescue_cli.proofs.OpenedLemmas.{none_seen}
+use Rattle.ddrescue_cli.proofs.RowLemmas.{rescue_ends}
+use Rattle.ddrescue_cli.proofs.WordsLemmas.{words_steps}
 
 -- an answer that comes before anything was done
 abbrev pub IsEarly : Ending → Type 0
-IsEarly Done = ⊥
-IsEarly (Usage fault) = is_of_words fault ≡ true
+IsEarly (Usage fault) = ⊤
 IsEarly (SameName first second) = ⊤
-IsEarly (NoMap which) = ⊥
-IsEarly SourceFault = ⊥
-IsEarly NotRegular = ⊥
-IsEarly (MapRefused which error) = ⊥
-IsEarly SourceLost = ⊥
-IsEarly (SiteFault call earlier) = ⊥
 IsEarly NoMemory = ⊤
+IsEarly e = ⊥
 
 -- what holds where a fault is found in the words, and what where it is found behind them
 first_of_two : (b : Bool) (P Q : Type 0) → b ≡ true → P → MatchBool b P Q
 first_of_two true P Q on p = p
 first_of_two false P Q on p = absurd (cc)
 
-second_of_two : (b : Bool) (P Q : Type 0) → b ≡ false → Q → MatchBool b P Q
-second_of_two true P Q off q = absurd (cc)
-second_of_two false P Q off q = q
-
-unless_early : (b : Bool) (s : SourceState) (P : Type 0) → b ≡ true → UnlessEarly b s s P
-unless_early true s P on = refl
-unless_early false s P on = absurd (cc)
-
 -- what such an answer says of the objects, which nothing changed
 early_causes : (e : Ending) (s : SourceState) (d : SiteState) → IsEarly e → Causes e s s d d
 early_causes NoMemory s d early = record { faults = refl; losses_ = refl; site_faults = refl }
 early_causes (Usage fault) s d early = record { faults = refl; losses_ = refl; site_faults = refl }
 early_causes (SameName a b) s d early = record { faults = refl; losses_ = refl; site_faults = refl }
-early_causes Done s d early = absurd early
-early_causes (NoMap which) s d early = absurd early
-early_causes SourceFault s d early = absurd early
-early_causes NotRegular s d early = absurd early
-early_causes (MapRefused which error) s d early = absurd early
-early_causes SourceLost s d early = absurd early
-early_causes (SiteFault call earlier) s d early = absurd early
-
-early_opens : (e : Ending) (maps : Bool) (infile : List ℕ) (s : SourceState) → IsEarly e → IsOpenedAs e maps infile s s
-early_opens NoMemory maps infile s early = inl refl
-early_opens (Usage fault) maps infile s early = unless_early (is_of_words fault) s (s.name ≡ infile) early
-early_opens (SameName a b) maps infile s early = refl
-early_opens Done maps infile s early = absurd early
-early_opens (NoMap which) maps infile s early = absurd early
-early_opens SourceFault maps infile s early = absurd early
-early_opens NotRegular maps infile s early = absurd early
-early_opens (MapRefused which error) maps infile s early = absurd early
-early_opens SourceLost maps infile s early = absurd early
-early_opens (SiteFault call earlier) maps infile s early = absurd early
-
-early_opens_none : (e : Ending) (maps : Bool) (s : SourceState) → IsEarly e → OpensOnce e maps s s
-early_opens_none NoMemory maps s early = inl refl
-early_opens_none (Usage fault) maps s early =
-    unless_early (is_of_words fault) s (s.opens ≡ raised s.opens) early
-early_opens_none (SameName a b) maps s early = refl
-early_opens_none Done maps s early = absurd early
-early_opens_none (NoMap which) maps s early = absurd early
-early_opens_none SourceFault maps s early = absurd early
-early_opens_none NotRegular maps s early = absurd early
-early_opens_none (MapRefused which error) maps s early = absurd early
-early_opens_none SourceLost maps s early = absurd early
-early_opens_none (SiteFault call earlier) maps s early = absurd early
+early_causes e s d early = absurd early
 
 early_drafts : (e : Ending) → IsEarly e → drafting_left e ≡ false
 early_drafts NoMemory early = refl
 early_drafts (Usage fault) early = refl
 early_drafts (SameName a b) early = refl
-early_drafts Done early = absurd early
-early_drafts (NoMap which) early = absurd early
-early_drafts SourceFault early = absurd early
-early_drafts NotRegular early = absurd early
-early_drafts (MapRefused which error) early = absurd early
-early_drafts SourceLost early = absurd early
-early_drafts (SiteFault call earlier) early = absurd early
-
-early_places : (e : Ending) (o : Options) (end : ℕ) → IsEarly e → PlacesAllow e o end
-early_places NoMemory o end early = tt
-early_places (Usage fault) o end early = first_of_two (is_of_words fault) ⊤ (PlacesRefused o end (Usage fault)) early tt
-early_places (SameName a b) o end early = tt
-early_places Done o end early = absurd early
-early_places (NoMap which) o end early = absurd early
-early_places SourceFault o end early = absurd early
-early_places NotRegular o end early = absurd early
-early_places (MapRefused which error) o end early = absurd early
-early_places SourceLost o end early = absurd early
-early_places (SiteFault call earlier) o end early = absurd early
-
-early_leaves : (e : Ending) (maps : Bool) (outfile : List ℕ) (files : List ℕ → Option File) → IsEarly e
-    → IsLeft e maps outfile files files
-early_leaves NoMemory maps outfile files early = tt
-early_leaves (Usage fault) maps outfile files early =
-    first_of_two (is_of_words fault) (AllStand files files) (OutputMade outfile files files) early (λ name. refl)
-early_leaves (SameName a b) maps outfile files early = λ name. refl
-early_leaves Done maps outfile files early = absurd early
-early_leaves (NoMap which) maps outfile files early = absurd early
-early_leaves SourceFault maps outfile files early = absurd early
-early_leaves NotRegular maps outfile files early = absurd early
-early_leaves (MapRefused which error) maps outfile files early = absurd early
-early_leaves SourceLost maps outfile files early = absurd early
-early_leaves (SiteFault call earlier) maps outfile files early = absurd early
-
-early_fits : (e : Ending) (c : Command) → IsEarly e → FitsCommand e c
-early_fits NoMemory c early = tt
-early_fits (Usage fault) c early = tt
-early_fits (SameName a b) c early = tt
-early_fits Done c early = tt
-early_fits (NoMap which) c early = absurd early
-early_fits SourceFault c early = tt
-early_fits NotRegular c early = absurd early
-early_fits (MapRefused which error) c early = absurd early
-early_fits SourceLost c early = tt
-early_fits (SiteFault call earlier) c early = absurd early
-
-early_stops : (e : Ending) → IsEarly e → e ≡ Done → ⊥
-early_stops e early is = let P : Ending → Type 0 = IsEarly in subst P is early
-
-early_passes : (e : Ending) → IsEarly e → e ≡ SourceFault → ⊥
-early_passes e early is = let P : Ending → Type 0 = IsEarly in subst P is early
-
--- nothing was gained
-gained_none : {A : Type 0} (xs : List A) → gained xs xs ≡ []
-gained_none xs = gained_is xs xs [] (sym (append-nil xs))
-
-gains_none : {A : Type 0} (xs : List A) → xs ≡ xs ++ gained xs xs
-gains_none xs = sym (ap (λ r. xs ++ r) (gained_none xs) ∙ append-nil xs)
+early_drafts e early = absurd early
 
 -- a call that changed nothing but the console, as it is told
 abbrev pub told_still : (words : List (List ℕ)) → Ending → SourceState → SiteState → ClockState → (console console' : ConsoleState) → Told
@@ -197,41 +93,41 @@ told_still words e s d k console console' = record {
   console' = console';
 }
 
--- where memory ran out, or the names are refused, before anything was done
-early_works : (c : Command) (s : Setting) (files : List ℕ → Option File) (e : Ending) (d : Deeds) → IsIdle d
-    → NamesRefused c e ⊎ (e ≡ NoMemory)
-    → Works rescue_faults (rescue_rows c (found_in c files) s.end) (Rescues s (mapfile_of c files)) e d
-early_works c s files e d none (inl refused) = inr (inl (refused, none))
-early_works c s files e d none (inr is) = inl (is, none)
+-- what such a call promises of what its words ask for, where memory ran out, or the names are refused
+still_works : (c : Command) (found : Found) (end : ℕ) (run : Ending → Deeds → Type 0) (e : Ending) (d : Deeds) → IsIdle d
+    → NamesRefused c e ⊎ (e ≡ NoMemory) → Works rescue_faults (rescue_rows c found end) run e d
+still_works c found end run e d idle (inl refused) = inr (inl (refused, idle))
+still_works c found end run e d idle (inr is) = inl (is, idle)
 
--- what such a call promises of what its words ask for
+nothing : IsIdle (only_calls [])
+nothing = record { opens = refl; gain = record { calls = refl; reads = refl; times = refl } }
+
 still_promised : (words : List (List ℕ)) (e : Ending) (s : SourceState) (d : SiteState) (k : ClockState) (p p' : ConsoleState) (c : Command)
-    → IsEarly e → NamesRefused c e ⊎ (e ≡ NoMemory) → Promise c (told_still words e s d k p p')
-still_promised words e s d k p p' c early refused =
+    → NamesRefused c e ⊎ (e ≡ NoMemory) → Promise c (told_still words e s d k p p')
+still_promised words e s d k p p' c refused =
     let t : Told = told_still words e s d k p p' in
-    let m : MapsOf c (files_of t) = maps_of c (files_of t) in
+    let found : Found = found_in c (files_of t) in
+    let m : MapsOf c found = maps_for c found in
+    let outside : Outside = record { found = found; end = length s.bytes; maps = m.maps; did = only_calls [] } in
     record {
-      maps = m.maps;
-      asked_maps = m.asked;
-      are = λ tells. m.are;
-      end = length s.bytes;
-      own_end = λ tells. refl;
-      fits = early_fits e c early;
-      input = λ tells. early_opens e (names_maps c) c.infile s early;
-      opened = early_opens_none e (names_maps c) s early;
-      refused = λ planned is. absurd (early_passes e early is);
-      read = λ tells. none_read (asked c m.maps t) m.maps.test e s s (early_stops e early) refl;
-      places = λ tells. early_places e c.options (length s.bytes) early;
-      left = λ tells. early_leaves e (names_maps c) c.outfile (files_of t) early;
-      work = λ tells. record {
-        did = calls_alone [];
+      outside = outside;
+      agrees = record {
         opens = refl;
-        calls = sym (append-nil d.calls);
-        reads = λ tell. record { raw = []; journal = sym (append-nil s.journal); seen_are = none_seen m.maps.test };
-        times = λ tell. sym (append-nil k.readings);
-        works = early_works c (asked c m.maps t) (files_of t) e (calls_alone []) idle refused;
-        stops = λ on. nothing_stops (calls_before t) (asked c m.maps t) (calls_alone []).gain idle.gain;
+        found = λ tells. refl;
+        calls = λ tells. sym (append-nil d.calls);
+        end = λ tells. refl;
+        reads = λ tells. record {
+          raw = [];
+          journal = sym (append-nil s.journal);
+          seen_are = none_seen m.maps.test;
+          right = All-nil (IsFrom s.bytes);
+        };
+        times = λ tells. sym (append-nil k.readings);
       };
+      asked_maps = m.asked;
+      are_maps = m.are;
+      works = still_works c found (length s.bytes) (Rescues (asked_of c t outside) found.mapfile) e (only_calls []) nothing refused;
+      stops = λ tells on. nothing_stops (calls_before t) (asked_of c t outside) (only_calls []).gain nothing.gain;
     }
 
 still_kept : (words : List (List ℕ)) (e : Ending) (s : SourceState) (d : SiteState) (k : ClockState) (p p' : ConsoleState)
@@ -240,13 +136,12 @@ still_kept : (words : List (List ℕ)) (e : Ending) (s : SourceState) (d : SiteS
 still_kept words e s d k p p' early says_words refused none says = record {
   words = says_words;
   cause = early_causes e s d early;
-  asked_for = λ c asks. still_promised words e s d k p p' c early (refused c asks);
+  asked_for = λ c asks. still_promised words e s d k p p' c (refused c asks);
   draft = none ∙ sym (early_drafts e early);
   says = says;
   source = keeps_self s;
   site = record { tells = refl; start = λ tells. refl; planned = refl; later = omega arith };
   clock = record { planned = refl; plan = refl };
-  gains = λ tell. record { reads = gains_none s.journal; calls = gains_none d.calls; times = gains_none k.readings };
 }
 
 -- the promise where memory ran out before anything was done
@@ -320,7 +215,7 @@ pub refused_kept : (words : List (List ℕ)) (fault : UsageFault) (quiet : Bool)
     (p p' : ConsoleState) → IsRefusedFor words fault quiet → d.is_drafting ≡ false
     → Says (told_still words (Usage fault) s d k p p') → Ddrescue (told_still words (Usage fault) s d k p p')
 refused_kept words fault quiet s d k p p' r none says =
-    still_kept words (Usage fault) s d k p p' (found_in_words words fault r.refused) (refused_says words fault r.refused)
+    still_kept words (Usage fault) s d k p p' tt (refused_says words fault r.refused)
     (λ c asks. absurd (r.nothing c asks)) none says
 
 -- and where two files have one name, or memory ran out behind the words
@@ -376,74 +271,18 @@ three_by outfile (Some name) on apart = record {
   apart = longer name;
 }
 
-three_names : (c : Command) (maps : Maps) (t : Told) (end : ℕ) → (asked_to c maps t end).has_mapfile ≡ true
-    → first_same c.infile c.outfile (names_by c) ≡ None → AreThreeNames (asked_to c maps t end)
-three_names c maps t end on different =
+three_names : (c : Command) (line : List ℕ) (end : ℕ) (maps : Maps) → (setting_of c line end maps).has_mapfile ≡ true
+    → first_same c.infile c.outfile (names_by c) ≡ None → AreThreeNames (setting_of c line end maps)
+three_names c line end maps on different =
     let three : AreThree c.outfile (names_in (names_by c)) =
     three_by c.outfile c.mapfile on (apart_of c.infile c.outfile (names_by c) different) in
     record { map = three.map; draft = three.draft; apart = three.apart }
-
--- what the objects tell of a call before and behind it
-abbrev pub across_of : Told → Across
-across_of t = across t.source t.source' t.site t.site' t.clock t.clock'
-
--- what was done by these maps, for an input with this length
-abbrev DidBy : Command → Maps → (end : ℕ) → Told → Type 0
-DidBy c maps end t = WorkedOn c (asked_to c maps t end) maps.test (files_of t) t.answer (across_of t)
-
-stops_by : (c : Command) (maps : Maps) (end : ℕ) (t : Told) → Asks t.words c → first_same c.infile c.outfile (names_by c) ≡ None
-    → (asked_to c maps t end).has_mapfile ≡ true → (w : DidBy c maps end t)
-    → IsNothing w.did.gain ⊎ (end < 2 ^ 63) ⊎ IsOnlyMaps w.did.gain
-    → StopsSafely (calls_before t) (asked_to c maps t end) w.did.gain
-stops_by c maps end t asks different on w (inl none) = nothing_stops (calls_before t) (asked_to c maps t end) w.did.gain none
-stops_by c maps end t asks different on w (inr (inl short)) =
-    goes_safely (calls_before t) (asked_to c maps t end) w.did.gain (sensible_to c maps t end asks) on
-    (three_names c maps t end on different) short w.gains.fit
-    (work_goes c (command_line program_name t.words) end maps (files_of t) t.answer w.did on w.works)
-stops_by c maps end t asks different on w (inr (inr only)) = maps_stop (calls_before t) (asked_to c maps t end) w.did.gain only
 
 -- no two files have one name
 names_pass : (c : Command) → first_same c.infile c.outfile (names_by c) ≡ None → (e : Ending) → NamesRefused c e → ⊥
 names_pass c different e (first, second, same, is) =
     let pair : Operand × Operand = (first, second) in
     let never : None ≡ Some pair = sym different ∙ same in absurd (cc)
-
--- the work, and that a stop is safe
-is_work : (c : Command) (maps : Maps) (end : ℕ) (t : Told) → Asks t.words c → first_same c.infile c.outfile (names_by c) ≡ None
-    → DidBy c maps end t → IsWork c maps end t
-is_work c maps end t asks different w = record {
-  did = w.did;
-  opens = w.opens;
-  calls = w.gains.calls;
-  reads = w.gains.reads;
-  times = w.gains.times;
-  works = inr (inr (names_pass c different, w.works));
-  stops = λ on. stops_by c maps end t asks different on w w.short;
-}
-
-gains_as : (c : Command) (maps : Maps) (end : ℕ) (t : Told) → AllTell t → IsWork c maps end t → HasGained t
-gains_as c maps end t tell w =
-    let h : HasGainedReads maps.test t.source t.source' w.did.gain.reads = w.reads tell.source in
-    record {
-      reads = h.journal ∙ ap (λ r. t.source.journal ++ r) (sym (gained_is t.source.journal t.source'.journal h.raw h.journal));
-      calls = w.calls ∙ ap (λ r. t.site.calls ++ r) (sym (gained_is t.site.calls t.site'.calls w.did.gain.calls w.calls));
-      times = w.times tell.clock
-          ∙ ap (λ r. t.clock.readings ++ r) (sym (gained_is t.clock.readings t.clock'.readings w.did.gain.times (w.times tell.clock)));
-    }
-
--- an answer behind the words and the names
-behind_says : (e : Ending) (words : List (List ℕ)) → IsBehindWords e → AreAccepted words → SaysOfWords e words
-behind_says Done words behind accepted = accepted
-behind_says (Usage fault) words behind accepted =
-    second_of_two (is_of_words fault) (AreRefused words fault × (fault ≢ Word WordNoMemory)) (AreAccepted words) behind accepted
-behind_says (SameName a b) words behind accepted = absurd behind
-behind_says (NoMap which) words behind accepted = accepted
-behind_says SourceFault words behind accepted = accepted
-behind_says NotRegular words behind accepted = accepted
-behind_says (MapRefused which error) words behind accepted = accepted
-behind_says SourceLost words behind accepted = accepted
-behind_says (SiteFault call earlier) words behind accepted = accepted
-behind_says NoMemory words behind accepted = tt
 
 pub named_apart : (words : List (List ℕ)) (c : Command) → IsAsked words c → first_same c.infile c.outfile (names_by c) ≡ None
     → (first second : Operand) → NameOneFileTwice words first second → ⊥
@@ -452,14 +291,9 @@ named_apart words c a different first second twice =
     names_pass c different (SameName first second)
     (first, second, subst P (a.alone twice.command twice.asks) twice.same, refl)
 
--- What a rescue did for a command behind its words, and what is said of its answer.
+-- What a rescue did for a command behind its words, and what else is said of it.
 pub record SaysBy (c : Command) (line : List ℕ) (t : Told) : Type 0 where
-  pub worked : Worked c line (files_of t) t.answer (across_of t)
-  pub words : IsBehindWords t.answer
-  pub fits : FitsCommand t.answer c
-  pub input : IsTrue t.source.tells → IsOpenedAs t.answer (names_maps c) c.infile t.source t.source'
-  pub once : OpensOnce t.answer (names_maps c) t.source t.source'
-  pub refused : IsTrue t.source.is_planned → IsRefusedByPlan t.answer c.infile t.source.plan
+  pub worked : Worked c line t.answer (across_of t)
   pub cause : Causes t.answer t.source t.source' t.site t.site'
   pub draft : t.site'.is_drafting ≡ drafting_left t.answer
   pub source : SourceKeeps t.source t.source'
@@ -470,32 +304,46 @@ pub record SaysBy (c : Command) (line : List ℕ) (t : Told) : Type 0 where
 abbrev SaysOf : Command → Told → Type 0
 SaysOf c t = SaysBy c (command_line program_name t.words) t
 
-work_promised : (c : Command) (t : Told) → Asks t.words c → first_same c.infile c.outfile (names_by c) ≡ None → SaysOf c t → Promise c t
-work_promised c t asks different r =
-    let w : Worked c (command_line program_name t.words) (files_of t) t.answer (across_of t) = r.worked in
+-- what was done by then, among files that tell
+abbrev WorksIn : Command → Told → Outside → Found → Type 0
+WorksIn c t o found =
+    Works rescue_faults (worked_rows c found o.end) (Rescues (asked_of c t o) found.mapfile) t.answer o.did
+
+stops_by : (c : Command) (t : Told) (o : Outside) → Asks t.words c → first_same c.infile c.outfile (names_by c) ≡ None
+    → (asked_of c t o).has_mapfile ≡ true → WorksIn c t o (found_in c (files_of t)) → AreTimes o.did.gain.times
+    → IsOnlyMaps o.did.gain ⊎ (o.end < 2 ^ 63) → StopsSafely (calls_before t) (asked_of c t o) o.did.gain
+stops_by c t o asks different on works fit (inl only) = maps_stop (calls_before t) (asked_of c t o) o.did.gain only
+stops_by c t o asks different on works fit (inr short) =
+    let line : List ℕ = command_line program_name t.words in
+    goes_safely (calls_before t) (asked_of c t o) o.did.gain (sensible_to c t.words line o.end o.maps asks) on
+    (three_names c line o.end o.maps on different) short fit
+    (work_goes c line o.end o.maps (files_of t) t.answer o.did on works)
+
+work_promised : (c : Command) (t : Told) → Asks t.words c → first_same c.infile c.outfile (names_by c) ≡ None
+    → Worked c (command_line program_name t.words) t.answer (across_of t) → Promise c t
+work_promised c t asks different w =
+    let o : Outside = w.outside in
     record {
-      maps = w.maps;
+      outside = o;
+      agrees = w.agrees;
       asked_maps = w.asked_maps;
-      are = w.are;
-      fits = r.fits;
-      input = r.input;
-      opened = r.once;
-      refused = r.refused;
-      end = w.end;
-      own_end = w.own_end;
-      read = λ tells. subst (λ (n : ℕ). HasRead (asked_to c w.maps t n) w.maps.test t.answer t.source t.source') (w.own_end tells)
-          (w.read tells);
-      places = λ tells. subst (λ (n : ℕ). PlacesAllow t.answer c.options n) (w.own_end tells) (w.placed tells);
-      left = w.left;
-      work = λ tells. is_work c w.maps w.end t asks different (w.told tells);
+      are_maps = w.are_maps;
+      works = inr (inr (names_pass c different, w.works));
+      stops = λ tells on. stops_by c t o asks different on
+          (subst (WorksIn c t o) (w.agrees.found tells) w.works) w.fit w.short;
     }
 
 -- the promise of an answer behind the words
-says_kept : (t : Told) (c : Command) → IsAsked t.words c → first_same c.infile c.outfile (names_by c) ≡ None → SaysOf c t → Says t → Ddrescue t
+says_kept : (t : Told) (c : Command) → IsAsked t.words c → first_same c.infile c.outfile (names_by c) ≡ None → SaysOf c t
+    → Says t → Ddrescue t
 says_kept t c a different r says =
-    let kept : Promise c t = work_promised c t a.asks different r in
+    let kept : Promise c t = work_promised c t a.asks different r.worked in
+    let o : Outside = kept.outside in
+    let run : Ending → Deeds → Type 0 = Rescues (asked_of c t o) o.found.mapfile in
     record {
-      words = behind_says t.answer t.words r.words (record { command = c; asks = a.asks; apart = different });
+      words = holds rescue_faults (rescue_rows c o.found o.end) run (λ e d. SaysOfWords e t.words)
+          (words_steps t.words c o.found o.end run a.asks (rescue_ends (asked_of c t o) o.found.mapfile)) t.answer o.did
+          kept.works;
       cause = r.cause;
       asked_for = λ other asks. subst (λ (x : Command). Promise x t) (sym (a.alone other asks)) kept;
       draft = r.draft;
@@ -503,11 +351,11 @@ says_kept t c a different r says =
       source = r.source;
       site = r.site;
       clock = r.clock;
-      gains = λ tell. gains_as c kept.maps kept.end t tell (kept.work tell.site);
     }
 
-pub work_kept : (t : Told) (c planned : Command) (line : List ℕ) → IsAsked t.words c → planned ≡ c → line ≡ command_line program_name t.words
-    → first_same c.infile c.outfile (names_by c) ≡ None → SaysBy planned line t → Says t → Ddrescue t
+pub work_kept : (t : Told) (c planned : Command) (line : List ℕ) → IsAsked t.words c → planned ≡ c
+    → line ≡ command_line program_name t.words → first_same c.infile c.outfile (names_by c) ≡ None → SaysBy planned line t
+    → Says t → Ddrescue t
 work_kept t c planned line a is line_is different r says =
     says_kept t c a different
     (subst (λ (x : Command). SaysOf x t) is (subst (λ (l : List ℕ). SaysBy planned l t) line_is r)) says

@@ -1,5 +1,5 @@
 -- What a run in test mode did to the input that its source reads.
-use Rattle.std.proofs.Common.{◌≡◌, ℕ, IsTrue, List, ◌++◌, map, Option, Some, None, sym, ap, ◌∙◌, subst}
+use Rattle.std.proofs.Common.{◌≡◌, ℕ, IsTrue, List, ◌++◌, map, Option, Some, None, sym, ap, ◌∙◌}
 use Rattle.std.proofs.lemmas.List.{map-append, append_cancel_left}
 use Rattle.block_list.specs.declared.status.Status.{Status}
 use Rattle.mapfile_text.specs.declared.state.MapState.{MapState}
@@ -10,15 +10,13 @@ use Rattle.rescue_console.specs.ClockState.{ClockState}
 use Rattle.rescue_domain.specs.Testing.{seen, state_seen, GainsSeen}
 use Rattle.rescue_domain.proofs.TestingLemmas.{said_below}
 use Rattle.rescue_rules.specs.Setting.{Setting}
-use Rattle.rescue_rules.specs.declared.stop.Stop.TheVariants.{SourceLost as InputLost, Site, NoMemory as NoRoom}
+use Rattle.rescue_rules.specs.declared.stop.Stop.TheVariants.{Site}
 use Rattle.copy_passes.specs.Turns.{Across}
 use Rattle.ddrescue_cli.specs.declared.ending.Ending.{Ending}
-use Rattle.ddrescue_cli.specs.declared.ending.Ending.TheVariants.{Done, Usage, SameName, NoMap, SourceFault, NotRegular, MapRefused, SourceLost, SiteFault, NoMemory}
-use Rattle.ddrescue_cli.specs.Alone.{IsBeforeReads, HasRead}
+use Rattle.ddrescue_cli.specs.declared.ending.Ending.TheVariants.{MapRefused, SiteFault}
 use Rattle.ddrescue_cli.specs.Answers.{Rises, Causes}
 use Rattle.ddrescue_cli.specs.Outside.{HasGainedReads}
-use Rattle.ddrescue_cli.specs.Steps.{EndsRun, IsLate, Ran}
-use Rattle.ddrescue_cli.proofs.RanLemmas.{run_refused}
+use Rattle.ddrescue_cli.specs.Steps.{Ran}
 
 -- what is told before and behind a call
 abbrev pub across : (site site' : SiteState) (clock clock' : ClockState) (source source' : SourceState) → Across
@@ -43,57 +41,25 @@ module _ (reference : ℕ) (tests : List Status) (old new : SourceState)
       sym (map-append (seen tests) old.journal gains.reads) ∙ ap (map (seen tests)) (sym gains.told) ∙ told in
       record { gains = gains; seen = append_cancel_left (map (seen tests) old.journal) _ _ same }
 
-  -- the reads of a run that was seen so are those of a run,
-  read_seen : (s : Setting) (e : Ending) → EndsRun e → IsLate e → IsTrue old.tells
-      → HasRead s None e (state_seen reference tests old) (state_seen reference tests new)
-      → HasRead s (Some tests) e old new
-  read_seen s e ends late tells read =
-      let g : GainsSeen tests read.raw old.journal new.journal = gains_seen read.raw tells read.gained in
-      record {
-        statuses = read.statuses;
-        state = read.state;
-        time = read.time;
-        long = read.long;
-        fresh = read.fresh;
-        events = read.events;
-        raw = g.gains.reads;
-        gained = g.gains.told;
-        seen_are = g.seen ∙ read.seen_are;
-        run = read.run;
-        right = read.right;
-        refused = λ refused.
-            absurd (run_refused ends.0 (subst IsLate ends.1 late) (subst IsBeforeReads ends.1 refused));
-        few = read.few;
-        done = read.done;
-        well = read.well;
-      }
-
-  -- and so is the run.
+  -- and so the run is one of that input.
   ran_seen : (s : Setting) (statuses : List Status) (state : Option MapState) (e : Ending) (site site' : SiteState)
       (clock clock' : ClockState)
       → Ran s None statuses state e
       (across site site' clock clock' (state_seen reference tests old) (state_seen reference tests new))
       → Ran s (Some tests) statuses state e (across site site' clock clock' old new)
   ran_seen s statuses state e site site' clock clock' ran = record {
-    told = λ tells.
-        let on = ran.told tells in
-        record {
-          gain = on.gain;
-          gains = record {
-            reads = λ tell.
-                let h : HasGainedReads None (state_seen reference tests old) (state_seen reference tests new) on.gain.reads =
-                on.gains.reads tell in
-                let g : GainsSeen tests h.raw old.journal new.journal = gains_seen h.raw tell h.journal in
-                record { raw = g.gains.reads; journal = g.gains.told; seen_are = g.seen ∙ h.seen_are };
-            calls = on.gains.calls;
-            times = on.gains.times;
-            fit = on.gains.fit;
-          };
-          runs = on.runs;
-        };
-    read = λ tells. read_seen s e ran.ends ran.late tells (ran.read tells);
-    ends = ran.ends;
-    late = ran.late;
+    gain = ran.gain;
+    gains = record {
+      calls = ran.gains.calls;
+      reads = λ tell.
+          let h : HasGainedReads None (state_seen reference tests old) (state_seen reference tests new) ran.gain.reads =
+          ran.gains.reads tell in
+          let g : GainsSeen tests h.raw old.journal new.journal = gains_seen h.raw tell h.journal in
+          record { raw = g.gains.reads; journal = g.gains.told; seen_are = g.seen ∙ h.seen_are; right = h.right };
+      times = ran.gains.times;
+      fit = ran.gains.fit;
+    };
+    runs = ran.runs;
   }
 
 -- An answer has the same cause.
@@ -106,19 +72,9 @@ module _ (reference : ℕ) (tests : List Status) (a b : SourceState) (d d' : Sit
 
   causes_seen : (e : Ending) → Causes e (state_seen reference tests a) (state_seen reference tests b) d d'
       → Causes e a b d d'
-  causes_seen Done cause = rises_seen _ _ _ cause
-  causes_seen (Usage fault) cause = rises_seen _ _ _ cause
-  causes_seen (SameName first second) cause = rises_seen _ _ _ cause
-  causes_seen (NoMap which) cause = rises_seen _ _ _ cause
-  causes_seen SourceFault cause = rises_seen _ _ _ cause
-  causes_seen NotRegular cause = rises_seen _ _ _ cause
   causes_seen (MapRefused which error) cause = (cause.0, cause.1, rises_seen _ _ _ cause.2)
-  causes_seen SourceLost cause = rises_seen _ _ _ cause
-  causes_seen (SiteFault call None) cause = rises_seen _ _ _ cause
-  causes_seen (SiteFault call (Some InputLost)) cause = rises_seen _ _ _ cause
   causes_seen (SiteFault call (Some (Site before))) cause = cause
-  causes_seen (SiteFault call (Some NoRoom)) cause = rises_seen _ _ _ cause
-  causes_seen NoMemory cause = rises_seen _ _ _ cause
+  causes_seen e cause = rises_seen _ _ _ cause
 
 -- What a run did to a source in test mode that was made of an input in this state, and leaves it in that one:
 module _ (reference reference' : ℕ) (tests tests' : List Status) (old new test : SourceState)

@@ -1,5 +1,5 @@
 -- A command and the files that were found have one verdict.
-use Rattle.std.proofs.Common.{◌≡◌, ℕ, Bool, List, Option, Some, None, sym, ap, ◌∙◌, inl, inr, subst}
+use Rattle.std.proofs.Common.{◌≡◌, ℕ, Bool, List, Option, Some, None, refl, sym, ap, ◌∙◌, inl, inr}
 use Rattle.block_list.specs.declared.status.Status.{Status}
 use Rattle.mapfile_text.specs.declared.state.MapState.{MapState}
 use Rattle.mapfile_text.specs.declared.read.Mode.{Mode}
@@ -23,27 +23,22 @@ use Rattle.ddrescue_cli.specs.declared.ending.Ending.TheVariants.{Done, SameName
 use Rattle.ddrescue_cli.specs.declared.ending.Which.{Which}
 use Rattle.ddrescue_cli.specs.declared.ending.Which.TheVariants.{DomainMap, TestMap, RunMap}
 use Rattle.ddrescue_cli.specs.Refusals.{NamesRefused, NamedMapRefused, OutputRefused, MapfileRefused, PlacesRefused}
-use Rattle.ddrescue_cli.specs.Outside.{Found}
+use Rattle.ddrescue_cli.specs.Maps.{Found}
 use Rattle.ddrescue_cli.specs.Work.{IfNamed, Rescues, RunsOver, answer_of, rescue_faults, rescue_rows}
 use Rattle.ddrescue_cli.specs.Laws.{IsVerdict, HasOneVerdict}
-
--- no verdict is one of these
-never : (e v : Ending) → e ≡ v → (IsVerdict v → ⊥) → IsVerdict e → ⊥
-never e v is none verdict = none (subst IsVerdict is verdict)
 
 -- a run that was done
 done_only : (e : Ending) (end : RunEnd) → e ≡ answer_of end → IsVerdict e → e ≡ Done
 done_only e Finished is verdict = is
-done_only e (Stopped InputLost) is verdict = absurd (never e (answer_of (Stopped InputLost)) is (λ x. x) verdict)
-done_only e (Stopped (Site call)) is verdict = absurd (never e (answer_of (Stopped (Site call))) is (λ x. x) verdict)
-done_only e (Stopped NoRoom) is verdict = absurd (never e (answer_of (Stopped NoRoom)) is (λ x. x) verdict)
-done_only e (SaveFailed call earlier) is verdict =
-    absurd (never e (answer_of (SaveFailed call earlier)) is (λ x. x) verdict)
+done_only e (Stopped InputLost) is verdict = absurd (verdict.kept is)
+done_only e (Stopped (Site call)) is verdict = absurd (verdict.call call None is)
+done_only e (Stopped NoRoom) is verdict = absurd (verdict.room is)
+done_only e (SaveFailed call earlier) is verdict = absurd (verdict.call call earlier is)
 
 -- a run that was done, or none that had begun
 pub done_over : (s : Setting) (statuses : List Status) (state : Option MapState) (e : Ending) (g : Gain)
     → RunsOver s statuses state e g → IsVerdict e → e ≡ Done
-done_over s statuses state e g (inl unbegun) verdict = absurd (never e _ unbegun.answer (λ x. x) verdict)
+done_over s statuses state e g (inl unbegun) verdict = absurd (verdict.room unbegun.answer)
 done_over s statuses state e g (inr (end, is, runs)) verdict = done_only e end is verdict
 
 -- so two runs have one
@@ -88,7 +83,7 @@ rows_once c found end =
 
 -- no fault of a rescue is a verdict
 pub verdicts : AreVerdicts rescue_faults IsVerdict
-verdicts = record { memory = λ v. v; input = λ v. v; call = λ call v. v }
+verdicts = record { memory = λ v. v.room refl; input = λ v. v.opened refl; call = λ call v. v.call call None refl }
 
 pub has_one_verdict : HasOneVerdict
 has_one_verdict c s found e e' d d' w w' v v' =

@@ -1,5 +1,5 @@
 -- The maps that the options of a rescue name, and what they stand for.
-use Rattle.std.specs.Prelude.{◌≡◌, ℕ, ◌≤◌, Bool, true, false, ◌||◌, List, length, map, Option, Some, None, is_some}
+use Rattle.std.specs.Prelude.{◌≡◌, ℕ, ◌≤◌, Bool, true, false, List, length, map, Option, Some, None, is_some}
 use Rattle.block_list.specs.declared.status.Status.{Status}
 use Rattle.mapfile_text.specs.declared.state.MapState.{MapState}
 use Rattle.mapfile_text.specs.declared.read.Mode.{Mode}
@@ -21,12 +21,6 @@ pub data Lists (mapfile : Option File) (first end : ℕ) : Type 0 where
       → (shown : MapState) → (listed : Bool) → (statuses : List Status)
       → IsMapText there.bytes Tight shown first listed statuses → end ≡ length statuses → Lists mapfile first end
 
--- a map that an option names has the statuses that its file has, if it has some
-abbrev pub IsNamedMap : (name : Option (List ℕ)) → Mode → (List ℕ → Option File) → (statuses : Option (List Status))
-    → Type 0
-IsNamedMap name mode files statuses =
-    (n : List ℕ) (map : List Status) → name ≡ Some n → IsMapOf (files n) mode map → statuses ≡ Some map
-
 -- a file by its name, if it has one
 abbrev pub file_of : Option (List ℕ) → (List ℕ → Option File) → Option File
 file_of None files = None
@@ -42,17 +36,38 @@ pub record AreAskedFor (c : Command) (maps : Maps) : Type 0 where
   pub test : c.test_map ≡ None → maps.test ≡ None
   pub whole : c.options.complete_only ≡ false → maps.listed ≡ None
 
--- The maps are what the files are.
--- Where a file isn't there or is no map, nothing is said here: then the rescue is refused.
-pub record AreMapsOf (c : Command) (files : List ℕ → Option File) (maps : Maps) : Type 0 where
-  pub domain : IsNamedMap c.domain_map (map_mode c.options.loose) files maps.domain
-  pub test : IsNamedMap c.test_map (map_mode c.options.loose) files maps.test
-  pub listed : (first end : ℕ) → c.options.complete_only ≡ true → Lists (mapfile_of c files) first end
-      → maps.listed ≡ Some (first, end)
+-- the files that steps of the work found, each at its own moment
+pub record Found : Type 0 where
+  pub domain : Option File
+  pub test : Option File
+  pub output : Option File
+  pub mapfile : Option File
 
--- an option names a map
-abbrev pub names_maps : Command → Bool
-names_maps c = is_some c.domain_map || is_some c.test_map
+-- what a command finds among files that stand
+abbrev pub found_in : Command → (List ℕ → Option File) → Found
+found_in c files = record {
+  domain = file_of c.domain_map files;
+  test = file_of c.test_map files;
+  output = files c.outfile;
+  mapfile = mapfile_of c files;
+}
+
+-- a map that an option names has the statuses that its file has, if it has some
+abbrev pub IsNamedMap : (name : Option (List ℕ)) → Mode → Option File → (statuses : Option (List Status)) → Type 0
+IsNamedMap name mode file statuses =
+    (map : List Status) → is_some name ≡ true → IsMapOf file mode map → statuses ≡ Some map
+
+-- what the mapfile lists, where that is asked for
+abbrev pub IsListing : Command → (mapfile : Option File) → (listed : Option (ℕ × ℕ)) → Type 0
+IsListing c mapfile listed =
+    (first end : ℕ) → c.options.complete_only ≡ true → Lists mapfile first end → listed ≡ Some (first, end)
+
+-- The maps are what the files are that were found.
+-- Where a file isn't there or is no map, nothing is said here: then the rescue is refused.
+pub record AreMapsIn (c : Command) (found : Found) (maps : Maps) : Type 0 where
+  pub domain : IsNamedMap c.domain_map (map_mode c.options.loose) found.domain maps.domain
+  pub test : IsNamedMap c.test_map (map_mode c.options.loose) found.test maps.test
+  pub listed : IsListing c found.mapfile maps.listed
 
 -- reads as they are seen: in test mode each gives what comes in front
 -- of the first position that isn't finished in the test map

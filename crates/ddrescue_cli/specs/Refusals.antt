@@ -11,7 +11,7 @@ use Rattle.ddrescue_cli.specs.declared.ending.Operand.{Operand}
 use Rattle.ddrescue_cli.specs.declared.ending.Which.{Which}
 use Rattle.ddrescue_cli.specs.declared.ending.Which.TheVariants.{RunMap}
 use Rattle.ddrescue_cli.specs.declared.ending.Ending.{Ending}
-use Rattle.ddrescue_cli.specs.declared.ending.Ending.TheVariants.{Usage, SameName, NoMap, SourceFault, NotRegular, MapRefused}
+use Rattle.ddrescue_cli.specs.declared.ending.Ending.TheVariants.{Usage, SameName, NoMap, NotRegular, MapRefused}
 use Rattle.rescue_command.specs.declared.options.Options.{Options}
 use Rattle.rescue_command.specs.Command.{Command}
 use Rattle.ddrescue_cli.specs.Names.{first_same}

@@ -1,11 +1,11 @@
 -- The work of a rescue: its steps in order, each a row, and the run behind them.
-use Rattle.std.specs.Prelude.{◌≡◌, ◌⊎◌, ℕ, ◌≤◌, true, List, [], ◌∷◌, ◌++◌, length, Option, Some, None, is_some, option_map}
+use Rattle.std.specs.Prelude.{◌≡◌, ◌⊎◌, ℕ, ◌≤◌, Bool, true, List, [], ◌∷◌, ◌++◌, length, Option, Some, None, is_some}
 use Rattle.block_list.specs.declared.status.Status.{Status}
 use Rattle.mapfile_text.specs.declared.read.Mode.{Mode}
 use Rattle.mapfile_text.specs.declared.state.MapState.{MapState}
 use Rattle.crash_site.specs.Files.{File}
 use Rattle.crash_site.specs.Calls.{Call, image_open}
-use Rattle.save_resume.specs.MapNames.{MapNames, names_of}
+use Rattle.save_resume.specs.MapNames.{names_of}
 use Rattle.save_resume.specs.Named.{map_mode}
 use Rattle.save_resume.specs.Resuming.{barrier_calls}
 use Rattle.rescue_rules.specs.Setting.{Setting}
@@ -15,14 +15,13 @@ use Rattle.rescue_rules.specs.declared.stop.RunEnd.{RunEnd}
 use Rattle.rescue_rules.specs.declared.stop.RunEnd.TheVariants.{Done as Finished, Stopped, SaveFailed}
 use Rattle.rescue_rules.specs.Work.{Gain, Runs}
 use Rattle.work_steps.specs.Work.{Deeds, Faults, Step, Take, Look, Open, Make, Read}
-use Rattle.rescue_command.specs.declared.options.Options.{Options}
 use Rattle.rescue_command.specs.Command.{Command}
 use Rattle.ddrescue_cli.specs.declared.ending.Ending.{Ending}
 use Rattle.ddrescue_cli.specs.declared.ending.Ending.TheVariants.{Done, SourceFault, SourceLost, SiteFault, NoMemory}
 use Rattle.ddrescue_cli.specs.declared.ending.Which.{Which}
 use Rattle.ddrescue_cli.specs.declared.ending.Which.TheVariants.{DomainMap, TestMap}
 use Rattle.ddrescue_cli.specs.Refusals.{NamesRefused, NamedMapRefused, OutputRefused, MapfileRefused, PlacesRefused}
-use Rattle.ddrescue_cli.specs.Outside.{Found}
+use Rattle.ddrescue_cli.specs.Maps.{Found}
 
 -- how a rescue answers faults
 abbrev pub rescue_faults : Faults Ending
@@ -36,28 +35,26 @@ IfNamed name refuses e = (is_some name ≡ true) × refuses e
 abbrev pub map_rows : Which → Mode → (name : Option (List ℕ)) → (file : Option File) → List (Step Ending)
 map_rows which mode name file = Read name file ∷ Look (IfNamed name (NamedMapRefused which mode file)) ∷ []
 
+-- The output is opened, and may be refused.
+abbrev pub output_rows : (forced : Bool) → (outfile : List ℕ) → (file : Option File) → List (Step Ending)
+output_rows forced outfile file = Make (image_open outfile true ∷ []) ∷ Look (OutputRefused forced file) ∷ []
+
 -- the barrier before a mapfile is read, if there is one
-abbrev pub barrier_of : Option MapNames → List Call
+abbrev pub barrier_of : (mapfile : Option (List ℕ)) → List Call
 barrier_of None = []
-barrier_of (Some names) = barrier_calls names
+barrier_of (Some name) = barrier_calls (names_of name)
 
--- What follows the opening of the output: with a mapfile the barrier makes durable what stands, and the mapfile is read
--- and may be refused. Then each position that is asked for wants a place in the output.
-abbrev pub mapfile_rows : Options → (mapfile : Option (List ℕ)) → (file : Option File) → (end : ℕ) → List (Step Ending)
-mapfile_rows o mapfile file end =
-    Make (barrier_of (option_map names_of mapfile))
-    ∷ Read mapfile file
-    ∷ Look (MapfileRefused file)
-    ∷ Look (PlacesRefused o end)
-    ∷ []
+-- With a mapfile the barrier makes durable what stands, and the mapfile is read, and may be refused.
+abbrev pub load_rows : (mapfile : Option (List ℕ)) → (file : Option File) → List (Step Ending)
+load_rows mapfile file = Make (barrier_of mapfile) ∷ Read mapfile file ∷ Look (MapfileRefused file) ∷ []
 
--- what follows the maps that options name: the input is opened, and the output, which may be refused
+-- what follows the maps that options name: the input is opened, and behind the mapfile each position that is asked for
+-- wants a place in the output
 abbrev pub opened_rows : Command → Found → (end : ℕ) → List (Step Ending)
 opened_rows c found end =
     Open c.infile
-    ∷ Make (image_open c.outfile true ∷ [])
-    ∷ Look (OutputRefused c.options.forced found.output)
-    ∷ mapfile_rows c.options c.mapfile found.mapfile end
+    ∷ (output_rows c.options.forced c.outfile found.output ++ load_rows c.mapfile found.mapfile
+    ++ Look (PlacesRefused c.options end) ∷ [])
 
 -- what follows the names
 abbrev pub worked_rows : Command → Found → (end : ℕ) → List (Step Ending)

@@ -1,5 +1,20 @@
 //! What the definitions mean.
-ghost use Rattle.ddrescue_cli.specs.Laws.{DoneIsSaved, GivenIsInput, HasOneVerdict, HoldsAtEnd, IsDoneUnless, MapsAreThere};
+ghost use Rattle.ddrescue_cli.specs.Laws.{DoneIsSaved, FaultsAreOfSteps, FilesAreLeft, GivenIsInput, HasOneVerdict, HoldsAtEnd, IsDoneUnless, MapsAreThere, ReadsAreARun};
+
+/// What an answer before the first read leaves of the files is known by the answer.
+pub fn files_are_left()
+    ensures { FilesAreLeft }
+{}
+
+/// What was read is a run, which asks few times and ends well.
+pub fn reads_are_a_run()
+    ensures { ReadsAreARun }
+{}
+
+/// An answer that names a failed call names one that a step makes.
+pub fn faults_are_of_steps()
+    ensures { FaultsAreOfSteps }
+{}
 
 /// Behind each answer that comes after the barrier, the files as they read keep the promise.
 pub fn files_hold_at_the_end()

@@ -1,5 +1,5 @@
 //! The maps that options name, and the positions that they leave to be rescued.
-ghost use Rattle.std.specs.Prelude.{◌≡◌, ◌<◌, ◌^◌, ℕ, Option, true, is_some, OnOk, OnErr, IfOk, IfErr, option_map};
+ghost use Rattle.std.specs.Prelude.{◌≡◌, ◌<◌, ◌^◌, ℕ, Option, OnOk, IfOk, IfErr, option_map};
 ghost use Rattle.block_list.specs.Tiled.{Tiled};
 ghost use Rattle.crash_site.specs.SiteState.{Stays};
 ghost use Rattle.rescue_domain.specs.Parts.{covers};
@@ -44,7 +44,6 @@ pub(crate) fn read_named<D: Site>(
     ensures told { ReadsMap which (map_mode loose) (option_map (λ n. n.now) name.entry) result
         (D.state site.old) (D.state site.new) }
     ensures kept { OnOk result ((D.state site.new).faults ≡ (D.state site.old).faults) }
-    ensures named { OnErr result (is_some name.entry ≡ true) }
     ensures cause { IfErr result (λ e. MapCause which e (D.state site.old).faults (D.state site.new).faults) }
     ensures site { Stays (D.state site.old) (D.state site.new) }
 {

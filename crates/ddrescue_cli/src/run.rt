@@ -1,5 +1,5 @@
 //! The run of a rescue: its phases, and the last save behind them.
-ghost use Rattle.std.specs.Prelude.{◌≡◌, true, false, IfOk, IfErr, OnOk};
+ghost use Rattle.std.specs.Prelude.{◌≡◌, false, IfOk, IfErr, OnOk};
 ghost use Rattle.faulty_source.specs.SourceState.{Stays as SourceStays};
 ghost use Rattle.crash_site.specs.SiteState.{Keeps as SiteKeeps};
 ghost use Rattle.rescue_console.specs.ClockState.{Keeps as ClockKeeps};
@@ -12,7 +12,7 @@ ghost use Rattle.copy_passes.specs.Copying.{IsCopying};
 ghost use Rattle.trim_scrape.specs.Behind.{IsBehind};
 ghost use Rattle.ddrescue_cli.specs.Answers.{Causes, drafting_left};
 ghost use Rattle.ddrescue_cli.specs.Work.{answer_of};
-ghost use Rattle.ddrescue_cli.specs.Running.{WentToEnd};
+ghost use Rattle.ddrescue_cli.specs.Running.{AreReady, WentToEnd};
 
 use block_list::plain_tiles::PlainTiles;
 use copy_passes::copy::run_copying;
@@ -37,9 +37,7 @@ fn run_phases<S: Source, D: Site, K: Clock, C: Console>(
 ) -> Result<Rescue<Finished, RunMap>, Stopped<RunMap>>
     requires copying { IsCopying rescue }
     requires places { HasPlaces rescue.settings (covers rescue.domain) }
-    requires input { (S.state source.old).is_open ≡ true }
-    requires image { (D.state site.old).is_open ≡ true }
-    requires no_draft { (D.state site.old).is_drafting ≡ false }
+    requires ready { AreReady (S.state source.old) (D.state site.old) }
     ensures went { IfOk result (λ r. Went rescue r (record {
       source = S.state source.old;
       source' = S.state source.new;
@@ -90,9 +88,7 @@ pub fn run_rescue<S: Source, D: Site, K: Clock, C: Console>(
 ) -> RunEnd
     requires copying { IsCopying rescue }
     requires places { HasPlaces rescue.settings (covers rescue.domain) }
-    requires input { (S.state source.old).is_open ≡ true }
-    requires image { (D.state site.old).is_open ≡ true }
-    requires no_draft { (D.state site.old).is_drafting ≡ false }
+    requires ready { AreReady (S.state source.old) (D.state site.old) }
     ensures went { WentToEnd rescue result (record {
       source = S.state source.old;
       source' = S.state source.new;

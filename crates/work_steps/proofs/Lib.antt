@@ -1,1 +1,5 @@
+pub mod GainLemmas
+pub mod HoldsLemmas
+pub mod LoadLemmas
+pub mod PartLemmas
 pub mod VerdictLemmas

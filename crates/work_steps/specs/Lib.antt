@@ -1,2 +1,4 @@
 pub mod Work
 pub mod Verdicts
+pub mod Parts
+pub mod Holds

@@ -1,10 +1,10 @@
 -- What was done behind the maps that options name, by where it ended.
-use Rattle.std.proofs.Common.{[], refl, sym, ◌∙◌}
+use Rattle.std.proofs.Common.{refl, sym, ◌∙◌}
 use Rattle.std.proofs.lemmas.Result.{err_from_is_err_and}
 use Rattle.faulty_source.proofs.Keeping.{keeps_more}
 use Rattle.rescue_command.specs.Command.{told_by}
+use Rattle.ddrescue_cli.proofs.CauseLemmas.{load_leaves}
 use Rattle.ddrescue_cli.proofs.OpenedLemmas.{not_opened, input_fails, output_fails, load_fails, place_fails, run_goes}
-use Rattle.ddrescue_cli.proofs.AnswerLemmas.{load_fits, load_leaves, load_opened, load_says, load_passes_input, output_fits, output_opened, output_says, output_passes_input, run_fits, run_opened, run_says, run_passes_input}
 use Rattle.ddrescue_cli.proofs.rescue.open_and_run.Goals as goal
 
 pub returns-in_default-clause-opened : goal.returns-in_default-clause-opened
@@ -14,77 +14,33 @@ returns-in_default-clause-opened g c = input_fails _ _ _ _ _ _ _ _ c.open_input.
 pub returns-in_err-open_output-clause-opened : goal.returns-in_err-open_output-clause-opened
 returns-in_err-open_output-clause-opened g c =
     let p = err_from_is_err_and c.from_residual.result c.from_residual.ensures.1 in
-    rw (p.1, p.2) (output_fails _ _ _ _ c.in-Ok.end _ _ _ _ (g.D.Site.state c.open_output.new.site) _ (record {
+    rw (p.1, p.2) (output_fails (told_by c.args.plan.command) _ _ _ c.in-Ok.end _ _ _ _ _ _ (record {
       opened = (c.open_input.ensures.call.opens, c.in-Ok.ensures.call.named);
       same = c.open_input.ensures.call.journal;
       bytes = c.open_input.ensures.call.keeps.bytes;
       tells = c.open_input.ensures.call.keeps.tells;
       all = c.in-Ok.ensures.call.all;
       short = c.in-Ok.ensures.short;
-    }) c.open_output.ensures.keeps c.in_err-open_output.ensures.stop)
-
-pub returns-in_err-open_output-clause-words : goal.returns-in_err-open_output-clause-words
-returns-in_err-open_output-clause-words g c =
-    let p = err_from_is_err_and c.from_residual.result c.from_residual.ensures.1 in
-    rw (p.1, p.2) (output_says _ _ _ (g.D.Site.state c.args.site.now) (g.D.Site.state c.open_output.new.site)
-    c.in_err-open_output.ensures.stop)
-
-pub returns-in_err-open_output-clause-fits : goal.returns-in_err-open_output-clause-fits
-returns-in_err-open_output-clause-fits g c =
-    let p = err_from_is_err_and c.from_residual.result c.from_residual.ensures.1 in
-    rw (p.1, p.2) (output_fits (told_by c.args.plan.command) _ _ _ (g.D.Site.state c.args.site.now)
-    (g.D.Site.state c.open_output.new.site) refl c.in_err-open_output.ensures.stop)
-
-pub returns-in_err-open_output-clause-input : goal.returns-in_err-open_output-clause-input
-returns-in_err-open_output-clause-input g c =
-    let p = err_from_is_err_and c.from_residual.result c.from_residual.ensures.1 in
-    rw (p.1, p.2) (λ ts. output_opened _ _ _ (g.D.Site.state c.args.site.now)
-    (g.D.Site.state c.open_output.new.site) _ _ _ c.in_err-open_output.ensures.stop (c.in-Ok.ensures.call.named ts))
-
-pub returns-in_err-open_output-clause-refused : goal.returns-in_err-open_output-clause-refused
-returns-in_err-open_output-clause-refused g c =
-    let p = err_from_is_err_and c.from_residual.result c.from_residual.ensures.1 in
-    rw (p.1, p.2) (λ planned is. absurd (output_passes_input _ _ _ (g.D.Site.state c.args.site.now)
-    (g.D.Site.state c.open_output.new.site) c.in_err-open_output.ensures.stop is))
+    }) c.in_err-open_output.ensures.opens)
 
 pub returns-in_err-start-clause-opened : goal.returns-in_err-start-clause-opened
 returns-in_err-start-clause-opened g c =
     let p = err_from_is_err_and c.from_residual-in_err-start.result c.from_residual-in_err-start.ensures.1 in
     rw (p.1, p.2) (load_fails (told_by c.args.plan.command) _ _ _ c.args.plan.names c.in-Ok.end _ _ _
-    (g.D.Site.state c.args.site.now) (g.D.Site.state c.open_output.new.site) _ _ _ _ c.requires.names (record {
+    (g.D.Site.state c.args.site.now) (g.D.Site.state c.open_output.new.site) (g.D.Site.state c.load.new.site) _ (record {
       opened = (c.open_input.ensures.call.opens, c.in-Ok.ensures.call.named);
       same = c.open_input.ensures.call.journal;
       bytes = c.open_input.ensures.call.keeps.bytes;
       tells = c.open_input.ensures.call.keeps.tells;
       all = c.in-Ok.ensures.call.all;
       short = c.in-Ok.ensures.short;
-    }) (λ td. record {
-      apart = c.requires.apart;
-      made = (c.open_output.ensures.keeps.start td, c.in_ok-open_output.ensures.made.made td);
-      regular = c.in_ok-open_output.ensures.regular td;
-      loaded = c.in_err-start.ensures.loaded (rw c.open_output.ensures.keeps.tells td);
-    }) c.in_err-start.ensures.cause)
-
-pub returns-in_err-start-clause-words : goal.returns-in_err-start-clause-words
-returns-in_err-start-clause-words g c =
-    let p = err_from_is_err_and c.from_residual-in_err-start.result c.from_residual-in_err-start.ensures.1 in
-    rw (p.1, p.2) (load_says _ _ _ c.in_err-start.ensures.cause)
-
-pub returns-in_err-start-clause-fits : goal.returns-in_err-start-clause-fits
-returns-in_err-start-clause-fits g c =
-    let p = err_from_is_err_and c.from_residual-in_err-start.result c.from_residual-in_err-start.ensures.1 in
-    rw (p.1, p.2) (load_fits (told_by c.args.plan.command) c.args.plan.names _ _ _ c.requires.names
-    c.in_err-start.ensures.starved c.in_err-start.ensures.cause)
-
-pub returns-in_err-start-clause-input : goal.returns-in_err-start-clause-input
-returns-in_err-start-clause-input g c =
-    let p = err_from_is_err_and c.from_residual-in_err-start.result c.from_residual-in_err-start.ensures.1 in
-    rw (p.1, p.2) (λ ts. load_opened _ _ _ _ _ _ c.in_err-start.ensures.cause (c.in-Ok.ensures.call.named ts))
-
-pub returns-in_err-start-clause-refused : goal.returns-in_err-start-clause-refused
-returns-in_err-start-clause-refused g c =
-    let p = err_from_is_err_and c.from_residual-in_err-start.result c.from_residual-in_err-start.ensures.1 in
-    rw (p.1, p.2) (λ planned is. absurd (load_passes_input _ _ _ c.in_err-start.ensures.cause is))
+    }) (record {
+      names = c.requires.planned.names;
+      apart = c.requires.planned.apart;
+      output = c.in_ok-open_output.ensures.opens;
+      keeps = c.open_output.ensures.keeps;
+      loads = c.in_err-start.ensures.loaded;
+    }))
 
 pub returns-in_err-start-clause-draft : goal.returns-in_err-start-clause-draft
 returns-in_err-start-clause-draft g c =
@@ -95,52 +51,40 @@ returns-in_err-start-clause-draft g c =
 pub returns-then-not-places_fit-clause-opened : goal.returns-then-not-places_fit-clause-opened
 returns-then-not-places_fit-clause-opened g c =
     place_fails (told_by c.args.plan.command) _ _ _ c.args.plan.names c.in-Ok.end c.in_ok-start.start _ _
-    (g.D.Site.state c.args.site.now) (g.D.Site.state c.open_output.new.site) _ _ c.requires.names (record {
+    (g.D.Site.state c.args.site.now) (g.D.Site.state c.open_output.new.site) (g.D.Site.state c.load.new.site) _ (record {
       opened = (c.open_input.ensures.call.opens, c.in-Ok.ensures.call.named);
       same = c.open_input.ensures.call.journal;
       bytes = c.open_input.ensures.call.keeps.bytes;
       tells = c.open_input.ensures.call.keeps.tells;
       all = c.in-Ok.ensures.call.all;
       short = c.in-Ok.ensures.short;
-    }) (λ td. record {
-      apart = c.requires.apart;
-      made = (c.open_output.ensures.keeps.start td, c.in_ok-open_output.ensures.made.made td);
-      regular = c.in_ok-open_output.ensures.regular td;
-      loaded = c.in_ok-start.ensures.loaded (rw c.open_output.ensures.keeps.tells td);
-    }) (λ td. c.load.ensures.site.keeps.start (rw c.open_output.ensures.keeps.tells td))
-    (c.if-not-places_fit.ensures.beyond refl)
+    }) (record {
+      names = c.requires.planned.names;
+      apart = c.requires.planned.apart;
+      output = c.in_ok-open_output.ensures.opens;
+      keeps = c.open_output.ensures.keeps;
+      loads = c.in_ok-start.ensures.loaded;
+    }) (c.if-not-places_fit.ensures.beyond refl)
 
 pub returns-clause-opened : goal.returns-clause-opened
 returns-clause-opened g c =
     run_goes (told_by c.args.plan.command) _ _ _ c.args.plan.names c.in-Ok.end c.in_ok-start.start _ _
     (g.S.Source.state c.open_input.new.self) _ (g.D.Site.state c.args.site.now) (g.D.Site.state c.open_output.new.site)
-    (g.D.Site.state c.load.new.site) _ _ _ c.requires.names (record {
+    (g.D.Site.state c.load.new.site) _ _ _ (record {
       opened = (c.open_input.ensures.call.opens, c.in-Ok.ensures.call.named);
       same = c.open_input.ensures.call.journal;
       bytes = c.open_input.ensures.call.keeps.bytes;
       tells = c.open_input.ensures.call.keeps.tells;
       all = c.in-Ok.ensures.call.all;
       short = c.in-Ok.ensures.short;
-    }) (λ td. record {
-      apart = c.requires.apart;
-      made = (c.open_output.ensures.keeps.start td, c.in_ok-open_output.ensures.made.made td);
-      regular = c.in_ok-open_output.ensures.regular td;
-      loaded = c.in_ok-start.ensures.loaded (rw c.open_output.ensures.keeps.tells td);
-    }) (c.load.ensures.site.keeps.tells ∙ c.open_output.ensures.keeps.tells) (c.if-not-places_fit.ensures.fit refl) c.run_tested.ensures.source
-    (c.run_tested.ensures.ran c.args.plan.command.infile.now c.args.plan.command.outfile.now)
-
-pub returns-clause-words : goal.returns-clause-words
-returns-clause-words g c = run_says _ (c.run_tested.ensures.ran [] []).ends
-
-pub returns-clause-fits : goal.returns-clause-fits
-returns-clause-fits g c = run_fits _ _ (c.run_tested.ensures.ran [] []).ends (c.run_tested.ensures.ran [] []).late
-
-pub returns-clause-refused : goal.returns-clause-refused
-returns-clause-refused g c = λ planned is. absurd (run_passes_input _ (c.run_tested.ensures.ran [] []).ends is)
-
-pub returns-clause-input : goal.returns-clause-input
-returns-clause-input g c = λ ts. run_opened _ _ _ _ (c.run_tested.ensures.ran [] []).ends
-    (c.run_tested.ensures.source.name (rw c.open_input.ensures.call.keeps.tells ts) ∙ c.in-Ok.ensures.call.named ts)
+    }) (record {
+      names = c.requires.planned.names;
+      apart = c.requires.planned.apart;
+      output = c.in_ok-open_output.ensures.opens;
+      keeps = c.open_output.ensures.keeps;
+      loads = c.in_ok-start.ensures.loaded;
+    }) (c.load.ensures.site.keeps.tells ∙ c.open_output.ensures.keeps.tells) (c.if-not-places_fit.ensures.fit refl)
+    c.run_tested.ensures.source (c.run_tested.ensures.ran c.args.plan.command.infile.now c.args.plan.command.outfile.now)
 
 pub returns-clause-source : goal.returns-clause-source
 returns-clause-source g c = keeps_more (g.S.Source.state c.args.source.now) (g.S.Source.state c.open_input.new.self)

@@ -27,11 +27,6 @@ returns-in-Ok-rescue-clause-promise g c = λ now says.
     c.in-Ok-make_plan.ensures.different
     (record {
       worked = c.in-Ok-rescue.ensures.worked;
-      words = c.in-Ok-rescue.ensures.words;
-      fits = c.in-Ok-rescue.ensures.fits;
-      input = c.in-Ok-rescue.ensures.input;
-      once = c.in-Ok-rescue.ensures.once;
-      refused = c.in-Ok-rescue.ensures.refused;
       cause = c.in-Ok-rescue.ensures.cause;
       draft = c.in-Ok-rescue.ensures.draft;
       source = c.in-Ok-rescue.ensures.source;
@@ -53,11 +48,6 @@ returns-in-Err-rescue-clause-promise g c = λ now says.
     c.in-Ok-make_plan.ensures.different
     (record {
       worked = c.in-Err-rescue.ensures.worked;
-      words = c.in-Err-rescue.ensures.words;
-      fits = c.in-Err-rescue.ensures.fits;
-      input = c.in-Err-rescue.ensures.input;
-      once = c.in-Err-rescue.ensures.once;
-      refused = c.in-Err-rescue.ensures.refused;
       cause = c.in-Err-rescue.ensures.cause;
       draft = c.in-Err-rescue.ensures.draft;
       source = c.in-Err-rescue.ensures.source;

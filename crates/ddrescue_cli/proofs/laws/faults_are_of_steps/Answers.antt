@@ -1,0 +1,5 @@
+use Rattle.ddrescue_cli.proofs.FaultLemmas.{faults_are_of_steps}
+use Rattle.ddrescue_cli.proofs.laws.faults_are_of_steps.Goals as goal
+
+pub returns : goal.returns
+returns c = faults_are_of_steps
