@@ -1,0 +1,11 @@
+pub mod SearchLemmas
+pub mod PagingLemmas
+pub mod CountLemmas
+pub mod FindLemmas
+pub mod FillLemmas
+pub mod FilingLemmas
+pub mod KeptLemmas
+pub mod MarkLemmas
+pub mod RegionLemmas
+pub mod HalvingLemmas
+pub mod StepLemmas

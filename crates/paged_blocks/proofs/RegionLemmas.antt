@@ -1,0 +1,142 @@
+use Rattle.std.proofs.Common.{◌≡◌, ℕ, ◌+◌, ◌-◌, ◌<◌, ◌≤◌, List, [], ◌∷◌, ◌++◌, length, take, drop, get_or, slice_range, arith, ap, sym, ◌∙◌, append_assoc, append-nil, length-append, length-drop, ⊎_elim}
+use Rattle.std.proofs.lemmas.Bool.{cases_lt}
+use Rattle.std.proofs.lemmas.List.{take-append-drop, take_all, take_rest, take_at, drop_at, take_more, drop_more, length-take-le}
+use Rattle.std.proofs.lemmas.Grind.{flat_map-append}
+use Rattle.std.proofs.Math.Seq.{take-add}
+use Rattle.block_list.specs.declared.block.Block.{Block}
+use Rattle.paged_blocks.specs.declared.entry.Entry.{Entry}
+use Rattle.paged_blocks.specs.Paging.{blocks_of, flat, before}
+use Rattle.paged_blocks.specs.Marks.{spliced, edited, edit_from, edit_to, IsEdit}
+use Rattle.paged_blocks.specs.declared.marks.Edit.{Edit}
+use Rattle.paged_blocks.proofs.PagingLemmas.{no_entry, before_more, before_mono, before_le}
+
+-- ranges of a list from its start, up to its end, and both
+pub range_front : {X : Type 0} (xs : List X) (n : ℕ) → slice_range xs 0 n ≡ take n xs
+range_front xs n = let z : n - 0 ≡ n = omega arith in ap (λ k. take k xs) z
+
+pub range_back : {X : Type 0} (xs : List X) (n : ℕ) → slice_range xs n (length xs) ≡ drop n xs
+range_back xs n = take_rest xs n
+
+pub range_whole : {X : Type 0} (xs : List X) → slice_range xs 0 (length xs) ≡ xs
+range_whole xs = range_front xs (length xs) ∙ take_all (length xs) xs (omega arith)
+
+-- a list up to an index, and on to a later one
+pub take_on : {X : Type 0} (xs : List X) (from to : ℕ) → from ≤ to → take from xs ++ slice_range xs from to ≡ take to xs
+take_on xs from to l =
+    let z : from + (to - from) ≡ to = omega arith in
+    sym (take-add from (to - from) xs) ∙ ap (λ k. take k xs) z
+
+-- the blocks of the first pages, and those of the others
+pub flat_parts : (pages : List (List Block)) (es : List Entry) (k : ℕ)
+    → flat pages es ≡ flat pages (take k es) ++ flat pages (drop k es)
+flat_parts pages es k =
+    ap (λ r. flat pages r) (sym (take-append-drop k es)) ∙ flat_map-append (blocks_of pages) (take k es) (drop k es)
+
+-- the blocks of all pages around those of one
+around_page : (pages : List (List Block)) (es : List Entry) (k : ℕ) (d : Entry) → k < length es
+    → flat pages es ≡ flat pages (take k es) ++ (blocks_of pages (get_or es k d) ++ flat pages (drop (k + 1) es))
+around_page pages es k d h =
+    ap (λ r. flat pages r) (sym (take-append-drop k es))
+    ∙ flat_map-append (blocks_of pages) (take k es) (drop k es)
+    ∙ ap (λ r. flat pages (take k es) ++ flat pages r) (drop_more es k d h)
+
+-- the blocks in front of one in a page, and those from it on
+pub front_blocks : (pages : List (List Block)) (es : List Entry) (k i : ℕ) (d : Entry) → k < length es
+    → i ≤ length (blocks_of pages (get_or es k d))
+    → take (before pages es k + i) (flat pages es) ≡ flat pages (take k es) ++ take i (blocks_of pages (get_or es k d))
+front_blocks pages es k i d h l =
+    let page : List Block = blocks_of pages (get_or es k d) in
+    let front : List Block = flat pages (take k es) in
+    let back : List Block = drop i page ++ flat pages (drop (k + 1) es) in
+    let e : flat pages es ≡ (front ++ take i page) ++ back =
+    around_page pages es k d h
+    ∙ ap (λ r. front ++ (r ++ flat pages (drop (k + 1) es))) (sym (take-append-drop i page))
+    ∙ simp append_assoc in
+    ap (λ r. take (before pages es k + i) r) e
+    ∙ take_at (front ++ take i page) back (before pages es k + i)
+    (omega (arith, length-append front (take i page), length-take-le i page l))
+
+pub back_blocks : (pages : List (List Block)) (es : List Entry) (k i : ℕ) (d : Entry) → k < length es
+    → i ≤ length (blocks_of pages (get_or es k d))
+    → drop (before pages es k + i) (flat pages es) ≡ drop i (blocks_of pages (get_or es k d)) ++ flat pages (drop (k + 1) es)
+back_blocks pages es k i d h l =
+    let page : List Block = blocks_of pages (get_or es k d) in
+    let front : List Block = flat pages (take k es) in
+    let back : List Block = drop i page ++ flat pages (drop (k + 1) es) in
+    let e : flat pages es ≡ (front ++ take i page) ++ back =
+    around_page pages es k d h
+    ∙ ap (λ r. front ++ (r ++ flat pages (drop (k + 1) es))) (sym (take-append-drop i page))
+    ∙ simp append_assoc in
+    ap (λ r. drop (before pages es k + i) r) e
+    ∙ drop_at (front ++ take i page) back (before pages es k + i)
+    (omega (arith, length-append front (take i page), length-take-le i page l))
+
+-- the blocks that an edit leaves of its first page, its own, and those that it leaves of its last page
+pub touched_same : (pages : List (List Block)) (es : List Entry) (k i l j : ℕ) (d : Entry) (new : List Block)
+    → k < length es → i ≤ length (blocks_of pages (get_or es k d)) → l < length es
+    → j ≤ length (blocks_of pages (get_or es l d))
+    → flat pages (take k es)
+    ++ (take i (blocks_of pages (get_or es k d)) ++ new ++ drop j (blocks_of pages (get_or es l d)))
+    ++ flat pages (drop (l + 1) es)
+    ≡ spliced (flat pages es) (before pages es k + i) (before pages es l + j) new
+touched_same pages es k i l j d new h u v w =
+    rw (front_blocks pages es k i d h u, back_blocks pages es l j d v w) (simp append_assoc)
+
+-- a region with the page behind it, and with the page in front of it
+pub next_same : (pages : List (List Block)) (es : List Entry) (front blocks : List Block) (k : ℕ) (d : Entry) → k < length es
+    → front ++ (blocks ++ blocks_of pages (get_or es k d)) ++ flat pages (drop (k + 1) es)
+    ≡ front ++ blocks ++ flat pages (drop k es)
+next_same pages es front blocks k d h = rw (drop_more es k d h) (simp append_assoc)
+
+pub former_same : (pages : List (List Block)) (es : List Entry) (back blocks : List Block) (k i : ℕ) (d : Entry) → i ≡ k + 1 → k < length es
+    → flat pages (take k es) ++ (blocks_of pages (get_or es k d) ++ blocks) ++ back
+    ≡ flat pages (take i es) ++ blocks ++ back
+former_same pages es back blocks k i d e h =
+    let z : flat pages (take i es) ≡ flat pages (take k es) ++ blocks_of pages (get_or es k d) =
+    ap (λ n. flat pages (take n es)) e
+    ∙ ap (λ r. flat pages r) (take_more es k d h)
+    ∙ flat_map-append (blocks_of pages) (take k es) (get_or es k d ∷ [])
+    ∙ ap (λ r. flat pages (take k es) ++ r) (append-nil (blocks_of pages (get_or es k d))) in
+    rw z (simp append_assoc)
+
+-- of two places in pages the earlier one is in a page no later
+pub page_order : (pages : List (List Block)) (es : List Entry) (k i l j : ℕ) (d : Entry) → l < length es
+    → j ≤ length (blocks_of pages (get_or es l d)) → before pages es k + i < before pages es l + j → k ≤ l
+page_order pages es k i l j d h u o =
+    ⊎_elim (λ (v : l < k). absurd (omega (arith, before_more pages es l d h, before_mono pages es (l + 1) k (omega arith))))
+    (λ (v : k ≤ l). v) (cases_lt l k)
+
+-- the blocks that were gathered of the first page, of an edit and of the last page
+pub touched_blocks : (none one two three front new back : List Block) (from to n m : ℕ) → none ≡ []
+    → one ≡ none ++ slice_range front 0 from → n ≡ length new → two ≡ one ++ slice_range new 0 n → m ≡ length back
+    → three ≡ two ++ slice_range back to m → three ≡ take from front ++ new ++ drop to back
+touched_blocks none one two three front new back from to n m z a l b k c =
+    c
+    ∙ ap (λ r. r ++ slice_range back to m) (b
+    ∙ ap (λ r. r ++ slice_range new 0 n) (a ∙ ap (λ r. r ++ slice_range front 0 from) z ∙ range_front front from)
+    ∙ ap (λ i. take from front ++ slice_range new 0 i) l
+    ∙ ap (λ r. take from front ++ r) (range_whole new))
+    ∙ ap (λ i. take from front ++ new ++ slice_range back to i) k
+    ∙ ap (λ r. take from front ++ new ++ r) (range_back back to)
+
+-- a place in a page is one among all blocks
+place_within : (pages : List (List Block)) (es : List Entry) (k i : ℕ) (d : Entry) → k < length es
+    → i ≤ length (blocks_of pages (get_or es k d)) → before pages es k + i ≤ length (flat pages es)
+place_within pages es k i d h u = omega (arith, before_more pages es k d h, before_le pages es (k + 1))
+
+-- how many blocks there are after an edit
+pub edit_len : (pages : List (List Block)) (es : List Entry) (e : Edit) → IsEdit pages es e
+    → length (edited pages es e) + edit_to pages es e ≡ length (flat pages es) + edit_from pages es e + length e.new
+edit_len pages es e h =
+    let bs : List Block = flat pages es in
+    let from : ℕ = edit_from pages es e in
+    let to : ℕ = edit_to pages es e in
+    let l : from ≤ length bs = place_within pages es e.first e.from no_entry (omega (arith, h.order, h.last)) (h.from no_entry) in
+    let u : to ≤ length bs = place_within pages es e.last e.to no_entry h.last (h.to no_entry) in
+    omega (
+      arith,
+      length-append (take from bs ++ e.new) (drop to bs),
+      length-append (take from bs) e.new,
+      length-take-le from bs l,
+      length-drop to bs,
+    )

@@ -1,0 +1,26 @@
+use Rattle.std.proofs.Common.{◌≤◌, length, arith}
+use Rattle.paged_blocks.proofs.KeptLemmas.{succeeded}
+use Rattle.paged_blocks.proofs.FilingLemmas.{placed, unused}
+use Rattle.paged_blocks.proofs.filing.place.Goals as goal
+
+pub index_mut-requires : goal.index_mut-requires
+index_mut-requires c =
+    omega (arith, (unused _ _ _ _ _ c.requires.filed.numbered c.in-Some.ensures.items).there, c.args.pages.now.ok.0)
+
+pub returns-in-Some-clause-filed : goal.returns-in-Some-clause-filed
+returns-in-Some-clause-filed c =
+    let h : c.args.k ≤ length c.args.entries.now.items = omega (arith, c.requires.index, c.args.entries.now.ok.0) in
+    let e = succeeded _ _ _ _ (c.insert.ensures.succeeds c.requires.room) c.insert.ensures.items in
+    rw e (placed _ _ _ _ _ _ _ _ c.requires.filed c.in-Some.ensures.items h c.requires.some c.entry_of-entry.ensures).filed
+
+pub returns-in-Some-clause-front : goal.returns-in-Some-clause-front
+returns-in-Some-clause-front c =
+    let h : c.args.k ≤ length c.args.entries.now.items = omega (arith, c.requires.index, c.args.entries.now.ok.0) in
+    let e = succeeded _ _ _ _ (c.insert.ensures.succeeds c.requires.room) c.insert.ensures.items in
+    rw e (placed _ _ _ _ _ _ _ _ c.requires.filed c.in-Some.ensures.items h c.requires.some c.entry_of-entry.ensures).front
+
+pub returns-in-Some-clause-back : goal.returns-in-Some-clause-back
+returns-in-Some-clause-back c =
+    let h : c.args.k ≤ length c.args.entries.now.items = omega (arith, c.requires.index, c.args.entries.now.ok.0) in
+    let e = succeeded _ _ _ _ (c.insert.ensures.succeeds c.requires.room) c.insert.ensures.items in
+    rw e (placed _ _ _ _ _ _ _ _ c.requires.filed c.in-Some.ensures.items h c.requires.some c.entry_of-entry.ensures).back

@@ -1,0 +1,94 @@
+use Rattle.std.proofs.Common.{◌≡◌, ℕ, ◌<◌, ◌≤◌, ◌∙◌, ◌++◌, List, length, take, drop, ap, arith, length-append, length-drop, ⊎_elim}
+use Rattle.std.proofs.lemmas.Bool.{cases_lt}
+use Rattle.std.proofs.lemmas.List.{take_at, drop_at, length-take-le}
+use Rattle.block_list.specs.declared.block.Block.{Block}
+use Rattle.paged_blocks.specs.declared.entry.Entry.{Entry}
+use Rattle.paged_blocks.specs.Paging.{flat}
+use Rattle.paged_blocks.specs.Regions.{refilled}
+use Rattle.paged_blocks.proofs.FilingLemmas.{released, kept_long, kept_fits}
+use Rattle.paged_blocks.proofs.filing.refill.Goals as goal
+
+pub deal-requires-clause-filed : goal.deal-requires-clause-filed
+deal-requires-clause-filed c =
+    let r = c.requires.region in
+    released _ _ _ _ _ _ _ (record { each = c.requires.kept.paging.each; numbered = c.requires.kept.numbered }) r.order
+    r.within c.release.ensures.entries c.release.ensures.numbers
+    (omega (
+      arith,
+      c.release.ensures.len,
+      c.release.new.entries.ok.0,
+      c.release.new.free.ok.0,
+      c.args.entries.now.ok.0,
+      c.args.free.now.ok.0,
+    ))
+
+pub deal-requires-clause-pages : goal.deal-requires-clause-pages
+deal-requires-clause-pages c =
+    let r = c.requires.region in
+    let f = deal-requires-clause-filed c in
+    let z = kept_long c.args.entries.now.items c.release.new.entries.items c.args.region.now.first c.args.region.now.behind c.requires.kept.half r.order r.within r.taken c.release.ensures.entries in
+    omega (
+      arith,
+      kept_fits c.args.pages.now.items c.args.entries.now.items c.release.new.entries.items c.args.region.now.blocks
+          c.args.region.now.first c.args.region.now.behind f.each z c.release.ensures.entries,
+      c.release.new.entries.ok.0,
+      c.requires.pages,
+    )
+
+pub deal-requires-clause-entries : goal.deal-requires-clause-entries
+deal-requires-clause-entries c =
+    let r = c.requires.region in
+    let f = deal-requires-clause-filed c in
+    let z = kept_long c.args.entries.now.items c.release.new.entries.items c.args.region.now.first c.args.region.now.behind c.requires.kept.half r.order r.within r.taken c.release.ensures.entries in
+    omega (
+      arith,
+      kept_fits c.args.pages.now.items c.args.entries.now.items c.release.new.entries.items c.args.region.now.blocks
+          c.args.region.now.first c.args.region.now.behind f.each z c.release.ensures.entries,
+      c.release.new.entries.ok.0,
+      c.requires.entries,
+      c.release.ensures.capacity,
+    )
+
+pub returns-clause-kept : goal.returns-clause-kept
+returns-clause-kept c =
+    let r = c.requires.region in
+    let first : ℕ = c.args.region.now.first in
+    let behind : ℕ = c.args.region.now.behind in
+    let blocks : List Block = c.args.region.now.blocks in
+    let pages : List (List Block) = c.args.pages.now.items in
+    let es : List Entry = c.args.entries.now.items in
+    let kept : List Entry = c.release.new.entries.items in
+    let e = c.release.ensures.entries in
+    let z = kept_long es kept first behind c.requires.kept.half r.order r.within r.taken e in
+    let n : length (take first es) ≡ first = length-take-le first es (omega (arith, r.order, r.within)) in
+    let front : take first kept ≡ take first es = ap (λ x. take first x) e ∙ take_at (take first es) (drop behind es) first n in
+    let back : drop first kept ≡ drop behind es = ap (λ x. drop first x) e ∙ drop_at (take first es) (drop behind es) first n in
+    let q : flat c.deal.new.pages.items c.deal.new.entries.items ≡ refilled pages es c.args.region.now =
+    c.deal.ensures.flat
+    ∙ ap (λ x. flat pages x ++ blocks ++ flat pages (drop first kept)) front
+    ∙ ap (λ x. flat pages (take first es) ++ blocks ++ flat pages x) back in
+    record {
+      paging = record {
+        tiled = rw q c.requires.tiled;
+        merged = rw q c.requires.merged;
+        each = c.deal.ensures.filed.each;
+      };
+      half = record {
+        half = λ u. ⊎_elim
+            (λ (v : length blocks < 32). absurd (omega (
+              arith,
+              c.deal.ensures.one v,
+              c.deal.new.entries.ok.0,
+              c.release.new.entries.ok.0,
+              ap length e,
+              length-append (take first es) (drop behind es),
+              length-drop behind es,
+              n,
+              c.requires.full.first v,
+              c.requires.full.behind v,
+            )))
+            (λ (v : 32 ≤ length blocks). c.deal.ensures.half v ∙ z)
+            (cases_lt (length blocks) 32);
+      };
+      numbered = c.deal.ensures.filed.numbered;
+    }

@@ -1,0 +1,6 @@
+pub mod Tally
+pub mod Search
+pub mod Paging
+pub mod Marks
+pub mod Regions
+pub mod Paged

@@ -1,0 +1,69 @@
+//! What is known of a page without a look at its blocks.
+ghost use Rattle.std.specs.Prelude.{◌≡◌, ◌+◌, ◌<◌, ◌^◌};
+ghost use Rattle.block_list.specs.declared.status.Status.{Status};
+ghost use Rattle.paged_blocks.specs.Tally.{tallied};
+
+use block_list::status::Status;
+
+/// How many positions have each status.
+#[derive(Clone, Copy, Debug, PartialEq, Eq)]
+pub struct Tally {
+    pub non_tried: u64,
+    pub non_trimmed: u64,
+    pub non_scraped: u64,
+    pub bad_sector: u64,
+    pub finished: u64,
+}
+
+impl Tally {
+    /// No position of any status.
+    pub fn none() -> Tally
+        ensures { (s : Status) → tallied result s ≡ 0 }
+    {
+        Tally {
+            non_tried: 0,
+            non_trimmed: 0,
+            non_scraped: 0,
+            bad_sector: 0,
+            finished: 0,
+        }
+    }
+
+    /// Counts more positions of a status.
+    pub fn add(&mut self, status: Status, size: u64)
+        requires { tallied self.old status + size < 2 ^ 64 }
+        ensures counted { tallied self.new status ≡ tallied self.old status + size }
+        ensures others { (s : Status) → (s ≡ status → ⊥) → tallied self.new s ≡ tallied self.old s }
+    {
+        match status {
+            Status::NonTried => self.non_tried += size,
+            Status::NonTrimmed => self.non_trimmed += size,
+            Status::NonScraped => self.non_scraped += size,
+            Status::BadSector => self.bad_sector += size,
+            Status::Finished => self.finished += size,
+        }
+    }
+
+    /// How many have a status.
+    pub fn of(self, status: Status) -> u64
+        ensures { result ≡ tallied self status }
+    {
+        match status {
+            Status::NonTried => self.non_tried,
+            Status::NonTrimmed => self.non_trimmed,
+            Status::NonScraped => self.non_scraped,
+            Status::BadSector => self.bad_sector,
+            Status::Finished => self.finished,
+        }
+    }
+}
+
+/// The place of a page in the map: its number, the position at which it begins, how many blocks it has, and how many
+/// positions of each status.
+#[derive(Clone, Copy, Debug, PartialEq, Eq)]
+pub struct Entry {
+    pub page: usize,
+    pub pos: u64,
+    pub len: usize,
+    pub tally: Tally,
+}

@@ -1,0 +1,74 @@
+//! Pages that are made from a list of blocks.
+ghost use Rattle.std.specs.Prelude.{◌≡◌, ◌+◌, ◌<◌, ◌≤◌, ◌^◌, List, [], length, slice_range, take, OnOk};
+ghost use Rattle.std.specs.List.{flat_map};
+ghost use Rattle.block_list.specs.Stretches.{covered, stretches};
+ghost use Rattle.paged_blocks.specs.Paging.{IsEntryOf, IsAdded};
+
+use crate::entry::{Entry, Tally};
+use crate::page::Page;
+use block_list::plain_tiles::PlainTiles;
+use block_list::tiles::{NoMemory, Tiles};
+
+/// How many blocks the next page takes where some are left: as many as it holds, but so that the last two share what
+/// would leave too little for the last.
+pub fn page_len(left: usize) -> usize
+    requires { 0 < left }
+    ensures some { 0 < result }
+    ensures within { result ≤ left }
+    ensures fits { result ≤ 64 }
+    ensures all { left ≤ 64 → result ≡ left }
+    ensures half { 64 < left → 32 ≤ result }
+    ensures rest { 64 < left → result + 32 ≤ left }
+{
+    if left <= 64 {
+        left
+    } else if left < 96 {
+        left - 32
+    } else {
+        64
+    }
+}
+
+/// A page with the stretches of a map from one index up to another.
+pub fn page_of(tiles: &PlainTiles, from: usize, to: usize) -> Page
+    requires order { from ≤ to }
+    requires within { to ≤ length (stretches tiles.now.statuses) }
+    requires fits { to ≤ from + 64 }
+    ensures { result ≡ slice_range (stretches tiles.now.statuses) from to }
+{
+    let mut page = Page::new();
+    for i in from..to {
+        page.push(tiles.block(i));
+    }
+    page
+}
+
+/// The entry of a page with a number.
+pub fn entry_of(number: usize, page: &Page) -> Entry
+    requires some { 0 < length page.now }
+    requires short { length (flat_map covered page.now) < 2 ^ 63 }
+    ensures { IsEntryOf page.now number result }
+{
+    let mut tally = Tally::none();
+    for i in 0..page.len() {
+        let block = page.block(i);
+        tally.add(block.status, block.size);
+    }
+    Entry {
+        page: number,
+        pos: page.block(0).pos,
+        len: page.len(),
+        tally,
+    }
+}
+
+/// Puts a page behind the others. Where memory wasn't there an entry may have been added without its page.
+pub fn add(pages: &mut Vec<Page>, entries: &mut Vec<Entry>, page: Page) -> Result<(), NoMemory>
+    requires some { 0 < length page }
+    requires short { length (flat_map covered page) < 2 ^ 63 }
+    ensures { OnOk result (IsAdded pages.old.items entries.old.items page pages.new.items entries.new.items) }
+{
+    let entry = entry_of(pages.len(), &page);
+    entries.push(entry).map_err(|_| NoMemory)?;
+    pages.push(page).map_err(|_| NoMemory)
+}

@@ -1,0 +1,242 @@
+//! Where the blocks of pages have a status.
+ghost use Rattle.std.specs.Prelude.{◌≡◌, ℕ, ◌+◌, ◌-◌, ◌/◌, ◌^◌, ◌<◌, ◌≤◌, length, max, min, slice_get, count_by, Some, IfSome, IfNone};
+ghost use Rattle.std.specs.List.{flat_map};
+ghost use Rattle.block_list.specs.Status.{same};
+ghost use Rattle.block_list.specs.Map.{Has};
+ghost use Rattle.block_list.specs.Places.{IsFirst, IsLast, IsRunUp, IsRunDown};
+ghost use Rattle.paged_blocks.specs.Search.{AreFilled, HasNone, HasAt, IsFirstBlock, IsLastBlock, IsWalk};
+ghost use Rattle.block_list.specs.Stretches.{covered, IsStretchAt};
+ghost use Rattle.paged_blocks.specs.Paging.{blocks_of, flat, IsEntry, IsPaging, IsHeld, AreHalfFull};
+
+use crate::entry::Entry;
+use crate::page::Page;
+use crate::search::last_before;
+use crate::steps::Steps;
+use block_list::block::{Block, Run};
+use block_list::status::Status;
+use std::marker::Brand;
+use std::sync::ledger::{Blank, Ledger};
+
+/// The index of the last entry that begins before a position, and how many blocks of its page do.
+fn held_counted<L: Ledger>(
+    pages: &[Page],
+    entries: &[Entry],
+    at: u64,
+    steps: &mut Steps<L>,
+) -> (usize, usize)
+    requires paging { IsPaging pages.now entries.now }
+    requires some { 0 < at }
+    requires within { at ≤ length (flat_map covered (flat pages.now entries.now)) }
+    ensures held { IsHeld pages.now entries.now at result.0 result.1 }
+    ensures few { steps.new ≤ steps.old + 71 }
+    ensures cost { (n : ℕ) → length entries.now ≤ 2 ^ n → steps.new ≤ steps.old + n + 7 }
+{
+    let last = last_before(entries, at, steps);
+    steps.tick();
+    let page = &pages[entries[last].page];
+    (last, page.before(at, steps))
+}
+
+/// `held_counted`, in a new ledger that nobody reads.
+fn held_uncounted<L: Ledger>(
+    pages: &[Page],
+    entries: &[Entry],
+    at: u64,
+    blank: Blank,
+) -> (usize, usize)
+    requires name { blank.name ≡ L.name }
+    requires parts { blank.parts ≡ L.parts }
+    requires one { 0 < blank.parts }
+    requires paging { IsPaging pages.now entries.now }
+    requires some { 0 < at }
+    requires within { at ≤ length (flat_map covered (flat pages.now entries.now)) }
+    ensures { IsHeld pages.now entries.now at result.0 result.1 }
+{
+    let mut steps = Steps::<L>::new(blank);
+    held_counted(pages, entries, at, &mut steps)
+}
+
+/// The index of the last entry that begins before a position, and how many blocks of its page do.
+pub fn held_before(pages: &[Page], entries: &[Entry], at: u64) -> (usize, usize)
+    requires paging { IsPaging pages.now entries.now }
+    requires some { 0 < at }
+    requires within { at ≤ length (flat_map covered (flat pages.now entries.now)) }
+    ensures { IsHeld pages.now entries.now at result.0 result.1 }
+{
+    held_uncounted::<Brand>(pages, entries, at, Blank::new(1))
+}
+
+/// The stretch of equal statuses that holds a position.
+pub fn stretch_at(pages: &[Page], entries: &[Entry], x: u64) -> Block
+    requires paging { IsPaging pages.now entries.now }
+    requires within { x < length (flat_map covered (flat pages.now entries.now)) }
+    ensures { IsStretchAt (flat_map covered (flat pages.now entries.now)) x result }
+{
+    let (last, begun) = held_before(pages, entries, x + 1);
+    pages[entries[last].page].block(begun - 1)
+}
+
+/// The block with an index among those of all pages.
+pub fn block_at(pages: &[Page], entries: &[Entry], i: usize) -> Block
+    requires paging { IsPaging pages.now entries.now }
+    requires index { i < length (flat pages.now entries.now) }
+    ensures { slice_get (flat pages.now entries.now) i ≡ Some result }
+{
+    let mut k = 0;
+    let mut left = i;
+    while entries[k].len <= left {
+        left -= entries[k].len;
+        k += 1;
+    }
+    pages[entries[k].page].block(left)
+}
+
+/// The first block with a status in the page of an entry, from the one with an index on. Blocks are looked at only where
+/// the entry counts a position of that status.
+fn first_in<L: Ledger>(
+    pages: &[Page],
+    entry: Entry,
+    j: usize,
+    status: Status,
+    steps: &mut Steps<L>,
+) -> Option<Block>
+    requires entry { IsEntry pages.now entry }
+    requires index { j ≤ length (blocks_of pages.now entry) }
+    requires filled { AreFilled (blocks_of pages.now entry) }
+    ensures found { IfSome result (λ b. IsFirstBlock (blocks_of pages.now entry) status j b) }
+    ensures none { IfNone result (HasNone (blocks_of pages.now entry) status j (length (blocks_of pages.now entry))) }
+    ensures cost { IsWalk steps.old steps.new (length (blocks_of pages.now entry)) }
+    ensures passed { IfNone result (j ≡ 0 → steps.new ≡ steps.old) }
+    ensures there { HasAt (blocks_of pages.now entry) status j → steps.new ≤ steps.old + 1 }
+{
+    if entry.tally.of(status) == 0 {
+        return None;
+    }
+    pages[entry.page].first_from(j, status, steps)
+}
+
+/// The first position at or after `from` that has a status, and the end of its block.
+pub fn first_with<L: Ledger>(
+    pages: &[Page],
+    entries: &[Entry],
+    from: u64,
+    status: Status,
+    steps: &mut Steps<L>,
+) -> Option<Run>
+    requires paging { IsPaging pages.now entries.now }
+    requires half { AreHalfFull entries.now }
+    requires within { from < length (flat_map covered (flat pages.now entries.now)) }
+    ensures first { IfSome result (λ run. IsFirst (Has (flat_map covered (flat pages.now entries.now)) status) from run.from) }
+    ensures run { IfSome result (λ run. IsRunUp (Has (flat_map covered (flat pages.now entries.now)) status) run.from run.to) }
+    ensures none { IfNone result ((x : ℕ) → from ≤ x
+        → Has (flat_map covered (flat pages.now entries.now)) status x → ⊥) }
+    ensures cost { steps.new ≤ steps.old + length (flat pages.now entries.now) / 16 + 130 }
+    ensures there { Has (flat_map covered (flat pages.now entries.now)) status from → steps.new ≤ steps.old + 130 }
+{
+    let (held, begun) = held_counted(pages, entries, from + 1, steps);
+    steps.tick();
+    if let Some(block) = first_in(pages, entries[held], begun - 1, status, steps) {
+        return Some(run_up(block, from));
+    }
+    for k in held + 1..entries.len() {
+        steps.tick();
+        if let Some(block) = first_in(pages, entries[k], 0, status, steps) {
+            return Some(run_up(block, from));
+        }
+    }
+    None
+}
+
+/// The last of the first blocks with a status in the page of an entry. Blocks are looked at only where the entry counts
+/// a position of that status.
+fn last_in<L: Ledger>(
+    pages: &[Page],
+    entry: Entry,
+    j: usize,
+    status: Status,
+    steps: &mut Steps<L>,
+) -> Option<Block>
+    requires entry { IsEntry pages.now entry }
+    requires index { j ≤ length (blocks_of pages.now entry) }
+    requires filled { AreFilled (blocks_of pages.now entry) }
+    ensures found { IfSome result (λ b. IsLastBlock (blocks_of pages.now entry) status j b) }
+    ensures none { IfNone result (HasNone (blocks_of pages.now entry) status 0 j) }
+    ensures cost { IsWalk steps.old steps.new (length (blocks_of pages.now entry)) }
+    ensures passed { IfNone result (j ≡ length (blocks_of pages.now entry) → steps.new ≡ steps.old) }
+    ensures there { HasAt (blocks_of pages.now entry) status (j - 1) → steps.new ≤ steps.old + 1 }
+{
+    if entry.tally.of(status) == 0 {
+        return None;
+    }
+    pages[entry.page].last_below(j, status, steps)
+}
+
+/// The greatest end at or before `to` below which a position has a status, and the start of its block.
+pub fn last_with<L: Ledger>(
+    pages: &[Page],
+    entries: &[Entry],
+    to: u64,
+    status: Status,
+    steps: &mut Steps<L>,
+) -> Option<Run>
+    requires paging { IsPaging pages.now entries.now }
+    requires half { AreHalfFull entries.now }
+    requires within { to ≤ length (flat_map covered (flat pages.now entries.now)) }
+    ensures last { IfSome result (λ run. IsLast (Has (flat_map covered (flat pages.now entries.now)) status) to run.to) }
+    ensures run { IfSome result (λ run. IsRunDown (Has (flat_map covered (flat pages.now entries.now)) status) run.from run.to) }
+    ensures none { IfNone result ((x : ℕ) → x < to
+        → Has (flat_map covered (flat pages.now entries.now)) status x → ⊥) }
+    ensures cost { steps.new ≤ steps.old + length (flat pages.now entries.now) / 16 + 130 }
+    ensures there { Has (flat_map covered (flat pages.now entries.now)) status (to - 1) → steps.new ≤ steps.old + 130 }
+{
+    if to == 0 {
+        return None;
+    }
+    let (held, begun) = held_counted(pages, entries, to, steps);
+    steps.tick();
+    if let Some(block) = last_in(pages, entries[held], begun, status, steps) {
+        return Some(run_down(block, to));
+    }
+    for k in (0..held).rev() {
+        steps.tick();
+        let entry = entries[k];
+        if let Some(block) = last_in(pages, entry, entry.len, status, steps) {
+            return Some(run_down(block, to));
+        }
+    }
+    None
+}
+
+/// The part of a block at or after a position.
+fn run_up(block: Block, from: u64) -> Run
+    requires { block.pos + block.size < 2 ^ 64 }
+    ensures { result ≡ record { from = max from block.pos; to = block.pos + block.size } }
+{
+    Run {
+        from: from.max(block.pos),
+        to: block.pos + block.size,
+    }
+}
+
+/// The part of a block below a position.
+fn run_down(block: Block, to: u64) -> Run
+    requires { block.pos + block.size < 2 ^ 64 }
+    ensures { result ≡ record { from = block.pos; to = min to (block.pos + block.size) } }
+{
+    Run {
+        from: block.pos,
+        to: to.min(block.pos + block.size),
+    }
+}
+
+/// How many positions have a status.
+pub fn count(pages: &[Page], entries: &[Entry], status: Status) -> u64
+    requires { IsPaging pages.now entries.now }
+    ensures { result ≡ count_by (λ s. same s status) (flat_map covered (flat pages.now entries.now)) }
+{
+    let mut counted = 0;
+    for entry in entries {
+        counted += entry.tally.of(status);
+    }
+    counted
+}

@@ -1,0 +1,101 @@
+//! The pages that an edit fills anew.
+ghost use Rattle.std.specs.Prelude.{◌≡◌, ◌+◌, ◌<◌, ◌≤◌, ◌++◌, length, take, drop, slice_index_or};
+ghost use Rattle.paged_blocks.specs.declared.entry.Entry.{Entry};
+ghost use Rattle.paged_blocks.specs.Paging.{blocks_of, IsPaging, AreHalfFull};
+ghost use Rattle.paged_blocks.specs.Marks.{IsEdit, edited};
+ghost use Rattle.paged_blocks.specs.Regions.{IsRegion, IsFull, refilled};
+
+use crate::entry::Entry;
+use crate::gathered::Gathered;
+use crate::marks::Edit;
+use crate::page::Page;
+
+/// The pages of the entries from `first` up to `behind`, and the blocks that come in the place of theirs.
+#[derive(Drop)]
+pub struct Region {
+    pub first: usize,
+    pub behind: usize,
+    pub blocks: Gathered,
+}
+
+/// The pages that an edit touches, with the blocks that they hold after it.
+fn touched(pages: &[Page], entries: &[Entry], edit: &Edit) -> Region
+    requires paging { IsPaging pages.now entries.now }
+    requires edit { IsEdit pages.now entries.now edit.now }
+    ensures region { IsRegion entries.now result }
+    ensures same { refilled pages.now entries.now result ≡ edited pages.now entries.now edit.now }
+{
+    let mut blocks = Gathered::new();
+    blocks.copy(&pages[entries[edit.first].page], 0, edit.from);
+    blocks.copy(&edit.new, 0, edit.new.len());
+    let last = &pages[entries[edit.last].page];
+    blocks.copy(last, edit.to, last.len());
+    Region {
+        first: edit.first,
+        behind: edit.last + 1,
+        blocks,
+    }
+}
+
+/// A region with the page behind it.
+fn with_next(pages: &[Page], entries: &[Entry], mut region: Region) -> Region
+    requires paging { IsPaging pages.now entries.now }
+    requires half { AreHalfFull entries.now }
+    requires region { IsRegion entries.now region }
+    requires few { length region.blocks < 32 }
+    requires there { region.behind < length entries.now }
+    ensures region { IsRegion entries.now result }
+    ensures same { refilled pages.now entries.now result ≡ refilled pages.now entries.now region }
+    ensures full { IsFull entries.now result }
+{
+    let next = &pages[entries[region.behind].page];
+    region.blocks.copy(next, 0, next.len());
+    region.behind += 1;
+    region
+}
+
+/// A region with the page in front of it.
+fn with_former(pages: &[Page], entries: &[Entry], region: Region) -> Region
+    requires paging { IsPaging pages.now entries.now }
+    requires half { AreHalfFull entries.now }
+    requires region { IsRegion entries.now region }
+    requires few { length region.blocks < 32 }
+    requires there { 0 < region.first }
+    ensures region { IsRegion entries.now result }
+    ensures same { refilled pages.now entries.now result ≡ refilled pages.now entries.now region }
+    ensures full { IsFull entries.now result }
+{
+    let first = region.first - 1;
+    let former = &pages[entries[first].page];
+    let mut blocks = Gathered::new();
+    blocks.copy(former, 0, former.len());
+    let own = region.blocks.page(0, region.blocks.len());
+    blocks.copy(&own, 0, own.len());
+    Region {
+        first,
+        behind: region.behind,
+        blocks,
+    }
+}
+
+/// The pages that an edit fills anew: those that it touches, and a neighbor where they would have too few blocks.
+pub fn region_of(pages: &[Page], entries: &[Entry], edit: &Edit) -> Region
+    requires paging { IsPaging pages.now entries.now }
+    requires half { AreHalfFull entries.now }
+    requires edit { IsEdit pages.now entries.now edit.now }
+    ensures region { IsRegion entries.now result }
+    ensures same { refilled pages.now entries.now result ≡ edited pages.now entries.now edit.now }
+    ensures full { IsFull entries.now result }
+{
+    let region = touched(pages, entries, edit);
+    if region.blocks.len() >= 32 {
+        return region;
+    }
+    if region.behind < entries.len() {
+        return with_next(pages, entries, region);
+    }
+    if region.first > 0 {
+        return with_former(pages, entries, region);
+    }
+    region
+}

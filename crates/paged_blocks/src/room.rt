@@ -1,0 +1,72 @@
+//! Room for more blocks.
+ghost use Rattle.std.specs.Prelude.{◌≡◌, ◌+◌, ◌*◌, ◌≤◌, length, vec_len, vec_capacity, OnOk};
+ghost use Rattle.paged_blocks.specs.Paging.{flat, IsPaging, IsKept};
+
+use crate::entry::Entry;
+use crate::page::Page;
+use block_list::tiles::NoMemory;
+
+/// How many blocks stand in the pages.
+pub fn blocks(pages: &[Page], entries: &[Entry]) -> usize
+    requires { IsPaging pages.now entries.now }
+    ensures { result ≡ length (flat pages.now entries.now) }
+{
+    let mut blocks = 0;
+    for entry in entries {
+        blocks += entry.len;
+    }
+    blocks
+}
+
+/// Makes pages, and room for their entries, so that n more blocks fit where each page is only half full.
+pub fn reserve(
+    pages: &mut Vec<Page>,
+    entries: &mut Vec<Entry>,
+    free: &mut Vec<usize>,
+    n: usize,
+) -> Result<(), NoMemory>
+    requires kept { IsKept pages.old.items entries.old.items free.old.items }
+    requires room { vec_len pages.old ≤ vec_capacity free.old }
+    ensures kept { IsKept pages.new.items entries.new.items free.new.items }
+    ensures flat { flat pages.new.items entries.new.items ≡ flat pages.old.items entries.old.items }
+    ensures pages { OnOk result (length (flat pages.old.items entries.old.items) + n ≤ 32 * vec_len pages.new) }
+    ensures entries { OnOk result (length (flat pages.old.items entries.old.items) + n
+        ≤ 32 * vec_capacity entries.new) }
+    ensures more { vec_len pages.old ≤ vec_len pages.new }
+    ensures capacity { vec_capacity entries.old ≤ vec_capacity entries.new }
+    ensures room { vec_len pages.new ≤ vec_capacity free.new }
+{
+    let held = blocks(pages, entries);
+    let wanted = held.checked_add(n).ok_or(NoMemory)?.div_ceil(32);
+    entries
+        .reserve(wanted.saturating_sub(entries.len()))
+        .map_err(|_| NoMemory)?;
+    free.reserve(wanted.saturating_sub(free.len()))
+        .map_err(|_| NoMemory)?;
+    add_pages(pages, entries, free, wanted)
+}
+
+/// Makes free pages until there is a number of pages.
+fn add_pages(
+    pages: &mut Vec<Page>,
+    entries: &[Entry],
+    free: &mut Vec<usize>,
+    wanted: usize,
+) -> Result<(), NoMemory>
+    requires kept { IsKept pages.old.items entries.now free.old.items }
+    requires room { vec_len pages.old ≤ vec_capacity free.old }
+    requires capacity { wanted ≤ vec_capacity free.old }
+    ensures kept { IsKept pages.new.items entries.now free.new.items }
+    ensures flat { flat pages.new.items entries.now ≡ flat pages.old.items entries.now }
+    ensures made { OnOk result (wanted ≤ vec_len pages.new) }
+    ensures more { vec_len pages.old ≤ vec_len pages.new }
+    ensures room { vec_len pages.new ≤ vec_capacity free.new }
+{
+    while pages.len() < wanted {
+        let number = pages.len();
+        pages.push(Page::new()).map_err(|_| NoMemory)?;
+        // There is room, so this takes no memory and succeeds.
+        let _ = free.push(number);
+    }
+    Ok(())
+}
