@@ -1,19 +1,26 @@
-# The usual ways into the repository: `make` proves and builds the program, `make scenes` the player of transcripts, and
-# `make check` runs the gate.
+# The usual ways into the repository: `make` proves and builds both programs, `make bin/ddrescue` and
+# `make bin/ddrescuelog` one of them, `make scenes` the player of transcripts, and `make check` runs the gate.
 PREFIX ?= /usr/local
 SOURCES := crates.txt $(shell find crates -path '*/out' -prune -o -type f -print)
+MANUAL := $(DESTDIR)$(PREFIX)/share/man/man1
 
 .PHONY: all scenes check install clean
 
-all: bin/ddrescue
+all: bin/ddrescue bin/ddrescuelog
 
 scenes: bin/rescue_scenes
 
-# Proves and builds the program, and tries it on an empty input.
+# Proves and builds the rescue, and tries it on an empty input.
 bin/ddrescue: $(SOURCES)
 	trial=$$(mktemp -d) && trap 'rm -rf "$$trial"' EXIT && cd crates/ddrescue && rt run -- /dev/null "$$trial/out" "$$trial/map"
 	mkdir -p bin
 	cp crates/ddrescue/out/ddrescue bin/ddrescue
+
+# Proves and builds the program for mapfiles, and has it make an empty one.
+bin/ddrescuelog: $(SOURCES)
+	trial=$$(mktemp -d) && trap 'rm -rf "$$trial"' EXIT && cd crates/ddrescuelog && rt run -- -c "$$trial/map" </dev/null
+	mkdir -p bin
+	cp crates/ddrescuelog/out/ddrescuelog bin/ddrescuelog
 
 # Proves and builds the player of transcripts, and tries it on an empty one.
 bin/rescue_scenes: $(SOURCES)
@@ -24,9 +31,11 @@ bin/rescue_scenes: $(SOURCES)
 check:
 	bash .ci/run
 
-install: bin/ddrescue
+install: bin/ddrescue bin/ddrescuelog
 	install -D bin/ddrescue $(DESTDIR)$(PREFIX)/bin/ddrescue
-	install -D -m 644 man/ddrescue.1 $(DESTDIR)$(PREFIX)/share/man/man1/ddrescue.1
+	install -D bin/ddrescuelog $(DESTDIR)$(PREFIX)/bin/ddrescuelog
+	install -D -m 644 man/ddrescue.1 $(MANUAL)/ddrescue.1
+	install -D -m 644 man/ddrescuelog.1 $(MANUAL)/ddrescuelog.1
 
 clean:
 	rm -rf bin crates/*/out

@@ -2,7 +2,7 @@
 #![tactic(auto)]
 
 pub mod block_laws;
-mod blocks;
+pub mod blocks;
 pub mod change;
 pub mod combine;
 pub mod compare;

@@ -1,0 +1,25 @@
+//! ddrescuelog: reads, compares, prints, makes and removes the mapfiles of rescues.
+#![tactic(auto)]
+
+use crash_site::folder::FolderSite;
+use ddrescuelog_cli::log::ddrescuelog;
+use program_start::status::status_of;
+use program_start::streams::{Closed, fill_streams};
+use program_start::words::collect_words;
+use rescue_console::system::{StdConsole, StdFeed};
+use std::io;
+use std::process::ExitCode;
+
+fn run(rt: HostRuntime) -> io::Result<u8> {
+    fill_streams(&rt, Closed::Faulty)?;
+    let words = collect_words(&rt)?;
+    let mut site = FolderSite::new(rt.clone()?);
+    let mut feed = StdFeed::new(rt.clone()?);
+    let mut console = StdConsole::new(rt.clone()?);
+    let ending = ddrescuelog(rt.alloc(), &words, &mut site, &mut feed, &mut console);
+    Ok(ending.code())
+}
+
+fn main(rt: HostRuntime) -> ExitCode {
+    ExitCode::from(status_of(run(rt)))
+}

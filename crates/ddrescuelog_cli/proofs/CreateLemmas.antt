@@ -1,0 +1,355 @@
+-- A map that is created, from the first step to its save.
+use Rattle.std.proofs.Common.{◌≡◌, ◌⊎◌, ℕ, ◌≤◌, true, false, IsTrue, List, [], ◌∷◌, ◌++◌, map, length, Option, Some, None, Ok, Err, refl, sym, ap, ◌∙◌, inl, inr, subst, append_assoc, append-nil, arith}
+use Rattle.std.proofs.lemmas.Bool.{both_ways}
+use Rattle.block_list.specs.declared.status.Status.{Status}
+use Rattle.block_list.specs.Tiled.{Tiled}
+use Rattle.mapfile_text.specs.declared.read.Mode.{Mode}
+use Rattle.mapfile_text.specs.declared.heading.Program.TheVariants.{Ddrescuelog}
+use Rattle.mapfile_text.specs.declared.state.MapState.{MapState}
+use Rattle.mapfile_text.specs.declared.state.Current.TheVariants.{Copying}
+use Rattle.mapfile_text.specs.HeadingLines.{HeadingLines}
+use Rattle.mapfile_text.specs.Printed.{printed}
+use Rattle.mapfile_text.specs.Pieces.{pieces_of}
+use Rattle.crash_site.specs.declared.site.SiteCall.{SiteCall}
+use Rattle.crash_site.specs.Files.{File}
+use Rattle.crash_site.specs.Calls.{Call, Done as Returned, draft_append, draft_sync}
+use Rattle.crash_site.specs.SiteState.{SiteState, Keeps, Stays, files_in}
+use Rattle.rescue_console.specs.FeedState.{FeedState}
+use Rattle.save_resume.specs.declared.draft.SaveFault.{SaveFault}
+use Rattle.save_resume.specs.MapNames.{MapNames, names_of}
+use Rattle.save_resume.specs.Named.{IsMapOf, map_mode}
+use Rattle.save_resume.specs.Saving.{save_calls, publish_calls, drafting_after_fault, IsNameIn, Saves}
+use Rattle.map_algebra.specs.Numbers.{list_limit, numbers_in}
+use Rattle.work_steps.specs.Work.{Deeds, Works, Make}
+use Rattle.log_command.specs.declared.mode.LogMode.TheVariants.{Create}
+use Rattle.log_command.specs.Modes.{creates, has_other}
+use Rattle.log_command.specs.Command.{Command, AreInLimits}
+use Rattle.ddrescuelog_cli.specs.declared.ending.LogEnding.{LogEnding}
+use Rattle.ddrescuelog_cli.specs.declared.ending.LogEnding.TheVariants.{Done, SiteFault, FeedFault, NoMemory}
+use Rattle.ddrescuelog_cli.specs.Maps.{Found, Maps, AreMapsOf, AreAskedFor, found_in, shape_of}
+use Rattle.ddrescuelog_cli.specs.Modes.{looks_at_places}
+use Rattle.ddrescuelog_cli.specs.Refusals.{ListRefused}
+use Rattle.ddrescuelog_cli.specs.Results.{IsCreated, map_text}
+use Rattle.ddrescuelog_cli.specs.Told.{only_calls}
+use Rattle.ddrescuelog_cli.specs.Work.{log_faults, Ends, EndsCreated, EndsAs, WorksOver}
+use Rattle.ddrescuelog_cli.specs.Steps.{HasStatuses, statuses_in}
+use Rattle.ddrescuelog_cli.specs.Answers.{TakenBefore, AllTaken, drafting_left}
+use Rattle.ddrescuelog_cli.specs.Behind.{SiteCounts, SiteBehind, FeedBehind}
+use Rattle.ddrescuelog_cli.specs.Creating.{LookCause, Looks, Makes, AreOfList, SavesText, Creates}
+use Rattle.ddrescuelog_cli.proofs.CallLemmas.{GainsBroken, broke_gains, Broken, broken_at, name_of_broken}
+use Rattle.ddrescuelog_cli.proofs.LoadLemmas.{by_tells}
+use Rattle.ddrescuelog_cli.proofs.MapLemmas.{map_is_one}
+use Rattle.ddrescuelog_cli.proofs.TakeLemmas.{feed_keeps, starved_behind}
+
+-- ---- behind what is looked at
+
+pub feed_behind_look : (e : LogEnding) (x y : ℕ) (f : FeedState) → LookCause e x y → FeedBehind e f f
+feed_behind_look e x y f (inl a) =
+    subst (λ v. FeedBehind v f f) (sym a.0) (record { keeps = feed_keeps f; counts = refl; takes = refl })
+feed_behind_look e x y f (inr (inl a)) = subst (λ v. FeedBehind v f f) (sym a.0) (starved_behind f)
+feed_behind_look e x y f (inr (inr (inl a))) =
+    subst (λ v. FeedBehind v f f) (sym a.1) (record { keeps = feed_keeps f; counts = refl; takes = refl })
+feed_behind_look e x y f (inr (inr (inr (inl a)))) =
+    subst (λ v. FeedBehind v f f) (sym a.2) (record { keeps = feed_keeps f; counts = refl; takes = refl })
+feed_behind_look e x y f (inr (inr (inr (inr a)))) =
+    subst (λ v. FeedBehind v f f) (sym a.0) (record { keeps = feed_keeps f; counts = refl; takes = refl })
+
+-- such an answer, and its count
+record Early (e : LogEnding) (x y : ℕ) : Type 0 where
+  counts : SiteCounts e x y
+  draft : drafting_left e ≡ false
+
+early : (e : LogEnding) (x y : ℕ) → LookCause e x y → Early e x y
+early e x y (inl a) = subst (λ v. Early v x y) (sym a.0) (record { counts = a.1; draft = refl })
+early e x y (inr (inl a)) = subst (λ v. Early v x y) (sym a.0) (record { counts = a.1; draft = refl })
+early e x y (inr (inr (inl a))) = subst (λ v. Early v x y) (sym a.1) (record { counts = a.2; draft = refl })
+early e x y (inr (inr (inr (inl a)))) =
+    subst (λ v. Early v x y) (sym a.2) (record { counts = (a.3, a.4); draft = refl })
+early e x y (inr (inr (inr (inr a)))) = subst (λ v. Early v x y) (sym a.0) (record { counts = a.1; draft = refl })
+
+pub site_behind_look : (e : LogEnding) (old new : SiteState) → Stays old new → LookCause e old.faults new.faults
+    → SiteBehind e old new
+site_behind_look e old new stays cause =
+    let w : Early e old.faults new.faults = early e old.faults new.faults cause in
+    record {
+      keeps = stays.keeps;
+      counts = w.counts;
+      draft = λ idle. stays.draft ∙ idle ∙ sym w.draft;
+    }
+
+-- ---- the save
+
+pub saved_text : {T : Type 0} (names : MapNames) (text : List ℕ) (x : T) (old new : SiteState)
+    → Saves (save_calls names text) false (Ok x) old new → SavesText names text Done old new
+saved_text names text x old new s = record {
+  calls = map Returned (save_calls names text);
+  gained = s.made.made;
+  did = inr (
+    [],
+    sym (append-nil (map Returned (save_calls names text))),
+    (refl, record { opens = refl; gain = record { calls = refl; reads = refl; times = refl } }),
+  );
+}
+
+pub broke_text : {T : Type 0} (names : MapNames) (text : List ℕ) (f : SaveFault) (old new : SiteState)
+    → Saves {T = T} (save_calls names text) false (Err f) old new → SavesText names text (SiteFault f.call) old new
+broke_text names text f old new s =
+    let all : List Call = save_calls names text in
+    by_tells old.tells (SavesText names text (SiteFault f.call) old new)
+    (λ t.
+    let g : GainsBroken f.call all old.calls new.calls = broke_gains f.call all old.calls new.calls (s.broke.broke t) in
+    record {
+      calls = g.more;
+      gained = λ u. g.grew;
+      did = inl (f.call, refl, g.broke, record { opens = refl; reads = refl; times = refl });
+    })
+    (λ n.
+    let b : Broken f.call all [] = broken_at f.call all [] s.named in
+    record {
+      calls = b.new;
+      gained = λ u. absurd (n u);
+      did = inl (f.call, refl, b.broke, record { opens = refl; reads = refl; times = refl });
+    })
+
+pub saved_site : {T : Type 0} (names : MapNames) (text : List ℕ) (x : T) (old new : SiteState)
+    → Saves (save_calls names text) false (Ok x) old new → SiteBehind Done old new
+saved_site names text x old new s =
+    record { keeps = s.keeps; counts = s.made.faults; draft = λ idle. s.draft }
+
+pub broke_site : {T : Type 0} (names : MapNames) (text : List ℕ) (f : SaveFault) (old new : SiteState)
+    → Saves {T = T} (save_calls names text) false (Err f) old new → SiteBehind (SiteFault f.call) old new
+broke_site names text f old new s = record {
+  keeps = s.keeps;
+  counts = s.broke.rose;
+  draft = λ idle. s.draft_left ∙ ap (λ b. drafting_after_fault f.call b) idle;
+}
+
+-- ---- what a save finds of the feed
+
+-- this call comes behind the whole list
+abbrev ComesBehind : SiteCall → Type 0
+ComesBehind call = (old new : FeedState) → AllTaken old new → TakenBefore call old new
+
+publish_behind : (call : SiteCall) (names : MapNames) → IsNameIn call (publish_calls names) → ComesBehind call
+publish_behind call names (inl is) = subst ComesBehind (sym is) (λ old new all. all)
+publish_behind call names (inr (inl is)) = subst ComesBehind (sym is) (λ old new all. all)
+publish_behind call names (inr (inr none)) = absurd none
+
+pieces_behind : (call : SiteCall) (names : MapNames) (pieces : List (List ℕ))
+    → IsNameIn call (map draft_append pieces ++ draft_sync ∷ publish_calls names) → ComesBehind call
+pieces_behind call names [] (inl is) = subst ComesBehind (sym is) (λ old new all. all)
+pieces_behind call names [] (inr h) = publish_behind call names h
+pieces_behind call names (p ∷ ps) (inl is) = subst ComesBehind (sym is) (λ old new all. all)
+pieces_behind call names (p ∷ ps) (inr h) = pieces_behind call names ps h
+
+save_behind : (call : SiteCall) (names : MapNames) (text : List ℕ) → IsNameIn call (save_calls names text)
+    → ComesBehind call
+save_behind call names text (inl is) = subst ComesBehind (sym is) (λ old new all. all)
+save_behind call names text (inr (inl is)) = subst ComesBehind (sym is) (λ old new all. all)
+save_behind call names text (inr (inr h)) = pieces_behind call names (pieces_of text) h
+
+feed_saved : (names : MapNames) (text : List ℕ) (e : LogEnding) (d : Deeds) (old new : FeedState)
+    → Works log_faults (Make (save_calls names text) ∷ []) (Ends Done) e d → FeedBehind Done old new
+    → FeedBehind e old new
+feed_saved names text e d old new (inl (call, is, broke, only)) b =
+    subst (λ v. FeedBehind v old new) (sym is)
+    (record {
+      keeps = b.keeps;
+      counts = b.counts;
+      takes = save_behind call names text
+          (name_of_broken call (save_calls names text) [] d.gain.calls broke) old new b.takes;
+    })
+feed_saved names text e d old new (inr (rest, all, (is, idle))) b =
+    subst (λ v. FeedBehind v old new) (sym is) b
+
+pub feed_behind_save : (names : MapNames) (text : List ℕ) (e : LogEnding) (site site' : SiteState)
+    (old new : FeedState) → SavesText names text e site site' → FeedBehind Done old new → FeedBehind e old new
+feed_behind_save names text e site site' old new s b =
+    feed_saved names text e (only_calls s.calls) old new s.did b
+
+-- ---- the maps
+
+-- a map that is created shows its first position
+abbrev first_shown : MapState
+first_shown = record { pos = 0; current = Copying; pass = 1 }
+
+abbrev maps_made : Option Tiled → Maps
+maps_made tiles = record { shown = first_shown; statuses = []; other = []; domain = statuses_in tiles }
+
+domain_is : (asked : Option (List ℕ)) (mode : Mode) (file : Option File) (have : Option (List Status))
+    → HasStatuses asked mode file have → (name : List ℕ) (statuses : List Status) → asked ≡ Some name
+    → IsMapOf file mode statuses → have ≡ Some statuses
+domain_is None mode file have h name statuses is of = absurd (cc)
+domain_is (Some n) mode file None h name statuses is of = absurd h
+domain_is (Some n) mode file (Some have) h name statuses is of =
+    ap (λ (s : List Status). Some s) (map_is_one file mode have statuses h of)
+
+none_asked : (asked : Option (List ℕ)) (mode : Mode) (file : Option File) (have : Option (List Status))
+    → HasStatuses asked mode file have → asked ≡ None → have ≡ None
+none_asked None mode file have h none = h
+none_asked (Some n) mode file have h none = absurd (cc)
+
+made_are : (c : Command) (found : Found) (tiles : Option Tiled) → creates c.mode ≡ true → c.other ≡ None
+    → HasStatuses c.domain_map (map_mode c.options.loose) found.domain (statuses_in tiles)
+    → AreMapsOf c found (maps_made tiles)
+made_are c found tiles created alone has = record {
+  mapfile = λ shown statuses read is. absurd (both_ways (creates c.mode) read created);
+  other = λ name statuses named is. let no : None ≡ Some name = sym alone ∙ named in absurd (cc);
+  domain = λ name statuses named is.
+      domain_is c.domain_map (map_mode c.options.loose) found.domain (statuses_in tiles) has name statuses named is;
+}
+
+made_asked : (c : Command) (found : Found) (tiles : Option Tiled)
+    → HasStatuses c.domain_map (map_mode c.options.loose) found.domain (statuses_in tiles)
+    → AreAskedFor c (maps_made tiles)
+made_asked c found tiles has = record {
+  mapfile = λ created. refl;
+  other = λ none. refl;
+  domain = λ none.
+      none_asked c.domain_map (map_mode c.options.loose) found.domain (statuses_in tiles) has none;
+}
+
+-- ---- the work over maps
+
+over_create : (listed rest : Status) (c : Command) (line list : List ℕ) (m : Maps) (e : LogEnding) (d : Deeds)
+    → c.mode ≡ Create listed rest → EndsCreated listed rest c line list m e d → WorksOver c line list m e d
+over_create listed rest c line list m e d mode w = inr (inr (
+  λ v r. both_ways (looks_at_places c.mode) (ap looks_at_places mode) r.lists,
+  subst (λ mode. EndsAs mode c line list m e d) (sym mode) w,
+))
+
+over_refused : (listed rest : Status) (c : Command) (line list : List ℕ) (m : Maps) (e : LogEnding)
+    → c.mode ≡ Create listed rest → (e ≡ NoMemory) ⊎ (e ≡ FeedFault) ⊎ ListRefused c.options list e
+    → WorksOver c line list m e (only_calls [])
+over_refused listed rest c line list m e mode (inl starved) =
+    inl (starved, record { opens = refl; gain = record { calls = refl; reads = refl; times = refl } })
+over_refused listed rest c line list m e mode (inr (inl failed)) =
+    over_create listed rest c line list m e (only_calls []) mode
+    (inl (failed, record { opens = refl; gain = record { calls = refl; reads = refl; times = refl } }))
+over_refused listed rest c line list m e mode (inr (inr refused)) =
+    over_create listed rest c line list m e (only_calls []) mode
+    (inr (inl (refused, record { opens = refl; gain = record { calls = refl; reads = refl; times = refl } })))
+
+list_passes : (c : Command) (list numbers : List ℕ) (e : LogEnding) → numbers_in (shape_of c.options) list ≡ Ok numbers
+    → length list ≤ list_limit → ListRefused c.options list e → ⊥
+list_passes c list numbers e read short (inl long) = omega (arith, long.0, short)
+list_passes c list numbers e read short (inr (line, within, bad, is)) =
+    let no : Ok numbers ≡ Err line = sym read ∙ bad in cc
+
+-- ---- by the outcome
+
+pub is_alone : (c : Command) (listed rest : Status) → AreInLimits c → c.mode ≡ Create listed rest → c.other ≡ None
+is_alone c listed rest limits mode = limits.no_other (ap has_other mode)
+
+pub created_starved : (c : Command) (line : List ℕ) (site : SiteState) (feed : FeedState) → Creates c line NoMemory site site feed
+created_starved c line site feed = record {
+  found = found_in c (files_in site);
+  list = feed.left;
+  calls = [];
+  is_own = λ t. refl;
+  is_feeds = λ t. refl;
+  gained = λ t. sym (append-nil site.calls);
+  did = inl (λ m. inl (refl, record { opens = refl; gain = record { calls = refl; reads = refl; times = refl } }));
+}
+
+pub created_stopped : (c : Command) (line : List ℕ) (e : LogEnding) (old new : SiteState) (feed : FeedState)
+    → Looks c (Err e) old new → Creates c line e old new feed
+created_stopped c line e old new feed l = record {
+  found = l.found;
+  list = feed.left;
+  calls = l.calls;
+  is_own = l.is_own;
+  is_feeds = λ t. refl;
+  gained = l.gained;
+  did = inl (λ m. l.did line feed.left m);
+}
+
+pub created_refused : (c : Command) (line : List ℕ) (listed rest : Status) (tiles : Option Tiled) (e : LogEnding)
+    (old new : SiteState) (feed feed' : FeedState) → c.mode ≡ Create listed rest → c.other ≡ None
+    → Looks c (Ok tiles) old new → Makes c.options listed rest (statuses_in tiles) (Err e) feed feed'
+    → Creates c line e old new feed
+created_refused c line listed rest tiles e old new feed feed' mode alone l w = record {
+  found = l.found;
+  list = w.list;
+  calls = l.calls ++ [];
+  is_own = l.is_own;
+  is_feeds = w.is_own;
+  gained = λ t. l.gained t ∙ ap (λ r. old.calls ++ r) (sym (append-nil l.calls));
+  did = inr (
+    maps_made tiles,
+    made_are c l.found tiles (ap creates mode) alone l.did.0,
+    made_asked c l.found tiles l.did.0,
+    l.did.1 line w.list (maps_made tiles) e []
+        (over_refused listed rest c line w.list (maps_made tiles) e mode w.did),
+  );
+}
+
+-- the map that was made is that which was asked for
+is_created : (c : Command) (line : List ℕ) (h : HeadingLines) (listed rest : Status) (tiles : Option Tiled)
+    (list text : List ℕ) (statuses : List Status)
+    → h ≡ record { program = Ddrescuelog; line = line; start_s = 0; now_s = 0 }
+    → text ≡ printed h first_shown statuses
+    → (a : AreOfList c.options listed rest (statuses_in tiles) list statuses)
+    → IsCreated c listed rest line (maps_made tiles) a.numbers text
+is_created c line h listed rest tiles list text statuses heading is a = record {
+  end = a.end;
+  ends = a.ends;
+  is =
+      is ∙ ap (λ (g : HeadingLines). printed g first_shown statuses) heading
+      ∙ ap (λ (s : List Status). map_text line first_shown s) a.is;
+}
+
+pub created : (c : Command) (line : List ℕ) (h : HeadingLines) (names : MapNames) (listed rest : Status)
+    (tiles : Option Tiled) (made : Tiled) (e : LogEnding) (old mid new : SiteState) (feed feed' : FeedState)
+    → c.mode ≡ Create listed rest → c.other ≡ None → names ≡ names_of c.mapfile → mid.tells ≡ old.tells
+    → h ≡ record { program = Ddrescuelog; line = line; start_s = 0; now_s = 0 }
+    → Looks c (Ok tiles) old mid → Makes c.options listed rest (statuses_in tiles) (Ok made) feed feed'
+    → SavesText names (printed h first_shown made.statuses) e mid new → Creates c line e old new feed
+created c line h names listed rest tiles made e old mid new feed feed' mode alone named same heading l w s =
+    let text : List ℕ = printed h first_shown made.statuses in
+    let m : Maps = maps_made tiles in
+    record {
+      found = l.found;
+      list = w.list;
+      calls = l.calls ++ s.calls;
+      is_own = l.is_own;
+      is_feeds = w.is_own;
+      gained = λ t.
+          s.gained (subst IsTrue (sym same) t) ∙ ap (λ r. r ++ s.calls) (l.gained t)
+          ∙ append_assoc old.calls l.calls s.calls;
+      did = inr (
+        m,
+        made_are c l.found tiles (ap creates mode) alone l.did.0,
+        made_asked c l.found tiles l.did.0,
+        l.did.1 line w.list m e s.calls
+            (over_create listed rest c line w.list m e (only_calls s.calls) mode
+            (inr (inr (
+              λ v r. list_passes c w.list w.did.0.numbers v w.did.0.read w.did.1 r,
+              (
+                w.did.0.numbers,
+                text,
+                w.did.0.read,
+                is_created c line h listed rest tiles w.list text made.statuses heading refl w.did.0,
+                subst (λ n. Works log_faults (Make (save_calls n text) ∷ []) (Ends Done) e (only_calls s.calls)) named
+                    s.did,
+              ),
+            )))),
+      );
+    }
+
+-- the site behind both
+site_keeps_both : (a b c : SiteState) → Keeps a b → Keeps b c → Keeps a c
+site_keeps_both a b c k l = record {
+  tells = l.tells ∙ k.tells;
+  start = λ t. l.start (subst IsTrue (sym k.tells) t) ∙ k.start t;
+  planned = l.planned ∙ k.planned;
+  later = omega (arith, k.later, l.later);
+}
+
+pub site_behind_both : (e : LogEnding) (old mid new : SiteState) → Stays old mid → mid.faults ≡ old.faults
+    → SiteBehind e mid new → SiteBehind e old new
+site_behind_both e old mid new stays kept b = record {
+  keeps = site_keeps_both old mid new stays.keeps b.keeps;
+  counts = subst (λ n. SiteCounts e n new.faults) kept b.counts;
+  draft = λ idle. b.draft (stays.draft ∙ idle);
+}

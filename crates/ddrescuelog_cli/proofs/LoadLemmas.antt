@@ -1,0 +1,280 @@
+-- What the read of a map did, whether the files tell or not.
+use Rattle.std.proofs.Common.{◌≡◌, ℕ, ◌*◌, ◌<◌, ◌≤◌, Bool, true, false, IsTrue, List, [], map, length, sum, replicate, Option, Some, None, Ok, Err, refl, sym, ◌∙◌, inl, inr, append-nil, arith}
+use Rattle.std.proofs.lemmas.Bool.{both_ways, cases_lt}
+use Rattle.std.proofs.lemmas.List.Elements.{All-nil, All-replicate}
+use Rattle.std.proofs.lemmas.List.Folds.{sum_by-replicate}
+use Rattle.mapfile_text.specs.declared.read.Mode.{Mode}
+use Rattle.mapfile_text.specs.declared.read.ReadMap.{ReadMap}
+use Rattle.mapfile_text.specs.MapText.{text_limit}
+use Rattle.crash_site.specs.declared.site.SiteCall.TheVariants.{MapRead as MapReadCall}
+use Rattle.crash_site.specs.declared.site.MapRead.{MapRead}
+use Rattle.crash_site.specs.declared.site.MapRead.TheVariants.{Bytes, Absent}
+use Rattle.crash_site.specs.Files.{File}
+use Rattle.crash_site.specs.Calls.{Call, Entry, Done as Returned, BrokeAt}
+use Rattle.crash_site.specs.SiteState.{SiteState, files_in}
+use Rattle.save_resume.specs.Loading.{load_reads, IsPiece, BeginsLoad, IsLoad}
+use Rattle.save_resume.specs.Resuming.{IsReadAs, IsOfFile, LoadEnded, Starved, BrokeInLoad}
+use Rattle.save_resume.proofs.AnswerLemmas.{read_is_not_refused}
+use Rattle.ddrescuelog_cli.specs.declared.ending.Which.{Which}
+use Rattle.ddrescuelog_cli.specs.declared.ending.LogEnding.{LogEnding}
+use Rattle.ddrescuelog_cli.specs.declared.ending.LogEnding.TheVariants.{SiteFault, NoMemory}
+use Rattle.ddrescuelog_cli.specs.Refusals.{MapIsRefused}
+use Rattle.ddrescuelog_cli.specs.Work.{map_rows}
+use Rattle.ddrescuelog_cli.specs.Steps.{Stopped, Through, ReadsMap, ReadsNamed}
+use Rattle.ddrescuelog_cli.proofs.CallLemmas.{GainsBroken, broke_gains}
+
+-- ---- there is a load of each file
+
+ones_sum : (n : ℕ) → sum (replicate n 1) ≡ n
+ones_sum n = let e : sum (replicate n 1) ≡ n * 1 = sum_by-replicate (λ (x : ℕ). x) n 1 in omega (arith, e)
+
+one_is_piece : IsPiece 1
+one_is_piece = (omega arith, omega arith)
+
+-- the first reads of a file that gave so many bytes, one by one, and the read behind them
+begins_by_ones : (name : List ℕ) (f : File) (n : ℕ) (answer : Option MapRead) → n ≤ length f.bytes → n ≤ text_limit
+    → BeginsLoad name (Some f) (load_reads name (replicate n 1) answer)
+begins_by_ones name f n answer within limited =
+    let e : sum (replicate n 1) ≡ n = ones_sum n in
+    record {
+      given = replicate n 1;
+      answer = answer;
+      pieces = All-replicate IsPiece n 1 one_is_piece;
+      within = omega (arith, e, within);
+      limited = omega (arith, e, limited);
+      calls_are = refl;
+    }
+
+-- a load of each file
+abbrev Load : List ℕ → Option File → Type 0
+Load name file = (load : List Call) × IsLoad name file load
+
+load_of_none : (name : List ℕ) → Load name None
+load_of_none name = (
+  load_reads name [] (Some Absent),
+  record {
+    begins = record {
+      given = [];
+      answer = Some Absent;
+      pieces = All-nil IsPiece;
+      within = omega arith;
+      limited = omega arith;
+      calls_are = refl;
+    };
+    ends = refl;
+  },
+)
+
+load_of_short : (name : List ℕ) (f : File) (n : ℕ) → n ≡ length f.bytes → n ≤ text_limit → Load name (Some f)
+unfolding begins_by_ones
+load_of_short name f n is short = (
+  load_reads name (replicate n 1) (Some (Bytes 0)),
+  record {
+    begins = begins_by_ones name f n (Some (Bytes 0)) (omega (arith, is)) short;
+    ends = inl (refl, ones_sum n ∙ is);
+  },
+)
+
+load_of_long : (name : List ℕ) (f : File) (n : ℕ) → n ≡ text_limit → n < length f.bytes → Load name (Some f)
+unfolding begins_by_ones
+load_of_long name f n is long =
+    let e : sum (replicate n 1) ≡ n = ones_sum n in (
+      load_reads name (replicate n 1) (Some (Bytes 1)),
+      record {
+        begins = begins_by_ones name f n (Some (Bytes 1)) (omega (arith, long)) (omega (arith, is));
+        ends = inr (one_is_piece, omega (arith, e, is), omega (arith, e, long));
+      },
+    )
+
+load_of : (name : List ℕ) (file : Option File) → Load name file
+load_of name None = load_of_none name
+load_of name (Some f) =
+    elim (cases_lt text_limit (length f.bytes)) [
+      | inl long ↦ load_of_long name f text_limit refl long
+      | inr short ↦ load_of_short name f (length f.bytes) refl (omega (arith, short))
+    ]
+
+-- the first read of a file, without an answer
+abbrev first_read : List ℕ → List Call
+first_read name = load_reads name [] None
+
+begins_first : (name : List ℕ) (file : Option File) → BeginsLoad name file (first_read name)
+begins_first name file = record {
+  given = [];
+  answer = None;
+  pieces = All-nil IsPiece;
+  within = omega arith;
+  limited = omega arith;
+  calls_are = refl;
+}
+
+-- ---- rows
+
+passes : (which : Which) (mode : Mode) (file : Option File) (m : ReadMap) (e : LogEnding) → IsReadAs file mode m
+    → MapIsRefused which mode file e → ⊥
+passes which mode file m e read (inl missing) = let no : None ≡ Some read.there = sym missing.0 ∙ read.is in cc
+passes which mode file m e read (inr refused) = read_is_not_refused file mode m refused.0 read refused.1
+
+through_read : (which : Which) (mode : Mode) (name : List ℕ) (file : Option File) (m : ReadMap) (load : List Call)
+    → IsReadAs file mode m → IsLoad name file load → Through (map_rows which mode (Some name) file) (map Returned load)
+through_read which mode name file m load read is =
+    (load, [], is, sym (append-nil (map Returned load)), (λ v refused. passes which mode file m v read refused.1, refl))
+
+stopped_refused : (which : Which) (mode : Mode) (name : List ℕ) (file : Option File) (e : LogEnding) (load : List Call)
+    → MapIsRefused which mode file e → IsLoad name file load
+    → Stopped (map_rows which mode (Some name) file) e (map Returned load)
+stopped_refused which mode name file e load refused is =
+    inr (inr (
+      load,
+      [],
+      is,
+      sym (append-nil (map Returned load)),
+      inl (
+        (refl, refused),
+        record {
+          opens = refl;
+          gain = record { calls = refl; reads = refl; times = refl };
+        },
+      ),
+    ))
+
+stopped_broke : (which : Which) (mode : Mode) (name : List ℕ) (file : Option File) (load : List Call)
+    (calls : List Entry) → BeginsLoad name file load → BrokeAt MapReadCall load [] calls
+    → Stopped (map_rows which mode (Some name) file) (SiteFault MapReadCall) calls
+stopped_broke which mode name file load calls begins broke =
+    inl (load, refl, begins, broke, record { opens = refl; reads = refl; times = refl })
+
+stopped_starved : (which : Which) (mode : Mode) (name : List ℕ) (file : Option File) (load : List Call)
+    → BeginsLoad name file load → Stopped (map_rows which mode (Some name) file) NoMemory (map Returned load)
+stopped_starved which mode name file load begins =
+    inr (inl (load, refl, begins, refl, record { opens = refl; reads = refl; times = refl }))
+
+-- ---- the read
+
+pub by_tells : (b : Bool) (X : Type 0) → (IsTrue b → X) → ((IsTrue b → ⊥) → X) → X
+by_tells true X told untold = told refl
+by_tells false X told untold = untold (λ t. both_ways false refl t)
+
+pub read_ok : (which : Which) (mode : Mode) (name : List ℕ) (m : ReadMap) (old new : SiteState)
+    → (IsTrue old.tells → IsReadAs (files_in old name) mode m
+    × LoadEnded [] name (files_in old name) old.calls new.calls)
+    → IsOfFile (files_in old name) old.tells (λ file. IsReadAs file mode m) → ReadsMap which mode name (Ok m) old new
+read_ok which mode name m old new told of =
+    by_tells old.tells (ReadsMap which mode name (Ok m) old new)
+    (λ t.
+    let l = told t in
+    record {
+      file = files_in old name;
+      calls = map Returned l.1.0;
+      is_own = λ s. refl;
+      gained = λ s. l.1.2;
+      did = (l.0, through_read which mode name (files_in old name) m l.1.0 l.0 l.1.1);
+    })
+    (λ n.
+    let l = load_of name of.file in
+    record {
+      file = of.file;
+      calls = map Returned l.0;
+      is_own = of.is_own;
+      gained = λ s. absurd (n s);
+      did = (of.holds, through_read which mode name of.file m l.0 of.holds l.1);
+    })
+
+pub read_refused : (which : Which) (mode : Mode) (name : List ℕ) (e : LogEnding) (old new : SiteState)
+    → (IsTrue old.tells → MapIsRefused which mode (files_in old name) e
+    × LoadEnded [] name (files_in old name) old.calls new.calls)
+    → IsOfFile (files_in old name) old.tells (λ file. MapIsRefused which mode file e)
+    → ReadsMap which mode name (Err e) old new
+read_refused which mode name e old new told of =
+    by_tells old.tells (ReadsMap which mode name (Err e) old new)
+    (λ t.
+    let l = told t in
+    record {
+      file = files_in old name;
+      calls = map Returned l.1.0;
+      is_own = λ s. refl;
+      gained = λ s. l.1.2;
+      did = stopped_refused which mode name (files_in old name) e l.1.0 l.0 l.1.1;
+    })
+    (λ n.
+    let l = load_of name of.file in
+    record {
+      file = of.file;
+      calls = map Returned l.0;
+      is_own = of.is_own;
+      gained = λ s. absurd (n s);
+      did = stopped_refused which mode name of.file e l.0 of.holds l.1;
+    })
+
+pub read_broke : (which : Which) (mode : Mode) (name : List ℕ) (old new : SiteState)
+    → (IsTrue old.tells → BrokeInLoad [] name (files_in old name) old.calls new.calls)
+    → ReadsMap which mode name (Err (SiteFault MapReadCall)) old new
+read_broke which mode name old new told =
+    by_tells old.tells (ReadsMap which mode name (Err (SiteFault MapReadCall)) old new)
+    (λ t.
+    let l = told t in
+    let g : GainsBroken MapReadCall l.0 old.calls new.calls = broke_gains MapReadCall l.0 old.calls new.calls l.2 in
+    record {
+      file = files_in old name;
+      calls = g.more;
+      is_own = λ s. refl;
+      gained = λ s. g.grew;
+      did = stopped_broke which mode name (files_in old name) l.0 g.more l.1 g.broke;
+    })
+    (λ n. record {
+      file = None;
+      calls = [];
+      is_own = λ s. absurd (n s);
+      gained = λ s. absurd (n s);
+      did = stopped_broke which mode name None (first_read name) [] (begins_first name None) (inl (refl, inr refl));
+    })
+
+pub read_starved : (which : Which) (mode : Mode) (name : List ℕ) (old new : SiteState)
+    → (IsTrue old.tells → Starved [] name (files_in old name) old.calls new.calls)
+    → ReadsMap which mode name (Err NoMemory) old new
+read_starved which mode name old new told =
+    by_tells old.tells (ReadsMap which mode name (Err NoMemory) old new)
+    (λ t.
+    let l = told t in
+    record {
+      file = files_in old name;
+      calls = map Returned l.0;
+      is_own = λ s. refl;
+      gained = λ s. l.2;
+      did = stopped_starved which mode name (files_in old name) l.0 l.1;
+    })
+    (λ n. record {
+      file = None;
+      calls = map Returned (first_read name);
+      is_own = λ s. absurd (n s);
+      gained = λ s. absurd (n s);
+      did = stopped_starved which mode name None (first_read name) (begins_first name None);
+    })
+
+-- ---- a map that may be named
+
+pub named_ok : (which : Which) (mode : Mode) (name : List ℕ) (m : ReadMap) (old new : SiteState)
+    → ReadsMap which mode name (Ok m) old new → ReadsNamed which mode (Some name) (Ok (Some m.tiles)) old new
+named_ok which mode name m old new r = record {
+  file = r.file;
+  calls = r.calls;
+  is_own = r.is_own;
+  gained = r.gained;
+  did = (
+    record {
+      there = r.did.0.there;
+      is = r.did.0.is;
+      within = r.did.0.within;
+      shown = m.state;
+      first = m.first;
+      listed = m.listed;
+      reads = r.did.0.reads;
+    },
+    r.did.1,
+  );
+}
+
+pub named_err : (which : Which) (mode : Mode) (name : List ℕ) (e : LogEnding) (old new : SiteState)
+    → ReadsMap which mode name (Err e) old new → ReadsNamed which mode (Some name) (Err e) old new
+named_err which mode name e old new r =
+    record { file = r.file; calls = r.calls; is_own = r.is_own; gained = r.gained; did = r.did }

@@ -1,0 +1,497 @@
+-- What a stop of the work finds, by the calls that it made.
+use Rattle.std.proofs.Common.{◌≡◌, ◌≢◌, ◌⊎◌, ℕ, ◌+◌, ◌-◌, ◌≤◌, Bool, true, false, cond, List, [], ◌∷◌, ◌++◌, map, length, Option, Some, None, Result, Ok, Err, refl, sym, ap, ◌∙◌, inl, inr, subst, arith, append_assoc, append-nil, length-append}
+use Rattle.std.specs.Prelude.{codes}
+use Rattle.std.specs.Str.{bytes_eq}
+use Rattle.std.proofs.lemmas.Bool.{cases_lt, cond_both}
+use Rattle.std.proofs.lemmas.List.Elements.{All-same}
+use Rattle.std.proofs.lemmas.Slice.Eq.{bytes_eq-Decides}
+use Rattle.fault_count.specs.Plan.{no_plan}
+use Rattle.block_list.specs.declared.status.Status.{Status}
+use Rattle.crash_site.specs.declared.site.SiteCall.{SiteCall}
+use Rattle.crash_site.specs.Files.{File}
+use Rattle.crash_site.specs.Calls.{Call, Entry, Done as Returned, BrokeAt, map_remove}
+use Rattle.crash_site.specs.Folder.{Folder}
+use Rattle.crash_site.specs.Disk.{Showing, Disk, only, or_this, at_rest, entered, disk_after}
+use Rattle.crash_site.specs.Left.{MayShow, Leaves, until, MayBeLeft}
+use Rattle.crash_site.specs.Along.{AlongCalls}
+use Rattle.crash_site.specs.SiteState.{SiteState}
+use Rattle.crash_site.proofs.DiskLemmas.{run-append}
+use Rattle.crash_site.proofs.LawLemmas.{found_only, own_name, until_past, until_all, left_past}
+use Rattle.crash_site.proofs.AlongLemmas.{WentOn, along_until, along_calls, made_goes, broke_goes}
+use Rattle.save_resume.specs.declared.draft.SaveFault.{SaveFault}
+use Rattle.save_resume.specs.MapNames.{MapNames, names_of}
+use Rattle.save_resume.specs.Saving.{save_calls, drafting_after_fault, IsNameIn, Saves}
+use Rattle.save_resume.specs.SaveStops.{disk_of, text_file, IsOldOrNew, Old, New, IsSaved}
+use Rattle.save_resume.proofs.StopLemmas.{stops_in_save, saved_where_ok}
+use Rattle.rescue_rules.proofs.BeforeLemmas.{or_found}
+use Rattle.work_steps.specs.Work.{IsIdle}
+use Rattle.log_command.specs.declared.mode.LogMode.{LogMode}
+use Rattle.log_command.specs.declared.mode.LogMode.TheVariants.{Change, Combine, Complete, ListBlocks, Create, Test, Compare, Summarize}
+use Rattle.log_command.specs.Modes.{creates}
+use Rattle.log_command.specs.Command.{Command}
+use Rattle.map_algebra.specs.Compare.{IsDoneIn}
+use Rattle.map_algebra.specs.Numbers.{numbers_in}
+use Rattle.ddrescuelog_cli.specs.declared.ending.LogEnding.{LogEnding}
+use Rattle.ddrescuelog_cli.specs.declared.ending.LogEnding.TheVariants.{Done, NotDone, ListTooLong}
+use Rattle.ddrescuelog_cli.specs.Told.{only_calls}
+use Rattle.ddrescuelog_cli.specs.Maps.{Found, Maps, domain_of, shape_of}
+use Rattle.ddrescuelog_cli.specs.Refusals.{ListRefused}
+use Rattle.ddrescuelog_cli.specs.Results.{IsCreated}
+use Rattle.ddrescuelog_cli.specs.Work.{EndsSaved, EndsCreated, EndsAs, removal_calls, LogWorks}
+use Rattle.ddrescuelog_cli.specs.Stops.{LeftAt, CouldBefore, Replaces, IsChanging, StopsSafely, OnlyReads}
+use Rattle.ddrescuelog_cli.proofs.CallLemmas.{broke_behind}
+use Rattle.ddrescuelog_cli.proofs.FoundLemmas.{done_of}
+use Rattle.ddrescuelog_cli.proofs.ReadLemmas.{IsRead, AreReads}
+use Rattle.ddrescuelog_cli.proofs.StandLemmas.{reads_keep, reads_until, leave_all}
+use Rattle.ddrescuelog_cli.proofs.BehindLemmas.{Behind, IsShort, behind_works}
+
+-- ---- calls behind reads
+
+-- A stop behind the reads finds what it would find without them.
+pub left_behind : (site : SiteState) (front rest calls : List Entry) → calls ≡ front ++ rest → AreReads front
+    → (k : ℕ) (files : List ℕ → Option File) → LeftAt site calls k files
+    → Leaves (disk_of site) files
+    ⊎ ((j : ℕ) × (k ≡ length front + j) × Leaves (disk_after (disk_of site) (until j rest)) files)
+left_behind site front rest calls grew reads k files left =
+    let here : Leaves (disk_after (disk_of site) (until k (front ++ rest))) files =
+    subst (λ (es : List Entry). Leaves (disk_after (disk_of site) (until k es)) files) grew
+    (left_past site.start site.calls calls k (length site.calls + k) files refl left) in
+    let at : Disk → Type 0 = λ d. Leaves d files in
+    elim (cases_lt k (length front)) [
+      | inl within ↦ inl (subst at (reads_until (disk_of site) front rest k reads within) here)
+      | inr past ↦
+          let j : ℕ = k - length front in
+          let is : k ≡ length front + j = omega (arith, past) in
+          inr (
+            j,
+            is,
+            subst at
+                (ap (disk_after (disk_of site)) (until_past front rest j k is)
+                ∙ run-append (disk_of site) front (until j rest)
+                ∙ ap (λ (d : Disk). disk_after d (until j rest)) (reads_keep (disk_of site) front reads))
+                here,
+          )
+    ]
+
+-- ---- what a mode leaves
+
+-- each file that a stop finds could be found before, or is what the mode leaves in the mapfile's place
+abbrev pub EachFound : LogMode → Command → (line list : List ℕ) → Maps → SiteState → List Entry → Type 0
+EachFound mode c line list m site calls =
+    (k : ℕ) (files : List ℕ → Option File) → k ≤ length calls → LeftAt site calls k files
+    → (name : List ℕ) → (creates mode ≡ true → name ≢ (names_of c.mapfile).draft)
+    → CouldBefore site name (files name)
+    ⊎ ((name ≡ c.mapfile) × Replaces mode c line list m (files c.mapfile))
+
+-- and behind an answer that it is done, only that
+abbrev pub KeptBy : LogMode → Command → (line list : List ℕ) → Maps → SiteState → List Entry → LogEnding → Type 0
+KeptBy mode c line list m site calls answer =
+    (files : List ℕ → Option File) → answer ≡ Done → IsChanging mode → LeftAt site calls (length calls) files
+    → Replaces mode c line list m (files c.mapfile)
+
+pub record Leaving (mode : LogMode) (c : Command) (line list : List ℕ) (m : Maps) (site : SiteState)
+    (calls : List Entry) (answer : LogEnding) : Type 0 where
+  pub each : EachFound mode c line list m site calls
+  pub kept : KeptBy mode c line list m site calls answer
+
+-- where nothing but reads was called, and the answer isn't that it is done
+leaves_all : (mode : LogMode) (c : Command) (line list : List ℕ) (m : Maps) (site : SiteState) (calls : List Entry)
+    (e : LogEnding) → AreReads calls → (e ≡ Done → IsChanging mode → ⊥) → Leaving mode c line list m site calls e
+leaves_all mode c line list m site calls e reads short = record {
+  each = λ k files le left name apart. inl (leave_all site calls reads k files name le left);
+  kept = λ files done changing left. absurd (short done changing);
+}
+
+-- ---- a mapfile that is removed
+
+-- what may be found while it is removed
+abbrev FoundRemoved : List ℕ → (was : Disk) → Disk → Type 0
+FoundRemoved name was d = (n : List ℕ) (found : Option File) → MayShow (d.shows n) found
+    → MayShow (was.shows n) found ⊎ ((n ≡ name) × (found ≡ None))
+
+-- what a disk shows under a name, by whether that is the mapfile's
+removed_shows : (name : List ℕ) (was : Disk) (d : Disk) (changed : Showing) (n : List ℕ) (found : Option File)
+    → (bytes_eq n name ≡ true → MayShow changed found → MayShow (was.shows n) found ⊎ (found ≡ None))
+    → MayShow (cond (bytes_eq n name) changed (was.shows n)) found
+    → MayShow (was.shows n) found ⊎ ((n ≡ name) × (found ≡ None))
+removed_shows name was d changed n found own =
+    let P : Showing → Type 0 = λ s. MayShow s found → MayShow (was.shows n) found ⊎ ((n ≡ name) × (found ≡ None)) in
+    cond_both (bytes_eq n name) changed (was.shows n) P
+    (λ on h. elim (own on h) [ inl old ↦ inl old | inr none ↦ inr ((bytes_eq-Decides n name).0 on, none) ])
+    (λ off h. inl h)
+
+along_removal : (name : List ℕ) (was : Disk) → AlongCalls (FoundRemoved name was) was (removal_calls name)
+along_removal name was =
+    let removed : Disk = entered was (Returned (map_remove name)) in
+    let other : (n : List ℕ) (found : Option File) → MayShow (removed.shows n) found
+    → MayShow (was.shows n) found ⊎ ((n ≡ name) × (found ≡ None)) =
+    λ n found. removed_shows name was removed (or_this None (was.shows n)) n found
+    (λ on h. or_found None (was.shows n) found h) in (
+      (λ n found h. inl h),
+      other,
+      (
+        other,
+        other,
+        λ n found h.
+            let P : Showing → Type 0 = λ s. MayShow s found
+            → MayShow (was.shows n) found ⊎ ((n ≡ name) × (found ≡ None)) in
+            cond_both (bytes_eq n name) (only (removed.reads.files n)) (removed.shows n) P
+            (λ on g. inr (
+              (bytes_eq-Decides n name).0 on,
+              found_only (removed.reads.files n) found g
+                  ∙ ap (λ (b : Bool). cond b None (was.reads.files n)) on,
+            ))
+            (λ off g. other n found g) h,
+      ),
+    )
+
+-- what holds along calls that were made holds at each stop of them
+found_along : (P : Disk → Type 0) (d : Disk) (calls : List Call) (rest : List Entry) (j : ℕ) → WentOn calls [] rest
+    → AlongCalls P d calls → P (disk_after d (until j rest))
+found_along P d calls rest j w h =
+    subst (λ (es : List Entry). P (disk_after d (until j es))) (sym w.is)
+    (along_until P d w.since j (along_calls P d calls w.since h w.goes))
+
+-- what may be found once all calls returned
+left_whole : (site : SiteState) (calls : List Entry) (files : List ℕ → Option File)
+    → LeftAt site calls (length calls) files → Leaves (disk_after (disk_of site) calls) files
+left_whole site calls files left =
+    subst (λ (es : List Entry). Leaves (disk_after (disk_of site) es) files) (until_all calls)
+    (left_past site.start site.calls calls (length calls) (length site.calls + length calls) files refl left)
+
+-- behind its reads
+disk_behind : (d : Disk) (front rest calls : List Entry) → calls ≡ front ++ rest → AreReads front
+    → disk_after d calls ≡ disk_after d rest
+disk_behind d front rest calls grew reads =
+    ap (disk_after d) grew ∙ run-append d front rest ∙ ap (λ (x : Disk). disk_after x rest) (reads_keep d front reads)
+
+-- a mapfile that was removed isn't found
+removed_sure : (name : List ℕ) (d : Disk) (found : Option File)
+    → MayShow ((disk_after d (map Returned (removal_calls name))).shows name) found → found ≡ None
+removed_sure name d found h =
+    let removed : Disk = entered d (Returned (map_remove name)) in
+    let own : bytes_eq name name ≡ true = own_name name in
+    found_only (removed.reads.files name) found
+    (subst (λ (b : Bool). MayShow (cond b (only (removed.reads.files name)) (removed.shows name)) found) own h)
+    ∙ ap (λ (b : Bool). cond b None (d.reads.files name)) own
+
+module _ (c : Command) (line list : List ℕ) (m : Maps) (site : SiteState) (front rest calls : List Entry)
+    (grew : calls ≡ front ++ rest) (reads : AreReads front) where
+  removal_each : IsDoneIn (domain_of c m) m.statuses → WentOn (removal_calls c.mapfile) [] rest
+      → EachFound (Test true) c line list m site calls
+  removal_each done went k files le left name apart =
+      elim (left_behind site front rest calls grew reads k files left) [
+        | inl l ↦ inl (l name)
+        | inr (j, is, l) ↦
+            elim (found_along (FoundRemoved c.mapfile (disk_of site)) (disk_of site) (removal_calls c.mapfile) rest j went
+            (along_removal c.mapfile (disk_of site)) name (files name) (l name)) [
+              | inl old ↦ inl old
+              | inr (same, none) ↦ inr (same, (done, ap files (sym same) ∙ none))
+            ]
+      ]
+
+  removal_kept : (e : LogEnding) → IsDoneIn (domain_of c m) m.statuses
+      → (e ≡ Done → rest ≡ map Returned (removal_calls c.mapfile)) → KeptBy (Test true) c line list m site calls e
+  removal_kept e done all files is changing left =
+      let here : Leaves (disk_after (disk_of site) rest) files =
+      subst (λ (d : Disk). Leaves d files) (disk_behind (disk_of site) front rest calls grew reads)
+      (left_whole site calls files left) in (
+        done,
+        removed_sure c.mapfile (disk_of site) (files c.mapfile)
+            (subst (λ (es : List Entry). MayShow ((disk_after (disk_of site) es).shows c.mapfile) (files c.mapfile)) (all is)
+            (here c.mapfile)),
+      )
+
+-- only reads were called where nothing is behind them
+reads_alone : (front rest calls : List Entry) → calls ≡ front ++ rest → AreReads front → rest ≡ [] → AreReads calls
+reads_alone front rest calls grew reads none =
+    All-same IsRead calls front (grew ∙ ap (λ (r : List Entry). front ++ r) none ∙ append-nil front) reads
+
+-- ---- a map that is saved
+
+-- a site that began so and made these calls
+abbrev site_at : Folder → List Entry → (drafting : Bool) → (faults : ℕ) → SiteState
+site_at start calls drafting faults = record {
+  tells = true;
+  start = start;
+  calls = calls;
+  is_open = false;
+  is_drafting = drafting;
+  faults = faults;
+  is_planned = false;
+  plan = no_plan;
+  starved = 0;
+}
+
+named_in : (at : SiteCall) (calls : List Call) (old new : List Entry) → BrokeAt at calls old new → IsNameIn at calls
+named_in at [] old new broke = absurd broke
+named_in at (call ∷ calls) old new (inl lost) = inl lost.0
+named_in at (call ∷ calls) old new (inr broke) = inr (named_in at calls (old ++ Returned call ∷ []) new broke)
+
+-- what a save did, by a result without a value
+abbrev SavesBy : MapNames → List ℕ → Result (Unit {0}) SaveFault → (old new : SiteState) → Type 0
+SavesBy names text result old new = Saves (save_calls names text) false result old new
+
+made_saves : (names : MapNames) (text : List ℕ) (start : Folder) (old new : List Entry)
+    → new ≡ old ++ map Returned (save_calls names text)
+    → SavesBy names text (Ok tt) (site_at start old false 0) (site_at start new false 0)
+made_saves names text start old new grew = record {
+  keeps = record { tells = refl; start = λ t. refl; planned = refl; later = omega arith };
+  made = record { made = λ t. grew; faults = refl };
+  broke = tt;
+  named = tt;
+  image = refl;
+  draft = refl;
+  draft_left = tt;
+}
+
+broke_saves : (names : MapNames) (text : List ℕ) (start : Folder) (at : SiteCall) (old new : List Entry)
+    → BrokeAt at (save_calls names text) old new
+    → SavesBy names text (Err (record { call = at })) (site_at start old false 0)
+    (site_at start new (drafting_after_fault at false) 1)
+broke_saves names text start at old new broke = record {
+  keeps = record { tells = refl; start = λ t. refl; planned = refl; later = omega arith };
+  made = tt;
+  broke = record { broke = λ t. broke; rose = refl };
+  named = named_in at (save_calls names text) old new broke;
+  image = refl;
+  draft = tt;
+  draft_left = refl;
+}
+
+-- a record that went on by a save, whole or up to a call that failed
+abbrev HasSaved : MapNames → List ℕ → (old new : List Entry) → Type 0
+HasSaved names text old new =
+    (new ≡ old ++ map Returned (save_calls names text)) ⊎ ((at : SiteCall) × BrokeAt at (save_calls names text) old new)
+
+stops_by_save : (names : MapNames) (text : List ℕ) (start : Folder) (old new : List Entry) → HasSaved names text old new
+    → (k : ℕ) (found : List ℕ → Option File) → length old ≤ k → k ≤ length new → MayBeLeft start new k found
+    → (name : List ℕ) → name ≢ names.draft
+    → IsOldOrNew names text (disk_after (at_rest start) old) (disk_after (at_rest start) (until k new)) name (found name)
+stops_by_save names text start old new (inl grew) k found le most left name apart =
+    stops_in_save names text (Ok tt) (site_at start old false 0) (site_at start new false 0) refl
+    (made_saves names text start old new grew) k found le most left name apart
+stops_by_save names text start old new (inr (at, broke)) k found le most left name apart =
+    stops_in_save names text (Err (record { call = at })) (site_at start old false 0)
+    (site_at start new (drafting_after_fault at false) 1) refl
+    (broke_saves names text start at old new broke) k found le most left name apart
+
+saved_by : (names : MapNames) (text : List ℕ) (start : Folder) (old new : List Entry)
+    → new ≡ old ++ map Returned (save_calls names text)
+    → IsSaved names text (disk_after (at_rest start) old) (disk_after (at_rest start) new)
+saved_by names text start old new grew =
+    saved_where_ok names text (Ok tt) (site_at start old false 0) (site_at start new false 0)
+    (made_saves names text start old new grew) refl
+
+-- a draft has another name than its mapfile
+apart_draft : (name : List ℕ) → name ≢ (names_of name).draft
+apart_draft name same =
+    let lengths : length name ≡ length name + length (codes ".tmp") =
+    ap length same ∙ length-append name (codes ".tmp") in
+    let four : length (codes ".tmp") ≡ 4 = refl in
+    omega (arith, lengths, four)
+
+-- the calls of a save behind others
+save_behind : (names : MapNames) (text : List ℕ) (before rest : List Entry) → HasSaved names text [] rest
+    → HasSaved names text before (before ++ rest)
+save_behind names text before rest (inl made) = inl (ap (λ (r : List Entry). before ++ r) made)
+save_behind names text before rest (inr (at, broke)) =
+    let P : List Entry → Type 0 = λ r. BrokeAt at (save_calls names text) r (before ++ rest) in
+    inr (at, subst P (append-nil before) (broke_behind at (save_calls names text) before [] rest broke))
+
+module _ (listed other : Status) (c : Command) (line list : List ℕ) (m : Maps) (site : SiteState)
+    (front rest calls : List Entry) (grew : calls ≡ front ++ rest) (reads : AreReads front) where
+  -- all calls are those before the save, and its own
+  all_calls : site.calls ++ calls ≡ (site.calls ++ front) ++ rest
+  all_calls = ap (λ (r : List Entry). site.calls ++ r) grew ∙ sym (append_assoc site.calls front rest)
+
+  before_save : disk_after (at_rest site.start) (site.calls ++ front) ≡ disk_of site
+  before_save = run-append (at_rest site.start) site.calls front ∙ reads_keep (disk_of site) front reads
+
+  -- what is left at a stop within the save
+  save_found : (text : List ℕ) → HasSaved (names_of c.mapfile) text [] rest → (k j : ℕ) → k ≡ length front + j
+      → k ≤ length calls → (files : List ℕ → Option File) → LeftAt site calls k files → (name : List ℕ)
+      → name ≢ (names_of c.mapfile).draft
+      → CouldBefore site name (files name) ⊎ ((name ≡ c.mapfile) × (files c.mapfile ≡ Some (text_file text)))
+  save_found text saved k j is le files left name apart =
+      let at : ℕ = length site.calls + k in
+      let fronts : length (site.calls ++ front) ≡ length site.calls + length front = length-append site.calls front in
+      let alls : length (site.calls ++ calls) ≡ length site.calls + length calls = length-append site.calls calls in
+      let ends : length (site.calls ++ calls) ≡ length ((site.calls ++ front) ++ rest) = ap length all_calls in
+      let here : MayBeLeft site.start ((site.calls ++ front) ++ rest) at files =
+      subst (λ (es : List Entry). MayBeLeft site.start es at files) all_calls left in
+      elim (stops_by_save (names_of c.mapfile) text site.start (site.calls ++ front) ((site.calls ++ front) ++ rest)
+      (save_behind (names_of c.mapfile) text (site.calls ++ front) rest saved) at files (omega (arith, fronts, is))
+      (omega (arith, alls, ends, le)) here name apart) [
+        | Old old ↦ inl (subst (λ (d : Disk). MayShow (d.shows name) (files name)) before_save old)
+        | New same is_text durable ↦ inr (same, ap files (sym same) ∙ is_text)
+      ]
+
+  created_each : (numbers text : List ℕ) → numbers_in (shape_of c.options) list ≡ Ok numbers
+      → IsCreated c listed other line m numbers text → HasSaved (names_of c.mapfile) text [] rest
+      → EachFound (Create listed other) c line list m site calls
+  created_each numbers text are is saved k files le left name apart =
+      elim (left_behind site front rest calls grew reads k files left) [
+        | inl l ↦ inl (l name)
+        | inr (j, at, l) ↦
+            elim (save_found text saved k j at le files left name (apart refl)) [
+              | inl old ↦ inl old
+              | inr (same, there) ↦ inr (same, (numbers, text, are, is, there))
+            ]
+      ]
+
+  created_kept : (e : LogEnding) (numbers text : List ℕ) → numbers_in (shape_of c.options) list ≡ Ok numbers
+      → IsCreated c listed other line m numbers text
+      → (e ≡ Done → rest ≡ map Returned (save_calls (names_of c.mapfile) text))
+      → KeptBy (Create listed other) c line list m site calls e
+  created_kept e numbers text are is all files done changing left =
+      let made : (site.calls ++ front) ++ rest
+      ≡ (site.calls ++ front) ++ map Returned (save_calls (names_of c.mapfile) text) =
+      ap (λ (r : List Entry). (site.calls ++ front) ++ r) (all done) in
+      let sure : IsSaved (names_of c.mapfile) text (disk_after (at_rest site.start) (site.calls ++ front))
+      (disk_after (at_rest site.start) ((site.calls ++ front) ++ rest)) =
+      saved_by (names_of c.mapfile) text site.start (site.calls ++ front) ((site.calls ++ front) ++ rest) made in
+      let same : disk_after (disk_of site) calls ≡ disk_after (at_rest site.start) ((site.calls ++ front) ++ rest) =
+      sym (run-append (at_rest site.start) site.calls calls) ∙ ap (disk_after (at_rest site.start)) all_calls in
+      let shown : MayShow (only (Some (text_file text))) (files c.mapfile) =
+      subst (λ (s : Showing). MayShow s (files c.mapfile)) sure.map_sure
+      (subst (λ (d : Disk). MayShow (d.shows c.mapfile) (files c.mapfile)) same
+      (left_whole site calls files left c.mapfile)) in
+      (numbers, text, are, is, found_only (Some (text_file text)) (files c.mapfile) shown)
+
+-- ---- by the mode
+
+-- a mode that only reads calls nothing behind its maps
+reads_run : (mode : LogMode) (c : Command) (line list : List ℕ) (m : Maps) (e : LogEnding) (rest : List Entry)
+    → OnlyReads mode → EndsAs mode c line list m e (only_calls rest) → rest ≡ []
+reads_run (Change change) c line list m e rest only (inl w) = w.1.gain.calls
+reads_run (Change change) c line list m e rest only (inr w) = w.1.gain.calls
+reads_run (Combine op) c line list m e rest only (inl w) = w.1.gain.calls
+reads_run (Combine op) c line list m e rest only (inr w) = w.1.gain.calls
+reads_run (Complete status) c line list m e rest only (inl w) = w.1.gain.calls
+reads_run (Complete status) c line list m e rest only (inr w) = w.1.gain.calls
+reads_run (ListBlocks types) c line list m e rest only (inl w) = w.1.gain.calls
+reads_run (ListBlocks types) c line list m e rest only (inr w) = w.1.gain.calls
+reads_run (Create listed other) c line list m e rest only w = absurd (only tt)
+reads_run (Test true) c line list m e rest only w = absurd (only tt)
+reads_run (Test false) c line list m e rest only w = w.1.gain.calls
+reads_run (Compare finished) c line list m e rest only w = w.1.gain.calls
+reads_run Summarize c line list m e rest only (inl w) = w.1.gain.calls
+reads_run Summarize c line list m e rest only (inr w) = w.1.gain.calls
+
+-- nothing was called behind these
+none_more : (made rest more : List Entry) → rest ≡ made ++ more → IsIdle (only_calls more) → rest ≡ made
+none_more made rest more grew idle = grew ∙ ap (λ (r : List Entry). made ++ r) idle.gain.calls ∙ append-nil made
+
+module _ (c : Command) (line list : List ℕ) (m : Maps) (site : SiteState) (e : LogEnding)
+    (front rest calls : List Entry) (grew : calls ≡ front ++ rest) (reads : AreReads front) where
+  -- nothing was called behind the reads
+  nothing_leaves : (mode : LogMode) → rest ≡ [] → (e ≡ Done → IsChanging mode → ⊥)
+      → Leaving mode c line list m site calls e
+  nothing_leaves mode none short =
+      leaves_all mode c line list m site calls e (reads_alone front rest calls grew reads none) short
+
+  removed_leaves : EndsAs (Test true) c line list m e (only_calls rest)
+      → Leaving (Test true) c line list m site calls e
+  removed_leaves (inl (refused, idle)) =
+      nothing_leaves (Test true) idle.gain.calls (λ done changing. let is : e ≡ NotDone = refused.1 in cc)
+  removed_leaves (inr (passed, inl (call, is, broke, alone))) = record {
+    each = removal_each c line list m site front rest calls grew reads (done_of c m passed)
+        (broke_goes call (removal_calls c.mapfile) [] rest broke);
+    kept = removal_kept c line list m site front rest calls grew reads e (done_of c m passed) (λ done. absurd (cc));
+  }
+  removed_leaves (inr (passed, inr (more, made, ends))) =
+      let all : rest ≡ map Returned (removal_calls c.mapfile) =
+      none_more (map Returned (removal_calls c.mapfile)) rest more made ends.1 in
+      record {
+        each = removal_each c line list m site front rest calls grew reads (done_of c m passed)
+            (made_goes (removal_calls c.mapfile) [] rest all);
+        kept = removal_kept c line list m site front rest calls grew reads e (done_of c m passed) (λ done. all);
+      }
+
+  saved_leaves : (listed other : Status) (numbers text : List ℕ) → numbers_in (shape_of c.options) list ≡ Ok numbers
+      → IsCreated c listed other line m numbers text → EndsSaved c text e (only_calls rest)
+      → Leaving (Create listed other) c line list m site calls e
+  saved_leaves listed other numbers text are is (inl (call, at, broke, alone)) = record {
+    each = created_each listed other c line list m site front rest calls grew reads numbers text are is
+        (inr (call, broke));
+    kept = created_kept listed other c line list m site front rest calls grew reads e numbers text are is
+        (λ done. absurd (cc));
+  }
+  saved_leaves listed other numbers text are is (inr (more, made, ends)) =
+      let all : rest ≡ map Returned (save_calls (names_of c.mapfile) text) =
+      none_more (map Returned (save_calls (names_of c.mapfile) text)) rest more made ends.1 in
+      record {
+        each = created_each listed other c line list m site front rest calls grew reads numbers text are is (inl all);
+        kept = created_kept listed other c line list m site front rest calls grew reads e numbers text are is
+            (λ done. all);
+      }
+
+  list_short : ListRefused c.options list e → e ≡ Done → ⊥
+  list_short (inl long) done = let is : e ≡ ListTooLong = long.1 in cc
+  list_short (inr (line, short, bad, is)) done = cc
+
+  created_leaves : (listed other : Status) → EndsCreated listed other c line list m e (only_calls rest)
+      → Leaving (Create listed other) c line list m site calls e
+  created_leaves listed other (inl (is, idle)) =
+      nothing_leaves (Create listed other) idle.gain.calls (λ done changing. cc)
+  created_leaves listed other (inr (inl (refused, idle))) =
+      nothing_leaves (Create listed other) idle.gain.calls (λ done changing. list_short refused done)
+  created_leaves listed other (inr (inr (passed, (numbers, text, are, is, saves)))) =
+      saved_leaves listed other numbers text are is saves
+
+  mode_leaves : (mode : LogMode) → EndsAs mode c line list m e (only_calls rest)
+      → Leaving mode c line list m site calls e
+  mode_leaves (Change change) w =
+      nothing_leaves (Change change) (reads_run (Change change) c line list m e rest (λ x. x) w) (λ done x. x)
+  mode_leaves (Combine op) w =
+      nothing_leaves (Combine op) (reads_run (Combine op) c line list m e rest (λ x. x) w) (λ done x. x)
+  mode_leaves (Complete status) w =
+      nothing_leaves (Complete status) (reads_run (Complete status) c line list m e rest (λ x. x) w) (λ done x. x)
+  mode_leaves (ListBlocks types) w =
+      nothing_leaves (ListBlocks types) (reads_run (ListBlocks types) c line list m e rest (λ x. x) w) (λ done x. x)
+  mode_leaves (Create listed other) w = created_leaves listed other w
+  mode_leaves (Test true) w = removed_leaves w
+  mode_leaves (Test false) w =
+      nothing_leaves (Test false) (reads_run (Test false) c line list m e rest (λ x. x) w) (λ done x. x)
+  mode_leaves (Compare finished) w =
+      nothing_leaves (Compare finished) (reads_run (Compare finished) c line list m e rest (λ x. x) w) (λ done x. x)
+  mode_leaves Summarize w =
+      nothing_leaves Summarize (reads_run Summarize c line list m e rest (λ x. x) w) (λ done x. x)
+
+-- ---- all of it
+
+-- the work of a mode that only reads calls nothing but reads
+pub works_read : (c : Command) (line list : List ℕ) (found : Found) (m : Maps) (e : LogEnding) (calls : List Entry)
+    → OnlyReads c.mode → LogWorks c line list found m e (only_calls calls) → AreReads calls
+works_read c line list found m e calls only w =
+    let b : Behind IsShort (EndsAs c.mode c line list m) e calls =
+    behind_works (creates c.mode) c line list found m e calls w in
+    reads_alone b.front b.rest calls b.grew b.reads
+    (elim b.ends [ inl stopped ↦ stopped.0 | inr ends ↦ reads_run c.mode c line list m e b.rest only ends ])
+
+works_leave : (c : Command) (line list : List ℕ) (found : Found) (m : Maps) (site : SiteState) (e : LogEnding)
+    (calls : List Entry) → LogWorks c line list found m e (only_calls calls)
+    → Leaving c.mode c line list m site calls e
+works_leave c line list found m site e calls w =
+    let b : Behind IsShort (EndsAs c.mode c line list m) e calls =
+    behind_works (creates c.mode) c line list found m e calls w in
+    elim b.ends [
+      | inl stopped ↦ nothing_leaves c line list m site e b.front b.rest calls b.grew b.reads c.mode stopped.0
+          (λ done changing. stopped.1 done)
+      | inr ends ↦ mode_leaves c line list m site e b.front b.rest calls b.grew b.reads c.mode ends
+    ]
+
+-- a stop of the work is safe, whatever was called before
+pub stops_safely : (c : Command) (line list : List ℕ) (found : Found) (m : Maps) (site : SiteState) (e : LogEnding)
+    (calls : List Entry) → LogWorks c line list found m e (only_calls calls)
+    → StopsSafely c line list m site calls e
+stops_safely c line list found m site e calls w =
+    let l : Leaving c.mode c line list m site calls e = works_leave c line list found m site e calls w in
+    record {
+      mapfile = λ k files le left.
+          elim (l.each k files le left c.mapfile (λ on. apart_draft c.mapfile)) [ inl old ↦ inl old | inr new ↦ inr new.1 ];
+      kept = l.kept;
+      others = λ k files name le left apart draft.
+          elim (l.each k files le left name draft) [ inl old ↦ old | inr new ↦ absurd (apart new.0) ];
+    }

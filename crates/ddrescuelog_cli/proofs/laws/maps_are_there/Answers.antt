@@ -1,0 +1,5 @@
+use Rattle.ddrescuelog_cli.proofs.MapsLemmas.{maps_are_there}
+use Rattle.ddrescuelog_cli.proofs.laws.maps_are_there.Goals as goal
+
+pub returns : goal.returns
+returns c = maps_are_there

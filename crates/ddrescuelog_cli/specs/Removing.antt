@@ -1,0 +1,15 @@
+-- How a mapfile that is done is removed.
+use Rattle.std.specs.Prelude.{◌≡◌, ℕ, IsTrue, List, ◌++◌}
+use Rattle.crash_site.specs.Calls.{Entry}
+use Rattle.crash_site.specs.SiteState.{SiteState}
+use Rattle.log_command.specs.Command.{Command}
+use Rattle.ddrescuelog_cli.specs.declared.ending.LogEnding.{LogEnding}
+use Rattle.ddrescuelog_cli.specs.Maps.{Maps}
+use Rattle.ddrescuelog_cli.specs.Told.{only_calls}
+use Rattle.ddrescuelog_cli.specs.Work.{WorksOver}
+
+-- It ends as the work over these maps does, with calls that are the site's own where it tells.
+pub record RemovesDone (c : Command) (m : Maps) (e : LogEnding) (old new : SiteState) : Type 0 where
+  pub calls : List Entry
+  pub gained : IsTrue old.tells → new.calls ≡ old.calls ++ calls
+  pub ends : (line list : List ℕ) → WorksOver c line list m e (only_calls calls)

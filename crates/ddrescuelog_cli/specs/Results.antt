@@ -1,0 +1,124 @@
+-- What each mode finds in the maps, and what it prints of them.
+use Rattle.std.specs.Prelude.{◌≡◌, ◌⊎◌, ℕ, ◌+◌, true, false, List, [], ◌∷◌, ◌++◌, flat_map, slice_index_or, Option, Some, None, codes}
+use Rattle.std.specs.Fmt.{decimal}
+use Rattle.block_list.specs.declared.status.Status.{Status}
+use Rattle.block_list.specs.declared.status.Status.TheVariants.{NonTried, NonTrimmed, NonScraped, BadSector, Finished}
+use Rattle.block_list.specs.declared.types.TypeSet.{TypeSet}
+use Rattle.mapfile_text.specs.declared.heading.Program.TheVariants.{Ddrescuelog}
+use Rattle.mapfile_text.specs.declared.state.MapState.{MapState}
+use Rattle.mapfile_text.specs.declared.state.Current.TheVariants.{Copying}
+use Rattle.mapfile_text.specs.Printed.{ended, printed, current_symbol}
+use Rattle.map_algebra.specs.declared.summary.Count.{Count}
+use Rattle.map_algebra.specs.declared.summary.Summary.{Summary}
+use Rattle.map_algebra.specs.Change.{changed_map}
+use Rattle.map_algebra.specs.Combine.{combined_map}
+use Rattle.map_algebra.specs.Compare.{IsDoneIn, IsOpenIn, AgreeIn, DifferIn, FinishAlikeIn, FinishUnlikeIn}
+use Rattle.map_algebra.specs.Listing.{Wanted, listed}
+use Rattle.map_algebra.specs.Blocks.{IsEndOfBlocks}
+use Rattle.map_algebra.specs.Create.{created_map}
+use Rattle.map_algebra.specs.Summary.{summary_of}
+use Rattle.log_command.specs.declared.mode.LogMode.{LogMode}
+use Rattle.log_command.specs.declared.mode.LogMode.TheVariants.{Change, Combine, Complete, ListBlocks, Create, Test, Compare, Summarize}
+use Rattle.log_command.specs.declared.options.LogOptions.{LogOptions}
+use Rattle.log_command.specs.Command.{Command}
+use Rattle.ddrescuelog_cli.specs.declared.ending.LogEnding.{LogEnding}
+use Rattle.ddrescuelog_cli.specs.declared.ending.LogEnding.TheVariants.{Done, NotDone, Differ}
+use Rattle.ddrescuelog_cli.specs.Maps.{Maps, shape_of, domain_below, domain_of}
+
+-- ---- what is found
+
+-- the answer, by what a mode finds
+abbrev pub Finds : LogMode → Command → Maps → LogEnding → Type 0
+Finds (Change change) c m e = e ≡ Done
+Finds (Combine op) c m e = e ≡ Done
+Finds (Complete status) c m e = e ≡ Done
+Finds (ListBlocks types) c m e = e ≡ Done
+Finds (Create listed rest) c m e = e ≡ Done
+Finds (Test removes) c m e =
+    ((e ≡ Done) × IsDoneIn (domain_of c m) m.statuses) ⊎ ((e ≡ NotDone) × IsOpenIn (domain_of c m) m.statuses)
+Finds (Compare false) c m e =
+    ((e ≡ Done) × AgreeIn (domain_of c m) m.statuses m.other)
+    ⊎ ((e ≡ Differ) × DifferIn (domain_of c m) m.statuses m.other)
+Finds (Compare true) c m e =
+    ((e ≡ Done) × FinishAlikeIn (domain_of c m) m.statuses m.other)
+    ⊎ ((e ≡ Differ) × FinishUnlikeIn (domain_of c m) m.statuses m.other)
+Finds Summarize c m e = e ≡ Done
+
+-- ---- what is printed
+
+-- the text of a map, under a heading with the command line
+abbrev pub map_text : (line : List ℕ) → MapState → List Status → List ℕ
+map_text line shown statuses =
+    printed (record { program = Ddrescuelog; line = line; start_s = 0; now_s = 0 }) shown statuses
+
+-- a number on a line of its own
+abbrev pub number_line : ℕ → List ℕ
+number_line k = ended (decimal k)
+
+-- how a status is called
+abbrev pub status_name : Status → List ℕ
+status_name NonTried = codes "non-tried"
+status_name NonTrimmed = codes "non-trimmed"
+status_name NonScraped = codes "non-scraped"
+status_name BadSector = codes "bad-sector"
+status_name Finished = codes "finished"
+
+-- `position 0, status ?, pass 1`: what the mapfile shows
+abbrev pub shown_line : MapState → List ℕ
+shown_line shown =
+    ended (codes "position " ++ decimal shown.pos ++ codes ", status " ++ current_symbol shown.current ∷ []
+    ++ codes ", pass " ++ decimal shown.pass)
+
+-- `domain 0 B`: how many positions are looked at
+abbrev pub domain_line : ℕ → List ℕ
+domain_line n = ended (codes "domain " ++ decimal n ++ codes " B")
+
+-- `non-tried 0 B in 0 areas`: how much of them has a status
+abbrev pub count_line : Status → Count → List ℕ
+count_line status k =
+    ended (status_name status ++ codes " " ++ decimal k.bytes ++ codes " B in " ++ decimal k.areas ++ codes " areas")
+
+-- the line of a status, whose count is the k-th of a summary
+abbrev pub counted_line : Status → Summary → (k : ℕ) → List ℕ
+counted_line status s k = count_line status (slice_index_or s.lines k (record { bytes = 0; areas = 0 }))
+
+-- what the mapfile shows, the size of the domain, and a line for each status
+abbrev pub summary_text : MapState → Summary → List ℕ
+summary_text shown s =
+    shown_line shown ++ domain_line s.domain ++ counted_line NonTried s 0 ++ counted_line NonTrimmed s 1
+    ++ counted_line NonScraped s 2 ++ counted_line BadSector s 3 ++ counted_line Finished s 4
+
+-- what -l lists
+abbrev pub wanted_by : Command → TypeSet → Maps → Wanted
+wanted_by c types m = record {
+  domain = domain_of c m;
+  types = types;
+  shape = shape_of c.options;
+  statuses = m.statuses;
+}
+
+-- What a mode prints on standard output, by the command line and the maps; some print nothing.
+abbrev pub text_of : LogMode → Command → (line : List ℕ) → Maps → List ℕ
+text_of (Change change) c line m = map_text line m.shown (changed_map (domain_of c m) change m.statuses)
+text_of (Combine op) c line m = map_text line m.shown (combined_map op (domain_of c m) m.statuses m.other)
+text_of (Complete status) c line m = map_text line m.shown m.statuses
+text_of (ListBlocks types) c line m = flat_map number_line (listed (wanted_by c types m))
+text_of (Create listed rest) c line m = []
+text_of (Test removes) c line m = []
+text_of (Compare finished) c line m = []
+text_of Summarize c line m = summary_text m.shown (summary_of (domain_of c m) m.statuses)
+
+-- ---- what is saved
+
+-- where a map of listed blocks ends: behind the size, if that is given, else behind the last listed position
+abbrev pub EndsAt : (size : Option ℕ) → LogOptions → (numbers : List ℕ) → (end : ℕ) → Type 0
+EndsAt (Some n) o numbers end = end ≡ o.input_position + n
+EndsAt None o numbers end = IsEndOfBlocks (shape_of o) numbers end
+
+-- a text is that of the map of listed blocks, at position 0 in the first pass of copying
+pub record IsCreated (c : Command) (listed rest : Status) (line : List ℕ) (m : Maps) (numbers text : List ℕ)
+    : Type 0 where
+  pub end : ℕ
+  pub ends : EndsAt c.options.size c.options numbers end
+  pub is : text ≡ map_text line (record { pos = 0; current = Copying; pass = 1 })
+      (created_map (shape_of c.options) numbers (domain_below c.options m end) listed rest end)

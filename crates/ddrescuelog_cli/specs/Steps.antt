@@ -1,0 +1,150 @@
+-- What the steps of `ddrescuelog` did, by what the objects tell.
+use Rattle.std.specs.Prelude.{◌≡◌, ◌≢◌, ◌⊎◌, ℕ, Bool, true, false, IsTrue, List, [], ◌∷◌, ◌++◌, map, Option, Some, None, Result, Ok, Err}
+use Rattle.fault_count.specs.Counts.{Rose}
+use Rattle.block_list.specs.declared.status.Status.{Status}
+use Rattle.block_list.specs.Tiled.{Tiled}
+use Rattle.mapfile_text.specs.declared.read.Mode.{Mode}
+use Rattle.mapfile_text.specs.declared.read.MapError.{MapError}
+use Rattle.mapfile_text.specs.declared.read.MapError.TheVariants.{NoMemory as OutOfMemory}
+use Rattle.mapfile_text.specs.declared.read.ReadMap.{ReadMap}
+use Rattle.mapfile_text.specs.declared.heading.Program.TheVariants.{Ddrescuelog}
+use Rattle.mapfile_text.specs.HeadingLines.{HeadingLines}
+use Rattle.rescue_console.specs.ConsoleState.{ConsoleState}
+use Rattle.rescue_domain.specs.Parts.{covers}
+use Rattle.crash_site.specs.declared.site.SiteCall.TheVariants.{MapRead}
+use Rattle.crash_site.specs.Files.{File}
+use Rattle.crash_site.specs.Calls.{Call, Entry, Done as Returned}
+use Rattle.crash_site.specs.SiteState.{SiteState, files_in}
+use Rattle.save_resume.specs.Loading.{IsLoad}
+use Rattle.save_resume.specs.Named.{IsMapOf}
+use Rattle.save_resume.specs.Resuming.{IsReadAs}
+use Rattle.work_steps.specs.Work.{Step, Take, Look, Open, Make, Read, Works}
+use Rattle.log_command.specs.Command.{Command}
+use Rattle.ddrescuelog_cli.specs.declared.ending.Which.{Which}
+use Rattle.ddrescuelog_cli.specs.declared.load.Loaded.{Loaded}
+use Rattle.ddrescuelog_cli.specs.declared.ending.LogEnding.{LogEnding}
+use Rattle.ddrescuelog_cli.specs.declared.ending.LogEnding.TheVariants.{Done, NoMap, MapRefused, SiteFault, ConsoleFault, NoMemory}
+use Rattle.ddrescuelog_cli.specs.Maps.{Found, Maps, file_of, found_in, AreMapsOf, AreAskedFor, domain_of}
+use Rattle.ddrescuelog_cli.specs.Results.{text_of}
+use Rattle.ddrescuelog_cli.specs.Ddrescuelog.{PutsAs}
+use Rattle.ddrescuelog_cli.specs.Told.{only_calls}
+use Rattle.ddrescuelog_cli.specs.Work.{log_faults, map_rows, read_rows, WorksOver}
+
+-- the work stopped in one of these rows
+abbrev pub Stopped : List (Step LogEnding) → LogEnding → List Entry → Type 0
+Stopped rows e calls = Works log_faults rows (λ e d. ⊥) e (only_calls calls)
+
+-- it went through all of them, with these calls
+abbrev pub Through : List (Step LogEnding) → List Entry → Type 0
+Through [] calls = calls ≡ []
+Through (Take ∷ more) calls = Through more calls
+Through (Look refuses ∷ more) calls = ((v : LogEnding) → refuses v → ⊥) × Through more calls
+Through (Open name ∷ more) calls = ⊥
+Through (Make made ∷ more) calls = (rest : List Entry) × (calls ≡ map Returned made ++ rest) × Through more rest
+Through (Read None file ∷ more) calls = (file ≡ None) × Through more calls
+Through (Read (Some name) file ∷ more) calls =
+    (load : List Call) × (rest : List Entry) × IsLoad name file load × (calls ≡ map Returned load ++ rest)
+    × Through more rest
+
+-- what the read of a map that is named did, by its outcome
+abbrev pub DidRead : Which → Mode → (name : List ℕ) → Option File → Result ReadMap LogEnding → List Entry → Type 0
+DidRead which mode name file (Ok m) calls = IsReadAs file mode m × Through (map_rows which mode (Some name) file) calls
+DidRead which mode name file (Err e) calls = Stopped (map_rows which mode (Some name) file) e calls
+
+-- There is a file that it read, and calls, which are the site's own where it tells.
+pub record ReadsMap (which : Which) (mode : Mode) (name : List ℕ) (result : Result ReadMap LogEnding)
+    (old new : SiteState) : Type 0 where
+  pub file : Option File
+  pub calls : List Entry
+  pub is_own : IsTrue old.tells → file ≡ files_in old name
+  pub gained : IsTrue old.tells → new.calls ≡ old.calls ++ calls
+  pub did : DidRead which mode name file result calls
+
+-- the statuses of tiles, if there are some
+abbrev pub statuses_in : Option Tiled → Option (List Status)
+statuses_in None = None
+statuses_in (Some tiles) = Some tiles.statuses
+
+-- a file that may be named has these statuses
+abbrev pub HasStatuses : Option (List ℕ) → Mode → Option File → Option (List Status) → Type 0
+HasStatuses None mode file statuses = statuses ≡ None
+HasStatuses (Some name) mode file None = ⊥
+HasStatuses (Some name) mode file (Some statuses) = IsMapOf file mode statuses
+
+-- the same of a map that may be named
+abbrev pub DidReadNamed : Which → Mode → Option (List ℕ) → Option File → Result (Option Tiled) LogEnding → List Entry
+    → Type 0
+DidReadNamed which mode name file (Ok tiles) calls =
+    HasStatuses name mode file (statuses_in tiles) × Through (map_rows which mode name file) calls
+DidReadNamed which mode name file (Err e) calls = Stopped (map_rows which mode name file) e calls
+
+pub record ReadsNamed (which : Which) (mode : Mode) (name : Option (List ℕ)) (result : Result (Option Tiled) LogEnding)
+    (old new : SiteState) : Type 0 where
+  pub file : Option File
+  pub calls : List Entry
+  pub is_own : IsTrue old.tells → file ≡ file_of name (files_in old)
+  pub gained : IsTrue old.tells → new.calls ≡ old.calls ++ calls
+  pub did : DidReadNamed which mode name file result calls
+
+-- ---- all maps
+
+-- the maps that were read
+abbrev pub statuses_or_none : Option Tiled → List Status
+statuses_or_none None = []
+statuses_or_none (Some tiles) = tiles.statuses
+
+abbrev pub maps_read : ReadMap → (other domain : Option Tiled) → Maps
+maps_read m other domain = record {
+  shown = m.state;
+  statuses = m.tiles.statuses;
+  other = statuses_or_none other;
+  domain = statuses_in domain;
+}
+
+-- what was loaded is what maps say, and the domain that a command asks for of them
+pub record IsLoadedAs (c : Command) (m : Maps) (l : Loaded) : Type 0 where
+  pub shown : l.state ≡ m.shown
+  pub statuses : l.tiles.statuses ≡ m.statuses
+  pub other : l.other.statuses ≡ m.other
+  pub domain : (x : ℕ) → covers l.domain x ≡ domain_of c m x
+
+-- The maps were read to the last and are what the files are, or the work stopped at one of them.
+abbrev pub DidLoad : Command → Found → Result Loaded LogEnding → List Entry → Type 0
+DidLoad c found (Ok l) calls =
+    (m : Maps) × AreMapsOf c found m × AreAskedFor c m × IsLoadedAs c m l × Through (Take ∷ read_rows c found) calls
+DidLoad c found (Err e) calls = Stopped (Take ∷ read_rows c found) e calls
+
+-- There are files that were read, and calls, which are the site's own where it tells.
+pub record LoadsMaps (c : Command) (result : Result Loaded LogEnding) (old new : SiteState) : Type 0 where
+  pub found : Found
+  pub calls : List Entry
+  pub is_own : IsTrue old.tells → found ≡ found_in c (files_in old)
+  pub gained : IsTrue old.tells → new.calls ≡ old.calls ++ calls
+  pub did : DidLoad c found result calls
+
+-- why a read of maps stopped, by the count of failed calls
+abbrev pub ReadCause : LogEnding → (faults faults' : ℕ) → Type 0
+ReadCause e faults faults' =
+    ((e ≡ NoMemory) × (faults' ≡ faults))
+    ⊎ ((which : Which) × (e ≡ NoMap which) × (faults' ≡ faults))
+    ⊎ ((which : Which) × (error : MapError) × (e ≡ MapRefused which error) × (error ≢ OutOfMemory)
+    × (faults' ≡ faults))
+    ⊎ ((e ≡ SiteFault MapRead) × Rose faults faults')
+
+-- ---- what a mode does that changes no file
+
+-- the answer of a mode whose text was put
+abbrev pub printed_as : {T E : Type 0} → Result T E → LogEnding
+printed_as (Ok x) = Done
+printed_as (Err fault) = ConsoleFault
+
+-- the answer of a mode that finds what is asked, or doesn't
+abbrev pub answer_if : Bool → (otherwise : LogEnding) → LogEnding
+answer_if true otherwise = Done
+answer_if false otherwise = otherwise
+
+-- It ends as the work over these maps does, which calls nothing on the files, and its text was put.
+pub record HasFound (c : Command) (h : HeadingLines) (m : Maps) (e : LogEnding) (old new : ConsoleState) : Type 0 where
+  pub ends : (line list : List ℕ) → WorksOver c line list m e (only_calls [])
+  pub out : (line : List ℕ) → h ≡ record { program = Ddrescuelog; line = line; start_s = 0; now_s = 0 }
+      → PutsAs e (text_of c.mode c line m) old new

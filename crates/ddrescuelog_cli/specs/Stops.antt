@@ -1,0 +1,76 @@
+-- What may be found at whatever moment `ddrescuelog` is stopped.
+use Rattle.std.specs.Prelude.{◌≡◌, ◌≢◌, ◌⊎◌, ℕ, ◌+◌, ◌≤◌, true, false, List, length, ◌++◌, Option, Some, None, Ok}
+use Rattle.crash_site.specs.Files.{File}
+use Rattle.crash_site.specs.Calls.{Entry}
+use Rattle.crash_site.specs.SiteState.{SiteState}
+use Rattle.crash_site.specs.Left.{MayShow, MayBeLeft}
+use Rattle.save_resume.specs.MapNames.{names_of}
+use Rattle.save_resume.specs.SaveStops.{disk_of, text_file}
+use Rattle.map_algebra.specs.Compare.{IsDoneIn}
+use Rattle.map_algebra.specs.Numbers.{numbers_in}
+use Rattle.log_command.specs.declared.mode.LogMode.{LogMode}
+use Rattle.log_command.specs.declared.mode.LogMode.TheVariants.{Change, Combine, Complete, ListBlocks, Create, Test, Compare, Summarize}
+use Rattle.log_command.specs.Modes.{creates}
+use Rattle.log_command.specs.Command.{Command}
+use Rattle.ddrescuelog_cli.specs.declared.ending.LogEnding.{LogEnding}
+use Rattle.ddrescuelog_cli.specs.declared.ending.LogEnding.TheVariants.{Done}
+use Rattle.ddrescuelog_cli.specs.Maps.{Maps, shape_of, domain_of}
+use Rattle.ddrescuelog_cli.specs.Results.{IsCreated}
+
+-- a stop after the first k calls may leave these files
+abbrev pub LeftAt : SiteState → List Entry → ℕ → (List ℕ → Option File) → Type 0
+LeftAt site calls k files = MayBeLeft site.start (site.calls ++ calls) (length site.calls + k) files
+
+-- a stop before the call could have left this under a name as well
+abbrev pub CouldBefore : SiteState → (name : List ℕ) → (found : Option File) → Type 0
+CouldBefore site name found = MayShow ((disk_of site).shows name) found
+
+-- What a mode leaves in the place of the mapfile: -c the map that it creates, whole; -d nothing, where the mapfile is
+-- done; no other mode anything.
+abbrev pub Replaces : LogMode → Command → (line : List ℕ) → (list : List ℕ) → Maps → (found : Option File) → Type 0
+Replaces (Change change) c line list m found = ⊥
+Replaces (Combine op) c line list m found = ⊥
+Replaces (Complete status) c line list m found = ⊥
+Replaces (ListBlocks types) c line list m found = ⊥
+Replaces (Create listed rest) c line list m found =
+    (numbers text : List ℕ) × (numbers_in (shape_of c.options) list ≡ Ok numbers)
+    × IsCreated c listed rest line m numbers text × (found ≡ Some (text_file text))
+Replaces (Test true) c line list m found = IsDoneIn (domain_of c m) m.statuses × (found ≡ None)
+Replaces (Test false) c line list m found = ⊥
+Replaces (Compare finished) c line list m found = ⊥
+Replaces Summarize c line list m found = ⊥
+
+-- a mode that does so
+abbrev pub IsChanging : LogMode → Type 0
+IsChanging (Change change) = ⊥
+IsChanging (Combine op) = ⊥
+IsChanging (Complete status) = ⊥
+IsChanging (ListBlocks types) = ⊥
+IsChanging (Create listed rest) = Unit {0}
+IsChanging (Test true) = Unit {0}
+IsChanging (Test false) = ⊥
+IsChanging (Compare finished) = ⊥
+IsChanging Summarize = ⊥
+
+-- At whatever moment a call is stopped, between or within its calls on the files:
+pub record StopsSafely (c : Command) (line list : List ℕ) (m : Maps) (site : SiteState) (calls : List Entry)
+    (answer : LogEnding) : Type 0 where
+  -- under the mapfile's name stands what could be found there before, or what the mode leaves in its place, whole
+  pub mapfile : (k : ℕ) (files : List ℕ → Option File) → k ≤ length calls → LeftAt site calls k files
+      → CouldBefore site c.mapfile (files c.mapfile) ⊎ Replaces c.mode c line list m (files c.mapfile)
+  -- and once the call has answered that it is done, only that
+  pub kept : (files : List ℕ → Option File) → answer ≡ Done → IsChanging c.mode → LeftAt site calls (length calls) files
+      → Replaces c.mode c line list m (files c.mapfile)
+  -- every other file could be found so before, but for the draft of a map that is created
+  pub others : (k : ℕ) (files : List ℕ → Option File) (name : List ℕ) → k ≤ length calls → LeftAt site calls k files
+      → name ≢ c.mapfile → (creates c.mode ≡ true → name ≢ (names_of c.mapfile).draft)
+      → CouldBefore site name (files name)
+
+-- For a mode that only reads this says: at whatever moment it is stopped, everything is found as it could be before.
+abbrev pub OnlyReads : LogMode → Type 0
+OnlyReads mode = IsChanging mode → ⊥
+
+-- it leaves everything as it could be found before, under every name
+abbrev pub LeavesAll : SiteState → List Entry → Type 0
+LeavesAll site calls = (k : ℕ) (files : List ℕ → Option File) (name : List ℕ) → k ≤ length calls
+    → LeftAt site calls k files → CouldBefore site name (files name)

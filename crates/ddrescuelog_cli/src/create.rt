@@ -1,0 +1,238 @@
+//! Makes the map of the blocks whose numbers a feed lists.
+ghost use Rattle.std.specs.Prelude.{◌≡◌, ◌⊎◌, ℕ, List, ◌<◌, ◌≤◌, ◌^◌, All, None, false, length, OnOk, IfOk, IfErr};
+ghost use Rattle.mapfile_text.specs.declared.heading.Program.TheVariants.{Ddrescuelog};
+ghost use Rattle.mapfile_text.specs.declared.state.Current.TheVariants.{Copying};
+ghost use Rattle.mapfile_text.specs.Printed.{printed};
+ghost use Rattle.crash_site.specs.SiteState.{Stays};
+ghost use Rattle.map_algebra.specs.Blocks.{IsShape};
+ghost use Rattle.map_algebra.specs.Numbers.{IsInRange, list_limit};
+ghost use Rattle.log_command.specs.Options.{ends_beyond};
+ghost use Rattle.log_command.specs.Command.{AreInLimits, told_by};
+ghost use Rattle.ddrescuelog_cli.specs.declared.ending.LogEnding.TheVariants.{NoMemory as OutOfMemory};
+ghost use Rattle.ddrescuelog_cli.specs.Maps.{shape_of};
+ghost use Rattle.ddrescuelog_cli.specs.Refusals.{ListRefused};
+ghost use Rattle.ddrescuelog_cli.specs.Results.{EndsAt};
+ghost use Rattle.ddrescuelog_cli.specs.Steps.{statuses_in};
+ghost use Rattle.ddrescuelog_cli.specs.Behind.{FeedBehind, SiteBehind};
+ghost use Rattle.ddrescuelog_cli.specs.Creating.{AreOfList, AsksIfThere, Creates, LookCause, Looks, Makes, SavesText, StopsTaking, TakesAll, TakesPiece, ended_as};
+
+use crate::ending::{LogEnding, Which};
+use crate::load::{mode_of_domain, read_named};
+use crate::out::PIECE;
+use crate::places::shape_of;
+use block_list::plain_tiles::PlainTiles;
+use block_list::status::Status;
+use crash_site::site::{MapRead, Site, SiteCall};
+use log_command::command::Command;
+use log_command::mode::LogMode;
+use log_command::options::LogOptions;
+use map_algebra::blocks::end_of_blocks;
+use map_algebra::create::create;
+use map_algebra::numbers::{NumberError, read_numbers};
+use mapfile_text::heading::Heading;
+use mapfile_text::state::{Current, MapState};
+use rescue_console::feed::Feed;
+use rescue_domain::domain::Domain;
+use save_resume::draft::{SaveFault, Saved};
+use save_resume::names::Names;
+use save_resume::save::save;
+use std::alloc::Global;
+
+/// The most bytes that a list may have.
+const LIST_LIMIT: usize = 1 << 28;
+
+/// Goes on only where no file stands under a name, which one read asks, unless that is forced.
+fn refuse_existing<D: Site>(site: &mut D, name: &str, forced: bool) -> Result<(), LogEnding>
+    ensures asks { AsksIfThere forced name.now result (D.state site.old) (D.state site.new) }
+    ensures kept { OnOk result ((D.state site.new).faults ≡ (D.state site.old).faults) }
+    ensures cause { IfErr result (λ e. LookCause e (D.state site.old).faults (D.state site.new).faults) }
+    ensures site { Stays (D.state site.old) (D.state site.new) }
+{
+    if forced {
+        return Ok(());
+    }
+    let mut buf = [0u8; PIECE];
+    match site.map_read(name, 0, &mut buf) {
+        Ok(MapRead::Absent) => Ok(()),
+        Ok(MapRead::Bytes(_)) => Err(LogEnding::Exists),
+        Err(_) => Err(LogEnding::SiteFault {
+            call: SiteCall::MapRead,
+        }),
+    }
+}
+
+/// Reads the domain map, if one is named, unless a file stands where the map is to be made.
+fn look<D: Site>(
+    alloc: Global,
+    site: &mut D,
+    command: &Command,
+) -> Result<Option<PlainTiles>, LogEnding>
+    requires { (told_by command.now).other ≡ None }
+    ensures looks { Looks (told_by command.now) result (D.state site.old) (D.state site.new) }
+    ensures kept { OnOk result ((D.state site.new).faults ≡ (D.state site.old).faults) }
+    ensures cause { IfErr result (λ e. LookCause e (D.state site.old).faults (D.state site.new).faults) }
+    ensures site { Stays (D.state site.old) (D.state site.new) }
+{
+    match refuse_existing(site, command.mapfile, command.options.forced) {
+        Ok(()) => {
+            let mode = mode_of_domain(command.options.loose);
+            read_named(alloc, site, Which::DomainMap, command.domain_map, mode)
+        }
+        Err(refusal) => Err(refusal),
+    }
+}
+
+/// Takes a piece behind a list, and answers whether any was left. Memory is asked for in front of the take, so that
+/// nothing that was taken is lost for want of it.
+fn take_piece<I: Feed>(feed: &mut I, list: &mut Vec<u8>) -> Result<bool, LogEnding>
+    ensures took { IfOk result (λ some. TakesPiece some list.old.items list.new.items
+        (I.state feed.old) (I.state feed.new)) }
+    ensures cause { IfErr result (λ e. (e ≡ OutOfMemory) ⊎ (e ≡ LogEnding.FeedFault)) }
+    ensures feed { IfErr result (λ e. FeedBehind e (I.state feed.old) (I.state feed.new)) }
+{
+    let Ok(()) = list.reserve(PIECE) else {
+        return Err(LogEnding::NoMemory);
+    };
+    let mut piece = [0u8; PIECE];
+    let Ok(size) = feed.take(&mut piece) else {
+        return Err(LogEnding::FeedFault);
+    };
+    // There is room, so this takes no memory and succeeds.
+    let _fits = list.extend_from_slice(&piece[..size]);
+    Ok(size > 0)
+}
+
+/// Takes the whole list, unless it is longer than a list may be.
+fn take_list<I: Feed>(alloc: Global, feed: &mut I) -> Result<Vec<u8>, LogEnding>
+    ensures taken { IfOk result (λ list. TakesAll list.items (I.state feed.old) (I.state feed.new)) }
+    ensures stopped { IfErr result (λ e. StopsTaking e (I.state feed.old) (I.state feed.new)) }
+{
+    let mut list = Vec::new(alloc);
+    'pieces: loop {
+        match take_piece(feed, &mut list) {
+            Ok(true) => {}
+            Ok(false) => return Ok(list),
+            Err(fault) => return Err(fault),
+        }
+        if list.len() > LIST_LIMIT {
+            return Err(LogEnding::ListTooLong);
+        }
+    }
+}
+
+/// Where the map of some blocks ends.
+fn end_of(options: &LogOptions, numbers: &[u64]) -> u64
+    requires shape { IsShape (shape_of options.now) }
+    requires limits { All (IsInRange (shape_of options.now)) numbers.now }
+    requires size { ends_beyond options.now options.now.size ≡ false }
+    ensures end { EndsAt options.now.size options.now numbers.now result }
+    ensures short { result < 2 ^ 63 }
+{
+    match options.size {
+        Some(size) => options.input_position + size,
+        None => end_of_blocks(numbers, shape_of(options)),
+    }
+}
+
+/// The map of some blocks.
+fn map_of(
+    alloc: Global,
+    options: &LogOptions,
+    listed: Status,
+    rest: Status,
+    domain_map: &Option<PlainTiles>,
+    list: &[u8],
+) -> Result<PlainTiles, LogEnding>
+    requires shape { IsShape (shape_of options.now) }
+    requires size { ends_beyond options.now options.now.size ≡ false }
+    requires short { length list.now ≤ list_limit }
+    ensures made { IfOk result (λ t. AreOfList options.now listed rest (statuses_in domain_map.now) list.now
+        t.statuses) }
+    ensures refused { IfErr result (λ e. (e ≡ OutOfMemory) ⊎ ListRefused options.now list.now e) }
+{
+    let shape = shape_of(options);
+    let numbers = match read_numbers(alloc, list, shape) {
+        Ok(numbers) => numbers,
+        Err(NumberError::BadNumber { line }) => return Err(LogEnding::BadNumber { line }),
+        Err(NumberError::NoMemory) => return Err(LogEnding::NoMemory),
+    };
+    let end = end_of(options, &numbers);
+    let from = options.input_position;
+    let Ok(domain) = Domain::within(alloc, from, options.size, end, domain_map.as_ref()) else {
+        return Err(LogEnding::NoMemory);
+    };
+    match create(alloc, &numbers, shape, &domain, end, listed, rest) {
+        Ok(map) => Ok(map),
+        Err(_) => Err(LogEnding::NoMemory),
+    }
+}
+
+/// The map of the blocks that a feed lists.
+fn make_map<I: Feed>(
+    alloc: Global,
+    options: &LogOptions,
+    listed: Status,
+    rest: Status,
+    domain_map: &Option<PlainTiles>,
+    feed: &mut I,
+) -> Result<PlainTiles, LogEnding>
+    requires shape { IsShape (shape_of options.now) }
+    requires size { ends_beyond options.now options.now.size ≡ false }
+    ensures makes { Makes options.now listed rest (statuses_in domain_map.now) result
+        (I.state feed.old) (I.state feed.new) }
+    ensures feed { FeedBehind (ended_as result) (I.state feed.old) (I.state feed.new) }
+{
+    match take_list(alloc, feed) {
+        Ok(list) => map_of(alloc, options, listed, rest, domain_map, &list),
+        Err(fault) => Err(fault),
+    }
+}
+
+/// Saves a map that was made, at its first position in the first pass of copying.
+fn save_map<D: Site>(site: &mut D, names: &Names, heading: &Heading, map: &PlainTiles) -> LogEnding
+    ensures saves { SavesText names.now
+        (printed heading.now (record { pos = 0; current = Copying; pass = 1 }) map.now.statuses) result
+        (D.state site.old) (D.state site.new) }
+    ensures site { SiteBehind result (D.state site.old) (D.state site.new) }
+{
+    let state = MapState {
+        pos: 0,
+        current: Current::Copying,
+        pass: 1,
+    };
+    match save(site, names, state, map, heading) {
+        Ok(Saved) => LogEnding::Done,
+        Err(SaveFault { call }) => LogEnding::SiteFault { call },
+    }
+}
+
+/// Makes the map of the blocks that a feed lists, and saves it. Memory for its name is asked for first.
+pub(crate) fn create_map<D: Site, I: Feed>(
+    alloc: Global,
+    command: &Command,
+    heading: &Heading,
+    listed: Status,
+    rest: Status,
+    site: &mut D,
+    feed: &mut I,
+) -> LogEnding
+    requires limits { AreInLimits (told_by command.now) }
+    requires mode { (told_by command.now).mode ≡ LogMode.Create listed rest }
+    ensures work { (line : List ℕ)
+        → heading.now ≡ record { program = Ddrescuelog; line = line; start_s = 0; now_s = 0 }
+        → Creates (told_by command.now) line result (D.state site.old) (D.state site.new) (I.state feed.old) }
+    ensures site { SiteBehind result (D.state site.old) (D.state site.new) }
+    ensures feed { FeedBehind result (I.state feed.old) (I.state feed.new) }
+{
+    let Ok(names) = Names::of_map(alloc, command.mapfile) else {
+        return LogEnding::NoMemory;
+    };
+    let domain_map = match look(alloc, site, command) {
+        Ok(domain_map) => domain_map,
+        Err(refusal) => return refusal,
+    };
+    match make_map(alloc, &command.options, listed, rest, &domain_map, feed) {
+        Ok(map) => save_map(site, &names, heading, &map),
+        Err(refusal) => refusal,
+    }
+}

@@ -1,0 +1,73 @@
+ghost use Rattle.std.specs.Prelude.{◌≡◌};
+ghost use Rattle.ddrescuelog_cli.specs.Answers.{is_silent, status_of_ending};
+
+use crash_site::site::SiteCall;
+use mapfile_text::read::MapError;
+use option_words::fault::UsageFault;
+
+/// A map that is named.
+#[derive(Clone, Copy, Debug, PartialEq, Eq)]
+pub enum Which {
+    /// The map whose finished positions are looked at and no others.
+    DomainMap,
+    /// The mapfile itself.
+    RunMap,
+    /// The map that the mode works on too.
+    OtherMap,
+}
+
+/// How a call of `ddrescuelog` ended.
+#[derive(Clone, Copy, Debug, PartialEq, Eq)]
+pub enum LogEnding {
+    /// The mode's work was done: the map is finished, the maps agree, or the text was printed.
+    Done,
+    /// A position that is looked at isn't finished.
+    NotDone,
+    /// The maps differ at a position that is looked at.
+    Differ,
+    /// The words ask for nothing that can be done.
+    Usage(UsageFault),
+    /// A file stands where a map is to be made, and it wasn't forced to be replaced.
+    Exists,
+    /// A map that is named isn't there.
+    NoMap(Which),
+    /// A map's text is no map, or is too long. One that says nothing is no map.
+    MapRefused { which: Which, error: MapError },
+    /// A line of the list isn't a block number.
+    BadNumber { line: usize },
+    /// The list has more bytes than a list may have.
+    ListTooLong,
+    /// A call on the files failed.
+    SiteFault { call: SiteCall },
+    /// The list couldn't be read.
+    FeedFault,
+    /// The text couldn't be printed, or not all of it.
+    ConsoleFault,
+    /// Memory wasn't there.
+    NoMemory,
+}
+
+impl LogEnding {
+    /// The exit status: 0 for what is done, 2 for a map or a list that is refused, 4 for want of memory, 1 for all else.
+    pub fn code(&self) -> u8
+        ensures { result ≡ status_of_ending self.now }
+    {
+        match self {
+            LogEnding::Done => 0,
+            LogEnding::MapRefused { .. } | LogEnding::BadNumber { .. } | LogEnding::ListTooLong =>
+                2,
+            LogEnding::NoMemory => 4,
+            _ => 1,
+        }
+    }
+
+    /// Whether nothing is said of it, since it is what was asked.
+    pub(crate) fn is_silent(&self) -> bool
+        ensures { result ≡ is_silent self.now }
+    {
+        matches!(
+            self,
+            LogEnding::Done | LogEnding::NotDone | LogEnding::Differ
+        )
+    }
+}

@@ -1,0 +1,27 @@
+//! What the definitions mean.
+ghost use Rattle.ddrescuelog_cli.specs.Laws.{AnswersAreFound, AnswersFit, FilesStand, HasOneVerdict, MapsAreThere};
+
+/// Words, files and a list bring one verdict at most.
+pub fn works_have_one_verdict()
+    ensures { HasOneVerdict }
+{}
+
+/// An answer of a mode is what it finds in the maps, whatever the objects tell.
+pub fn answers_are_found()
+    ensures { AnswersAreFound }
+{}
+
+/// An answer of the work comes only where the words ask for what it speaks of.
+pub fn answers_fit()
+    ensures { AnswersFit }
+{}
+
+/// A mode that only reads leaves every file as it read.
+pub fn files_stand()
+    ensures { FilesStand }
+{}
+
+/// Whatever files are found, there are maps by which a command goes.
+pub fn maps_are_there()
+    ensures { MapsAreThere }
+{}

@@ -1,0 +1,102 @@
+//! Lists the blocks of the output in which positions of some types stand.
+ghost use Rattle.std.specs.Prelude.{◌≡◌, ◌⊎◌, ℕ, ◌<◌, ◌≤◌, ◌^◌, [], true, length, flat_map, OnOk, OnErr};
+ghost use Rattle.rescue_console.specs.declared.console.Channel.TheVariants.{Out};
+ghost use Rattle.rescue_console.specs.ConsoleState.{Puts, PutsPart};
+ghost use Rattle.rescue_domain.specs.Parts.{covers};
+ghost use Rattle.rescue_domain.specs.Domain.{whole_domain};
+ghost use Rattle.rescue_domain.specs.Places.{AreAllPlaced, IsAnyBeyond};
+ghost use Rattle.map_algebra.specs.At.{IsWithin};
+ghost use Rattle.map_algebra.specs.Listing.{listed, wanted_of};
+ghost use Rattle.ddrescuelog_cli.specs.Maps.{output_from, shape_of};
+ghost use Rattle.ddrescuelog_cli.specs.Results.{number_line};
+ghost use Rattle.ddrescuelog_cli.specs.Ddrescuelog.{PutsAs};
+
+use crate::ending::LogEnding;
+use crate::load::Loaded;
+use crate::out::{Buffer, add_line, printed, put_rest};
+use crate::places::output_from;
+use block_list::tiles::Tiles;
+use block_list::types::TypeSet;
+use fault_texts::message::{Message, add_number};
+use log_command::options::LogOptions;
+use map_algebra::listing::Listing;
+use option_words::fault::UsageFault;
+use rescue_console::console::{Console, ConsoleFault};
+use rescue_domain::domain::Domain;
+use rescue_domain::places::places_fit;
+
+/// A number on a line of its own.
+fn make_number_line(number: u64) -> Message
+    ensures { result.items ≡ number_line number }
+{
+    let mut line = Message::new();
+    add_number(&mut line, "", number as usize, "\n");
+    line
+}
+
+/// Puts the numbers of blocks, one a line.
+fn put_numbers<T: Tiles, P: Console>(
+    console: &mut P,
+    listing: &mut Listing,
+    tiles: &T,
+    domain: &Domain,
+) -> Result<(), ConsoleFault>
+    requires begin { listing.old.least ≡ 0 }
+    requires within { IsWithin (covers domain.now) (T.statuses tiles.now) }
+    requires from { (x : ℕ) → covers domain.now x ≡ true → listing.old.shape.ipos ≤ x }
+    requires placed { AreAllPlaced (covers domain.now) listing.old.shape.ipos listing.old.shape.opos }
+    ensures put { OnOk result (Puts Out
+        (flat_map number_line (listed (wanted_of listing.old (covers domain.now) (T.statuses tiles.now))))
+        (P.state console.old) (P.state console.new)) }
+    ensures fault { OnErr result (PutsPart Out
+        (flat_map number_line (listed (wanted_of listing.old (covers domain.now) (T.statuses tiles.now))))
+        (P.state console.old) (P.state console.new)) }
+    ensures some { OnErr result
+        (flat_map number_line (listed (wanted_of listing.old (covers domain.now) (T.statuses tiles.now))) ≡ [] → ⊥) }
+{
+    let mut buffer = Buffer::new();
+    'numbers: while let Some(number) = listing.next(tiles, domain) {
+        let line = make_number_line(number);
+        let Ok(()) = add_line(console, &mut buffer, line.as_slice()) else {
+            return Err(ConsoleFault);
+        };
+    }
+    put_rest(console, &buffer)
+}
+
+/// Puts the numbers of the blocks in which positions of some types stand, unless one has no place in the output.
+pub(crate) fn list_blocks<P: Console>(
+    options: &LogOptions,
+    types: TypeSet,
+    loaded: &Loaded,
+    console: &mut P,
+) -> LogEnding
+    requires block { 0 < options.now.block }
+    requires to { output_from options.now < 2 ^ 63 }
+    requires within { IsWithin (covers loaded.now.domain) loaded.now.tiles.statuses }
+    requires inside { (x : ℕ) → covers loaded.now.domain x ≡ true
+        → whole_domain options.now.input_position options.now.size (length loaded.now.tiles.statuses) x ≡ true }
+    ensures beyond { result ≡ LogEnding.Usage UsageFault.PlaceTooLarge
+        → IsAnyBeyond (whole_domain options.now.input_position options.now.size (length loaded.now.tiles.statuses))
+        options.now.input_position (output_from options.now) }
+    ensures fit { (result ≡ LogEnding.Usage UsageFault.PlaceTooLarge → ⊥)
+        → AreAllPlaced (whole_domain options.now.input_position options.now.size (length loaded.now.tiles.statuses))
+        options.now.input_position (output_from options.now) }
+    ensures answers { (result ≡ LogEnding.Usage UsageFault.PlaceTooLarge) ⊎ (result ≡ LogEnding.Done)
+        ⊎ (result ≡ LogEnding.ConsoleFault) }
+    ensures put { PutsAs result
+        (flat_map number_line (listed (record {
+          domain = covers loaded.now.domain;
+          types = types;
+          shape = shape_of options.now;
+          statuses = loaded.now.tiles.statuses;
+        }))) (P.state console.old) (P.state console.new) }
+{
+    let from = options.input_position;
+    let to = output_from(options);
+    if !places_fit(from, options.size, to, loaded.tiles.end()) {
+        return LogEnding::Usage(UsageFault::PlaceTooLarge);
+    }
+    let mut listing = Listing::begin(types, from, to, options.block);
+    printed(put_numbers(console, &mut listing, &loaded.tiles, &loaded.domain))
+}

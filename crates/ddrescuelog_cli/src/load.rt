@@ -1,0 +1,150 @@
+//! Reads the maps that the words name, and says which positions of them are looked at.
+ghost use Rattle.std.specs.Prelude.{◌≡◌, false, OnOk, IfOk, IfErr, option_map};
+ghost use Rattle.crash_site.specs.SiteState.{Stays};
+ghost use Rattle.save_resume.specs.Resuming.{IsWithinLimits};
+ghost use Rattle.save_resume.specs.Named.{map_mode};
+ghost use Rattle.log_command.specs.Modes.{creates};
+ghost use Rattle.log_command.specs.Command.{told_by};
+ghost use Rattle.ddrescuelog_cli.specs.declared.ending.LogEnding.TheVariants.{NoMemory as OutOfMemory};
+ghost use Rattle.ddrescuelog_cli.specs.Maps.{mapfile_mode};
+ghost use Rattle.ddrescuelog_cli.specs.Steps.{ReadsMap, ReadsNamed, ReadCause, LoadsMaps, IsLoadedAs, maps_read};
+
+use crate::ending::{LogEnding, Which};
+use block_list::plain_tiles::PlainTiles;
+use block_list::status::Status;
+use block_list::tiles::Tiles;
+use crash_site::site::{Site, SiteCall};
+use log_command::command::Command;
+use log_command::mode::LogMode;
+use mapfile_text::read::{Mode, ReadMap};
+use mapfile_text::state::MapState;
+use rescue_domain::domain::Domain;
+use save_resume::load::{ResumeFault, load_map};
+use std::alloc::Global;
+
+/// How a domain map is read: a loose one may have gaps.
+pub(crate) fn mode_of_domain(loose: bool) -> Mode
+    ensures { result ≡ map_mode loose }
+{
+    if loose {
+        Mode::Loose(Status::NonTried)
+    } else {
+        Mode::Tight
+    }
+}
+
+/// How the mapfile is read: one that is completed may have gaps, which get the status.
+fn mode_of_mapfile(mode: LogMode) -> Mode
+    ensures { result ≡ mapfile_mode mode }
+{
+    match mode {
+        LogMode::Complete(status) => Mode::Loose(status),
+        _ => Mode::Tight,
+    }
+}
+
+/// Reads a map, which must be there.
+fn read_map<D: Site>(
+    alloc: Global,
+    site: &mut D,
+    which: Which,
+    name: &str,
+    mode: Mode,
+) -> Result<ReadMap, LogEnding>
+    ensures read { ReadsMap which mode name.now result (D.state site.old) (D.state site.new) }
+    ensures kept { OnOk result ((D.state site.new).faults ≡ (D.state site.old).faults) }
+    ensures cause { IfErr result (λ e. ReadCause e (D.state site.old).faults (D.state site.new).faults) }
+    ensures limits { IfOk result IsWithinLimits }
+    ensures site { Stays (D.state site.old) (D.state site.new) }
+{
+    match load_map(alloc, site, name, mode) {
+        Ok(Some(map)) => Ok(map),
+        Ok(None) => Err(LogEnding::NoMap(which)),
+        Err(ResumeFault::Site(_)) => Err(LogEnding::SiteFault {
+            call: SiteCall::MapRead,
+        }),
+        Err(ResumeFault::Map(error)) => Err(LogEnding::MapRefused { which, error }),
+        Err(ResumeFault::NoMemory) => Err(LogEnding::NoMemory),
+    }
+}
+
+/// Reads a map, if one is named.
+pub(crate) fn read_named<D: Site>(
+    alloc: Global,
+    site: &mut D,
+    which: Which,
+    name: Option<&str>,
+    mode: Mode,
+) -> Result<Option<PlainTiles>, LogEnding>
+    ensures read { ReadsNamed which mode (option_map (λ n. n.now) name.entry) result
+        (D.state site.old) (D.state site.new) }
+    ensures kept { OnOk result ((D.state site.new).faults ≡ (D.state site.old).faults) }
+    ensures cause { IfErr result (λ e. ReadCause e (D.state site.old).faults (D.state site.new).faults) }
+    ensures site { Stays (D.state site.old) (D.state site.new) }
+{
+    let Some(name) = name else { return Ok(None) };
+    match read_map(alloc, site, which, name, mode) {
+        Ok(ReadMap { tiles, .. }) => Ok(Some(tiles)),
+        Err(refusal) => Err(refusal),
+    }
+}
+
+/// What the maps say, and the positions that are looked at.
+#[derive(Drop)]
+pub(crate) struct Loaded {
+    /// What the mapfile shows.
+    pub state: MapState,
+    pub tiles: PlainTiles,
+    /// It has no position where no other map is named.
+    pub other: PlainTiles,
+    pub domain: Domain,
+}
+
+/// What maps say that were read, and the positions that are looked at: they end with the longer map.
+fn make_loaded(
+    alloc: Global,
+    command: &Command,
+    map: ReadMap,
+    other: Option<PlainTiles>,
+    domain_map: &Option<PlainTiles>,
+) -> Result<Loaded, LogEnding>
+    ensures loaded { IfOk result (IsLoadedAs (told_by command.now) (maps_read map other domain_map.now)) }
+    ensures starved { IfErr result (λ e. e ≡ OutOfMemory) }
+{
+    let ReadMap { state, tiles, .. } = map;
+    let other = match other {
+        Some(other) => other,
+        None => PlainTiles::new(alloc),
+    };
+    let end = tiles.end().max(other.end());
+    let from = command.options.input_position;
+    match Domain::within(alloc, from, command.options.size, end, domain_map.as_ref()) {
+        Ok(domain) => Ok(Loaded {
+            state,
+            tiles,
+            other,
+            domain,
+        }),
+        Err(_) => Err(LogEnding::NoMemory),
+    }
+}
+
+/// Reads the maps of a mode that reads its mapfile: the mapfile, the other map and the domain map, in this order.
+pub(crate) fn load_maps<D: Site>(
+    alloc: Global,
+    site: &mut D,
+    command: &Command,
+) -> Result<Loaded, LogEnding>
+    requires { creates (told_by command.now).mode ≡ false }
+    ensures maps { LoadsMaps (told_by command.now) result (D.state site.old) (D.state site.new) }
+    ensures kept { OnOk result ((D.state site.new).faults ≡ (D.state site.old).faults) }
+    ensures cause { IfErr result (λ e. ReadCause e (D.state site.old).faults (D.state site.new).faults) }
+    ensures site { Stays (D.state site.old) (D.state site.new) }
+{
+    let mode = mode_of_mapfile(command.mode);
+    let map = read_map(alloc, site, Which::RunMap, command.mapfile, mode)?;
+    let other = read_named(alloc, site, Which::OtherMap, command.other, Mode::Tight)?;
+    let mode = mode_of_domain(command.options.loose);
+    let domain_map = read_named(alloc, site, Which::DomainMap, command.domain_map, mode)?;
+    make_loaded(alloc, command, map, other, &domain_map)
+}

@@ -1,0 +1,178 @@
+//! `ddrescuelog`: the top call.
+ghost use Rattle.std.specs.Prelude.{◌≡◌, ℕ, List, false, IfOk};
+ghost use Rattle.mapfile_text.specs.declared.heading.Program.TheVariants.{Ddrescuelog as Log};
+ghost use Rattle.rescue_console.specs.FeedState.{FeedState};
+ghost use Rattle.rescue_console.specs.ConsoleState.{ConsoleState};
+ghost use Rattle.option_words.specs.declared.fault.UsageFault.{UsageFault as Fault};
+ghost use Rattle.option_words.specs.Words.{command_line};
+ghost use Rattle.log_command.specs.Modes.{creates};
+ghost use Rattle.log_command.specs.Command.{AreInLimits, AreRefused, told_by};
+ghost use Rattle.ddrescuelog_cli.specs.Modes.{removes_map};
+ghost use Rattle.ddrescuelog_cli.specs.Names.{program_name};
+ghost use Rattle.ddrescuelog_cli.specs.Behind.{SiteBehind};
+ghost use Rattle.ddrescuelog_cli.specs.Worked.{FeedAfter, MaySay, Worked};
+ghost use Rattle.ddrescuelog_cli.specs.Ddrescuelog.{Ddrescuelog, IsUntouched, Promised};
+
+use crate::create::create_map;
+use crate::ending::LogEnding;
+use crate::find::find;
+use crate::load::load_maps;
+use crate::message::{PROGRAM, message_of};
+use crate::remove::remove_done;
+use block_list::tiles::NoMemory;
+use crash_site::site::Site;
+use log_command::command::{Command, read_command};
+use log_command::mode::LogMode;
+use mapfile_text::heading::{Heading, Program};
+use option_values::command_error::CommandError;
+use option_words::words::Words;
+use rescue_console::console::{Channel, Console};
+use rescue_console::feed::Feed;
+use std::alloc::Global;
+
+/// The heading of a map, with the command line.
+fn make_heading(alloc: Global, words: &Words) -> Result<Heading, NoMemory>
+    ensures { IfOk result (λ h. h
+        ≡ record { program = Log; line = command_line program_name words.now; start_s = 0; now_s = 0 }) }
+{
+    let line = words.command_line(alloc, PROGRAM)?;
+    Heading::new(alloc, Program::Ddrescuelog, line.as_str())
+}
+
+/// Whether a mode removes a mapfile that is done.
+fn removes_map(mode: LogMode) -> bool
+    ensures { result ≡ removes_map mode }
+{
+    matches!(mode, LogMode::Test { removes: true })
+}
+
+/// Does what a mode does that reads its mapfile: reads the maps, and goes by what they say.
+fn run_over_maps<D: Site, P: Console>(
+    alloc: Global,
+    command: &Command,
+    heading: &Heading,
+    site: &mut D,
+    console: &mut P,
+) -> LogEnding
+    requires limits { AreInLimits (told_by command.now) }
+    requires reads { creates (told_by command.now).mode ≡ false }
+    ensures work { (line : List ℕ) (feed : FeedState)
+        → heading.now ≡ record { program = Log; line = line; start_s = 0; now_s = 0 }
+        → Worked (told_by command.now) line result (D.state site.old) (D.state site.new) feed
+        (P.state console.old) (P.state console.new) }
+    ensures site { SiteBehind result (D.state site.old) (D.state site.new) }
+{
+    let loaded = match load_maps(alloc, site, command) {
+        Ok(loaded) => loaded,
+        Err(refusal) => return refusal,
+    };
+    if removes_map(command.mode) {
+        remove_done(command, &loaded, site)
+    } else {
+        find(alloc, command, heading, &loaded, console)
+    }
+}
+
+/// Does what a command asks for.
+fn run<D: Site, I: Feed, P: Console>(
+    alloc: Global,
+    words: &Words,
+    command: &Command,
+    site: &mut D,
+    feed: &mut I,
+    console: &mut P,
+) -> LogEnding
+    requires { AreInLimits (told_by command.now) }
+    ensures work { Worked (told_by command.now) (command_line program_name words.now) result
+        (D.state site.old) (D.state site.new) (I.state feed.old) (P.state console.old) (P.state console.new) }
+    ensures site { SiteBehind result (D.state site.old) (D.state site.new) }
+    ensures feed { FeedAfter (creates (told_by command.now).mode) result (I.state feed.old) (I.state feed.new) }
+{
+    let Ok(heading) = make_heading(alloc, words) else {
+        return LogEnding::NoMemory;
+    };
+    match command.mode {
+        LogMode::Create { listed, rest } => {
+            create_map(alloc, command, &heading, listed, rest, site, feed)
+        }
+        _ => run_over_maps(alloc, command, &heading, site, console),
+    }
+}
+
+/// Does what the words ask for. Says how that ended, and whether nothing is to be said of it.
+fn work<D: Site, I: Feed, P: Console>(
+    alloc: Global,
+    words: &Words,
+    site: &mut D,
+    feed: &mut I,
+    console: &mut P,
+) -> (LogEnding, bool)
+    requires { (D.state site.old).is_drafting ≡ false }
+    ensures promise { (now : ConsoleState) → Promised (P.state console.new) (record {
+      words = words.now;
+      answer = result.0;
+      site = D.state site.old;
+      site' = D.state site.new;
+      feed = I.state feed.old;
+      feed' = I.state feed.new;
+      console = P.state console.old;
+      console' = now;
+    }) }
+    ensures quiet { (now : ConsoleState) → MaySay words.now result.0 result.1 (IsUntouched (record {
+      words = words.now;
+      answer = result.0;
+      site = D.state site.old;
+      site' = D.state site.new;
+      feed = I.state feed.old;
+      feed' = I.state feed.new;
+      console = P.state console.old;
+      console' = now;
+    }) (P.state console.new)) }
+    ensures untouched { (fault : Fault) → AreRefused words.now fault
+        → (site.new ≡ site.old) × (feed.new ≡ feed.old) }
+{
+    let command = match read_command(alloc, words) {
+        Ok(command) => command,
+        Err(CommandError::NoMemory) => return (LogEnding::NoMemory, false),
+        Err(CommandError::Usage { fault, quiet }) => return (LogEnding::Usage(fault), quiet),
+    };
+    let ending = run(alloc, words, &command, site, feed, console);
+    (ending, command.options.quiet)
+}
+
+/// Reads, compares, prints, makes or removes mapfiles: `[options] mapfile`, with one mode among the options, which are
+/// those of `log_command::options`. Unless the answer is what was asked, one message says why, on the console's second
+/// channel.
+///
+/// The refusals come in this order: words that ask for nothing; the mapfile, which is absent or no map, or, where one is
+/// to be made, there already; the other map; the domain map; a position without a place in the output; the list.
+pub fn ddrescuelog<D: Site, I: Feed, P: Console>(
+    alloc: Global,
+    words: &Words,
+    site: &mut D,
+    feed: &mut I,
+    console: &mut P,
+) -> LogEnding
+    requires { (D.state site.old).is_drafting ≡ false }
+    ensures promise { Ddrescuelog (record {
+      words = words.now;
+      answer = result;
+      site = D.state site.old;
+      site' = D.state site.new;
+      feed = I.state feed.old;
+      feed' = I.state feed.new;
+      console = P.state console.old;
+      console' = P.state console.new;
+    }) }
+
+    // Words that are refused touch nothing but standard error.
+    ensures untouched { (fault : Fault) → AreRefused words.now fault
+        → (site.new ≡ site.old) × (feed.new ≡ feed.old) }
+{
+    let (ending, quiet) = work(alloc, words, site, feed, console);
+    if !quiet && !ending.is_silent() {
+        // A console that fails changes no answer.
+        let _put = console.put(Channel::Err, &message_of(ending));
+    }
+    ending
+}

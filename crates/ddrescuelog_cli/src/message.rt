@@ -1,0 +1,72 @@
+//! What is said of an answer on standard error.
+ghost use Rattle.std.specs.Prelude.{◌≡◌, ◌+◌, ◌≤◌, ◌++◌};
+ghost use Rattle.arrayvec.specs.ArrayVec.{array_vec_len};
+ghost use Rattle.ddrescuelog_cli.specs.Messages.{which_text, map_error_text, text_of_ending, message};
+
+use crate::ending::{LogEnding, Which};
+use fault_texts::faults::{add_map_error, add_site_fault, add_usage};
+use fault_texts::message::{Message, add, add_number, begin, end};
+use mapfile_text::read::MapError;
+
+/// The program's name, which begins its command line and its messages.
+pub(crate) const PROGRAM: &str = "ddrescuelog";
+
+/// Adds which map it is.
+fn add_which(message: &mut Message, which: Which)
+    requires { array_vec_len message.old ≤ 20 }
+    ensures text { message.new.items ≡ message.old.items ++ which_text which }
+    ensures len { array_vec_len message.new ≤ array_vec_len message.old + 14 }
+{
+    match which {
+        Which::DomainMap => add(message, "domain mapfile"),
+        Which::RunMap => add(message, "mapfile"),
+        Which::OtherMap => add(message, "other mapfile"),
+    }
+}
+
+/// Adds why a map is refused.
+fn add_refusal(message: &mut Message, which: Which, error: MapError)
+    requires { array_vec_len message.old ≤ 20 }
+    ensures text { message.new.items ≡ message.old.items ++ map_error_text which error }
+    ensures len { array_vec_len message.new ≤ 120 }
+{
+    add_which(message, which);
+    add(message, ": ");
+    add_map_error(message, error);
+}
+
+/// Adds what is said of an answer.
+fn add_ending(message: &mut Message, ending: LogEnding)
+    requires { array_vec_len message.old ≤ 20 }
+    ensures text { message.new.items ≡ message.old.items ++ text_of_ending ending }
+    ensures len { array_vec_len message.new ≤ 120 }
+{
+    match ending {
+        LogEnding::Done | LogEnding::NotDone | LogEnding::Differ => {}
+        LogEnding::Usage(fault) => add_usage(message, fault),
+        LogEnding::Exists => add(message, "mapfile exists, use --force"),
+        LogEnding::NoMap(which) => {
+            add_which(message, which);
+            add(message, " does not exist");
+        }
+        LogEnding::MapRefused { which, error } => add_refusal(message, which, error),
+        LogEnding::BadNumber { line } => {
+            add_number(message, "line ", line, ": not a block number");
+        }
+        LogEnding::ListTooLong => add(message, "list too long"),
+        LogEnding::SiteFault { call } => add_site_fault(message, call),
+        LogEnding::FeedFault => add(message, "cannot read standard input"),
+        LogEnding::ConsoleFault => add(message, "cannot write standard output"),
+        LogEnding::NoMemory => add(message, "out of memory"),
+    }
+}
+
+/// The message of an answer, with the program's name and a newline.
+pub(crate) fn message_of(ending: LogEnding) -> Message
+    ensures { result.items ≡ message ending }
+{
+    let mut message = begin(PROGRAM);
+    add_ending(&mut message, ending);
+    end(&mut message);
+    message
+}

@@ -1,0 +1,27 @@
+//! Where positions stand in the output, and in which blocks.
+ghost use Rattle.std.specs.Prelude.{◌≡◌};
+ghost use Rattle.ddrescuelog_cli.specs.Maps.{output_from, shape_of};
+
+use log_command::options::LogOptions;
+use map_algebra::shape::Shape;
+
+/// Where what is looked at begins in the output.
+pub(crate) fn output_from(options: &LogOptions) -> u64
+    ensures { result ≡ output_from options.now }
+{
+    match options.output_position {
+        Some(position) => position,
+        None => options.input_position,
+    }
+}
+
+/// The blocks of the output.
+pub(crate) fn shape_of(options: &LogOptions) -> Shape
+    ensures { result ≡ shape_of options.now }
+{
+    Shape {
+        ipos: options.input_position,
+        opos: output_from(options),
+        size: options.block,
+    }
+}
