@@ -1,6 +1,8 @@
 //! Files as mapfiles.
 use crate::refusal::Refusal;
+use crate::shown::append_escaped;
 use block_list::tiles::Tiles;
+use crash_site::memory::MemorySite;
 use mapfile_text::read::{MapError, Mode, ReadMap, read_map};
 use std::alloc::Global;
 use std::io::Write;
@@ -36,5 +38,25 @@ fn append_map(out: &mut Vec<u8>, map: &ReadMap) -> Result<(), Refusal> {
         let size = block.size;
         write!(out, " {status}0x{size:X}")?;
     }
+    Ok(())
+}
+
+/// Adds what files of a site say as mapfiles, to a line, and ends it.
+pub(crate) fn append_maps(
+    alloc: Global,
+    out: &mut Vec<u8>,
+    site: &MemorySite,
+    names: &[String],
+) -> Result<(), Refusal> {
+    for (i, name) in names.iter().enumerate() {
+        if i > 0 {
+            out.push(b';')?;
+        }
+        out.push(b' ')?;
+        append_escaped(out, name.as_bytes())?;
+        out.extend_from_slice(b": ")?;
+        append_blocks(alloc, out, site.file(name.as_str()))?;
+    }
+    out.push(b'\n')?;
     Ok(())
 }

@@ -13,6 +13,7 @@ pub(crate) enum Object {
     Source,
     Site,
     Console,
+    Feed,
 }
 
 /// What is asked of files.
@@ -41,6 +42,8 @@ pub(crate) enum Command {
     Scene,
     /// The input's bytes.
     Source(Vec<u8>),
+    /// Where reads meet the input's end.
+    End(u64),
     /// One more bad range of the input.
     Bad(BadRange),
     /// How many reads the journal holds.
@@ -57,14 +60,20 @@ pub(crate) enum Command {
     Clock(Vec<u64>),
     /// The numbers of calls that fail.
     Fail(Object, Vec<u64>),
+    /// What the next run of ddrescuelog takes from its feed.
+    Feed(Vec<u8>),
     /// A rescue.
     Run(Words),
+    /// A run of ddrescuelog.
+    Log(Words),
     /// So many calls of the site were made, and then a stop came.
     Stop {
         calls: usize,
         kind: Left,
     },
     Stops(Stops),
+    /// Files as mapfiles, as each stop leaves them.
+    Left(Vec<String>),
     /// Files to be looked at.
     View(View, Vec<String>),
 }
@@ -79,16 +88,20 @@ pub(crate) fn read_command(alloc: Global, line: &[u8]) -> Result<Command, Refusa
     match word.as_str() {
         "scene" => read_scene(fields),
         "source" => Ok(Command::Source(read_bytes(fields)?)),
+        "end" => read_end(fields),
         "bad" => read_bad(fields),
         "room" => read_room(fields),
         "file" => read_file(fields, true),
         "other" => read_file(fields, false),
         "text" => read_text_file(fields),
         "clock" => Ok(Command::Clock(take_numbers(fields)?)),
+        "feed" => Ok(Command::Feed(read_bytes(fields)?)),
         "fail" => read_fail(fields),
         "run" => Ok(Command::Run(take_words(fields)?)),
+        "log" => Ok(Command::Log(take_words(fields)?)),
         "stop" => read_stop(fields),
         "stops" => read_stops(fields),
+        "left" => Ok(Command::Left(take_texts(fields)?)),
         "show" => read_view(View::Show, fields),
         "print" => read_view(View::Print, fields),
         "blocks" => read_view(View::Blocks, fields),
@@ -152,6 +165,12 @@ fn read_scene(fields: Fields<'_>) -> Result<Command, Refusal> {
     Ok(Command::Scene)
 }
 
+fn read_end(mut fields: Fields<'_>) -> Result<Command, Refusal> {
+    let at = take_number(&mut fields)?;
+    take_end(fields)?;
+    Ok(Command::End(at))
+}
+
 fn read_bad(mut fields: Fields<'_>) -> Result<Command, Refusal> {
     let from = take_number(&mut fields)?;
     let to = take_number(&mut fields)?;
@@ -194,6 +213,7 @@ fn read_fail(mut fields: Fields<'_>) -> Result<Command, Refusal> {
         "source" => Object::Source,
         "site" => Object::Site,
         "console" => Object::Console,
+        "feed" => Object::Feed,
         _ => return Err(Refusal::NotUnderstood),
     };
     Ok(Command::Fail(object, take_numbers(fields)?))

@@ -111,6 +111,7 @@ impl Player {
                 Ok(())
             }
             Command::Source(bytes) => self.scene.set_source(bytes),
+            Command::End(at) => self.scene.set_end(at),
             Command::Bad(range) => self.scene.add_bad(range),
             Command::Room(room) => self.scene.set_room(room),
             Command::File {
@@ -123,10 +124,13 @@ impl Player {
                 self.scene.set_clock(readings);
                 Ok(())
             }
+            Command::Feed(bytes) => self.scene.set_feed(bytes),
             Command::Fail(object, numbers) => self.scene.fail_calls(object, &numbers),
             Command::Run(words) => self.scene.run(&words, &mut self.out),
+            Command::Log(words) => self.scene.log(&words, &mut self.out),
             Command::Stop { calls, kind } => self.scene.stop(calls, kind),
             Command::Stops(stops) => self.scene.stops(&stops, &mut self.out),
+            Command::Left(names) => self.scene.left(&names, &mut self.out),
             Command::View(view, names) => self.scene.view(view, &names, &mut self.out),
         }
     }

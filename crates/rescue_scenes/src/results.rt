@@ -1,9 +1,12 @@
-//! What came of a rescue.
+//! What came of a run of one of the programs.
 use crate::refusal::Refusal;
+use crate::shown::append_lines;
 use crash_site::memory::MemorySite;
 use crash_site::site::SiteCall;
-use ddrescue_cli::ending::Ending;
 use faulty_source::memory::ReadEntry;
+use rescue_console::console::Channel;
+use rescue_console::memory::MemoryConsole;
+use std::fmt::Debug;
 use std::io::Write;
 
 /// Adds a line of reads, if there are any.
@@ -14,8 +17,16 @@ pub(crate) fn append_reads(out: &mut Vec<u8>, reads: &[ReadEntry]) -> Result<(),
     let count = reads.len();
     write!(out, "  reads {count}:")?;
     for read in reads {
-        let ReadEntry { pos, asked, given } = *read;
+        let ReadEntry {
+            pos,
+            asked,
+            given,
+            ended,
+        } = *read;
         write!(out, " ({pos},{asked})->{given}")?;
+        if ended {
+            out.extend_from_slice(b" ended")?;
+        }
     }
     out.push(b'\n')?;
     Ok(())
@@ -66,9 +77,18 @@ fn append_times(out: &mut Vec<u8>, times: usize) -> Result<(), Refusal> {
     Ok(())
 }
 
-/// Adds the line of an answer.
-pub(crate) fn append_ending(out: &mut Vec<u8>, ending: Ending) -> Result<(), Refusal> {
-    let status = ending.code();
+/// Adds what was put on a console.
+pub(crate) fn append_console(out: &mut Vec<u8>, console: &MemoryConsole) -> Result<(), Refusal> {
+    append_lines(out, console.text(Channel::Out), b"  out", b"  out~")?;
+    append_lines(out, console.text(Channel::Err), b"  err", b"  err~")
+}
+
+/// Adds the line of an answer and its exit status.
+pub(crate) fn append_ending<E: Debug>(
+    out: &mut Vec<u8>,
+    ending: &E,
+    status: u8,
+) -> Result<(), Refusal> {
     writeln!(out, "  ends {ending:?}, status {status}")?;
     Ok(())
 }

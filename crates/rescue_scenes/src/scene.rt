@@ -1,22 +1,23 @@
-//! A scene: an input, files, and the rescues that go over them.
+//! A scene: an input, files, and the runs of both programs that go over them.
 ghost use Rattle.std.specs.Prelude.{◌≡◌, false};
 ghost use Rattle.crash_site.specs.MemoryState.{state_of};
 
-use crate::blocks::append_blocks;
+use crate::blocks::{append_blocks, append_maps};
 use crate::command::{Object, Stops, View};
 use crate::kinds::{KINDS, Left};
 use crate::refusal::Refusal;
-use crate::results::{append_calls, append_ending, append_reads};
+use crate::results::{append_calls, append_console, append_ending, append_reads};
 use crate::shown::{append_escaped, append_lines, append_shown};
 use crate::stated::Stated;
 use crate::values::BYTES_LIMIT;
 use crash_site::memory::MemorySite;
 use ddrescue_cli::ending::Ending;
 use ddrescue_cli::rescue::ddrescue;
+use ddrescuelog_cli::ending::LogEnding;
+use ddrescuelog_cli::log::ddrescuelog;
 use faulty_source::memory::{BadRange, MemorySource};
 use option_words::words::Words;
-use rescue_console::console::Channel;
-use rescue_console::memory::{MemoryClock, MemoryConsole};
+use rescue_console::memory::{MemoryClock, MemoryConsole, MemoryFeed};
 use std::alloc::Global;
 use std::io::Write;
 
@@ -35,6 +36,10 @@ pub(crate) struct Scene {
     clock: Vec<u64>,
     /// The calls of the next run's console that fail.
     silent: Vec<u64>,
+    /// What the next run of ddrescuelog takes from its feed.
+    feed: Vec<u8>,
+    /// The takes of that feed that fail.
+    unread: Vec<u64>,
     /// How many bytes it has stated.
     bytes: usize,
     /// How many files it has put under new names.
@@ -62,6 +67,24 @@ fn rescue(
     Ok(ending)
 }
 
+/// Runs ddrescuelog. Where it finds no memory there is no answer.
+fn read_maps(
+    alloc: Global,
+    words: &Words,
+    site: &mut MemorySite,
+    feed: &mut MemoryFeed,
+    console: &mut MemoryConsole,
+) -> Result<LogEnding, Refusal>
+    requires { (state_of site.old).is_drafting ≡ false }
+{
+    let starved = site.starved();
+    let ending = ddrescuelog(alloc, words, site, feed, console);
+    if matches!(ending, LogEnding::NoMemory) || site.starved() > starved || console.starved() > 0 {
+        return Err(Refusal::NoMemory);
+    }
+    Ok(ending)
+}
+
 impl Scene {
     /// An empty source, and no file.
     pub(crate) fn new(alloc: Global) -> Scene {
@@ -72,6 +95,8 @@ impl Scene {
             site: MemorySite::new(alloc),
             clock: Vec::new(alloc),
             silent: Vec::new(alloc),
+            feed: Vec::new(alloc),
+            unread: Vec::new(alloc),
             bytes: 0,
             files: 0,
         }
@@ -90,6 +115,12 @@ impl Scene {
     pub(crate) fn set_source(&mut self, bytes: Vec<u8>) -> Result<(), Refusal> {
         self.count_bytes(bytes.len())?;
         self.stated.set_bytes(bytes);
+        self.source = None;
+        Ok(())
+    }
+
+    pub(crate) fn set_end(&mut self, at: u64) -> Result<(), Refusal> {
+        self.stated.set_end(at)?;
         self.source = None;
         Ok(())
     }
@@ -118,7 +149,17 @@ impl Scene {
                 self.silent.extend_from_slice(numbers)?;
                 Ok(())
             }
+            Object::Feed => {
+                self.unread.extend_from_slice(numbers)?;
+                Ok(())
+            }
         }
+    }
+
+    pub(crate) fn set_feed(&mut self, bytes: Vec<u8>) -> Result<(), Refusal> {
+        self.count_bytes(bytes.len())?;
+        self.feed = bytes;
+        Ok(())
     }
 
     pub(crate) fn set_clock(&mut self, readings: Vec<u64>) {
@@ -176,10 +217,7 @@ impl Scene {
             Some(source) => source,
             None => self.stated.make_source(self.alloc)?,
         };
-        let mut console = MemoryConsole::new(self.alloc);
-        for number in &self.silent {
-            console.fail_call(*number)?;
-        }
+        let mut console = self.make_console()?;
         let read = source.journal().len();
         let made = self.site.made();
         let ending = rescue(
@@ -193,11 +231,46 @@ impl Scene {
         self.silent.clear();
         append_reads(out, source.journal().get(read..).unwrap_or(&[]))?;
         append_calls(out, &self.site, made)?;
-        append_lines(out, console.text(Channel::Out), b"  out", b"  out~")?;
-        append_lines(out, console.text(Channel::Err), b"  err", b"  err~")?;
-        append_ending(out, ending)?;
+        append_console(out, &console)?;
+        append_ending(out, &ending, ending.code())?;
         self.source = Some(source);
         Ok(())
+    }
+
+    /// The console of the next run.
+    fn make_console(&self) -> Result<MemoryConsole, Refusal> {
+        let mut console = MemoryConsole::new(self.alloc);
+        for number in &self.silent {
+            console.fail_call(*number)?;
+        }
+        Ok(console)
+    }
+
+    /// The feed of the next run of ddrescuelog.
+    fn make_feed(&self) -> Result<MemoryFeed, Refusal> {
+        let bytes = Vec::from_slice(self.alloc, self.feed.as_slice())?;
+        let mut feed = MemoryFeed::new(self.alloc, bytes);
+        for number in &self.unread {
+            feed.fail_call(*number)?;
+        }
+        Ok(feed)
+    }
+
+    /// Runs ddrescuelog, and adds its results.
+    pub(crate) fn log(&mut self, words: &Words, out: &mut Vec<u8>) -> Result<(), Refusal> {
+        if self.site.is_drafting() {
+            return Err(Refusal::NotUnderstood);
+        }
+        let mut feed = self.make_feed()?;
+        let mut console = self.make_console()?;
+        let made = self.site.made();
+        let ending = read_maps(self.alloc, words, &mut self.site, &mut feed, &mut console)?;
+        self.feed.clear();
+        self.unread.clear();
+        self.silent.clear();
+        append_calls(out, &self.site, made)?;
+        append_console(out, &console)?;
+        append_ending(out, &ending, ending.code())
     }
 
     /// Puts the site there that a stop leaves.
@@ -255,6 +328,26 @@ impl Scene {
         write!(out, "; out ")?;
         append_shown(out, site.file(stops.output.as_str()))?;
         out.push(b'\n')?;
+        Ok(())
+    }
+
+    /// Adds what each stop leaves of files.
+    pub(crate) fn left(&self, names: &[String], out: &mut Vec<u8>) -> Result<(), Refusal> {
+        for calls in 0..=self.site.made() {
+            self.left_at(names, calls, out)?;
+        }
+        Ok(())
+    }
+
+    fn left_at(&self, names: &[String], calls: usize, out: &mut Vec<u8>) -> Result<(), Refusal> {
+        if calls > self.site.made() {
+            return Err(Refusal::NotUnderstood);
+        }
+        for (kind_name, kind) in KINDS {
+            let site = self.site.stopped_at(self.alloc, calls, kind)?;
+            write!(out, "  {calls} {kind_name}:")?;
+            append_maps(self.alloc, out, &site, names)?;
+        }
         Ok(())
     }
 

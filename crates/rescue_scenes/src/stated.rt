@@ -67,10 +67,12 @@ impl BadRanges {
     }
 }
 
-/// The input's bytes, where they are bad, the journal's room, and the numbers of the calls that fail.
+/// The input's bytes, where reads meet an end before theirs, where they are bad, the journal's room, and the numbers of
+/// the calls that fail.
 #[derive(Drop)]
 pub(crate) struct Stated {
     bytes: Vec<u8>,
+    end: Option<u64>,
     bad: BadRanges,
     room: usize,
     failing: Vec<u64>,
@@ -81,6 +83,7 @@ impl Stated {
     pub(crate) fn new(alloc: Global) -> Stated {
         Stated {
             bytes: Vec::new(alloc),
+            end: None,
             bad: BadRanges::new(alloc),
             room: ROOM,
             failing: Vec::new(alloc),
@@ -89,6 +92,16 @@ impl Stated {
 
     pub(crate) fn set_bytes(&mut self, bytes: Vec<u8>) {
         self.bytes = bytes;
+        self.end = None;
+    }
+
+    /// The end lies within the bytes.
+    pub(crate) fn set_end(&mut self, at: u64) -> Result<(), Refusal> {
+        if at > self.bytes.len() as u64 {
+            return Err(Refusal::NotUnderstood);
+        }
+        self.end = Some(at);
+        Ok(())
     }
 
     pub(crate) fn add_bad(&mut self, range: BadRange) -> Result<(), Refusal> {
@@ -113,6 +126,9 @@ impl Stated {
         let bytes = Vec::from_slice(alloc, self.bytes.as_slice())?;
         let bad = self.bad.copy(alloc)?;
         let mut source = MemorySource::new(alloc, bytes, bad, self.room)?;
+        if let Some(at) = self.end {
+            source.set_end(at.min(self.bytes.len() as u64));
+        }
         for number in &self.failing {
             source.fail_call(*number)?;
         }
