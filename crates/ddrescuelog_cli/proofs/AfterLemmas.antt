@@ -1,5 +1,5 @@
 -- What became of the files, the feed and standard output, by the answer.
-use Rattle.std.proofs.Common.{◌≡◌, ℕ, ◌≤◌, Bool, true, false, IsTrue, List, [], ◌∷◌, refl, sym, ap, ◌∙◌, inl, inr, subst, arith, append-nil}
+use Rattle.std.proofs.Common.{◌≡◌, ℕ, Bool, true, false, IsTrue, List, [], ◌∷◌, refl, sym, ap, ◌∙◌, inl, inr, subst, arith, append-nil}
 use Rattle.std.specs.Prelude.{⊤}
 use Rattle.std.proofs.lemmas.Bool.{both_ways}
 use Rattle.crash_site.specs.SiteState.{SiteState, Keeps as SiteKeeps, Stays}
@@ -38,7 +38,10 @@ feed_keeps f = record { tells = refl; planned = refl; later = omega arith }
 -- no text is put by doing nothing
 pub puts_none : (s : ConsoleState) → Puts Out [] s s
 puts_none s = record {
-  stays = record { keeps = record { tells = refl; planned = refl; out = omega arith; err = omega arith }; other = refl };
+  stays = record {
+    keeps = record { tells = refl; planned = refl; out = omega arith; err = omega arith };
+    other = refl;
+  };
   whole = λ tells. sym (append-nil s.out.text);
   kept = refl;
   fed = λ planned. refl;
@@ -169,8 +172,7 @@ behind_reads e old mid new stays kept b = record {
     tells = b.keeps.tells ∙ stays.keeps.tells;
     start = λ tells. b.keeps.start (subst IsTrue (sym stays.keeps.tells) tells) ∙ stays.keeps.start tells;
     planned = b.keeps.planned ∙ stays.keeps.planned;
-    later = let first : old.faults ≤ mid.faults = stays.keeps.later in let second : mid.faults ≤ new.faults = b.keeps.later in
-        omega arith;
+    later = omega (arith, stays.keeps.later, b.keeps.later);
   };
   counts = subst (λ (n : ℕ). SiteCounts e n new.faults) kept b.counts;
   draft = λ none. b.draft (stays.draft ∙ none);

@@ -55,7 +55,8 @@ went_by P run e front rest calls grew reads b = record {
 pub behind_rows : (P : LogEnding → Type 0) (rows : List (Step LogEnding)) (run : LogEnding → Deeds → Type 0)
     → OnlyRead rows → RowsGive P rows → (e : LogEnding) (calls : List Entry)
     → Works log_faults rows run e (only_calls calls) → Behind P run e calls
-behind_rows P [] run only give e calls w = record { front = []; rest = calls; grew = refl; reads = All-nil IsRead; ends = inr w }
+behind_rows P [] run only give e calls w =
+    record { front = []; rest = calls; grew = refl; reads = All-nil IsRead; ends = inr w }
 behind_rows P (Take ∷ rows) run only give e calls (inl w) =
     stopped_by P run e NoMemory calls w.0 give.0 (none_are calls w.1.gain.calls)
 behind_rows P (Take ∷ rows) run only give e calls (inr w) = behind_rows P rows run only give.1 e calls w
@@ -64,7 +65,8 @@ behind_rows P (Look refuses ∷ rows) run only give e calls (inl w) =
 behind_rows P (Look refuses ∷ rows) run only give e calls (inr w) = behind_rows P rows run only give.1 e calls w.1
 behind_rows P (Open name ∷ rows) run only give e calls w = absurd only
 behind_rows P (Make made ∷ rows) run only give e calls (inl w) =
-    stopped_by P run e (SiteFault w.0) calls w.1 (give.0 w.0 calls w.2) (broke_are w.0 made [] calls only.0 (All-nil IsRead) w.2)
+    stopped_by P run e (SiteFault w.0) calls w.1 (give.0 w.0 calls w.2)
+    (broke_are w.0 made [] calls only.0 (All-nil IsRead) w.2)
 behind_rows P (Make made ∷ rows) run only give e calls (inr w) =
     went_by P run e (map Returned made) w.0 calls w.1 (returned_are made only.0)
     (behind_rows P rows run only.1 give.1 e w.0 w.2)
@@ -83,7 +85,8 @@ behind_rows P (Read (Some name) file ∷ rows) run only give e calls (inr (inr w
 
 -- work behind work
 pub behind_both : (P : LogEnding → Type 0) (run last : LogEnding → Deeds → Type 0) (e : LogEnding) (calls : List Entry)
-    → ((rest : List Entry) → run e (only_calls rest) → Behind P last e rest) → Behind P run e calls → Behind P last e calls
+    → ((rest : List Entry) → run e (only_calls rest) → Behind P last e rest) → Behind P run e calls
+    → Behind P last e calls
 behind_both P run last e calls more b =
     elim b.ends [
       | inl stopped ↦ record { front = b.front; rest = b.rest; grew = b.grew; reads = b.reads; ends = inl stopped }
@@ -112,8 +115,14 @@ named_short c found = (
 )
 
 read_short : (c : Command) (found : Found) → RowsGive IsShort (read_rows c found)
-read_short c found =
-    ((λ is. cc), (λ is. cc), (map_short RunMap (mapfile_mode c.mode) (Some c.mapfile) found.mapfile, named_short c found))
+read_short c found = (
+  (λ is. cc),
+  (λ is. cc),
+  (
+    map_short RunMap (mapfile_mode c.mode) (Some c.mapfile) found.mapfile,
+    named_short c found,
+  ),
+)
 
 over_behind : (c : Command) (line list : List ℕ) (m : Maps) (e : LogEnding) (calls : List Entry)
     → WorksOver c line list m e (only_calls calls) → Behind IsShort (EndsAs c.mode c line list m) e calls
@@ -132,7 +141,8 @@ there_behind false name file more e calls (inl (is, lost, alone)) =
     (inl (refl, lost)))
 there_behind false name file more e calls (inr (answer, rest, says, grew, w)) =
     let asked : Call = map_read name 0 piece_size (Some answer) in
-    went_by IsShort more e (Returned asked ∷ []) rest calls grew (All-cons IsRead (Returned asked) [] refl (All-nil IsRead))
+    went_by IsShort more e (Returned asked ∷ []) rest calls grew
+    (All-cons IsRead (Returned asked) [] refl (All-nil IsRead))
     (behind_rows IsShort (Look (MapIsThere file) ∷ []) more tt ((λ v there done. cc), tt) e rest w)
 
 pub behind_works : (new : Bool) (c : Command) (line list : List ℕ) (found : Found) (m : Maps) (e : LogEnding)
@@ -140,7 +150,8 @@ pub behind_works : (new : Bool) (c : Command) (line list : List ℕ) (found : Fo
     → Behind IsShort (EndsAs c.mode c line list m) e calls
 behind_works false c line list found m e calls w =
     behind_both IsShort (WorksOver c line list m) (EndsAs c.mode c line list m) e calls (over_behind c line list m e)
-    (behind_rows IsShort (Take ∷ read_rows c found) (WorksOver c line list m) tt ((λ is. cc), read_short c found) e calls w)
+    (behind_rows IsShort (Take ∷ read_rows c found) (WorksOver c line list m) tt ((λ is. cc), read_short c found)
+    e calls w)
 behind_works true c line list found m e calls w =
     let named : LogEnding → Deeds → Type 0 = Works log_faults (named_rows c found) (WorksOver c line list m) in
     behind_both IsShort named (EndsAs c.mode c line list m) e calls

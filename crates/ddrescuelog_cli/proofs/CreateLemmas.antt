@@ -12,13 +12,13 @@ use Rattle.mapfile_text.specs.Printed.{printed}
 use Rattle.mapfile_text.specs.Pieces.{pieces_of}
 use Rattle.crash_site.specs.declared.site.SiteCall.{SiteCall}
 use Rattle.crash_site.specs.Files.{File}
-use Rattle.crash_site.specs.Calls.{Call, Done as Returned, draft_append, draft_sync}
-use Rattle.crash_site.specs.SiteState.{SiteState, Keeps, Stays, files_in}
+use Rattle.crash_site.specs.Calls.{Call, draft_append, draft_sync}
+use Rattle.crash_site.specs.SiteState.{SiteState, files_in}
 use Rattle.rescue_console.specs.FeedState.{FeedState}
 use Rattle.save_resume.specs.declared.draft.SaveFault.{SaveFault}
 use Rattle.save_resume.specs.MapNames.{MapNames, names_of}
 use Rattle.save_resume.specs.Named.{IsMapOf, map_mode}
-use Rattle.save_resume.specs.Saving.{save_calls, publish_calls, drafting_after_fault, IsNameIn, Saves}
+use Rattle.save_resume.specs.Saving.{save_calls, publish_calls, IsNameIn, Saves}
 use Rattle.map_algebra.specs.Numbers.{list_limit, numbers_in}
 use Rattle.work_steps.specs.Work.{Deeds, Works, Make}
 use Rattle.log_command.specs.declared.mode.LogMode.TheVariants.{Create}
@@ -33,63 +33,14 @@ use Rattle.ddrescuelog_cli.specs.Results.{IsCreated, map_text}
 use Rattle.ddrescuelog_cli.specs.Told.{only_calls}
 use Rattle.ddrescuelog_cli.specs.Work.{log_faults, Ends, EndsCreated, EndsAs, WorksOver}
 use Rattle.ddrescuelog_cli.specs.Steps.{HasStatuses, statuses_in}
-use Rattle.ddrescuelog_cli.specs.Answers.{TakenBefore, AllTaken, drafting_left}
-use Rattle.ddrescuelog_cli.specs.Behind.{SiteCounts, SiteBehind, FeedBehind}
-use Rattle.ddrescuelog_cli.specs.Creating.{LookCause, Looks, Makes, AreOfList, SavesText, Creates}
+use Rattle.ddrescuelog_cli.specs.Answers.{TakenBefore, AllTaken}
+use Rattle.ddrescuelog_cli.specs.Behind.{FeedBehind}
+use Rattle.ddrescuelog_cli.specs.Creating.{Looks, Makes, AreOfList, SavesText, Creates}
 use Rattle.ddrescuelog_cli.proofs.CallLemmas.{GainsBroken, broke_gains, Broken, broken_at, name_of_broken}
 use Rattle.ddrescuelog_cli.proofs.LoadLemmas.{by_tells}
 use Rattle.ddrescuelog_cli.proofs.MapLemmas.{map_is_one}
-use Rattle.ddrescuelog_cli.proofs.TakeLemmas.{feed_keeps, starved_behind}
-
--- ---- behind what is looked at
-
-pub feed_behind_look : (e : LogEnding) (x y : ℕ) (f : FeedState) → LookCause e x y → FeedBehind e f f
-feed_behind_look e x y f (inl a) =
-    subst (λ v. FeedBehind v f f) (sym a.0) (record { keeps = feed_keeps f; counts = refl; takes = refl })
-feed_behind_look e x y f (inr (inl a)) = subst (λ v. FeedBehind v f f) (sym a.0) (starved_behind f)
-feed_behind_look e x y f (inr (inr (inl a))) =
-    subst (λ v. FeedBehind v f f) (sym a.1) (record { keeps = feed_keeps f; counts = refl; takes = refl })
-feed_behind_look e x y f (inr (inr (inr (inl a)))) =
-    subst (λ v. FeedBehind v f f) (sym a.2) (record { keeps = feed_keeps f; counts = refl; takes = refl })
-feed_behind_look e x y f (inr (inr (inr (inr a)))) =
-    subst (λ v. FeedBehind v f f) (sym a.0) (record { keeps = feed_keeps f; counts = refl; takes = refl })
-
--- such an answer, and its count
-record Early (e : LogEnding) (x y : ℕ) : Type 0 where
-  counts : SiteCounts e x y
-  draft : drafting_left e ≡ false
-
-early : (e : LogEnding) (x y : ℕ) → LookCause e x y → Early e x y
-early e x y (inl a) = subst (λ v. Early v x y) (sym a.0) (record { counts = a.1; draft = refl })
-early e x y (inr (inl a)) = subst (λ v. Early v x y) (sym a.0) (record { counts = a.1; draft = refl })
-early e x y (inr (inr (inl a))) = subst (λ v. Early v x y) (sym a.1) (record { counts = a.2; draft = refl })
-early e x y (inr (inr (inr (inl a)))) =
-    subst (λ v. Early v x y) (sym a.2) (record { counts = (a.3, a.4); draft = refl })
-early e x y (inr (inr (inr (inr a)))) = subst (λ v. Early v x y) (sym a.0) (record { counts = a.1; draft = refl })
-
-pub site_behind_look : (e : LogEnding) (old new : SiteState) → Stays old new → LookCause e old.faults new.faults
-    → SiteBehind e old new
-site_behind_look e old new stays cause =
-    let w : Early e old.faults new.faults = early e old.faults new.faults cause in
-    record {
-      keeps = stays.keeps;
-      counts = w.counts;
-      draft = λ idle. stays.draft ∙ idle ∙ sym w.draft;
-    }
 
 -- ---- the save
-
-pub saved_text : {T : Type 0} (names : MapNames) (text : List ℕ) (x : T) (old new : SiteState)
-    → Saves (save_calls names text) false (Ok x) old new → SavesText names text Done old new
-saved_text names text x old new s = record {
-  calls = map Returned (save_calls names text);
-  gained = s.made.made;
-  did = inr (
-    [],
-    sym (append-nil (map Returned (save_calls names text))),
-    (refl, record { opens = refl; gain = record { calls = refl; reads = refl; times = refl } }),
-  );
-}
 
 pub broke_text : {T : Type 0} (names : MapNames) (text : List ℕ) (f : SaveFault) (old new : SiteState)
     → Saves {T = T} (save_calls names text) false (Err f) old new → SavesText names text (SiteFault f.call) old new
@@ -110,19 +61,6 @@ broke_text names text f old new s =
       gained = λ u. absurd (n u);
       did = inl (f.call, refl, b.broke, record { opens = refl; reads = refl; times = refl });
     })
-
-pub saved_site : {T : Type 0} (names : MapNames) (text : List ℕ) (x : T) (old new : SiteState)
-    → Saves (save_calls names text) false (Ok x) old new → SiteBehind Done old new
-saved_site names text x old new s =
-    record { keeps = s.keeps; counts = s.made.faults; draft = λ idle. s.draft }
-
-pub broke_site : {T : Type 0} (names : MapNames) (text : List ℕ) (f : SaveFault) (old new : SiteState)
-    → Saves {T = T} (save_calls names text) false (Err f) old new → SiteBehind (SiteFault f.call) old new
-broke_site names text f old new s = record {
-  keeps = s.keeps;
-  counts = s.broke.rose;
-  draft = λ idle. s.draft_left ∙ ap (λ b. drafting_after_fault f.call b) idle;
-}
 
 -- ---- what a save finds of the feed
 
@@ -241,7 +179,8 @@ list_passes c list numbers e read short (inr (line, within, bad, is)) =
 pub is_alone : (c : Command) (listed rest : Status) → AreInLimits c → c.mode ≡ Create listed rest → c.other ≡ None
 is_alone c listed rest limits mode = limits.no_other (ap has_other mode)
 
-pub created_starved : (c : Command) (line : List ℕ) (site : SiteState) (feed : FeedState) → Creates c line NoMemory site site feed
+pub created_starved : (c : Command) (line : List ℕ) (site : SiteState) (feed : FeedState)
+    → Creates c line NoMemory site site feed
 created_starved c line site feed = record {
   found = found_in c (files_in site);
   list = feed.left;
@@ -336,20 +275,3 @@ created c line h names listed rest tiles made e old mid new feed feed' mode alon
             )))),
       );
     }
-
--- the site behind both
-site_keeps_both : (a b c : SiteState) → Keeps a b → Keeps b c → Keeps a c
-site_keeps_both a b c k l = record {
-  tells = l.tells ∙ k.tells;
-  start = λ t. l.start (subst IsTrue (sym k.tells) t) ∙ k.start t;
-  planned = l.planned ∙ k.planned;
-  later = omega (arith, k.later, l.later);
-}
-
-pub site_behind_both : (e : LogEnding) (old mid new : SiteState) → Stays old mid → mid.faults ≡ old.faults
-    → SiteBehind e mid new → SiteBehind e old new
-site_behind_both e old mid new stays kept b = record {
-  keeps = site_keeps_both old mid new stays.keeps b.keeps;
-  counts = subst (λ n. SiteCounts e n new.faults) kept b.counts;
-  draft = λ idle. b.draft (stays.draft ∙ idle);
-}

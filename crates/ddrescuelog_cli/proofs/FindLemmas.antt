@@ -155,7 +155,8 @@ pub changed_found : {F : Type 0} (c : Command) (change : TypeChange) (h : Headin
 changed_found c change h m l made e old new is loaded makes starved answers put =
     made_printed c (Change change) h m made l.state (changed_map (domain_of c m) change m.statuses) e old new is refl
     (λ line list ends. ends) (λ line. refl) loaded.shown
-    (then_is made (changed_map (covers l.domain) change l.tiles.statuses) (changed_map (domain_of c m) change m.statuses)
+    (then_is made (changed_map (covers l.domain) change l.tiles.statuses)
+    (changed_map (domain_of c m) change m.statuses)
     (changed_is c change m l loaded) makes)
     starved answers put
 
@@ -219,7 +220,8 @@ below_and_beyond p below beyond = omega arith
 all_placed : (domain : ℕ → Bool) (from to : ℕ) → AreAllPlaced domain from to → IsAnyBeyond domain from to → ⊥
 all_placed domain from to placed beyond = below_and_beyond _ (placed beyond.0 beyond.1) beyond.2
 
-places_pass : (c : Command) (m : Maps) → AreAllPlaced (whole_of c m.statuses) c.options.input_position (output_from c.options)
+places_pass : (c : Command) (m : Maps)
+    → AreAllPlaced (whole_of c m.statuses) c.options.input_position (output_from c.options)
     → (e : LogEnding) → PlacesRefused c m e → ⊥
 places_pass c m placed e refused =
     all_placed (whole_of c m.statuses) c.options.input_position (output_from c.options) placed refused.beyond
@@ -265,7 +267,8 @@ list_ends c types m e is beyond fit (inr (inl done)) line list =
     ))
 list_ends c types m e is beyond fit (inr (inr broke)) line list =
     inr (inr (
-      places_pass c m (fit (λ refused. let no : ConsoleFault ≡ Usage PlaceTooLarge = sym broke ∙ refused in absurd (cc))),
+      places_pass c m (fit (λ refused. let no : ConsoleFault ≡ Usage PlaceTooLarge = sym broke ∙ refused in
+          absurd (cc))),
       subst (λ (x : LogMode). EndsAs x c line list m e (only_calls [])) (sym is) (ends_printed e (inr broke)),
     ))
 
@@ -279,9 +282,11 @@ pub listed_found : (c : Command) (types : TypeSet) (h : HeadingLines) (m : Maps)
     → PutsAs e (flat_map number_line (listed_in c types l)) old new → HasFound c h m e old new
 listed_found c types h m l e old new is loaded beyond fit answers put = record {
   ends = list_ends c types m e is
-      (λ refused. subst (λ (s : List Status). IsAnyBeyond (whole_of c s) c.options.input_position (output_from c.options))
+      (λ refused. subst (λ (s : List Status). IsAnyBeyond (whole_of c s) c.options.input_position
+      (output_from c.options))
       loaded.statuses (beyond refused))
-      (λ passed. subst (λ (s : List Status). AreAllPlaced (whole_of c s) c.options.input_position (output_from c.options))
+      (λ passed. subst (λ (s : List Status). AreAllPlaced (whole_of c s) c.options.input_position
+      (output_from c.options))
       loaded.statuses (fit passed))
       answers;
   out = λ line heads.

@@ -101,7 +101,8 @@ created_fits listed rest c line list m e d new (inr w) =
     answers_have (Fits c) (Look (ListRefused c.options list) ∷ []) (Saves listed rest c line list m)
     ((λ x r. list_fits c list x new r), tt)
     (λ x f s. answers_have (Fits c) (Make (save_calls (names_of c.mapfile) s.1) ∷ []) (Ends Done) (
-      (λ call made b. broke_fits c (save_calls (names_of c.mapfile) s.1) (may_save c (names_of c.mapfile) s.1 new) call []
+      (λ call made b. broke_fits c (save_calls (names_of c.mapfile) s.1) (may_save c (names_of c.mapfile) s.1 new)
+          call []
           made b),
       tt,
     )

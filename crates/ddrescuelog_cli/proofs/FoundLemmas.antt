@@ -132,7 +132,8 @@ ends_found Summarize c line list m e d w = printed_found (Finds Summarize c m) e
 over_found : (c : Command) (line list : List ℕ) (m : Maps) (e : LogEnding) (d : Deeds) → WorksOver c line list m e d
     → IsFound e (Finds c.mode c m)
 over_found c line list m =
-    answers_have (λ x. IsFound x (Finds c.mode c m)) (Take ∷ Look (PlacesRefused c m) ∷ []) (EndsAs c.mode c line list m)
+    answers_have (λ x. IsFound x (Finds c.mode c m)) (Take ∷ Look (PlacesRefused c m) ∷ [])
+    (EndsAs c.mode c line list m)
     (tt, ((λ e r. subst (λ x. IsFound x (Finds c.mode c m)) (sym r.is) tt), tt)) (ends_found c.mode c line list m)
 
 there_found : (F : LogEnding → Type 0) (forced : Bool) (name : List ℕ) (file : Option File)

@@ -1,6 +1,7 @@
 pub mod AfterLemmas
 pub mod BehindLemmas
 pub mod CallLemmas
+pub mod CompleteLemmas
 pub mod CreateLemmas
 pub mod FindLemmas
 pub mod FitLemmas
@@ -12,6 +13,7 @@ pub mod LookLemmas
 pub mod MapLemmas
 pub mod MapsLemmas
 pub mod NumberLemmas
+pub mod OtherLemmas
 pub mod PromiseLemmas
 pub mod PutLemmas
 pub mod ReadLemmas

@@ -119,7 +119,8 @@ other_refused c m e old mid new r stays s =
           ∙ ap (file_of c.other) (map_stands RunMap (mapfile_mode c.mode) c.mapfile (Ok m) old mid r stays t))
           refl;
       gained = λ t. grew_both old mid new r.calls s.calls (r.gained t) (s.gained (still_tells old mid stays t));
-      did = inr (through_then (mapfile_rows c r.file) (named_rows c (found_by r.file s.file domain)) (λ e d. ⊥) e r.calls
+      did = inr (through_then (mapfile_rows c r.file) (named_rows c (found_by r.file s.file domain)) (λ e d. ⊥) e
+          r.calls
           s.calls r.did.1
           (stopped_more (other_rows c s.file) (domain_rows c domain) (λ e d. ⊥) e (only_calls s.calls) s.did));
     }

@@ -229,7 +229,8 @@ named_stopped c found run e calls alone none s =
     through_then (map_rows OtherMap Tight c.other found.other)
     (map_rows DomainMap (map_mode c.options.loose) c.domain_map found.domain) run e [] calls
     (none_through OtherMap Tight c.other found.other alone none)
-    (stopped_more (map_rows DomainMap (map_mode c.options.loose) c.domain_map found.domain) [] run e (only_calls calls) s)
+    (stopped_more (map_rows DomainMap (map_mode c.options.loose) c.domain_map found.domain) [] run e
+    (only_calls calls) s)
 
 named_then : (c : Command) (found : Found) (run : LogEnding → Deeds → Type 0) (e : LogEnding)
     (calls later : List Entry) → c.other ≡ None → found.other ≡ None

@@ -1,5 +1,5 @@
 -- Numbers that are put one by one.
-use Rattle.std.proofs.Common.{◌≡◌, ℕ, ◌+◌, ◌≤◌, ◌<◌, Bool, List, [], ◌∷◌, ◌++◌, length, flat_map, Result, Ok, Err, OnOk, OnErr, refl, sym, ap, ◌∙◌, subst, append_assoc, append-nil, arith, length-append}
+use Rattle.std.proofs.Common.{◌≡◌, ℕ, ◌+◌, ◌-◌, ◌≤◌, ◌<◌, Bool, List, [], ◌∷◌, ◌++◌, length, flat_map, Result, Ok, Err, OnOk, OnErr, refl, sym, ap, ◌∙◌, subst, append_assoc, append-nil, arith, length-append}
 use Rattle.std.specs.Fmt.{decimal}
 use Rattle.block_list.specs.declared.status.Status.{Status}
 use Rattle.block_list.specs.declared.types.TypeSet.{TypeSet}
@@ -32,8 +32,8 @@ pub record NumbersPut (w : Wanted) (begun now : ListingState) (buffer : List ℕ
   pub shape : now.shape ≡ begun.shape
   pub whole : (part ++ buffer) ++ lines_of (listed_from w now.least) ≡ lines_of (listed w)
 
-pub none_put : (w : Wanted) (begun : ListingState) (buffer : List ℕ) (old : ConsoleState) → begun.least ≡ 0 → buffer ≡ []
-    → NumbersPut w begun begun buffer old old
+pub none_put : (w : Wanted) (begun : ListingState) (buffer : List ℕ) (old : ConsoleState) → begun.least ≡ 0
+    → buffer ≡ [] → NumbersPut w begun begun buffer old old
 none_put w begun buffer old first empty = record {
   part = [];
   puts = puts_none Out old;
@@ -68,10 +68,18 @@ none_of begun now domain statuses buffer old new p none k least is =
     none k least (subst (λ w. IsListed w k) (sym (same_wanted begun now domain statuses p.types p.shape)) is)
 
 -- a number that is listed is at most that of the end
-pub listed_below : (w : Wanted) (k : ℕ) → IsListed w k → k ≤ block_of w.shape (length w.statuses)
+listed_below : (w : Wanted) (k : ℕ) → IsListed w k → k ≤ block_of w.shape (length w.statuses)
 listed_below w k is =
     let o = one_from w k is in
     omega (arith, o.3, block_mono w.shape o.0 (length w.statuses) (omega (arith, o.1)))
+
+-- fewer are to come behind one
+pub fewer_left : (w : Wanted) (now now' : ListingState) (k : ℕ) → IsFirst (IsListed w) now.least k
+    → now' ≡ record now { least = k + 1 }
+    → block_of w.shape (length w.statuses) + 1 - now'.least < block_of w.shape (length w.statuses) + 1 - now.least
+fewer_left w now now' k first behind =
+    let next : now'.least ≡ k + 1 = ap (λ (s : ListingState). s.least) behind in
+    omega (arith, first.after, next, listed_below w k first.holds)
 
 -- parts of a text, put together anew
 parts : (a b c d e f : List ℕ) → b ++ d ≡ c ++ e → ((a ++ b) ++ d) ++ f ≡ (a ++ c) ++ (e ++ f)

@@ -26,12 +26,13 @@ use Rattle.ddrescuelog_cli.specs.Results.{text_of}
 use Rattle.ddrescuelog_cli.specs.Messages.{message}
 use Rattle.ddrescuelog_cli.specs.Answers.{AreAccepted, SaysOfUsage, SaysOfWords, FitsCommand, Takes, is_silent}
 use Rattle.ddrescuelog_cli.specs.Behind.{SiteBehind}
-use Rattle.ddrescuelog_cli.specs.Stops.{OnlyReads, LeavesAll}
+use Rattle.ddrescuelog_cli.specs.Stops.{OnlyReads, LeavesFiles, LeavesAll}
 use Rattle.ddrescuelog_cli.specs.Worked.{FeedAfter, MaySay, Worked}
 use Rattle.ddrescuelog_cli.specs.Ddrescuelog.{Ddrescuelog, IsUntouched, Promise, Says, Nothing, Message}
 use Rattle.ddrescuelog_cli.proofs.ReadLemmas.{AreReads, files_stand}
 use Rattle.ddrescuelog_cli.proofs.StandLemmas.{leave_all}
 use Rattle.ddrescuelog_cli.proofs.StopsLemmas.{stops_safely, works_read}
+use Rattle.ddrescuelog_cli.proofs.OtherLemmas.{others_stand}
 use Rattle.ddrescuelog_cli.proofs.FitLemmas.{answers_fit}
 use Rattle.ddrescuelog_cli.proofs.AfterLemmas.{causes_by, feed_keeps, site_keeps}
 use Rattle.ddrescuelog_cli.proofs.WorkedLemmas.{starved_worked}
@@ -42,13 +43,13 @@ use Rattle.ddrescuelog_cli.proofs.WorkedLemmas.{starved_worked}
 abbrev pub WorkedFor : Command → ConsoleState → Told → Type 0
 WorkedFor c between t = Worked c (line_of t) t.answer t.site t.site' t.feed t.console between
 
--- A mode that only reads leaves all as it was.
+-- It left everything as it was where it only reads, and where its answer says so.
 stands_by : (c : Command) (between : ConsoleState) (t : Told) → SiteKeeps t.site t.site' → (w : WorkedFor c between t)
-    → OnlyReads c.mode → IsTrue t.site.tells
+    → OnlyReads c.mode ⊎ LeavesFiles t.answer → IsTrue t.site.tells
     → ((name : List ℕ) → files_in t.site' name ≡ files_of t name) × LeavesAll t.site w.outside.calls
-stands_by c between t keeps w only tells =
+stands_by c between t keeps w leaves tells =
     let reads : AreReads w.outside.calls =
-    works_read c (line_of t) w.outside.list w.outside.found w.maps t.answer w.outside.calls only w.work in (
+    works_read c (line_of t) w.outside.list w.outside.found w.maps t.answer w.outside.calls leaves w.work in (
       λ name. ap (λ f. f name)
           (files_stand t.site t.site' w.outside.calls (keeps.start tells) (w.calls tells) reads),
       leave_all t.site w.outside.calls reads,
@@ -69,6 +70,9 @@ promised c between t keeps w takes = record {
   stops = λ tell.
       stops_safely c (line_of t) w.outside.list w.outside.found w.maps t.site t.answer w.outside.calls w.work;
   stands = stands_by c between t keeps w;
+  others = λ tells.
+      others_stand c (line_of t) w.outside.list w.outside.found w.maps t.answer t.site t.site' w.outside.calls
+      (keeps.start tells) (w.calls tells) w.work;
 }
 
 -- ---- what is said is on standard error
@@ -108,7 +112,8 @@ asked_kept c between t a none w site feed says =
     let kept : Promise c between t = promised c between t site.keeps w feed.takes in
     record {
       words = asked_says t.answer c t.words kept.fits (record { command = c; asks = a.asks });
-      cause = causes_by t.answer (text_of c.mode c (line_of t) w.maps) t between site.counts feed.counts w.out (said_beside t between says);
+      cause = causes_by t.answer (text_of c.mode c (line_of t) w.maps) t between site.counts feed.counts w.out
+          (said_beside t between says);
       between = between;
       asked_for = λ other asks. subst (λ (x : Command). Promise x between t) (sym (a.alone other asks)) kept;
       nothing_out = λ nothing. absurd (nothing c a.asks);
@@ -200,7 +205,8 @@ module _ (fault : UsageFault) (other : IsElse fault) where
       → Passes fault (command_by words items r operands)
   words_pass words items (Err n) operands is = other.value n (cc)
   words_pass words items (Ok o) operands is =
-      short_passes (size_word items) (unless_empty (empty_operand words operands) (with_mode words items o o.mode operands))
+      short_passes (size_word items) (unless_empty (empty_operand words operands)
+      (with_mode words items o o.mode operands))
       (filled_passes (empty_operand words operands) (with_mode words items o o.mode operands)
       (mode_passes words items o o.mode operands)) is
 

@@ -27,7 +27,8 @@ puts_none at a = record {
   fed = λ p. refl;
 }
 
-pub puts_both : (at : Channel) (s t : List ℕ) (a b c : ConsoleState) → Puts at s a b → Puts at t b c → Puts at (s ++ t) a c
+pub puts_both : (at : Channel) (s t : List ℕ) (a b c : ConsoleState) → Puts at s a b → Puts at t b c
+    → Puts at (s ++ t) a c
 puts_both at s t a b c p q = record {
   stays = beside_join at a b c p.stays q.stays;
   whole = λ tells. q.whole (subst IsTrue (sym p.stays.keeps.tells) tells) ∙ ap (λ x. x ++ t) (p.whole tells)
@@ -37,7 +38,8 @@ puts_both at s t a b c p q = record {
 }
 
 -- a beginning of a text that goes on is one of a longer text
-goes_behind : (s t before between now : List ℕ) → between ≡ before ++ s → GoesOn t between now → GoesOn (s ++ t) before now
+goes_behind : (s t before between now : List ℕ) → between ≡ before ++ s → GoesOn t between now
+    → GoesOn (s ++ t) before now
 goes_behind s t before between now is g = record {
   part = s ++ g.part;
   left = g.left;

@@ -1,5 +1,5 @@
 -- A mapfile that is removed where it is done.
-use Rattle.std.proofs.Common.{◌≡◌, ℕ, Bool, true, IsTrue, List, [], ◌∷◌, ◌++◌, map, refl, sym, ap, ◌∙◌, inl, inr, subst, append_assoc, append-nil}
+use Rattle.std.proofs.Common.{◌≡◌, ℕ, Bool, true, IsTrue, List, [], ◌∷◌, ◌++◌, map, refl, sym, ap, ◌∙◌, inl, inr, subst, append_assoc}
 use Rattle.std.proofs.lemmas.Bool.{both_ways}
 use Rattle.block_list.specs.declared.status.Status.{Status}
 use Rattle.rescue_domain.specs.Finished.{is_finished_at}
@@ -14,7 +14,7 @@ use Rattle.work_steps.specs.Work.{Deeds}
 use Rattle.log_command.specs.declared.mode.LogMode.TheVariants.{Test}
 use Rattle.log_command.specs.Command.{Command}
 use Rattle.ddrescuelog_cli.specs.declared.ending.LogEnding.{LogEnding}
-use Rattle.ddrescuelog_cli.specs.declared.ending.LogEnding.TheVariants.{Done, NotDone, SiteFault}
+use Rattle.ddrescuelog_cli.specs.declared.ending.LogEnding.TheVariants.{Done, SiteFault}
 use Rattle.ddrescuelog_cli.specs.declared.load.Loaded.{Loaded}
 use Rattle.ddrescuelog_cli.specs.Maps.{Maps, domain_of}
 use Rattle.ddrescuelog_cli.specs.Modes.{looks_at_places}
@@ -32,32 +32,11 @@ over_remove c line list m e d mode w = inr (inr (
   subst (λ mode. EndsAs mode c line list m e d) (sym mode) w,
 ))
 
--- a position of what was loaded that isn't finished is one of the maps
-open_in : (domain domain' : ℕ → Bool) (statuses statuses' : List Status) → ((x : ℕ) → domain x ≡ domain' x)
-    → statuses ≡ statuses' → IsOpenIn domain statuses → IsOpenIn domain' statuses'
-open_in domain domain' statuses statuses' same is o = record {
-  position = o.position;
-  inside = sym (same o.position) ∙ o.inside;
-  unfinished = ap (λ s. is_finished_at s o.position) (sym is) ∙ o.unfinished;
-}
-
 not_open : (domain domain' : ℕ → Bool) (statuses statuses' : List Status) → ((x : ℕ) → domain x ≡ domain' x)
     → statuses ≡ statuses' → IsDoneIn domain statuses → IsOpenIn domain' statuses' → ⊥
 not_open domain domain' statuses statuses' same is d o =
     both_ways (is_finished_at statuses' o.position) o.unfinished
     (ap (λ s. is_finished_at s o.position) (sym is) ∙ d.each o.position (same o.position ∙ o.inside))
-
-pub removes_none : (c : Command) (m : Maps) (l : Loaded) (old : SiteState) → IsLoadedAs c m l → c.mode ≡ Test true
-    → IsOpenIn (covers l.domain) l.tiles.statuses → RemovesDone c m NotDone old old
-removes_none c m l old loaded mode open_ = record {
-  calls = [];
-  gained = λ t. sym (append-nil old.calls);
-  ends = λ line list. over_remove c line list m NotDone (only_calls []) mode
-      (inl (
-        (open_in (covers l.domain) (domain_of c m) l.tiles.statuses m.statuses loaded.domain loaded.statuses open_, refl),
-        record { opens = refl; gain = record { calls = refl; reads = refl; times = refl } },
-      ));
-}
 
 passes : (c : Command) (m : Maps) (l : Loaded) → IsLoadedAs c m l → IsDoneIn (covers l.domain) l.tiles.statuses
     → (v : LogEnding) → IsNotDone c m v → ⊥

@@ -38,7 +38,7 @@ use Rattle.ddrescuelog_cli.specs.Maps.{Found, Maps, domain_of, shape_of}
 use Rattle.ddrescuelog_cli.specs.Refusals.{ListRefused}
 use Rattle.ddrescuelog_cli.specs.Results.{IsCreated}
 use Rattle.ddrescuelog_cli.specs.Work.{EndsSaved, EndsCreated, EndsAs, removal_calls, LogWorks}
-use Rattle.ddrescuelog_cli.specs.Stops.{LeftAt, CouldBefore, Replaces, IsChanging, StopsSafely, OnlyReads}
+use Rattle.ddrescuelog_cli.specs.Stops.{LeftAt, CouldBefore, Replaces, IsChanging, StopsSafely, OnlyReads, LeavesFiles}
 use Rattle.ddrescuelog_cli.proofs.CallLemmas.{broke_behind}
 use Rattle.ddrescuelog_cli.proofs.FoundLemmas.{done_of}
 use Rattle.ddrescuelog_cli.proofs.ReadLemmas.{IsRead, AreReads}
@@ -183,8 +183,8 @@ module _ (c : Command) (line list : List ℕ) (m : Maps) (site : SiteState) (fro
       elim (left_behind site front rest calls grew reads k files left) [
         | inl l ↦ inl (l name)
         | inr (j, is, l) ↦
-            elim (found_along (FoundRemoved c.mapfile (disk_of site)) (disk_of site) (removal_calls c.mapfile) rest j went
-            (along_removal c.mapfile (disk_of site)) name (files name) (l name)) [
+            elim (found_along (FoundRemoved c.mapfile (disk_of site)) (disk_of site) (removal_calls c.mapfile) rest j
+            went (along_removal c.mapfile (disk_of site)) name (files name) (l name)) [
               | inl old ↦ inl old
               | inr (same, none) ↦ inr (same, (done, ap files (sym same) ∙ none))
             ]
@@ -198,7 +198,8 @@ module _ (c : Command) (line list : List ℕ) (m : Maps) (site : SiteState) (fro
       (left_whole site calls files left) in (
         done,
         removed_sure c.mapfile (disk_of site) (files c.mapfile)
-            (subst (λ (es : List Entry). MayShow ((disk_after (disk_of site) es).shows c.mapfile) (files c.mapfile)) (all is)
+            (subst (λ (es : List Entry). MayShow ((disk_after (disk_of site) es).shows c.mapfile) (files c.mapfile))
+            (all is)
             (here c.mapfile)),
       )
 
@@ -267,7 +268,8 @@ HasSaved names text old new =
 stops_by_save : (names : MapNames) (text : List ℕ) (start : Folder) (old new : List Entry) → HasSaved names text old new
     → (k : ℕ) (found : List ℕ → Option File) → length old ≤ k → k ≤ length new → MayBeLeft start new k found
     → (name : List ℕ) → name ≢ names.draft
-    → IsOldOrNew names text (disk_after (at_rest start) old) (disk_after (at_rest start) (until k new)) name (found name)
+    → IsOldOrNew names text (disk_after (at_rest start) old) (disk_after (at_rest start) (until k new)) name
+    (found name)
 stops_by_save names text start old new (inl grew) k found le most left name apart =
     stops_in_save names text (Ok tt) (site_at start old false 0) (site_at start new false 0) refl
     (made_saves names text start old new grew) k found le most left name apart
@@ -362,7 +364,7 @@ module _ (listed other : Status) (c : Command) (line list : List ℕ) (m : Maps)
 -- ---- by the mode
 
 -- a mode that only reads calls nothing behind its maps
-reads_run : (mode : LogMode) (c : Command) (line list : List ℕ) (m : Maps) (e : LogEnding) (rest : List Entry)
+pub reads_run : (mode : LogMode) (c : Command) (line list : List ℕ) (m : Maps) (e : LogEnding) (rest : List Entry)
     → OnlyReads mode → EndsAs mode c line list m e (only_calls rest) → rest ≡ []
 reads_run (Change change) c line list m e rest only (inl w) = w.1.gain.calls
 reads_run (Change change) c line list m e rest only (inr w) = w.1.gain.calls
@@ -379,8 +381,35 @@ reads_run (Compare finished) c line list m e rest only w = w.1.gain.calls
 reads_run Summarize c line list m e rest only (inl w) = w.1.gain.calls
 reads_run Summarize c line list m e rest only (inr w) = w.1.gain.calls
 
+-- nor does any mode behind an answer that leaves the files
+reads_early : (mode : LogMode) (c : Command) (line list : List ℕ) (m : Maps) (e : LogEnding) (rest : List Entry)
+    → LeavesFiles e → EndsAs mode c line list m e (only_calls rest) → rest ≡ []
+reads_early (Change change) c line list m e rest leaves w =
+    reads_run (Change change) c line list m e rest (λ x. x) w
+reads_early (Combine op) c line list m e rest leaves w = reads_run (Combine op) c line list m e rest (λ x. x) w
+reads_early (Complete status) c line list m e rest leaves w =
+    reads_run (Complete status) c line list m e rest (λ x. x) w
+reads_early (ListBlocks types) c line list m e rest leaves w =
+    reads_run (ListBlocks types) c line list m e rest (λ x. x) w
+reads_early (Create listed other) c line list m e rest leaves (inl (is, idle)) = idle.gain.calls
+reads_early (Create listed other) c line list m e rest leaves (inr (inl (refused, idle))) = idle.gain.calls
+reads_early (Create listed other) c line list m e rest leaves
+    (inr (inr (passed, (numbers, text, are, is, inl (call, at, broke, alone))))) =
+    absurd (subst LeavesFiles at leaves)
+reads_early (Create listed other) c line list m e rest leaves
+    (inr (inr (passed, (numbers, text, are, is, inr (more, made, ends))))) = absurd (subst LeavesFiles ends.0 leaves)
+reads_early (Test true) c line list m e rest leaves (inl (refused, idle)) = idle.gain.calls
+reads_early (Test true) c line list m e rest leaves (inr (passed, inl (call, at, broke, alone))) =
+    absurd (subst LeavesFiles at leaves)
+reads_early (Test true) c line list m e rest leaves (inr (passed, inr (more, made, ends))) =
+    absurd (subst LeavesFiles ends.0 leaves)
+reads_early (Test false) c line list m e rest leaves w = reads_run (Test false) c line list m e rest (λ x. x) w
+reads_early (Compare finished) c line list m e rest leaves w =
+    reads_run (Compare finished) c line list m e rest (λ x. x) w
+reads_early Summarize c line list m e rest leaves w = reads_run Summarize c line list m e rest (λ x. x) w
+
 -- nothing was called behind these
-none_more : (made rest more : List Entry) → rest ≡ made ++ more → IsIdle (only_calls more) → rest ≡ made
+pub none_more : (made rest more : List Entry) → rest ≡ made ++ more → IsIdle (only_calls more) → rest ≡ made
 none_more made rest more grew idle = grew ∙ ap (λ (r : List Entry). made ++ r) idle.gain.calls ∙ append-nil made
 
 module _ (c : Command) (line list : List ℕ) (m : Maps) (site : SiteState) (e : LogEnding)
@@ -461,14 +490,21 @@ module _ (c : Command) (line list : List ℕ) (m : Maps) (site : SiteState) (e :
 
 -- ---- all of it
 
--- the work of a mode that only reads calls nothing but reads
+-- the work of a mode that only reads calls nothing but reads, and so does any whose answer leaves the files
 pub works_read : (c : Command) (line list : List ℕ) (found : Found) (m : Maps) (e : LogEnding) (calls : List Entry)
-    → OnlyReads c.mode → LogWorks c line list found m e (only_calls calls) → AreReads calls
-works_read c line list found m e calls only w =
+    → OnlyReads c.mode ⊎ LeavesFiles e → LogWorks c line list found m e (only_calls calls) → AreReads calls
+works_read c line list found m e calls leaves w =
     let b : Behind IsShort (EndsAs c.mode c line list m) e calls =
     behind_works (creates c.mode) c line list found m e calls w in
     reads_alone b.front b.rest calls b.grew b.reads
-    (elim b.ends [ inl stopped ↦ stopped.0 | inr ends ↦ reads_run c.mode c line list m e b.rest only ends ])
+    (elim b.ends [
+      | inl stopped ↦ stopped.0
+      | inr ends ↦
+          elim leaves [
+            | inl only ↦ reads_run c.mode c line list m e b.rest only ends
+            | inr early ↦ reads_early c.mode c line list m e b.rest early ends
+          ]
+    ])
 
 works_leave : (c : Command) (line list : List ℕ) (found : Found) (m : Maps) (site : SiteState) (e : LogEnding)
     (calls : List Entry) → LogWorks c line list found m e (only_calls calls)
@@ -490,7 +526,10 @@ stops_safely c line list found m site e calls w =
     let l : Leaving c.mode c line list m site calls e = works_leave c line list found m site e calls w in
     record {
       mapfile = λ k files le left.
-          elim (l.each k files le left c.mapfile (λ on. apart_draft c.mapfile)) [ inl old ↦ inl old | inr new ↦ inr new.1 ];
+          elim (l.each k files le left c.mapfile (λ on. apart_draft c.mapfile)) [
+            | inl old ↦ inl old
+            | inr new ↦ inr new.1
+          ];
       kept = l.kept;
       others = λ k files name le left apart draft.
           elim (l.each k files le left name draft) [ inl old ↦ old | inr new ↦ absurd (apart new.0) ];

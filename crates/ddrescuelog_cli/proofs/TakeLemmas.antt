@@ -1,68 +1,19 @@
 -- A list that is taken piece by piece.
-use Rattle.std.proofs.Common.{◌≡◌, ◌⊎◌, ℕ, ◌<◌, ◌≤◌, Bool, true, false, IsTrue, List, [], ◌++◌, length, take, refl, sym, ap, ◌∙◌, inl, inr, subst, append_assoc, append-nil, arith, length-append}
-use Rattle.std.proofs.lemmas.List.{length-take-le}
+use Rattle.std.proofs.Common.{◌≡◌, ◌⊎◌, ℕ, ◌<◌, Bool, IsTrue, List, ◌++◌, length, refl, sym, ap, ◌∙◌, inl, inr, subst, append_assoc, arith, length-append}
 use Rattle.fault_count.specs.Counts.{Rose}
 use Rattle.map_algebra.specs.Numbers.{list_limit}
 use Rattle.rescue_console.specs.FeedState.{FeedState, Keeps}
 use Rattle.ddrescuelog_cli.specs.declared.ending.LogEnding.{LogEnding}
-use Rattle.ddrescuelog_cli.specs.declared.ending.LogEnding.TheVariants.{Done, ListTooLong, FeedFault, NoMemory}
+use Rattle.ddrescuelog_cli.specs.declared.ending.LogEnding.TheVariants.{ListTooLong, FeedFault, NoMemory}
 use Rattle.ddrescuelog_cli.specs.Behind.{FeedBehind}
-use Rattle.ddrescuelog_cli.specs.Creating.{TakesPiece, HasTaken, TakesAll, StopsTaking}
+use Rattle.ddrescuelog_cli.specs.Creating.{TakesPiece, HasTaken, StopsTaking}
 use Rattle.ddrescuelog_cli.proofs.LoadLemmas.{by_tells}
-
-pub feed_keeps : (f : FeedState) → Keeps f f
-feed_keeps f = record { tells = refl; planned = refl; later = omega arith }
 
 keeps_both : (a b c : FeedState) → Keeps a b → Keeps b c → Keeps a c
 keeps_both a b c k l = record {
   tells = l.tells ∙ k.tells;
   planned = l.planned ∙ k.planned;
   later = omega (arith, k.later, l.later);
-}
-
--- ---- a piece
-
-some_taken : (n : ℕ) (buf : List ℕ) → n ≤ length buf → 0 < n → 0 < length (take n buf)
-some_taken n buf fits some = omega (arith, length-take-le n buf fits, some)
-
-none_taken : (n : ℕ) (buf : List ℕ) → n ≡ 0 → take n buf ≡ []
-none_taken n buf none = ap (λ k. take k buf) none
-
-none_left : (n : ℕ) (buf old new : List ℕ) → n ≡ 0 → old ≡ take n buf ++ new → old ≡ [] → new ≡ []
-none_left n buf old new none taken all = sym (taken ∙ ap (λ k. take k buf ++ new) none) ∙ all
-
-pub piece_taken : (some : Bool) (n : ℕ) (buf before now : List ℕ) (old new : FeedState) → n ≤ length buf
-    → (some ≡ true → 0 < n) → (some ≡ false → n ≡ 0) → now ≡ before ++ take n buf → Keeps old new
-    → new.faults ≡ old.faults → (IsTrue old.tells → old.left ≡ take n buf ++ new.left)
-    → (IsTrue old.tells → n ≡ 0 → old.left ≡ []) → TakesPiece some before now old new
-piece_taken some n buf before now old new fits more none grew keeps kept taken ends = record {
-  piece = take n buf;
-  grew = grew;
-  keeps = keeps;
-  kept = kept;
-  taken = taken;
-  more = λ is. some_taken n buf fits (more is);
-  ended = λ is. (
-    none_taken n buf (none is),
-    λ t. none_left n buf old.left new.left (none is) (taken t) (ends t (none is)),
-  );
-}
-
-pub starved_behind : (f : FeedState) → FeedBehind NoMemory f f
-starved_behind f = record { keeps = feed_keeps f; counts = refl; takes = λ t. ([], refl) }
-
-pub broke_behind_feed : (old new : FeedState) → Keeps old new → Rose old.faults new.faults
-    → (IsTrue old.tells → new.left ≡ old.left) → FeedBehind FeedFault old new
-broke_behind_feed old new keeps rose stays =
-    record { keeps = keeps; counts = rose; takes = λ t. ([], sym (stays t)) }
-
--- ---- the list so far
-
-pub nothing_taken : (bytes : List ℕ) (f : FeedState) → bytes ≡ [] → HasTaken bytes f f
-nothing_taken bytes f none = record {
-  keeps = feed_keeps f;
-  kept = refl;
-  taken = λ t. sym (ap (λ b. b ++ f.left) none);
 }
 
 -- what was taken, and then a piece
@@ -79,22 +30,6 @@ taken_more some bytes now old mid new h p = record {
   taken = λ t. taken_both bytes p.piece now old.left mid.left new.left p.grew (h.taken t)
       (p.taken (subst IsTrue (sym h.keeps.tells) t));
 }
-
-pub all_taken : (bytes now : List ℕ) (old mid new : FeedState) → HasTaken bytes old mid
-    → TakesPiece false bytes now mid new → length bytes ≤ list_limit → TakesAll now old new
-all_taken bytes now old mid new h p short =
-    let same : now ≡ bytes = p.grew ∙ ap (λ b. bytes ++ b) (p.ended refl).0 ∙ append-nil bytes in
-    record {
-      has = taken_more false bytes now old mid new h p;
-      all = λ t. (p.ended refl).1 (subst IsTrue (sym h.keeps.tells) t);
-      short = subst (λ b. length b ≤ list_limit) (sym same) short;
-    }
-
--- it is longer, if more was taken
-pub longer : (some : Bool) (bytes now : List ℕ) (old new : FeedState) → some ≡ true → TakesPiece some bytes now old new
-    → length bytes < length now
-longer some bytes now old new is p =
-    omega (arith, ap length p.grew, length-append bytes p.piece, p.more is)
 
 pub too_long : (bytes : List ℕ) (old new : FeedState) → HasTaken bytes old new → list_limit < length bytes
     → StopsTaking ListTooLong old new
@@ -159,10 +94,3 @@ taking_stopped e bytes old mid new h (inr is) b = record {
 }
 
 -- ---- the whole list
-
-pub whole_list : (bytes : List ℕ) (old new : FeedState) → TakesAll bytes old new → IsTrue old.tells → bytes ≡ old.left
-whole_list bytes old new a t =
-    sym (a.has.taken t ∙ ap (λ b. bytes ++ b) (a.all t) ∙ append-nil bytes)
-
-pub done_behind : (bytes : List ℕ) (old new : FeedState) → TakesAll bytes old new → FeedBehind Done old new
-done_behind bytes old new a = record { keeps = a.has.keeps; counts = a.has.kept; takes = a.all }

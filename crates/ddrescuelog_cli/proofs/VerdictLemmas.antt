@@ -31,7 +31,7 @@ abbrev Once : (LogEnding → Deeds → Type 0) → Type 0
 Once run = (e e' : LogEnding) (d d' : Deeds) → run e d → run e' d' → IsVerdict e → IsVerdict e' → e ≡ e'
 
 -- no fault is a verdict
-verdicts : AreVerdicts log_faults IsVerdict
+pub verdicts : AreVerdicts log_faults IsVerdict
 verdicts = record { memory = λ v. v; input = λ v. v; call = λ call v. v }
 
 -- ---- refusals
@@ -107,7 +107,7 @@ one_list o list e e' (inr a) (inr b) =
     a.3 ∙ ap (λ n. BadNumber n) same ∙ sym b.3
 
 -- a save that failed has no verdict
-saved_done : (c : Command) (text : List ℕ) (e : LogEnding) (d : Deeds) → EndsSaved c text e d → IsVerdict e → e ≡ Done
+pub saved_done : (c : Command) (text : List ℕ) (e : LogEnding) (d : Deeds) → EndsSaved c text e d → IsVerdict e → e ≡ Done
 saved_done c text e d (inl a) v = absurd (subst IsVerdict a.1 v)
 saved_done c text e d (inr a) v = a.2.0
 
@@ -117,7 +117,8 @@ Saves listed rest c line list m e d =
     (numbers text : List ℕ) × (numbers_in (shape_of c.options) list ≡ Ok numbers)
     × IsCreated c listed rest line m numbers text × EndsSaved c text e d
 
-saves_once : (listed rest : Status) (c : Command) (line list : List ℕ) (m : Maps) → Once (Saves listed rest c line list m)
+saves_once : (listed rest : Status) (c : Command) (line list : List ℕ) (m : Maps)
+    → Once (Saves listed rest c line list m)
 saves_once listed rest c line list m e e' d d' a b v v' =
     saved_done c a.1 e d a.4 v ∙ sym (saved_done c b.1 e' d' b.4 v')
 

@@ -84,7 +84,8 @@ load_stopped c line e old new feed console reads l cause =
       asked_maps = m.asked;
       are = m.are;
       work = reading_works c line feed.left l.found m.maps e l.calls reads
-          (stopped_more (Take ∷ read_rows c l.found) [] (WorksOver c line feed.left m.maps) e (only_calls l.calls) l.did);
+          (stopped_more (Take ∷ read_rows c l.found) [] (WorksOver c line feed.left m.maps) e (only_calls l.calls)
+          l.did);
       out = read_puts e old.faults new.faults (text_of c.mode c line m.maps) console cause;
     }
 
@@ -140,7 +141,8 @@ pub found_behind : (c : Command) (l : Loaded) (h : HeadingLines) (e : LogEnding)
     → ((m : Maps) → IsLoadedAs c m l → HasFound c h m e console between) → SiteBehind e old new
 found_behind c l h e old new console between reads keeps loads stays kept finds =
     plain_behind e old new
-    (over_plain c [] [] loads.did.0 e (only_calls []) reads keeps ((finds loads.did.0 loads.did.3).ends [] [])) stays kept
+    (over_plain c [] [] loads.did.0 e (only_calls []) reads keeps ((finds loads.did.0 loads.did.3).ends [] []))
+    stays kept
 
 -- the mapfile was to be removed
 pub load_removed : (c : Command) (line : List ℕ) (l : Loaded) (e : LogEnding) (old mid new : SiteState)

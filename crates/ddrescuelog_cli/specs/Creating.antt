@@ -78,6 +78,7 @@ DidLook c found (Ok tiles) calls =
     HasStatuses c.domain_map (map_mode c.options.loose) found.domain (statuses_in tiles) × CameOver c found calls
 DidLook c found (Err e) calls = StoppedEarly c found e calls
 
+-- There are files that were found, and calls, which are the site's own where it tells.
 pub record Looks (c : Command) (result : Result (Option Tiled) LogEnding) (old new : SiteState) : Type 0 where
   pub found : Found
   pub calls : List Entry
@@ -87,7 +88,7 @@ pub record Looks (c : Command) (result : Result (Option Tiled) LogEnding) (old n
 
 -- ---- the list
 
--- A piece was taken behind a list, and some of the feed was left or nothing.
+-- A piece was taken behind a list: it has bytes where the feed had some, and else nothing is left.
 pub record TakesPiece (some : Bool) (before now : List ℕ) (old new : FeedState) : Type 0 where
   pub piece : List ℕ
   pub grew : now ≡ before ++ piece
@@ -139,6 +140,7 @@ DidMake o listed rest domain (Ok tiles) list =
     AreOfList o listed rest domain list tiles.statuses × (length list ≤ list_limit)
 DidMake o listed rest domain (Err e) list = (e ≡ NoMemory) ⊎ (e ≡ FeedFault) ⊎ ListRefused o list e
 
+-- There is a list, which is the feed's own where it tells.
 pub record Makes (o : LogOptions) (listed rest : Status) (domain : Option (List Status))
     (result : Result Tiled LogEnding) (old new : FeedState) : Type 0 where
   pub list : List ℕ

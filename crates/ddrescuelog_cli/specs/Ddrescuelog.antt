@@ -1,11 +1,12 @@
--- The promise of `ddrescuelog`, field by field. What an object tells is its own: the forms in memory tell all, those for
--- real files and streams their counts and what is open.
+-- The promise of `ddrescuelog`, field by field. What an object tells is its own: the forms in memory tell all, those
+-- for real files and streams their counts and what is open.
 use Rattle.std.specs.Prelude.{◌≡◌, ◌≢◌, ◌⊎◌, ℕ, true, false, IsTrue, List, []}
 use Rattle.fault_count.specs.Plan.{counted}
 use Rattle.crash_site.specs.SiteState.{Keeps as SiteKeeps, files_in}
 use Rattle.rescue_console.specs.FeedState.{Keeps as FeedKeeps}
 use Rattle.rescue_console.specs.ConsoleState.{ConsoleState, Puts, PutsPart}
 use Rattle.rescue_console.specs.declared.console.Channel.TheVariants.{Out, Err}
+use Rattle.save_resume.specs.MapNames.{names_of}
 use Rattle.log_command.specs.Modes.{creates}
 use Rattle.log_command.specs.Command.{Command, Asks, AskQuiet}
 use Rattle.ddrescuelog_cli.specs.declared.ending.LogEnding.{LogEnding}
@@ -14,7 +15,7 @@ use Rattle.ddrescuelog_cli.specs.Told.{Told, Outside, Agrees, Tell, files_of, li
 use Rattle.ddrescuelog_cli.specs.Maps.{Maps, AreMapsOf, AreAskedFor}
 use Rattle.ddrescuelog_cli.specs.Results.{text_of}
 use Rattle.ddrescuelog_cli.specs.Work.{LogWorks}
-use Rattle.ddrescuelog_cli.specs.Stops.{StopsSafely, OnlyReads, LeavesAll}
+use Rattle.ddrescuelog_cli.specs.Stops.{StopsSafely, OnlyReads, LeavesFiles, LeavesAll}
 use Rattle.ddrescuelog_cli.specs.Answers.{SaysOfWords, Causes, FitsCommand, Takes, drafting_left, is_silent}
 use Rattle.ddrescuelog_cli.specs.Messages.{message}
 
@@ -25,8 +26,8 @@ pub record IsUntouched (t : Told) (between : ConsoleState) : Type 0 where
   pub out : between ≡ t.console
 
 -- What is said on standard error, behind what was put on standard output: nothing of an answer that was asked for, nor
--- where the words ask for that; else the message of the answer, or where the console failed a beginning of it, and it is
--- one put. Where the words ask for silence, a message comes only if memory ran out before they were read.
+-- where the words ask for that; else the message of the answer, or where the console failed a beginning of it, and it
+-- is one put. Where the words ask for silence, a message comes only if memory ran out before they were read.
 pub data Says (t : Told) (between : ConsoleState) : Type 0 where
   Nothing : (is_silent t.answer ≡ true) ⊎ AskQuiet t.words → t.console' ≡ between → Says t between
   Message : is_silent t.answer ≡ false
@@ -34,8 +35,8 @@ pub data Says (t : Told) (between : ConsoleState) : Type 0 where
       → Puts Err (message t.answer) between t.console' ⊎ PutsPart Err (message t.answer) between t.console'
       → (IsTrue between.is_planned → t.console'.plan ≡ counted between.plan) → Says t between
 
--- What is put on standard output by the answer: the text of the mode, or where the console failed a beginning of it, which
--- only a mode that has a text can do; behind every refusal and every other fault nothing.
+-- What is put on standard output by the answer: the text of the mode, or where the console failed a beginning of it,
+-- which only a mode that has a text can do; behind every refusal and every other fault nothing.
 abbrev pub PutsAs : LogEnding → (text : List ℕ) → (old new : ConsoleState) → Type 0
 PutsAs Done text old new = Puts Out text old new
 PutsAs NotDone text old new = new ≡ old
@@ -51,7 +52,8 @@ PutsAs FeedFault text old new = new ≡ old
 PutsAs ConsoleFault text old new = (text ≢ []) × PutsPart Out text old new
 PutsAs NoMemory text old new = new ≡ old
 
--- What `ddrescuelog` promises of a call whose words ask for this. `between` is the console once standard output was put.
+-- What `ddrescuelog` promises of a call whose words ask for this. `between` is the console once standard output was
+-- put.
 pub record Promise (c : Command) (between : ConsoleState) (t : Told) : Type 0 where
   -- There are files that it found, a list and calls, which are what files and feed tell, where they do;
   pub outside : Outside
@@ -60,8 +62,8 @@ pub record Promise (c : Command) (between : ConsoleState) (t : Told) : Type 0 wh
   pub maps : Maps
   pub asked_maps : AreAskedFor c maps
   pub are : AreMapsOf c outside.found maps
-  -- Whoever tells: the answer is the first refusal of the work, or what the mode finds in the maps; and the calls on the
-  -- files are those of the work up to there.
+  -- Whoever tells: the answer is the first refusal of the work, or what the mode finds in the maps; and the calls on
+  -- the files are those of the work up to there.
   pub work : LogWorks c (line_of t) outside.list outside.found maps t.answer (only_calls outside.calls)
   -- An answer that speaks of a map, a list or a mode comes only where the words ask for it.
   pub fits : FitsCommand t.answer c
@@ -73,9 +75,13 @@ pub record Promise (c : Command) (between : ConsoleState) (t : Told) : Type 0 wh
   -- found is one that could be found before, or the created map, whole, or none where it was done and is to be removed;
   -- every other file but the draft is found as it could be before.
   pub stops : Tell c t → StopsSafely c (line_of t) outside.list maps t.site outside.calls t.answer
-  -- A mode that only reads leaves everything as it was: the files as they read, and what a stop may find of them.
-  pub stands : OnlyReads c.mode → IsTrue t.site.tells
+  -- A mode that only reads leaves everything as it was, and so does any other where the work isn't done and no call on
+  -- the files failed: the files as they read, and what a stop may find of them.
+  pub stands : OnlyReads c.mode ⊎ LeavesFiles t.answer → IsTrue t.site.tells
       → ((name : List ℕ) → files_in t.site' name ≡ files_of t name) × LeavesAll t.site outside.calls
+  -- Always all files read as they did, but for the mapfile and the draft of a map that is created.
+  pub others : IsTrue t.site.tells → (name : List ℕ) → name ≢ c.mapfile
+      → (creates c.mode ≡ true → name ≢ (names_of c.mapfile).draft) → files_in t.site' name ≡ files_of t name
 
 -- What `ddrescuelog` promises of a call, by all that is told of it
 pub record Ddrescuelog (t : Told) : Type 0 where

@@ -1,16 +1,19 @@
 -- What the definitions mean.
-use Rattle.std.specs.Prelude.{◌≡◌, ⊤, ℕ, IsTrue, List}
+use Rattle.std.specs.Prelude.{◌≡◌, ◌≢◌, ⊤, ℕ, ◌-◌, ◌^◌, ◌<◌, Bool, true, false, IsTrue, List}
 use Rattle.crash_site.specs.SiteState.{files_in}
-use Rattle.work_steps.specs.Work.{Deeds}
+use Rattle.work_steps.specs.Work.{Deeds, Step}
+use Rattle.work_steps.specs.Verdicts.{RefuseNothing}
+use Rattle.log_command.specs.Modes.{creates}
 use Rattle.log_command.specs.Command.{Command, Asks}
 use Rattle.ddrescuelog_cli.specs.declared.ending.LogEnding.{LogEnding}
 use Rattle.ddrescuelog_cli.specs.declared.ending.LogEnding.TheVariants.{Done, NotDone, Differ, Usage, Exists, NoMap, MapRefused, BadNumber, ListTooLong, SiteFault, FeedFault, ConsoleFault, NoMemory}
 use Rattle.ddrescuelog_cli.specs.Maps.{Found, Maps, AreMapsOf, AreAskedFor}
+use Rattle.ddrescuelog_cli.specs.Refusals.{ListRefused, MapIsThere, PlacesRefused}
 use Rattle.ddrescuelog_cli.specs.Results.{Finds}
 use Rattle.ddrescuelog_cli.specs.Answers.{FitsCommand}
 use Rattle.ddrescuelog_cli.specs.Stops.{OnlyReads}
 use Rattle.ddrescuelog_cli.specs.Told.{Told, files_of}
-use Rattle.ddrescuelog_cli.specs.Work.{LogWorks}
+use Rattle.ddrescuelog_cli.specs.Work.{LogWorks, named_rows, read_rows}
 use Rattle.ddrescuelog_cli.specs.Ddrescuelog.{Ddrescuelog}
 
 -- an answer that words, files and a list bring, whatever calls, streams and memory do
@@ -68,3 +71,31 @@ FilesStand = (t : Told) (c : Command) (d : Ddrescuelog t) (asks : Asks t.words c
 -- Whatever files are found, there are maps by which a command goes.
 abbrev pub MapsAreThere : Type 0
 MapsAreThere = (c : Command) (found : Found) → (m : Maps) × AreAskedFor c m × AreMapsOf c found m
+
+-- no call on the files, no take and no put on standard output failed; and the counts say so
+pub record NothingFailed (t : Told) : Type 0 where
+  pub calls : t.site'.faults ≡ t.site.faults
+  pub takes : t.feed'.faults ≡ t.feed.faults
+  pub puts : t.console'.out.faults ≡ t.console.out.faults
+  pub calls_count : t.site.faults < 2 ^ 64 - 1
+  pub takes_count : t.feed.faults < 2 ^ 64 - 1
+  pub puts_count : t.console.out.faults < 2 ^ 64 - 1
+
+-- the rows of the maps that are read: one that is created isn't
+abbrev pub rows_of_maps : (creates_map : Bool) → Command → Found → List (Step LogEnding)
+rows_of_maps false c found = read_rows c found
+rows_of_maps true c found = named_rows c found
+
+-- Nothing of the work is refused: the maps that are named are there and are maps, each position that is listed has a
+-- place in the output, and where a map is to be created none is in its place, or that is forced, and its list is one.
+pub record NothingIsRefused (c : Command) (list : List ℕ) (found : Found) (m : Maps) : Type 0 where
+  pub maps : RefuseNothing (rows_of_maps (creates c.mode) c found)
+  pub places : (v : LogEnding) → PlacesRefused c m v → ⊥
+  pub free : creates c.mode ≡ true → c.options.forced ≡ false → (v : LogEnding) → MapIsThere found.mapfile v → ⊥
+  pub numbers : creates c.mode ≡ true → (v : LogEnding) → ListRefused c.options list v → ⊥
+
+-- Where nothing failed, nothing is refused and memory doesn't run out, the answer is what the mode finds.
+abbrev pub IsFoundUnless : Type 0
+IsFoundUnless = (t : Told) (c : Command) (d : Ddrescuelog t) (asks : Asks t.words c) → NothingFailed t
+    → NothingIsRefused c (d.asked_for c asks).outside.list (d.asked_for c asks).outside.found (d.asked_for c asks).maps
+    → t.answer ≢ NoMemory → Finds c.mode c (d.asked_for c asks).maps t.answer

@@ -79,10 +79,11 @@ pub record AreAskedFor (c : Command) (m : Maps) : Type 0 where
   pub other : c.other ≡ None → m.other ≡ []
   pub domain : c.domain_map ≡ None → m.domain ≡ None
 
--- where the input position stands in the output, and the blocks that stand there
+-- where the input position stands in the output
 abbrev pub output_from : LogOptions → ℕ
 output_from o = unwrap_or o.output_position o.input_position
 
+-- the blocks of the output
 abbrev pub shape_of : LogOptions → Shape
 shape_of o = record { ipos = o.input_position; opos = output_from o; size = o.block }
 

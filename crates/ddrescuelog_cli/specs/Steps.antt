@@ -78,6 +78,7 @@ DidReadNamed which mode name file (Ok tiles) calls =
     HasStatuses name mode file (statuses_in tiles) × Through (map_rows which mode name file) calls
 DidReadNamed which mode name file (Err e) calls = Stopped (map_rows which mode name file) e calls
 
+-- and again a file and calls
 pub record ReadsNamed (which : Which) (mode : Mode) (name : Option (List ℕ)) (result : Result (Option Tiled) LogEnding)
     (old new : SiteState) : Type 0 where
   pub file : Option File
@@ -88,11 +89,12 @@ pub record ReadsNamed (which : Which) (mode : Mode) (name : Option (List ℕ)) (
 
 -- ---- all maps
 
--- the maps that were read
+-- the same, with none where there are no tiles
 abbrev pub statuses_or_none : Option Tiled → List Status
 statuses_or_none None = []
 statuses_or_none (Some tiles) = tiles.statuses
 
+-- the maps that were read
 abbrev pub maps_read : ReadMap → (other domain : Option Tiled) → Maps
 maps_read m other domain = record {
   shown = m.state;

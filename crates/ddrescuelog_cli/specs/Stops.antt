@@ -13,7 +13,7 @@ use Rattle.log_command.specs.declared.mode.LogMode.TheVariants.{Change, Combine,
 use Rattle.log_command.specs.Modes.{creates}
 use Rattle.log_command.specs.Command.{Command}
 use Rattle.ddrescuelog_cli.specs.declared.ending.LogEnding.{LogEnding}
-use Rattle.ddrescuelog_cli.specs.declared.ending.LogEnding.TheVariants.{Done}
+use Rattle.ddrescuelog_cli.specs.declared.ending.LogEnding.TheVariants.{Done, NotDone, Differ, Usage, Exists, NoMap, MapRefused, BadNumber, ListTooLong, SiteFault, FeedFault, ConsoleFault, NoMemory}
 use Rattle.ddrescuelog_cli.specs.Maps.{Maps, shape_of, domain_of}
 use Rattle.ddrescuelog_cli.specs.Results.{IsCreated}
 
@@ -69,6 +69,22 @@ pub record StopsSafely (c : Command) (line list : List ℕ) (m : Maps) (site : S
 -- For a mode that only reads this says: at whatever moment it is stopped, everything is found as it could be before.
 abbrev pub OnlyReads : LogMode → Type 0
 OnlyReads mode = IsChanging mode → ⊥
+
+-- Whatever the mode, an answer leaves everything as it was unless the work is done or a call on the files failed.
+abbrev pub LeavesFiles : LogEnding → Type 0
+LeavesFiles Done = ⊥
+LeavesFiles NotDone = Unit {0}
+LeavesFiles Differ = Unit {0}
+LeavesFiles (Usage fault) = Unit {0}
+LeavesFiles Exists = Unit {0}
+LeavesFiles (NoMap which) = Unit {0}
+LeavesFiles (MapRefused which error) = Unit {0}
+LeavesFiles (BadNumber line) = Unit {0}
+LeavesFiles ListTooLong = Unit {0}
+LeavesFiles (SiteFault call) = ⊥
+LeavesFiles FeedFault = Unit {0}
+LeavesFiles ConsoleFault = Unit {0}
+LeavesFiles NoMemory = Unit {0}
 
 -- it leaves everything as it could be found before, under every name
 abbrev pub LeavesAll : SiteState → List Entry → Type 0

@@ -1,5 +1,5 @@
 //! What the definitions mean.
-ghost use Rattle.ddrescuelog_cli.specs.Laws.{AnswersAreFound, AnswersFit, FilesStand, HasOneVerdict, MapsAreThere};
+ghost use Rattle.ddrescuelog_cli.specs.Laws.{AnswersAreFound, AnswersFit, FilesStand, HasOneVerdict, IsFoundUnless, MapsAreThere};
 
 /// Words, files and a list bring one verdict at most.
 pub fn works_have_one_verdict()
@@ -24,4 +24,9 @@ pub fn files_stand()
 /// Whatever files are found, there are maps by which a command goes.
 pub fn maps_are_there()
     ensures { MapsAreThere }
+{}
+
+/// Nothing else is answered than what the mode finds, a refusal, a failure or want of memory.
+pub fn nothing_else_is_answered()
+    ensures { IsFoundUnless }
 {}

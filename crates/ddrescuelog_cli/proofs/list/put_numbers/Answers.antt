@@ -1,10 +1,7 @@
 -- Each number that comes goes behind those that were put.
-use Rattle.std.proofs.Common.{◌≡◌, ◌≤◌, ◌+◌, length, ap, arith}
-use Rattle.block_list.specs.Places.{IsFirst}
 use Rattle.rescue_domain.specs.Parts.{covers}
-use Rattle.map_algebra.specs.Blocks.{block_of}
-use Rattle.map_algebra.specs.Listing.{IsListed, wanted_of}
-use Rattle.ddrescuelog_cli.proofs.NumberLemmas.{none_put, next_of, none_of, listed_below, number_put, last_put, last_broke, number_broke, some_buffered, some_listed}
+use Rattle.map_algebra.specs.Listing.{wanted_of}
+use Rattle.ddrescuelog_cli.proofs.NumberLemmas.{none_put, next_of, none_of, fewer_left, number_put, last_put, last_broke, number_broke, some_buffered, some_listed}
 use Rattle.ddrescuelog_cli.proofs.list.put_numbers.Goals as goal
 
 pub numbers-init : goal.numbers-init
@@ -12,13 +9,8 @@ numbers-init g c = none_put _ _ _ _ c.requires.begin c.new-buffer.ensures
 
 pub numbers-smaller : goal.numbers-smaller
 numbers-smaller g c =
-    let w = wanted_of c.args.listing.now (covers c.args.domain.now) (g.T.Tiles.statuses c.args.tiles.now) in
-    let first : IsFirst (IsListed w) c.numbers.listing.least c.in-Some.number =
-    next_of _ _ _ _ _ _ _ _ c.numbers.invariant c.in-Some.ensures.least in
-    let below : c.in-Some.number ≤ block_of c.args.listing.now.shape (length (g.T.Tiles.statuses c.args.tiles.now)) =
-    listed_below w c.in-Some.number first.holds in
-    let behind : c.next.new.self.least ≡ c.in-Some.number + 1 = ap (λ s. s.least) c.in-Some.ensures.behind in
-    omega (arith, first.after, below, behind)
+    fewer_left (wanted_of c.args.listing.now (covers c.args.domain.now) (g.T.Tiles.statuses c.args.tiles.now)) _ _
+    c.in-Some.number (next_of _ _ _ _ _ _ _ _ c.numbers.invariant c.in-Some.ensures.least) c.in-Some.ensures.behind
 
 pub numbers-preserved : goal.numbers-preserved
 numbers-preserved g c =

@@ -14,7 +14,8 @@ returns-in-Err-NoMemory-clause-promise g c = λ now says.
 pub returns-in-Err-Usage-clause-promise : goal.returns-in-Err-Usage-clause-promise
 returns-in-Err-Usage-clause-promise g c =
     let refused : IsErrorOf c.args.words.now (Usage c.in-Err-Usage.fault c.in-Err-Usage.quiet) =
-    subst (λ (e : CommandError). IsErrorOf c.args.words.now e) c.in-Err-Usage.field-0-is c.in-Err-Usage.ensures.refused in
+    subst (λ (e : CommandError). IsErrorOf c.args.words.now e) c.in-Err-Usage.field-0-is
+    c.in-Err-Usage.ensures.refused in
     rw c.in-Err-Usage.fault-is
     (λ now says.
     refused_kept c.args.words.now c.in-Err-Usage.fault c.in-Err-Usage.quiet (g.D.Site.state c.args.site.now)

@@ -1,0 +1,167 @@
+-- Nothing else is answered than what a mode finds, a refusal, a failure or want of memory.
+use Rattle.std.proofs.Common.{◌≡◌, ◌≢◌, ℕ, ◌-◌, ◌<◌, ◌^◌, Bool, true, false, List, [], ◌∷◌, Option, refl, sym, inl, inr, subst, arith}
+use Rattle.std.specs.Prelude.{⊤}
+use Rattle.fault_count.specs.Counts.{raised}
+use Rattle.block_list.specs.declared.status.Status.{Status}
+use Rattle.crash_site.specs.Files.{File}
+use Rattle.work_steps.specs.Work.{Deeds, with_calls, Take, Look, Works}
+use Rattle.work_steps.specs.Verdicts.{RefuseNothing}
+use Rattle.work_steps.proofs.VerdictLemmas.{goes_to_run}
+use Rattle.log_command.specs.declared.mode.LogMode.{LogMode}
+use Rattle.log_command.specs.declared.mode.LogMode.TheVariants.{Change, Combine, Complete, ListBlocks, Create, Test, Compare, Summarize}
+use Rattle.log_command.specs.Modes.{creates}
+use Rattle.log_command.specs.Command.{Command}
+use Rattle.ddrescuelog_cli.specs.declared.ending.LogEnding.{LogEnding}
+use Rattle.ddrescuelog_cli.specs.declared.ending.LogEnding.TheVariants.{Done, NotDone, Differ, Usage, Exists, NoMap, MapRefused, BadNumber, ListTooLong, SiteFault, FeedFault, ConsoleFault, NoMemory}
+use Rattle.ddrescuelog_cli.specs.Told.{Told, line_of, only_calls}
+use Rattle.ddrescuelog_cli.specs.Maps.{Found, Maps}
+use Rattle.ddrescuelog_cli.specs.Refusals.{ListRefused, MapIsThere, PlacesRefused}
+use Rattle.ddrescuelog_cli.specs.Results.{Finds}
+use Rattle.ddrescuelog_cli.specs.Answers.{Causes}
+use Rattle.ddrescuelog_cli.specs.Work.{log_faults, named_rows, read_rows, EndsPrinted, EndsCreated, EndsAs, UnlessThere, WorksOver, WorksAs}
+use Rattle.ddrescuelog_cli.specs.Ddrescuelog.{Promise}
+use Rattle.ddrescuelog_cli.specs.Laws.{IsFound, IsFoundUnless, IsVerdict, NothingFailed, NothingIsRefused, rows_of_maps}
+use Rattle.ddrescuelog_cli.proofs.FoundLemmas.{answers_are_found}
+use Rattle.ddrescuelog_cli.proofs.VerdictLemmas.{Saves, saved_done, verdicts}
+
+-- ---- an answer of a mode
+
+-- it is an answer of a mode itself
+abbrev IsOfMode : LogEnding → Type 0
+IsOfMode Done = ⊤
+IsOfMode NotDone = ⊤
+IsOfMode Differ = ⊤
+IsOfMode (Usage fault) = ⊥
+IsOfMode Exists = ⊥
+IsOfMode (NoMap which) = ⊥
+IsOfMode (MapRefused which error) = ⊥
+IsOfMode (BadNumber line) = ⊥
+IsOfMode ListTooLong = ⊥
+IsOfMode (SiteFault call) = ⊥
+IsOfMode FeedFault = ⊥
+IsOfMode ConsoleFault = ⊥
+IsOfMode NoMemory = ⊥
+
+-- so it is what the mode finds
+found_by : (e : LogEnding) (F : LogEnding → Type 0) → IsOfMode e → IsFound e F → F e
+found_by Done F of found = found
+found_by NotDone F of found = found
+found_by Differ F of found = found
+found_by (Usage fault) F of found = absurd of
+found_by Exists F of found = absurd of
+found_by (NoMap which) F of found = absurd of
+found_by (MapRefused which error) F of found = absurd of
+found_by (BadNumber line) F of found = absurd of
+found_by ListTooLong F of found = absurd of
+found_by (SiteFault call) F of found = absurd of
+found_by FeedFault F of found = absurd of
+found_by ConsoleFault F of found = absurd of
+found_by NoMemory F of found = absurd of
+
+of_as : (e v : LogEnding) → e ≡ v → IsOfMode v → IsOfMode e
+of_as e v is of = subst IsOfMode (sym is) of
+
+-- ---- an answer for no fault, where nothing is refused
+
+printed_of : (e : LogEnding) (d : Deeds) → EndsPrinted e d → IsVerdict e → IsOfMode e
+printed_of e d (inl a) v = absurd (subst IsVerdict a.0 v)
+printed_of e d (inr a) v = of_as e Done a.0 tt
+
+-- a list isn't refused
+abbrev ListPasses : Command → List ℕ → Type 0
+ListPasses c list = (v : LogEnding) → ListRefused c.options list v → ⊥
+
+created_of : (listed rest : Status) (c : Command) (line list : List ℕ) (m : Maps) (e : LogEnding) (d : Deeds)
+    → ListPasses c list → EndsCreated listed rest c line list m e d → IsVerdict e → IsOfMode e
+created_of listed rest c line list m e d pass (inl a) v = absurd (subst IsVerdict a.0 v)
+created_of listed rest c line list m e d pass (inr w) v =
+    let ran : (did : Deeds) × Saves listed rest c line list m e did =
+    goes_to_run log_faults IsVerdict verdicts (Look (ListRefused c.options list) ∷ [])
+    (Saves listed rest c line list m) (pass, tt) e d w v in
+    of_as e Done (saved_done c ran.1.1 e ran.0 ran.1.4 v) tt
+
+ends_of : (mode : LogMode) (c : Command) (line list : List ℕ) (m : Maps) (e : LogEnding) (d : Deeds)
+    → (creates mode ≡ true → ListPasses c list) → EndsAs mode c line list m e d → IsVerdict e → IsOfMode e
+ends_of (Change change) c line list m e d pass w v = printed_of e d w v
+ends_of (Combine op) c line list m e d pass w v = printed_of e d w v
+ends_of (Complete status) c line list m e d pass w v = printed_of e d w v
+ends_of (ListBlocks types) c line list m e d pass w v = printed_of e d w v
+ends_of (Create listed rest) c line list m e d pass w v =
+    created_of listed rest c line list m e d (pass refl) w v
+ends_of (Test true) c line list m e d pass (inl (r, idle)) v = of_as e NotDone r.1 tt
+ends_of (Test true) c line list m e d pass (inr (passed, inl b)) v = absurd (subst IsVerdict b.1 v)
+ends_of (Test true) c line list m e d pass (inr (passed, inr w)) v = of_as e Done w.2.0 tt
+ends_of (Test false) c line list m e d pass (inl a, idle) v = of_as e Done a.0 tt
+ends_of (Test false) c line list m e d pass (inr a, idle) v = of_as e NotDone a.0 tt
+ends_of (Compare false) c line list m e d pass (inl a, idle) v = of_as e Done a.0 tt
+ends_of (Compare false) c line list m e d pass (inr a, idle) v = of_as e Differ a.0 tt
+ends_of (Compare true) c line list m e d pass (inl a, idle) v = of_as e Done a.0 tt
+ends_of (Compare true) c line list m e d pass (inr a, idle) v = of_as e Differ a.0 tt
+ends_of Summarize c line list m e d pass w v = printed_of e d w v
+
+over_of : (c : Command) (line list : List ℕ) (found : Found) (m : Maps) (e : LogEnding) (d : Deeds)
+    → NothingIsRefused c list found m → WorksOver c line list m e d → IsVerdict e → IsOfMode e
+over_of c line list found m e d pass w v =
+    let ran : (did : Deeds) × EndsAs c.mode c line list m e did =
+    goes_to_run log_faults IsVerdict verdicts (Take ∷ Look (PlacesRefused c m) ∷ []) (EndsAs c.mode c line list m)
+    (pass.places, tt) e d w v in
+    ends_of c.mode c line list m e ran.0 pass.numbers ran.1 v
+
+there_of : (forced : Bool) (name : List ℕ) (file : Option File) (more : LogEnding → Deeds → Type 0) (e : LogEnding)
+    (d : Deeds) → (forced ≡ false → (v : LogEnding) → MapIsThere file v → ⊥)
+    → ((d : Deeds) → more e d → IsOfMode e) → UnlessThere forced name file more e d → IsVerdict e → IsOfMode e
+there_of true name file more e d free last w v = last d w
+there_of false name file more e d free last (inl b) v = absurd (subst IsVerdict b.0 v)
+there_of false name file more e d free last (inr (x, r, s, i, inl p)) v = absurd (free refl e p.0)
+there_of false name file more e d free last (inr (x, r, s, i, inr w)) v = last (with_calls d r) w.1
+
+works_of : (new : Bool) (c : Command) → creates c.mode ≡ new → (line list : List ℕ) (found : Found) (m : Maps)
+    (e : LogEnding) (d : Deeds) → RefuseNothing (rows_of_maps new c found) → NothingIsRefused c list found m
+    → WorksAs new c line list found m e d → IsVerdict e → IsOfMode e
+works_of false c is line list found m e d maps pass w v =
+    let ran : (did : Deeds) × WorksOver c line list m e did =
+    goes_to_run log_faults IsVerdict verdicts (Take ∷ read_rows c found) (WorksOver c line list m) maps e d w v in
+    over_of c line list found m e ran.0 pass ran.1 v
+works_of true c is line list found m e d maps pass w v =
+    let named : LogEnding → Deeds → Type 0 = Works log_faults (named_rows c found) (WorksOver c line list m) in
+    let ran : (did : Deeds) × UnlessThere c.options.forced c.mapfile found.mapfile named e did =
+    goes_to_run log_faults IsVerdict verdicts (Take ∷ [])
+    (UnlessThere c.options.forced c.mapfile found.mapfile named) tt e d w v in
+    there_of c.options.forced c.mapfile found.mapfile named e ran.0 (pass.free is)
+    (λ did x.
+    let over : (last : Deeds) × WorksOver c line list m e last =
+    goes_to_run log_faults IsVerdict verdicts (named_rows c found) (WorksOver c line list m) maps e did x v in
+    over_of c line list found m e over.0 pass over.1 v)
+    ran.1 v
+
+-- ---- no fault
+
+-- a count that stands hasn't risen
+not_risen : (n now : ℕ) → n < 2 ^ 64 - 1 → now ≡ n → now ≡ raised n → ⊥
+not_risen n now below same rose = omega (arith, below, same, rose)
+
+-- what is left for an answer
+no_fault : (t : Told) (e : LogEnding) → NothingFailed t → Causes e t → e ≢ NoMemory → IsVerdict e
+no_fault t Done f cause room = tt
+no_fault t NotDone f cause room = tt
+no_fault t Differ f cause room = tt
+no_fault t (Usage fault) f cause room = tt
+no_fault t Exists f cause room = tt
+no_fault t (NoMap which) f cause room = tt
+no_fault t (MapRefused which error) f cause room = tt
+no_fault t (BadNumber line) f cause room = tt
+no_fault t ListTooLong f cause room = tt
+no_fault t (SiteFault call) f cause room = not_risen t.site.faults t.site'.faults f.calls_count f.calls cause.site
+no_fault t FeedFault f cause room = not_risen t.feed.faults t.feed'.faults f.takes_count f.takes cause.feed_
+no_fault t ConsoleFault f cause room =
+    not_risen t.console.out.faults t.console'.out.faults f.puts_count f.puts cause.out
+no_fault t NoMemory f cause room = room refl
+
+pub is_found_unless : IsFoundUnless
+is_found_unless t c d asks failed pass room =
+    let p : Promise c d.between t = d.asked_for c asks in
+    let v : IsVerdict t.answer = no_fault t t.answer failed d.cause room in
+    found_by t.answer (Finds c.mode c p.maps)
+    (works_of (creates c.mode) c refl (line_of t) p.outside.list p.outside.found p.maps t.answer
+    (only_calls p.outside.calls) pass.maps pass p.work v)
+    (answers_are_found c (line_of t) p.outside.list p.outside.found p.maps t.answer (only_calls p.outside.calls) p.work)
