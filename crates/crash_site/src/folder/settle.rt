@@ -5,10 +5,17 @@ use real_files::outcome::{if_there, removable};
 use std::fs::{self, File, OpenOptions};
 use std::io::{self, ErrorKind};
 
-/// Makes a mapfile durable that is there, and the entries of its name's folder, after it was asked whether it can be
-/// saved.
-pub(super) fn settle(rt: &HostRuntime, apart: &Apart<'_>, name: &str) -> io::Result<()> {
-    ask_for_saves(rt, apart, name)?;
+/// Makes a mapfile durable that is there, and the entries of its name's folder. Where more saves are to come it is asked
+/// first whether it can be saved.
+pub(super) fn settle(
+    rt: &HostRuntime,
+    apart: &Apart<'_>,
+    name: &str,
+    saves: bool,
+) -> io::Result<()> {
+    if saves {
+        ask_for_saves(rt, apart, name)?;
+    }
     if find_map(rt, apart, name)?.is_some() {
         settle_reached(rt, name)?;
     }
