@@ -13,14 +13,12 @@ use Rattle.crash_site.specs.declared.site.SiteCall.{SiteCall}
 use Rattle.crash_site.specs.declared.site.SiteCall.TheVariants.{ImageOpen, MapRead}
 use Rattle.crash_site.specs.Files.{File}
 use Rattle.crash_site.specs.Calls.{Entry}
-use Rattle.mapfile_text.specs.declared.read.Mode.{Mode}
-use Rattle.option_words.specs.declared.fault.UsageFault.TheVariants.{PlaceTooLarge}
 use Rattle.rescue_domain.specs.Testing.{seen}
 use Rattle.rescue_rules.specs.declared.phase.Phase.TheVariants.{Copying}
 use Rattle.rescue_rules.specs.declared.stop.Stop.{Stop}
 use Rattle.rescue_rules.specs.declared.stop.Stop.TheVariants.{SourceLost as InputLost, Site, NoMemory as NoRoom}
 use Rattle.rescue_rules.specs.declared.stop.RunEnd.{RunEnd}
-use Rattle.rescue_rules.specs.declared.stop.RunEnd.TheVariants.{Done as Finished, Stopped, SaveFailed}
+use Rattle.rescue_rules.specs.declared.stop.RunEnd.TheVariants.{Done as Finished, Stopped as RunStopped, SaveFailed}
 use Rattle.rescue_rules.specs.Setting.{Setting, IsSensible}
 use Rattle.rescue_rules.specs.Start.{StandsFor, TextStands, AsNone, AsMap}
 use Rattle.rescue_rules.specs.Machine.{Machine}
@@ -39,9 +37,7 @@ use Rattle.save_resume.specs.MapNames.{names_of}
 use Rattle.option_words.specs.Words.{command_line}
 use Rattle.rescue_command.specs.Command.{Command}
 use Rattle.ddrescue_cli.specs.declared.ending.Ending.{Ending}
-use Rattle.ddrescue_cli.specs.declared.ending.Ending.TheVariants.{Done, Usage, SameName, NoMap, SourceFault, NotRegular, MapRefused, SourceLost, SiteFault, NoMemory}
-use Rattle.ddrescue_cli.specs.declared.ending.Which.{Which}
-use Rattle.ddrescue_cli.specs.declared.ending.Which.TheVariants.{DomainMap, TestMap, RunMap}
+use Rattle.ddrescue_cli.specs.declared.ending.Ending.TheVariants.{Done, SameName, SourceFault, SourceLost, SiteFault, NoMemory}
 use Rattle.ddrescue_cli.specs.Maps.{Found, seen_through}
 use Rattle.ddrescue_cli.specs.InputRead.{HasRead, IsBeforeReads, IsOfOpening}
 use Rattle.ddrescue_cli.specs.Names.{program_name}
@@ -49,15 +45,13 @@ use Rattle.ddrescue_cli.specs.Told.{asked_of}
 use Rattle.ddrescue_cli.specs.Outside.{Outside, HasGainedReads}
 use Rattle.ddrescue_cli.specs.Ddrescue.{Promise}
 use Rattle.ddrescue_cli.specs.Laws.{ReadsAreARun}
-use Rattle.ddrescue_cli.specs.Refusals.{NamedMapRefused}
-use Rattle.ddrescue_cli.specs.Work.{Rescues, rescue_faults, rescue_rows, answer_of}
-use Rattle.work_steps.specs.Work.{Deeds}
-use Rattle.work_steps.specs.Holds.{Holds}
-use Rattle.work_steps.proofs.HoldsLemmas.{holds}
+use Rattle.ddrescue_cli.specs.Work.{Rescues, rescue_faults, rescue_rows, worked_rows, answer_of}
+use Rattle.work_steps.specs.Work.{Deeds, Works}
+use Rattle.work_steps.proofs.AnswerLemmas.{FindNone, Stops, Starved, Unopened, Broken, Refused, Came, Stopped, Went, came}
 use Rattle.ddrescue_cli.proofs.AskedLemmas.{sensible_to}
 use Rattle.ddrescue_cli.proofs.LateLemmas.{IsLate, rescue_late}
 use Rattle.ddrescue_cli.proofs.OpenedLemmas.{none_seen}
-use Rattle.ddrescue_cli.proofs.RowLemmas.{behind_domain, behind_mapfile, behind_test}
+use Rattle.ddrescue_cli.proofs.RefusalLemmas.{refused_plain}
 
 -- what is said of reads that the source gained
 abbrev pub IsReadSo : Setting → Option (List Status) → (s s' : SourceState) → Ending → Deeds → Type 0
@@ -155,9 +149,9 @@ call_refused call earlier late opening = opening
 
 run_refused : (end : RunEnd) → IsLate (answer_of end) → IsBeforeReads (answer_of end) → ⊥
 run_refused Finished late refused = refused.done refl
-run_refused (Stopped InputLost) late refused = refused.lost refl
-run_refused (Stopped (Site call)) late refused = call_refused call None late (refused.call call None refl)
-run_refused (Stopped NoRoom) late refused = refused.room refl
+run_refused (RunStopped InputLost) late refused = refused.lost refl
+run_refused (RunStopped (Site call)) late refused = call_refused call None late (refused.call call None refl)
+run_refused (RunStopped NoRoom) late refused = refused.room refl
 run_refused (SaveFailed call earlier) late refused = call_refused call earlier late (refused.call call earlier refl)
 
 run_so : (o : Setting) (test : Option (List Status)) (s s' : SourceState) (mapfile : Option File) (e : Ending)
@@ -194,77 +188,41 @@ run_so o test s s' mapfile e d ok none (opens, (statuses, state, stands, inr (en
           (shown_at_first state) time (events_in d.gain) ok runs.run (over done);
     }
 
-named_so : (which : Which) (mode : Mode) (file : Option File) (e : Ending) → NamedMapRefused which mode file e → e ≡ Done → ⊥
-named_so which mode file e (inl (none, is)) done = let no : NoMap which ≡ Done = sym is ∙ done in cc
-named_so which mode file e (inr (error, why, is)) done = let no : MapRefused which error ≡ Done = sym is ∙ done in cc
+none_named : (n : Option (List ℕ)) → is_some n ≡ false → n ≡ None
+none_named None off = refl
+none_named (Some name) off = absurd (cc)
+
+mapfile_none : (c : Command) (found : Found) (end : ℕ) → FindNone (worked_rows c found end) → c.mapfile ≡ None → found.mapfile ≡ None
+mapfile_none c found end (domain, (test, (mapfile, more))) = mapfile
+
+-- no row stops as a run that is done
+undone : (c : Command) (found : Found) (end : ℕ) (e : Ending) → Stops rescue_faults (worked_rows c found end) e → e ≡ Done → ⊥
+undone c found end e (Starved is) done = let no : NoMemory ≡ Done = sym is ∙ done in cc
+undone c found end e (Unopened is) done = let no : SourceFault ≡ Done = sym is ∙ done in cc
+undone c found end e (Broken call is called) done = let no : SiteFault call None ≡ Done = sym is ∙ done in cc
+undone c found end e (Refused refused) done = (refused_plain c found end e refused).done done
 
 -- the reads are a run, which gave the input's own bytes, and there is none before a refusal
-read_steps : (c : Command) (found : Found) (end : ℕ) (o : Setting) (test : Option (List Status))
-    (s s' : SourceState) → IsSensible o → o.has_mapfile ≡ is_some c.mapfile
-    → Holds rescue_faults (rescue_rows c found end) (Rescues o found.mapfile) (IsReadSo o test s s')
-read_steps c found end o test s s' ok has =
-    let run : Ending → Deeds → Type 0 = Rescues o found.mapfile in
-    let P : Ending → Deeds → Type 0 = IsReadSo o test s s' in
-    let none : (e : Ending) (d : Deeds) → (e ≡ Done → ⊥) → d.gain.reads ≡ [] → P e d = none_so o test s s' in
-    let refusal : (o.has_mapfile ≡ false → found.mapfile ≡ None) → Holds rescue_faults (behind_mapfile c found end) run P =
-    λ absent. (
-      (λ e d r idle. none e d (λ done. let no : MapRefused RunMap r.0 ≡ Done = sym r.3 ∙ done in cc) idle.gain.reads),
-      λ passed. (
-        (λ e d r idle. none e d (λ done. let no : Usage PlaceTooLarge ≡ Done = sym r.1 ∙ done in cc) idle.gain.reads),
-        λ placed e d r. run_so o test s s' found.mapfile e d ok absent r,
-      ),
-    ) in
-    let rest : Holds rescue_faults (behind_test c found end) run P = (
-      (λ e d r idle. none e d (named_so TestMap _ found.test e r.1) idle.gain.reads),
-      λ pass. (
-        (λ d opens gain. none SourceFault d (λ done. cc) gain.reads),
-        (
-          (λ call d broke only. none (SiteFault call None) d (λ done. cc) only.reads),
-          (
-            (λ e d r idle. none e d (λ done. let no : NotRegular ≡ Done = sym r.2 ∙ done in cc) idle.gain.reads),
-            λ output. (
-              (λ call d broke only. none (SiteFault call None) d (λ done. cc) only.reads),
-              (
-                (λ no. ((λ d idle. none NoMemory d (λ done. cc) idle.gain.reads), λ absent. refusal (λ off. absent))),
-                λ n is. (
-                  (λ load d begins broke only. none (SiteFault MapRead None) d (λ done. cc) only.reads),
-                  (λ load d begins all only. none NoMemory d (λ done. cc) only.reads),
-                  λ load loaded.
-                      refusal
-                      (λ off.
-                      let on : is_some c.mapfile ≡ true = ap (λ (m : Option (List ℕ)). is_some m) is in
-                      let no : true ≡ false = sym on ∙ sym has ∙ off in absurd (cc)),
-                ),
-              ),
-            ),
-          ),
-        ),
-      ),
-    ) in
-    let maps : Holds rescue_faults (behind_domain c found end) run P = (
-      (λ e d r idle. none e d (named_so DomainMap _ found.domain e r.1) idle.gain.reads),
-      λ domain. (
-        (λ no. ((λ d idle. none NoMemory d (λ done. cc) idle.gain.reads), λ absent. rest)),
-        λ n is. (
-          (λ load d begins broke only. none (SiteFault MapRead None) d (λ done. cc) only.reads),
-          (λ load d begins all only. none NoMemory d (λ done. cc) only.reads),
-          λ load loaded. rest,
-        ),
-      ),
-    ) in (
-      (λ d idle. none NoMemory d (λ done. cc) idle.gain.reads),
-      (
-        (λ e d r idle. none e d (λ done. let no : SameName r.0 r.1 ≡ Done = sym r.3 ∙ done in cc) idle.gain.reads),
-        λ apart. (
-          (λ no. ((λ d idle. none NoMemory d (λ done. cc) idle.gain.reads), λ absent. maps)),
-          λ n is. (
-            (λ load d begins broke only. none (SiteFault MapRead None) d (λ done. cc) only.reads),
-            (λ load d begins all only. none NoMemory d (λ done. cc) only.reads),
-            λ load loaded. maps,
-          ),
-        ),
-      ),
-    )
+came_so : (c : Command) (found : Found) (end : ℕ) (o : Setting) (test : Option (List Status)) (s s' : SourceState) (e : Ending)
+    (d : Deeds) → IsSensible o → o.has_mapfile ≡ is_some c.mapfile
+    → Came rescue_faults (worked_rows c found end) (Rescues o found.mapfile) e d → IsReadSo o test s s' e d
+came_so c found end o test s s' e d ok has (Stopped stops unread) are =
+    none_so o test s s' e d (undone c found end e stops) unread are
+came_so c found end o test s s' e d ok has (Went x ran reads none) are =
+    run_so o test s s' found.mapfile e x ok
+    (λ off. mapfile_none c found end none (none_named c.mapfile (sym has ∙ off))) ran
+    (subst (λ (rs : List Reading). HasGainedReads test s s' rs) (sym reads) are)
+
+works_so : (c : Command) (found : Found) (end : ℕ) (o : Setting) (test : Option (List Status)) (s s' : SourceState) (e : Ending)
+    (d : Deeds) → IsSensible o → o.has_mapfile ≡ is_some c.mapfile
+    → Works rescue_faults (rescue_rows c found end) (Rescues o found.mapfile) e d → IsReadSo o test s s' e d
+works_so c found end o test s s' e d ok has (inl (is, idle)) are =
+    none_so o test s s' e d (λ done. let no : NoMemory ≡ Done = sym is ∙ done in cc) idle.gain.reads are
+works_so c found end o test s s' e d ok has (inr (inl (r, idle))) are =
+    none_so o test s s' e d (λ done. let no : SameName r.0 r.1 ≡ Done = sym r.3 ∙ done in cc) idle.gain.reads are
+works_so c found end o test s s' e d ok has (inr (inr (passed, w))) are =
+    came_so c found end o test s s' e d ok has
+    (came rescue_faults (worked_rows c found end) (Rescues o found.mapfile) e d w) are
 
 has_map : (n : Option (List ℕ)) → is_some (option_map names_of n) ≡ is_some n
 has_map None = refl
@@ -275,7 +233,6 @@ reads_are_a_run t c d asks tells =
     let p : Promise c t = d.asked_for c asks in
     let o : Outside = p.outside in
     let s : Setting = asked_of c t o in
-    holds rescue_faults (rescue_rows c o.found o.end) (Rescues s o.found.mapfile) (IsReadSo s o.maps.test t.source t.source')
-    (read_steps c o.found o.end s o.maps.test t.source t.source'
-    (sensible_to c t.words (command_line program_name t.words) o.end o.maps asks) (has_map c.mapfile)) t.answer o.did p.works
+    works_so c o.found o.end s o.maps.test t.source t.source' t.answer o.did
+    (sensible_to c t.words (command_line program_name t.words) o.end o.maps asks) (has_map c.mapfile) p.works
     (p.agrees.reads tells)

@@ -5,7 +5,7 @@ use Rattle.std.specs.Prelude.{if◌then◌else◌, nat_eq}
 use Rattle.crash_site.specs.declared.site.SiteCall.{SiteCall}
 use Rattle.crash_site.specs.declared.site.SiteCall.TheVariants.{ImageOpen, ImageRead, ImageWrite, ImageSync, MapRead, DraftBegin, DraftAppend, DraftSync, DraftPublish, MapSettle, MapRemove}
 use Rattle.crash_site.specs.Files.{File}
-use Rattle.crash_site.specs.Calls.{Call, Entry, Done as Returned, BrokeAt, image_sync, image_write, draft_append, draft_sync}
+use Rattle.crash_site.specs.Calls.{Call, Entry, Done as Returned, image_sync, image_write, draft_append, draft_sync}
 use Rattle.save_resume.specs.MapNames.{MapNames}
 use Rattle.save_resume.specs.Saving.{IsNameIn, save_calls, publish_calls}
 use Rattle.mapfile_text.specs.Pieces.{pieces_of}
@@ -21,6 +21,7 @@ use Rattle.rescue_rules.specs.declared.stop.Stop.TheVariants.{SourceLost as Inpu
 use Rattle.rescue_rules.specs.declared.stop.RunEnd.{RunEnd}
 use Rattle.rescue_rules.specs.Work.{EndsBy, Ends, IsSaved, IsUnsaved, IsBroken, end_of}
 use Rattle.work_steps.specs.Work.{Deeds}
+use Rattle.work_steps.proofs.GainLemmas.{broke_named}
 use Rattle.ddrescue_cli.specs.declared.ending.Ending.{Ending}
 use Rattle.ddrescue_cli.specs.declared.ending.Ending.TheVariants.{SiteFault}
 use Rattle.ddrescue_cli.specs.Work.{Rescues, answer_of}
@@ -36,12 +37,6 @@ IsRunCall call = ⊤
 -- an answer that names no call but such
 pub record IsLate (e : Ending) : Type 0 where
   pub names : (call : SiteCall) (earlier : Option Stop) → e ≡ SiteFault call earlier → IsRunCall call
-
--- the call that failed is one of those
-broke_named : (at : SiteCall) (calls : List Call) (old new : List Entry) → BrokeAt at calls old new → IsNameIn at calls
-broke_named at [] old new broke = absurd broke
-broke_named at (c ∷ cs) old new (inl (is, lost)) = inl is
-broke_named at (c ∷ cs) old new (inr broke) = inr (broke_named at cs (old ++ Returned c ∷ []) new broke)
 
 own_call : (call name : SiteCall) → call ≡ name → IsRunCall name → IsRunCall call
 own_call call name is own = subst IsRunCall (sym is) own

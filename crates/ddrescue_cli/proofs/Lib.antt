@@ -5,14 +5,13 @@ pub mod CompleteLemmas
 pub mod CountLemmas
 pub mod DoneLemmas
 pub mod EndLemmas
-pub mod FaultLemmas
-pub mod LeftBehindLemmas
 pub mod FrontLemmas
 pub mod GivenLemmas
 pub mod GoesLemmas
 pub mod InputReadLemmas
 pub mod LastLemmas
 pub mod LateLemmas
+pub mod LeftBehindLemmas
 pub mod ListingLemmas
 pub mod LoadLemmas
 pub mod MapReadLemmas
@@ -24,10 +23,10 @@ pub mod PhaseLemmas
 pub mod PromiseLemmas
 pub mod RanLemmas
 pub mod ReadLemmas
+pub mod RefusalLemmas
 pub mod RowLemmas
 pub mod SaysLemmas
 pub mod TestedLemmas
 pub mod TurnLemmas
 pub mod VerdictLemmas
-pub mod WordsLemmas
 pub mod WorkedLemmas

@@ -17,7 +17,7 @@ use Rattle.save_resume.specs.Saving.{IsNameIn}
 use Rattle.save_resume.specs.Resuming.{barrier_calls, LoadEnded, Starved, BrokeInLoad, BrokeAsResumed, IsReadAs, IsRefusedFor, IsLikeNone, NoFile, Silent, IsResumeCall, IsOfFile}
 use Rattle.save_resume.proofs.AnswerLemmas.{read_is_not_refused, none_says_nothing}
 use Rattle.rescue_rules.specs.Start.{IsFresh, StandsFor, AsNone, AsMap, Stands}
-use Rattle.work_steps.proofs.GainLemmas.{MayGain, may_gain}
+use Rattle.work_steps.proofs.GainLemmas.{MayGain, may_gain, broke_named}
 use Rattle.work_steps.proofs.LoadLemmas.{Ended, ended, RanOut, ran_out, BrokeOff, broke_off, read_through, read_refused, read_broke, read_starved}
 use Rattle.ddrescue_cli.specs.declared.ending.Ending.{Ending}
 use Rattle.ddrescue_cli.specs.declared.ending.Ending.TheVariants.{MapRefused, SiteFault, NoMemory}
@@ -185,15 +185,9 @@ no_read names (inl is) = let e : MapRead ≡ MapSettle = is in cc
 no_read names (inr (inl is)) = let e : MapRead ≡ ImageSync = is in cc
 no_read names (inr (inr h)) = h
 
-broke_named : (at : SiteCall) (names : MapNames) (calls calls' : List Entry) → BrokeAt at (barrier_calls names) calls calls'
-    → IsNameIn at (barrier_calls names)
-broke_named at names calls calls' (inl b) = inl b.0
-broke_named at names calls calls' (inr (inl b)) = inr (inl b.0)
-broke_named at names calls calls' (inr (inr b)) = absurd b
-
 in_load : (names : MapNames) (file : Option File) (calls calls' : List Entry) → BrokeAsResumed names file MapRead calls calls'
     → BrokeInLoad (barrier_calls names) names.map file calls calls'
-in_load names file calls calls' (inl broke) = absurd (no_read names (broke_named MapRead names calls calls' broke))
+in_load names file calls calls' (inl broke) = absurd (no_read names (broke_named MapRead (barrier_calls names) calls calls' broke))
 in_load names file calls calls' (inr broke) = broke.1
 
 in_barrier : (names : MapNames) (file : Option File) (call : SiteCall) (calls calls' : List Entry)

@@ -44,14 +44,13 @@ use Rattle.ddrescue_cli.specs.Steps.{IsOnlyMaps, Worked}
 use Rattle.ddrescue_cli.specs.Ddrescue.{Says, Promise, Ddrescue}
 use Rattle.work_steps.specs.Work.{Deeds, IsIdle, Works}
 use Rattle.work_steps.specs.Parts.{only_calls}
-use Rattle.work_steps.proofs.HoldsLemmas.{holds}
 use Rattle.copy_passes.specs.Turns.{IsFrom}
 use Rattle.ddrescue_cli.proofs.AskedLemmas.{sensible_to}
 use Rattle.ddrescue_cli.proofs.GoesLemmas.{work_goes, nothing_stops, maps_stop}
 use Rattle.ddrescue_cli.proofs.MapsLemmas.{MapsOf, maps_for}
 use Rattle.ddrescue_cli.proofs.OpenedLemmas.{none_seen}
+use Rattle.ddrescue_cli.proofs.RefusalLemmas.{says_of_words}
 use Rattle.ddrescue_cli.proofs.RowLemmas.{rescue_ends}
-use Rattle.ddrescue_cli.proofs.WordsLemmas.{words_steps}
 
 -- an answer that comes before anything was done
 abbrev pub IsEarly : Ending → Type 0
@@ -338,12 +337,12 @@ says_kept : (t : Told) (c : Command) → IsAsked t.words c → first_same c.infi
     → Says t → Ddrescue t
 says_kept t c a different r says =
     let kept : Promise c t = work_promised c t a.asks different r.worked in
-    let o : Outside = kept.outside in
+    let o : Outside = r.worked.outside in
     let run : Ending → Deeds → Type 0 = Rescues (asked_of c t o) o.found.mapfile in
     record {
-      words = holds rescue_faults (rescue_rows c o.found o.end) run (λ e d. SaysOfWords e t.words)
-          (words_steps t.words c o.found o.end run a.asks (rescue_ends (asked_of c t o) o.found.mapfile)) t.answer o.did
-          kept.works;
+      words = says_of_words t.words c o.found o.end run t.answer o.did
+          (record { command = c; asks = a.asks; apart = different }) (rescue_ends (asked_of c t o) o.found.mapfile)
+          r.worked.works;
       cause = r.cause;
       asked_for = λ other asks. subst (λ (x : Command). Promise x t) (sym (a.alone other asks)) kept;
       draft = r.draft;

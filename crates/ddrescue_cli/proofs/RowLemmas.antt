@@ -1,7 +1,7 @@
 -- What is said of a rescue's answer, row by row.
 use Rattle.std.proofs.Common.{◌≡◌, ℕ, List, [], ◌∷◌, ◌++◌, Option, Some, None, true, inl, inr}
 use Rattle.crash_site.specs.declared.site.SiteCall.{SiteCall}
-use Rattle.crash_site.specs.declared.site.SiteCall.TheVariants.{ImageOpen, ImageSync, MapRead, MapSettle}
+use Rattle.crash_site.specs.declared.site.SiteCall.TheVariants.{ImageOpen, ImageSync, MapSettle}
 use Rattle.crash_site.specs.Files.{File}
 use Rattle.crash_site.specs.Calls.{Entry, BrokeAt, image_open}
 use Rattle.save_resume.specs.Named.{map_mode}
@@ -9,8 +9,7 @@ use Rattle.rescue_rules.specs.Setting.{Setting}
 use Rattle.rescue_rules.specs.declared.stop.Stop.TheVariants.{NoMemory as NoRoom}
 use Rattle.rescue_rules.specs.declared.stop.RunEnd.{RunEnd}
 use Rattle.rescue_rules.specs.declared.stop.RunEnd.TheVariants.{Stopped}
-use Rattle.work_steps.specs.Work.{Deeds, Faults, Step, Look, Read}
-use Rattle.work_steps.specs.Holds.{Holds}
+use Rattle.work_steps.specs.Work.{Deeds, Step, Look}
 use Rattle.rescue_command.specs.Command.{Command}
 use Rattle.ddrescue_cli.specs.declared.ending.Ending.{Ending}
 use Rattle.ddrescue_cli.specs.declared.ending.Which.TheVariants.{DomainMap, TestMap}
@@ -25,15 +24,6 @@ EndsRun e = (end : RunEnd) × (e ≡ answer_of end)
 pub rescue_ends : (s : Setting) (mapfile : Option File) (e : Ending) (d : Deeds) → Rescues s mapfile e d → EndsRun e
 rescue_ends s mapfile e d (opens, (statuses, state, stands, inl unbegun)) = (Stopped NoRoom, unbegun.answer)
 rescue_ends s mapfile e d (opens, (statuses, state, stands, inr (end, is, runs))) = (end, is)
-
--- a read, for what is said of an answer alone
-pub read_answers : {E : Type 0} (f : Faults E) (name : Option (List ℕ)) (file : Option File) (more : List (Step E))
-    (run : E → Deeds → Type 0) (P : E → Type 0) → P f.memory → ((n : List ℕ) → name ≡ Some n → P (f.call MapRead))
-    → Holds f more run (λ e d. P e) → Holds f (Read name file ∷ more) run (λ e d. P e)
-read_answers f name file more run P memory broke rest = (
-  λ none. ((λ d idle. memory), λ no. rest),
-  λ n is. ((λ load d begins b only. broke n is), (λ load d begins all only. memory), λ load loaded. rest),
-)
 
 -- the call of an open of the output
 pub open_call : (call : SiteCall) (out : List ℕ) (old new : List Entry) → BrokeAt call (image_open out true ∷ []) old new

@@ -66,3 +66,9 @@ may_gain true at calls old new named told =
 may_gain false at calls old new named told =
     let new = broke_there at calls [] named in
     record { more = new.0; grew = λ tells. absurd (cc); broke = new.1 }
+
+-- the call that failed is one of those
+pub broke_named : (at : SiteCall) (calls : List Call) (old new : List Entry) → BrokeAt at calls old new → IsNameIn at calls
+broke_named at [] old new broke = absurd broke
+broke_named at (c ∷ cs) old new (inl (is, lost)) = inl is
+broke_named at (c ∷ cs) old new (inr broke) = inr (broke_named at cs (old ++ Done c ∷ []) new broke)

@@ -1,3 +1,4 @@
+pub mod AnswerLemmas
 pub mod GainLemmas
 pub mod HoldsLemmas
 pub mod LoadLemmas
