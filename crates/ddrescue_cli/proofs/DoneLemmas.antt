@@ -1,4 +1,6 @@
 -- What stands behind the answer of a rescue.
+use Rattle.ddrescue_cli.proofs.RefusalLemmas.{undone}
+use Rattle.work_steps.proofs.AnswerLemmas.{IsLoadIf, Passed, passed}
 use Rattle.std.proofs.Common.{◌≡◌, ℕ, ◌+◌, ◌*◌, ◌-◌, ◌≤◌, zero, suc, Bool, true, false, IsTrue, if◌then◌else◌, refl, List, [], ◌++◌, ◌∷◌, map, filter, length, take, drop, Option, Some, None, option_map, sym, ◌∙◌, ap, subst, arith, inl, inr, ⊎_elim, length-append}
 use Rattle.std.specs.List.{count_by, slice_get}
 use Rattle.std.proofs.Math.Seq.{take-length}
@@ -7,9 +9,7 @@ use Rattle.std.proofs.lemmas.List.{take_all, length-map, length-drop}
 use Rattle.std.proofs.lemmas.List.Elements.{All-nil, All-append}
 use Rattle.block_list.specs.declared.status.Status.{Status}
 use Rattle.block_list.proofs.Places.{slice_get-append_right}
-use Rattle.mapfile_text.specs.declared.read.Mode.{Mode}
 use Rattle.mapfile_text.specs.declared.state.MapState.{MapState}
-use Rattle.crash_site.specs.declared.site.SiteCall.TheVariants.{MapRead}
 use Rattle.crash_site.specs.Files.{File, bytes_of}
 use Rattle.crash_site.specs.Calls.{Call, Entry, Done as Returned, image_open}
 use Rattle.crash_site.specs.Folder.{Folder, after}
@@ -18,9 +18,8 @@ use Rattle.crash_site.specs.SiteState.{files_in}
 use Rattle.crash_site.proofs.DiskLemmas.{reads_until}
 use Rattle.crash_site.proofs.LawLemmas.{after-append}
 use Rattle.faulty_source.specs.Journal.{Reading}
-use Rattle.option_words.specs.declared.fault.UsageFault.TheVariants.{PlaceTooLarge}
 use Rattle.save_resume.specs.MapNames.{names_of}
-use Rattle.save_resume.specs.Loading.{BeginsLoad, IsLoad}
+use Rattle.save_resume.specs.Loading.{BeginsLoad}
 use Rattle.save_resume.specs.Resuming.{barrier_calls}
 use Rattle.rescue_rules.specs.Setting.{Setting, IsSensible}
 use Rattle.rescue_rules.specs.Start.{Stands}
@@ -43,27 +42,22 @@ use Rattle.rescue_rules.specs.declared.stop.RunEnd.{RunEnd}
 use Rattle.rescue_rules.specs.Work.{Gain, begins, events_in, opening_calls, mapfile_in, IsLoadOf, AreMapReads, EndsBy, end_of, Ends, IsSaved as RunSaved, IsUnsaved, IsBroken}
 use Rattle.rescue_rules.specs.Stops.{LeftAt, has_barrier, is_settle, is_publish, returned, published, files_before, IsSave, IsKept}
 use Rattle.ddrescue_cli.specs.declared.ending.Ending.{Ending}
-use Rattle.ddrescue_cli.specs.declared.ending.Ending.TheVariants.{Done, Usage, SameName, NoMap, SourceFault, NotRegular, MapRefused, SourceLost, SiteFault, NoMemory}
-use Rattle.ddrescue_cli.specs.declared.ending.Which.{Which}
-use Rattle.ddrescue_cli.specs.declared.ending.Which.TheVariants.{DomainMap, TestMap, RunMap}
-use Rattle.rescue_command.specs.declared.options.Options.{Options}
+use Rattle.ddrescue_cli.specs.declared.ending.Ending.TheVariants.{Done, SameName, SourceLost, SiteFault, NoMemory}
 use Rattle.rescue_command.specs.Command.{Command, Asks}
 use Rattle.option_words.specs.Words.{command_line}
 use Rattle.ddrescue_cli.specs.Names.{program_name}
 use Rattle.ddrescue_cli.specs.Asked.{Maps, setting_of}
 use Rattle.ddrescue_cli.proofs.AskedLemmas.{sensible_to}
-use Rattle.save_resume.specs.Named.{map_mode}
-use Rattle.ddrescue_cli.specs.Refusals.{NamedMapRefused, MapfileRefused, PlacesRefused}
 use Rattle.ddrescue_cli.specs.Told.{Told, calls_before, files_of, asked_of}
-use Rattle.work_steps.specs.Work.{Deeds, Step, Look, Read, Works, with_calls, with_opens}
+use Rattle.work_steps.specs.Work.{Deeds, Works, with_calls, with_opens}
 use Rattle.ddrescue_cli.specs.Maps.{Found, file_of, found_in, mapfile_of}
 use Rattle.ddrescue_cli.specs.Outside.{Outside}
-use Rattle.ddrescue_cli.specs.Work.{answer_of, Rescues, RunsOver, rescue_faults, map_rows, load_rows, opened_rows, rescue_rows, worked_rows}
+use Rattle.ddrescue_cli.specs.Work.{answer_of, Rescues, RunsOver, rescue_faults, rescue_rows, worked_rows, barrier_of}
 use Rattle.ddrescue_cli.specs.Ddrescue.{Promise, Ddrescue}
 use Rattle.ddrescue_cli.specs.Laws.{outside_by, setting, done_by, HoldsAtEnd, IsFinished, DoneIsSaved, comes_to}
 use Rattle.trim_scrape.proofs.EndingLemmas.{run_ends_well}
 use Rattle.ddrescue_cli.proofs.OutputLemmas.{holds_whole}
-use Rattle.ddrescue_cli.proofs.GoesLemmas.{WorksOpened, setting_by, opened, settled, settled_more}
+use Rattle.ddrescue_cli.proofs.GoesLemmas.{setting_by, opened, settled}
 use Rattle.ddrescue_cli.proofs.CountLemmas.{dues, run_entries, settles_once_more, publishes_each}
 use Rattle.ddrescue_cli.proofs.FrontLemmas.{IsMapRead, load_reads, reads_stand, made_both}
 use Rattle.ddrescue_cli.proofs.ReadLemmas.{settles_behind, publishes_behind, barrier_behind}
@@ -96,9 +90,9 @@ holds_at_end t c began state d asks tells on is stands =
     (left_at_end c t d p tells) (ap has_barrier whole ∙ is) stands
 
 -- a run that ended with a save
-record SavedRun (s : Setting) (m : Machine) (events : List Event) (calls : List Entry) : Type 0 where
-  over : has_ended s (state_after s m events) ≡ true
-  all : calls ≡ map Returned (run_calls s m events ++ end_calls s m events)
+pub record SavedRun (s : Setting) (m : Machine) (events : List Event) (calls : List Entry) : Type 0 where
+  pub over : has_ended s (state_after s m events) ≡ true
+  pub all : calls ≡ map Returned (run_calls s m events ++ end_calls s m events)
 
 -- only a run that is over is done
 answer_done : (end : RunEnd) (stop : Option Stop) → Done ≡ answer_of end → end ≡ end_of stop → stop ≡ None
@@ -107,7 +101,7 @@ answer_done end (Some InputLost) is same = absurd (let no : Done ≡ SourceLost 
 answer_done end (Some (Site call)) is same = absurd (let no : Done ≡ SiteFault call None = is ∙ ap answer_of same in cc)
 answer_done end (Some NoRoom) is same = absurd (let no : Done ≡ NoMemory = is ∙ ap answer_of same in cc)
 
-saved_ends : (s : Setting) (m : Machine) (events : List Event) (spare : ℕ) (calls : List Entry) (end : RunEnd)
+pub saved_ends : (s : Setting) (m : Machine) (events : List Event) (spare : ℕ) (calls : List Entry) (end : RunEnd)
     → Done ≡ answer_of end → Ends s m events spare calls end → SavedRun s m events calls
 saved_ends s m events spare calls end is (RunSaved stop ends same all) =
     let P : Option Stop → Type 0 = λ o. EndsBy o s (state_after s m events) spare in
@@ -128,7 +122,7 @@ record DoneOver (s : Setting) (statuses : List Status) (state : Option MapState)
   saved : SavedRun s (begins s statuses state g) (events_in g) g.calls
 
 -- reads whose times are told are those of the events
-timed : (reads : List Reading) (times : List ℕ) → 2 * length reads ≤ length times
+pub timed : (reads : List Reading) (times : List ℕ) → 2 * length reads ≤ length times
     → reads_of (with_times reads times) ≡ reads
 timed [] times enough = refl
 timed (r ∷ rs) [] enough = absurd (omega (arith, enough))
@@ -145,49 +139,6 @@ done_over s statuses state e g is (inr (end, same, runs)) = record {
   saved = saved_ends s (begins s statuses state g) (events_in g) runs.spare g.calls end (is ∙ same) runs.ends;
 }
 
--- a run over the map that a mapfile stands for, or no mapfile
-record DoneRest (s : Setting) (mapfile : Option File) (g : Gain) : Type 0 where
-  statuses : List Status
-  state : Option MapState
-  stands : Stands mapfile s.end statuses state
-  over : DoneOver s statuses state g
-
-done_rest : (o : Options) (s : Setting) (mapfile : Option File) (e : Ending) (d : Deeds) → Done ≡ e
-    → Works rescue_faults (Look (PlacesRefused o s.end) ∷ []) (Rescues s mapfile) e d → DoneRest s mapfile d.gain
-done_rest o s mapfile e d is (inl (refused, none)) = absurd (let no : Done ≡ Usage PlaceTooLarge = is ∙ refused.1 in cc)
-done_rest o s mapfile e d is (inr (placed, (none, (shown, at, stand, runs)))) = record {
-  statuses = shown;
-  state = at;
-  stands = stand;
-  over = done_over s shown at e d.gain is runs;
-}
-
--- a load behind the barrier, and that run
-record DoneLoad (s : Setting) (files : List ℕ → Option File) (calls : List Entry) (g : Gain) : Type 0 where
-  load : List Call
-  loaded : IsLoad s.names.map (files s.names.map) load
-  run : List Entry
-  grew : calls ≡ map Returned load ++ run
-  rest : DoneRest s (mapfile_in s files) (record g { calls = run })
-
-done_load : (o : Options) (s : Setting) (files : List ℕ → Option File) (e : Ending) (d : Deeds) → Done ≡ e
-    → Works rescue_faults (Read (Some s.names.map) (files s.names.map) ∷ Look (MapfileRefused (files s.names.map))
-    ∷ Look (PlacesRefused o s.end) ∷ []) (Rescues s (mapfile_in s files)) e d
-    → DoneLoad s files d.gain.calls d.gain
-done_load o s files e d is (inl (load, failed, begun, broke, only)) =
-    absurd (let no : Done ≡ SiteFault MapRead None = is ∙ failed in cc)
-done_load o s files e d is (inr (inl (load, starved, begun, all, only))) =
-    absurd (let no : Done ≡ NoMemory = is ∙ starved in cc)
-done_load o s files e d is (inr (inr (load, run, loaded, all, inl (refused, none)))) =
-    absurd (let no : Done ≡ MapRefused RunMap refused.0 = is ∙ refused.3 in cc)
-done_load o s files e d is (inr (inr (load, run, loaded, all, inr (accepted, next)))) = record {
-  load = load;
-  loaded = loaded;
-  run = run;
-  grew = all;
-  rest = done_rest o s (mapfile_in s files) e (with_calls d run) is next;
-}
-
 -- what a rescue that is done did
 record DoneRun (s : Setting) (files : List ℕ → Option File) (g : Gain) : Type 0 where
   load : List Call
@@ -200,116 +151,55 @@ record DoneRun (s : Setting) (files : List ℕ → Option File) (g : Gain) : Typ
   over : has_ended s (state_after s (begins s statuses state g) (events_in g)) ≡ true
   calls : g.calls ≡ map Returned (opening_calls s ++ load) ++ last_calls s (begins s statuses state g) (events_in g)
 
--- with a mapfile, and without one
-done_with : (s : Setting) (files : List ℕ → Option File) (g : Gain) (rest more : List Entry) → s.has_mapfile ≡ true
-    → g.calls ≡ opened s ++ rest → rest ≡ map Returned (barrier_calls s.names) ++ more
-    → DoneLoad s files more (record g { calls = more }) → DoneRun s files g
-done_with s files g rest more on grew grew' l =
-    let last : List Entry = last_calls s (begins s l.rest.statuses l.rest.state g) (events_in g) in
-    record {
-      load = l.load;
-      loads = record { all = λ there. l.loaded; none = λ off. absurd (let never : true ≡ false = sym on ∙ off in cc) };
-      statuses = l.rest.statuses;
-      state = l.rest.state;
-      stands = l.rest.stands;
-      run = l.rest.over.run;
-      reads = l.rest.over.reads;
-      over = l.rest.over.saved.over;
-      calls = settled_more s g.calls rest more grew grew' ∙ ap (λ r. settled s ++ r) l.grew
-          ∙ ap (λ r. settled s ++ (map Returned l.load ++ r)) l.rest.over.saved.all
-          ∙ ap (λ (front : List Call). map Returned (front ++ l.load) ++ last) (sym (opening_is s on));
-    }
-
 opened_alone : (s : Setting) → s.has_mapfile ≡ false → opening_calls s ≡ image_open s.outfile true ∷ []
 opened_alone s off = ap (λ (b : Bool). image_open s.outfile true ∷ (if b then barrier_calls s.names else [])) off
 
-done_without : (s : Setting) (files : List ℕ → Option File) (g : Gain) (rest : List Entry) → s.has_mapfile ≡ false
-    → g.calls ≡ opened s ++ rest → DoneRest s (mapfile_in s files) (record g { calls = rest }) → DoneRun s files g
-done_without s files g rest off grew d =
-    let last : List Entry = last_calls s (begins s d.statuses d.state g) (events_in g) in
-    record {
-      load = [];
-      loads = record { all = λ on. absurd (let never : true ≡ false = sym on ∙ off in cc); none = λ off. refl };
-      statuses = d.statuses;
-      state = d.state;
-      stands = d.stands;
-      run = d.over.run;
-      reads = d.over.reads;
-      over = d.over.saved.over;
-      calls = grew ∙ ap (λ r. opened s ++ r) d.over.saved.all
-          ∙ ap (λ (front : List Call). map Returned (front ++ []) ++ last) (sym (opened_alone s off));
-    }
+-- what a command's mapfile is to its setting
+load_if : (c : Command) (mapfile : Option (List ℕ)) (line : List ℕ) (end : ℕ) (maps : Maps) (files : List ℕ → Option File)
+    (load : List Call) → IsLoadIf mapfile (file_of mapfile files) load
+    → IsLoadOf (setting_by c (option_map names_of mapfile) line end maps) files load
+load_if c None line end maps files load is = record { all = λ on. absurd (cc); none = λ off. is }
+load_if c (Some n) line end maps files load is = record { all = λ on. is; none = λ off. absurd (cc) }
 
--- what follows the opening of the output
-done_output : (c : Command) (mapfile : Option (List ℕ)) (line : List ℕ) (end : ℕ) (maps : Maps)
-    (files : List ℕ → Option File) (e : Ending) (d : Deeds) (rest : List Entry) → Done ≡ e
-    → d.gain.calls ≡ opened (setting_by c (option_map names_of mapfile) line end maps) ++ rest
-    → Works rescue_faults (load_rows mapfile (file_of mapfile files) ++ Look (PlacesRefused c.options end) ∷ [])
-    (Rescues (setting_by c (option_map names_of mapfile) line end maps) (file_of mapfile files)) e (with_calls d rest)
-    → DoneRun (setting_by c (option_map names_of mapfile) line end maps) files d.gain
-done_output c None line end maps files e d rest is grew (inl (call, failed, broke, only)) = absurd broke
-done_output c None line end maps files e d rest is grew (inr (more, same, inl (starved, none))) =
-    absurd (let no : Done ≡ NoMemory = is ∙ starved in cc)
-done_output c None line end maps files e d rest is grew (inr (more, same, inr (absent, inl (refused, none)))) =
-    absurd (let no : Done ≡ MapRefused RunMap refused.0 = is ∙ refused.3 in cc)
-done_output c None line end maps files e d rest is grew (inr (more, same, inr (absent, inr (passes, w)))) =
-    let s : Setting = setting_by c None line end maps in
-    done_without s files d.gain more refl (grew ∙ ap (λ (r : List Entry). opened s ++ r) same)
-    (done_rest c.options s None e (with_calls d more) is w)
-done_output c (Some n) line end maps files e d rest is grew (inl (call, failed, broke, only)) =
-    absurd (let no : Done ≡ SiteFault call None = is ∙ failed in cc)
-done_output c (Some n) line end maps files e d rest is grew (inr (more, grew', read)) =
-    let s : Setting = setting_by c (Some (names_of n)) line end maps in
-    done_with s files d.gain rest more refl grew grew' (done_load c.options s files e (with_calls d more) is read)
+opening_by : (c : Command) (mapfile : Option (List ℕ)) (line : List ℕ) (end : ℕ) (maps : Maps)
+    → opening_calls (setting_by c (option_map names_of mapfile) line end maps)
+    ≡ image_open c.outfile true ∷ barrier_of mapfile
+opening_by c None line end maps = refl
+opening_by c (Some n) line end maps = refl
 
-done_runs : (c : Command) (line : List ℕ) (end : ℕ) (maps : Maps) (files : List ℕ → Option File) (e : Ending)
-    (d : Deeds) → Done ≡ e → WorksOpened c (setting_of c line end maps) files e d
+file_in : (c : Command) (mapfile : Option (List ℕ)) (line : List ℕ) (end : ℕ) (maps : Maps) (files : List ℕ → Option File)
+    → file_of mapfile files ≡ mapfile_in (setting_by c (option_map names_of mapfile) line end maps) files
+file_in c None line end maps files = refl
+file_in c (Some n) line end maps files = refl
+
+-- what follows the opening of the input
+done_run : (c : Command) (line : List ℕ) (end : ℕ) (maps : Maps) (files : List ℕ → Option File) (e : Ending) (d : Deeds)
+    (rest more run : List Entry) (load : List Call) → Done ≡ e
+    → d.gain.calls ≡ opened (setting_of c line end maps) ++ rest → rest ≡ map Returned (barrier_of c.mapfile) ++ more
+    → more ≡ map Returned load ++ run → IsLoadIf c.mapfile (mapfile_of c files) load
+    → Rescues (setting_of c line end maps) (mapfile_of c files) e (with_calls d run)
     → DoneRun (setting_of c line end maps) files d.gain
-done_runs c line end maps files e d is (inl (refused, opens, none)) =
-    absurd (let no : Done ≡ SourceFault = is ∙ refused in cc)
-done_runs c line end maps files e d is (inr (os, opens, inl (call, failed, broke, only))) =
-    absurd (let no : Done ≡ SiteFault call None = is ∙ failed in cc)
-done_runs c line end maps files e d is (inr (os, opens, inr (rest, grew, inl (refused, none)))) =
-    absurd (let no : Done ≡ NotRegular = is ∙ refused.2 in cc)
-done_runs c line end maps files e d is (inr (os, opens, inr (rest, grew, inr (passes, w)))) =
-    done_output c c.mapfile line end maps files e (with_opens d os) rest is grew w
-
--- the reads of a map that an option names, and what follows it
-record DoneMap (more : List (Step Ending)) (run : Ending → Deeds → Type 0) (e : Ending) (d : Deeds) : Type 0 where
-  maps : List Call
-  are : AreMapReads maps
-  rest : List Entry
-  grew : d.gain.calls ≡ map Returned maps ++ rest
-  next : Works rescue_faults more run e (with_calls d rest)
-
--- no refusal of it is done
-done_named : (which : Which) (mode : Mode) (file : Option File) (e : Ending) → Done ≡ e
-    → NamedMapRefused which mode file e → ⊥
-done_named which mode file e is (inl refused) = let no : Done ≡ NoMap which = is ∙ refused.1 in cc
-done_named which mode file e is (inr refused) = let no : Done ≡ MapRefused which refused.0 = is ∙ refused.2 in cc
-
-done_map : (which : Which) (mode : Mode) (name : Option (List ℕ)) (files : List ℕ → Option File)
-    (more : List (Step Ending)) (run : Ending → Deeds → Type 0) (e : Ending) (d : Deeds) → Done ≡ e
-    → Works rescue_faults (map_rows which mode name (file_of name files) ++ more) run e d → DoneMap more run e d
-done_map which mode None files more run e d is (inl (starved, none)) =
-    absurd (let no : Done ≡ NoMemory = is ∙ starved in cc)
-done_map which mode None files more run e d is (inr (absent, inl (refused, none))) =
-    absurd (done_named which mode None e is refused.1)
-done_map which mode None files more run e d is (inr (absent, inr (passes, w))) =
-    record { maps = []; are = All-nil IsMapRead; rest = d.gain.calls; grew = refl; next = w }
-done_map which mode (Some name) files more run e d is (inl (load, failed, begun, broke, only)) =
-    absurd (let no : Done ≡ SiteFault MapRead None = is ∙ failed in cc)
-done_map which mode (Some name) files more run e d is (inr (inl (load, starved, begun, all, only))) =
-    absurd (let no : Done ≡ NoMemory = is ∙ starved in cc)
-done_map which mode (Some name) files more run e d is (inr (inr (load, back, loaded, all, inl (refused, none)))) =
-    absurd (done_named which mode (files name) e is refused.1)
-done_map which mode (Some name) files more run e d is (inr (inr (load, back, loaded, all, inr (accepted, w)))) =
+done_run c line end maps files e d rest more run load is grew grew' all loaded (none, (statuses, state, stands, runs)) =
+    let s : Setting = setting_of c line end maps in
+    let barrier : List Call = barrier_of c.mapfile in
+    let over : DoneOver s statuses state (record d.gain { calls = run }) =
+    done_over s statuses state e (record d.gain { calls = run }) is runs in
+    let last : List Entry = last_calls s (begins s statuses state d.gain) (events_in d.gain) in
     record {
-      maps = load;
-      are = load_reads name (files name) load loaded.begins;
-      rest = back;
-      grew = all;
-      next = w;
+      load = load;
+      loads = load_if c c.mapfile line end maps files load loaded;
+      statuses = statuses;
+      state = state;
+      stands = subst (λ (f : Option File). Stands f end statuses state) (file_in c c.mapfile line end maps files) stands;
+      run = over.run;
+      reads = over.reads;
+      over = over.saved.over;
+      calls = grew
+          ∙ ap (λ (r : List Entry). opened s ++ r)
+          (grew' ∙ ap (λ (r : List Entry). map Returned barrier ++ r)
+          (all ∙ ap (λ (r : List Entry). map Returned load ++ r) over.saved.all) ∙ made_both barrier load last)
+          ∙ ap (λ (front : List Call). map Returned (front ++ load) ++ last)
+          (sym (opening_by c c.mapfile line end maps));
     }
 
 -- what a rescue that is done did behind its reads of such maps
@@ -320,29 +210,29 @@ record DoneWork (s : Setting) (files : List ℕ → Option File) (g : Gain) : Ty
   grew : g.calls ≡ map Returned maps ++ rest
   run : DoneRun s files (record g { calls = rest })
 
+if_reads : (name : Option (List ℕ)) (file : Option File) (load : List Call) → IsLoadIf name file load → AreMapReads load
+if_reads None file load is = subst (λ (l : List Call). AreMapReads l) (sym is) (All-nil IsMapRead)
+if_reads (Some name) file load is = load_reads name file load is.begins
+
 done_behind : (c : Command) (line : List ℕ) (end : ℕ) (maps : Maps) (files : List ℕ → Option File) (e : Ending)
     (d : Deeds) → Done ≡ e
-    → Works rescue_faults (worked_rows c (found_in c files) end)
-    (Rescues (setting_of c line end maps) (mapfile_of c files)) e d
+    → Passed (worked_rows c (found_in c files) end) (Rescues (setting_of c line end maps) (mapfile_of c files)) e d
     → DoneWork (setting_of c line end maps) files d.gain
-done_behind c line end maps files e d is works =
-    let run : Ending → Deeds → Type 0 = Rescues (setting_of c line end maps) (mapfile_of c files) in
-    let opening : List (Step Ending) = opened_rows c (found_in c files) end in
-    let tests : List (Step Ending) =
-    map_rows TestMap (map_mode c.options.loose) c.test_map (file_of c.test_map files) ++ opening in
-    let f : DoneMap tests run e d =
-    done_map DomainMap (map_mode c.options.loose) c.domain_map files tests run e d is works in
-    let h : Deeds = with_calls d f.rest in
-    let m : DoneMap opening run e h =
-    done_map TestMap (map_mode c.options.loose) c.test_map files opening run e h is f.next in
-    record {
-      maps = f.maps ++ m.maps;
-      are = All-append IsMapRead f.maps m.maps f.are m.are;
-      rest = m.rest;
-      grew = f.grew ∙ ap (λ (r : List Entry). map Returned f.maps ++ r) m.grew
-          ∙ made_both f.maps m.maps m.rest;
-      run = done_runs c line end maps files e (with_calls h m.rest) is m.next;
-    }
+done_behind c line end maps files e d is (
+  domain,
+  tests,
+  domain_is,
+  grew,
+  (test, rest, test_is, grew', (os, (back, out, (more, settled_, (load, run, loaded, all, ran))))),
+) = record {
+  maps = domain ++ test;
+  are = All-append IsMapRead domain test (if_reads c.domain_map (file_of c.domain_map files) domain domain_is)
+      (if_reads c.test_map (file_of c.test_map files) test test_is);
+  rest = rest;
+  grew = grew ∙ ap (λ (r : List Entry). map Returned domain ++ r) grew' ∙ made_both domain test rest;
+  run = done_run c line end maps files e (with_opens (with_calls d rest) os) back more run load is out settled_ all loaded
+      ran;
+}
 
 done_works : (c : Command) (line : List ℕ) (end : ℕ) (maps : Maps) (files : List ℕ → Option File) (e : Ending)
     (d : Deeds) → Done ≡ e
@@ -353,7 +243,11 @@ done_works c line end maps files e d is (inl (starved, none)) =
     absurd (let no : Done ≡ NoMemory = is ∙ starved in cc)
 done_works c line end maps files e d is (inr (inl (refused, none))) =
     absurd (let no : Done ≡ SameName refused.0 refused.1 = is ∙ refused.3 in cc)
-done_works c line end maps files e d is (inr (inr (passes, w))) = done_behind c line end maps files e d is w
+done_works c line end maps files e d is (inr (inr (passes, w))) =
+    let found : Found = found_in c files in
+    let run : Ending → Deeds → Type 0 = Rescues (setting_of c line end maps) (mapfile_of c files) in
+    done_behind c line end maps files e d is
+    (passed rescue_faults (worked_rows c found end) run e d (λ stops. undone c found end e stops (sym is)) w)
 
 -- the last of several saves
 save_last : (old : Option File) (began : List Status) (line : List ℕ) (saves : List Snapshot) (last : Snapshot)

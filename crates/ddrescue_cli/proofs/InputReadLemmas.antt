@@ -1,5 +1,5 @@
 -- What an answer says of the reads.
-use Rattle.std.proofs.Common.{◌≡◌, ℕ, ◌-◌, ◌*◌, ◌≤◌, true, false, List, [], ◌∷◌, ◌++◌, map, length, drop, replicate, All, Option, Some, None, is_some, refl, sym, ap, ◌∙◌, inl, inr, subst, arith, append-nil, length-append, length-drop}
+use Rattle.std.proofs.Common.{◌≡◌, ℕ, ◌-◌, ◌≤◌, true, false, List, [], ◌∷◌, ◌++◌, map, length, drop, replicate, All, Option, Some, None, is_some, refl, sym, ap, ◌∙◌, inl, inr, subst, arith, append-nil, length-append, length-drop}
 use Rattle.std.specs.Prelude.{option_map}
 use Rattle.std.proofs.lemmas.List.{length-replicate}
 use Rattle.std.proofs.lemmas.List.Elements.{All-nil}
@@ -12,7 +12,6 @@ use Rattle.faulty_source.specs.SourceState.{SourceState}
 use Rattle.crash_site.specs.declared.site.SiteCall.{SiteCall}
 use Rattle.crash_site.specs.declared.site.SiteCall.TheVariants.{ImageOpen, MapRead}
 use Rattle.crash_site.specs.Files.{File}
-use Rattle.crash_site.specs.Calls.{Entry}
 use Rattle.rescue_domain.specs.Testing.{seen}
 use Rattle.rescue_rules.specs.declared.phase.Phase.TheVariants.{Copying}
 use Rattle.rescue_rules.specs.declared.stop.Stop.{Stop}
@@ -22,12 +21,11 @@ use Rattle.rescue_rules.specs.declared.stop.RunEnd.TheVariants.{Done as Finished
 use Rattle.rescue_rules.specs.Setting.{Setting, IsSensible}
 use Rattle.rescue_rules.specs.Start.{StandsFor, TextStands, AsNone, AsMap}
 use Rattle.rescue_rules.specs.Machine.{Machine}
-use Rattle.rescue_rules.specs.Step.{Event}
 use Rattle.rescue_rules.specs.Moves.{state_after, has_ended, IsMove}
 use Rattle.rescue_rules.specs.Preparation.{prepared}
 use Rattle.rescue_rules.specs.Beginning.{first_pass, goes_on_from, shown_at_first, machine_over}
-use Rattle.rescue_rules.specs.Events.{began_at, reads_of, with_times}
-use Rattle.rescue_rules.specs.Work.{events_in, Ends, IsSaved, IsUnsaved, IsBroken, end_of}
+use Rattle.rescue_rules.specs.Events.{began_at, reads_of}
+use Rattle.rescue_rules.specs.Work.{events_in}
 use Rattle.rescue_rules.proofs.ReadyLemmas.{order_over}
 use Rattle.trim_scrape.specs.Bounds.{AskFew}
 use Rattle.trim_scrape.proofs.BoundLemmas.{run_asks_few}
@@ -37,7 +35,7 @@ use Rattle.save_resume.specs.MapNames.{names_of}
 use Rattle.option_words.specs.Words.{command_line}
 use Rattle.rescue_command.specs.Command.{Command}
 use Rattle.ddrescue_cli.specs.declared.ending.Ending.{Ending}
-use Rattle.ddrescue_cli.specs.declared.ending.Ending.TheVariants.{Done, SameName, SourceFault, SourceLost, SiteFault, NoMemory}
+use Rattle.ddrescue_cli.specs.declared.ending.Ending.TheVariants.{Done, SameName, SiteFault, NoMemory}
 use Rattle.ddrescue_cli.specs.Maps.{Found, seen_through}
 use Rattle.ddrescue_cli.specs.InputRead.{HasRead, IsBeforeReads, IsOfOpening}
 use Rattle.ddrescue_cli.specs.Names.{program_name}
@@ -47,11 +45,12 @@ use Rattle.ddrescue_cli.specs.Ddrescue.{Promise}
 use Rattle.ddrescue_cli.specs.Laws.{ReadsAreARun}
 use Rattle.ddrescue_cli.specs.Work.{Rescues, rescue_faults, rescue_rows, worked_rows, answer_of}
 use Rattle.work_steps.specs.Work.{Deeds, Works}
-use Rattle.work_steps.proofs.AnswerLemmas.{FindNone, Stops, Starved, Unopened, Broken, Refused, Came, Stopped, Went, came}
+use Rattle.work_steps.proofs.AnswerLemmas.{FindNone, Came, Stopped, Went, came}
 use Rattle.ddrescue_cli.proofs.AskedLemmas.{sensible_to}
 use Rattle.ddrescue_cli.proofs.LateLemmas.{IsLate, rescue_late}
 use Rattle.ddrescue_cli.proofs.OpenedLemmas.{none_seen}
-use Rattle.ddrescue_cli.proofs.RefusalLemmas.{refused_plain}
+use Rattle.ddrescue_cli.proofs.DoneLemmas.{saved_ends, timed}
+use Rattle.ddrescue_cli.proofs.RefusalLemmas.{undone}
 
 -- what is said of reads that the source gained
 abbrev pub IsReadSo : Setting → Option (List Status) → (s s' : SourceState) → Ending → Deeds → Type 0
@@ -119,28 +118,6 @@ stands_long : (mapfile : Option File) (end : ℕ) (statuses : List Status) (stat
 stands_long None end statuses state is = omega (arith, ap length is.map_is, length-replicate end NonTried)
 stands_long (Some f) end statuses state is = text_long f.bytes end statuses state is
 
-timed : (reads : List Reading) (times : List ℕ) → 2 * length reads ≤ length times → reads_of (with_times reads times) ≡ reads
-timed [] times enough = refl
-timed (r ∷ rs) [] enough = absurd (omega (arith, enough))
-timed (r ∷ rs) (before ∷ []) enough = absurd (omega (arith, enough))
-timed (r ∷ rs) (before ∷ after ∷ times) enough = ap (λ (l : List Reading). r ∷ l) (timed rs times (omega (arith, enough)))
-
-saved_over : (stop : Option Stop) → answer_of (end_of stop) ≡ Done → stop ≡ None
-saved_over None is = refl
-saved_over (Some InputLost) is = absurd (let no : SourceLost ≡ Done = is in cc)
-saved_over (Some (Site call)) is = absurd (let no : SiteFault call None ≡ Done = is in cc)
-saved_over (Some NoRoom) is = absurd (let no : NoMemory ≡ Done = is in cc)
-
-ends_over : (s : Setting) (m : Machine) (es : List Event) (spare : ℕ) (calls : List Entry) (end : RunEnd)
-    → Ends s m es spare calls end → answer_of end ≡ Done → has_ended s (state_after s m es) ≡ true
-ends_over s m es spare calls end (IsSaved None by is all) done = by.0
-ends_over s m es spare calls end (IsSaved (Some stop) by is all) done =
-    let no : Some stop ≡ None = saved_over (Some stop) (sym (ap answer_of is) ∙ done) in absurd (cc)
-ends_over s m es spare calls end (IsUnsaved stop call by is broke) done =
-    absurd (let no : SiteFault call stop ≡ Done = sym (ap answer_of is) ∙ done in cc)
-ends_over s m es spare calls end (IsBroken before last call split none is broke) done =
-    absurd (let no : SiteFault call None ≡ Done = sym (ap answer_of is) ∙ done in cc)
-
 -- an answer of a run comes behind its reads
 call_refused : (call : SiteCall) (earlier : Option Stop) → IsLate (SiteFault call earlier) → IsOfOpening call → ⊥
 call_refused ImageOpen earlier late opening = late.names ImageOpen earlier refl
@@ -165,7 +142,7 @@ run_so o test s s' mapfile e d ok none (opens, (statuses, state, stands, inr (en
     let reads : reads_of (events_in d.gain) ≡ d.gain.reads =
     timed d.gain.reads (drop 1 d.gain.times) (omega (arith, runs.times, length-drop 1 d.gain.times)) in
     let over : e ≡ Done → has_ended o (state_after o m (events_in d.gain)) ≡ true =
-    λ done. ends_over o m (events_in d.gain) runs.spare d.gain.calls end runs.ends (sym is ∙ done) in
+    λ done. (saved_ends o m (events_in d.gain) runs.spare d.gain.calls end (sym done ∙ is) runs.ends).over in
     record {
       statuses = statuses;
       state = state;
@@ -194,13 +171,6 @@ none_named (Some name) off = absurd (cc)
 
 mapfile_none : (c : Command) (found : Found) (end : ℕ) → FindNone (worked_rows c found end) → c.mapfile ≡ None → found.mapfile ≡ None
 mapfile_none c found end (domain, (test, (mapfile, more))) = mapfile
-
--- no row stops as a run that is done
-undone : (c : Command) (found : Found) (end : ℕ) (e : Ending) → Stops rescue_faults (worked_rows c found end) e → e ≡ Done → ⊥
-undone c found end e (Starved is) done = let no : NoMemory ≡ Done = sym is ∙ done in cc
-undone c found end e (Unopened is) done = let no : SourceFault ≡ Done = sym is ∙ done in cc
-undone c found end e (Broken call is called) done = let no : SiteFault call None ≡ Done = sym is ∙ done in cc
-undone c found end e (Refused refused) done = (refused_plain c found end e refused).done done
 
 -- the reads are a run, which gave the input's own bytes, and there is none before a refusal
 came_so : (c : Command) (found : Found) (end : ℕ) (o : Setting) (test : Option (List Status)) (s s' : SourceState) (e : Ending)

@@ -35,7 +35,9 @@ use Rattle.ddrescue_cli.proofs.FrontLemmas.{load_reads, reads_stand, broken_stan
 use Rattle.work_steps.specs.Work.{Deeds, Look, Read, Works}
 use Rattle.work_steps.specs.Holds.{Holds, behind}
 use Rattle.work_steps.proofs.HoldsLemmas.{holds, holds_more}
-use Rattle.ddrescue_cli.proofs.RowLemmas.{EndsRun, rescue_ends, behind_domain, behind_mapfile, behind_test, open_call, barrier_call, BarrierCall, Settles, Syncs}
+use Rattle.save_resume.specs.Saving.{IsNameIn}
+use Rattle.work_steps.proofs.GainLemmas.{broke_named}
+use Rattle.ddrescue_cli.proofs.RowLemmas.{EndsRun, rescue_ends, behind_domain, behind_mapfile, behind_test, open_call, of_barrier}
 use Rattle.ddrescue_cli.proofs.LateLemmas.{IsRunCall, IsLate, rescue_late}
 
 -- what calls leave of a folder
@@ -153,14 +155,12 @@ call_leaves call maps out files files' own earlier =
     late_left (SiteFault call earlier) maps out files files' (λ before. before.call call earlier refl)
     (not_behind (SiteFault call earlier) (λ x. cc) (λ error x. cc)) (λ fault. let x = fault.1 in cc)
 
-barrier_leaves : (c : Command) (call : SiteCall) (files files' : List ℕ → Option File) → BarrierCall call
+barrier_leaves : (c : Command) (call : SiteCall) (files files' : List ℕ → Option File) → IsNameIn call (barrier_of c.mapfile)
     → IsLeft (SiteFault call None) (names_maps c) c.outfile files files'
-barrier_leaves c call files files' (Settles is) =
-    subst (λ (v : SiteCall). IsLeft (SiteFault v None) (names_maps c) c.outfile files files') (sym is)
+barrier_leaves c call files files' named =
+    of_barrier (λ (v : SiteCall). IsLeft (SiteFault v None) (names_maps c) c.outfile files files')
     (call_leaves MapSettle (names_maps c) c.outfile files files' tt None)
-barrier_leaves c call files files' (Syncs is) =
-    subst (λ (v : SiteCall). IsLeft (SiteFault v None) (names_maps c) c.outfile files files') (sym is)
-    (call_leaves ImageSync (names_maps c) c.outfile files files' tt None)
+    (call_leaves ImageSync (names_maps c) c.outfile files files' tt None) call c.mapfile named
 
 end_leaves : (end : RunEnd) (maps : Bool) (out : List ℕ) (files files' : List ℕ → Option File) → IsLate (answer_of end)
     → IsLeft (answer_of end) maps out files files'
@@ -258,7 +258,7 @@ leaves_steps c here end run ends late =
                 (all_stand here.files _
                 (none_done now d.gain.calls idle.gain.calls ∙ other_stands here c.outfile (here.files c.outfile) r.1)))),
             λ output. (
-              (λ call d broke only. barrier_leaves c call here.files _ (barrier_call call _ [] d.gain.calls broke)),
+              (λ call d broke only. barrier_leaves c call here.files _ (broke_named call (barrier_of c.mapfile) [] d.gain.calls broke)),
               holds_more rescue_faults (Read c.mapfile found.mapfile ∷ behind_mapfile c found end) run Q
                   (λ e d. Q e (behind (barrier_of c.mapfile) d)) (behind_barrier c here now c.mapfile) load,
             ),

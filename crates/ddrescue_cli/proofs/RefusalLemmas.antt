@@ -1,15 +1,14 @@
 -- What the answers of a rescue's rows are.
-use Rattle.std.proofs.Common.{◌≡◌, ℕ, List, Option, Some, None, sym, ◌∙◌, inl, inr, subst}
+use Rattle.std.proofs.Common.{◌≡◌, ℕ, List, Option, None, sym, ◌∙◌, inl, inr, subst}
 use Rattle.mapfile_text.specs.declared.read.Mode.{Mode}
 use Rattle.crash_site.specs.declared.site.SiteCall.{SiteCall}
 use Rattle.crash_site.specs.declared.site.SiteCall.TheVariants.{ImageRead, MapRead, MapRemove}
 use Rattle.crash_site.specs.Files.{File}
-use Rattle.save_resume.specs.Saving.{IsNameIn}
 use Rattle.rescue_rules.specs.declared.stop.Stop.{Stop}
 use Rattle.rescue_rules.specs.declared.stop.Stop.TheVariants.{SourceLost as InputLost, Site, NoMemory as NoRoom}
 use Rattle.rescue_rules.specs.declared.stop.RunEnd.TheVariants.{Done as Finished, Stopped as RunStopped, SaveFailed}
 use Rattle.work_steps.specs.Work.{Deeds, Works}
-use Rattle.work_steps.proofs.AnswerLemmas.{IsCalled, IsRefused, Starved, Unopened, Broken, Refused, Came, Stopped, Went, came}
+use Rattle.work_steps.proofs.AnswerLemmas.{Stops, IsCalled, IsRefused, Starved, Unopened, Broken, Refused, Came, Stopped, Went, came}
 use Rattle.rescue_command.specs.Command.{Command}
 use Rattle.ddrescue_cli.specs.declared.ending.Ending.{Ending}
 use Rattle.ddrescue_cli.specs.declared.ending.Ending.TheVariants.{Done, SameName, SourceFault, SiteFault, NoMemory}
@@ -19,12 +18,12 @@ use Rattle.ddrescue_cli.specs.Maps.{Found}
 use Rattle.ddrescue_cli.specs.Refusals.{NamedMapRefused}
 use Rattle.ddrescue_cli.specs.Outside.{Outside}
 use Rattle.ddrescue_cli.specs.Told.{asked_of}
-use Rattle.ddrescue_cli.specs.Work.{Rescues, barrier_of, rescue_faults, rescue_rows, worked_rows}
+use Rattle.ddrescue_cli.specs.Work.{Rescues, rescue_faults, rescue_rows, worked_rows}
 use Rattle.ddrescue_cli.specs.Answers.{AreAccepted, SaysOfWords, IsRescueCall}
 use Rattle.ddrescue_cli.specs.Ddrescue.{Promise}
 use Rattle.ddrescue_cli.specs.Laws.{FaultsAreOfSteps}
 use Rattle.ddrescue_cli.proofs.LateLemmas.{IsRunCall, IsLate, rescue_late}
-use Rattle.ddrescue_cli.proofs.RowLemmas.{EndsRun}
+use Rattle.ddrescue_cli.proofs.RowLemmas.{of_barrier, EndsRun}
 
 -- a refusal behind the names: no end of a run, no failed call, and one of words that are accepted
 pub record IsPlain (e : Ending) : Type 1 where
@@ -48,6 +47,13 @@ refused_plain c found end e (inr (inr (inr (inl mapfile)))) =
 refused_plain c found end e (inr (inr (inr (inr (inl place))))) =
     subst IsPlain (sym place.1) (record { done = λ x. cc; call = λ call earlier x. cc; words = λ words ok. ok })
 refused_plain c found end e (inr (inr (inr (inr (inr none))))) = absurd none
+
+-- no row stops as a run that is done
+pub undone : (c : Command) (found : Found) (end : ℕ) (e : Ending) → Stops rescue_faults (worked_rows c found end) e → e ≡ Done → ⊥
+undone c found end e (Starved is) done = let no : NoMemory ≡ Done = sym is ∙ done in cc
+undone c found end e (Unopened is) done = let no : SourceFault ≡ Done = sym is ∙ done in cc
+undone c found end e (Broken call is called) done = let no : SiteFault call None ≡ Done = sym is ∙ done in cc
+undone c found end e (Refused refused) done = (refused_plain c found end e refused).done done
 
 -- what an answer behind the names says of words that are accepted
 ends_words : (words : List (List ℕ)) (e : Ending) → EndsRun e → AreAccepted words → SaysOfWords e words
@@ -77,19 +83,14 @@ says_of_words words c found end run e d ok ends w =
 read_own : (call : SiteCall) → call ≡ MapRead → IsRescueCall call
 read_own call is = subst IsRescueCall (sym is) tt
 
-barrier_own : (mapfile : Option (List ℕ)) (call : SiteCall) → IsNameIn call (barrier_of mapfile) → IsRescueCall call
-barrier_own None call named = absurd named
-barrier_own (Some name) call (inl is) = subst IsRescueCall (sym is) tt
-barrier_own (Some name) call (inr (inl is)) = subst IsRescueCall (sym is) tt
-barrier_own (Some name) call (inr (inr none)) = absurd none
-
 called_own : (c : Command) (found : Found) (end : ℕ) (call : SiteCall) → IsCalled call (worked_rows c found end)
     → IsRescueCall call
 called_own c found end call (inl is) = read_own call is
 called_own c found end call (inr (inl is)) = read_own call is
 called_own c found end call (inr (inr (inl (inl is)))) = subst IsRescueCall (sym is) tt
 called_own c found end call (inr (inr (inl (inr none)))) = absurd none
-called_own c found end call (inr (inr (inr (inl barrier)))) = barrier_own c.mapfile call barrier
+called_own c found end call (inr (inr (inr (inl barrier)))) =
+    of_barrier IsRescueCall tt tt call c.mapfile barrier
 called_own c found end call (inr (inr (inr (inr (inl is))))) = read_own call is
 called_own c found end call (inr (inr (inr (inr (inr none))))) = absurd none
 

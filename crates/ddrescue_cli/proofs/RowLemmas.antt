@@ -1,8 +1,9 @@
 -- What is said of a rescue's answer, row by row.
-use Rattle.std.proofs.Common.{◌≡◌, ℕ, List, [], ◌∷◌, ◌++◌, Option, Some, None, true, inl, inr}
+use Rattle.std.proofs.Common.{sym, subst, ◌≡◌, ℕ, List, [], ◌∷◌, ◌++◌, Option, Some, None, true, inl, inr}
 use Rattle.crash_site.specs.declared.site.SiteCall.{SiteCall}
 use Rattle.crash_site.specs.declared.site.SiteCall.TheVariants.{ImageOpen, ImageSync, MapSettle}
 use Rattle.crash_site.specs.Files.{File}
+use Rattle.save_resume.specs.Saving.{IsNameIn}
 use Rattle.crash_site.specs.Calls.{Entry, BrokeAt, image_open}
 use Rattle.save_resume.specs.Named.{map_mode}
 use Rattle.rescue_rules.specs.Setting.{Setting}
@@ -32,16 +33,12 @@ open_call call out old new (inl (is, lost)) = is
 open_call call out old new (inr broke) = absurd broke
 
 -- a call of a barrier, if there is one
-pub data BarrierCall (call : SiteCall) : Type 0 where
-  Settles : call ≡ MapSettle → BarrierCall call
-  Syncs : call ≡ ImageSync → BarrierCall call
-
-pub barrier_call : (call : SiteCall) (mapfile : Option (List ℕ)) (old new : List Entry)
-    → BrokeAt call (barrier_of mapfile) old new → BarrierCall call
-barrier_call call None old new broke = absurd broke
-barrier_call call (Some n) old new (inl (is, lost)) = Settles is
-barrier_call call (Some n) old new (inr (inl (is, lost))) = Syncs is
-barrier_call call (Some n) old new (inr (inr broke)) = absurd broke
+pub of_barrier : (P : SiteCall → Type 0) → P MapSettle → P ImageSync → (call : SiteCall) (mapfile : Option (List ℕ))
+    → IsNameIn call (barrier_of mapfile) → P call
+of_barrier P settle sync call None named = absurd named
+of_barrier P settle sync call (Some n) (inl is) = subst P (sym is) settle
+of_barrier P settle sync call (Some n) (inr (inl is)) = subst P (sym is) sync
+of_barrier P settle sync call (Some n) (inr (inr none)) = absurd none
 
 -- the rows behind the read of each map that an option names, and behind that of the mapfile
 abbrev pub behind_mapfile : Command → Found → (end : ℕ) → List (Step Ending)

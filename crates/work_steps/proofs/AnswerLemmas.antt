@@ -1,10 +1,13 @@
 -- What an answer of any work is: one of a row that it stopped in, or one of the run behind the rows.
+use Rattle.save_resume.specs.Loading.{IsLoad}
+use Rattle.crash_site.specs.Calls.{Call, Entry, Done as Returned}
+use Rattle.crash_site.specs.Files.{File}
 use Rattle.std.specs.Bool.{⊤}
-use Rattle.std.proofs.Common.{◌≡◌, ◌⊎◌, List, [], ◌∷◌, Some, None, refl, sym, ◌∙◌, inl, inr}
+use Rattle.std.proofs.Common.{◌≡◌, ◌⊎◌, List, [], ◌∷◌, Some, None, refl, sym, ◌∙◌, inl, inr, ℕ, ◌++◌, map, Option}
 use Rattle.crash_site.specs.declared.site.SiteCall.{SiteCall}
 use Rattle.crash_site.specs.declared.site.SiteCall.TheVariants.{MapRead}
 use Rattle.save_resume.specs.Saving.{IsNameIn}
-use Rattle.work_steps.specs.Work.{Deeds, Faults, Step, Take, Look, Open, Make, Read, Works}
+use Rattle.work_steps.specs.Work.{Deeds, Faults, Step, Take, Look, Open, Make, Read, Works, Opening, with_calls, with_opens}
 use Rattle.work_steps.proofs.GainLemmas.{broke_named}
 
 -- one of the rows makes this call
@@ -96,3 +99,50 @@ came f (Read (Some name) file ∷ more) run e d (inl (load, is, begins, broke, o
 came f (Read (Some name) file ∷ more) run e d (inr (inl (load, is, begins, all, only))) = Stopped (Starved is) only.reads
 came f (Read (Some name) file ∷ more) run e d (inr (inr (load, rest, loaded, is, w))) =
     came_later f (Read (Some name) file) more run e d _ refl (λ found. ((λ none. absurd (cc)), found)) (came f more run e _ w)
+
+-- a load of the file of a name, if there is a name
+abbrev pub IsLoadIf : Option (List ℕ) → Option File → List Call → Type 0
+IsLoadIf None file load = load ≡ []
+IsLoadIf (Some name) file load = IsLoad name file load
+
+-- what was done in rows that the work went through, and then by its run
+abbrev pub Passed : {E : Type 0} → List (Step E) → (E → Deeds → Type 0) → E → Deeds → Type 0
+Passed [] run e d = run e d
+Passed (Take ∷ more) run e d = Passed more run e d
+Passed (Look refuses ∷ more) run e d = Passed more run e d
+Passed (Open name ∷ more) run e d = (rest : List Opening) × Passed more run e (with_opens d rest)
+Passed (Make calls ∷ more) run e d =
+    (rest : List Entry) × (d.gain.calls ≡ map Returned calls ++ rest) × Passed more run e (with_calls d rest)
+Passed (Read name file ∷ more) run e d =
+    (load : List Call) × (rest : List Entry) × IsLoadIf name file load × (d.gain.calls ≡ map Returned load ++ rest)
+    × Passed more run e (with_calls d rest)
+
+-- an answer of which no row stops is one of the run behind them all
+pub passed : {E : Type 0} (f : Faults E) (steps : List (Step E)) (run : E → Deeds → Type 0) (e : E) (d : Deeds)
+    → (Stops f steps e → ⊥) → Works f steps run e d → Passed steps run e d
+passed f [] run e d never w = w
+passed f (Take ∷ more) run e d never (inl (is, idle)) = absurd (never (Starved is))
+passed f (Take ∷ more) run e d never (inr w) = passed f more run e d (λ s. never (stops_later f Take more e s)) w
+passed f (Look refuses ∷ more) run e d never (inl (refused, idle)) = absurd (never (Refused (inl refused)))
+passed f (Look refuses ∷ more) run e d never (inr (accepted, w)) =
+    passed f more run e d (λ s. never (stops_later f (Look refuses) more e s)) w
+passed f (Open name ∷ more) run e d never (inl (is, opens, gain)) = absurd (never (Unopened is))
+passed f (Open name ∷ more) run e d never (inr (rest, is, w)) =
+    (rest, passed f more run e (with_opens d rest) (λ s. never (stops_later f (Open name) more e s)) w)
+passed f (Make calls ∷ more) run e d never (inl (call, is, broke, only)) =
+    absurd (never (Broken call is (inl (broke_named call calls [] d.gain.calls broke))))
+passed f (Make calls ∷ more) run e d never (inr (rest, is, w)) =
+    (rest, is, passed f more run e (with_calls d rest) (λ s. never (stops_later f (Make calls) more e s)) w)
+passed f (Read None file ∷ more) run e d never (inl (is, idle)) = absurd (never (Starved is))
+passed f (Read None file ∷ more) run e d never (inr (none, w)) =
+    ([], d.gain.calls, refl, refl, passed f more run e d (λ s. never (stops_later f (Read None file) more e s)) w)
+passed f (Read (Some name) file ∷ more) run e d never (inl (load, is, begins, broke, only)) =
+    absurd (never (Broken MapRead is (inl refl)))
+passed f (Read (Some name) file ∷ more) run e d never (inr (inl (load, is, begins, all, only))) = absurd (never (Starved is))
+passed f (Read (Some name) file ∷ more) run e d never (inr (inr (load, rest, loaded, is, w))) = (
+  load,
+  rest,
+  loaded,
+  is,
+  passed f more run e (with_calls d rest) (λ s. never (stops_later f (Read (Some name) file) more e s)) w,
+)
