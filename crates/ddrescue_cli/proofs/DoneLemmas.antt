@@ -59,7 +59,7 @@ use Rattle.trim_scrape.proofs.EndingLemmas.{run_ends_well}
 use Rattle.ddrescue_cli.proofs.OutputLemmas.{holds_whole}
 use Rattle.ddrescue_cli.proofs.GoesLemmas.{setting_by, opened, settled}
 use Rattle.ddrescue_cli.proofs.CountLemmas.{dues, run_entries, settles_once_more, publishes_each}
-use Rattle.ddrescue_cli.proofs.FrontLemmas.{IsMapRead, load_reads, reads_stand, made_both}
+use Rattle.work_steps.proofs.FrontLemmas.{IsMapRead, load_reads, reads_stand, made_both}
 use Rattle.ddrescue_cli.proofs.ReadLemmas.{settles_behind, publishes_behind, barrier_behind}
 
 -- a stop behind all calls may leave the files as they read

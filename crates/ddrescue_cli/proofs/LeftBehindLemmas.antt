@@ -31,7 +31,7 @@ use Rattle.ddrescue_cli.specs.Outside.{Outside}
 use Rattle.ddrescue_cli.specs.Work.{Rescues, answer_of, rescue_faults, rescue_rows, barrier_of}
 use Rattle.ddrescue_cli.specs.Ddrescue.{Promise}
 use Rattle.ddrescue_cli.specs.Laws.{FilesAreLeft}
-use Rattle.ddrescue_cli.proofs.FrontLemmas.{load_reads, reads_stand, broken_stands}
+use Rattle.work_steps.proofs.FrontLemmas.{load_reads, reads_stand, broken_stands}
 use Rattle.work_steps.specs.Work.{Deeds, Look, Read, Works}
 use Rattle.work_steps.specs.Holds.{Holds, behind}
 use Rattle.work_steps.proofs.HoldsLemmas.{holds, holds_more}

@@ -5,7 +5,6 @@ pub mod CompleteLemmas
 pub mod CountLemmas
 pub mod DoneLemmas
 pub mod EndLemmas
-pub mod FrontLemmas
 pub mod GivenLemmas
 pub mod GoesLemmas
 pub mod InputReadLemmas

@@ -6,7 +6,7 @@ use Rattle.crash_site.specs.Calls.{Call, Entry, Done as Returned, map_read}
 use Rattle.rescue_rules.specs.Work.{AreMapReads}
 use Rattle.rescue_rules.specs.Stops.{is_sync, is_settle, is_publish, has_barrier}
 use Rattle.rescue_rules.proofs.CutLemmas.{add, tally, tally_is}
-use Rattle.ddrescue_cli.proofs.FrontLemmas.{IsMapRead}
+use Rattle.work_steps.proofs.FrontLemmas.{IsMapRead}
 
 -- a test that no such read passes
 record LeavesOut (f : Entry → Bool) : Type 0 where

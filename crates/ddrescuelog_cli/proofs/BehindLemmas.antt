@@ -9,6 +9,7 @@ use Rattle.crash_site.specs.declared.site.SiteCall.TheVariants.{MapRead}
 use Rattle.save_resume.specs.Loading.{piece_size}
 use Rattle.save_resume.specs.Named.{map_mode}
 use Rattle.work_steps.specs.Work.{Deeds, Step, Take, Look, Open, Make, Read, Works}
+use Rattle.work_steps.proofs.FrontLemmas.{IsMapRead, load_reads}
 use Rattle.log_command.specs.Command.{Command}
 use Rattle.ddrescuelog_cli.specs.declared.ending.Which.{Which}
 use Rattle.ddrescuelog_cli.specs.declared.ending.Which.TheVariants.{DomainMap, RunMap, OtherMap}
@@ -19,7 +20,7 @@ use Rattle.ddrescuelog_cli.specs.Maps.{Found, Maps, mapfile_mode}
 use Rattle.ddrescuelog_cli.specs.Refusals.{IfNamed, MapIsRefused, MapIsThere, PlacesRefused}
 use Rattle.ddrescuelog_cli.specs.Work.{log_faults, named_rows, read_rows, EndsAs, WorksOver, UnlessThere, WorksAs}
 use Rattle.ddrescuelog_cli.proofs.FoundLemmas.{RowsGive}
-use Rattle.ddrescuelog_cli.proofs.ReadLemmas.{IsMapRead, IsRead, AreReads, none_are, load_reads, returned_are, broke_are, OnlyRead}
+use Rattle.ddrescuelog_cli.proofs.ReadLemmas.{IsRead, AreReads, none_are, returned_are, broke_are, OnlyRead}
 
 -- Some calls are reads, and behind them nothing where the work stopped by then, or those of a run.
 pub record Behind (P : LogEnding → Type 0) (run : LogEnding → Deeds → Type 0) (e : LogEnding) (calls : List Entry)

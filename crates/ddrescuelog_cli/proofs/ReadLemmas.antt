@@ -1,25 +1,20 @@
 -- Work that only reads maps changes no file.
-use Rattle.std.proofs.Common.{◌≡◌, ℕ, ◌+◌, true, List, [], ◌∷◌, ◌++◌, map, sum, All, Option, Some, None, refl, sym, ap, ◌∙◌, inl, inr, subst}
+use Rattle.std.proofs.Common.{◌≡◌, ◌+◌, true, List, [], ◌∷◌, ◌++◌, map, All, Some, None, refl, ap, ◌∙◌, inl, inr}
 use Rattle.std.specs.Prelude.{⊤}
-use Rattle.std.proofs.lemmas.List.Elements.{All-nil, All-cons, All-head, All-tail, All-same, All-append, All-push, All-map}
+use Rattle.std.proofs.lemmas.List.Elements.{All-nil, All-head, All-tail, All-same, All-append, All-push, All-map}
 use Rattle.crash_site.specs.declared.site.SiteCall.{SiteCall}
 use Rattle.crash_site.specs.declared.site.SiteCall.TheVariants.{MapRead}
-use Rattle.crash_site.specs.declared.site.MapRead.TheVariants.{Bytes}
-use Rattle.crash_site.specs.Files.{File}
 use Rattle.crash_site.specs.Calls.{Call, Entry, Done as Returned, Failed, BrokeAt, map_read}
 use Rattle.crash_site.specs.Folder.{Folder, after, after_entry}
 use Rattle.crash_site.specs.SiteState.{SiteState, files_in}
 use Rattle.crash_site.proofs.LawLemmas.{after-append}
-use Rattle.save_resume.specs.Loading.{piece_size, piece_reads, BeginsLoad}
 use Rattle.rescue_rules.specs.Work.{is_map_read, AreMapReads}
 use Rattle.work_steps.specs.Work.{Deeds, Step, Take, Look, Open, Make, Read, Works, with_calls}
+use Rattle.work_steps.proofs.FrontLemmas.{IsMapRead, load_reads}
 use Rattle.ddrescuelog_cli.specs.declared.ending.LogEnding.{LogEnding}
 use Rattle.ddrescuelog_cli.specs.Told.{only_calls}
 use Rattle.ddrescuelog_cli.specs.Work.{log_faults}
 use Rattle.ddrescuelog_cli.specs.Steps.{Stopped, Through}
-
-abbrev pub IsMapRead : Call → Type 0
-IsMapRead c = is_map_read c ≡ true
 
 -- a read of a map, which returned or failed
 abbrev pub IsRead : Entry → Type 0
@@ -31,21 +26,6 @@ AreReads calls = All IsRead calls
 
 pub none_are : (calls : List Entry) → calls ≡ [] → AreReads calls
 none_are calls none = All-same IsRead calls [] none (All-nil IsRead)
-
--- ---- loads
-
-piece_reads_are : (name : List ℕ) (pos : ℕ) (given : List ℕ) (last : Call) → IsMapRead last
-    → AreMapReads (piece_reads name pos given ++ last ∷ [])
-piece_reads_are name pos [] last is = All-cons IsMapRead last [] is (All-nil IsMapRead)
-piece_reads_are name pos (n ∷ given) last is =
-    All-cons IsMapRead (map_read name pos piece_size (Some (Bytes n))) (piece_reads name (pos + n) given ++ last ∷ [])
-    refl (piece_reads_are name (pos + n) given last is)
-
--- a load makes no other call
-pub load_reads : (name : List ℕ) (file : Option File) (load : List Call) → BeginsLoad name file load → AreMapReads load
-load_reads name file load begins =
-    subst AreMapReads (sym begins.calls_are)
-    (piece_reads_are name 0 begins.given (map_read name (sum begins.given) piece_size begins.answer) refl)
 
 pub returned_are : (calls : List Call) → AreMapReads calls → AreReads (map Returned calls)
 returned_are calls reads = All-map IsRead Returned calls reads

@@ -1,4 +1,5 @@
 pub mod AnswerLemmas
+pub mod FrontLemmas
 pub mod GainLemmas
 pub mod HoldsLemmas
 pub mod LoadLemmas
