@@ -33,7 +33,7 @@ use Rattle.rescue_rules.proofs.CutLemmas.{Cut, cut_all}
 use Rattle.rescue_rules.proofs.GoesLemmas.{broke_cut}
 use Rattle.rescue_rules.proofs.MapReadLemmas.{cut_reads}
 use Rattle.work_steps.proofs.GainLemmas.{lost_behind, broke_behind}
-use Rattle.work_steps.proofs.FrontLemmas.{IsMapRead, load_reads, broke_behind, made_both}
+use Rattle.work_steps.proofs.FrontLemmas.{IsMapRead, load_reads, broke_in_both, made_both}
 
 -- what a command asks for with these names of a mapfile and its draft, if there is one
 abbrev pub setting_by : Command → Option MapNames → (line : List ℕ) → (end : ℕ) → Maps → Setting
@@ -180,7 +180,7 @@ goes_behind : (s : Setting) (files : List ℕ → Option File) (g : Gain) (load 
     → g.calls ≡ map Returned load ++ rest → Goes s files (record g { calls = rest }) → Goes s files g
 goes_behind s files g load rest reads grew (InMaps maps more none broke) =
     InMaps (load ++ maps) (All-append IsMapRead load maps reads more) none
-    (broke_behind MapRead load maps [] g.calls
+    (broke_in_both MapRead load maps [] g.calls
     (subst (λ (r : List Entry). BrokeAt MapRead maps (map Returned load) r) (sym grew)
     (subst (λ (r : List Entry). BrokeAt MapRead maps r (map Returned load ++ rest)) (append-nil (map Returned load))
     (broke_behind MapRead maps (map Returned load) [] rest broke))))

@@ -30,7 +30,7 @@ use Rattle.ddrescue_cli.specs.Work.{Rescues, rescue_faults, map_rows, opened_row
 use Rattle.ddrescue_cli.specs.Steps.{statuses_in, HasTiles, ReadsMap, IsOnlyMaps, maps_of, Opened, Worked}
 use Rattle.ddrescue_cli.proofs.OpenedLemmas.{across, none_seen}
 use Rattle.ddrescue_cli.proofs.MapsLemmas.{MapsOf, maps_for, map_is_one}
-use Rattle.work_steps.proofs.FrontLemmas.{IsMapRead, load_reads, reads_stand, broke_behind, made_both}
+use Rattle.work_steps.proofs.FrontLemmas.{IsMapRead, load_reads, reads_stand, broke_in_both, made_both}
 
 -- ---- reads of maps alone
 
@@ -83,7 +83,7 @@ ends_behind front maps calls (inl all) =
     inl (ap (λ (r : List Entry). map Returned front ++ r) (all ∙ sym (append-nil (map Returned maps)))
     ∙ made_both front maps [] ∙ append-nil (map Returned (front ++ maps)))
 ends_behind front maps calls (inr broke) =
-    inr (broke_behind MapRead front maps [] (map Returned front ++ calls)
+    inr (broke_in_both MapRead front maps [] (map Returned front ++ calls)
     (subst (λ (r : List Entry). BrokeAt MapRead maps r (map Returned front ++ calls)) (append-nil (map Returned front))
     (broke_behind MapRead maps (map Returned front) [] calls broke)))
 

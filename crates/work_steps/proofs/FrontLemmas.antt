@@ -57,11 +57,11 @@ broken_stands at (c ∷ calls) start old new reads (inr broke) =
     ∙ after-append start old (Returned c ∷ []) ∙ (read_stands c (after start old) (All-head IsMapRead c calls reads)).returned
 
 -- calls that broke behind others that returned
-pub broke_behind : (at : SiteCall) (front calls : List Call) (old new : List Entry) → BrokeAt at calls (old ++ map Returned front) new
+pub broke_in_both : (at : SiteCall) (front calls : List Call) (old new : List Entry) → BrokeAt at calls (old ++ map Returned front) new
     → BrokeAt at (front ++ calls) old new
-broke_behind at [] calls old new broke = subst (λ (r : List Entry). BrokeAt at calls r new) (append-nil old) broke
-broke_behind at (c ∷ front) calls old new broke =
-    inr (broke_behind at front calls (old ++ Returned c ∷ []) new
+broke_in_both at [] calls old new broke = subst (λ (r : List Entry). BrokeAt at calls r new) (append-nil old) broke
+broke_in_both at (c ∷ front) calls old new broke =
+    inr (broke_in_both at front calls (old ++ Returned c ∷ []) new
     (subst (λ (r : List Entry). BrokeAt at calls r new) (sym (append_assoc old (Returned c ∷ []) (map Returned front))) broke))
 
 -- returned calls, one list behind another
