@@ -11,10 +11,10 @@ use Rattle.std.proofs.lemmas.Int.Digits.{digits_value-lt}
 use Rattle.std.proofs.Math.Nat.{pow-le-pow_right}
 use Rattle.size_suffixes.specs.Number.{number_by, within, is_no_digit}
 use Rattle.size_suffixes.specs.declared.error.SizeError.TheVariants.{BadDigit, TooLarge}
+use Rattle.size_suffixes.proofs.Digits.{no_other}
 use Rattle.mapfile_text.specs.Fields.{numeral, numeral_by}
 use Rattle.mapfile_text.specs.Reading.{capped}
 use Rattle.mapfile_text.proofs.LineLemmas.{position-none}
-use Rattle.mapfile_text.proofs.ReadNumbers.{no_other}
 
 -- each of some digits is one
 pub digit_at : (base : ℕ) (ds : List ℕ) (i : ℕ) → AllDigits base ds → i < length ds → digit_value (get_or ds i 0) < base

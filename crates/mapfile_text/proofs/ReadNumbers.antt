@@ -1,15 +1,13 @@
 -- A printed number, symbol or pass is read as what was printed.
-use Rattle.std.proofs.Common.{◌≡◌, ℕ, zero, suc, ◌+◌, ◌-◌, ◌<◌, ◌≤◌, ◌^◌, Bool, true, false, not, ◌&&◌, ◌||◌, cond, List, [], ◌∷◌, ◌++◌, length, drop, replicate, get_or, Some, None, Ok, Err, position, nat_eq, nat_lt, refl, ap, ◌∙◌, arith, length-append}
-use Rattle.std.specs.List.{prefix_len}
-use Rattle.std.specs.Char.{digit_value}
+use Rattle.std.proofs.Common.{◌≡◌, ℕ, zero, suc, ◌+◌, ◌-◌, ◌<◌, ◌≤◌, ◌^◌, true, false, cond, List, [], ◌∷◌, ◌++◌, length, replicate, get_or, Some, None, nat_eq, refl, ap, ◌∙◌, arith, length-append}
 use Rattle.std.specs.Str.Parse.{AllDigits, IsNumeral, digits_value}
 use Rattle.std.specs.Fmt.{decimal, digits}
-use Rattle.std.proofs.lemmas.Bool.{ne_eqb, lt-ltb}
+use Rattle.std.proofs.lemmas.Bool.{ne_eqb}
 use Rattle.std.proofs.lemmas.Bool.Decides.{nat_tests}
 use Rattle.std.proofs.lemmas.Str.Parse.{digit_from_value}
 use Rattle.std.proofs.lemmas.Fmt.{digits_is_IsNumeral, decimal_is_IsNumeral, first_decimal}
-use Rattle.size_suffixes.specs.Number.{number, number_by, within, value, base_of, digits_at, digits_of_text, is_no_digit}
-use Rattle.size_suffixes.specs.declared.error.SizeError.TheVariants.{BadDigit, TooLarge}
+use Rattle.size_suffixes.specs.Number.{base_of, digits_of_text}
+use Rattle.size_suffixes.proofs.Digits.{number_of_digits, decimal_number}
 use Rattle.block_list.specs.declared.status.Status.{Status}
 use Rattle.block_list.specs.declared.status.Status.TheVariants.{NonTried, NonTrimmed, NonScraped, BadSector, Finished}
 use Rattle.block_list.specs.Status.{symbol, status_of_symbol}
@@ -18,35 +16,10 @@ use Rattle.mapfile_text.specs.declared.state.Current.TheVariants.{Copying, Trimm
 use Rattle.mapfile_text.specs.Fields.{numeral, numeral_by, current_of_symbol, begins_with_digit, above_zero, pass_of}
 use Rattle.mapfile_text.specs.Printed.{hexadecimal, current_symbol}
 
-is_digit : (base c : ℕ) → digit_value c < base → not (is_no_digit base c) ≡ true
-is_digit base c h = rw (lt-ltb (digit_value c) base h) refl
-
-all_digits : (base : ℕ) (ds : List ℕ) → AllDigits base ds → prefix_len (λ c. not (is_no_digit base c)) ds ≡ length ds
-all_digits base [] d = refl
-all_digits base (c ∷ cs) d =
-    let more : ℕ = prefix_len (λ c. not (is_no_digit base c)) cs in
-    let k : more ≡ length cs = all_digits base cs d.1 in
-    ap (λ v. cond v (1 + more) 0) (is_digit base c d.0) ∙ omega arith
-
-none_past_end : (n end : ℕ) → n ≡ end → cond (nat_lt n end) (Some n) None ≡ None
-none_past_end n end e = let f : nat_lt n end ≡ false = grind (arith, nat_tests) in ap (λ v. cond v (Some n) None) f
-
-pub no_other : (base : ℕ) (ds : List ℕ) → AllDigits base ds → position (is_no_digit base) ds ≡ None
-no_other base ds d = none_past_end (prefix_len (λ c. not (is_no_digit base c)) ds) (length ds) (all_digits base ds d)
-
 -- digits in the base that the text begins with are a numeral
 numeral_of_digits : (c : ℕ) (cs ds : List ℕ) (base n : ℕ) → base_of (c ∷ cs) ≡ base → digits_of_text (c ∷ cs) ≡ ds
     → IsNumeral base ds → digits_value base ds ≡ n → n < 2 ^ 63 → numeral (c ∷ cs) ≡ Some n
-numeral_of_digits c cs ds base n b t d v small =
-    let text : List ℕ = c ∷ cs in
-    let place : position (is_no_digit (base_of text)) (digits_of_text text) ≡ None = rw (b, t) (no_other base ds d.1) in
-    let some : nat_eq (length (digits_of_text text)) 0 ≡ false = ne_eqb (length (digits_of_text text)) 0 (λ z. omega (arith, ap length t, d.0)) in
-    let is : value text ≡ n = rw (b, t) v in
-    let low : nat_lt n (2 ^ 63) ≡ true = lt-ltb n (2 ^ 63) small in
-    let reads : number text ≡ Ok n =
-    ap (number_by text) place ∙ ap (λ v. cond v (Err (BadDigit (digits_at text))) (within (value text))) some
-    ∙ ap within is ∙ ap (λ v. cond v (Ok n) (Err TooLarge)) low in
-    ap (numeral_by text) reads
+numeral_of_digits c cs ds base n b t d v small = ap (numeral_by (c ∷ cs)) (number_of_digits c cs ds base n b t d v small)
 
 zeros_value : (k : ℕ) (ds : List ℕ) → digits_value 16 (replicate k 48 ++ ds) ≡ digits_value 16 ds
 zeros_value zero ds = refl
@@ -66,15 +39,7 @@ hexadecimal_is_read n small =
     (some, zeros_digits zeros ds k.0.1) (zeros_value zeros ds ∙ k.1) small
 
 decimal_digits_are_read : (ds : List ℕ) (n : ℕ) → IsNumeral 10 ds → digits_value 10 ds ≡ n → 48 < get_or ds 0 0 → n < 2 ^ 63 → numeral ds ≡ Some n
-decimal_digits_are_read [] n d v first small = absurd (omega arith)
-decimal_digits_are_read (c ∷ []) n d v first small =
-    let no : nat_eq c 48 ≡ false = ne_eqb c 48 (λ e. omega arith) in
-    numeral_of_digits c [] (c ∷ []) 10 n (ap (λ v. cond v 8 10) no) refl d v small
-decimal_digits_are_read (c ∷ e ∷ ds) n d v first small =
-    let no : nat_eq c 48 ≡ false = ne_eqb c 48 (λ e. omega arith) in
-    let mark : Bool = nat_eq e 120 || nat_eq e 88 in
-    numeral_of_digits c (e ∷ ds) (c ∷ e ∷ ds) 10 n (ap (λ v. cond (v && mark) 16 (cond v 8 10)) no)
-    (ap (λ v. drop (cond (v && mark) 2 0) (c ∷ e ∷ ds)) no) d v small
+decimal_digits_are_read ds n d v first small = ap (numeral_by ds) (decimal_number ds n d v first small)
 
 begins_with : (ds : List ℕ) → IsNumeral 10 ds → begins_with_digit ds ≡ true
 begins_with [] d = absurd (omega (arith, d.0))

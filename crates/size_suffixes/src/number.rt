@@ -1,12 +1,15 @@
-ghost use Rattle.std.specs.Prelude.{◌≡◌, ◌-◌, ◌^◌, ◌<◌, ◌≤◌, length, min, position, IfSome};
+ghost use Rattle.std.specs.Prelude.{◌≡◌, ◌-◌, ◌^◌, ◌<◌, ◌≤◌, Ok, length, min, position, IfSome};
 ghost use Rattle.std.specs.Char.{digit_value};
-ghost use Rattle.std.specs.Str.Parse.{digits_value};
+ghost use Rattle.std.specs.Str.Parse.{AllDigits, digits_value};
 ghost use Rattle.size_suffixes.specs.Number.{number, base_of, digits_at, is_no_digit, within};
 
 use crate::error::SizeError;
 
 /// The least value that is too large.
 const LIMIT: u64 = 1 << 63;
+
+/// How many decimal digits are always below the limit.
+const FEW: usize = 18;
 
 /// The base of a number by how it begins.
 fn base_of_text(bytes: &[u8]) -> u64
@@ -73,9 +76,45 @@ pub(crate) fn limited(value: u64) -> Result<u64, SizeError>
     }
 }
 
-/// Reads a number that stands in bytes, as a field of a line, and nothing else: decimal, or octal behind `0`, or
-/// hexadecimal behind `0x`. A number of any length is read; one of 2^63 or more is `TooLarge`.
-pub fn parse_number(bytes: &[u8]) -> Result<u64, SizeError>
+/// The value of a decimal digit, and 10 for any other byte.
+fn value_of_decimal(byte: u8) -> u64
+    ensures { result ≡ min (digit_value byte) 10 }
+{
+    match byte {
+        b'0'..=b'9' => u64::from(byte - b'0'),
+        _ => 10,
+    }
+}
+
+/// The value of a few decimal digits.
+fn decimal(digits: &[u8]) -> Option<u64>
+    requires { length digits.now ≤ 18 }
+    ensures digits { IfSome result (λ n. AllDigits 10 digits.now) }
+    ensures value { IfSome result (λ n. n ≡ digits_value 10 digits.now) }
+{
+    let mut value = 0;
+    for byte in digits {
+        let digit = value_of_decimal(*byte);
+        if digit == 10 {
+            return None;
+        }
+        value = value * 10 + digit;
+    }
+    Some(value)
+}
+
+/// The number that a few decimal digits are.
+fn short_decimal(bytes: &[u8]) -> Option<u64>
+    ensures { IfSome result (λ n. number bytes.now ≡ Ok n) }
+{
+    match bytes {
+        [b'1'..=b'9', ..] if bytes.len() <= FEW => decimal(bytes),
+        _ => None,
+    }
+}
+
+/// Reads a number of any base and length.
+fn any_number(bytes: &[u8]) -> Result<u64, SizeError>
     ensures { result ≡ number bytes.now }
 {
     if bytes.is_empty() {
@@ -92,6 +131,18 @@ pub fn parse_number(bytes: &[u8]) -> Result<u64, SizeError>
     }
     let value = saturated_value(base, digits);
     limited(value)
+}
+
+/// Reads a number that stands in bytes, as a field of a line, and nothing else: decimal, or octal behind `0`, or
+/// hexadecimal behind `0x`. A number of any length is read; one of 2^63 or more is `TooLarge`.
+pub fn parse_number(bytes: &[u8]) -> Result<u64, SizeError>
+    ensures { result ≡ number bytes.now }
+{
+    // What lists of numbers have: a decimal number that is below the limit.
+    match short_decimal(bytes) {
+        Some(number) => Ok(number),
+        None => any_number(bytes),
+    }
 }
 
 /// Reads a number and nothing else, as `parse_number` does.
