@@ -11,6 +11,7 @@ pub mod ReadNumbers
 pub mod ReadLines
 pub mod ReadPrinted
 pub mod FieldLemmas
+pub mod LastDigits
 pub mod LineLemmas
 pub mod EntryLemmas
 pub mod Progress

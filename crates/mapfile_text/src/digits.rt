@@ -1,6 +1,7 @@
 //! The digits of numbers.
-ghost use Rattle.std.specs.Prelude.{◌≡◌, ℕ, ◌<◌, ◌≤◌, take, drop, replicate, length, true};
+ghost use Rattle.std.specs.Prelude.{◌≡◌, ℕ, ◌^◌, ◌<◌, ◌≤◌, take, drop, replicate, length, true};
 ghost use Rattle.std.specs.Fmt.{digits, digit_glyph};
+ghost use Rattle.mapfile_text.specs.Printed.{hexadecimal};
 
 /// Writes the digits of `n` over the last of 64 zeros, and returns where they begin.
 #[inline(always)]
@@ -23,6 +24,23 @@ pub(crate) fn write_digits(out: &mut [u8; 64], n: u64, base: u64) -> usize
         }
     }
     i
+}
+
+/// A position or a size that takes no more than eight digits.
+#[inline(always)]
+pub(crate) fn short_hexadecimal(n: u64) -> [u8; 10]
+    requires { n < 2 ^ 32 }
+    ensures { result ≡ hexadecimal n }
+{
+    let mut out = *b"0x00000000";
+    let mut i = 10;
+    let mut rest = n;
+    while i > 2 {
+        i -= 1;
+        out[i] = digit(rest % 16);
+        rest /= 16;
+    }
+    out
 }
 
 fn digit(d: u64) -> u8

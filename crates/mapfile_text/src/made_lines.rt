@@ -5,7 +5,7 @@ ghost use Rattle.arrayvec.specs.ArrayVec.{array_vec_len};
 ghost use Rattle.mapfile_text.specs.Printed.{ended, program_line, hexadecimal, state_line, block_line};
 ghost use Rattle.mapfile_text.specs.LeftOf.{start_line, now_line};
 
-use crate::digits::write_digits;
+use crate::digits::{short_hexadecimal, write_digits};
 use crate::heading::{Heading, Program};
 use crate::state::MapState;
 use arrayvec::ArrayVec;
@@ -22,8 +22,8 @@ pub(crate) fn append(line: &mut Line, text: &[u8])
     let _fits = line.try_extend_from_slice(text);
 }
 
-/// Appends a position or a size.
-fn append_hexadecimal(line: &mut Line, n: u64)
+/// Appends a position or a size of any number of digits.
+fn append_long(line: &mut Line, n: u64)
     requires { array_vec_len line.old + 18 ≤ 64 }
     ensures text { line.new.items ≡ line.old.items ++ hexadecimal n }
     ensures len { array_vec_len line.new ≤ array_vec_len line.old + 18 }
@@ -32,6 +32,19 @@ fn append_hexadecimal(line: &mut Line, n: u64)
     let begin = write_digits(&mut digits, n, 16).min(56);
     append(line, b"0x");
     append(line, &digits[begin..]);
+}
+
+/// Appends a position or a size.
+fn append_hexadecimal(line: &mut Line, n: u64)
+    requires { array_vec_len line.old + 18 ≤ 64 }
+    ensures text { line.new.items ≡ line.old.items ++ hexadecimal n }
+    ensures len { array_vec_len line.new ≤ array_vec_len line.old + 18 }
+{
+    if n < 1 << 32 {
+        append(line, &short_hexadecimal(n));
+    } else {
+        append_long(line, n);
+    }
 }
 
 fn append_decimal(line: &mut Line, n: u64)

@@ -4,7 +4,7 @@ use Rattle.std.specs.Fmt.{digits}
 use Rattle.mapfile_text.specs.Printed.{at_least_eight}
 use Rattle.mapfile_text.proofs.Appended.{joined}
 use Rattle.mapfile_text.proofs.DigitLemmas.{slice_from, padded_behind, length_hexadecimal}
-use Rattle.mapfile_text.proofs.made_lines.append_hexadecimal.Goals as goal
+use Rattle.mapfile_text.proofs.made_lines.append_long.Goals as goal
 
 pub append-requires-2 : goal.append-requires-2
 append-requires-2 c =
