@@ -1,14 +1,14 @@
-use Rattle.std.proofs.Common.{◌≡◌, ℕ, ◌+◌, ◌*◌, ◌<◌, ◌≤◌, List, [], ◌∷◌, ◌++◌, length, take, drop, get_or, set, cond, nat_eq, nat_lt, Bool, true, false, All, refl, arith, ap, sym, ◌∙◌, append_assoc, append-nil, length-append, ⊎_elim, ◌⊎◌, inl, inr}
+use Rattle.std.proofs.Common.{◌≡◌, ℕ, ◌+◌, ◌-◌, ◌*◌, ◌<◌, ◌≤◌, List, [], ◌∷◌, ◌++◌, length, take, drop, get_or, set, cond, nat_eq, nat_lt, Bool, true, false, All, refl, arith, ap, sym, ◌∙◌, append_assoc, append-nil, length-append, ⊎_elim, ◌⊎◌, inl, inr}
 use Rattle.std.specs.List.{insert}
 use Rattle.std.proofs.lemmas.Bool.{eq-eqb, ne_eqb, lt-ltb, le-ltb, cases_lt}
-use Rattle.std.proofs.lemmas.List.{take_at, drop_at, length_push, length-set, length-take-le, length-drop, get_or-set_same, get_or-set_other, nil_from_length}
+use Rattle.std.proofs.lemmas.List.{take-append-drop, take-set, drop-set, get_or_default, take_at, drop_at, length_push, length-set, length-take-le, length-drop, get_or-set_same, get_or-set_other, nil_from_length}
 use Rattle.std.proofs.lemmas.List.Edits.{length-insert}
 use Rattle.std.proofs.lemmas.List.Elements.{All-append, All-cons, All-take, All-drop, All-tail}
 use Rattle.std.proofs.lemmas.List.Sums.{sum_by-cons, sum_by-append, sum_by_push, sum_by_more, sum_by-take-drop, get_or-le-sum_by, sum_by-insert}
 use Rattle.std.proofs.lemmas.Grind.{flat_map-append}
 use Rattle.block_list.specs.declared.block.Block.{Block}
 use Rattle.paged_blocks.specs.declared.entry.Entry.{Entry}
-use Rattle.paged_blocks.specs.Paging.{blocks_of, flat, AreHalfFull, IsEntryOf, IsEntry, short_pages, naming, standing, AreNumbered, AreFiled}
+use Rattle.paged_blocks.specs.Paging.{blocks_of, flat, AreHalfFull, IsEntryOf, IsEntry, IsRewritten, short_pages, naming, standing, AreNumbered, AreFiled}
 
 -- one for an entry that names a page, one for a number that is it, one for a short page
 abbrev pub names : ℕ → Entry → ℕ
@@ -219,6 +219,67 @@ released pages es kept free new first behind a l u q same n = record {
     all = omega (arith, a.numbered.all);
   };
 }
+
+-- a list with another element at an index
+set_parts : (es : List Entry) (k : ℕ) (e : Entry) → k < length es → set es k e ≡ take k es ++ e ∷ drop (k + 1) es
+set_parts es k e h =
+    sym (take-append-drop k (set es k e)) ∙ ap (λ r. r ++ drop k (set es k e)) (take-set es k e)
+    ∙ ap (λ r. take k es ++ r) (drop-set es k e h)
+
+-- a page that was written anew is as one that was freed and filed again
+pub rewritten : (pages : List (List Block)) (es : List Entry) (free : List ℕ) (k : ℕ) (page : List Block)
+    (new : List (List Block)) (named : List Entry) → AreFiled pages es free → k < length es → 0 < length page
+    → IsRewritten pages es k page new named → IsPlaced pages (take k es ++ drop (k + 1) es) k page new named free
+rewritten pages es free k page new named a h s w =
+    let e : Entry = w.entry in
+    let kept : List Entry = take k es ++ drop (k + 1) es in
+    let more : List ℕ = free ++ e.page ∷ [] in
+    let old : Entry = get_or es k e in
+    let n : length (take k es) ≡ k = length-take-le k es (omega arith) in
+    let q : more ≡ free ++ old.page ∷ [] = ap (λ m. free ++ m ∷ []) (w.number e) in
+    let f : AreFiled pages kept more =
+    released pages es kept free more k (k + 1) a (omega arith) (omega arith) refl
+    (λ m. released_numbers es kept free more m k (k + 1) refl
+    (released_more es free more m k old h (get_or_default es k e old h) q))
+    (omega (
+      arith,
+      n,
+      length-append (take k es) (drop (k + 1) es),
+      length-drop (k + 1) es,
+      length_push free e.page,
+    )) in
+    let p = placed pages kept more free e.page k page e f refl
+    (omega (arith, n, length-append (take k es) (drop (k + 1) es))) s w.says in
+    let z : insert kept k e ≡ named =
+    ap (λ r. r ++ e ∷ drop k kept) (take_at (take k es) (drop (k + 1) es) k n)
+    ∙ ap (λ r. take k es ++ e ∷ r) (drop_at (take k es) (drop (k + 1) es) k n)
+    ∙ sym (set_parts es k e h) ∙ sym w.filed in
+    rw (← z, w.written) p
+
+pub rewritten_flat : (pages : List (List Block)) (es : List Entry) (free : List ℕ) (k : ℕ) (page : List Block)
+    (new : List (List Block)) (named : List Entry) → k < length es
+    → IsPlaced pages (take k es ++ drop (k + 1) es) k page new named free
+    → flat new named ≡ flat pages (take k es) ++ page ++ flat pages (drop (k + 1) es)
+rewritten_flat pages es free k page new named h p =
+    let n : length (take k es) ≡ k = length-take-le k es (omega arith) in
+    ap (λ r. flat new r) (sym (take-append-drop (k + 1) named))
+    ∙ flat_map-append (blocks_of new) (take (k + 1) named) (drop (k + 1) named)
+    ∙ ap (λ r. r ++ flat new (drop (k + 1) named)) p.front
+    ∙ ap (λ r. flat pages (take k (take k es ++ drop (k + 1) es)) ++ page ++ r) p.back
+    ∙ ap (λ r. flat pages r ++ page ++ flat pages (drop k (take k es ++ drop (k + 1) es))) (take_at (take k es) (drop (k + 1) es) k n)
+    ∙ ap (λ r. flat pages (take k es) ++ page ++ flat pages r) (drop_at (take k es) (drop (k + 1) es) k n)
+
+-- how many entries are left
+pub taken_out : (es kept : List Entry) (first behind : ℕ) → first ≤ behind → behind ≤ length es
+    → kept ≡ take first es ++ drop behind es → length kept + (behind - first) ≡ length es
+taken_out es kept first behind l u q =
+    omega (
+      arith,
+      ap length q,
+      length-append (take first es) (drop behind es),
+      length-take-le first es (omega arith),
+      length-drop behind es,
+    )
 
 -- no page is short
 pub long_at : (es : List Entry) (i : ℕ) (d : Entry) → short_pages es ≡ 0 → i < length es → 32 ≤ (get_or es i d).len

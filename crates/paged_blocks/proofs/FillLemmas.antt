@@ -23,6 +23,11 @@ range_more bs from i b h r =
     let q : get_or (drop from bs) k b ≡ b = get_or-drop from bs k b ∙ ap (λ n. get_or bs n b) z ∙ get_or_from_slice_get bs i b b r in
     rw y (ap (λ c. take k (drop from bs) ++ c ∷ []) (sym q) ∙ sym (take_more (drop from bs) k b l))
 
+-- one more of the first blocks
+pub front_more : (bs : List Block) (i : ℕ) (b : Block) → slice_get bs i ≡ Some b → take i bs ++ b ∷ [] ≡ take (i + 1) bs
+front_more bs i b r =
+    sym (take_more bs i b (slice_get_within bs i b r) ∙ ap (λ x. take i bs ++ x ∷ []) (get_or_from_slice_get bs i b b r))
+
 status_cases : (s t : Status) → (s ≡ t) ⊎ (s ≡ t → ⊥)
 status_cases s t =
     let k : (v : Bool) → same s t ≡ v → (s ≡ t) ⊎ (s ≡ t → ⊥) = λ v. elim v as (λ v. same s t ≡ v → (s ≡ t) ⊎ (s ≡ t → ⊥)) [

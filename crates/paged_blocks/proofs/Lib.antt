@@ -7,5 +7,6 @@ pub mod FilingLemmas
 pub mod KeptLemmas
 pub mod MarkLemmas
 pub mod RegionLemmas
+pub mod RewriteLemmas
 pub mod HalvingLemmas
 pub mod StepLemmas

@@ -1,13 +1,18 @@
-use Rattle.std.proofs.Common.{◌≡◌, ℕ, ◌+◌, ◌-◌, ◌<◌, ◌≤◌, List, [], ◌∷◌, ◌++◌, length, take, drop, get_or, slice_range, arith, ap, sym, ◌∙◌, append_assoc, append-nil, length-append, length-drop, ⊎_elim}
+use Rattle.std.proofs.Common.{◌≡◌, ℕ, zero, suc, ◌+◌, ◌-◌, ◌*◌, ◌<◌, ◌≤◌, List, [], ◌∷◌, ◌++◌, length, take, drop, get_or, slice_range, arith, ap, sym, ◌∙◌, append_assoc, append-nil, length-append, length-drop, ⊎_elim}
+use Rattle.std.specs.List.{flat_map}
 use Rattle.std.proofs.lemmas.Bool.{cases_lt}
 use Rattle.std.proofs.lemmas.List.{take-append-drop, take_all, take_rest, take_at, drop_at, take_more, drop_more, length-take-le}
 use Rattle.std.proofs.lemmas.Grind.{flat_map-append}
 use Rattle.std.proofs.Math.Seq.{take-add}
 use Rattle.block_list.specs.declared.block.Block.{Block}
+use Rattle.block_list.specs.Stretches.{covered}
+use Rattle.block_list.proofs.TileLemmas.{covered-append}
 use Rattle.paged_blocks.specs.declared.entry.Entry.{Entry}
-use Rattle.paged_blocks.specs.Paging.{blocks_of, flat, before}
+use Rattle.paged_blocks.specs.Paging.{blocks_of, flat, before, IsPaging}
 use Rattle.paged_blocks.specs.Marks.{spliced, edited, edit_from, edit_to, IsEdit}
 use Rattle.paged_blocks.specs.declared.marks.Edit.{Edit}
+use Rattle.paged_blocks.specs.declared.regions.Region.{Region}
+use Rattle.paged_blocks.specs.Regions.{IsRegion, refilled}
 use Rattle.paged_blocks.proofs.PagingLemmas.{no_entry, before_more, before_mono, before_le}
 
 -- ranges of a list from its start, up to its end, and both
@@ -82,6 +87,88 @@ pub touched_same : (pages : List (List Block)) (es : List Entry) (k i l j : ℕ)
 touched_same pages es k i l j d new h u v w =
     rw (front_blocks pages es k i d h u, back_blocks pages es l j d v w) (simp append_assoc)
 
+-- pages hold at most 64 blocks each
+pub pages_hold : (pages : List (List Block)) (es : List Entry) (i n : ℕ) → IsPaging pages es → i + n ≤ length es
+    → before pages es (i + n) ≤ before pages es i + 64 * n
+pages_hold pages es i zero p l = let z : i + zero ≡ i = omega arith in rw z (omega arith)
+pages_hold pages es i (suc n) p l =
+    let z : i + suc n ≡ i + n + 1 = omega arith in
+    let v : i + n < length es = omega arith in
+    rw z (omega (
+      arith,
+      pages_hold pages es i n p (omega arith),
+      before_more pages es (i + n) no_entry v,
+      (p.each (i + n) no_entry v).fits,
+    ))
+
+-- an edit in the one page that it touches
+pub page_edited : (pages : List (List Block)) (es : List Entry) (e : Edit) (page : List Block) → IsEdit pages es e
+    → e.first ≡ e.last → page ≡ spliced (blocks_of pages (get_or es e.first no_entry)) e.from e.to e.new
+    → flat pages (take e.first es) ++ page ++ flat pages (drop (e.first + 1) es) ≡ edited pages es e
+page_edited pages es e page i s q =
+    let h : e.first < length es = omega (arith, i.order, i.last) in
+    let u : e.to ≤ length (blocks_of pages (get_or es e.first no_entry)) =
+    omega (arith, i.to no_entry, ap (λ k. length (blocks_of pages (get_or es k no_entry))) s) in
+    ap (λ r. flat pages (take e.first es) ++ r ++ flat pages (drop (e.first + 1) es)) q
+    ∙ touched_same pages es e.first e.from e.first e.to no_entry e.new h (i.from no_entry) h u
+    ∙ ap (λ k. spliced (flat pages es) (before pages es e.first + e.from) (before pages es k + e.to) e.new) s
+
+-- such a page has as many blocks more as the edit has
+pub page_len : (pages : List (List Block)) (es : List Entry) (e : Edit) (page : List Block) → IsEdit pages es e
+    → e.first ≡ e.last → page ≡ spliced (blocks_of pages (get_or es e.first no_entry)) e.from e.to e.new
+    → length page + e.to ≡ length (blocks_of pages (get_or es e.first no_entry)) + e.from + length e.new
+page_len pages es e page i s q =
+    let own : List Block = blocks_of pages (get_or es e.first no_entry) in
+    let u : e.to ≤ length own =
+    omega (arith, i.to no_entry, ap (λ k. length (blocks_of pages (get_or es k no_entry))) s) in
+    omega (
+      arith,
+      ap length q,
+      length-append (take e.from own ++ e.new) (drop e.to own),
+      length-append (take e.from own) e.new,
+      length-take-le e.from own (i.from no_entry),
+      length-drop e.to own,
+      u,
+    )
+
+pub page_some : (pages : List (List Block)) (es : List Entry) (e : Edit) (page : List Block) → IsEdit pages es e
+    → e.first ≡ e.last → page ≡ spliced (blocks_of pages (get_or es e.first no_entry)) e.from e.to e.new → 0 < length page
+page_some pages es e page i s q =
+    omega (
+      arith,
+      i.some,
+      page_len pages es e page i s q,
+      i.to no_entry,
+      ap (λ k. length (blocks_of pages (get_or es k no_entry))) s,
+    )
+
+-- a part of a list of blocks has no more positions than the whole
+pub middle_short : (front middle back : List Block)
+    → length (flat_map covered middle) ≤ length (flat_map covered (front ++ middle ++ back))
+middle_short front middle back =
+    omega (
+      arith,
+      ap length (covered-append (front ++ middle) back),
+      ap length (covered-append front middle),
+      length-append (flat_map covered (front ++ middle)) (flat_map covered back),
+      length-append (flat_map covered front) (flat_map covered middle),
+    )
+
+-- the blocks of a region are at most two more than its pages hold
+pub region_few : (pages : List (List Block)) (es : List Entry) (r : Region) → IsPaging pages es → IsRegion es r
+    → length (refilled pages es r) ≤ length (flat pages es) + 2 → length r.blocks ≤ 64 * (r.behind - r.first) + 2
+region_few pages es r p i g =
+    let z : r.first + (r.behind - r.first) ≡ r.behind = omega (arith, i.order) in
+    omega (
+      arith,
+      g,
+      length-append (flat pages (take r.first es) ++ r.blocks) (flat pages (drop r.behind es)),
+      length-append (flat pages (take r.first es)) r.blocks,
+      ap length (flat_parts pages es r.behind),
+      length-append (flat pages (take r.behind es)) (flat pages (drop r.behind es)),
+      rw z at (pages_hold pages es r.first (r.behind - r.first) p (omega (arith, i.order, i.within))),
+    )
+
 -- a region with the page behind it, and with the page in front of it
 pub next_same : (pages : List (List Block)) (es : List Entry) (front blocks : List Block) (k : ℕ) (d : Entry) → k < length es
     → front ++ (blocks ++ blocks_of pages (get_or es k d)) ++ flat pages (drop (k + 1) es)
@@ -107,15 +194,13 @@ page_order pages es k i l j d h u o =
     (λ (v : k ≤ l). v) (cases_lt l k)
 
 -- the blocks that were gathered of the first page, of an edit and of the last page
-pub touched_blocks : (none one two three front new back : List Block) (from to n m : ℕ) → none ≡ []
-    → one ≡ none ++ slice_range front 0 from → n ≡ length new → two ≡ one ++ slice_range new 0 n → m ≡ length back
+pub touched_blocks : (none one two three front new back : List Block) (from to m : ℕ) → none ≡ []
+    → one ≡ none ++ slice_range front 0 from → two ≡ one ++ new → m ≡ length back
     → three ≡ two ++ slice_range back to m → three ≡ take from front ++ new ++ drop to back
-touched_blocks none one two three front new back from to n m z a l b k c =
+touched_blocks none one two three front new back from to m z a b k c =
     c
     ∙ ap (λ r. r ++ slice_range back to m) (b
-    ∙ ap (λ r. r ++ slice_range new 0 n) (a ∙ ap (λ r. r ++ slice_range front 0 from) z ∙ range_front front from)
-    ∙ ap (λ i. take from front ++ slice_range new 0 i) l
-    ∙ ap (λ r. take from front ++ r) (range_whole new))
+    ∙ ap (λ r. r ++ new) (a ∙ ap (λ r. r ++ slice_range front 0 from) z ∙ range_front front from))
     ∙ ap (λ i. take from front ++ new ++ slice_range back to i) k
     ∙ ap (λ r. take from front ++ new ++ r) (range_back back to)
 

@@ -1,9 +1,10 @@
 -- How a `PagedTiles` is kept.
-use Rattle.std.specs.Prelude.{◌≡◌, ℕ, ◌*◌, ◌-◌, ◌≤◌, length, min, vec_len, vec_capacity}
+use Rattle.std.specs.Prelude.{◌≡◌, ℕ, ◌≤◌, length, vec_len, vec_capacity}
 use Rattle.std.specs.List.{flat_map}
 use Rattle.block_list.specs.Stretches.{covered}
 use Rattle.paged_blocks.specs.declared.paged_tiles.PagedTiles.TheInside.{Inside}
 use Rattle.paged_blocks.specs.Paging.{flat, IsKept}
+use Rattle.paged_blocks.specs.Room.{room_for}
 
 -- the end is that of the pages, and there is room to note each page as free
 pub record IsPaged (t : Inside) : Type 0 where
@@ -11,6 +12,7 @@ pub record IsPaged (t : Inside) : Type 0 where
   pub ends : t.end ≡ length (flat_map covered (flat t.pages.items t.entries.items))
   pub room : vec_len t.pages ≤ vec_capacity t.free
 
--- how many more blocks there is room for: pages that are half full hold them, whatever the order of the edits
+-- how many more blocks there is room for
 abbrev pub spare_of : Inside → ℕ
-spare_of t = 32 * min (vec_len t.pages) (vec_capacity t.entries) - length (flat t.pages.items t.entries.items)
+spare_of t =
+    room_for (vec_len t.pages) (vec_capacity t.entries) (vec_len t.entries) (length (flat t.pages.items t.entries.items))

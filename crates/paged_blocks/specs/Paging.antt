@@ -1,5 +1,5 @@
 -- A map in pages: a list of entries, each with the number of a page.
-use Rattle.std.specs.Prelude.{◌≡◌, ℕ, ◌+◌, ◌<◌, ◌≤◌, List, [], ◌∷◌, ◌++◌, All, length, slice_index_or, take, count_by, nat_eq, nat_lt}
+use Rattle.std.specs.Prelude.{◌≡◌, ℕ, ◌+◌, ◌<◌, ◌≤◌, List, [], ◌∷◌, ◌++◌, All, length, slice_index_or, slice_set, take, count_by, nat_eq, nat_lt}
 use Rattle.std.specs.List.{flat_map}
 use Rattle.block_list.specs.declared.block.Block.{Block}
 use Rattle.block_list.specs.declared.status.Status.{Status}
@@ -58,6 +58,15 @@ pub record IsAdded (pages : List (List Block)) (entries : List Entry) (page : Li
     (new : List (List Block)) (named : List Entry) : Type 0 where
   pub grown : new ≡ pages ++ page ∷ []
   pub known : (e : Entry) × IsEntryOf page (length pages) e × (named ≡ entries ++ e ∷ [])
+
+-- the page of the entry with an index was written anew, and the entry says what it holds now
+pub record IsRewritten (pages : List (List Block)) (entries : List Entry) (k : ℕ) (page : List Block)
+    (new : List (List Block)) (named : List Entry) : Type 0 where
+  pub entry : Entry
+  pub number : (d : Entry) → entry.page ≡ (slice_index_or entries k d).page
+  pub says : IsEntryOf page entry.page entry
+  pub written : new ≡ slice_set pages entry.page page
+  pub filed : named ≡ slice_set entries k entry
 
 -- how many pages have fewer than 32 blocks
 abbrev pub short_pages : List Entry → ℕ

@@ -1,7 +1,8 @@
 -- Pages that stand beside each other, and the blocks that come in the place of theirs.
-use Rattle.std.specs.Prelude.{◌≡◌, ◌<◌, ◌≤◌, List, ◌++◌, length, take, drop}
+use Rattle.std.specs.Prelude.{◌≡◌, ◌+◌, ◌-◌, ◌<◌, ◌≤◌, List, ◌++◌, length, take, drop, slice_index_or}
 use Rattle.block_list.specs.declared.block.Block.{Block}
 use Rattle.paged_blocks.specs.declared.entry.Entry.{Entry}
+use Rattle.paged_blocks.specs.declared.marks.Edit.{Edit}
 use Rattle.paged_blocks.specs.declared.regions.Region.{Region}
 use Rattle.paged_blocks.specs.Paging.{flat}
 
@@ -20,3 +21,15 @@ pub record IsRegion (es : List Entry) (r : Region) : Type 0 where
 pub record IsFull (es : List Entry) (r : Region) : Type 0 where
   pub first : length r.blocks < 32 → r.first ≡ 0
   pub behind : length r.blocks < 32 → r.behind ≡ length es
+
+-- a region is of no page, and has one block
+pub record IsOneBlock (r : Region) : Type 0 where
+  pub first : r.first ≡ 0
+  pub behind : r.behind ≡ 0
+  pub one : length r.blocks ≡ 1
+
+-- an edit touches one page, which has 32 to 64 blocks behind it, or fewer if it is the only one
+pub record StaysInPage (es : List Entry) (e : Edit) : Type 0 where
+  pub page : e.first ≡ e.last
+  pub fits : (d : Entry) → (slice_index_or es e.first d).len + length e.new ≤ 64 + (e.to - e.from)
+  pub half : 1 < length es → (d : Entry) → 32 + (e.to - e.from) ≤ (slice_index_or es e.first d).len + length e.new

@@ -1,47 +1,71 @@
 //! Edits of a map in pages.
-ghost use Rattle.std.specs.Prelude.{◌≡◌, ◌+◌, ◌*◌, ◌<◌, ◌≤◌, ◌^◌, length, vec_len, vec_capacity};
+ghost use Rattle.std.specs.Prelude.{◌≡◌, ℕ, ◌+◌, ◌-◌, ◌<◌, ◌≤◌, ◌^◌, true, List, length, vec_len, vec_capacity};
 ghost use Rattle.std.specs.List.{flat_map};
 ghost use Rattle.block_list.specs.Map.{marked};
 ghost use Rattle.block_list.specs.Stretches.{covered};
-ghost use Rattle.paged_blocks.specs.Paging.{flat, IsPaging, AreHalfFull, IsKept};
-ghost use Rattle.paged_blocks.specs.Marks.{AreOfMap};
-ghost use Rattle.paged_blocks.specs.Regions.{IsRegion, IsFull, refilled};
+ghost use Rattle.block_list.specs.Tiling.{IsMerged};
+ghost use Rattle.block_list.specs.Edits.{IsTiled};
+ghost use Rattle.paged_blocks.specs.Paging.{flat, IsPaging, IsKept};
+ghost use Rattle.paged_blocks.specs.Marks.{IsEdit, edited};
+ghost use Rattle.paged_blocks.specs.Regions.{StaysInPage};
+ghost use Rattle.paged_blocks.specs.Room.{room_for};
 
 use crate::entry::Entry;
-use crate::filing::refill;
-use crate::gathered::Gathered;
-use crate::marks::mark;
+use crate::filing::{refill, rewrite};
+use crate::marks::{Edit, mark};
 use crate::page::Page;
-use crate::regions::{Region, region_of};
+use crate::regions::{edited_page, first_region, region_of};
 use block_list::block::Block;
 
-/// The pages that a mark fills anew, and the blocks that they hold after it. A mark behind a map's end extends it.
-fn marked_region(pages: &[Page], entries: &[Entry], end: u64, block: Block) -> Region
+/// Whether an edit touches one page, and leaves it as full as it is to be.
+fn stays_in_page(pages: &[Page], entries: &[Entry], edit: &Edit) -> bool
     requires paging { IsPaging pages.now entries.now }
-    requires half { AreHalfFull entries.now }
-    requires some { 0 < block.size }
-    requires end { end ≡ length (flat_map covered (flat pages.now entries.now)) }
-    requires begins { block.pos ≤ end }
-    requires short { block.pos + block.size < 2 ^ 63 }
-    ensures region { IsRegion entries.now result }
-    ensures full { IsFull entries.now result }
-    ensures marked { AreOfMap (refilled pages.now entries.now result)
-        (marked (flat_map covered (flat pages.now entries.now)) block.pos block.size block.status) }
-    ensures gain { length (refilled pages.now entries.now result) ≤ length (flat pages.now entries.now) + 2 }
-    ensures adds { end ≤ block.pos + block.size
-        → length (refilled pages.now entries.now result) ≤ length (flat pages.now entries.now) + 1 }
+    requires edit { IsEdit pages.now entries.now edit.now }
+    ensures { result ≡ true → StaysInPage entries.now edit.now }
 {
-    if entries.is_empty() {
-        let mut blocks = Gathered::new();
-        blocks.push(block);
-        return Region {
-            first: 0,
-            behind: 0,
-            blocks,
-        };
+    if edit.first != edit.last {
+        return false;
     }
-    let edit = mark(pages, entries, end, block);
-    region_of(pages, entries, &edit)
+    let len = entries[edit.first].len + edit.new.len() - (edit.to - edit.from);
+    len <= 64 && (len >= 32 || entries.len() == 1)
+}
+
+/// Makes an edit in the page that it stays in. No other entry moves.
+fn edit_page(pages: &mut Vec<Page>, entries: &mut Vec<Entry>, edit: &Edit)
+    requires kept { (free : List ℕ) × IsKept pages.old.items entries.old.items free }
+    requires edit { IsEdit pages.old.items entries.old.items edit.now }
+    requires stays { StaysInPage entries.old.items edit.now }
+    requires tiled { IsTiled (edited pages.old.items entries.old.items edit.now) }
+    requires merged { IsMerged (edited pages.old.items entries.old.items edit.now) }
+    ensures kept { (free : List ℕ) → IsKept pages.old.items entries.old.items free
+        → IsKept pages.new.items entries.new.items free }
+    ensures flat { flat pages.new.items entries.new.items ≡ edited pages.old.items entries.old.items edit.now }
+    ensures len { vec_len entries.new ≡ vec_len entries.old }
+    ensures pages { vec_len pages.new ≡ vec_len pages.old }
+    ensures capacity { vec_capacity entries.new ≡ vec_capacity entries.old }
+{
+    let page = edited_page(pages, entries, edit);
+    rewrite(pages, entries, edit.first, page);
+}
+
+/// Makes an edit, for which the pages that it touches are filled anew.
+fn edit_pages(pages: &mut Vec<Page>, entries: &mut Vec<Entry>, free: &mut Vec<usize>, edit: &Edit)
+    requires kept { IsKept pages.old.items entries.old.items free.old.items }
+    requires edit { IsEdit pages.old.items entries.old.items edit.now }
+    requires tiled { IsTiled (edited pages.old.items entries.old.items edit.now) }
+    requires merged { IsMerged (edited pages.old.items entries.old.items edit.now) }
+    requires spare { 1 ≤ room_for (vec_len pages.old) (vec_capacity entries.old) (vec_len entries.old)
+        (length (edited pages.old.items entries.old.items edit.now) - 1) }
+    requires room { vec_len pages.old ≤ vec_capacity free.old }
+    ensures kept { IsKept pages.new.items entries.new.items free.new.items }
+    ensures flat { flat pages.new.items entries.new.items ≡ edited pages.old.items entries.old.items edit.now }
+    ensures few { vec_len entries.new ≤ vec_len entries.old + 1 }
+    ensures pages { vec_len pages.new ≡ vec_len pages.old }
+    ensures capacity { vec_capacity entries.old ≤ vec_capacity entries.new }
+    ensures room { vec_len pages.new ≤ vec_capacity free.new }
+{
+    let region = region_of(pages, entries, edit);
+    refill(pages, entries, free, &region);
 }
 
 /// Gives a status to the positions of a block, of which the last ones may stand behind the map's end.
@@ -57,12 +81,10 @@ pub fn overwrite(
     requires end { end ≡ length (flat_map covered (flat pages.old.items entries.old.items)) }
     requires begins { block.pos ≤ end }
     requires short { block.pos + block.size < 2 ^ 63 }
-    requires pages { length (flat pages.old.items entries.old.items) + 1 ≤ 32 * vec_len pages.old }
-    requires entries { length (flat pages.old.items entries.old.items) + 1 ≤ 32 * vec_capacity entries.old }
-    requires inner { block.pos + block.size < end
-        → length (flat pages.old.items entries.old.items) + 2 ≤ 32 * vec_len pages.old }
-    requires inner_entries { block.pos + block.size < end
-        → length (flat pages.old.items entries.old.items) + 2 ≤ 32 * vec_capacity entries.old }
+    requires spare { 1 ≤ room_for (vec_len pages.old) (vec_capacity entries.old) (vec_len entries.old)
+        (length (flat pages.old.items entries.old.items)) }
+    requires inner { block.pos + block.size < end → 2 ≤ room_for (vec_len pages.old) (vec_capacity entries.old)
+        (vec_len entries.old) (length (flat pages.old.items entries.old.items)) }
     requires room { vec_len pages.old ≤ vec_capacity free.old }
     ensures kept { IsKept pages.new.items entries.new.items free.new.items }
     ensures marked { flat_map covered (flat pages.new.items entries.new.items)
@@ -71,10 +93,20 @@ pub fn overwrite(
         ≤ length (flat pages.old.items entries.old.items) + 2 }
     ensures adds { end ≤ block.pos + block.size → length (flat pages.new.items entries.new.items)
         ≤ length (flat pages.old.items entries.old.items) + 1 }
+    ensures few { vec_len entries.new ≤ vec_len entries.old + 1 }
     ensures pages { vec_len pages.new ≡ vec_len pages.old }
     ensures capacity { vec_capacity entries.old ≤ vec_capacity entries.new }
     ensures room { vec_len pages.new ≤ vec_capacity free.new }
 {
-    let region = marked_region(pages, entries, end, block);
-    refill(pages, entries, free, &region);
+    if entries.is_empty() {
+        let region = first_region(pages, entries, block);
+        refill(pages, entries, free, &region);
+        return;
+    }
+    let edit = mark(pages, entries, end, block);
+    if stays_in_page(pages, entries, &edit) {
+        edit_page(pages, entries, &edit);
+        return;
+    }
+    edit_pages(pages, entries, free, &edit);
 }

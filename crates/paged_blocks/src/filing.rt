@@ -1,8 +1,9 @@
 //! Pages that are taken into use and set free.
-ghost use Rattle.std.specs.Prelude.{◌≡◌, ℕ, ◌+◌, ◌*◌, ◌<◌, ◌≤◌, ◌^◌, ◌++◌, length, take, drop, vec_len, vec_capacity};
+ghost use Rattle.std.specs.Prelude.{◌≡◌, ℕ, ◌+◌, ◌-◌, ◌*◌, ◌<◌, ◌≤◌, ◌^◌, ◌++◌, length, take, drop, slice_index_or, vec_len, vec_capacity};
 ghost use Rattle.std.specs.List.{flat_map};
 ghost use Rattle.block_list.specs.Stretches.{covered};
-ghost use Rattle.paged_blocks.specs.Paging.{flat, short_pages, naming, standing, AreFiled, IsKept};
+ghost use Rattle.paged_blocks.specs.declared.entry.Entry.{Entry};
+ghost use Rattle.paged_blocks.specs.Paging.{flat, short_pages, naming, standing, AreFiled, IsKept, IsRewritten};
 ghost use Rattle.paged_blocks.specs.Regions.{IsRegion, IsFull, refilled};
 ghost use Rattle.block_list.specs.Tiling.{IsMerged};
 ghost use Rattle.block_list.specs.Edits.{IsTiled};
@@ -79,13 +80,14 @@ fn deal(
     requires index { first ≤ vec_len entries.old }
     requires some { 0 < length blocks.now }
     requires short { length (flat_map covered blocks.now) < 2 ^ 63 }
-    requires pages { 32 * vec_len entries.old + length blocks.now ≤ 32 * vec_len pages.old }
-    requires entries { 32 * vec_len entries.old + length blocks.now ≤ 32 * vec_capacity entries.old }
+    requires pages { 64 * vec_len entries.old + length blocks.now ≤ 64 * vec_len pages.old }
+    requires entries { 64 * vec_len entries.old + length blocks.now ≤ 64 * vec_capacity entries.old }
     ensures filed { AreFiled pages.new.items entries.new.items free.new.items }
     ensures flat { flat pages.new.items entries.new.items ≡ flat pages.old.items (take first entries.old.items)
         ++ blocks.now ++ flat pages.old.items (drop first entries.old.items) }
     ensures half { 32 ≤ length blocks.now → short_pages entries.new.items ≡ short_pages entries.old.items }
     ensures one { length blocks.now < 32 → vec_len entries.new ≡ vec_len entries.old + 1 }
+    ensures few { 64 * vec_len entries.new < 64 * vec_len entries.old + length blocks.now + 64 }
     ensures pages { vec_len pages.new ≡ vec_len pages.old }
     ensures capacity { vec_capacity entries.old ≤ vec_capacity entries.new }
     ensures free { vec_capacity free.new ≡ vec_capacity free.old }
@@ -101,6 +103,22 @@ fn deal(
     }
 }
 
+/// Puts a page in the place of that of the entry with an index, which says then what it holds.
+pub fn rewrite(pages: &mut Vec<Page>, entries: &mut Vec<Entry>, k: usize, page: Page)
+    requires index { k < vec_len entries.old }
+    requires number { (d : Entry) → (slice_index_or entries.old.items k d).page < vec_len pages.old }
+    requires some { 0 < length page }
+    requires short { length (flat_map covered page) < 2 ^ 63 }
+    ensures rewritten { IsRewritten pages.old.items entries.old.items k page pages.new.items entries.new.items }
+    ensures pages { vec_len pages.new ≡ vec_len pages.old }
+    ensures len { vec_len entries.new ≡ vec_len entries.old }
+    ensures capacity { vec_capacity entries.new ≡ vec_capacity entries.old }
+{
+    let number = entries[k].page;
+    entries[k] = entry_of(number, &page);
+    pages[number] = page;
+}
+
 /// Puts blocks in the place of those of some pages. The pages that had those become free before others are taken into
 /// use.
 pub fn refill(
@@ -114,11 +132,15 @@ pub fn refill(
     requires full { IsFull entries.old.items region.now }
     requires tiled { IsTiled (refilled pages.old.items entries.old.items region.now) }
     requires merged { IsMerged (refilled pages.old.items entries.old.items region.now) }
-    requires pages { length (refilled pages.old.items entries.old.items region.now) ≤ 32 * vec_len pages.old }
-    requires entries { length (refilled pages.old.items entries.old.items region.now) ≤ 32 * vec_capacity entries.old }
+    requires pages { 64 * vec_len entries.old + length region.now.blocks
+        ≤ 64 * (vec_len pages.old + (region.now.behind - region.now.first)) }
+    requires entries { 64 * vec_len entries.old + length region.now.blocks
+        ≤ 64 * (vec_capacity entries.old + (region.now.behind - region.now.first)) }
     requires room { vec_len pages.old ≤ vec_capacity free.old }
     ensures kept { IsKept pages.new.items entries.new.items free.new.items }
     ensures flat { flat pages.new.items entries.new.items ≡ refilled pages.old.items entries.old.items region.now }
+    ensures few { 64 * (vec_len entries.new + (region.now.behind - region.now.first))
+        < 64 * vec_len entries.old + length region.now.blocks + 64 }
     ensures pages { vec_len pages.new ≡ vec_len pages.old }
     ensures capacity { vec_capacity entries.old ≤ vec_capacity entries.new }
     ensures room { vec_len pages.new ≤ vec_capacity free.new }

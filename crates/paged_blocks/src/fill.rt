@@ -9,8 +9,8 @@ use crate::page::Page;
 use block_list::plain_tiles::PlainTiles;
 use block_list::tiles::{NoMemory, Tiles};
 
-/// How many blocks the next page takes where some are left: as many as it holds, but so that the last two share what
-/// would leave too little for the last.
+/// How many blocks the next page takes where some are left: as many as it holds, but the last two share alike
+/// what is left for them.
 pub fn page_len(left: usize) -> usize
     requires { 0 < left }
     ensures some { 0 < result }
@@ -19,11 +19,12 @@ pub fn page_len(left: usize) -> usize
     ensures all { left ≤ 64 → result ≡ left }
     ensures half { 64 < left → 32 ≤ result }
     ensures rest { 64 < left → result + 32 ≤ left }
+    ensures full { 64 + result < left → result ≡ 64 }
 {
     if left <= 64 {
         left
-    } else if left < 96 {
-        left - 32
+    } else if left < 128 {
+        left / 2
     } else {
         64
     }

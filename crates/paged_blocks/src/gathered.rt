@@ -2,6 +2,7 @@
 ghost use Rattle.std.specs.Prelude.{◌≡◌, ◌+◌, ◌-◌, ◌<◌, ◌≤◌, [], ◌∷◌, ◌++◌, length, slice_get, slice_range, Some};
 
 use crate::page::{Page, Slot};
+use crate::piece::Piece;
 use arrayvec::ArrayVec;
 use block_list::block::Block;
 use std::marker::Model;
@@ -67,6 +68,16 @@ impl Gathered {
     {
         for i in from..to {
             self.push(page.block(i));
+        }
+    }
+
+    /// Puts all blocks of a piece behind the last one.
+    pub fn add(&mut self, piece: &Piece)
+        requires { length self.old + length piece.now ≤ 192 }
+        ensures { self.new ≡ self.old ++ piece.now }
+    {
+        for i in 0..piece.len() {
+            self.push(piece.block(i));
         }
     }
 

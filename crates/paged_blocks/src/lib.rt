@@ -10,6 +10,7 @@ mod lookups;
 mod marks;
 mod page;
 pub mod paged_tiles;
+mod piece;
 mod regions;
 mod room;
 mod search;

@@ -10,6 +10,7 @@ ghost use Rattle.paged_blocks.specs.Marks.{IsJoinedFront, IsJoinedBack, IsEdit, 
 use crate::entry::Entry;
 use crate::lookups::held_before;
 use crate::page::Page;
+use crate::piece::Piece;
 use block_list::block::Block;
 
 /// A block that was joined with a neighbor of its status, and what is left of a neighbor of another. The blocks that stay
@@ -30,7 +31,7 @@ pub struct Edit {
     pub from: usize,
     pub last: usize,
     pub to: usize,
-    pub new: Page,
+    pub new: Piece,
 }
 
 /// A block, joined with the block that holds the position in front of it.
@@ -151,7 +152,7 @@ pub fn mark(pages: &[Page], entries: &[Entry], end: u64, block: Block) -> Edit
 {
     let front = join_front(pages, entries, block);
     let back = join_back(pages, entries, end, front.block);
-    let mut new = Page::new();
+    let mut new = Piece::new();
     new.push_some(front.rest);
     new.push(back.block);
     new.push_some(back.rest);

@@ -1,9 +1,11 @@
 //! A page of blocks.
-ghost use Rattle.std.specs.Prelude.{◌≡◌, ◌+◌, ◌-◌, ◌<◌, ◌≤◌, [], ◌∷◌, ◌++◌, length, slice_get, slice_index_or, Some, IfSome, IfNone, option_to_list};
+ghost use Rattle.std.specs.Prelude.{◌≡◌, ◌+◌, ◌-◌, ◌<◌, ◌≤◌, [], ◌∷◌, ◌++◌, length, slice_get, slice_range, slice_index_or, Some, IfSome, IfNone};
 ghost use Rattle.std.specs.List.Sorted.{IsNonDecreasingBy};
 ghost use Rattle.block_list.specs.declared.block.Block.{Block};
+ghost use Rattle.paged_blocks.specs.Marks.{spliced};
 ghost use Rattle.paged_blocks.specs.Search.{IsSearched, HasNone, HasAt, IsFirstBlock, IsLastBlock};
 
+use crate::piece::Piece;
 use crate::search::{Begins, last_before};
 use crate::steps::Steps;
 use arrayvec::ArrayVec;
@@ -146,13 +148,41 @@ impl Page {
         self.slots.push(Slot { block });
     }
 
-    /// Puts a block, if there is one, behind the last one.
-    pub fn push_some(&mut self, block: Option<Block>)
-        requires { length self.old < 64 }
-        ensures { self.new ≡ self.old ++ option_to_list block }
+    /// Puts the blocks of a page from one index up to another behind the last one.
+    fn copy(&mut self, page: &Page, from: usize, to: usize)
+        requires order { from ≤ to }
+        requires within { to ≤ length page.now }
+        requires room { length self.old + (to - from) ≤ 64 }
+        ensures copied { self.new ≡ self.old ++ slice_range page.now from to }
+        ensures len { length self.new ≡ length self.old + (to - from) }
     {
-        if let Some(block) = block {
-            self.push(block);
+        for i in from..to {
+            self.push(page.block(i));
         }
+    }
+
+    /// Puts all blocks of a piece behind the last one.
+    fn add(&mut self, piece: &Piece)
+        requires { length self.old + length piece.now ≤ 64 }
+        ensures { self.new ≡ self.old ++ piece.now }
+    {
+        for i in 0..piece.len() {
+            self.push(piece.block(i));
+        }
+    }
+
+    /// A page like it, with other blocks in the place of those from one index up to another.
+    pub fn spliced(&self, from: usize, to: usize, new: &Piece) -> Page
+        requires order { from ≤ to }
+        requires within { to ≤ length self.now }
+        requires fits { length self.now + length new.now ≤ 64 + (to - from) }
+        ensures { result ≡ spliced self.now from to new.now }
+    {
+        let len = self.len();
+        let mut page = Page::new();
+        page.copy(self, 0, from);
+        page.add(new);
+        page.copy(self, to, len);
+        page
     }
 }

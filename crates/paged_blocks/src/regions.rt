@@ -1,14 +1,18 @@
 //! The pages that an edit fills anew.
-ghost use Rattle.std.specs.Prelude.{◌≡◌, ◌+◌, ◌<◌, ◌≤◌, ◌++◌, length, take, drop, slice_index_or};
+ghost use Rattle.std.specs.Prelude.{◌≡◌, ◌+◌, ◌<◌, ◌≤◌, ◌^◌, ◌++◌, length, take, drop, slice_index_or};
+ghost use Rattle.std.specs.List.{flat_map};
+ghost use Rattle.block_list.specs.Map.{marked};
+ghost use Rattle.block_list.specs.Stretches.{covered};
 ghost use Rattle.paged_blocks.specs.declared.entry.Entry.{Entry};
-ghost use Rattle.paged_blocks.specs.Paging.{blocks_of, IsPaging, AreHalfFull};
-ghost use Rattle.paged_blocks.specs.Marks.{IsEdit, edited};
-ghost use Rattle.paged_blocks.specs.Regions.{IsRegion, IsFull, refilled};
+ghost use Rattle.paged_blocks.specs.Paging.{blocks_of, flat, IsPaging, AreHalfFull};
+ghost use Rattle.paged_blocks.specs.Marks.{AreOfMap, IsEdit, spliced, edited};
+ghost use Rattle.paged_blocks.specs.Regions.{IsRegion, IsFull, IsOneBlock, StaysInPage, refilled};
 
 use crate::entry::Entry;
 use crate::gathered::Gathered;
 use crate::marks::Edit;
 use crate::page::Page;
+use block_list::block::Block;
 
 /// The pages of the entries from `first` up to `behind`, and the blocks that come in the place of theirs.
 #[derive(Drop)]
@@ -16,6 +20,39 @@ pub struct Region {
     pub first: usize,
     pub behind: usize,
     pub blocks: Gathered,
+}
+
+/// The first block of a map.
+pub fn first_region(pages: &[Page], entries: &[Entry], block: Block) -> Region
+    requires none { length entries.now ≡ 0 }
+    requires some { 0 < block.size }
+    requires begins { block.pos ≡ 0 }
+    requires short { block.pos + block.size < 2 ^ 63 }
+    ensures region { IsRegion entries.now result }
+    ensures full { IsFull entries.now result }
+    ensures marked { AreOfMap (refilled pages.now entries.now result)
+        (marked (flat_map covered (flat pages.now entries.now)) block.pos block.size block.status) }
+    ensures one { IsOneBlock result }
+{
+    let mut blocks = Gathered::new();
+    blocks.push(block);
+    Region {
+        first: 0,
+        behind: 0,
+        blocks,
+    }
+}
+
+/// The page of an edit that touches no other, with the edit made.
+pub fn edited_page(pages: &[Page], entries: &[Entry], edit: &Edit) -> Page
+    requires paging { IsPaging pages.now entries.now }
+    requires edit { IsEdit pages.now entries.now edit.now }
+    requires stays { StaysInPage entries.now edit.now }
+    ensures { (d : Entry) → result
+        ≡ spliced (blocks_of pages.now (slice_index_or entries.now edit.now.first d)) edit.now.from edit.now.to
+        edit.now.new }
+{
+    pages[entries[edit.first].page].spliced(edit.from, edit.to, &edit.new)
 }
 
 /// The pages that an edit touches, with the blocks that they hold after it.
@@ -27,7 +64,7 @@ fn touched(pages: &[Page], entries: &[Entry], edit: &Edit) -> Region
 {
     let mut blocks = Gathered::new();
     blocks.copy(&pages[entries[edit.first].page], 0, edit.from);
-    blocks.copy(&edit.new, 0, edit.new.len());
+    blocks.add(&edit.new);
     let last = &pages[entries[edit.last].page];
     blocks.copy(last, edit.to, last.len());
     Region {

@@ -1,6 +1,7 @@
 //! Room for more blocks.
-ghost use Rattle.std.specs.Prelude.{◌≡◌, ◌+◌, ◌*◌, ◌≤◌, length, vec_len, vec_capacity, OnOk};
+ghost use Rattle.std.specs.Prelude.{◌≡◌, ◌≤◌, length, vec_len, vec_capacity, OnOk};
 ghost use Rattle.paged_blocks.specs.Paging.{flat, IsPaging, IsKept};
+ghost use Rattle.paged_blocks.specs.Room.{room_for};
 
 use crate::entry::Entry;
 use crate::page::Page;
@@ -18,7 +19,8 @@ pub fn blocks(pages: &[Page], entries: &[Entry]) -> usize
     blocks
 }
 
-/// Makes pages, and room for their entries, so that n more blocks fit where each page is only half full.
+/// Makes pages, and room for their entries, for n more blocks: a page for each, or where that is less, as many as hold
+/// all where each is only half full. Where enough are free it looks at no page.
 pub fn reserve(
     pages: &mut Vec<Page>,
     entries: &mut Vec<Entry>,
@@ -29,17 +31,21 @@ pub fn reserve(
     requires room { vec_len pages.old ≤ vec_capacity free.old }
     ensures kept { IsKept pages.new.items entries.new.items free.new.items }
     ensures flat { flat pages.new.items entries.new.items ≡ flat pages.old.items entries.old.items }
-    ensures pages { OnOk result (length (flat pages.old.items entries.old.items) + n ≤ 32 * vec_len pages.new) }
-    ensures entries { OnOk result (length (flat pages.old.items entries.old.items) + n
-        ≤ 32 * vec_capacity entries.new) }
+    ensures spare { OnOk result (n ≤ room_for (vec_len pages.new) (vec_capacity entries.new) (vec_len entries.old)
+        (length (flat pages.old.items entries.old.items))) }
+    ensures len { vec_len entries.new ≡ vec_len entries.old }
     ensures more { vec_len pages.old ≤ vec_len pages.new }
     ensures capacity { vec_capacity entries.old ≤ vec_capacity entries.new }
     ensures room { vec_len pages.new ≤ vec_capacity free.new }
 {
-    let held = blocks(pages, entries);
-    let wanted = held.checked_add(n).ok_or(NoMemory)?.div_ceil(32);
+    let used = entries.len();
+    if n <= free.len() && n <= entries.capacity() - used {
+        return Ok(());
+    }
+    let halves = blocks(pages, entries).checked_add(n).ok_or(NoMemory)?;
+    let wanted = halves.div_ceil(32).min(used.saturating_add(n));
     entries
-        .reserve(wanted.saturating_sub(entries.len()))
+        .reserve(wanted.saturating_sub(used))
         .map_err(|_| NoMemory)?;
     free.reserve(wanted.saturating_sub(free.len()))
         .map_err(|_| NoMemory)?;

@@ -54,12 +54,10 @@ loop-made-preserved c =
       more = λ h u. ⊎_elim (λ (v : 0 < c.loop-made.made). absurd (omega (arith, i.one h v, there)))
           (λ (v : c.loop-made.made ≤ 0). omega (arith, i.none (omega arith), c.place.ensures.entries))
           (cases_lt 0 c.loop-made.made);
-      unused = λ u. ⊎_elim (λ (v : c.page_len.result ≡ left). absurd (omega (arith, v, l)))
-          (λ (v : (32 ≤ c.page_len.result) × (c.page_len.result + 32 ≤ left)).
-          omega (arith, v.0, l, i.unused there, c.place.ensures.entries, c.place.ensures.pages)) parts;
-      room = λ u. ⊎_elim (λ (v : c.page_len.result ≡ left). absurd (omega (arith, v, l)))
-          (λ (v : (32 ≤ c.page_len.result) × (c.page_len.result + 32 ≤ left)).
-          omega (arith, v.0, l, i.room there, c.place.ensures.entries, c.place.ensures.capacity)) parts;
+      full = λ u. omega (arith, m.full (omega (arith, l)), i.full (omega (arith, m.fits)), c.place.ensures.entries);
+      less = λ u. ⊎_elim (λ (v : 64 < left). omega (arith, l, i.full (omega (arith, v, l)), c.place.ensures.entries))
+          (λ (v : left ≤ 64). absurd (omega (arith, m.all v, l))) (cases_lt 64 left);
+      few = omega (arith, i.less there, c.place.ensures.entries);
       pages = c.place.ensures.pages ∙ i.pages;
       capacity = omega (arith, c.place.ensures.capacity, i.capacity);
       free = c.place.ensures.free ∙ i.free;

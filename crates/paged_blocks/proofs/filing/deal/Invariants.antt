@@ -16,8 +16,9 @@ invariant-loop-made l = record {
   none : l.made ≡ 0 → vec_len l.entries ≡ vec_len l.initial.entries;
   one : length l.blocks < 32 → 0 < l.made → (l.made ≡ length l.blocks);
   more : length l.blocks < 32 → 0 < l.made → vec_len l.entries ≡ vec_len l.initial.entries + 1;
-  unused : l.made < length l.blocks → 32 * vec_len l.entries + (length l.blocks - l.made) ≤ 32 * vec_len l.pages;
-  room : l.made < length l.blocks → 32 * vec_len l.entries + (length l.blocks - l.made) ≤ 32 * vec_capacity l.entries;
+  full : l.made + 64 < length l.blocks → 64 * vec_len l.entries ≤ 64 * vec_len l.initial.entries + l.made;
+  less : l.made < length l.blocks → 64 * vec_len l.entries < 64 * vec_len l.initial.entries + length l.blocks;
+  few : 64 * vec_len l.entries < 64 * vec_len l.initial.entries + length l.blocks + 64;
   pages : vec_len l.pages ≡ vec_len l.initial.pages;
   capacity : vec_capacity l.initial.entries ≤ vec_capacity l.entries;
   free : vec_capacity l.free ≡ vec_capacity l.initial.free;

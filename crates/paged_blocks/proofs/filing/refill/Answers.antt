@@ -5,7 +5,7 @@ use Rattle.block_list.specs.declared.block.Block.{Block}
 use Rattle.paged_blocks.specs.declared.entry.Entry.{Entry}
 use Rattle.paged_blocks.specs.Paging.{flat}
 use Rattle.paged_blocks.specs.Regions.{refilled}
-use Rattle.paged_blocks.proofs.FilingLemmas.{released, kept_long, kept_fits}
+use Rattle.paged_blocks.proofs.FilingLemmas.{released, kept_long, taken_out}
 use Rattle.paged_blocks.proofs.filing.refill.Goals as goal
 
 pub deal-requires-clause-filed : goal.deal-requires-clause-filed
@@ -24,29 +24,36 @@ deal-requires-clause-filed c =
 
 pub deal-requires-clause-pages : goal.deal-requires-clause-pages
 deal-requires-clause-pages c =
-    let r = c.requires.region in
-    let f = deal-requires-clause-filed c in
-    let z = kept_long c.args.entries.now.items c.release.new.entries.items c.args.region.now.first c.args.region.now.behind c.requires.kept.half r.order r.within r.taken c.release.ensures.entries in
     omega (
       arith,
-      kept_fits c.args.pages.now.items c.args.entries.now.items c.release.new.entries.items c.args.region.now.blocks
-          c.args.region.now.first c.args.region.now.behind f.each z c.release.ensures.entries,
+      taken_out c.args.entries.now.items c.release.new.entries.items c.args.region.now.first c.args.region.now.behind
+          c.requires.region.order c.requires.region.within c.release.ensures.entries,
+      c.args.entries.now.ok.0,
       c.release.new.entries.ok.0,
       c.requires.pages,
     )
 
 pub deal-requires-clause-entries : goal.deal-requires-clause-entries
 deal-requires-clause-entries c =
-    let r = c.requires.region in
-    let f = deal-requires-clause-filed c in
-    let z = kept_long c.args.entries.now.items c.release.new.entries.items c.args.region.now.first c.args.region.now.behind c.requires.kept.half r.order r.within r.taken c.release.ensures.entries in
     omega (
       arith,
-      kept_fits c.args.pages.now.items c.args.entries.now.items c.release.new.entries.items c.args.region.now.blocks
-          c.args.region.now.first c.args.region.now.behind f.each z c.release.ensures.entries,
+      taken_out c.args.entries.now.items c.release.new.entries.items c.args.region.now.first c.args.region.now.behind
+          c.requires.region.order c.requires.region.within c.release.ensures.entries,
+      c.args.entries.now.ok.0,
       c.release.new.entries.ok.0,
       c.requires.entries,
       c.release.ensures.capacity,
+    )
+
+pub returns-clause-few : goal.returns-clause-few
+returns-clause-few c =
+    omega (
+      arith,
+      taken_out c.args.entries.now.items c.release.new.entries.items c.args.region.now.first c.args.region.now.behind
+          c.requires.region.order c.requires.region.within c.release.ensures.entries,
+      c.args.entries.now.ok.0,
+      c.release.new.entries.ok.0,
+      c.deal.ensures.few,
     )
 
 pub returns-clause-kept : goal.returns-clause-kept

@@ -1,4 +1,4 @@
-use Rattle.std.proofs.Common.{◌+◌, ◌<◌, ◌∙◌, ◌++◌, List, length, take, drop, ap, arith}
+use Rattle.std.proofs.Common.{◌+◌, ◌<◌, ◌∙◌, ◌++◌, List, length, take, drop, ap, arith, length-append}
 use Rattle.block_list.specs.declared.block.Block.{Block}
 use Rattle.paged_blocks.specs.Paging.{flat}
 use Rattle.paged_blocks.proofs.PagingLemmas.{no_entry, named}
@@ -15,6 +15,18 @@ copy-requires-clause-room c =
       (c.requires.paging.each c.args.edit.now.first no_entry (omega (arith, e.order, e.last))).fits,
     )
 
+pub add-requires : goal.add-requires
+add-requires c =
+    let e = c.requires.edit in
+    omega (
+      arith,
+      ap length c.new-blocks.ensures,
+      c.copy.ensures.len,
+      e.few,
+      e.from no_entry,
+      (c.requires.paging.each c.args.edit.now.first no_entry (omega (arith, e.order, e.last))).fits,
+    )
+
 pub copy-requires-2-clause-room : goal.copy-requires-2-clause-room
 copy-requires-2-clause-room c =
     let e = c.requires.edit in
@@ -22,22 +34,9 @@ copy-requires-2-clause-room c =
       arith,
       ap length c.new-blocks.ensures,
       c.copy.ensures.len,
-      c.len.ensures.value,
-      e.few,
-      e.from no_entry,
-      (c.requires.paging.each c.args.edit.now.first no_entry (omega (arith, e.order, e.last))).fits,
-    )
-
-pub copy-requires-3-clause-room : goal.copy-requires-3-clause-room
-copy-requires-3-clause-room c =
-    let e = c.requires.edit in
-    omega (
-      arith,
-      ap length c.new-blocks.ensures,
-      c.copy.ensures.len,
-      c.copy-2.ensures.len,
-      c.len.ensures.value,
-      c.len-2.ensures.fits,
+      ap length c.add.ensures,
+      length-append c.copy.new.self c.args.edit.now.new,
+      c.len.ensures.fits,
       e.few,
       e.from no_entry,
       (c.requires.paging.each c.args.edit.now.first no_entry (omega (arith, e.order, e.last))).fits,
@@ -50,8 +49,8 @@ returns-clause-same c =
     let there : c.args.edit.now.first < length c.args.entries.now = omega (arith, e.order, e.last) in
     let front = named pages _ _ no_entry _ c.requires.paging there c.index-pages-entries.is in
     let back = named pages _ _ no_entry _ c.requires.paging e.last c.index-pages-entries-2.is in
-    let blocks = touched_blocks _ _ _ _ _ _ _ _ _ _ _ c.new-blocks.ensures c.copy.ensures.copied c.len.ensures.value
-    c.copy-2.ensures.copied c.len-2.ensures.value c.copy-3.ensures.copied in
+    let blocks = touched_blocks _ _ _ _ _ _ _ _ _ _ c.new-blocks.ensures c.copy.ensures.copied c.add.ensures
+    c.len.ensures.value c.copy-2.ensures.copied in
     ap (λ r. flat pages (take c.args.edit.now.first c.args.entries.now) ++ r
     ++ flat pages (drop (c.args.edit.now.last + 1) c.args.entries.now)) (rw (front, back) at blocks)
     ∙ touched_same pages c.args.entries.now _ _ _ _ no_entry c.args.edit.now.new there (e.from no_entry) e.last (e.to no_entry)

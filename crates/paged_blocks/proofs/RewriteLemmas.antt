@@ -1,0 +1,105 @@
+use Rattle.std.proofs.Common.{◌≡◌, ℕ, ◌+◌, ◌-◌, ◌*◌, ◌<◌, ◌≤◌, ◌∙◌, List, ◌++◌, All, length, take, drop, get_or, max, min, refl, ap, arith, length-append, length-drop}
+use Rattle.std.proofs.lemmas.List.{length-set, length-take-le}
+use Rattle.std.proofs.lemmas.List.Elements.{All-append, All-take, All-drop}
+use Rattle.block_list.specs.declared.block.Block.{Block}
+use Rattle.block_list.specs.Tiling.{IsMerged}
+use Rattle.block_list.specs.Edits.{IsTiled}
+use Rattle.paged_blocks.specs.declared.entry.Entry.{Entry}
+use Rattle.paged_blocks.specs.declared.marks.Edit.{Edit}
+use Rattle.paged_blocks.specs.declared.regions.Region.{Region}
+use Rattle.paged_blocks.specs.Paging.{blocks_of, flat, before, IsEntry, IsKept, AreFiled, IsRewritten}
+use Rattle.paged_blocks.specs.Marks.{spliced, edited, IsEdit}
+use Rattle.paged_blocks.specs.Regions.{IsRegion, StaysInPage, refilled}
+use Rattle.paged_blocks.specs.Room.{room_for}
+use Rattle.paged_blocks.proofs.PagingLemmas.{no_entry}
+use Rattle.paged_blocks.proofs.FilingLemmas.{rewritten, rewritten_flat, kept_long, kept_fits}
+use Rattle.paged_blocks.proofs.RegionLemmas.{page_edited, page_len, edit_len, region_few}
+
+-- the blocks of all pages where one was written anew
+pub page_flat : (pages : List (List Block)) (es : List Entry) (free : List ℕ) (e : Edit) (page : List Block)
+    (new : List (List Block)) (named : List Entry) → IsKept pages es free → IsEdit pages es e → e.first ≡ e.last
+    → page ≡ spliced (blocks_of pages (get_or es e.first no_entry)) e.from e.to e.new → 0 < length page
+    → IsRewritten pages es e.first page new named → flat new named ≡ edited pages es e
+page_flat pages es free e page new named k i s q some w =
+    let h : e.first < length es = omega (arith, i.order, i.last) in
+    let a : AreFiled pages es free = record { each = k.paging.each; numbered = k.numbered } in
+    rewritten_flat pages es free e.first page new named h (rewritten pages es free e.first page new named a h some w)
+    ∙ page_edited pages es e page i s q
+
+-- the map is kept where the page of an edit was written anew
+pub page_kept : (pages : List (List Block)) (es : List Entry) (free : List ℕ) (e : Edit) (page : List Block)
+    (new : List (List Block)) (named : List Entry) → IsKept pages es free → IsEdit pages es e → StaysInPage es e
+    → page ≡ spliced (blocks_of pages (get_or es e.first no_entry)) e.from e.to e.new → 0 < length page
+    → IsTiled (edited pages es e) → IsMerged (edited pages es e)
+    → IsRewritten pages es e.first page new named → IsKept new named free
+page_kept pages es free e page new named k i s q some t m w =
+    let h : e.first < length es = omega (arith, i.order, i.last) in
+    let a : AreFiled pages es free = record { each = k.paging.each; numbered = k.numbered } in
+    let p = rewritten pages es free e.first page new named a h some w in
+    let f = page_flat pages es free e page new named k i s.page q some w in
+    record {
+      paging = record { tiled = rw f t; merged = rw f m; each = p.filed.each };
+      half = record {
+        half = λ u.
+            let v : 1 < length es = omega (arith, ap length w.filed, length-set es e.first w.entry) in
+            let long : 32 ≤ length page =
+            omega (
+              arith,
+              s.half v no_entry,
+              page_len pages es e page i s.page q,
+              (k.paging.each e.first no_entry h).len,
+              i.rising,
+              ap (λ n. before pages es n) s.page,
+            ) in
+            p.half long
+            ∙ kept_long es (take e.first es ++ drop (e.first + 1) es) e.first (e.first + 1) k.half (omega arith) (omega arith)
+            (λ _. omega arith) refl;
+      };
+      numbered = p.filed.numbered;
+    }
+
+-- where there is room for a block more than a map that is to have so many, there are pages enough to fill some anew
+pub room_enough : (pages capacity entries taken blocks total : ℕ) → taken ≤ entries → 0 < blocks
+    → 32 * (entries - taken) + blocks ≤ total → blocks ≤ 64 * taken + 2 → 1 ≤ room_for pages capacity entries (total - 1)
+    → 64 * entries + blocks ≤ 64 * (min pages capacity + taken)
+room_enough pages capacity entries taken blocks total l s f g r = omega (arith, r)
+
+-- what room an edit leaves that adds two blocks at most, and one that adds one
+pub two_left : (pages capacity entries blocks total : ℕ) → total ≤ blocks + 2
+    → 2 ≤ room_for pages capacity entries blocks → 1 ≤ room_for pages capacity entries (total - 1)
+two_left pages capacity entries blocks total l h = omega (arith, h)
+
+pub one_left : (pages capacity entries blocks total : ℕ) → total ≤ blocks + 1
+    → 1 ≤ room_for pages capacity entries blocks → 1 ≤ room_for pages capacity entries (total - 1)
+one_left pages capacity entries blocks total l h = omega (arith, h)
+
+-- a region that has an edit's blocks has at most two more than its pages hold
+pub region_size : (pages : List (List Block)) (es : List Entry) (free : List ℕ) (e : Edit) (r : Region) → IsKept pages es free
+    → IsEdit pages es e → IsRegion es r → refilled pages es r ≡ edited pages es e
+    → length r.blocks ≤ 64 * (r.behind - r.first) + 2
+region_size pages es free e r k i g q =
+    region_few pages es r k.paging g (omega (arith, ap length q, edit_len pages es e i, i.gain))
+
+pub region_room : (pages : List (List Block)) (es : List Entry) (free : List ℕ) (made capacity entries : ℕ) (e : Edit) (r : Region)
+    → IsKept pages es free → IsEdit pages es e → IsRegion es r → refilled pages es r ≡ edited pages es e
+    → entries ≡ length es → 1 ≤ room_for made capacity entries (length (edited pages es e) - 1)
+    → 64 * entries + length r.blocks ≤ 64 * (min made capacity + (r.behind - r.first))
+region_room pages es free made capacity entries e r k i g q n s =
+    let kept : List Entry = take r.first es ++ drop r.behind es in
+    let z = kept_long es kept r.first r.behind k.half g.order g.within g.taken refl in
+    let each : All (IsEntry pages) kept = All-append (IsEntry pages) (take r.first es) (drop r.behind es)
+    (All-take (IsEntry pages) r.first es k.paging.each) (All-drop (IsEntry pages) r.behind es k.paging.each) in
+    let m : 32 * (entries - (r.behind - r.first)) + length r.blocks ≤ length (edited pages es e) =
+    omega (
+      arith,
+      kept_fits pages es kept r.blocks r.first r.behind each z refl,
+      ap length q,
+      length-append (take r.first es) (drop r.behind es),
+      length-take-le r.first es (omega (arith, g.order, g.within)),
+      length-drop r.behind es,
+      g.order,
+      g.within,
+      n,
+    ) in
+    room_enough made capacity entries (r.behind - r.first) (length r.blocks) (length (edited pages es e))
+    (omega (arith, g.within, n)) g.some m (region_size pages es free e r k i g q) s

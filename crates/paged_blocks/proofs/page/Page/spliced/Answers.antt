@@ -1,0 +1,36 @@
+use Rattle.std.proofs.Common.{ap, arith, length, length-append}
+use Rattle.paged_blocks.proofs.RegionLemmas.{touched_blocks}
+use Rattle.paged_blocks.proofs.page.Page.spliced.Goals as goal
+
+pub copy-requires-clause-room : goal.copy-requires-clause-room
+copy-requires-clause-room c = omega (arith, ap length c.new-page.ensures, c.requires.order, c.requires.within, c.len-len.ensures.value, c.len-len.ensures.fits)
+
+pub add-requires : goal.add-requires
+add-requires c =
+    omega (
+      arith,
+      ap length c.new-page.ensures,
+      c.copy.ensures.len,
+      c.requires.order,
+      c.requires.within,
+      c.requires.fits,
+    )
+
+pub copy-requires-2-clause-room : goal.copy-requires-2-clause-room
+copy-requires-2-clause-room c =
+    omega (
+      arith,
+      ap length c.new-page.ensures,
+      c.copy.ensures.len,
+      ap length c.add.ensures,
+      length-append c.copy.new.self c.args.new.now,
+      c.len-len.ensures.value,
+      c.requires.order,
+      c.requires.within,
+      c.requires.fits,
+    )
+
+pub returns : goal.returns
+returns c =
+    touched_blocks _ _ _ _ _ _ _ _ _ _ c.new-page.ensures c.copy.ensures.copied c.add.ensures c.len-len.ensures.value
+    c.copy-2.ensures.copied
