@@ -3,6 +3,7 @@ pub mod BehindLemmas
 pub mod CallLemmas
 pub mod CompleteLemmas
 pub mod CreateLemmas
+pub mod CreatedLemmas
 pub mod FindLemmas
 pub mod FitLemmas
 pub mod FoundLemmas

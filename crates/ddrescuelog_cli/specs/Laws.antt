@@ -1,15 +1,21 @@
 -- What the definitions mean.
-use Rattle.std.specs.Prelude.{◌≡◌, ◌≢◌, ⊤, ℕ, ◌-◌, ◌^◌, ◌<◌, Bool, true, false, IsTrue, List}
+use Rattle.std.specs.Prelude.{◌≡◌, ◌≢◌, ⊤, ℕ, ◌-◌, ◌^◌, ◌<◌, ◌≤◌, Bool, true, false, IsTrue, List, length, Some}
+use Rattle.block_list.specs.declared.status.Status.{Status}
+use Rattle.mapfile_text.specs.MapText.{text_limit}
+use Rattle.mapfile_text.specs.declared.state.Current.TheVariants.{Copying}
+use Rattle.mapfile_text.specs.declared.read.Mode.TheVariants.{Tight}
 use Rattle.crash_site.specs.SiteState.{files_in}
+use Rattle.save_resume.specs.SaveStops.{text_file}
+use Rattle.map_algebra.specs.Create.{created_map}
 use Rattle.work_steps.specs.Work.{Deeds, Step}
 use Rattle.work_steps.specs.Verdicts.{RefuseNothing}
 use Rattle.log_command.specs.Modes.{creates}
 use Rattle.log_command.specs.Command.{Command, Asks}
 use Rattle.ddrescuelog_cli.specs.declared.ending.LogEnding.{LogEnding}
 use Rattle.ddrescuelog_cli.specs.declared.ending.LogEnding.TheVariants.{Done, NotDone, Differ, Usage, Exists, NoMap, MapRefused, BadNumber, ListTooLong, SiteFault, FeedFault, ConsoleFault, NoMemory}
-use Rattle.ddrescuelog_cli.specs.Maps.{Found, Maps, AreMapsOf, AreAskedFor}
+use Rattle.ddrescuelog_cli.specs.Maps.{Found, Maps, AreMapsOf, AreAskedFor, IsShownBy, shape_of, domain_below}
 use Rattle.ddrescuelog_cli.specs.Refusals.{ListRefused, MapIsThere, PlacesRefused}
-use Rattle.ddrescuelog_cli.specs.Results.{Finds}
+use Rattle.ddrescuelog_cli.specs.Results.{Finds, IsCreated}
 use Rattle.ddrescuelog_cli.specs.Answers.{FitsCommand}
 use Rattle.ddrescuelog_cli.specs.Stops.{OnlyReads}
 use Rattle.ddrescuelog_cli.specs.Told.{Told, files_of}
@@ -99,3 +105,10 @@ abbrev pub IsFoundUnless : Type 0
 IsFoundUnless = (t : Told) (c : Command) (d : Ddrescuelog t) (asks : Asks t.words c) → NothingFailed t
     → NothingIsRefused c (d.asked_for c asks).outside.list (d.asked_for c asks).outside.found (d.asked_for c asks).maps
     → t.answer ≢ NoMemory → Finds c.mode c (d.asked_for c asks).maps t.answer
+
+-- A map that -c saved is read again as it was: the state at position 0, and the statuses.
+abbrev pub CreatedIsRead : Type 0
+CreatedIsRead = (c : Command) (listed rest : Status) (line : List ℕ) (m : Maps) (numbers text : List ℕ)
+    → (made : IsCreated c listed rest line m numbers text) → made.end < 2 ^ 63 → length text ≤ text_limit
+    → IsShownBy (Some (text_file text)) Tight (record { pos = 0; current = Copying; pass = 1 })
+    (created_map (shape_of c.options) numbers (domain_below c.options m made.end) listed rest made.end)

@@ -1,5 +1,5 @@
 //! What the definitions mean.
-ghost use Rattle.ddrescuelog_cli.specs.Laws.{AnswersAreFound, AnswersFit, FilesStand, HasOneVerdict, IsFoundUnless, MapsAreThere};
+ghost use Rattle.ddrescuelog_cli.specs.Laws.{AnswersAreFound, AnswersFit, CreatedIsRead, FilesStand, HasOneVerdict, IsFoundUnless, MapsAreThere};
 
 /// Words, files and a list bring one verdict at most.
 pub fn works_have_one_verdict()
@@ -29,4 +29,9 @@ pub fn maps_are_there()
 /// Nothing else is answered than what the mode finds, a refusal, a failure or want of memory.
 pub fn nothing_else_is_answered()
     ensures { IsFoundUnless }
+{}
+
+/// A map that is made of a list, and saved, is read again as it was.
+pub fn created_is_read()
+    ensures { CreatedIsRead }
 {}
