@@ -10,3 +10,4 @@ pub mod Told
 pub mod Answers
 pub mod Messages
 pub mod Ddrescuepart
+pub mod Steps
