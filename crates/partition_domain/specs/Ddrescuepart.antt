@@ -65,7 +65,7 @@ pub data Says (t : Told) (between : ConsoleState) : Type 0 where
 pub record Promise (c : Command) (between : ConsoleState) (t : Told) : Type 0 where
   -- There are the input's length, and an open and reads of it, which are what the source tells, where it does.
   pub outside : Outside
-  pub agrees : Agrees t outside
+  pub agrees : Agrees t.source t.source' outside
   -- Whoever tells: each read is of the record that has to be read next, and the answer is what these records bring.
   pub work : PartWorks c t.answer outside.did
   pub few : length outside.did.gain.reads ≤ most_reads

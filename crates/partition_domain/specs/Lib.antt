@@ -11,3 +11,4 @@ pub mod Answers
 pub mod Messages
 pub mod Ddrescuepart
 pub mod Steps
+pub mod Worked

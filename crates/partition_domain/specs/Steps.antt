@@ -4,6 +4,8 @@ use Rattle.std.specs.List.{list_all}
 use Rattle.fault_count.specs.Counts.{raised}
 use Rattle.faulty_source.specs.Journal.{Reading}
 use Rattle.faulty_source.specs.SourceState.{SourceState}
+use Rattle.rescue_console.specs.ConsoleState.{ConsoleState, Puts, PutsPart}
+use Rattle.rescue_console.specs.declared.console.Channel.TheVariants.{Out}
 use Rattle.partition_domain.specs.declared.table.Entry.{Entry}
 use Rattle.partition_domain.specs.declared.table.Partition.{Partition}
 use Rattle.partition_domain.specs.declared.chain.Chain.{Chain}
@@ -45,27 +47,27 @@ pub record ReadsOne (sector : ℕ) (reads : List Reading) (last : List ℕ) : Ty
   pub is_read : IsReadOf (Some sector) reading
   pub gave : reading.given ≡ last
 
--- how a record is refused by itself
-abbrev pub IsRefused : (sector : ℕ) → (last : List ℕ) → PartEnding → Type 0
-IsRefused sector last Done = ⊥
-IsRefused sector last (Usage fault) = ⊥
-IsRefused sector last SourceFault = ⊥
-IsRefused sector last SourceLost = ⊥
-IsRefused sector last (Unread s) = (s ≡ sector) × (length last < sector_size)
-IsRefused sector last (NoSignature s) = (s ≡ sector) × (is_whole last ≡ true) × (has_signature last ≡ false)
-IsRefused sector last Protective = ⊥
-IsRefused sector last NoPartition = ⊥
-IsRefused sector last ChainTooLong = ⊥
-IsRefused sector last ConsoleFault = ⊥
-IsRefused sector last NoMemory = ⊥
+-- why there are no entries: the record was lost, or is refused by itself
+abbrev pub StopsAs : (sector : ℕ) → List Reading → PartEnding → Type 0
+StopsAs sector reads Done = ⊥
+StopsAs sector reads (Usage fault) = ⊥
+StopsAs sector reads SourceFault = ⊥
+StopsAs sector reads SourceLost = reads ≡ []
+StopsAs sector reads (Unread s) =
+    (last : List ℕ) × ReadsOne sector reads last × (s ≡ sector) × (length last < sector_size)
+StopsAs sector reads (NoSignature s) =
+    (last : List ℕ) × ReadsOne sector reads last × (s ≡ sector) × (is_whole last ≡ true) × (has_signature last ≡ false)
+StopsAs sector reads Protective = ⊥
+StopsAs sector reads NoPartition = ⊥
+StopsAs sector reads ChainTooLong = ⊥
+StopsAs sector reads ConsoleFault = ⊥
+StopsAs sector reads NoMemory = ⊥
 
--- the entries of a record, or why there are none: it was lost, or is refused by itself
-pub data ReadsAs (sector : ℕ) (reads : List Reading) : Result (List Entry) PartEnding → Type 0 where
-  Read : (last : List ℕ) → ReadsOne sector reads last → is_record last ≡ true
-      → ReadsAs sector reads (Ok (entries last))
-  Lost : reads ≡ [] → ReadsAs sector reads (Err SourceLost)
-  Refused : (last : List ℕ) (e : PartEnding) → ReadsOne sector reads last → IsRefused sector last e
-      → ReadsAs sector reads (Err e)
+-- the entries of a record that was read, or why there are none
+abbrev pub ReadsAs : (sector : ℕ) → List Reading → Result (List Entry) PartEnding → Type 0
+ReadsAs sector reads (Ok table) =
+    (last : List ℕ) × ReadsOne sector reads last × (is_record last ≡ true) × (table ≡ entries last)
+ReadsAs sector reads (Err e) = StopsAs sector reads e
 
 -- what a read of a record did, by its outcome
 pub record ReadsTable (sector : ℕ) (result : Result (List Entry) PartEnding) (old new : SourceState) : Type 0 where
@@ -80,16 +82,19 @@ pub record IsNear (k : ℕ) (c : Chain) : Type 0 where
   pub logical : 5 ≤ k
   pub at : c.at < 2 ^ 33
   pub given : c.given ≤ k - 5
+  pub read : c.read ≤ 128
 
-abbrev pub LinkIsNear : (k : ℕ) → Link → Type 0
-LinkIsNear k (Found p) = (p.first < 2 ^ 34) × (p.count < 2 ^ 32)
-LinkIsNear k (On c) = IsNear k c
-LinkIsNear k End = ⊤
+-- that behind one more record, or of the partition that it gives
+abbrev pub LeadsNear : (k : ℕ) → (c : Chain) → Link → Type 0
+LeadsNear k c (Found p) = (p.first < 2 ^ 34) × (p.count < 2 ^ 32)
+LeadsNear k c (On n) = IsNear k n × (n.read ≡ c.read + 1)
+LeadsNear k c End = ⊤
 
 -- the chain behind a record with this second entry, if that is used
 abbrev pub leads : (c : Chain) → (given : ℕ) → (second : Entry) → Link
 leads c given second =
-    if is_used second then On (record { base = c.base; at = c.base + second.first; given = given }) else End
+    if is_used second
+    then On (record { base = c.base; at = c.base + second.first; given = given; read = c.read + 1 }) else End
 
 -- what comes of a record with these first two entries
 abbrev pub passes_by : (k : ℕ) → (c : Chain) → (first second : Entry) → Link
@@ -105,19 +110,20 @@ passes k c (first ∷ []) = End
 passes k c (first ∷ second ∷ more) = passes_by k c first second
 
 -- how far a chain was read, by the records that were read of it: each is one, and links on
-pub record StandsBehind (k : ℕ) (main : List ℕ) (c : Chain) (chain : List (List ℕ)) : Type 0 where
+pub record StandsBehind (main : List ℕ) (c : Chain) (chain : List (List ℕ)) : Type 0 where
   pub e : Entry
   pub is_extended : extended main ≡ Some e
-  pub base : e.first ≡ c.base
+  pub base : c.base ≡ e.first
   pub are : are_records main chain ≡ true
   pub links : list_all links_on chain ≡ true
-  pub at : c.at ≡ next_in_chain c.base chain
-  pub given : c.given ≡ length (logical_partitions c.base chain)
+  pub at : c.at ≡ next_in_chain e.first chain
+  pub given : c.given ≡ length (logical_partitions e.first chain)
+  pub read : c.read ≡ length chain
 
 -- what comes of the next record of a chain, by all records that were read of it
 abbrev pub TurnsTo : (k : ℕ) → (main : List ℕ) → (chain : List (List ℕ)) → Result Link PartEnding → Type 0
 TurnsTo k main chain (Ok (Found p)) = partition_of (main ∷ chain) k ≡ Some p
-TurnsTo k main chain (Ok (On c)) = StandsBehind k main c chain
+TurnsTo k main chain (Ok (On c)) = StandsBehind main c chain
 TurnsTo k main chain (Ok End) = AnswersBy NoPartition k (main ∷ chain)
 TurnsTo k main chain (Err e) = AnswersBy e k (main ∷ chain)
 
@@ -128,13 +134,11 @@ pub record Turned (k : ℕ) (main : List ℕ) (chain : List (List ℕ)) (result 
   pub gained : Gained reads old new
   pub next : AreNext k (main ∷ chain) reads
   pub to : TurnsTo k main (chain ++ records_of reads) result
-  pub longer : (c : Chain) → result ≡ Ok (On c) → length reads ≡ 1
 
--- what a turn does, wherever the chain stands, unless it was read to its limit
+-- what a turn does, wherever the chain stands
 abbrev pub Turns : (k : ℕ) → (main : List ℕ) → (c : Chain) → (chain : List (List ℕ)) → Result Link PartEnding
     → (old new : SourceState) → Type 0
-Turns k main c chain result old new =
-    StandsBehind k main c chain → length chain < 128 → Turned k main chain result old new
+Turns k main c chain result old new = StandsBehind main c chain → Turned k main chain result old new
 
 -- ---- the whole search
 
@@ -152,7 +156,7 @@ pub record Searched (k : ℕ) (before : List (List ℕ)) (result : Result Partit
   pub to : ComesTo k (before ++ records_of reads) result
 
 -- behind the first record, which leads on to a chain
-pub record IsLed (k : ℕ) (main : List ℕ) (base : ℕ) : Type 0 where
+pub record IsLed (main : List ℕ) (base : ℕ) : Type 0 where
   pub e : Entry
   pub are : are_records main [] ≡ true
   pub is_extended : extended main ≡ Some e
@@ -170,3 +174,17 @@ abbrev pub partition_at : List Entry → (k : ℕ) → Option Partition
 partition_at table k =
     let e = slice_index_or table (k - 1) (record { kind = 0; first = 0; count = 0 }) in
     if is_used e then Some (record { first = e.first; count = e.count }) else None
+
+-- what is put of a text, by its answer
+abbrev pub PrintsAs : PartEnding → (text : List ℕ) → (old new : ConsoleState) → Type 0
+PrintsAs Done text old new = Puts Out text old new
+PrintsAs (Usage fault) text old new = ⊥
+PrintsAs SourceFault text old new = ⊥
+PrintsAs SourceLost text old new = ⊥
+PrintsAs (Unread sector) text old new = ⊥
+PrintsAs (NoSignature sector) text old new = ⊥
+PrintsAs Protective text old new = ⊥
+PrintsAs NoPartition text old new = ⊥
+PrintsAs ChainTooLong text old new = ⊥
+PrintsAs ConsoleFault text old new = PutsPart Out text old new
+PrintsAs NoMemory text old new = ⊥

@@ -10,8 +10,8 @@ sector_size = 512
 -- the number of 32 bits that begins at a byte, the lowest byte first
 abbrev pub number_at : List ℕ → (at : ℕ) → ℕ
 number_at r at =
-    slice_index r at + 2 ^ 8 * slice_index r (at + 1) + 2 ^ 16 * slice_index r (at + 2)
-    + 2 ^ 24 * slice_index r (at + 3)
+    slice_index r at + slice_index r (at + 1) * 2 ^ 8 + slice_index r (at + 2) * 2 ^ 16
+    + slice_index r (at + 3) * 2 ^ 24
 
 -- the entry of a record that begins at a byte: its type at +4, its first sector at +8, its count of sectors at +12
 abbrev pub entry_at : List ℕ → (at : ℕ) → Entry

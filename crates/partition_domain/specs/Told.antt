@@ -43,8 +43,8 @@ IsFrom bytes r = r.given ≡ slice_range bytes r.pos (r.pos + length r.given)
 
 -- What the source tells is its own: its opens are counted whoever tells, the length and the reads are its own where it
 -- tells, and these gave its own bytes.
-pub record Agrees (t : Told) (o : Outside) : Type 0 where
-  pub opens : AreOpens o.did.opens t.source t.source'
-  pub length_is : IsTrue t.source.tells → o.length ≡ length t.source.bytes
-  pub reads : IsTrue t.source.tells → t.source'.journal ≡ t.source.journal ++ o.did.gain.reads
-  pub right : IsTrue t.source.tells → All (IsFrom t.source.bytes) o.did.gain.reads
+pub record Agrees (source source' : SourceState) (o : Outside) : Type 0 where
+  pub opens : AreOpens o.did.opens source source'
+  pub length_is : IsTrue source.tells → o.length ≡ length source.bytes
+  pub reads : IsTrue source.tells → source'.journal ≡ source.journal ++ o.did.gain.reads
+  pub right : IsTrue source.tells → All (IsFrom source.bytes) o.did.gain.reads

@@ -1,7 +1,7 @@
 //! The chain of records within an extended partition.
 ghost use Rattle.std.specs.Prelude.{◌≡◌, ℕ, ◌-◌, ◌<◌, ◌≤◌, ◌^◌, List, true, OnOk, IfOk, IfErr};
 ghost use Rattle.faulty_source.specs.SourceState.{Stays};
-ghost use Rattle.partition_domain.specs.Steps.{IsLed, IsNear, LinkIsNear, SearchesBehind, StopCounts, Turns, passes};
+ghost use Rattle.partition_domain.specs.Steps.{IsLed, IsNear, LeadsNear, SearchesBehind, StopCounts, Turns, passes};
 
 use crate::ending::PartEnding;
 use crate::read::read_table;
@@ -23,6 +23,8 @@ pub struct Chain {
     pub at: u64,
     /// How many partitions the records before it gave.
     pub given: u64,
+    /// How many records there are before it.
+    pub read: u64,
 }
 
 /// What comes of a record of a chain.
@@ -39,8 +41,9 @@ pub enum Link {
 /// What comes of the next record of a chain, by what it says.
 fn pass(chain: Chain, table: &Table, k: u64) -> Link
     requires near { IsNear k chain }
+    requires more { chain.read < 128 }
     ensures passes { result ≡ passes k chain table.now }
-    ensures near_on { LinkIsNear k result }
+    ensures leads { LeadsNear k chain result }
 {
     let [first, second, ..] = *table;
     let mut given = chain.given;
@@ -59,6 +62,7 @@ fn pass(chain: Chain, table: &Table, k: u64) -> Link
     Link::On(Chain {
         at: u64::from(chain.base) + u64::from(second.first),
         given,
+        read: chain.read + 1,
         ..chain
     })
 }
@@ -67,12 +71,13 @@ fn pass(chain: Chain, table: &Table, k: u64) -> Link
 fn turn<S: Source>(source: &mut S, chain: Chain, k: u64) -> Result<Link, PartEnding>
     requires opened { (S.state source.old).is_open ≡ true }
     requires near { IsNear k chain }
+    requires more { chain.read < 128 }
     ensures turned { (main : List ℕ) (chain_read : List (List ℕ))
         → Turns k main chain chain_read result (S.state source.old) (S.state source.new) }
     ensures stays { Stays (S.state source.old) (S.state source.new) }
     ensures kept { OnOk result ((S.state source.new).losses ≡ (S.state source.old).losses) }
     ensures cause { IfErr result (λ e. StopCounts e (S.state source.old).losses (S.state source.new).losses) }
-    ensures near_on { IfOk result (λ link. LinkIsNear k link) }
+    ensures leads { IfOk result (λ link. LeadsNear k chain link) }
 {
     match read_table(source, chain.at) {
         Ok(table) => Ok(pass(chain, &table, k)),
@@ -88,7 +93,7 @@ pub(crate) fn follow_chain<S: Source>(
 ) -> Result<Partition, PartEnding>
     requires opened { (S.state source.old).is_open ≡ true }
     requires logical { 5 ≤ k }
-    ensures searches { (main : List ℕ) → IsLed k main base
+    ensures searches { (main : List ℕ) → IsLed main base
         → SearchesBehind k main result (S.state source.old) (S.state source.new) }
     ensures stays { Stays (S.state source.old) (S.state source.new) }
     ensures kept { OnOk result ((S.state source.new).losses ≡ (S.state source.old).losses) }
@@ -99,8 +104,9 @@ pub(crate) fn follow_chain<S: Source>(
         base,
         at: u64::from(base),
         given: 0,
+        read: 0,
     };
-    'records: for _ in 0..CHAIN_LIMIT {
+    'records: while chain.read < CHAIN_LIMIT {
         match turn(source, chain, k) {
             Ok(Link::Found(partition)) => return Ok(partition),
             Ok(Link::On(next)) => chain = next,

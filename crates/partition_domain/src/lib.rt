@@ -2,7 +2,12 @@
 //! a disk's partition table to the text of the map.
 #![tactic(auto)]
 
+pub mod chain;
 pub mod command;
+mod domain;
 pub mod ending;
+mod find;
+mod message;
 pub mod part;
+mod read;
 pub mod table;

@@ -1,0 +1,131 @@
+-- Reads of records: those that follow others, how many there are, and what one did.
+use Rattle.std.proofs.Common.{◌≡◌, ℕ, ◌+◌, ◌<◌, ◌≤◌, IsTrue, true, List, [], ◌∷◌, ◌++◌, length, map, All, Option, Some, None, is_some, Result, Ok, Err, refl, sym, ap, ◌∙◌, subst, arith, append_assoc, append-nil, length-append, map-append}
+use Rattle.faulty_source.specs.Journal.{Reading}
+use Rattle.faulty_source.specs.SourceState.{SourceState}
+use Rattle.partition_domain.specs.declared.table.Entry.{Entry}
+use Rattle.partition_domain.specs.declared.ending.PartEnding.{PartEnding}
+use Rattle.partition_domain.specs.declared.ending.PartEnding.TheVariants.{Done, Usage, SourceFault, SourceLost, Unread, NoSignature, Protective, NoPartition, ChainTooLong, ConsoleFault, NoMemory}
+use Rattle.partition_domain.specs.Table.{entries, is_record}
+use Rattle.partition_domain.specs.Part.{next}
+use Rattle.partition_domain.specs.Reads.{AnswersBy, AreNext, IsReadOf, records_of}
+use Rattle.partition_domain.specs.Told.{IsFrom}
+use Rattle.partition_domain.specs.Steps.{Gained, ReadsAs, ReadsOne, StopsAs}
+use Rattle.partition_domain.proofs.ChainLemmas.{next_short}
+
+-- ---- reads that follow others
+
+pub next_more : (k : ℕ) (before : List (List ℕ)) (xs ys : List Reading) → AreNext k before xs
+    → AreNext k (before ++ records_of xs) ys → AreNext k before (xs ++ ys)
+next_more k before [] ys first last = subst (λ (b : List (List ℕ)). AreNext k b ys) (append-nil before) last
+next_more k before (x ∷ xs) ys first last =
+    (first.0, next_more k (before ++ x.given ∷ []) xs ys first.1
+    (subst (λ (b : List (List ℕ)). AreNext k b ys) (sym (append_assoc before (x.given ∷ []) (records_of xs))) last))
+
+pub records_more : (xs ys : List Reading) → records_of (xs ++ ys) ≡ records_of xs ++ records_of ys
+records_more xs ys = map-append (λ r. r.given) xs ys
+
+all_both : (bytes : List ℕ) (xs ys : List Reading) → All (IsFrom bytes) xs → All (IsFrom bytes) ys
+    → All (IsFrom bytes) (xs ++ ys)
+all_both bytes [] ys p q = q
+all_both bytes (x ∷ xs) ys p q = (p.0, all_both bytes xs ys p.1 q)
+
+pub gained_none : (s t : SourceState) → (IsTrue s.tells → t.journal ≡ s.journal) → Gained [] s t
+gained_none s t same = record {
+  told = λ tells. same tells ∙ sym (append-nil s.journal);
+  right = λ tells. tt;
+}
+
+pub gained_more : (xs ys : List Reading) (a b c : SourceState) → b.tells ≡ a.tells
+    → (IsTrue a.tells → b.bytes ≡ a.bytes) → Gained xs a b → Gained ys b c → Gained (xs ++ ys) a c
+gained_more xs ys a b c tells bytes f g = record {
+  told = λ t. g.told (subst IsTrue (sym tells) t) ∙ ap (λ (j : List Reading). j ++ ys) (f.told t)
+      ∙ append_assoc a.journal xs ys;
+  right = λ t. all_both a.bytes xs ys (f.right t)
+      (subst (λ (b : List ℕ). All (IsFrom b) ys) (bytes t) (g.right (subst IsTrue (sym tells) t)));
+}
+
+-- ---- how many there are
+
+read_some : (o : Option ℕ) (r : Reading) → IsReadOf o r → (s : ℕ) × (o ≡ Some s)
+read_some None r is = absurd is
+read_some (Some s) r is = (s, refl)
+
+few_behind : (k : ℕ) (before : List (List ℕ)) (reads : List Reading) → length before ≤ 129 → AreNext k before reads
+    → length before + length reads ≤ 129
+few_behind k before [] short are = omega (arith, short)
+few_behind k before (r ∷ reads) short are =
+    let some = read_some (next before k) r are.0 in
+    let at : length before ≤ 128 = next_short before k some.0 some.1 in
+    let longer : length (before ++ r.given ∷ []) ≡ length before + 1 = length-append before (r.given ∷ []) in
+    let rest = few_behind k (before ++ r.given ∷ []) reads (omega (arith, at, longer)) are.1 in
+    omega (arith, longer, rest)
+
+pub few_reads : (k : ℕ) (reads : List Reading) → AreNext k [] reads → length reads ≤ 129
+few_reads k reads are = omega (arith, few_behind k [] reads (omega arith) are)
+
+-- ---- what a read of a record did
+
+pub one_behind : (before : List (List ℕ)) (sector : ℕ) (reads : List Reading) (last : List ℕ)
+    → ReadsOne sector reads last → before ++ records_of reads ≡ before ++ last ∷ []
+one_behind before sector reads last one =
+    ap (λ (rs : List Reading). before ++ records_of rs) one.are ∙ ap (λ (r : List ℕ). before ++ r ∷ []) one.gave
+
+module _ (k : ℕ) (before : List (List ℕ)) (sector : ℕ) (is : next before k ≡ Some sector) where
+  one_next : (reads : List Reading) (last : List ℕ) → ReadsOne sector reads last → AreNext k before reads
+  one_next reads last one =
+      subst (AreNext k before) (sym one.are) (subst (λ o. IsReadOf o one.reading) (sym is) one.is_read, tt)
+
+  stop_next : (reads : List Reading) (e : PartEnding) → StopsAs sector reads e → AreNext k before reads
+  stop_next reads Done stop = absurd stop
+  stop_next reads (Usage fault) stop = absurd stop
+  stop_next reads SourceFault stop = absurd stop
+  stop_next reads SourceLost stop = subst (AreNext k before) (sym stop) tt
+  stop_next reads (Unread s) stop = one_next reads stop.0 stop.1
+  stop_next reads (NoSignature s) stop = one_next reads stop.0 stop.1
+  stop_next reads Protective stop = absurd stop
+  stop_next reads NoPartition stop = absurd stop
+  stop_next reads ChainTooLong stop = absurd stop
+  stop_next reads ConsoleFault stop = absurd stop
+  stop_next reads NoMemory stop = absurd stop
+
+  pub read_next : (reads : List Reading) (result : Result (List Entry) PartEnding) → ReadsAs sector reads result
+      → AreNext k before reads
+  read_next reads (Ok table) read = one_next reads read.0 read.1
+  read_next reads (Err e) read = stop_next reads e read
+
+  none_behind : (reads : List Reading) → reads ≡ [] → next (before ++ records_of reads) k ≡ Some sector
+  none_behind reads none =
+      ap (λ (rs : List Reading). next (before ++ records_of rs) k) none
+      ∙ ap (λ (b : List (List ℕ)). next b k) (append-nil before) ∙ is
+
+  -- why it stopped is an answer
+  pub stop_answers : (reads : List Reading) (e : PartEnding) → StopsAs sector reads e
+      → AnswersBy e k (before ++ records_of reads)
+  stop_answers reads Done stop = absurd stop
+  stop_answers reads (Usage fault) stop = absurd stop
+  stop_answers reads SourceFault stop = absurd stop
+  stop_answers reads SourceLost stop = ap is_some (none_behind reads stop)
+  stop_answers reads (Unread s) stop = record {
+    last = stop.0;
+    is_last = record {
+      before = before;
+      are = one_behind before sector reads stop.0 stop.1;
+      sector_is = is ∙ ap (λ (n : ℕ). Some n) (sym stop.2);
+    };
+    short = stop.3;
+  }
+  stop_answers reads (NoSignature s) stop = record {
+    last = stop.0;
+    is_last = record {
+      before = before;
+      are = one_behind before sector reads stop.0 stop.1;
+      sector_is = is ∙ ap (λ (n : ℕ). Some n) (sym stop.2);
+    };
+    whole = stop.3;
+    unsigned = stop.4;
+  }
+  stop_answers reads Protective stop = absurd stop
+  stop_answers reads NoPartition stop = absurd stop
+  stop_answers reads ChainTooLong stop = absurd stop
+  stop_answers reads ConsoleFault stop = absurd stop
+  stop_answers reads NoMemory stop = absurd stop
