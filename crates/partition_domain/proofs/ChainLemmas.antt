@@ -5,7 +5,7 @@ use Rattle.std.specs.Option.{option_and_then}
 use Rattle.std.proofs.lemmas.Bool.{and_from, and_parts, and_right, cond-true, cond-false, le-leb, lt-ltb, lt-leb, ltb-true, not_from_false}
 use Rattle.partition_domain.specs.declared.table.Entry.{Entry}
 use Rattle.partition_domain.specs.declared.table.Partition.{Partition}
-use Rattle.partition_domain.specs.Table.{entry, extended, is_record, is_used}
+use Rattle.partition_domain.specs.Table.{entry, extended, is_protected, is_record, is_used}
 use Rattle.partition_domain.specs.Chain.{chain_limit, given_by, given_from, linked, links_on, logical_partitions, next_in_chain, sector_behind}
 use Rattle.partition_domain.specs.Part.{are_records, goes_on, is_lacking, is_primary, logical, next, next_of_chain, partition_of, primary}
 
@@ -39,8 +39,9 @@ not_all test (x ∷ chain) r one = and_right (test x) (list_all test (chain ++ r
 pub are_more : (main : List ℕ) (chain : List (List ℕ)) (r : List ℕ) → are_records main chain ≡ true
     → is_record r ≡ true → are_records main (chain ++ r ∷ []) ≡ true
 are_more main chain r are one =
-    let parts = and_parts _ (list_all is_record chain) are in
-    and_from _ (list_all is_record (chain ++ r ∷ [])) parts.0 (all_more is_record chain r parts.1 one)
+    let front = is_record main && not (is_protected main) in
+    let parts = and_parts front (list_all is_record chain) are in
+    and_from front (list_all is_record (chain ++ r ∷ [])) parts.0 (all_more is_record chain r parts.1 one)
 
 -- the item behind a list
 pub item_behind : {X : Type 0} (xs : List X) (x : X) → slice_get (xs ++ x ∷ []) (length xs) ≡ Some x
@@ -62,18 +63,24 @@ pub next_on : (main : List ℕ) (chain : List (List ℕ)) (k : ℕ) (e : Entry) 
     → is_lacking e.first chain k ≡ true → length chain < 128
     → next (main ∷ chain) k ≡ Some (next_in_chain e.first chain)
 next_on main chain k e are logical is links lacking short =
-    cond-true _ _ _ (and_from (are_records main chain) (not (is_primary k)) are (not_from_false (is_primary k) logical))
-    ∙ ap (λ (o : Option Entry). option_and_then (λ e. next_of_chain e.first chain k) o) is
-    ∙ cond-true (goes_on e.first chain k) _ _
-    (and_from _ _ (and_from _ _ links lacking) (lt-ltb (length chain) chain_limit short))
+    let short_is = lt-ltb (length chain) chain_limit short in
+    let goes = and_from (list_all links_on chain && is_lacking e.first chain k) (nat_lt (length chain) chain_limit)
+    (and_from (list_all links_on chain) (is_lacking e.first chain k) links lacking) short_is in
+    cond-true (are_records main chain && not (is_primary k))
+    (option_and_then (λ (e : Entry). next_of_chain e.first chain k) (extended main)) None
+    (and_from (are_records main chain) (not (is_primary k)) are (not_from_false (is_primary k) logical))
+    ∙ ap (λ (o : Option Entry). option_and_then (λ (e : Entry). next_of_chain e.first chain k) o) is
+    ∙ cond-true (goes_on e.first chain k) (Some (next_in_chain e.first chain)) None goes
 
 -- the partition that a chain gives
 pub part_on : (main : List ℕ) (chain : List (List ℕ)) (k : ℕ) (e : Entry) (p : Partition)
     → are_records main chain ≡ true → is_primary k ≡ false → extended main ≡ Some e
     → slice_get (logical_partitions e.first chain) (k - 5) ≡ Some p → partition_of (main ∷ chain) k ≡ Some p
 part_on main chain k e p are logical_is is at =
-    cond-true (are_records main chain) _ _ are ∙ cond-false (is_primary k) _ _ logical_is
-    ∙ ap (λ (o : Option Entry). option_and_then (λ e. logical e.first chain k) o) is ∙ at
+    let of = option_and_then (λ (e : Entry). logical e.first chain k) (extended main) in
+    cond-true (are_records main chain) (cond (is_primary k) (primary main k) of) None are
+    ∙ cond-false (is_primary k) (primary main k) of logical_is
+    ∙ ap (λ (o : Option Entry). option_and_then (λ (e : Entry). logical e.first chain k) o) is ∙ at
 
 -- ---- how many records there are in front of one
 
@@ -86,7 +93,9 @@ limit_of : (chain : List (List ℕ)) (k s : ℕ) (o : Option Entry)
 limit_of chain k s None is = absurd (cc)
 limit_of chain k s (Some e) is =
     let on = by_cond (goes_on e.first chain k) (Some (next_in_chain e.first chain)) s is in
-    ltb-true (length chain) chain_limit (and_parts _ (nat_lt (length chain) chain_limit) on.0).1
+    let parts = and_parts (list_all links_on chain && is_lacking e.first chain k) (nat_lt (length chain) chain_limit)
+    on.0 in
+    ltb-true (length chain) chain_limit parts.1
 
 pub next_short : (records : List (List ℕ)) (k s : ℕ) → next records k ≡ Some s → length records ≤ 128
 next_short [] k s is = omega arith

@@ -1,5 +1,5 @@
 -- The map of a partition, as it is made: extended, and then marked.
-use Rattle.std.proofs.Common.{◌≡◌, ℕ, ◌+◌, ◌-◌, ◌*◌, ◌<◌, ◌≤◌, max, List, [], ◌++◌, length, take, drop, replicate, refl, sym, ap, ◌∙◌, arith}
+use Rattle.std.proofs.Common.{◌≡◌, ℕ, ◌+◌, ◌-◌, ◌*◌, ◌<◌, ◌≤◌, max, List, [], ◌++◌, length, take, drop, replicate, sym, ap, ◌∙◌, arith, append-nil}
 use Rattle.std.proofs.lemmas.List.{drop-replicate, replicate-append-replicate, take-replicate}
 use Rattle.block_list.specs.declared.status.Status.{Status}
 use Rattle.block_list.specs.declared.status.Status.TheVariants.{NonTried, Finished}
@@ -44,4 +44,5 @@ map_unmarked p length_ none made empty no_size is_made =
     let sum : end ≡ start + back = omega (arith, no_size) in
     is_made ∙ all_non_tried none end empty ∙ ap (λ (n : ℕ). replicate n NonTried) sum
     ∙ sym (replicate-append-replicate start back NonTried)
+    ∙ ap (λ (f : List Status). f ++ replicate back NonTried) (sym (append-nil (replicate start NonTried)))
     ∙ ap (λ (n : ℕ). replicate start NonTried ++ replicate n Finished ++ replicate back NonTried) (sym no_size)

@@ -1,15 +1,19 @@
 -- Reads of records: those that follow others, how many there are, and what one did.
-use Rattle.std.proofs.Common.{◌≡◌, ℕ, ◌+◌, ◌<◌, ◌≤◌, IsTrue, true, List, [], ◌∷◌, ◌++◌, length, map, All, Option, Some, None, is_some, Result, Ok, Err, refl, sym, ap, ◌∙◌, subst, arith, append_assoc, append-nil, length-append, map-append}
+use Rattle.std.proofs.Common.{◌≡◌, ℕ, ◌+◌, ◌<◌, ◌≤◌, IsTrue, true, false, ◌*◌, List, [], ◌∷◌, ◌++◌, length, map, All, Option, Some, None, is_some, Result, Ok, Err, refl, sym, ap, ◌∙◌, subst, arith, append_assoc, append-nil, length-append, map-append, take, slice_range}
+use Rattle.std.proofs.lemmas.Bool.{and_from, eq-eqb}
+use Rattle.std.proofs.lemmas.List.{length-take-le, take_all}
+use Rattle.faulty_source.specs.declared.source.Got.{Got}
+use Rattle.faulty_source.specs.Got.{count_of, is_end}
 use Rattle.faulty_source.specs.Journal.{Reading}
-use Rattle.faulty_source.specs.SourceState.{SourceState}
+use Rattle.faulty_source.specs.SourceState.{AnswersRead, SourceState}
 use Rattle.partition_domain.specs.declared.table.Entry.{Entry}
 use Rattle.partition_domain.specs.declared.ending.PartEnding.{PartEnding}
 use Rattle.partition_domain.specs.declared.ending.PartEnding.TheVariants.{Done, Usage, SourceFault, SourceLost, Unread, NoSignature, Protective, NoPartition, ChainTooLong, ConsoleFault, NoMemory}
-use Rattle.partition_domain.specs.Table.{entries, is_record}
+use Rattle.partition_domain.specs.Table.{entries, has_signature, is_record, is_whole}
 use Rattle.partition_domain.specs.Part.{next}
 use Rattle.partition_domain.specs.Reads.{AnswersBy, AreNext, IsReadOf, records_of}
 use Rattle.partition_domain.specs.Told.{IsFrom}
-use Rattle.partition_domain.specs.Steps.{Gained, ReadsAs, ReadsOne, StopsAs}
+use Rattle.partition_domain.specs.Steps.{Gained, ReadsAs, ReadsOne, ReadsTable, StopsAs}
 use Rattle.partition_domain.proofs.ChainLemmas.{next_short}
 
 -- ---- reads that follow others
@@ -22,7 +26,7 @@ next_more k before (x ∷ xs) ys first last =
     (subst (λ (b : List (List ℕ)). AreNext k b ys) (sym (append_assoc before (x.given ∷ []) (records_of xs))) last))
 
 pub records_more : (xs ys : List Reading) → records_of (xs ++ ys) ≡ records_of xs ++ records_of ys
-records_more xs ys = map-append (λ r. r.given) xs ys
+records_more xs ys = map-append (λ (r : Reading). r.given) xs ys
 
 all_both : (bytes : List ℕ) (xs ys : List Reading) → All (IsFrom bytes) xs → All (IsFrom bytes) ys
     → All (IsFrom bytes) (xs ++ ys)
@@ -129,3 +133,57 @@ module _ (k : ℕ) (before : List (List ℕ)) (sector : ℕ) (is : next before k
   stop_answers reads ChainTooLong stop = absurd stop
   stop_answers reads ConsoleFault stop = absurd stop
   stop_answers reads NoMemory stop = absurd stop
+
+-- ---- one read
+
+-- a read of a sector that left this in its buffer
+abbrev pub sector_read : (sector : ℕ) → Got → (buf : List ℕ) → Reading
+sector_read sector got buf =
+    record { pos = sector * 512; asked = 512; given = take (count_of got) buf; ended = is_end got }
+
+module _ {E : Type 0} (sector : ℕ) (got : Got) (buf : List ℕ) (old new : SourceState) (full : length buf ≡ 512)
+    (few : count_of got ≤ 512)
+    (a : AnswersRead {E = E} (sector * 512) 512 buf (Ok got) old new) where
+  given_long : length (take (count_of got) buf) ≡ count_of got
+  given_long = length-take-le (count_of got) buf (omega (arith, full, few))
+
+  read_gained : Gained (sector_read sector got buf ∷ []) old new
+  read_gained = record {
+    told = λ tells. a.told tells;
+    right = λ tells. (a.right tells
+        ∙ ap (λ (n : ℕ). slice_range old.bytes (sector * 512) (sector * 512 + n)) (sym given_long), tt);
+  }
+
+  read_one : (last : List ℕ) → take (count_of got) buf ≡ last → ReadsOne sector (sector_read sector got buf ∷ []) last
+  read_one last is = record { reading = sector_read sector got buf; are = refl; is_read = (refl, refl); gave = is }
+
+  whole_is : 512 ≤ count_of got → take (count_of got) buf ≡ buf
+  whole_is all = take_all (count_of got) buf (omega (arith, full, all))
+
+  pub reads_unread : count_of got < 512 → ReadsTable sector (Err (Unread sector)) old new
+  reads_unread short = record {
+    reads = sector_read sector got buf ∷ [];
+    gained = read_gained;
+    as_ = (take (count_of got) buf, read_one (take (count_of got) buf) refl, refl, omega (arith, given_long, short));
+  }
+
+  pub reads_unsigned : 512 ≤ count_of got → has_signature buf ≡ false
+      → ReadsTable sector (Err (NoSignature sector)) old new
+  reads_unsigned all unsigned = record {
+    reads = sector_read sector got buf ∷ [];
+    gained = read_gained;
+    as_ = (buf, read_one buf (whole_is all), refl, eq-eqb (length buf) 512 full, unsigned);
+  }
+
+  pub reads_record : (table : List Entry) → 512 ≤ count_of got → has_signature buf ≡ true → table ≡ entries buf
+      → ReadsTable sector (Ok table) old new
+  reads_record table all signed is = record {
+    reads = sector_read sector got buf ∷ [];
+    gained = read_gained;
+    as_ = (
+      buf,
+      read_one buf (whole_is all),
+      and_from (is_whole buf) (has_signature buf) (eq-eqb (length buf) 512 full) signed,
+      is,
+    );
+  }

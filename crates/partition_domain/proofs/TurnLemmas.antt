@@ -66,10 +66,12 @@ module _ (k : ℕ) (main : List ℕ) (c : Chain) (chain : List (List ℕ)) (last
   To link = TurnsTo k main grown (Ok link)
 
   -- it gives the partition
-  found : is_used (entry last 0) ≡ true → c.given ≡ k - 5
-      → To (Found (record { first = c.at + (entry last 0).first; count = (entry last 0).count }))
+  abbrev gave : Link
+  gave = Found (record { first = c.at + (entry last 0).first; count = (entry last 0).count })
+
+  found : is_used (entry last 0) ≡ true → c.given ≡ k - 5 → To gave
   found used at =
-      part_on main grown k s.e _ are_grown (not_primary k near.logical) s.is_extended
+      part_on main grown k s.e (record { first = c.at + (entry last 0).first; count = (entry last 0).count }) are_grown (not_primary k near.logical) s.is_extended
       (ap (λ (ps : List Partition). slice_get ps (k - 5)) (gives used)
       ∙ ap (λ (n : ℕ). slice_get (before ++ part ∷ []) n) (sym at ∙ s.given) ∙ item_behind before part
       ∙ ap (λ (n : ℕ). Some (record { first = n + (entry last 0).first; count = (entry last 0).count })) (sym s.at))
@@ -78,7 +80,8 @@ module _ (k : ℕ) (main : List ℕ) (c : Chain) (chain : List (List ℕ)) (last
   led : (given : ℕ) → length (logical_partitions s.e.first grown) ≡ given → given ≤ k - 5
       → To (leads c given (entry last 1))
   led given is_given few =
-      cond_both (is_used (entry last 1)) _ _ To
+      cond_both (is_used (entry last 1))
+      (On (record { base = c.base; at = c.base + (entry last 1).first; given = given; read = c.read + 1 })) End To
       (λ on. record {
         e = s.e;
         is_extended = s.is_extended;
@@ -97,8 +100,10 @@ module _ (k : ℕ) (main : List ℕ) (c : Chain) (chain : List (List ℕ)) (last
 
   passed : To (passes_by k c (entry last 0) (entry last 1))
   passed =
-      cond_both (is_used (entry last 0)) _ _ To
-      (λ used. cond_both (nat_eq c.given (k - 5)) _ _ To (λ at. found used (eqb-true c.given (k - 5) at))
+      cond_both (is_used (entry last 0)) (cond (nat_eq c.given (k - 5)) gave (leads c (c.given + 1) (entry last 1)))
+      (leads c c.given (entry last 1)) To
+      (λ used. cond_both (nat_eq c.given (k - 5)) gave (leads c (c.given + 1) (entry last 1)) To
+      (λ at. found used (eqb-true c.given (k - 5) at))
       (λ other. led (c.given + 1) (counts used) (below (eqb-false c.given (k - 5) other))))
       (λ unused. led c.given (counts_none unused) near.given)
 
@@ -238,7 +243,7 @@ search_full k main c old new near full so_far =
         chain = records_of so_far.reads;
         e = s.e;
         are = refl;
-        are_records = s.are;
+        readable = s.are;
         logical = not_primary k near.logical;
         is_extended = s.is_extended;
         lacking = lacks s.e.first (records_of so_far.reads) k (omega (arith, s.given, near.given));

@@ -30,7 +30,7 @@ abbrev pub partition_of : List (List ℕ) → (k : ℕ) → Option Partition
 partition_of [] k = None
 partition_of (main ∷ chain) k =
     if are_records main chain
-    then if is_primary k then primary main k else option_and_then (λ e. logical e.first chain k) (extended main)
+    then (if is_primary k then primary main k else option_and_then (λ e. logical e.first chain k) (extended main))
     else None
 
 -- partition k begins at this sector and has so many sectors

@@ -50,7 +50,7 @@ pub record LacksSignature (k : ℕ) (records : List (List ℕ)) (sector : ℕ) :
 pub record IsProtected (records : List (List ℕ)) : Type 0 where
   pub main : List ℕ
   pub are : records ≡ main ∷ []
-  pub is_record : is_record main ≡ true
+  pub readable : is_record main ≡ true
   pub protected : is_protected main ≡ true
 
 -- there is no partition k by the records: its entry isn't used, or there is no extended partition, or the chain ends
@@ -70,7 +70,7 @@ pub record IsTooLong (k : ℕ) (records : List (List ℕ)) : Type 0 where
   pub chain : List (List ℕ)
   pub e : Entry
   pub are : records ≡ main ∷ chain
-  pub are_records : are_records main chain ≡ true
+  pub readable : are_records main chain ≡ true
   pub logical : is_primary k ≡ false
   pub is_extended : extended main ≡ Some e
   pub lacking : is_lacking e.first chain k ≡ true

@@ -100,8 +100,8 @@ leads c given second =
 abbrev pub passes_by : (k : ℕ) → (c : Chain) → (first second : Entry) → Link
 passes_by k c first second =
     if is_used first
-    then if nat_eq c.given (k - 5) then Found (record { first = c.at + first.first; count = first.count })
-    else leads c (c.given + 1) second
+    then (if nat_eq c.given (k - 5) then Found (record { first = c.at + first.first; count = first.count })
+        else leads c (c.given + 1) second)
     else leads c c.given second
 
 abbrev pub passes : (k : ℕ) → (c : Chain) → List Entry → Link

@@ -1,11 +1,11 @@
 //! The chain of records within an extended partition.
 ghost use Rattle.std.specs.Prelude.{◌≡◌, ℕ, ◌-◌, ◌<◌, ◌≤◌, ◌^◌, List, true, OnOk, IfOk, IfErr};
 ghost use Rattle.faulty_source.specs.SourceState.{Stays};
-ghost use Rattle.partition_domain.specs.Steps.{IsLed, IsNear, LeadsNear, SearchesBehind, StopCounts, Turns, passes};
+ghost use Rattle.partition_domain.specs.Steps.{IsLed, IsNear, LeadsNear, SearchesBehind, StopCounts, Turns, leads, passes};
 
 use crate::ending::PartEnding;
 use crate::read::read_table;
-use crate::table::{Partition, Table};
+use crate::table::{Entry, Partition, Table};
 use faulty_source::source::Source;
 
 /// How many records of a chain are read at most.
@@ -38,33 +38,40 @@ pub enum Link {
     End,
 }
 
+/// Where the second entry of a record leads to, behind so many partitions.
+fn lead(chain: Chain, given: u64, second: Entry, k: u64) -> Link
+    requires near { IsNear k chain }
+    requires more { chain.read < 128 }
+    requires given { given ≤ k - 5 }
+    ensures leads { result ≡ leads chain given second }
+    ensures near { LeadsNear k chain result }
+{
+    if !second.is_used() {
+        return Link::End;
+    }
+    Link::On(Chain {
+        base: chain.base,
+        at: second.linked(chain.base),
+        given,
+        read: chain.read + 1,
+    })
+}
+
 /// What comes of the next record of a chain, by what it says.
 fn pass(chain: Chain, table: &Table, k: u64) -> Link
     requires near { IsNear k chain }
     requires more { chain.read < 128 }
     ensures passes { result ≡ passes k chain table.now }
-    ensures leads { LeadsNear k chain result }
+    ensures near { LeadsNear k chain result }
 {
     let [first, second, ..] = *table;
-    let mut given = chain.given;
-    if first.is_used() {
-        if given == k - FIRST_LOGICAL {
-            return Link::Found(Partition {
-                first: chain.at + u64::from(first.first),
-                count: u64::from(first.count),
-            });
-        }
-        given += 1;
+    if !first.is_used() {
+        return lead(chain, chain.given, second, k);
     }
-    if !second.is_used() {
-        return Link::End;
+    if chain.given == k - FIRST_LOGICAL {
+        return Link::Found(first.partition_from(chain.at));
     }
-    Link::On(Chain {
-        at: u64::from(chain.base) + u64::from(second.first),
-        given,
-        read: chain.read + 1,
-        ..chain
-    })
+    lead(chain, chain.given + 1, second, k)
 }
 
 /// Reads the next record of a chain.
@@ -77,7 +84,7 @@ fn turn<S: Source>(source: &mut S, chain: Chain, k: u64) -> Result<Link, PartEnd
     ensures stays { Stays (S.state source.old) (S.state source.new) }
     ensures kept { OnOk result ((S.state source.new).losses ≡ (S.state source.old).losses) }
     ensures cause { IfErr result (λ e. StopCounts e (S.state source.old).losses (S.state source.new).losses) }
-    ensures leads { IfOk result (λ link. LeadsNear k chain link) }
+    ensures near { IfOk result (λ link. LeadsNear k chain link) }
 {
     match read_table(source, chain.at) {
         Ok(table) => Ok(pass(chain, &table, k)),

@@ -82,6 +82,21 @@ fn name_operands<'a>(
     }
 }
 
+/// What a reading of the words asks for.
+fn command_of<'a>(
+    table: &OptionTable,
+    words: &'a Words,
+    reading: &Reading,
+) -> Result<Command<'a>, UsageFault>
+    requires table { AreOptions table.now }
+    requires operands { All (IsWord words.now) reading.now.operands.items }
+    ensures asked { IfOk result (λ c. command_read words.now reading.now ≡ Ok (told_by c)) }
+    ensures refused { IfErr result (λ fault. command_read words.now reading.now ≡ Err fault) }
+{
+    let quiet = is_given(table, QUIET, &reading.items);
+    name_operands(words, quiet, &reading.operands)
+}
+
 /// Reads the words of a command line: `[-q] infile k`. The words themselves come first, then the number of operands,
 /// then an empty name, then the number of the partition.
 pub fn read_command(alloc: Global, words: &Words) -> Result<Command<'_>, CommandError>
@@ -93,9 +108,11 @@ pub fn read_command(alloc: Global, words: &Words) -> Result<Command<'_>, Command
         Ok(reading) => reading,
         Err(fault) => return Err(unread(fault)),
     };
-    let quiet = is_given(&table, QUIET, &reading.items);
-    match name_operands(words, quiet, &reading.operands) {
+    match command_of(&table, words, &reading) {
         Ok(command) => Ok(command),
-        Err(fault) => Err(CommandError::Usage { fault, quiet }),
+        Err(fault) => Err(CommandError::Usage {
+            fault,
+            quiet: is_given(&table, QUIET, &reading.items),
+        }),
     }
 }

@@ -1,7 +1,6 @@
 //! Finds a partition of a disk by its number.
-ghost use Rattle.std.specs.Prelude.{◌≡◌, ◌<◌, ◌≤◌, ◌^◌, true, OnOk, IfOk, IfErr, Option, option_map};
+ghost use Rattle.std.specs.Prelude.{◌≡◌, ◌<◌, ◌≤◌, ◌^◌, true, OnOk, IfOk, IfErr, IfSome, find as find_first};
 ghost use Rattle.std.specs.List.{list_any};
-ghost use Rattle.std.specs.Prelude.{find as find_first};
 ghost use Rattle.faulty_source.specs.SourceState.{Stays};
 ghost use Rattle.partition_domain.specs.Table.{is_extended, is_protective};
 ghost use Rattle.partition_domain.specs.Steps.{Searches, StopCounts, partition_at};
@@ -38,14 +37,12 @@ fn find_extended(table: &Table) -> Option<Entry>
 fn partition_at(table: &Table, k: u64) -> Option<Partition>
     requires low { 1 ≤ k }
     requires high { k ≤ 4 }
-    ensures { result ≡ partition_at table.now k }
+    ensures is { result ≡ partition_at table.now k }
+    ensures near { IfSome result (λ p. (p.first < 2 ^ 34) × (p.count < 2 ^ 32)) }
 {
     let entry = table[(k - 1) as usize];
     if entry.is_used() {
-        Some(Partition {
-            first: u64::from(entry.first),
-            count: u64::from(entry.count),
-        })
+        Some(entry.partition())
     } else {
         None
     }

@@ -1,5 +1,5 @@
 //! The records of a partition table.
-ghost use Rattle.std.specs.Prelude.{◌≡◌, ◌+◌, ◌≤◌, length};
+ghost use Rattle.std.specs.Prelude.{◌≡◌, ◌+◌, ◌<◌, ◌≤◌, ◌^◌, length};
 ghost use Rattle.partition_domain.specs.Table.{entries, entry_at, has_signature, is_extended, is_protective, is_used, number_at};
 
 /// How many bytes a sector has, and so a record.
@@ -62,6 +62,39 @@ impl Entry {
         ensures { result ≡ is_protective self }
     {
         self.kind == PROTECTIVE
+    }
+
+    /// The partition that it is for, where its first sector counts from sector 0 on.
+    pub(crate) fn partition(self) -> Partition
+        ensures is { result ≡ record { first = self.first; count = self.count } }
+        ensures first { result.first < 2 ^ 34 }
+        ensures count { result.count < 2 ^ 32 }
+    {
+        Partition {
+            first: u64::from(self.first),
+            count: u64::from(self.count),
+        }
+    }
+
+    /// The partition that it is for, where its first sector counts from another one on.
+    pub(crate) fn partition_from(self, sector: u64) -> Partition
+        requires { sector < 2 ^ 33 }
+        ensures is { result ≡ record { first = sector + self.first; count = self.count } }
+        ensures first { result.first < 2 ^ 34 }
+        ensures count { result.count < 2 ^ 32 }
+    {
+        Partition {
+            first: sector + u64::from(self.first),
+            count: u64::from(self.count),
+        }
+    }
+
+    /// The sector that it links to, which counts from a base on.
+    pub(crate) fn linked(self, base: u32) -> u64
+        ensures is { result ≡ base + self.first }
+        ensures near { result < 2 ^ 33 }
+    {
+        u64::from(base) + u64::from(self.first)
     }
 }
 
