@@ -1,7 +1,8 @@
 -- Reads of records: those that follow others, how many there are, and what one did.
-use Rattle.std.proofs.Common.{◌≡◌, ℕ, ◌+◌, ◌<◌, ◌≤◌, IsTrue, true, false, ◌*◌, List, [], ◌∷◌, ◌++◌, length, map, All, Option, Some, None, is_some, Result, Ok, Err, refl, sym, ap, ◌∙◌, subst, arith, append_assoc, append-nil, length-append, map-append, take, slice_range}
+use Rattle.std.proofs.Common.{◌≡◌, ℕ, ◌+◌, ◌<◌, ◌≤◌, IsTrue, true, false, ◌*◌, List, [], ◌∷◌, ◌++◌, length, map, All, Option, Some, None, is_some, Result, Ok, Err, refl, sym, ap, ◌∙◌, subst, arith, append_assoc, append-nil, length-append, take, slice_range}
 use Rattle.std.proofs.lemmas.Bool.{and_from, eq-eqb}
-use Rattle.std.proofs.lemmas.List.{length-take-le, take_all}
+use Rattle.std.proofs.lemmas.List.{length-take-le, map-append, take_all}
+use Rattle.std.proofs.lemmas.List.Elements.{All-append, All-cons, All-nil}
 use Rattle.faulty_source.specs.declared.source.Got.{Got}
 use Rattle.faulty_source.specs.Got.{count_of, is_end}
 use Rattle.faulty_source.specs.Journal.{Reading}
@@ -28,15 +29,10 @@ next_more k before (x ∷ xs) ys first last =
 pub records_more : (xs ys : List Reading) → records_of (xs ++ ys) ≡ records_of xs ++ records_of ys
 records_more xs ys = map-append (λ (r : Reading). r.given) xs ys
 
-all_both : (bytes : List ℕ) (xs ys : List Reading) → All (IsFrom bytes) xs → All (IsFrom bytes) ys
-    → All (IsFrom bytes) (xs ++ ys)
-all_both bytes [] ys p q = q
-all_both bytes (x ∷ xs) ys p q = (p.0, all_both bytes xs ys p.1 q)
-
 pub gained_none : (s t : SourceState) → (IsTrue s.tells → t.journal ≡ s.journal) → Gained [] s t
 gained_none s t same = record {
   told = λ tells. same tells ∙ sym (append-nil s.journal);
-  right = λ tells. tt;
+  right = λ tells. All-nil (IsFrom s.bytes);
 }
 
 pub gained_more : (xs ys : List Reading) (a b c : SourceState) → b.tells ≡ a.tells
@@ -44,7 +40,7 @@ pub gained_more : (xs ys : List Reading) (a b c : SourceState) → b.tells ≡ a
 gained_more xs ys a b c tells bytes f g = record {
   told = λ t. g.told (subst IsTrue (sym tells) t) ∙ ap (λ (j : List Reading). j ++ ys) (f.told t)
       ∙ append_assoc a.journal xs ys;
-  right = λ t. all_both a.bytes xs ys (f.right t)
+  right = λ t. All-append (IsFrom a.bytes) xs ys (f.right t)
       (subst (λ (b : List ℕ). All (IsFrom b) ys) (bytes t) (g.right (subst IsTrue (sym tells) t)));
 }
 
@@ -150,8 +146,9 @@ module _ {E : Type 0} (sector : ℕ) (got : Got) (buf : List ℕ) (old new : Sou
   read_gained : Gained (sector_read sector got buf ∷ []) old new
   read_gained = record {
     told = λ tells. a.told tells;
-    right = λ tells. (a.right tells
-        ∙ ap (λ (n : ℕ). slice_range old.bytes (sector * 512) (sector * 512 + n)) (sym given_long), tt);
+    right = λ tells. All-cons (IsFrom old.bytes) (sector_read sector got buf) []
+        (a.right tells ∙ ap (λ (n : ℕ). slice_range old.bytes (sector * 512) (sector * 512 + n)) (sym given_long))
+        (All-nil (IsFrom old.bytes));
   }
 
   read_one : (last : List ℕ) → take (count_of got) buf ≡ last → ReadsOne sector (sector_read sector got buf ∷ []) last

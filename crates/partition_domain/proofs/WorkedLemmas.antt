@@ -1,5 +1,6 @@
 -- What a command did, by how far it came.
 use Rattle.std.proofs.Common.{◌≡◌, ℕ, ◌++◌, ◌≤◌, IsTrue, false, List, [], ◌∷◌, length, map, All, Option, Some, None, Result, Ok, Err, is_ok, refl, sym, ap, ◌∙◌, inl, inr, subst, arith, append-nil}
+use Rattle.std.proofs.lemmas.List.Elements.{All-nil}
 use Rattle.fault_count.specs.Counts.{raised}
 use Rattle.mapfile_text.specs.HeadingLines.{HeadingLines}
 use Rattle.mapfile_text.specs.declared.heading.Program.TheVariants.{Ddrescuelog}
@@ -41,7 +42,7 @@ starved_worked c line s p = record {
     opens = refl;
     length_is = λ tells. refl;
     reads = λ tells. sym (append-nil s.journal);
-    right = λ tells. tt;
+    right = λ tells. All-nil (IsFrom s.bytes);
   };
   work = inl (refl, record { opens = refl; gain = record { calls = refl; reads = refl; times = refl } });
   out = refl;
@@ -60,7 +61,7 @@ unopened_worked c line e s s' p a plan = record {
     opens = (a.opens, a.input, λ planned. (plan planned).answers.0 tt);
     length_is = λ tells. refl;
     reads = λ tells. a.journal tells ∙ sym (append-nil s.journal);
-    right = λ tells. tt;
+    right = λ tells. All-nil (IsFrom s.bytes);
   };
   work = inr (inl (refl, refl, record { calls = refl; reads = refl; times = refl }));
   out = refl;
