@@ -1,7 +1,8 @@
 -- By what the next record of the chain says.
-use Rattle.std.proofs.Common.{◌≡◌, List, ℕ, Ok, Err, rules, refl, subst, arith, ◌∙◌}
+use Rattle.std.proofs.Common.{Ok, rules, refl, subst, arith, ◌∙◌}
 use Rattle.faulty_source.proofs.Keeping.{stays_more, stays_self}
 use Rattle.partition_domain.specs.declared.chain.Link.{Link}
+use Rattle.partition_domain.specs.Reads.{records_of}
 use Rattle.partition_domain.specs.Steps.{LeadsNear, Turns}
 use Rattle.partition_domain.proofs.TurnLemmas.{search_begun, search_ended, search_found, search_full, search_on, search_stopped}
 use Rattle.partition_domain.proofs.chain.follow_chain.Goals as goal
@@ -21,10 +22,11 @@ records-preserved g c =
     let new = g.S.Source.state c.turn.new.source in
     record {
       searching = λ main led.
+          let so_far = c.records.invariant.searching main led in
           search_on c.args.k main c.records.chain old mid new c.records.invariant.stays
-          (c.records.invariant.searching main led) c.in-Ok-On.next
-          (subst (λ (l : Link). Turns c.args.k main c.records.chain _ (Ok l) mid new) c.in-Ok-On.field-0-is
-          (c.in-Ok-On.ensures.turned main _));
+          so_far c.in-Ok-On.next
+          (subst (λ (l : Link). Turns c.args.k main c.records.chain (records_of so_far.reads) (Ok l) mid new)
+          c.in-Ok-On.field-0-is (c.in-Ok-On.ensures.turned main (records_of so_far.reads)));
       near = (subst (λ (l : Link). LeadsNear c.args.k c.records.chain l) c.in-Ok-On.field-0-is c.in-Ok-On.ensures.near).0;
       stays = stays_more old mid new c.records.invariant.stays c.turn.ensures.stays;
       kept = c.in-Ok-On.ensures.kept ∙ c.records.invariant.kept;
@@ -34,10 +36,10 @@ pub returns-in-Ok-Found-clause-searches : goal.returns-in-Ok-Found-clause-search
 returns-in-Ok-Found-clause-searches g c = λ main led.
     let mid = g.S.Source.state c.records.source in
     let new = g.S.Source.state c.turn.new.source in
-    search_found c.args.k main c.records.chain _ mid new c.records.invariant.stays
-    (c.records.invariant.searching main led) c.in-Ok-Found.partition
-    (subst (λ (l : Link). Turns c.args.k main c.records.chain _ (Ok l) mid new) c.in-Ok-Found.field-0-is
-    (c.in-Ok-Found.ensures.turned main _))
+    let so_far = c.records.invariant.searching main led in
+    search_found c.args.k main c.records.chain _ mid new c.records.invariant.stays so_far c.in-Ok-Found.partition
+    (subst (λ (l : Link). Turns c.args.k main c.records.chain (records_of so_far.reads) (Ok l) mid new)
+    c.in-Ok-Found.field-0-is (c.in-Ok-Found.ensures.turned main (records_of so_far.reads)))
 
 pub returns-in-Ok-Found-clause-stays : goal.returns-in-Ok-Found-clause-stays
 returns-in-Ok-Found-clause-stays g c = stays_more _ _ _ c.records.invariant.stays c.turn.ensures.stays
@@ -46,10 +48,10 @@ pub returns-in-Ok-End-clause-searches : goal.returns-in-Ok-End-clause-searches
 returns-in-Ok-End-clause-searches g c = λ main led.
     let mid = g.S.Source.state c.records.source in
     let new = g.S.Source.state c.turn.new.source in
-    search_ended c.args.k main c.records.chain _ mid new c.records.invariant.stays
-    (c.records.invariant.searching main led)
-    (subst (λ (l : Link). Turns c.args.k main c.records.chain _ (Ok l) mid new) c.in-Ok-End.field-0-is
-    (c.in-Ok-End.ensures.turned main _))
+    let so_far = c.records.invariant.searching main led in
+    search_ended c.args.k main c.records.chain _ mid new c.records.invariant.stays so_far
+    (subst (λ (l : Link). Turns c.args.k main c.records.chain (records_of so_far.reads) (Ok l) mid new)
+    c.in-Ok-End.field-0-is (c.in-Ok-End.ensures.turned main (records_of so_far.reads)))
 
 pub returns-in-Ok-End-clause-stays : goal.returns-in-Ok-End-clause-stays
 returns-in-Ok-End-clause-stays g c = stays_more _ _ _ c.records.invariant.stays c.turn.ensures.stays
