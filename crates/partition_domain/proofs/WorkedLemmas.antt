@@ -58,7 +58,7 @@ unopened_worked c line e s s' p a plan = record {
     did = record { opens = Unopened c.infile ∷ []; gain = record { calls = []; reads = []; times = [] } };
   };
   agrees = record {
-    opens = (a.opens, a.input, λ planned. (plan planned).answers.0 tt);
+    opens = (a.opens, a.input, λ planned. (plan planned).answers.0 refl);
     length_is = λ tells. refl;
     reads = λ tells. a.journal tells ∙ sym (append-nil s.journal);
     right = λ tells. All-nil (IsFrom s.bytes);
@@ -76,8 +76,8 @@ outside_by c length_ reads = record {
   did = record { opens = Opened c.infile ∷ []; gain = record { calls = []; reads = reads; times = [] } };
 }
 
-read_agrees : (c : Command) (length_ : ℕ) (reads : List Reading) (s t u : SourceState)
-    → AnswersOpen c.infile (Ok length_) s t → Stays t u → (IsTrue t.tells → u.journal ≡ t.journal ++ reads)
+read_agrees : {E : Type 0} (c : Command) (length_ : ℕ) (reads : List Reading) (s t u : SourceState)
+    → AnswersOpen {E = E} c.infile (Ok length_) s t → Stays t u → (IsTrue t.tells → u.journal ≡ t.journal ++ reads)
     → (IsTrue t.tells → All (IsFrom t.bytes) reads) → Agrees s u (outside_by c length_ reads)
 read_agrees c length_ reads s t u a stays told right =
     let tells_on : IsTrue s.tells → IsTrue t.tells = λ tells. subst IsTrue (sym a.keeps.tells) tells in
@@ -111,8 +111,8 @@ stop_quiet ConsoleFault l l' stop = absurd stop
 stop_quiet NoMemory l l' stop = absurd stop
 
 -- the search stopped
-pub stopped_worked : (c : Command) (line : List ℕ) (length_ : ℕ) (e : PartEnding) (s t u : SourceState)
-    (p : ConsoleState) → AnswersOpen c.infile (Ok length_) s t → Stays t u → Searched c.partition [] (Err e) t u
+pub stopped_worked : {E : Type 0} (c : Command) (line : List ℕ) (length_ : ℕ) (e : PartEnding) (s t u : SourceState)
+    (p : ConsoleState) → AnswersOpen {E = E} c.infile (Ok length_) s t → Stays t u → Searched c.partition [] (Err e) t u
     → StopCounts e t.losses u.losses → Worked c line e s u p p
 stopped_worked c line length_ e s t u p a stays searched stop = record {
   outside = outside_by c length_ searched.reads;
@@ -154,10 +154,10 @@ found_puts ConsoleFault text old new puts = puts
 found_puts NoMemory text old new puts = absurd puts
 
 -- the search found the partition, and its map was put
-pub found_worked : (c : Command) (line : List ℕ) (heading : HeadingLines) (length_ : ℕ) (part : Partition)
+pub found_worked : {E : Type 0} (c : Command) (line : List ℕ) (heading : HeadingLines) (length_ : ℕ) (part : Partition)
     (e : PartEnding) (s t u : SourceState) (p q : ConsoleState)
     → heading ≡ record { program = Ddrescuelog; line = line; start_s = 0; now_s = 0 }
-    → AnswersOpen c.infile (Ok length_) s t → Stays t u → Searched c.partition [] (Ok part) t u
+    → AnswersOpen {E = E} c.infile (Ok length_) s t → Stays t u → Searched c.partition [] (Ok part) t u
     → PrintsAs e (printed heading shown_state (domain_map length_ part)) p q → Worked c line e s u p q
 found_worked c line heading length_ part e s t u p q heads a stays searched puts =
     let text : printed heading shown_state (domain_map length_ part) ≡ text_of c line (outside_by c length_ searched.reads) =
@@ -181,8 +181,8 @@ pub unopened_counts : {E : Type 0} (name : List ℕ) (e : E) (s s' : SourceState
     → SourceCounts SourceFault s s'
 unopened_counts name e s s' a = record { faults = a.rose; lost = a.losses }
 
-pub stopped_counts : (name : List ℕ) (length_ : ℕ) (e : PartEnding) (s t u : SourceState)
-    → AnswersOpen name (Ok length_) s t → Stays t u → StopCounts e t.losses u.losses → SourceCounts e s u
+pub stopped_counts : {E : Type 0} (name : List ℕ) (length_ : ℕ) (e : PartEnding) (s t u : SourceState)
+    → AnswersOpen {E = E} name (Ok length_) s t → Stays t u → StopCounts e t.losses u.losses → SourceCounts e s u
 stopped_counts name n Done s t u a stays stop = absurd stop
 stopped_counts name n (Usage fault) s t u a stays stop = absurd stop
 stopped_counts name n SourceFault s t u a stays stop = absurd stop
@@ -201,8 +201,8 @@ stopped_counts name n ChainTooLong s t u a stays stop =
 stopped_counts name n ConsoleFault s t u a stays stop = absurd stop
 stopped_counts name n NoMemory s t u a stays stop = absurd stop
 
-pub found_counts : (name : List ℕ) (length_ : ℕ) (e : PartEnding) (text : List ℕ) (s t u : SourceState)
-    (p q : ConsoleState) → AnswersOpen name (Ok length_) s t → Stays t u → u.losses ≡ t.losses
+pub found_counts : {E : Type 0} (name : List ℕ) (length_ : ℕ) (e : PartEnding) (text : List ℕ) (s t u : SourceState)
+    (p q : ConsoleState) → AnswersOpen {E = E} name (Ok length_) s t → Stays t u → u.losses ≡ t.losses
     → PrintsAs e text p q → SourceCounts e s u
 found_counts name n Done text s t u p q a stays kept puts =
     record { faults = stays.faults ∙ a.kept; lost = kept ∙ a.losses }
