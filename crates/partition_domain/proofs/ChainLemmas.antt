@@ -1,11 +1,11 @@
 -- One more record of a chain: what it adds, and when a chain goes on behind records.
-use Rattle.std.proofs.Common.{◌≡◌, ℕ, ◌+◌, ◌-◌, ◌<◌, ◌≤◌, Bool, true, false, cond, not, ◌&&◌, nat_le, nat_lt, List, [], ◌∷◌, ◌++◌, length, slice_get, Option, Some, None, is_some, refl, sym, ap, ◌∙◌, subst, arith, append_assoc, append-nil, length-append}
+use Rattle.std.proofs.Common.{◌≡◌, ℕ, ◌-◌, ◌<◌, ◌≤◌, Bool, true, false, cond, not, ◌&&◌, nat_lt, List, [], ◌∷◌, ◌++◌, length, slice_get, Option, Some, None, refl, sym, ap, ◌∙◌, arith, append_assoc, append-nil}
 use Rattle.std.specs.List.{list_all}
 use Rattle.std.specs.Option.{option_and_then}
 use Rattle.std.proofs.lemmas.Bool.{and_from, and_parts, and_right, cond-true, cond-false, le-leb, lt-ltb, lt-leb, ltb-true, not_from_false}
 use Rattle.partition_domain.specs.declared.table.Entry.{Entry}
 use Rattle.partition_domain.specs.declared.table.Partition.{Partition}
-use Rattle.partition_domain.specs.Table.{entry, extended, is_protected, is_record, is_used}
+use Rattle.partition_domain.specs.Table.{extended, is_protected, is_record}
 use Rattle.partition_domain.specs.Chain.{chain_limit, given_by, given_from, linked, links_on, logical_partitions, next_in_chain, sector_behind}
 use Rattle.partition_domain.specs.Part.{are_records, goes_on, is_lacking, is_primary, logical, next, next_of_chain, partition_of, primary}
 

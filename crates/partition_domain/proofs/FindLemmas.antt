@@ -1,16 +1,15 @@
 -- The search by the record at sector 0, and by the chain to which that leads.
-use Rattle.std.proofs.Common.{◌≡◌, ℕ, zero, suc, ◌-◌, ◌<◌, ◌≤◌, Bool, true, false, cond, not, ◌&&◌, List, [], ◌∷◌, ◌++◌, find, slice_index_or, Option, Some, None, Result, Ok, Err, refl, sym, ap, ◌∙◌, subst, arith}
+use Rattle.std.proofs.Common.{◌≡◌, ℕ, zero, suc, ◌-◌, ◌<◌, ◌≤◌, true, false, cond, not, ◌&&◌, List, [], ◌∷◌, ◌++◌, find, slice_index_or, Option, Some, None, Result, Ok, Err, refl, sym, ap, ◌∙◌, subst, arith}
 use Rattle.std.specs.List.{list_any}
 use Rattle.std.specs.Option.{option_and_then}
 use Rattle.std.proofs.lemmas.Bool.{and_from, cond-true, le-leb, not_from_false}
-use Rattle.faulty_source.specs.Journal.{Reading}
 use Rattle.faulty_source.specs.SourceState.{SourceState, Stays}
 use Rattle.partition_domain.specs.declared.table.Entry.{Entry}
 use Rattle.partition_domain.specs.declared.table.Partition.{Partition}
 use Rattle.partition_domain.specs.declared.ending.PartEnding.{PartEnding}
 use Rattle.partition_domain.specs.declared.ending.PartEnding.TheVariants.{Protective, NoPartition}
 use Rattle.partition_domain.specs.Table.{entries, entry, extended, is_extended, is_protected, is_protective, is_record, is_used}
-use Rattle.partition_domain.specs.Part.{are_records, is_primary, logical, partition_of, primary}
+use Rattle.partition_domain.specs.Part.{are_records, is_primary, logical, primary}
 use Rattle.partition_domain.specs.Reads.{AreNext, Unextended, Unused, records_of}
 use Rattle.partition_domain.specs.Steps.{ComesTo, IsLed, ReadsTable, Searches, SearchesBehind, partition_at}
 use Rattle.partition_domain.proofs.ChainLemmas.{not_primary}

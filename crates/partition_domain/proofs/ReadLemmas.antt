@@ -1,5 +1,5 @@
 -- Reads of records: those that follow others, how many there are, and what one did.
-use Rattle.std.proofs.Common.{◌≡◌, ℕ, ◌+◌, ◌<◌, ◌≤◌, IsTrue, true, false, ◌*◌, List, [], ◌∷◌, ◌++◌, length, map, All, Option, Some, None, is_some, Result, Ok, Err, refl, sym, ap, ◌∙◌, subst, arith, append_assoc, append-nil, length-append, take, slice_range}
+use Rattle.std.proofs.Common.{◌≡◌, ℕ, ◌+◌, ◌<◌, ◌≤◌, IsTrue, true, false, ◌*◌, List, [], ◌∷◌, ◌++◌, length, All, Option, Some, None, is_some, Result, Ok, Err, refl, sym, ap, ◌∙◌, subst, arith, append_assoc, append-nil, length-append, take, slice_range}
 use Rattle.std.proofs.lemmas.Bool.{and_from, eq-eqb}
 use Rattle.std.proofs.lemmas.List.{length-take-le, map-append, take_all}
 use Rattle.std.proofs.lemmas.List.Elements.{All-append, All-cons, All-nil}
@@ -10,7 +10,7 @@ use Rattle.faulty_source.specs.SourceState.{AnswersRead, SourceState}
 use Rattle.partition_domain.specs.declared.table.Entry.{Entry}
 use Rattle.partition_domain.specs.declared.ending.PartEnding.{PartEnding}
 use Rattle.partition_domain.specs.declared.ending.PartEnding.TheVariants.{Done, Usage, SourceFault, SourceLost, Unread, NoSignature, Protective, NoPartition, ChainTooLong, ConsoleFault, NoMemory}
-use Rattle.partition_domain.specs.Table.{entries, has_signature, is_record, is_whole}
+use Rattle.partition_domain.specs.Table.{entries, has_signature, is_whole}
 use Rattle.partition_domain.specs.Part.{next}
 use Rattle.partition_domain.specs.Reads.{AnswersBy, AreNext, IsReadOf, records_of}
 use Rattle.partition_domain.specs.Told.{IsFrom}
@@ -22,9 +22,11 @@ use Rattle.partition_domain.proofs.ChainLemmas.{next_short}
 pub next_more : (k : ℕ) (before : List (List ℕ)) (xs ys : List Reading) → AreNext k before xs
     → AreNext k (before ++ records_of xs) ys → AreNext k before (xs ++ ys)
 next_more k before [] ys first last = subst (λ (b : List (List ℕ)). AreNext k b ys) (append-nil before) last
-next_more k before (x ∷ xs) ys first last =
-    (first.0, next_more k (before ++ x.given ∷ []) xs ys first.1
-    (subst (λ (b : List (List ℕ)). AreNext k b ys) (sym (append_assoc before (x.given ∷ []) (records_of xs))) last))
+next_more k before (x ∷ xs) ys first last = (
+  first.0,
+  next_more k (before ++ x.given ∷ []) xs ys first.1
+      (subst (λ (b : List (List ℕ)). AreNext k b ys) (sym (append_assoc before (x.given ∷ []) (records_of xs))) last),
+)
 
 pub records_more : (xs ys : List Reading) → records_of (xs ++ ys) ≡ records_of xs ++ records_of ys
 records_more xs ys = map-append (λ (r : Reading). r.given) xs ys

@@ -1,6 +1,5 @@
 -- A turn of the search in a chain, and the search by turns.
-use Rattle.std.proofs.Common.{◌≡◌, ℕ, ◌+◌, ◌-◌, ◌<◌, ◌≤◌, IsTrue, Bool, true, false, cond, nat_eq, List, [], ◌∷◌, ◌++◌, length, slice_get, Option, Some, None, Result, Ok, Err, refl, sym, ap, ◌∙◌, subst, arith, append_assoc, append-nil, length-append}
-use Rattle.std.specs.List.{list_all}
+use Rattle.std.proofs.Common.{◌≡◌, ℕ, ◌+◌, ◌-◌, ◌<◌, ◌≤◌, true, false, cond, nat_eq, List, [], ◌∷◌, ◌++◌, length, slice_get, Some, Result, Ok, Err, refl, sym, ap, ◌∙◌, subst, arith, append-nil, length-append}
 use Rattle.std.proofs.lemmas.Bool.{cond_both, cond-true, cond-false, eqb-true, eqb-false}
 use Rattle.faulty_source.specs.Journal.{Reading}
 use Rattle.faulty_source.specs.SourceState.{SourceState, Stays}
@@ -11,11 +10,11 @@ use Rattle.partition_domain.specs.declared.chain.Link.{Link}
 use Rattle.partition_domain.specs.declared.chain.Link.TheVariants.{Found, On, End}
 use Rattle.partition_domain.specs.declared.ending.PartEnding.{PartEnding}
 use Rattle.partition_domain.specs.declared.ending.PartEnding.TheVariants.{NoPartition, ChainTooLong}
-use Rattle.partition_domain.specs.Table.{entries, entry, extended, is_record, is_used}
-use Rattle.partition_domain.specs.Chain.{given_by, linked, links_on, logical_partitions, next_in_chain}
-use Rattle.partition_domain.specs.Part.{are_records, is_lacking, is_primary, next, partition_of}
-use Rattle.partition_domain.specs.Reads.{AnswersBy, AreNext, Ended, LacksPartition, records_of}
-use Rattle.partition_domain.specs.Steps.{ComesTo, Gained, IsLed, IsNear, ReadsAs, ReadsOne, ReadsTable, Searched, StandsBehind, StopsAs, Turned, Turns, TurnsTo, leads, passes, passes_by}
+use Rattle.partition_domain.specs.Table.{entry, is_record, is_used}
+use Rattle.partition_domain.specs.Chain.{given_by, links_on, logical_partitions, next_in_chain}
+use Rattle.partition_domain.specs.Part.{are_records, next, partition_of}
+use Rattle.partition_domain.specs.Reads.{AnswersBy, AreNext, Ended, records_of}
+use Rattle.partition_domain.specs.Steps.{Gained, IsLed, IsNear, ReadsTable, Searched, StandsBehind, Turned, Turns, TurnsTo, leads, passes, passes_by}
 use Rattle.partition_domain.proofs.ChainLemmas.{all_more, are_more, given_behind, item_behind, lacks, next_on, not_all, not_primary, part_on, sector_after}
 use Rattle.partition_domain.proofs.ReadLemmas.{gained_more, gained_none, next_more, one_behind, read_next, records_more, stop_answers}
 

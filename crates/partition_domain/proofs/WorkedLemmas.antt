@@ -1,25 +1,23 @@
 -- What a command did, by how far it came.
-use Rattle.std.proofs.Common.{◌≡◌, ℕ, ◌++◌, ◌≤◌, IsTrue, false, List, [], ◌∷◌, length, map, All, Option, Some, None, Result, Ok, Err, is_ok, refl, sym, ap, ◌∙◌, inl, inr, subst, arith, append-nil}
+use Rattle.std.proofs.Common.{◌≡◌, ℕ, ◌++◌, ◌≤◌, IsTrue, List, [], ◌∷◌, length, All, Some, Ok, Err, refl, sym, ap, ◌∙◌, inl, inr, subst, arith, append-nil}
 use Rattle.std.proofs.lemmas.List.Elements.{All-nil}
 use Rattle.fault_count.specs.Counts.{raised}
 use Rattle.mapfile_text.specs.HeadingLines.{HeadingLines}
 use Rattle.mapfile_text.specs.declared.heading.Program.TheVariants.{Ddrescuelog}
 use Rattle.mapfile_text.specs.Printed.{printed}
 use Rattle.faulty_source.specs.Journal.{Reading}
-use Rattle.faulty_source.specs.SourceState.{SourceState, AnswersOpen, Keeps, OpenFails, PlansOpen, Stays}
-use Rattle.faulty_source.proofs.Keeping.{keeps_more, keeps_self}
-use Rattle.rescue_console.specs.ConsoleState.{ConsoleState, Puts, PutsPart}
-use Rattle.rescue_console.specs.declared.console.Channel.TheVariants.{Out}
-use Rattle.work_steps.specs.Work.{Deeds, Opened, Unopened, Works}
+use Rattle.faulty_source.specs.SourceState.{SourceState, AnswersOpen, PlansOpen, Stays}
+use Rattle.rescue_console.specs.ConsoleState.{ConsoleState}
+use Rattle.work_steps.specs.Work.{Deeds, Opened, Unopened}
 use Rattle.partition_domain.specs.declared.table.Partition.{Partition}
 use Rattle.partition_domain.specs.declared.ending.PartEnding.{PartEnding}
 use Rattle.partition_domain.specs.declared.ending.PartEnding.TheVariants.{Done, Usage, SourceFault, SourceLost, Unread, NoSignature, Protective, NoPartition, ChainTooLong, ConsoleFault, NoMemory}
 use Rattle.partition_domain.specs.Command.{Command}
 use Rattle.partition_domain.specs.Part.{partition_of}
-use Rattle.partition_domain.specs.DomainMap.{domain_map, domain_text, shown_state}
+use Rattle.partition_domain.specs.DomainMap.{domain_map, shown_state}
 use Rattle.partition_domain.specs.Reads.{AnswersBy, AreNext, HasPart, records_of}
 use Rattle.partition_domain.specs.Told.{Outside, Agrees, IsFrom}
-use Rattle.partition_domain.specs.Work.{PartWorks, ReadsPart, part_faults, part_rows}
+use Rattle.partition_domain.specs.Work.{PartWorks}
 use Rattle.partition_domain.specs.Ddrescuepart.{PutsAs, text_by, text_of}
 use Rattle.partition_domain.specs.Steps.{PrintsAs, Searched, StopCounts}
 use Rattle.partition_domain.specs.Worked.{SourceCounts, Worked}

@@ -1,7 +1,6 @@
 -- The chain of records within an extended partition, which begins at a base: where its records lie, and which partitions
 -- they give.
 use Rattle.std.specs.Prelude.{ℕ, ◌+◌, Bool, List, [], ◌∷◌, ◌++◌, if◌then◌else◌}
-use Rattle.std.specs.List.{list_all}
 use Rattle.partition_domain.specs.declared.table.Partition.{Partition}
 use Rattle.partition_domain.specs.Table.{entry, is_used}
 

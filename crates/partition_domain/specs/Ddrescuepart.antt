@@ -2,7 +2,7 @@
 -- for real files and streams their counts and what is open.
 use Rattle.std.specs.Prelude.{◌≡◌, ◌⊎◌, ℕ, ◌≤◌, true, false, IsTrue, List, [], length, Option, Some, None}
 use Rattle.fault_count.specs.Plan.{counted}
-use Rattle.faulty_source.specs.SourceState.{SourceState, Keeps as SourceKeeps}
+use Rattle.faulty_source.specs.SourceState.{Keeps as SourceKeeps}
 use Rattle.rescue_console.specs.ConsoleState.{ConsoleState, Puts, PutsPart}
 use Rattle.rescue_console.specs.declared.console.Channel.TheVariants.{Out, Err}
 use Rattle.partition_domain.specs.declared.table.Partition.{Partition}

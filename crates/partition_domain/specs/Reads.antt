@@ -1,5 +1,5 @@
 -- Which reads are made for a partition, and what each answer says of what they gave.
-use Rattle.std.specs.Prelude.{◌≡◌, ◌⊎◌, ⊤, ℕ, ◌*◌, ◌<◌, ◌≤◌, Bool, true, false, List, [], ◌∷◌, ◌++◌, length, map, Option, Some, None, is_some}
+use Rattle.std.specs.Prelude.{◌≡◌, ⊤, ℕ, ◌*◌, ◌<◌, true, false, List, [], ◌∷◌, ◌++◌, length, map, Option, Some, None, is_some}
 use Rattle.std.specs.List.{list_all}
 use Rattle.faulty_source.specs.Journal.{Reading}
 use Rattle.partition_domain.specs.declared.table.Entry.{Entry}

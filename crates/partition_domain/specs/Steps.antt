@@ -1,5 +1,5 @@
 -- What each step of the search for a partition does, by what a source tells.
-use Rattle.std.specs.Prelude.{◌≡◌, ⊤, ℕ, ◌+◌, ◌-◌, ◌<◌, ◌≤◌, ◌^◌, Bool, true, false, IsTrue, List, [], ◌∷◌, ◌++◌, length, All, nat_eq, slice_index_or, Option, Some, None, Result, Ok, Err, if◌then◌else◌}
+use Rattle.std.specs.Prelude.{◌≡◌, ⊤, ℕ, ◌+◌, ◌-◌, ◌<◌, ◌≤◌, ◌^◌, true, false, IsTrue, List, [], ◌∷◌, ◌++◌, length, All, nat_eq, slice_index_or, Option, Some, None, Result, Ok, Err, if◌then◌else◌}
 use Rattle.std.specs.List.{list_all}
 use Rattle.fault_count.specs.Counts.{raised}
 use Rattle.faulty_source.specs.Journal.{Reading}
@@ -101,7 +101,7 @@ abbrev pub passes_by : (k : ℕ) → (c : Chain) → (first second : Entry) → 
 passes_by k c first second =
     if is_used first
     then (if nat_eq c.given (k - 5) then Found (record { first = c.at + first.first; count = first.count })
-        else leads c (c.given + 1) second)
+    else leads c (c.given + 1) second)
     else leads c c.given second
 
 abbrev pub passes : (k : ℕ) → (c : Chain) → List Entry → Link

@@ -1,5 +1,5 @@
 -- What a whole command did, by what the objects tell.
-use Rattle.std.specs.Prelude.{◌≡◌, ◌≤◌, ℕ, Bool, true, false, List, length}
+use Rattle.std.specs.Prelude.{◌≡◌, ℕ, Bool, true, false, List}
 use Rattle.fault_count.specs.Counts.{raised}
 use Rattle.faulty_source.specs.SourceState.{SourceState}
 use Rattle.rescue_console.specs.ConsoleState.{ConsoleState}

@@ -13,6 +13,7 @@ const ENTRY: usize = 16;
 
 /// Where the signature begins, and what it is.
 const SIGNATURE: usize = 510;
+
 const SIGNED: [u8; 2] = [0x55, 0xAA];
 
 /// The types of extended partitions.
@@ -103,12 +104,7 @@ fn number_at(record: &[u8], at: usize) -> u32
     requires { at + 4 ≤ length record.now }
     ensures { result ≡ number_at record.now at }
 {
-    u32::from_le_bytes([
-        record[at],
-        record[at + 1],
-        record[at + 2],
-        record[at + 3],
-    ])
+    u32::from_le_bytes([record[at], record[at + 1], record[at + 2], record[at + 3]])
 }
 
 /// The entry that begins at a byte.
