@@ -6,3 +6,5 @@ pub mod FindLemmas
 pub mod MapLemmas
 pub mod WorkedLemmas
 pub mod PromiseLemmas
+pub mod CompleteLemmas
+pub mod VerdictLemmas

@@ -12,3 +12,4 @@ pub mod Messages
 pub mod Ddrescuepart
 pub mod Steps
 pub mod Worked
+pub mod Laws

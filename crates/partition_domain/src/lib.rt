@@ -7,6 +7,7 @@ pub mod command;
 mod domain;
 pub mod ending;
 mod find;
+pub mod laws;
 mod message;
 pub mod part;
 mod read;
