@@ -1,10 +1,9 @@
 -- A disk brings one answer at most: records bring one at most, behind them nothing is read, and so the same was read.
-use Rattle.std.proofs.Common.{◌≡◌, ◌⊎◌, ℕ, zero, suc, ◌+◌, ◌-◌, ◌<◌, ◌≤◌, Bool, true, false, cond, not, ◌&&◌, nat_le, nat_lt, List, [], ◌∷◌, ◌++◌, length, slice_get, Option, Some, None, is_some, refl, sym, ap, ◌∙◌, inl, inr, subst, arith, append_assoc, append-nil, length-append}
+use Rattle.std.proofs.Common.{◌≡◌, ◌⊎◌, ℕ, zero, suc, ◌-◌, ◌≤◌, Bool, true, false, cond, not, ◌&&◌, nat_le, nat_lt, List, [], ◌∷◌, ◌++◌, length, slice_get, Option, Some, None, is_some, refl, sym, ap, ◌∙◌, inl, inr, subst, arith, append_assoc, append-nil, length-append}
 use Rattle.std.specs.List.{list_all}
 use Rattle.std.specs.Option.{option_and_then}
-use Rattle.std.proofs.lemmas.Bool.{and_from, and_left, and_parts, and_right, both_ways, cond_both, cond-true, cond-false, eqb-true, false_from_ne_true, le-ltb, leb-true, ne_eqb, not-true}
+use Rattle.std.proofs.lemmas.Bool.{and_from, and_left, and_parts, and_right, both_ways, cond_both, cond-true, cond-false, false_from_ne_true, le-ltb, leb-true, ne_eqb, not-true}
 use Rattle.faulty_source.specs.Journal.{Reading}
-use Rattle.work_steps.specs.Work.{Deeds}
 use Rattle.partition_domain.specs.declared.table.Entry.{Entry}
 use Rattle.partition_domain.specs.declared.table.Partition.{Partition}
 use Rattle.partition_domain.specs.declared.ending.PartEnding.{PartEnding}
@@ -13,8 +12,6 @@ use Rattle.partition_domain.specs.Table.{extended, has_signature, is_protected, 
 use Rattle.partition_domain.specs.Chain.{chain_limit, links_on, logical_partitions, next_in_chain}
 use Rattle.partition_domain.specs.Part.{are_records, goes_on, is_lacking, is_primary, logical, next, next_of_chain, partition_of, primary}
 use Rattle.partition_domain.specs.Reads.{AnswersBy, AreNext, Ended, HasPart, IsLast, IsProtected, IsReadOf, IsTooLong, IsUnread, LacksPartition, LacksSignature, Unextended, Unused, records_of}
-use Rattle.partition_domain.specs.Work.{PartWorks}
-use Rattle.partition_domain.specs.Command.{Command}
 use Rattle.partition_domain.specs.Laws.{AreGivenBy, HasOneVerdict, IsVerdict}
 use Rattle.partition_domain.proofs.ChainLemmas.{not_all}
 use Rattle.partition_domain.proofs.CompleteLemmas.{brings}
