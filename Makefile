@@ -1,12 +1,12 @@
-# The usual ways into the repository: `make` proves and builds both programs, `make bin/ddrescue` and
-# `make bin/ddrescuelog` one of them, `make scenes` the player of transcripts, and `make check` runs the gate.
+# The usual ways into the repository: `make` proves and builds the programs, `make bin/ddrescue`, `make bin/ddrescuelog`
+# and `make bin/ddrescuepart` one of them, `make scenes` the player of transcripts, and `make check` runs the gate.
 PREFIX ?= /usr/local
 SOURCES := crates.txt $(shell find crates -path '*/out' -prune -o -type f -print)
 MANUAL := $(DESTDIR)$(PREFIX)/share/man/man1
 
 .PHONY: all scenes check install clean
 
-all: bin/ddrescue bin/ddrescuelog
+all: bin/ddrescue bin/ddrescuelog bin/ddrescuepart
 
 scenes: bin/rescue_scenes
 
@@ -22,6 +22,13 @@ bin/ddrescuelog: $(SOURCES)
 	mkdir -p bin
 	cp crates/ddrescuelog/out/ddrescuelog bin/ddrescuelog
 
+# Proves and builds the program for partitions, and tries it on a table with one entry.
+bin/ddrescuepart: $(SOURCES)
+	trial=$$(mktemp) && trap 'rm -f "$$trial"' EXIT && printf '%450s\203%59s\125\252' '' '' | tr ' ' '\0' > "$$trial" \
+	    && cd crates/ddrescuepart && rt run -- "$$trial" 1 > /dev/null
+	mkdir -p bin
+	cp crates/ddrescuepart/out/ddrescuepart bin/ddrescuepart
+
 # Proves and builds the player of transcripts, and tries it on an empty one.
 bin/rescue_scenes: $(SOURCES)
 	cd crates/rescue_scenes && rt run </dev/null
@@ -31,11 +38,13 @@ bin/rescue_scenes: $(SOURCES)
 check:
 	bash .ci/run
 
-install: bin/ddrescue bin/ddrescuelog
+install: bin/ddrescue bin/ddrescuelog bin/ddrescuepart
 	install -D bin/ddrescue $(DESTDIR)$(PREFIX)/bin/ddrescue
 	install -D bin/ddrescuelog $(DESTDIR)$(PREFIX)/bin/ddrescuelog
+	install -D bin/ddrescuepart $(DESTDIR)$(PREFIX)/bin/ddrescuepart
 	install -D -m 644 man/ddrescue.1 $(MANUAL)/ddrescue.1
 	install -D -m 644 man/ddrescuelog.1 $(MANUAL)/ddrescuelog.1
+	install -D -m 644 man/ddrescuepart.1 $(MANUAL)/ddrescuepart.1
 
 clean:
 	rm -rf bin crates/*/out

@@ -66,6 +66,8 @@ pub(crate) enum Command {
     Run(Words),
     /// A run of ddrescuelog.
     Log(Words),
+    /// A run of ddrescuepart.
+    Part(Words),
     /// So many calls of the site were made, and then a stop came.
     Stop {
         calls: usize,
@@ -99,6 +101,7 @@ pub(crate) fn read_command(alloc: Global, line: &[u8]) -> Result<Command, Refusa
         "fail" => read_fail(fields),
         "run" => Ok(Command::Run(take_words(fields)?)),
         "log" => Ok(Command::Log(take_words(fields)?)),
+        "part" => Ok(Command::Part(take_words(fields)?)),
         "stop" => read_stop(fields),
         "stops" => read_stops(fields),
         "left" => Ok(Command::Left(take_texts(fields)?)),

@@ -5,6 +5,7 @@ mod blocks;
 mod command;
 mod fields;
 mod kinds;
+mod part;
 mod player;
 mod refusal;
 mod results;

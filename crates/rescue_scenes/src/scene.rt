@@ -5,6 +5,7 @@ ghost use Rattle.crash_site.specs.MemoryState.{state_of};
 use crate::blocks::{append_blocks, append_maps};
 use crate::command::{Object, Stops, View};
 use crate::kinds::{KINDS, Left};
+use crate::part::play_part;
 use crate::refusal::Refusal;
 use crate::results::{append_calls, append_console, append_ending, append_reads};
 use crate::shown::{append_escaped, append_lines, append_shown};
@@ -271,6 +272,19 @@ impl Scene {
         append_calls(out, &self.site, made)?;
         append_console(out, &console)?;
         append_ending(out, &ending, ending.code())
+    }
+
+    /// Runs ddrescuepart, and adds its results.
+    pub(crate) fn part(&mut self, words: &Words, out: &mut Vec<u8>) -> Result<(), Refusal> {
+        let mut source = match self.source.take() {
+            Some(source) => source,
+            None => self.stated.make_source(self.alloc)?,
+        };
+        let mut console = self.make_console()?;
+        play_part(self.alloc, words, &mut source, &mut console, out)?;
+        self.silent.clear();
+        self.source = Some(source);
+        Ok(())
     }
 
     /// Puts the site there that a stop leaves.

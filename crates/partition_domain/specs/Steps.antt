@@ -1,0 +1,190 @@
+-- What each step of the search for a partition does, by what a source tells.
+use Rattle.std.specs.Prelude.{◌≡◌, ⊤, ℕ, ◌+◌, ◌-◌, ◌<◌, ◌≤◌, ◌^◌, true, false, IsTrue, List, [], ◌∷◌, ◌++◌, length, All, nat_eq, slice_index_or, Option, Some, None, Result, Ok, Err, if◌then◌else◌}
+use Rattle.std.specs.List.{list_all}
+use Rattle.fault_count.specs.Counts.{raised}
+use Rattle.faulty_source.specs.Journal.{Reading}
+use Rattle.faulty_source.specs.SourceState.{SourceState}
+use Rattle.rescue_console.specs.ConsoleState.{ConsoleState, Puts, PutsPart}
+use Rattle.rescue_console.specs.declared.console.Channel.TheVariants.{Out}
+use Rattle.partition_domain.specs.declared.table.Entry.{Entry}
+use Rattle.partition_domain.specs.declared.table.Partition.{Partition}
+use Rattle.partition_domain.specs.declared.chain.Chain.{Chain}
+use Rattle.partition_domain.specs.declared.chain.Link.{Link}
+use Rattle.partition_domain.specs.declared.chain.Link.TheVariants.{Found, On, End}
+use Rattle.partition_domain.specs.declared.ending.PartEnding.{PartEnding}
+use Rattle.partition_domain.specs.declared.ending.PartEnding.TheVariants.{Done, Usage, SourceFault, SourceLost, Unread, NoSignature, Protective, NoPartition, ChainTooLong, ConsoleFault, NoMemory}
+use Rattle.partition_domain.specs.Table.{entries, extended, has_signature, is_record, is_used, is_whole, sector_size}
+use Rattle.partition_domain.specs.Chain.{links_on, logical_partitions, next_in_chain}
+use Rattle.partition_domain.specs.Part.{are_records, partition_of}
+use Rattle.partition_domain.specs.Reads.{AnswersBy, AreNext, IsReadOf, records_of}
+use Rattle.partition_domain.specs.Told.{IsFrom}
+
+-- the source's journal gained these reads, which gave its own bytes
+pub record Gained (reads : List Reading) (old new : SourceState) : Type 0 where
+  pub told : IsTrue old.tells → new.journal ≡ old.journal ++ reads
+  pub right : IsTrue old.tells → All (IsFrom old.bytes) reads
+
+-- By how much the losses rose where a search stopped. It stops for nothing else.
+abbrev pub StopCounts : PartEnding → (losses losses' : ℕ) → Type 0
+StopCounts Done losses losses' = ⊥
+StopCounts (Usage fault) losses losses' = ⊥
+StopCounts SourceFault losses losses' = ⊥
+StopCounts SourceLost losses losses' = losses' ≡ raised losses
+StopCounts (Unread sector) losses losses' = losses' ≡ losses
+StopCounts (NoSignature sector) losses losses' = losses' ≡ losses
+StopCounts Protective losses losses' = losses' ≡ losses
+StopCounts NoPartition losses losses' = losses' ≡ losses
+StopCounts ChainTooLong losses losses' = losses' ≡ losses
+StopCounts ConsoleFault losses losses' = ⊥
+StopCounts NoMemory losses losses' = ⊥
+
+-- ---- one record
+
+-- a read of the sector, and what it gave
+pub record ReadsOne (sector : ℕ) (reads : List Reading) (last : List ℕ) : Type 0 where
+  pub reading : Reading
+  pub are : reads ≡ reading ∷ []
+  pub is_read : IsReadOf (Some sector) reading
+  pub gave : reading.given ≡ last
+
+-- why there are no entries: the record was lost, or is refused by itself
+abbrev pub StopsAs : (sector : ℕ) → List Reading → PartEnding → Type 0
+StopsAs sector reads Done = ⊥
+StopsAs sector reads (Usage fault) = ⊥
+StopsAs sector reads SourceFault = ⊥
+StopsAs sector reads SourceLost = reads ≡ []
+StopsAs sector reads (Unread s) =
+    (last : List ℕ) × ReadsOne sector reads last × (s ≡ sector) × (length last < sector_size)
+StopsAs sector reads (NoSignature s) =
+    (last : List ℕ) × ReadsOne sector reads last × (s ≡ sector) × (is_whole last ≡ true) × (has_signature last ≡ false)
+StopsAs sector reads Protective = ⊥
+StopsAs sector reads NoPartition = ⊥
+StopsAs sector reads ChainTooLong = ⊥
+StopsAs sector reads ConsoleFault = ⊥
+StopsAs sector reads NoMemory = ⊥
+
+-- the entries of a record that was read, or why there are none
+abbrev pub ReadsAs : (sector : ℕ) → List Reading → Result (List Entry) PartEnding → Type 0
+ReadsAs sector reads (Ok table) =
+    (last : List ℕ) × ReadsOne sector reads last × (is_record last ≡ true) × (table ≡ entries last)
+ReadsAs sector reads (Err e) = StopsAs sector reads e
+
+-- what a read of a record did, by its outcome
+pub record ReadsTable (sector : ℕ) (result : Result (List Entry) PartEnding) (old new : SourceState) : Type 0 where
+  pub reads : List Reading
+  pub gained : Gained reads old new
+  pub as_ : ReadsAs sector reads result
+
+-- ---- the chain
+
+-- the numbers of a search in a chain are small, and it hasn't given the partition yet
+pub record IsNear (k : ℕ) (c : Chain) : Type 0 where
+  pub logical : 5 ≤ k
+  pub at : c.at < 2 ^ 33
+  pub given : c.given ≤ k - 5
+  pub read : c.read ≤ 128
+
+-- that behind one more record, or of the partition that it gives
+abbrev pub LeadsNear : (k : ℕ) → (c : Chain) → Link → Type 0
+LeadsNear k c (Found p) = (p.first < 2 ^ 34) × (p.count < 2 ^ 32)
+LeadsNear k c (On n) = IsNear k n × (n.read ≡ c.read + 1)
+LeadsNear k c End = ⊤
+
+-- the chain behind a record with this second entry, if that is used
+abbrev pub leads : (c : Chain) → (given : ℕ) → (second : Entry) → Link
+leads c given second =
+    if is_used second
+    then On (record { base = c.base; at = c.base + second.first; given = given; read = c.read + 1 }) else End
+
+-- what comes of a record with these first two entries
+abbrev pub passes_by : (k : ℕ) → (c : Chain) → (first second : Entry) → Link
+passes_by k c first second =
+    if is_used first
+    then (if nat_eq c.given (k - 5) then Found (record { first = c.at + first.first; count = first.count })
+    else leads c (c.given + 1) second)
+    else leads c c.given second
+
+abbrev pub passes : (k : ℕ) → (c : Chain) → List Entry → Link
+passes k c [] = End
+passes k c (first ∷ []) = End
+passes k c (first ∷ second ∷ more) = passes_by k c first second
+
+-- how far a chain was read, by the records that were read of it: each is one, and links on
+pub record StandsBehind (main : List ℕ) (c : Chain) (chain : List (List ℕ)) : Type 0 where
+  pub e : Entry
+  pub is_extended : extended main ≡ Some e
+  pub base : c.base ≡ e.first
+  pub are : are_records main chain ≡ true
+  pub links : list_all links_on chain ≡ true
+  pub at : c.at ≡ next_in_chain e.first chain
+  pub given : c.given ≡ length (logical_partitions e.first chain)
+  pub read : c.read ≡ length chain
+
+-- what comes of the next record of a chain, by all records that were read of it
+abbrev pub TurnsTo : (k : ℕ) → (main : List ℕ) → (chain : List (List ℕ)) → Result Link PartEnding → Type 0
+TurnsTo k main chain (Ok (Found p)) = partition_of (main ∷ chain) k ≡ Some p
+TurnsTo k main chain (Ok (On c)) = StandsBehind main c chain
+TurnsTo k main chain (Ok End) = AnswersBy NoPartition k (main ∷ chain)
+TurnsTo k main chain (Err e) = AnswersBy e k (main ∷ chain)
+
+-- the next record was read, or lost
+pub record Turned (k : ℕ) (main : List ℕ) (chain : List (List ℕ)) (result : Result Link PartEnding)
+    (old new : SourceState) : Type 0 where
+  pub reads : List Reading
+  pub gained : Gained reads old new
+  pub next : AreNext k (main ∷ chain) reads
+  pub to : TurnsTo k main (chain ++ records_of reads) result
+
+-- what a turn does, wherever the chain stands
+abbrev pub Turns : (k : ℕ) → (main : List ℕ) → (c : Chain) → (chain : List (List ℕ)) → Result Link PartEnding
+    → (old new : SourceState) → Type 0
+Turns k main c chain result old new = StandsBehind main c chain → Turned k main chain result old new
+
+-- ---- the whole search
+
+-- what a search comes to, by the records that were read
+abbrev pub ComesTo : (k : ℕ) → (records : List (List ℕ)) → Result Partition PartEnding → Type 0
+ComesTo k records (Ok p) = partition_of records k ≡ Some p
+ComesTo k records (Err e) = AnswersBy e k records
+
+-- what a search did behind these records
+pub record Searched (k : ℕ) (before : List (List ℕ)) (result : Result Partition PartEnding) (old new : SourceState)
+    : Type 0 where
+  pub reads : List Reading
+  pub gained : Gained reads old new
+  pub next : AreNext k before reads
+  pub to : ComesTo k (before ++ records_of reads) result
+
+-- behind the first record, which leads on to a chain
+pub record IsLed (main : List ℕ) (base : ℕ) : Type 0 where
+  pub e : Entry
+  pub are : are_records main [] ≡ true
+  pub is_extended : extended main ≡ Some e
+  pub base_is : e.first ≡ base
+
+abbrev pub SearchesBehind : (k : ℕ) → (main : List ℕ) → Result Partition PartEnding → (old new : SourceState) → Type 0
+SearchesBehind k main result old new = Searched k (main ∷ []) result old new
+
+-- from the beginning
+abbrev pub Searches : (k : ℕ) → Result Partition PartEnding → (old new : SourceState) → Type 0
+Searches k result old new = Searched k [] result old new
+
+-- the partition of one of the entries of the first record, counted from 1, if it is used
+abbrev pub partition_at : List Entry → (k : ℕ) → Option Partition
+partition_at table k =
+    let e = slice_index_or table (k - 1) (record { kind = 0; first = 0; count = 0 }) in
+    if is_used e then Some (record { first = e.first; count = e.count }) else None
+
+-- what is put of a text, by its answer
+abbrev pub PrintsAs : PartEnding → (text : List ℕ) → (old new : ConsoleState) → Type 0
+PrintsAs Done text old new = Puts Out text old new
+PrintsAs (Usage fault) text old new = ⊥
+PrintsAs SourceFault text old new = ⊥
+PrintsAs SourceLost text old new = ⊥
+PrintsAs (Unread sector) text old new = ⊥
+PrintsAs (NoSignature sector) text old new = ⊥
+PrintsAs Protective text old new = ⊥
+PrintsAs NoPartition text old new = ⊥
+PrintsAs ChainTooLong text old new = ⊥
+PrintsAs ConsoleFault text old new = PutsPart Out text old new
+PrintsAs NoMemory text old new = ⊥

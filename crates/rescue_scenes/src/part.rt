@@ -1,0 +1,27 @@
+//! A run of ddrescuepart.
+use crate::refusal::Refusal;
+use crate::results::{append_console, append_ending, append_reads};
+use faulty_source::memory::MemorySource;
+use option_words::words::Words;
+use partition_domain::ending::PartEnding;
+use partition_domain::part::ddrescuepart;
+use rescue_console::memory::MemoryConsole;
+use std::alloc::Global;
+
+/// Runs ddrescuepart, and adds its results. Where it finds no memory there is no answer: a scene can't ask for that.
+pub(crate) fn play_part(
+    alloc: Global,
+    words: &Words,
+    source: &mut MemorySource,
+    console: &mut MemoryConsole,
+    out: &mut Vec<u8>,
+) -> Result<(), Refusal> {
+    let read = source.journal().len();
+    let ending = ddrescuepart(alloc, words, source, console);
+    if matches!(ending, PartEnding::NoMemory) || console.starved() > 0 {
+        return Err(Refusal::NoMemory);
+    }
+    append_reads(out, source.journal().get(read..).unwrap_or(&[]))?;
+    append_console(out, console)?;
+    append_ending(out, &ending, ending.code())
+}
