@@ -8,3 +8,4 @@ pub mod HeldLemmas
 pub mod LookupLemmas
 pub mod PushLemmas
 pub mod TypeLemmas
+pub mod AreaLemmas

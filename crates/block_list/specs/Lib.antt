@@ -1,5 +1,6 @@
 pub mod Status
 pub mod Types
+pub mod Areas
 pub mod Map
 pub mod Stretches
 pub mod Tiled

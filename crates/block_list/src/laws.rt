@@ -2,6 +2,7 @@
 ghost use Rattle.std.specs.Prelude.{List};
 ghost use Rattle.block_list.specs.declared.status.Status.{Status};
 ghost use Rattle.block_list.specs.Stretches.{stretches, AreStretches, OneStretchHolds, StretchesMeet, StretchesGoOn};
+ghost use Rattle.block_list.specs.Areas.{AreasAreIntervals, AreasChangeWithin};
 ghost use Rattle.block_list.specs.Types.{TypesAreCharacters};
 
 /// The stretches of a map are maximal, tile it from 0 on, and together are the map.
@@ -24,4 +25,15 @@ pub fn stretches_go_on()
 /// text has its character.
 pub fn types_are_characters()
     ensures { TypesAreCharacters }
+{}
+
+/// The areas of a set of positions, counted by where they begin, are its maximal intervals.
+pub fn areas_are_intervals()
+    ensures { AreasAreIntervals }
+{}
+
+/// Where a set of positions changes from one position up to another, areas begin and cease to begin there alone, or at
+/// the second one.
+pub fn areas_change_within()
+    ensures { AreasChangeWithin }
 {}

@@ -1,6 +1,7 @@
 //! The map of a rescue: a status for each position, kept as blocks of equal statuses.
 #![tactic(auto)]
 
+pub mod areas;
 pub mod block;
 mod edits;
 pub mod laws;

@@ -7,6 +7,7 @@ use Rattle.rescue_rules.specs.Machine.{Machine}
 use Rattle.rescue_rules.specs.Step.{Event, step}
 use Rattle.rescue_rules.specs.Moves.{Move, begun, ready, moves, state_after, IsMove, IsRun}
 use Rattle.rescue_rules.specs.RunCalls.{move_calls, run_calls}
+use Rattle.rescue_rules.specs.Lines.{move_lines, run_lines}
 use Rattle.rescue_rules.proofs.MoveLemmas.{moves_append, state_append, run_append}
 use Rattle.rescue_rules.proofs.ReadyLemmas.{Stays, stays_ready, ready_on}
 use Rattle.copy_passes.specs.Turns.{IsAlike}
@@ -26,6 +27,8 @@ alike_by s m n same =
       due_at = sym b.due_at ∙ ap (λ (k : Machine). k.due_at) same ∙ a.due_at;
       shown = sym b.shown ∙ ap (λ (k : Machine). k.shown) same ∙ a.shown;
       over = sym b.over ∙ ap (λ (k : Machine). k.over) same ∙ a.over;
+      written = sym b.written ∙ ap (λ (k : Machine). k.written) same ∙ a.written;
+      said = sym b.said ∙ ap (λ (k : Machine). k.said) same ∙ a.said;
       next = same;
     }
 
@@ -61,6 +64,7 @@ pub record RunMore (s : Setting) (m n : Machine) (front back : List Event) : Typ
   pub run : IsRun s m (front ++ back)
   pub state : IsAlike s (state_after s m (front ++ back)) (state_after s n back)
   pub calls : run_calls s m (front ++ back) ≡ run_calls s m front ++ run_calls s n back
+  pub lines : run_lines s m (front ++ back) ≡ run_lines s m front ++ run_lines s n back
 
 pub run_more : (s : Setting) (m n : Machine) (front back : List Event) → IsRun s m front → IsAlike s (state_after s m front) n
     → IsRun s n back → RunMore s m n front back
@@ -73,6 +77,7 @@ run_more s m n front back first alike rest =
       state = alike_by s (state_after s m (front ++ back)) (state_after s n back)
           (next_alike s k n back alike.next ∙ ap (ready s) (sym (state_append s m front back)));
       calls = ap (flat_map (move_calls s)) all ∙ flat_map-append (move_calls s) (moves s m front) (moves s n back);
+      lines = ap (flat_map (move_lines s)) all ∙ flat_map-append (move_lines s) (moves s m front) (moves s n back);
     }
 
 -- alike states, one after another

@@ -212,7 +212,7 @@ ahead_is s m number x is = ap (λ (f : Search). is_ahead f x) (search_is s m num
 -- the last pass leaves nothing behind an event of its request
 leaves_none : (r : RunState) (e : Event) → IsCopying r → r.pass ≡ copying_passes
     → IsRequest (setting_in r) r.machine e.reading.pos (e.reading.pos + e.reading.asked) → StepsBy (setting_in r) r.machine e
-    → length e.reading.given ≤ e.reading.asked → LeavesNone (setting_in r) (stepped r e).machine
+    → length e.reading.given ≤ e.reading.asked → LeavesNone (setting_in r) (step (setting_in r) r.machine e)
 leaves_none r e c last asks by few =
     let s : Setting = setting_in r in
     let m : Machine = r.machine in
@@ -237,15 +237,15 @@ leaves_none r e c last asks by few =
     }
 
 -- An event of its request, and what it does.
-pub record CopyStep (r : RunState) (e : Event) : Type 0 where
+pub record CopyStep (r : RunState) (e : Event) (heard : Bool) : Type 0 where
   pub steps : StepsBy (setting_in r) r.machine e
-  pub less : ahead_of (stepped r e) < ahead_of r
-  pub copying : IsCopying (stepped r e)
+  pub less : ahead_of (stepped r e heard) < ahead_of r
+  pub copying : IsCopying (stepped r e heard)
 
-pub copy_steps : (r : RunState) (e : Event) → IsCopying r
+pub copy_steps : (r : RunState) (e : Event) (heard : Bool) → IsCopying r
     → IsRequest (setting_in r) r.machine e.reading.pos (e.reading.pos + e.reading.asked)
-    → length e.reading.given ≤ e.reading.asked → CopyStep r e
-copy_steps r e c asks few =
+    → length e.reading.given ≤ e.reading.asked → CopyStep r e heard
+copy_steps r e heard c asks few =
     let s : Setting = setting_in r in
     let m : Machine = r.machine in
     let p : ℕ = e.reading.pos in

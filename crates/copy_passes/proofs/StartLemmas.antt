@@ -27,8 +27,8 @@ last_cursor s (Some state) map last =
     ∙ ap (λ (n : ℕ). start_of s (numbered Copying n) map) (sym last)
 
 pub start_may_copy : StartMayCopy
-start_may_copy settings domain names line map loaded moment sound suits =
-    let r : RunState = started settings domain names line map loaded moment in
+start_may_copy settings domain names line map loaded moment heard sound suits =
+    let r : RunState = started settings domain names line map loaded moment heard in
     let s : Setting = setting_with settings domain names line in
     record {
       sensible = record {

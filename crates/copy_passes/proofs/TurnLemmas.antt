@@ -1,16 +1,22 @@
 -- Turns of copying, one after another, and one that stops.
-use Rattle.std.proofs.Common.{◌≡◌, ℕ, ◌+◌, ◌<◌, ◌≤◌, ◌^◌, true, false, IsTrue, List, [], ◌∷◌, ◌++◌, length, drop, All, refl, sym, ap, ◌∙◌, arith, subst, append_assoc, append-nil}
+use Rattle.std.proofs.Common.{◌≡◌, ℕ, ◌+◌, ◌<◌, ◌≤◌, ◌^◌, Bool, true, false, IsTrue, List, [], ◌∷◌, ◌++◌, length, drop, All, refl, sym, ap, ◌∙◌, arith, subst, append_assoc, append-nil}
 use Rattle.std.specs.List.{slice_range}
+use Rattle.std.proofs.lemmas.List.{map-append}
 use Rattle.std.proofs.lemmas.List.Elements.{All-nil, All-cons, All-append}
 use Rattle.faulty_source.specs.Journal.{Reading}
 use Rattle.faulty_source.specs.SourceState.{SourceState, Stays as SourceStays, Reads}
 use Rattle.faulty_source.proofs.Keeping.{stays_self, stays_more, reads_more}
 use Rattle.crash_site.specs.Calls.{Call}
-use Rattle.crash_site.specs.SiteState.{SiteState, Keeps as SiteKeeps, Makes}
+use Rattle.crash_site.specs.SiteState.{SiteState, Makes}
 use Rattle.save_resume.proofs.CallLemmas.{made_more}
 use Rattle.save_resume.proofs.FillLemmas.{keeps_self, keeps_more}
+use Rattle.rescue_console.specs.declared.console.Channel.TheVariants.{Out}
 use Rattle.rescue_console.specs.ClockState.{ClockState, Keeps as ClockKeeps, Reads as ReadsClock}
+use Rattle.rescue_console.specs.ConsoleState.{ConsoleState}
+use Rattle.rescue_console.specs.Speaking.{Piece, SpeaksOn, out_pieces}
+use Rattle.rescue_console.proofs.SpeakingLemmas.{speeches_join}
 use Rattle.transfer_token.specs.declared.token.Request.{Request}
+use Rattle.rescue_rules.specs.declared.phase.Phase.{Phase}
 use Rattle.rescue_rules.specs.declared.phase.Phase.TheVariants.{Copying}
 use Rattle.rescue_rules.specs.declared.stop.Stop.{Stop}
 use Rattle.rescue_rules.specs.Setting.{Setting}
@@ -20,33 +26,47 @@ use Rattle.rescue_rules.specs.Step.{Event, step}
 use Rattle.rescue_rules.specs.Moves.{Move, move_of, ready, state_after, IsMove, IsRun}
 use Rattle.rescue_rules.specs.Events.{reads_of, times_of}
 use Rattle.rescue_rules.specs.RunCalls.{move_calls, run_calls}
+use Rattle.rescue_rules.specs.Lines.{move_lines, run_lines}
 use Rattle.rescue_rules.specs.Laws.{AreTimes}
 use Rattle.rescue_rules.proofs.MoveLemmas.{reads_append}
 use Rattle.rescue_rules.proofs.ReadyLemmas.{ready_here}
 use Rattle.rescue_rules.proofs.SearchLemmas.{request_seen}
 use Rattle.rescue_domain.specs.Parts.{covers}
 use Rattle.rescue_core.specs.declared.turn.Turn.{Turn}
+use Rattle.rescue_core.specs.Across.{Across}
 use Rattle.rescue_core.specs.RunState.{RunState, setting_in, passed, HasPlaces}
-use Rattle.rescue_core.specs.Turning.{IsEvent, stepped, move_by, Turned, Halted}
-use Rattle.copy_passes.specs.Turns.{Across, IsFrom, IsAlike, moved_to, Went, WentUpTo}
-use Rattle.copy_passes.specs.Copying.{IsCopying, CopiesOn}
+use Rattle.rescue_core.specs.Turning.{IsEvent, move_by, Turned, Halted}
+use Rattle.rescue_core.specs.Closing.{drafting_after}
+use Rattle.rescue_core.proofs.TurnEndLemmas.{says_none}
+use Rattle.copy_passes.specs.Turns.{IsFrom, IsAlike, moved_to, Went, WentUpTo, ObjectsStay, GoesOn}
+use Rattle.copy_passes.specs.Copying.{IsCopying}
 use Rattle.copy_passes.proofs.AlikeLemmas.{alike_by, alike_on, next_pass_is_alike, RunMore, run_more}
 use Rattle.copy_passes.proofs.CopyingLemmas.{ahead_of, CopyStep, copy_steps, two_of, copying_passed}
 
--- What the objects tell, across two things done one after the other.
-pub source_self : (a : SourceState) → SourceStays a a
-source_self = stays_self
+-- what the objects tell, named apart
+abbrev pub between : (a b : SourceState) (d e : SiteState) (k l : ClockState) (x y : ConsoleState) → Across
+between a b d e k l x y = record {
+  source = a;
+  source' = b;
+  site = d;
+  site' = e;
+  clock = k;
+  clock' = l;
+  console = x;
+  console' = y;
+}
 
+-- What the objects tell, across two things done one after the other.
 pub source_stays : (a b c : SourceState) → SourceStays a b → SourceStays b c → SourceStays a c
 source_stays = stays_more
 
-pub clock_self : (a : ClockState) → ClockKeeps a a
+clock_self : (a : ClockState) → ClockKeeps a a
 clock_self a = record { planned = refl; plan = refl }
 
-pub clock_keeps : (a b c : ClockState) → ClockKeeps a b → ClockKeeps b c → ClockKeeps a c
+clock_keeps : (a b c : ClockState) → ClockKeeps a b → ClockKeeps b c → ClockKeeps a c
 clock_keeps a b c f g = record { planned = g.planned ∙ f.planned; plan = g.plan ∙ f.plan }
 
-timed_more : (xs ys : List ℕ) (a b c : ClockState) → ReadsClock xs a b → ReadsClock ys b c → ReadsClock (xs ++ ys) a c
+pub timed_more : (xs ys : List ℕ) (a b c : ClockState) → ReadsClock xs a b → ReadsClock ys b c → ReadsClock (xs ++ ys) a c
 timed_more xs ys a b c f g = record {
   tells = λ now. f.tells (g.tells now);
   told = λ now. g.told now ∙ ap (λ (r : List ℕ). r ++ ys) (f.told (g.tells now)) ∙ append_assoc a.readings xs ys;
@@ -58,14 +78,23 @@ makes_more xs ys a b c same f g = record {
   faults = g.faults ∙ f.faults;
 }
 
-times_append : (front back : List Event) → times_of (front ++ back) ≡ times_of front ++ times_of back
+pub times_append : (front back : List Event) → times_of (front ++ back) ≡ times_of front ++ times_of back
 times_append [] back = refl
 times_append (e ∷ front) back = ap (λ (ts : List ℕ). e.before ∷ e.after ∷ ts) (times_append front back)
 
+abbrev out_piece : List ℕ → Piece
+out_piece text = record { channel = Out; text = text }
+
+pub says_more : (front back : List (List ℕ)) (h h1 h2 : Bool) (x y z : ConsoleState) → SpeaksOn (out_pieces front) h h1 x y
+    → SpeaksOn (out_pieces back) h1 h2 y z → SpeaksOn (out_pieces (front ++ back)) h h2 x z
+says_more front back h h1 h2 x y z f g =
+    subst (λ (ps : List Piece). SpeaksOn ps h h2 x z) (sym (map-append out_piece front back))
+    (speeches_join (out_pieces front) (out_pieces back) h h1 h2 x y z f g)
+
 -- no turn
-pub went_none : (r : RunState) (a : SourceState) (d : SiteState) (k : ClockState)
-    → Went r r (record { source = a; source' = a; site = d; site' = d; clock = k; clock' = k })
-went_none r a d k = record {
+went_none : (r : RunState) (a : SourceState) (d : SiteState) (k : ClockState) (x : ConsoleState)
+    → Went r r (between a a d d k k x x)
+went_none r a d k x = record {
   events = [];
   run = record { each = All-nil (IsMove (setting_in r)) };
   stands = refl;
@@ -75,6 +104,7 @@ went_none r a d k = record {
   timed = record { tells = λ now. now; told = λ now. sym (append-nil k.readings) };
   fit = All-nil (λ t. t < 2 ^ 64);
   made = record { made = λ tells. sym (append-nil d.calls); faults = refl };
+  says = says_none r.heard x;
 }
 
 -- an event of a run's request is a run
@@ -82,8 +112,9 @@ pub record IsOneMove (r : RunState) (e : Event) : Type 0 where
   pub asks : IsRequest (setting_in r) r.machine e.reading.pos (e.reading.pos + e.reading.asked)
   pub few : length e.reading.given ≤ e.reading.asked
   pub run : IsRun (setting_in r) r.machine (e ∷ [])
-  pub state : IsAlike (setting_in r) (state_after (setting_in r) r.machine (e ∷ [])) (stepped r e).machine
+  pub state : IsAlike (setting_in r) (state_after (setting_in r) r.machine (e ∷ [])) (move_by r e).after
   pub calls : run_calls (setting_in r) r.machine (e ∷ []) ≡ move_calls (setting_in r) (move_by r e)
+  pub lines : run_lines (setting_in r) r.machine (e ∷ []) ≡ move_lines (setting_in r) (move_by r e)
 
 pub one_move : (r : RunState) (request : Request) (e : Event) (a a2 : SourceState) (k k2 : ClockState)
     → IsRequest (setting_in r) r.machine request.pos (request.pos + request.len) → IsEvent request e a a2 k k2 → IsOneMove r e
@@ -100,8 +131,9 @@ one_move r request e a a2 k k2 asks is =
       asks = asks';
       few = few;
       run = record { each = All-cons (IsMove s) (move_of s m e) [] one (All-nil (IsMove s)) };
-      state = alike_by s (move_of s m e).after (stepped r e).machine (ap (λ (v : Move). ready s v.after) (sym moved));
+      state = alike_by s (move_of s m e).after (move_by r e).after (ap (λ (v : Move). ready s v.after) (sym moved));
       calls = append-nil (move_calls s (move_of s m e)) ∙ ap (λ (v : Move). move_calls s v) moved;
+      lines = append-nil (move_lines s (move_of s m e)) ∙ ap (λ (v : Move). move_lines s v) moved;
     }
 
 own_bytes : (request : Request) (e : Event) (a a2 : SourceState) (k k2 : ClockState) → IsEvent request e a a2 k k2
@@ -110,24 +142,27 @@ own_bytes request e a a2 k k2 is tells =
     is.right tells ∙ ap (λ (pos : ℕ). slice_range a.bytes pos (pos + length e.reading.given)) (sym is.pos)
 
 -- one turn
-pub went_one : (r r2 : RunState) (request : Request) (turn : Turn) (a a2 : SourceState) (d d2 : SiteState) (k k2 : ClockState)
-    → IsRequest (setting_in r) r.machine request.pos (request.pos + request.len) → Turned request turn r r2 a a2 d d2 k k2
-    → Went r r2 (record { source = a; source' = a2; site = d; site' = d2; clock = k; clock' = k2 })
-went_one r r2 request turn a a2 d d2 k k2 asks t =
+went_one : (r r2 : RunState) (request : Request) (turn : Turn) (o : Across)
+    → IsRequest (setting_in r) r.machine request.pos (request.pos + request.len) → Turned request turn r r2 o → Went r r2 o
+went_one r r2 request turn o asks t =
     let e : Event = t.event in
     let s : Setting = setting_in r in
-    let one : IsOneMove r e = one_move r request e a a2 k k2 asks t.is in
+    let one : IsOneMove r e = one_move r request e o.source o.source' o.clock o.clock' asks t.is in
     let small : ℕ → Type 0 = λ n. n < 2 ^ 64 in
+    let from : Reading → Type 0 = IsFrom o.source.bytes in
     record {
       events = e ∷ [];
       run = one.run;
       stands = subst (λ (q : RunState). q ≡ moved_to r q) (sym t.steps) refl;
       state = subst (λ (q : RunState). IsAlike s (state_after s r.machine (e ∷ [])) q.machine) (sym t.steps) one.state;
       read = t.is.read;
-      right = λ tells. All-cons (IsFrom a.bytes) e.reading [] (own_bytes request e a a2 k k2 t.is tells) (All-nil (IsFrom a.bytes));
+      right = λ tells. All-cons from e.reading []
+          (own_bytes request e o.source o.source' o.clock o.clock' t.is tells) (All-nil from);
       timed = t.is.times;
       fit = All-cons small e.before (e.after ∷ []) t.is.before (All-cons small e.after [] t.is.after (All-nil small));
-      made = subst (λ (cs : List Call). Makes cs d d2) (sym one.calls) t.calls;
+      made = subst (λ (cs : List Call). Makes cs o.site o.site') (sym one.calls) t.calls;
+      says = subst (λ (ls : List (List ℕ)). SpeaksOn (out_pieces ls) r.heard r2.heard o.console o.console') (sym one.lines)
+          t.says;
     }
 
 -- the setting of a run stands
@@ -135,12 +170,10 @@ pub setting_stands : (r q : RunState) → q ≡ moved_to r q → setting_in q �
 setting_stands r q stands = ap setting_in stands
 
 -- turns behind turns
-pub went_on : (r r1 r2 : RunState) (a b c : SourceState) (d e f : SiteState) (k l n : ClockState)
-    → Went r r1 (record { source = a; source' = b; site = d; site' = e; clock = k; clock' = l })
-    → SourceStays a b → e.tells ≡ d.tells
-    → Went r1 r2 (record { source = b; source' = c; site = e; site' = f; clock = l; clock' = n })
-    → Went r r2 (record { source = a; source' = c; site = d; site' = f; clock = k; clock' = n })
-went_on r r1 r2 a b c d e f k l n w stays tells_site v =
+pub went_on : (r r1 r2 : RunState) (a b c : SourceState) (d e f : SiteState) (k l n : ClockState) (x y z : ConsoleState)
+    → Went r r1 (between a b d e k l x y) → SourceStays a b → e.tells ≡ d.tells → Went r1 r2 (between b c e f l n y z)
+    → Went r r2 (between a c d f k n x z)
+went_on r r1 r2 a b c d e f k l n x y z w stays tells_site v =
     let s : Setting = setting_in r in
     let same : setting_in r1 ≡ s = setting_stands r r1 w.stands in
     let run : IsRun s r1.machine v.events = subst (λ (t : Setting). IsRun t r1.machine v.events) same v.run in
@@ -148,6 +181,8 @@ went_on r r1 r2 a b c d e f k l n w stays tells_site v =
     subst (λ (t : Setting). IsAlike t (state_after t r1.machine v.events) r2.machine) same v.state in
     let made : Makes (run_calls s r1.machine v.events) e f =
     subst (λ (t : Setting). Makes (run_calls t r1.machine v.events) e f) same v.made in
+    let says : SpeaksOn (out_pieces (run_lines s r1.machine v.events)) r1.heard r2.heard y z =
+    subst (λ (t : Setting). SpeaksOn (out_pieces (run_lines t r1.machine v.events)) r1.heard r2.heard y z) same v.says in
     let more : RunMore s r.machine r1.machine w.events v.events =
     run_more s r.machine r1.machine w.events v.events w.run w.state run in
     let reads : reads_of w.events ++ reads_of v.events ≡ reads_of (w.events ++ v.events) = sym (reads_append w.events v.events) in
@@ -169,153 +204,163 @@ went_on r r1 r2 a b c d e f k l n w stays tells_site v =
       fit = subst AreTimes times (All-append small (times_of w.events) (times_of v.events) w.fit v.fit);
       made = subst (λ (cs : List Call). Makes cs d f) (sym more.calls)
           (makes_more (run_calls s r.machine w.events) (run_calls s r1.machine v.events) d e f tells_site w.made made);
+      says = subst (λ (ls : List (List ℕ)). SpeaksOn (out_pieces ls) r.heard r2.heard x z) (sym more.lines)
+          (says_more (run_lines s r.machine w.events) (run_lines s r1.machine v.events) r.heard r1.heard r2.heard x y z
+          w.says says);
     }
 
 -- a turn that stopped behind turns behind turns
 pub went_up_to_on : (stop : Stop) (r r1 r2 : RunState) (a b c : SourceState) (d e f : SiteState) (k l n : ClockState)
-    → Went r r1 (record { source = a; source' = b; site = d; site' = e; clock = k; clock' = l })
-    → SourceStays a b → e.tells ≡ d.tells
-    → WentUpTo stop r1 r2 (record { source = b; source' = c; site = e; site' = f; clock = l; clock' = n })
-    → WentUpTo stop r r2 (record { source = a; source' = c; site = d; site' = f; clock = k; clock' = n })
-went_up_to_on stop r r1 r2 a b c d e f k l n w stays tells_site u = record {
+    (x y z : ConsoleState) → Went r r1 (between a b d e k l x y) → SourceStays a b → e.tells ≡ d.tells
+    → WentUpTo stop r1 r2 (between b c e f l n y z) → WentUpTo stop r r2 (between a c d f k n x z)
+went_up_to_on stop r r1 r2 a b c d e f k l n x y z w stays tells_site u = record {
   between = u.between;
   source_between = u.source_between;
   site_between = u.site_between;
   clock_between = u.clock_between;
-  went = went_on r r1 u.between a b u.source_between d e u.site_between k l u.clock_between w stays tells_site u.went;
+  console_between = u.console_between;
+  went = went_on r r1 u.between a b u.source_between d e u.site_between k l u.clock_between x y u.console_between w stays
+      tells_site u.went;
   source = source_stays a b u.source_between stays u.source;
   site_tells = u.site_tells ∙ tells_site;
   request = u.request;
   asks = u.asks;
   halted = u.halted;
+  draft = u.draft;
 }
 
--- Copying begins,
-pub begins : (r : RunState) (a : SourceState) (d : SiteState) (k : ClockState) → IsCopying r
-    → HasPlaces r.settings (covers r.domain) → a.is_open ≡ true → d.is_open ≡ true → d.is_drafting ≡ false
-    → CopiesOn r r (record { source = a; source' = a; site = d; site' = d; clock = k; clock' = k })
-begins r a d k copying places input image no_draft = record {
-  copying = copying;
-  places = places;
-  went = went_none r a d k;
-  input = input;
-  image = image;
-  no_draft = no_draft;
-  source = source_self a;
-  site = keeps_self d;
-  clock = clock_self k;
-}
-
--- goes on by what goes on from there,
-pub goes_on : (r r1 r2 : RunState) (a b c : SourceState) (d e f : SiteState) (k l n : ClockState)
-    → CopiesOn r r1 (record { source = a; source' = b; site = d; site' = e; clock = k; clock' = l })
-    → CopiesOn r1 r2 (record { source = b; source' = c; site = e; site' = f; clock = l; clock' = n })
-    → CopiesOn r r2 (record { source = a; source' = c; site = d; site' = f; clock = k; clock' = n })
-goes_on r r1 r2 a b c d e f k l n i j = record {
-  copying = j.copying;
-  places = j.places;
-  went = went_on r r1 r2 a b c d e f k l n i.went i.source i.site.tells j.went;
-  input = j.input;
-  image = j.image;
-  no_draft = j.no_draft;
+pub objects_stay : (a b c : SourceState) (d e f : SiteState) (k l n : ClockState) (x y z : ConsoleState)
+    → ObjectsStay (between a b d e k l x y) → ObjectsStay (between b c e f l n y z) → ObjectsStay (between a c d f k n x z)
+objects_stay a b c d e f k l n x y z i j = record {
   source = source_stays a b c i.source j.source;
   site = keeps_more d e f i.site j.site;
+  image = j.image;
   clock = clock_keeps k l n i.clock j.clock;
 }
 
--- by a turn,
-pub turn_step : (r r2 : RunState) (request : Request) (turn : Turn) (a a2 : SourceState) (d d2 : SiteState) (k k2 : ClockState)
-    → IsCopying r → IsRequest (setting_in r) r.machine request.pos (request.pos + request.len)
-    → (t : Turned request turn r r2 a a2 d d2 k k2) → CopyStep r t.event
-turn_step r r2 request turn a a2 d d2 k k2 copying asks t =
-    let one : IsOneMove r t.event = one_move r request t.event a a2 k k2 asks t.is in
-    copy_steps r t.event copying one.asks one.few
+-- A run begins,
+pub begins : (r : RunState) (a : SourceState) (d : SiteState) (k : ClockState) (x : ConsoleState)
+    → HasPlaces r.settings (covers r.domain) → a.is_open ≡ true → d.is_open ≡ true → d.is_drafting ≡ false
+    → GoesOn r r (between a a d d k k x x)
+begins r a d k x places input image no_draft = record {
+  places = places;
+  went = went_none r a d k x;
+  input = input;
+  no_draft = no_draft;
+  objects = record { source = stays_self a; site = keeps_self d; image = image; clock = clock_self k };
+}
 
-pub goes_on_by_turn : (r r1 r2 : RunState) (request : Request) (turn : Turn) (a b c : SourceState) (d e f : SiteState) (k l n : ClockState)
-    → CopiesOn r r1 (record { source = a; source' = b; site = d; site' = e; clock = k; clock' = l })
+-- goes on by what goes on from there,
+pub goes_on : (r r1 r2 : RunState) (a b c : SourceState) (d e f : SiteState) (k l n : ClockState) (x y z : ConsoleState)
+    → GoesOn r r1 (between a b d e k l x y) → GoesOn r1 r2 (between b c e f l n y z) → GoesOn r r2 (between a c d f k n x z)
+goes_on r r1 r2 a b c d e f k l n x y z i j = record {
+  places = j.places;
+  went = went_on r r1 r2 a b c d e f k l n x y z i.went i.objects.source i.objects.site.tells j.went;
+  input = j.input;
+  no_draft = j.no_draft;
+  objects = objects_stay a b c d e f k l n x y z i.objects j.objects;
+}
+
+-- by a turn,
+pub goes_on_by_turn : (r r1 r2 : RunState) (request : Request) (turn : Turn) (a b c : SourceState) (d e f : SiteState)
+    (k l n : ClockState) (x y z : ConsoleState) → GoesOn r r1 (between a b d e k l x y)
     → IsRequest (setting_in r1) r1.machine request.pos (request.pos + request.len)
-    → Turned request turn r1 r2 b c e f l n → SourceStays b c → SiteKeeps e f → ClockKeeps l n → f.is_open ≡ true
-    → f.is_drafting ≡ false → CopiesOn r r2 (record { source = a; source' = c; site = d; site' = f; clock = k; clock' = n })
-goes_on_by_turn r r1 r2 request turn a b c d e f k l n i asks t source site clock image no_draft =
-    let by : CopyStep r1 t.event = turn_step r1 r2 request turn b c e f l n i.copying asks t in
-    goes_on r r1 r2 a b c d e f k l n i (record {
-      copying = subst IsCopying (sym t.steps) by.copying;
+    → Turned request turn r1 r2 (between b c e f l n y z) → f.is_drafting ≡ false → ObjectsStay (between b c e f l n y z)
+    → GoesOn r r2 (between a c d f k n x z)
+goes_on_by_turn r r1 r2 request turn a b c d e f k l n x y z i asks t no_draft objects =
+    goes_on r r1 r2 a b c d e f k l n x y z i (record {
       places = subst (λ (q : RunState). HasPlaces q.settings (covers q.domain)) (sym t.steps) i.places;
-      went = went_one r1 r2 request turn b c e f l n asks t;
-      input = source.input ∙ i.input;
-      image = image;
+      went = went_one r1 r2 request turn (between b c e f l n y z) asks t;
+      input = objects.source.input ∙ i.input;
       no_draft = no_draft;
-      source = source;
-      site = site;
-      clock = clock;
+      objects = objects;
     })
 
--- which leaves less of the map ahead, in the same pass,
-pub less_ahead : (r r2 : RunState) (request : Request) (turn : Turn) (a a2 : SourceState) (d d2 : SiteState) (k k2 : ClockState)
-    → IsCopying r → IsRequest (setting_in r) r.machine request.pos (request.pos + request.len)
-    → Turned request turn r r2 a a2 d d2 k k2 → ahead_of r2 < ahead_of r
-less_ahead r r2 request turn a a2 d d2 k k2 copying asks t =
-    subst (λ (q : RunState). ahead_of q < ahead_of r) (sym t.steps) (turn_step r r2 request turn a a2 d d2 k k2 copying asks t).less
-
--- or by the start of the next pass.
-pub goes_on_by_pass : (r r1 : RunState) (o : Across) → CopiesOn r r1 o → has_request (setting_in r1) r1.machine ≡ false
-    → r1.pass < copying_passes → CopiesOn r (passed r1 Copying (r1.pass + 1)) o
-goes_on_by_pass r r1 o i spent few =
+-- or by the start of its next pass.
+pub goes_on_by_pass : (r r1 r2 : RunState) (o : Across) (phase : Phase) (number : ℕ) (first : Pass) → GoesOn r r1 o
+    → has_request (setting_in r1) r1.machine ≡ false
+    → r1.machine.passes ≡ first ∷ numbered phase number ∷ drop 2 r1.machine.passes → r2 ≡ passed r1 phase number
+    → GoesOn r r2 o
+goes_on_by_pass r r1 r2 o phase number first i spent are is =
     let s : Setting = setting_in r1 in
-    let p : Pass = numbered Copying (r1.pass + 1) in
-    let n : RunState = passed r1 Copying (r1.pass + 1) in
-    let two : (ps : List Pass) × (r1.machine.passes ≡ numbered Copying r1.pass ∷ p ∷ ps) =
-    ((two_of s r1.pass few).0, i.copying.passes ∙ (two_of s r1.pass few).1) in
-    let same : s ≡ setting_in r = setting_stands r r1 i.went.stands in
-    let c : Pass = numbered Copying r1.pass in
-    let are : r1.machine.passes ≡ c ∷ p ∷ drop 2 r1.machine.passes =
-    two.1 ∙ ap (λ (ps : List Pass). c ∷ p ∷ ps) (sym (ap (λ (ps : List Pass). drop 2 ps) two.1)) in
+    let n : RunState = passed r1 phase number in
     let next : IsAlike (setting_in r) r1.machine n.machine =
-    subst (λ (t : Setting). IsAlike t r1.machine n.machine) same
-    (next_pass_is_alike s r1.machine c p (drop 2 r1.machine.passes) spent are) in
-    record {
-      copying = copying_passed r1 i.copying few;
+    subst (λ (t : Setting). IsAlike t r1.machine n.machine) (setting_stands r r1 i.went.stands)
+    (next_pass_is_alike s r1.machine first (numbered phase number) (drop 2 r1.machine.passes) spent are) in
+    subst (λ (q : RunState). GoesOn r q o) (sym is) (record {
       places = i.places;
       went = record {
         events = i.went.events;
         run = i.went.run;
         stands = ap (λ (q : RunState). moved_to q n) i.went.stands;
-        state = alike_on (setting_in r) (state_after (setting_in r) r.machine i.went.events) r1.machine n.machine i.went.state next;
+        state = alike_on (setting_in r) (state_after (setting_in r) r.machine i.went.events) r1.machine n.machine
+            i.went.state next;
         read = i.went.read;
         right = i.went.right;
         timed = i.went.timed;
         fit = i.went.fit;
         made = i.went.made;
+        says = i.went.says;
       };
       input = i.input;
-      image = i.image;
       no_draft = i.no_draft;
-      source = i.source;
-      site = i.site;
-      clock = i.clock;
-    }
-
-pub goes_on_by_next : (r r1 r2 : RunState) (o : Across) (pass : ℕ) → CopiesOn r r1 o → has_request (setting_in r1) r1.machine ≡ false
-    → r1.pass < copying_passes → pass ≡ r1.pass → r2 ≡ passed r1 Copying (pass + 1) → CopiesOn r r2 o
-goes_on_by_next r r1 r2 o pass i spent few same is =
-    subst (λ (q : RunState). CopiesOn r q o) (sym (is ∙ ap (λ (n : ℕ). passed r1 Copying (n + 1)) same))
-    (goes_on_by_pass r r1 o i spent few)
+      objects = i.objects;
+    })
 
 -- A turn stops.
-pub halts : (stop : Stop) (r r1 r2 : RunState) (request : Request) (a b c : SourceState) (d e f : SiteState) (k l n : ClockState)
-    → CopiesOn r r1 (record { source = a; source' = b; site = d; site' = e; clock = k; clock' = l })
+pub halts : (stop : Stop) (r r1 r2 : RunState) (request : Request) (a b c : SourceState) (d e f : SiteState)
+    (k l n : ClockState) (x y z : ConsoleState) → GoesOn r r1 (between a b d e k l x y)
     → IsRequest (setting_in r1) r1.machine request.pos (request.pos + request.len)
-    → Halted request stop r1 r2 b c e f l n
-    → WentUpTo stop r r2 (record { source = a; source' = c; site = d; site' = f; clock = k; clock' = n })
-halts stop r r1 r2 request a b c d e f k l n i asks h = record {
+    → Halted request stop r1 r2 (between b c e f l n y z) → f.is_drafting ≡ drafting_after stop
+    → WentUpTo stop r r2 (between a c d f k n x z)
+halts stop r r1 r2 request a b c d e f k l n x y z i asks h draft = record {
   between = r1;
   source_between = b;
   site_between = e;
   clock_between = l;
+  console_between = y;
   went = i.went;
-  source = i.source;
-  site_tells = i.site.tells;
+  source = i.objects.source;
+  site_tells = i.objects.site.tells;
   request = request;
   asks = asks;
   halted = h;
+  draft = draft;
 }
+
+-- A turn of copying
+turn_step : (r r2 : RunState) (request : Request) (turn : Turn) (o : Across) → IsCopying r
+    → IsRequest (setting_in r) r.machine request.pos (request.pos + request.len) → (t : Turned request turn r r2 o)
+    → CopyStep r t.event r2.heard
+turn_step r r2 request turn o copying asks t =
+    let one : IsOneMove r t.event = one_move r request t.event o.source o.source' o.clock o.clock' asks t.is in
+    copy_steps r t.event r2.heard copying one.asks one.few
+
+-- leaves less of the map ahead,
+pub less_ahead : (r r2 : RunState) (request : Request) (turn : Turn) (o : Across) → IsCopying r
+    → IsRequest (setting_in r) r.machine request.pos (request.pos + request.len) → Turned request turn r r2 o
+    → ahead_of r2 < ahead_of r
+less_ahead r r2 request turn o copying asks t =
+    subst (λ (q : RunState). ahead_of q < ahead_of r) (sym t.steps) (turn_step r r2 request turn o copying asks t).less
+
+-- in the same pass, and copying may go on.
+pub copies_on : (r r2 : RunState) (request : Request) (turn : Turn) (o : Across) → IsCopying r
+    → IsRequest (setting_in r) r.machine request.pos (request.pos + request.len) → Turned request turn r r2 o → IsCopying r2
+copies_on r r2 request turn o copying asks t =
+    subst IsCopying (sym t.steps) (turn_step r r2 request turn o copying asks t).copying
+
+-- So may it behind the start of its next pass.
+pub goes_on_by_next : (r r1 r2 : RunState) (o : Across) (pass : ℕ) → GoesOn r r1 o → IsCopying r1
+    → has_request (setting_in r1) r1.machine ≡ false → r1.pass < copying_passes → pass ≡ r1.pass
+    → r2 ≡ passed r1 Copying (pass + 1) → GoesOn r r2 o × IsCopying r2
+goes_on_by_next r r1 r2 o pass i copying spent few same is =
+    let c : Pass = numbered Copying r1.pass in
+    let p : Pass = numbered Copying (r1.pass + 1) in
+    let two : (ps : List Pass) × (r1.machine.passes ≡ c ∷ p ∷ ps) =
+    ((two_of (setting_in r1) r1.pass few).0, copying.passes ∙ (two_of (setting_in r1) r1.pass few).1) in
+    let are : r1.machine.passes ≡ c ∷ p ∷ drop 2 r1.machine.passes =
+    two.1 ∙ ap (λ (ps : List Pass). c ∷ p ∷ ps) (sym (ap (λ (ps : List Pass). drop 2 ps) two.1)) in
+    let there : r2 ≡ passed r1 Copying (r1.pass + 1) = is ∙ ap (λ (n : ℕ). passed r1 Copying (n + 1)) same in (
+      goes_on_by_pass r r1 r2 o Copying (r1.pass + 1) c i spent are there,
+      subst IsCopying (sym there) (copying_passed r1 copying few),
+    )

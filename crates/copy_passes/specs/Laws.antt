@@ -1,5 +1,5 @@
 -- What the definitions mean.
-use Rattle.std.specs.Prelude.{◌≡◌, ℕ, true, false, List, ◌∷◌, length, slice_get, Option, Some}
+use Rattle.std.specs.Prelude.{◌≡◌, ℕ, Bool, true, false, List, ◌∷◌, length, slice_get, Option, Some}
 use Rattle.block_list.specs.declared.block.Run.{Run}
 use Rattle.block_list.specs.declared.status.Status.{Status}
 use Rattle.mapfile_text.specs.declared.state.MapState.{MapState}
@@ -41,8 +41,8 @@ NextPassIsAlike = (s : Setting) (m : Machine) (c p : Pass) (ps : List Pass) → 
 -- a run at its start may go on with copying
 abbrev pub StartMayCopy : Type 0
 StartMayCopy = (settings : Settings) (domain : List Run) (names : Option MapNames) (line : List ℕ) (map : List Status)
-    (loaded : Option MapState) (moment : ℕ) → IsSound settings → Suits settings (covers domain) (length map)
-    → IsCopying (started settings domain names line map loaded moment)
+    (loaded : Option MapState) (moment : ℕ) (heard : Bool) → IsSound settings → Suits settings (covers domain) (length map)
+    → IsCopying (started settings domain names line map loaded moment heard)
 
 -- and so may one that shows another state
 abbrev pub ShownMayCopy : Type 0

@@ -1,9 +1,12 @@
 -- Whole turns of a run, by what the objects tell, and a turn that stopped behind them.
-use Rattle.std.specs.Prelude.{◌≡◌, ℕ, ◌+◌, IsTrue, List, length, slice_range, All}
+use Rattle.std.specs.Prelude.{◌≡◌, ℕ, ◌+◌, true, false, IsTrue, List, length, slice_range, All, Result, IfOk, IfErr, OnOk}
 use Rattle.faulty_source.specs.Journal.{Reading}
 use Rattle.faulty_source.specs.SourceState.{SourceState, Stays as SourceStays, Reads}
-use Rattle.crash_site.specs.SiteState.{SiteState, Makes}
-use Rattle.rescue_console.specs.ClockState.{ClockState, Reads as ReadsClock}
+use Rattle.crash_site.specs.SiteState.{SiteState, Keeps as SiteKeeps, Makes}
+use Rattle.rescue_console.specs.ClockState.{ClockState, Keeps as ClockKeeps, Reads as ReadsClock}
+use Rattle.rescue_console.specs.ConsoleState.{ConsoleState}
+use Rattle.rescue_console.specs.Speaking.{SpeaksOn, out_pieces}
+use Rattle.rescue_domain.specs.Parts.{covers}
 use Rattle.transfer_token.specs.declared.token.Request.{Request}
 use Rattle.rescue_rules.specs.declared.stop.Stop.{Stop}
 use Rattle.rescue_rules.specs.Setting.{Setting}
@@ -12,25 +15,19 @@ use Rattle.rescue_rules.specs.Step.{Event}
 use Rattle.rescue_rules.specs.Moves.{ready, state_after, IsRun}
 use Rattle.rescue_rules.specs.Events.{reads_of, times_of}
 use Rattle.rescue_rules.specs.RunCalls.{run_calls}
+use Rattle.rescue_rules.specs.Lines.{run_lines}
 use Rattle.rescue_rules.specs.Laws.{AreTimes}
-use Rattle.rescue_core.specs.RunState.{RunState, setting_in}
+use Rattle.rescue_core.specs.Across.{Across}
+use Rattle.rescue_core.specs.RunState.{RunState, setting_in, HasPlaces}
 use Rattle.rescue_core.specs.Turning.{Halted}
-
--- what the objects tell before something was done, and behind it
-pub record Across : Type 0 where
-  pub source : SourceState
-  pub source' : SourceState
-  pub site : SiteState
-  pub site' : SiteState
-  pub clock : ClockState
-  pub clock' : ClockState
+use Rattle.rescue_core.specs.Closing.{StoppedState, drafting_after}
 
 -- a read gave the input's own bytes
 abbrev pub IsFrom : (bytes : List ℕ) → Reading → Type 0
 IsFrom bytes r = r.given ≡ slice_range bytes r.pos (r.pos + length r.given)
 
 -- Two states that differ at most in the passes without a request that one of them has gone on over: they have the
--- same map, counts, times, shown state and end, and go on to the same request, or both to the end.
+-- same map, counts, times, shown state, end and last line, and go on to the same request, or both to the end.
 pub record IsAlike (s : Setting) (m n : Machine) : Type 0 where
   pub map : n.map ≡ m.map
   pub failed : n.failed ≡ m.failed
@@ -40,14 +37,17 @@ pub record IsAlike (s : Setting) (m n : Machine) : Type 0 where
   pub due_at : n.due_at ≡ m.due_at
   pub shown : n.shown ≡ m.shown
   pub over : n.over ≡ m.over
+  pub written : n.written ≡ m.written
+  pub said : n.said ≡ m.said
   pub next : ready s n ≡ ready s m
 
--- a run in the pass of another, where that one stands
+-- a run in the pass of another, where that one stands, and heard as that one is
 abbrev pub moved_to : RunState → RunState → RunState
-moved_to r q = record r { phase = q.phase; pass = q.pass; machine = q.machine }
+moved_to r q = record r { phase = q.phase; pass = q.pass; machine = q.machine; heard = q.heard }
 
--- Whole turns: a run of events, which gave the input's own bytes, with its readings of the clock and its calls. They
--- lead to the state behind the events, or from there on over passes without a request; all else of the run stands.
+-- Whole turns: a run of events, which gave the input's own bytes, with its readings of the clock, its calls and its
+-- lines. They lead to the state behind the events, or from there on over passes without a request; all else of the run
+-- stands.
 pub record Went (r r' : RunState) (o : Across) : Type 0 where
   pub events : List Event
   pub run : IsRun (setting_in r) r.machine events
@@ -58,16 +58,56 @@ pub record Went (r r' : RunState) (o : Across) : Type 0 where
   pub timed : ReadsClock (times_of events) o.clock o.clock'
   pub fit : AreTimes (times_of events)
   pub made : Makes (run_calls (setting_in r) r.machine events) o.site o.site'
+  pub says : SpeaksOn (out_pieces (run_lines (setting_in r) r.machine events)) r.heard r'.heard o.console o.console'
 
--- a turn that stopped, behind whole ones
+-- a turn that stopped, behind whole ones; and a draft is left begun where its stop says so
 pub record WentUpTo (stop : Stop) (r r' : RunState) (o : Across) : Type 0 where
   pub between : RunState
   pub source_between : SourceState
   pub site_between : SiteState
   pub clock_between : ClockState
-  pub went : Went r between (record o { source' = source_between; site' = site_between; clock' = clock_between })
+  pub console_between : ConsoleState
+  pub went : Went r between (record o {
+    source' = source_between;
+    site' = site_between;
+    clock' = clock_between;
+    console' = console_between;
+  })
   pub source : SourceStays o.source source_between
   pub site_tells : site_between.tells ≡ o.site.tells
   pub request : Request
   pub asks : IsRequest (setting_in between) between.machine request.pos (request.pos + request.len)
-  pub halted : Halted request stop between r' source_between o.source' site_between o.site' clock_between o.clock'
+  pub halted : Halted request stop between r' (record o {
+    source = source_between;
+    site = site_between;
+    clock = clock_between;
+    console = console_between;
+  })
+  pub draft : o.site'.is_drafting ≡ drafting_after stop
+
+-- what stays of the objects while turns are taken; the output stays open
+pub record ObjectsStay (o : Across) : Type 0 where
+  pub source : SourceStays o.source o.source'
+  pub site : SiteKeeps o.site o.site'
+  pub image : o.site'.is_open ≡ true
+  pub clock : ClockKeeps o.clock o.clock'
+
+-- a run has gone on by whole turns, and may take more of them
+pub record GoesOn (r r' : RunState) (o : Across) : Type 0 where
+  pub places : HasPlaces r'.settings (covers r'.domain)
+  pub went : Went r r' o
+  pub input : o.source'.is_open ≡ true
+  pub no_draft : o.site'.is_drafting ≡ false
+  pub objects : ObjectsStay o
+
+-- turns, by their outcome: whole ones, or up to one that stopped
+pub record TurnsEnd {T : Type 0} (result : Result T Stop) (r r' : RunState) (o : Across) : Type 0 where
+  pub goes : OnOk result (GoesOn r r' o)
+  pub halted : IfErr result (λ stop. WentUpTo stop r r' o)
+  pub objects : ObjectsStay o
+
+-- those of a phase, which answers where the run has come to
+pub record PhaseEnds (r : RunState) (result : Result RunState StoppedState) (o : Across) : Type 0 where
+  pub goes : IfOk result (λ r'. GoesOn r r' o)
+  pub halted : IfErr result (λ s. WentUpTo s.stop r s.run o)
+  pub objects : ObjectsStay o

@@ -1,15 +1,11 @@
 //! The copying of a rescue: its passes, each of which goes on until it has no request left.
-ghost use Rattle.std.specs.Prelude.{◌≡◌, true, false, IfOk, IfErr, OnOk};
-ghost use Rattle.faulty_source.specs.SourceState.{Stays as SourceStays};
-ghost use Rattle.crash_site.specs.SiteState.{Keeps as SiteKeeps};
-ghost use Rattle.rescue_console.specs.ClockState.{Keeps as ClockKeeps};
+ghost use Rattle.std.specs.Prelude.{◌≡◌, true, false, IfOk, OnOk};
 ghost use Rattle.rescue_domain.specs.Parts.{covers};
 ghost use Rattle.rescue_rules.specs.Passes.{copying_passes};
 ghost use Rattle.rescue_rules.specs.Machine.{has_request};
 ghost use Rattle.rescue_core.specs.RunState.{setting_in, HasPlaces};
-ghost use Rattle.rescue_core.specs.Closing.{drafting_after};
-ghost use Rattle.copy_passes.specs.Turns.{Went, WentUpTo};
-ghost use Rattle.copy_passes.specs.Copying.{IsCopying, CopiesOn};
+ghost use Rattle.copy_passes.specs.Turns.{TurnsEnd, PhaseEnds};
+ghost use Rattle.copy_passes.specs.Copying.{IsCopying};
 
 use block_list::tiles::Tiles;
 use crash_site::site::Site;
@@ -36,30 +32,19 @@ fn run_pass<S: Source, D: Site, K: Clock, C: Console, T: Tiles>(
     requires input { (S.state source.old).is_open ≡ true }
     requires image { (D.state site.old).is_open ≡ true }
     requires no_draft { (D.state site.old).is_drafting ≡ false }
-    ensures copies { OnOk result (CopiesOn rescue.old rescue.new (record {
+    ensures ends { TurnsEnd result rescue.old rescue.new (record {
       source = S.state source.old;
       source' = S.state source.new;
       site = D.state site.old;
       site' = D.state site.new;
       clock = K.state clock.old;
       clock' = K.state clock.new;
-    })) }
+      console = C.state console.old;
+      console' = C.state console.new;
+    }) }
+    ensures copying { OnOk result (IsCopying rescue.new) }
     ensures pass { OnOk result (rescue.new.pass ≡ rescue.old.pass) }
     ensures spent { OnOk result (has_request (setting_in rescue.new) rescue.new.machine ≡ false) }
-    ensures halted { IfErr result (λ stop. WentUpTo stop rescue.old rescue.new (record {
-      source = S.state source.old;
-      source' = S.state source.new;
-      site = D.state site.old;
-      site' = D.state site.new;
-      clock = K.state clock.old;
-      clock' = K.state clock.new;
-    })) }
-    ensures draft_left { IfErr result (λ stop. (D.state site.new).is_drafting ≡ drafting_after stop) }
-    ensures image { (D.state site.new).is_open ≡ true }
-    ensures source { SourceStays (S.state source.old) (S.state source.new) }
-    ensures site { SiteKeeps (D.state site.old) (D.state site.new) }
-    ensures clock { ClockKeeps (K.state clock.old) (K.state clock.new) }
-    ensures console { C.state console.new ≡ C.state console.old }
 {
     'turns: while let Some(request) = rescue.next_request() {
         rescue.turn(request, source, site, clock, console)?;
@@ -80,30 +65,19 @@ fn run_passes<S: Source, D: Site, K: Clock, C: Console, T: Tiles>(
     requires input { (S.state source.old).is_open ≡ true }
     requires image { (D.state site.old).is_open ≡ true }
     requires no_draft { (D.state site.old).is_drafting ≡ false }
-    ensures copies { OnOk result (CopiesOn rescue.old rescue.new (record {
+    ensures ends { TurnsEnd result rescue.old rescue.new (record {
       source = S.state source.old;
       source' = S.state source.new;
       site = D.state site.old;
       site' = D.state site.new;
       clock = K.state clock.old;
       clock' = K.state clock.new;
-    })) }
+      console = C.state console.old;
+      console' = C.state console.new;
+    }) }
+    ensures copying { OnOk result (IsCopying rescue.new) }
     ensures pass { OnOk result (rescue.new.pass ≡ copying_passes) }
     ensures spent { OnOk result (has_request (setting_in rescue.new) rescue.new.machine ≡ false) }
-    ensures halted { IfErr result (λ stop. WentUpTo stop rescue.old rescue.new (record {
-      source = S.state source.old;
-      source' = S.state source.new;
-      site = D.state site.old;
-      site' = D.state site.new;
-      clock = K.state clock.old;
-      clock' = K.state clock.new;
-    })) }
-    ensures draft_left { IfErr result (λ stop. (D.state site.new).is_drafting ≡ drafting_after stop) }
-    ensures image { (D.state site.new).is_open ≡ true }
-    ensures source { SourceStays (S.state source.old) (S.state source.new) }
-    ensures site { SiteKeeps (D.state site.old) (D.state site.new) }
-    ensures clock { ClockKeeps (K.state clock.old) (K.state clock.new) }
-    ensures console { C.state console.new ≡ C.state console.old }
 {
     'passes: loop {
         run_pass(rescue, source, site, clock, console)?;
@@ -129,32 +103,19 @@ pub fn run_copying<S: Source, D: Site, K: Clock, C: Console, T: Tiles>(
     requires input { (S.state source.old).is_open ≡ true }
     requires image { (D.state site.old).is_open ≡ true }
     requires no_draft { (D.state site.old).is_drafting ≡ false }
-    ensures went { IfOk result (λ r. Went rescue r (record {
+    ensures ends { PhaseEnds rescue result (record {
       source = S.state source.old;
       source' = S.state source.new;
       site = D.state site.old;
       site' = D.state site.new;
       clock = K.state clock.old;
       clock' = K.state clock.new;
-    })) }
+      console = C.state console.old;
+      console' = C.state console.new;
+    }) }
     ensures copying { IfOk result (λ r. IsCopying r) }
     ensures pass { IfOk result (λ r. r.pass ≡ copying_passes) }
     ensures spent { IfOk result (λ r. has_request (setting_in r) r.machine ≡ false) }
-    ensures halted { IfErr result (λ s. WentUpTo s.stop rescue s.run (record {
-      source = S.state source.old;
-      source' = S.state source.new;
-      site = D.state site.old;
-      site' = D.state site.new;
-      clock = K.state clock.old;
-      clock' = K.state clock.new;
-    })) }
-    ensures draft { OnOk result ((D.state site.new).is_drafting ≡ false) }
-    ensures draft_left { IfErr result (λ s. (D.state site.new).is_drafting ≡ drafting_after s.stop) }
-    ensures image { (D.state site.new).is_open ≡ true }
-    ensures source { SourceStays (S.state source.old) (S.state source.new) }
-    ensures site { SiteKeeps (D.state site.old) (D.state site.new) }
-    ensures clock { ClockKeeps (K.state clock.old) (K.state clock.new) }
-    ensures console { C.state console.new ≡ C.state console.old }
 {
     let mut rescue = rescue;
     match run_passes(&mut rescue, source, site, clock, console) {

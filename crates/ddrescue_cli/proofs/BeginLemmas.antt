@@ -112,23 +112,25 @@ pub short_made : (domain : List Run) (o : Options) (statuses made : List Status)
 short_made domain o statuses made short made_is = omega (arith, short, ap length made_is, made_long domain o statuses)
 
 -- a run at its start over that map, which shows what a mapfile showed, if it showed something
-abbrev pub begun_with : Settings → List Run → Option MapNames → List ℕ → Options → List Status → Option MapState → ℕ → RunState
-begun_with settings domain names line o statuses None moment =
-    started settings domain names line (made_of_map domain o statuses) None moment
-begun_with settings domain names line o statuses (Some shown) moment =
-    showing (started settings domain names line (made_of_map domain o statuses) (goes_on_from o.try_again (Some shown)) moment) shown
+abbrev pub begun_with : Settings → List Run → Option MapNames → List ℕ → Options → List Status → Option MapState → ℕ → Bool
+    → RunState
+begun_with settings domain names line o statuses None moment heard =
+    started settings domain names line (made_of_map domain o statuses) None moment heard
+begun_with settings domain names line o statuses (Some shown) moment heard =
+    showing
+    (started settings domain names line (made_of_map domain o statuses) (goes_on_from o.try_again (Some shown)) moment heard)
+    shown
 
 begun_copies : (settings : Settings) (domain : List Run) (names : Option MapNames) (line : List ℕ) (o : Options)
-    (statuses : List Status) (state : Option MapState) (moment : ℕ) → SettingsSound settings
+    (statuses : List Status) (state : Option MapState) (moment : ℕ) (heard : Bool) → SettingsSound settings
     → Suits settings (covers domain) (length (made_of_map domain o statuses))
-    → IsCopying (begun_with settings domain names line o statuses state moment)
-begun_copies settings domain names line o statuses None moment sound suits =
-    start_may_copy settings domain names line (made_of_map domain o statuses) None moment sound suits
-begun_copies settings domain names line o statuses (Some shown) moment sound suits =
-    shown_may_copy
-    (started settings domain names line (made_of_map domain o statuses) (goes_on_from o.try_again (Some shown)) moment) shown
-    (start_may_copy settings domain names line (made_of_map domain o statuses) (goes_on_from o.try_again (Some shown)) moment
-    sound suits)
+    → IsCopying (begun_with settings domain names line o statuses state moment heard)
+begun_copies settings domain names line o statuses None moment heard sound suits =
+    start_may_copy settings domain names line (made_of_map domain o statuses) None moment heard sound suits
+begun_copies settings domain names line o statuses (Some shown) moment heard sound suits =
+    let from : Option MapState = goes_on_from o.try_again (Some shown) in
+    shown_may_copy (started settings domain names line (made_of_map domain o statuses) from moment heard) shown
+    (start_may_copy settings domain names line (made_of_map domain o statuses) from moment heard sound suits)
 
 -- the machine that such a run begins with
 abbrev begun_machine : Settings → List Run → Option MapNames → List ℕ → Options → List Status → Option MapState → ℕ → Machine
@@ -137,80 +139,87 @@ begun_machine settings domain names line o statuses state moment =
     (shown_at_first state) moment
 
 begun_is : (settings : Settings) (domain : List Run) (names : Option MapNames) (line : List ℕ) (o : Options)
-    (statuses : List Status) (state : Option MapState) (moment : ℕ)
-    → (begun_with settings domain names line o statuses state moment).machine
+    (statuses : List Status) (state : Option MapState) (moment : ℕ) (heard : Bool)
+    → (begun_with settings domain names line o statuses state moment heard).machine
     ≡ begun_machine settings domain names line o statuses state moment
-begun_is settings domain names line o statuses None moment = refl
-begun_is settings domain names line o statuses (Some shown) moment = refl
+begun_is settings domain names line o statuses None moment heard = refl
+begun_is settings domain names line o statuses (Some shown) moment heard = refl
 
 -- what else such a run has
-record HasParts (settings : Settings) (domain : List Run) (names : Option MapNames) (line : List ℕ) (r : RunState) : Type 0 where
+record HasParts (settings : Settings) (domain : List Run) (names : Option MapNames) (line : List ℕ) (heard : Bool)
+    (r : RunState) : Type 0 where
   settings_are : r.settings ≡ settings
   domain_is : r.domain ≡ domain
   names_are : r.names ≡ names
   line_is : r.line ≡ line
+  heard_is : r.heard ≡ heard
 
 begun_parts : (settings : Settings) (domain : List Run) (names : Option MapNames) (line : List ℕ) (o : Options)
-    (statuses : List Status) (state : Option MapState) (moment : ℕ)
-    → HasParts settings domain names line (begun_with settings domain names line o statuses state moment)
-begun_parts settings domain names line o statuses None moment =
-    record { settings_are = refl; domain_is = refl; names_are = refl; line_is = refl }
-begun_parts settings domain names line o statuses (Some shown) moment =
-    record { settings_are = refl; domain_is = refl; names_are = refl; line_is = refl }
+    (statuses : List Status) (state : Option MapState) (moment : ℕ) (heard : Bool)
+    → HasParts settings domain names line heard (begun_with settings domain names line o statuses state moment heard)
+begun_parts settings domain names line o statuses None moment heard =
+    record { settings_are = refl; domain_is = refl; names_are = refl; line_is = refl; heard_is = refl }
+begun_parts settings domain names line o statuses (Some shown) moment heard =
+    record { settings_are = refl; domain_is = refl; names_are = refl; line_is = refl; heard_is = refl }
 
 setting_begun : (settings : Settings) (domain : List Run) (names : Option MapNames) (line : List ℕ) (o : Options)
-    (statuses : List Status) (state : Option MapState) (moment : ℕ)
-    → setting_in (begun_with settings domain names line o statuses state moment) ≡ setting_with settings domain names line
-setting_begun settings domain names line o statuses None moment = refl
-setting_begun settings domain names line o statuses (Some shown) moment = refl
+    (statuses : List Status) (state : Option MapState) (moment : ℕ) (heard : Bool)
+    → setting_in (begun_with settings domain names line o statuses state moment heard)
+    ≡ setting_with settings domain names line
+setting_begun settings domain names line o statuses None moment heard = refl
+setting_begun settings domain names line o statuses (Some shown) moment heard = refl
 
 pub begun_over : (settings : Settings) (domain : List Run) (names : Option MapNames) (line : List ℕ) (o : Options)
-    (end : ℕ) (maps : Maps) (statuses : List Status) (state : Option MapState) (moment : ℕ) (r : RunState)
+    (end : ℕ) (maps : Maps) (statuses : List Status) (state : Option MapState) (moment : ℕ) (heard : Bool) (r : RunState)
     → AreInLimits o → ArePlacedBy o end → Fits end statuses state → settings ≡ settings_by o → IsAsked o end maps domain
-    → r ≡ begun_with settings domain names line o statuses state moment
-    → IsRunOver names line o end maps statuses state moment r
-begun_over settings domain names line o end maps statuses state moment r limits placed fits is asked made =
-    let q : RunState = begun_with settings domain names line o statuses state moment in
-    let parts : HasParts settings domain names line q = begun_parts settings domain names line o statuses state moment in
+    → r ≡ begun_with settings domain names line o statuses state moment heard
+    → IsRunOver names line o end maps statuses state moment heard r
+begun_over settings domain names line o end maps statuses state moment heard r limits placed fits is asked made =
+    let q : RunState = begun_with settings domain names line o statuses state moment heard in
+    let parts : HasParts settings domain names line heard q =
+    begun_parts settings domain names line o statuses state moment heard in
     let long : end ≤ length (made_of_map domain o statuses) = omega (arith, fits.long, made_long domain o statuses) in
     let positions : (x : ℕ) → covers q.domain x ≡ domain_asked o end maps x =
     λ x. ap (λ (d : List Run). covers d x) parts.domain_is ∙ asked x in
-    subst (IsRunOver names line o end maps statuses state moment) (sym made)
+    subst (IsRunOver names line o end maps statuses state moment heard) (sym made)
     (record {
-      copying = begun_copies settings domain names line o statuses state moment (sound_settings settings o is limits)
+      copying = begun_copies settings domain names line o statuses state moment heard (sound_settings settings o is limits)
           (asked_suits settings domain o end maps (length (made_of_map domain o statuses)) is asked long);
       places = subst (λ (t : Settings). HasPlaces t (covers q.domain)) (sym (parts.settings_are ∙ is))
           (record { low = λ x inside. placed x (asked_in_whole o end maps x (sym (positions x) ∙ inside)) });
       settings_are = parts.settings_are ∙ is;
       names_are = parts.names_are;
       line_is = parts.line_is;
+      heard_is = parts.heard_is;
       domain = positions;
-      machine = begun_is settings domain names line o statuses state moment
+      machine = begun_is settings domain names line o statuses state moment heard
           ∙ ap (λ (s : Setting). machine_of s (made_of_map domain o statuses) (goes_on_from o.try_again state) (shown_at_first state) moment)
-          (sym (setting_begun settings domain names line o statuses state moment))
+          (sym (setting_begun settings domain names line o statuses state moment heard))
           ∙ ap (λ (d : List Run). machine_of (setting_in q) (prepared (covers d) o.try_again o.retrim statuses)
           (goes_on_from o.try_again state) (shown_at_first state) moment) (sym parts.domain_is);
     })
 
 -- a run that was started over what is made of a map, and then shows what a mapfile showed, if it showed something
 pub shows_nothing : (settings : Settings) (domain : List Run) (names : Option MapNames) (line : List ℕ) (o : Options)
-    (statuses made : List Status) (state from : Option MapState) (moment : ℕ) (r q : RunState) → r ≡ q
-    → q ≡ started settings domain names line made from moment → made ≡ made_of_map domain o statuses
+    (statuses made : List Status) (state from : Option MapState) (moment : ℕ) (heard : Bool) (r q : RunState) → r ≡ q
+    → q ≡ started settings domain names line made from moment heard → made ≡ made_of_map domain o statuses
     → from ≡ goes_on_from o.try_again state → state ≡ None
-    → r ≡ begun_with settings domain names line o statuses state moment
-shows_nothing settings domain names line o statuses made state from moment r q same begun map_is from_is none =
-    let S : List Status → Option MapState → RunState = λ map at. started settings domain names line map at moment in
+    → r ≡ begun_with settings domain names line o statuses state moment heard
+shows_nothing settings domain names line o statuses made state from moment heard r q same begun map_is from_is none =
+    let S : List Status → Option MapState → RunState = λ map at. started settings domain names line map at moment heard in
     same ∙ begun ∙ ap (λ (map : List Status). S map from) map_is
     ∙ ap (S (made_of_map domain o statuses)) (from_is ∙ ap (goes_on_from o.try_again) none)
-    ∙ ap (λ (at : Option MapState). begun_with settings domain names line o statuses at moment) (sym none)
+    ∙ ap (λ (at : Option MapState). begun_with settings domain names line o statuses at moment heard) (sym none)
 
 pub shows_loaded : (settings : Settings) (domain : List Run) (names : Option MapNames) (line : List ℕ) (o : Options)
-    (statuses made : List Status) (state from : Option MapState) (shown : MapState) (moment : ℕ) (r q p : RunState) → r ≡ q
-    → q ≡ showing p shown → p ≡ started settings domain names line made from moment
+    (statuses made : List Status) (state from : Option MapState) (shown : MapState) (moment : ℕ) (heard : Bool)
+    (r q p : RunState) → r ≡ q → q ≡ showing p shown → p ≡ started settings domain names line made from moment heard
     → made ≡ made_of_map domain o statuses → from ≡ goes_on_from o.try_again state → state ≡ Some shown
-    → r ≡ begun_with settings domain names line o statuses state moment
-shows_loaded settings domain names line o statuses made state from shown moment r q p same loaded begun map_is from_is some =
-    let S : List Status → Option MapState → RunState = λ map at. showing (started settings domain names line map at moment) shown in
+    → r ≡ begun_with settings domain names line o statuses state moment heard
+shows_loaded settings domain names line o statuses made state from shown moment heard r q p same loaded begun map_is from_is
+    some =
+    let S : List Status → Option MapState → RunState =
+    λ map at. showing (started settings domain names line map at moment heard) shown in
     same ∙ loaded ∙ ap (λ (x : RunState). showing x shown) begun ∙ ap (λ (map : List Status). S map from) map_is
     ∙ ap (S (made_of_map domain o statuses)) (from_is ∙ ap (goes_on_from o.try_again) some)
-    ∙ ap (λ (at : Option MapState). begun_with settings domain names line o statuses at moment) (sym some)
+    ∙ ap (λ (at : Option MapState). begun_with settings domain names line o statuses at moment heard) (sym some)

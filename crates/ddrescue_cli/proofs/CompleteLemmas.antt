@@ -23,10 +23,10 @@ not_risen n now below same rose = omega (arith, below, same, rose)
 passed_done : (t : Told) (c : Command) (p : Promise c t) → NothingIsRefused c p.outside → IsVerdict t.answer → t.answer ≡ Done
 passed_done t c p pass verdict =
     let o : Outside = p.outside in
-    let run : Ending → Deeds → Type 0 = Rescues (asked_of c t o) o.found.mapfile in
+    let run : Ending → Deeds → Type 0 = Rescues (asked_of c t o) o.found.mapfile o.lines in
     let ran : (did : Deeds) × run t.answer did =
     goes_to_run rescue_faults IsVerdict verdicts (rescue_rows c o.found o.end) run pass t.answer o.did p.works verdict in
-    done_over (asked_of c t o) ran.1.1.0 ran.1.1.1 t.answer ran.0.gain ran.1.1.3 verdict
+    done_over (asked_of c t o) ran.1.1.0 ran.1.1.1 o.lines t.answer ran.0.gain ran.1.1.3 verdict
 
 -- what is left for an answer
 left_done : (t : Told) (e : Ending) → NothingFailed t → (IsVerdict e → e ≡ Done)

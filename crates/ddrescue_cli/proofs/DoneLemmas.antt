@@ -130,13 +130,14 @@ timed (r ∷ rs) (before ∷ []) enough = absurd (omega (arith, enough))
 timed (r ∷ rs) (before ∷ after ∷ times) enough =
     ap (λ (l : List Reading). r ∷ l) (timed rs times (omega (arith, enough)))
 
-done_over : (s : Setting) (statuses : List Status) (state : Option MapState) (e : Ending) (g : Gain) → Done ≡ e
-    → RunsOver s statuses state e g → DoneOver s statuses state g
-done_over s statuses state e g is (inl unbegun) = absurd (let no : Done ≡ NoMemory = is ∙ unbegun.answer in cc)
-done_over s statuses state e g is (inr (end, same, runs)) = record {
-  run = runs.run;
-  reads = timed g.reads (drop 1 g.times) (omega (arith, runs.times, length-drop 1 g.times));
-  saved = saved_ends s (begins s statuses state g) (events_in g) runs.spare g.calls end (is ∙ same) runs.ends;
+done_over : (s : Setting) (statuses : List Status) (state : Option MapState) (lines : List (List ℕ)) (e : Ending)
+    (g : Gain) → Done ≡ e → RunsOver s statuses state lines e g → DoneOver s statuses state g
+done_over s statuses state lines e g is (inl unbegun) = absurd (let no : Done ≡ NoMemory = is ∙ unbegun.answer in cc)
+done_over s statuses state lines e g is (inr ran) = record {
+  run = ran.runs.run;
+  reads = timed g.reads (drop 1 g.times) (omega (arith, ran.runs.times, length-drop 1 g.times));
+  saved = saved_ends s (begins s statuses state g) (events_in g) ran.runs.spare g.calls ran.end (is ∙ ran.answer)
+      ran.runs.ends;
 }
 
 -- what a rescue that is done did
@@ -173,17 +174,18 @@ file_in c None line end maps files = refl
 file_in c (Some n) line end maps files = refl
 
 -- what follows the opening of the input
-done_run : (c : Command) (line : List ℕ) (end : ℕ) (maps : Maps) (files : List ℕ → Option File) (e : Ending) (d : Deeds)
-    (rest more run : List Entry) (load : List Call) → Done ≡ e
+done_run : (c : Command) (line : List ℕ) (end : ℕ) (maps : Maps) (files : List ℕ → Option File)
+    (lines : List (List ℕ)) (e : Ending) (d : Deeds) (rest more run : List Entry) (load : List Call) → Done ≡ e
     → d.gain.calls ≡ opened (setting_of c line end maps) ++ rest → rest ≡ map Returned (barrier_of c.mapfile) ++ more
     → more ≡ map Returned load ++ run → IsLoadIf c.mapfile (mapfile_of c files) load
-    → Rescues (setting_of c line end maps) (mapfile_of c files) e (with_calls d run)
+    → Rescues (setting_of c line end maps) (mapfile_of c files) lines e (with_calls d run)
     → DoneRun (setting_of c line end maps) files d.gain
-done_run c line end maps files e d rest more run load is grew grew' all loaded (none, (statuses, state, stands, runs)) =
+done_run c line end maps files lines e d rest more run load is grew grew' all loaded
+    (none, (statuses, state, stands, runs)) =
     let s : Setting = setting_of c line end maps in
     let barrier : List Call = barrier_of c.mapfile in
     let over : DoneOver s statuses state (record d.gain { calls = run }) =
-    done_over s statuses state e (record d.gain { calls = run }) is runs in
+    done_over s statuses state lines e (record d.gain { calls = run }) is runs in
     let last : List Entry = last_calls s (begins s statuses state d.gain) (events_in d.gain) in
     record {
       load = load;
@@ -214,11 +216,11 @@ if_reads : (name : Option (List ℕ)) (file : Option File) (load : List Call) �
 if_reads None file load is = subst (λ (l : List Call). AreMapReads l) (sym is) (All-nil IsMapRead)
 if_reads (Some name) file load is = load_reads name file load is.begins
 
-done_behind : (c : Command) (line : List ℕ) (end : ℕ) (maps : Maps) (files : List ℕ → Option File) (e : Ending)
-    (d : Deeds) → Done ≡ e
-    → Passed (worked_rows c (found_in c files) end) (Rescues (setting_of c line end maps) (mapfile_of c files)) e d
+done_behind : (c : Command) (line : List ℕ) (end : ℕ) (maps : Maps) (files : List ℕ → Option File)
+    (lines : List (List ℕ)) (e : Ending) (d : Deeds) → Done ≡ e
+    → Passed (worked_rows c (found_in c files) end) (Rescues (setting_of c line end maps) (mapfile_of c files) lines) e d
     → DoneWork (setting_of c line end maps) files d.gain
-done_behind c line end maps files e d is (
+done_behind c line end maps files lines e d is (
   domain,
   tests,
   domain_is,
@@ -230,23 +232,23 @@ done_behind c line end maps files e d is (
       (if_reads c.test_map (file_of c.test_map files) test test_is);
   rest = rest;
   grew = grew ∙ ap (λ (r : List Entry). map Returned domain ++ r) grew' ∙ made_both domain test rest;
-  run = done_run c line end maps files e (with_opens (with_calls d rest) os) back more run load is out settled_ all loaded
+  run = done_run c line end maps files lines e (with_opens (with_calls d rest) os) back more run load is out settled_ all loaded
       ran;
 }
 
-done_works : (c : Command) (line : List ℕ) (end : ℕ) (maps : Maps) (files : List ℕ → Option File) (e : Ending)
-    (d : Deeds) → Done ≡ e
+done_works : (c : Command) (line : List ℕ) (end : ℕ) (maps : Maps) (files : List ℕ → Option File)
+    (lines : List (List ℕ)) (e : Ending) (d : Deeds) → Done ≡ e
     → Works rescue_faults (rescue_rows c (found_in c files) end)
-    (Rescues (setting_of c line end maps) (mapfile_of c files)) e d
+    (Rescues (setting_of c line end maps) (mapfile_of c files) lines) e d
     → DoneWork (setting_of c line end maps) files d.gain
-done_works c line end maps files e d is (inl (starved, none)) =
+done_works c line end maps files lines e d is (inl (starved, none)) =
     absurd (let no : Done ≡ NoMemory = is ∙ starved in cc)
-done_works c line end maps files e d is (inr (inl (refused, none))) =
+done_works c line end maps files lines e d is (inr (inl (refused, none))) =
     absurd (let no : Done ≡ SameName refused.0 refused.1 = is ∙ refused.3 in cc)
-done_works c line end maps files e d is (inr (inr (passes, w))) =
+done_works c line end maps files lines e d is (inr (inr (passes, w))) =
     let found : Found = found_in c files in
-    let run : Ending → Deeds → Type 0 = Rescues (setting_of c line end maps) (mapfile_of c files) in
-    done_behind c line end maps files e d is
+    let run : Ending → Deeds → Type 0 = Rescues (setting_of c line end maps) (mapfile_of c files) lines in
+    done_behind c line end maps files lines e d is
     (passed rescue_faults (worked_rows c found end) run e d (λ stops. undone c found end e stops (sym is)) w)
 
 -- the last of several saves
@@ -429,6 +431,7 @@ done_is_saved t c d asks tells is =
     let p : Promise c t = d.asked_for c asks in
     let o : Outside = p.outside in
     finished_by t c d asks tells
-    (done_works c (command_line program_name t.words) o.end o.maps (files_of t) t.answer o.did (sym is)
-    (subst (λ (f : Found). Works rescue_faults (rescue_rows c f o.end) (Rescues (asked_of c t o) f.mapfile) t.answer o.did)
+    (done_works c (command_line program_name t.words) o.end o.maps (files_of t) o.lines t.answer o.did (sym is)
+    (subst
+    (λ (f : Found). Works rescue_faults (rescue_rows c f o.end) (Rescues (asked_of c t o) f.mapfile o.lines) t.answer o.did)
     (p.agrees.found tells) p.works))

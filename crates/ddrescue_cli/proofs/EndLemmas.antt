@@ -13,6 +13,8 @@ use Rattle.mapfile_text.specs.declared.state.MapState.{MapState}
 use Rattle.save_resume.specs.Saving.{save_calls, IsNameIn}
 use Rattle.save_resume.proofs.CallLemmas.{made_more, broke_front, broke_back, named_front, named_back}
 use Rattle.rescue_console.specs.ClockState.{ClockState, Reads as ReadsClock}
+use Rattle.rescue_console.specs.ConsoleState.{ConsoleState}
+use Rattle.rescue_console.specs.Speaking.{SpeaksOn, out_pieces}
 use Rattle.transfer_token.specs.declared.token.Request.{Request}
 use Rattle.rescue_rules.specs.declared.stop.Stop.{Stop}
 use Rattle.rescue_rules.specs.declared.stop.Stop.TheVariants.{SourceLost, Site, NoMemory}
@@ -27,18 +29,22 @@ use Rattle.rescue_rules.specs.Snapshots.{Snapshot, text_of, snapshot_of, finishe
 use Rattle.rescue_rules.specs.RunCalls.{write_calls, due_calls, move_calls, run_calls, closing_calls, end_calls}
 use Rattle.rescue_rules.specs.Events.{reads_of, times_of}
 use Rattle.rescue_rules.specs.Laws.{AreTimes}
+use Rattle.rescue_rules.specs.Lines.{is_unwritten, lines_of}
 use Rattle.rescue_rules.specs.Work.{EndsBy, Ends, end_of, IsSaved, IsUnsaved, IsBroken}
 use Rattle.rescue_rules.proofs.ReadyLemmas.{ready_here, spent_request}
 use Rattle.rescue_rules.proofs.SearchLemmas.{request_seen}
 use Rattle.rescue_core.specs.RunState.{RunState, names_in, setting_in}
 use Rattle.rescue_core.specs.Turning.{IsEvent, stepped, move_by, Halted, Starved, Lost, Unwritten, Unsaved}
-use Rattle.rescue_core.specs.Closing.{Saves, Saved, Unsaved as UnsavedEnd, Closes, closing_snapshot, end_of as core_end}
-use Rattle.copy_passes.specs.Turns.{Across, IsFrom, IsAlike, moved_to, Went, WentUpTo}
+use Rattle.rescue_core.specs.Closing.{Saves, Saved, Unsaved as UnsavedEnd, Closes, closing_snapshot, end_of as core_end, last_pieces}
+use Rattle.rescue_core.specs.Across.{Across}
+use Rattle.copy_passes.specs.Turns.{IsFrom, IsAlike, moved_to, Went, WentUpTo}
+use Rattle.copy_passes.proofs.TurnLemmas.{timed_more, between}
 use Rattle.trim_scrape.specs.Behind.{IsBehind}
 use Rattle.ddrescue_cli.specs.Running.{WentToEnd}
 use Rattle.ddrescue_cli.proofs.LastLemmas.{behind_all}
+use Rattle.ddrescue_cli.proofs.SpokenLemmas.{SaidMore, said_more, save_writes_none, saves_written, says_all, says_front}
 use Rattle.work_steps.proofs.GainLemmas.{MayGain, may_gain, broke_behind}
-use Rattle.ddrescue_cli.proofs.TurnLemmas.{timed_more, EventMore, event_more, ReadsMore, read_more}
+use Rattle.ddrescue_cli.proofs.TurnLemmas.{EventMore, event_more, ReadsMore, read_more}
 
 ends_as : (stop : Option Stop) → core_end stop ≡ end_of stop
 ends_as None = refl
@@ -121,9 +127,11 @@ record EndsCalls (r : RunState) (events : List Event) (spare : ℕ) (end : RunEn
   grew : IsTrue tells → calls' ≡ calls ++ gained
   ends : Ends (setting_in r) r.machine events spare gained end
 
-to_end : (r : RunState) (end : RunEnd) (events : List Event) (spare : List ℕ) (o : Across) → IsDone r events spare o
-    → EndsCalls r events (length spare) end o.site.tells o.site.calls o.site'.calls → WentToEnd r end o
-to_end r end events spare o d c = record {
+to_end : (r : RunState) (end : RunEnd) (heard : Bool) (events : List Event) (spare : List ℕ) (o : Across)
+    → IsDone r events spare o → EndsCalls r events (length spare) end o.site.tells o.site.calls o.site'.calls
+    → SpeaksOn (out_pieces (lines_of (setting_in r) r.machine events end)) r.heard heard o.console o.console'
+    → WentToEnd r end heard o
+to_end r end heard events spare o d c says = record {
   events = events;
   spare = spare;
   run = d.run;
@@ -134,10 +142,12 @@ to_end r end events spare o d c = record {
   gained = c.gained;
   grew = c.grew;
   ends = c.ends;
+  says = says;
 }
 
-done_went : (r r1 : RunState) (o : Across) (site2 : SiteState) → (w : Went r r1 o) → IsDone r w.events [] (record o { site' = site2 })
-done_went r r1 o site2 w =
+done_went : (r r1 : RunState) (o : Across) (site2 : SiteState) (console2 : ConsoleState) → (w : Went r r1 o)
+    → IsDone r w.events [] (record o { site' = site2; console' = console2 })
+done_went r r1 o site2 console2 w =
     let none : times_of w.events ≡ times_of w.events ++ [] = sym (append-nil (times_of w.events)) in
     record {
       run = w.run;
@@ -184,33 +194,60 @@ saves_as : (stop : Option Stop) (r q : RunState) (end : RunEnd) (a b : SiteState
 saves_as stop r q end a b is saves = subst (λ (p : RunState). Saves stop p end a b) is saves
 
 -- a run that went on to its end
-ended_done : (r r1 : RunState) (end : RunEnd) (o : Across) (site2 : SiteState) → Went r r1 o
-    → has_ended (setting_in r1) r1.machine ≡ true → o.site'.tells ≡ o.site.tells → Closes None r1 end o.site' site2
-    → WentToEnd r end (record o { site' = site2 })
-ended_done r r1 end o site2 w over same saves =
+ended_done : (r r1 : RunState) (end : RunEnd) (heard : Bool) (o : Across) (site2 : SiteState) (console2 : ConsoleState)
+    → Went r r1 o → has_ended (setting_in r1) r1.machine ≡ true → o.site'.tells ≡ o.site.tells
+    → Closes None r1 end o.site' site2 → SpeaksOn (last_pieces r1 end) r1.heard heard o.console' console2
+    → WentToEnd r end heard (record o { site' = site2; console' = console2 })
+ended_done r r1 end heard o site2 console2 w over same saves last =
     let over' : has_ended (setting_in r) (behind r w.events) ≡ true = behind_over r r1 w.events true w.stands w.state over in
-    to_end r end w.events [] (record o { site' = site2 }) (done_went r r1 o site2 w)
+    to_end r end heard w.events [] (record o { site' = site2; console' = console2 })
+    (done_went r r1 o site2 console2 w)
     (save_ends r r1 w.events None 0 end o.site.tells o.site.calls o.site' site2 (over', refl) (setting_stands r r1 w.stands)
     (saves_over r r1 w.events w.state over') w.made.made (λ tells. rw same tells) saves)
+    (says_all r r1 w.events end heard o.console o.console' console2 (setting_stands r r1 w.stands) w.state w.says last
+    (saves_written None r1 end o.site' site2 refl saves))
 
 -- a run that came behind its last phase
-pub run_end : (r r1 : RunState) (end : RunEnd) (o : Across) (site2 : SiteState) → Went r r1 o → IsBehind Retrying r1
-    → o.site'.tells ≡ o.site.tells → Closes None r1 end o.site' site2 → WentToEnd r end (record o { site' = site2 })
-run_end r r1 end o site2 w behind same saves = ended_done r r1 end o site2 w (behind_all r1 behind) same saves
+pub run_end : (r r1 : RunState) (end : RunEnd) (heard : Bool) (o : Across) (site2 : SiteState) (console2 : ConsoleState)
+    → Went r r1 o → IsBehind Retrying r1 → o.site'.tells ≡ o.site.tells → Closes None r1 end o.site' site2
+    → SpeaksOn (last_pieces r1 end) r1.heard heard o.console' console2
+    → WentToEnd r end heard (record o { site' = site2; console' = console2 })
+run_end r r1 end heard o site2 console2 w behind same saves last =
+    ended_done r r1 end heard o site2 console2 w (behind_all r1 behind) same saves last
+
+-- what is told up to a moment
+abbrev across_to : Across → SourceState → SiteState → ClockState → ConsoleState → Across
+across_to o source site clock console =
+    record o { source' = source; site' = site; clock' = clock; console' = console }
+
+-- a last line of the same state
+last_as : (r q : RunState) (end : RunEnd) (heard : Bool) (x y z : ConsoleState) → r ≡ q → x ≡ y
+    → SpeaksOn (last_pieces r end) r.heard heard x z → SpeaksOn (last_pieces q end) q.heard heard y z
+last_as r q end heard x y z same still last =
+    subst (λ (p : RunState). SpeaksOn (last_pieces p end) p.heard heard y z) same
+    (subst (λ (c : ConsoleState). SpeaksOn (last_pieces r end) r.heard heard c z) still last)
 
 -- a run that stopped before its event's calls
-stopped_saves : (r r1 r2 : RunState) (stop : Stop) (end : RunEnd) (p q : ℕ) (spare : List ℕ) (o : Across) (site2 : SiteState)
-    (source2 : SourceState) (clock2 : ClockState) → (w : Went r r1 o) → IsRequest (setting_in r1) r1.machine p q → r2 ≡ r1
+stopped_saves : (r r1 r2 : RunState) (stop : Stop) (end : RunEnd) (heard : Bool) (p q : ℕ) (spare : List ℕ) (o : Across)
+    (site2 : SiteState) (source2 : SourceState) (clock2 : ClockState) (console2 console3 : ConsoleState)
+    → (w : Went r r1 o) → IsRequest (setting_in r1) r1.machine p q → r2 ≡ r1
     → ((m : Machine) → has_ended (setting_in r) m ≡ false → EndsBy (Some stop) (setting_in r) m (length spare))
-    → o.site'.tells ≡ o.site.tells → IsDone r w.events spare (record o { source' = source2; site' = site2; clock' = clock2 })
-    → Saves (Some stop) r2 end o.site' site2 → WentToEnd r end (record o { source' = source2; site' = site2; clock' = clock2 })
-stopped_saves r r1 r2 stop end p q spare o site2 source2 clock2 w asks still by same d saves =
+    → is_unwritten (core_end (Some stop)) ≡ false → o.site'.tells ≡ o.site.tells
+    → IsDone r w.events spare (across_to o source2 site2 clock2 console3) → Saves (Some stop) r2 end o.site' site2
+    → console2 ≡ o.console' → SpeaksOn (last_pieces r2 end) r2.heard heard console2 console3
+    → WentToEnd r end heard (across_to o source2 site2 clock2 console3)
+stopped_saves r r1 r2 stop end heard p q spare o site2 source2 clock2 console2 console3 w asks still by told same d saves
+    unsaid last =
     let on : has_ended (setting_in r) (behind r w.events) ≡ false =
     behind_over r r1 w.events false w.stands w.state (asked_on (setting_in r1) r1.machine p q asks) in
-    to_end r end w.events spare (record o { source' = source2; site' = site2; clock' = clock2 }) d
+    let saves' : Saves (Some stop) r1 end o.site' site2 = saves_as (Some stop) r2 r1 end o.site' site2 still saves in
+    to_end r end heard w.events spare (across_to o source2 site2 clock2 console3) d
     (save_ends r r1 w.events (Some stop) (length spare) end o.site.tells o.site.calls o.site' site2
     (by (behind r w.events) on) (setting_stands r r1 w.stands) (saves_on r r1 w.events stop w.state on) w.made.made
-    (λ tells. rw same tells) (saves_as (Some stop) r2 r1 end o.site' site2 still saves))
+    (λ tells. rw same tells) saves')
+    (says_all r r1 w.events end heard o.console o.console' console3 (setting_stands r r1 w.stands) w.state w.says
+    (last_as r2 r1 end heard console2 o.console' console3 still unsaid last)
+    (saves_written (Some stop) r1 end o.site' site2 told saves'))
 
 -- a run that broke off in its event's calls
 broken_calls : (r r1 : RunState) (es : List Event) (e : Event) (call : SiteCall) (end : RunEnd) (tells : Bool) (old a b : List Entry)
@@ -231,18 +268,20 @@ broken_calls r r1 es e call end tells old a b more is made named broke =
           (subst M (sym more.calls) (subst Q (append-nil calls) (broke_behind call moves calls [] g.more g.broke)));
     }
 
-broken_end : (r r1 : RunState) (call : SiteCall) (end : RunEnd) (request : Request) (e : Event) (o : Across) (source2 : SourceState)
-    (site2 : SiteState) (clock2 : ClockState) → (w : Went r r1 o) → (more : EventMore r r1 w.events e)
-    → IsEvent request e o.source' source2 o.clock' clock2 → SourceStays o.source o.source' → end ≡ Stopped (Site call)
+broken_end : (r r1 : RunState) (call : SiteCall) (end : RunEnd) (heard : Bool) (request : Request) (e : Event) (o : Across)
+    (source2 : SourceState) (site2 : SiteState) (clock2 : ClockState) (console2 : ConsoleState) → (w : Went r r1 o)
+    → (more : EventMore r r1 w.events e) → IsEvent request e o.source' source2 o.clock' clock2
+    → SourceStays o.source o.source' → end ≡ Stopped (Site call)
     → IsNameIn call (move_calls (setting_in r1) (move_by r1 e))
     → (IsTrue o.site.tells → BrokeAt call (move_calls (setting_in r1) (move_by r1 e)) o.site'.calls site2.calls)
-    → WentToEnd r end (record o { source' = source2; site' = site2; clock' = clock2 })
-broken_end r r1 call end request e o source2 site2 clock2 w more is stays ended named broke =
+    → SpeaksOn (out_pieces (lines_of (setting_in r) r.machine (w.events ++ e ∷ []) end)) r.heard heard o.console console2
+    → WentToEnd r end heard (across_to o source2 site2 clock2 console2)
+broken_end r r1 call end heard request e o source2 site2 clock2 console2 w more is stays ended named broke says =
     let m : ReadsMore r w.events e (record o { source' = source2; site' = site2; clock' = clock2 }) =
     read_more r r1 o request source2 site2 clock2 e w is stays in
     let times : List ℕ = times_of (w.events ++ e ∷ []) in
     let none : times ≡ times ++ [] = sym (append-nil times) in
-    to_end r end (w.events ++ e ∷ []) [] (record o { source' = source2; site' = site2; clock' = clock2 })
+    to_end r end heard (w.events ++ e ∷ []) [] (across_to o source2 site2 clock2 console2)
     (record {
       run = more.run;
       read = m.read.told;
@@ -251,6 +290,7 @@ broken_end r r1 call end request e o source2 site2 clock2 w more is stays ended 
       fit = subst AreTimes none m.fit;
     })
     (broken_calls r r1 w.events e call end o.site.tells o.site.calls o.site'.calls site2.calls more ended w.made.made named broke)
+    says
 
 event_next : (r r1 : RunState) (request : Request) (e : Event) (o : Across) (source2 : SourceState) (clock2 : ClockState)
     → (w : Went r r1 o) → IsRequest (setting_in r1) r1.machine request.pos (request.pos + request.len)
@@ -259,10 +299,11 @@ event_next r r1 request e o source2 clock2 w asks is =
     event_more r r1 w.events e w.run (setting_stands r r1 w.stands) w.state (rw (is.pos, is.asked) asks) (omega (arith, is.few, is.asked))
 
 -- what a lost read leaves
-done_lost : (r r1 : RunState) (before : ℕ) (o : Across) (source2 : SourceState) (site2 : SiteState) (clock2 : ClockState) → (w : Went r r1 o)
-    → (IsTrue o.source.tells → source2.journal ≡ o.source'.journal) → before < 2 ^ 64 → ReadsClock (before ∷ []) o.clock' clock2
-    → IsDone r w.events (before ∷ []) (record o { source' = source2; site' = site2; clock' = clock2 })
-done_lost r r1 before o source2 site2 clock2 w untold small times =
+done_lost : (r r1 : RunState) (before : ℕ) (o : Across) (source2 : SourceState) (site2 : SiteState) (clock2 : ClockState)
+    (console2 : ConsoleState) → (w : Went r r1 o) → (IsTrue o.source.tells → source2.journal ≡ o.source'.journal)
+    → before < 2 ^ 64 → ReadsClock (before ∷ []) o.clock' clock2
+    → IsDone r w.events (before ∷ []) (across_to o source2 site2 clock2 console2)
+done_lost r r1 before o source2 site2 clock2 console2 w untold small times =
     let P : ℕ → Type 0 = λ t. t < 2 ^ 64 in
     record {
       run = w.run;
@@ -272,10 +313,11 @@ done_lost r r1 before o source2 site2 clock2 w untold small times =
       fit = All-append P (times_of w.events) (before ∷ []) w.fit (All-cons P before [] small (All-nil P));
     }
 
-done_still : (r r1 : RunState) (o : Across) (source2 : SourceState) (site2 : SiteState) (clock2 : ClockState) → (w : Went r r1 o)
-    → source2 ≡ o.source' → clock2 ≡ o.clock' → IsDone r w.events [] (record o { source' = source2; site' = site2; clock' = clock2 })
-done_still r r1 o source2 site2 clock2 w untouched unread =
-    let d : IsDone r w.events [] (record o { site' = site2 }) = done_went r r1 o site2 w in
+done_still : (r r1 : RunState) (o : Across) (source2 : SourceState) (site2 : SiteState) (clock2 : ClockState)
+    (console2 : ConsoleState) → (w : Went r r1 o) → source2 ≡ o.source' → clock2 ≡ o.clock'
+    → IsDone r w.events [] (across_to o source2 site2 clock2 console2)
+done_still r r1 o source2 site2 clock2 console2 w untouched unread =
+    let d : IsDone r w.events [] (record o { site' = site2; console' = console2 }) = done_went r r1 o site2 console2 w in
     record {
       run = d.run;
       read = λ tells. ap (λ (x : SourceState). x.journal) untouched ∙ d.read tells;
@@ -294,7 +336,7 @@ broken_write r e a b c still breaks tells =
     subst C (sym still)
     (broke_front ImageWrite (write_calls s e.reading) (due_calls s (move_by r e)) a.calls b.calls (breaks.broke tells))
 
-broken_save : (r r2 : RunState) (e : Event) (call : SiteCall) (a b c : SiteState) → c ≡ b → r2 ≡ stepped r e
+broken_save : (r r2 : RunState) (e : Event) (call : SiteCall) (a b c : SiteState) → c ≡ b → r2 ≡ stepped r e r2.heard
     → is_due (setting_in r) (move_by r e) ≡ true
     → BrokeAt call (save_calls (names_in r.names) (text_of r.line (snapshot_of r2.machine)))
     (a.calls ++ map Returned (write_calls (setting_in r) e.reading)) b.calls
@@ -312,7 +354,8 @@ broken_save r r2 e call a b c still steps due broke =
     subst C (sym still) (broke_back call writes (due_calls s v) a.calls (a.calls ++ map Returned writes) b.calls refl
     (subst (λ (cs : List Call). BrokeAt call cs (a.calls ++ map Returned writes) b.calls) (sym made) there))
 
-due_named : (r r2 : RunState) (e : Event) (call : SiteCall) → r2 ≡ stepped r e → is_due (setting_in r) (move_by r e) ≡ true
+due_named : (r r2 : RunState) (e : Event) (call : SiteCall) → r2 ≡ stepped r e r2.heard
+    → is_due (setting_in r) (move_by r e) ≡ true
     → IsNameIn call (save_calls (names_in r.names) (text_of r.line (snapshot_of r2.machine)))
     → IsNameIn call (due_calls (setting_in r) (move_by r e))
 due_named r r2 e call steps due named =
@@ -324,39 +367,57 @@ due_named r r2 e call steps due named =
     subst (λ (cs : List Call). IsNameIn call cs) (sym made) there
 
 -- where the turn stopped
-pub halted_end : (r r1 r2 : RunState) (stop : Stop) (end : RunEnd) (request : Request) (o : Across) (source2 : SourceState)
-    (site2 site3 : SiteState) (clock2 : ClockState) → Went r r1 o → SourceStays o.source o.source' → o.site'.tells ≡ o.site.tells
+pub halted_end : (r r1 r2 : RunState) (stop : Stop) (end : RunEnd) (heard : Bool) (request : Request) (o : Across)
+    (source2 : SourceState) (site2 site3 : SiteState) (clock2 : ClockState) (console2 console3 : ConsoleState) → Went r r1 o
+    → SourceStays o.source o.source' → o.site'.tells ≡ o.site.tells
     → IsRequest (setting_in r1) r1.machine request.pos (request.pos + request.len)
-    → Halted request stop r1 r2 o.source' source2 o.site' site2 o.clock' clock2 → Closes (Some stop) r2 end site2 site3
-    → WentToEnd r end (record o { source' = source2; site' = site3; clock' = clock2 })
-halted_end r r1 r2 stop end request o source2 site2 site3 clock2 w stays same asks (Starved is still untouched unmade unread) closes =
+    → Halted request stop r1 r2 (between o.source' source2 o.site' site2 o.clock' clock2 o.console' console2)
+    → Closes (Some stop) r2 end site2 site3 → SpeaksOn (last_pieces r2 end) r2.heard heard console2 console3
+    → WentToEnd r end heard (across_to o source2 site3 clock2 console3)
+halted_end r r1 r2 stop end heard request o source2 site2 site3 clock2 console2 console3 w stays same asks
+    (Starved is still untouched unmade unread unsaid) closes last =
     let C : Stop → Type 0 = λ x. Closes (Some x) r2 end site2 site3 in
     let S : SiteState → Type 0 = λ d. Saves (Some NoMemory) r2 end d site3 in
-    stopped_saves r r1 r2 NoMemory end request.pos (request.pos + request.len) [] o site3 source2 clock2 w asks still
-    (λ m on. (on, refl, refl)) same (done_still r r1 o source2 site3 clock2 w untouched unread) (subst S unmade (subst C is closes))
-halted_end r r1 r2 stop end request o source2 site2 site3 clock2 w stays same asks (Lost is still loses unmade before small times) closes =
+    stopped_saves r r1 r2 NoMemory end heard request.pos (request.pos + request.len) [] o site3 source2 clock2 console2
+    console3 w asks still (λ m on. (on, refl, refl)) refl same (done_still r r1 o source2 site3 clock2 console3 w untouched unread)
+    (subst S unmade (subst C is closes)) unsaid last
+halted_end r r1 r2 stop end heard request o source2 site2 site3 clock2 console2 console3 w stays same asks
+    (Lost is still loses unmade before small times unsaid) closes last =
     let C : Stop → Type 0 = λ x. Closes (Some x) r2 end site2 site3 in
     let S : SiteState → Type 0 = λ d. Saves (Some SourceLost) r2 end d site3 in
-    stopped_saves r r1 r2 SourceLost end request.pos (request.pos + request.len) (before ∷ []) o site3 source2 clock2 w asks still
-    (λ m on. (on, refl, refl)) same
-    (done_lost r r1 before o source2 site3 clock2 w (λ tells. loses.untold (rw stays.keeps.tells tells)) small times)
-    (subst S unmade (subst C is closes))
-halted_end r r1 r2 stop end request o source2 site2 site3 clock2 w stays same asks (Unwritten is still e event named breaks) closes =
+    stopped_saves r r1 r2 SourceLost end heard request.pos (request.pos + request.len) (before ∷ []) o site3 source2 clock2
+    console2 console3 w asks still (λ m on. (on, refl, refl)) refl same
+    (done_lost r r1 before o source2 site3 clock2 console3 w (λ tells. loses.untold (rw stays.keeps.tells tells)) small times)
+    (subst S unmade (subst C is closes)) unsaid last
+halted_end r r1 r2 stop end heard request o source2 site2 site3 clock2 console2 console3 w stays same asks
+    (Unwritten is still e event named breaks unsaid) closes last =
     let C : Stop → Type 0 = λ x. Closes (Some x) r2 end site2 site3 in
     let closed : (end ≡ Stopped (Site ImageWrite)) × (site3 ≡ site2) = subst C is closes in
-    broken_end r r1 ImageWrite end request e o source2 site3 clock2 w (event_next r r1 request e o source2 clock2 w asks event) event stays closed.0
+    broken_end r r1 ImageWrite end heard request e o source2 site3 clock2 console3 w
+    (event_next r r1 request e o source2 clock2 w asks event) event stays closed.0
     (named_front ImageWrite (write_calls (setting_in r1) e.reading) (due_calls (setting_in r1) (move_by r1 e)) named)
     (λ tells. broken_write r1 e o.site' site2 site3 closed.1 breaks (rw same tells))
-halted_end r r1 r2 stop end request o source2 site2 site3 clock2 w stays same asks (Unsaved call is e event steps due named broke rose) closes =
+    (says_front r r1 w.events end heard o.console o.console' console3 (setting_stands r r1 w.stands) w.state w.says
+    (last_as r2 r1 end heard console2 o.console' console3 still unsaid last) e (ap is_unwritten closed.0))
+halted_end r r1 r2 stop end heard request o source2 site2 site3 clock2 console2 console3 w stays same asks
+    (Unsaved call is e event steps due named broke rose says) closes last =
     let C : Stop → Type 0 = λ x. Closes (Some x) r2 end site2 site3 in
     let closed : (end ≡ Stopped (Site call)) × (site3 ≡ site2) = subst C is closes in
-    broken_end r r1 call end request e o source2 site3 clock2 w (event_next r r1 request e o source2 clock2 w asks event) event stays closed.0
+    let more : SaidMore r r2 (w.events ++ e ∷ []) o.console console2 =
+    said_more r r1 r2 request e o source2 clock2 console2 w asks event steps says in
+    let text : List ℕ = text_of r1.line (snapshot_of r2.machine) in
+    broken_end r r1 call end heard request e o source2 site3 clock2 console3 w
+    (event_next r r1 request e o source2 clock2 w asks event) event stays closed.0
     (named_back call (write_calls (setting_in r1) e.reading) (due_calls (setting_in r1) (move_by r1 e)) (due_named r1 r2 e call steps due named))
     (λ tells. broken_save r1 r2 e call o.site' site2 site3 closed.1 steps due (broke (rw same tells)))
+    (says_all r r2 (w.events ++ e ∷ []) end heard o.console console2 console3 more.same more.alike more.says last
+    (ap is_unwritten closed.0 ∙ save_writes_none call (names_in r1.names) text named))
 
-pub stopped_end : (r r2 : RunState) (stop : Stop) (end : RunEnd) (o : Across) (site3 : SiteState) → WentUpTo stop r r2 o
-    → Closes (Some stop) r2 end o.site' site3 → WentToEnd r end (record o { site' = site3 })
-stopped_end r r2 stop end o site3 h closes =
-    halted_end r h.between r2 stop end h.request
-    (record o { source' = h.source_between; site' = h.site_between; clock' = h.clock_between }) o.source' o.site' site3 o.clock' h.went
-    h.source h.site_tells h.asks h.halted closes
+pub stopped_end : (r r2 : RunState) (stop : Stop) (end : RunEnd) (heard : Bool) (o : Across) (site3 : SiteState)
+    (console3 : ConsoleState) → WentUpTo stop r r2 o → Closes (Some stop) r2 end o.site' site3
+    → SpeaksOn (last_pieces r2 end) r2.heard heard o.console' console3
+    → WentToEnd r end heard (record o { site' = site3; console' = console3 })
+stopped_end r r2 stop end heard o site3 console3 h closes last =
+    halted_end r h.between r2 stop end heard h.request
+    (across_to o h.source_between h.site_between h.clock_between h.console_between) o.source' o.site' site3 o.clock'
+    o.console' console3 h.went h.source h.site_tells h.asks h.halted closes last

@@ -40,9 +40,9 @@ abbrev pub setting_by : Command → Option MapNames → (line : List ℕ) → (e
 setting_by c n l end maps = setting_asked c.infile c.outfile n l c.options end maps
 
 -- the work behind the maps that options name, among files
-abbrev pub WorksOpened : Command → Setting → (List ℕ → Option File) → Ending → Deeds → Type 0
-WorksOpened c s files =
-    Works rescue_faults (opened_rows c (found_in c files) s.end) (Rescues s (mapfile_of c files))
+abbrev pub WorksOpened : Command → Setting → (List ℕ → Option File) → (lines : List (List ℕ)) → Ending → Deeds → Type 0
+WorksOpened c s files lines =
+    Works rescue_faults (opened_rows c (found_in c files) s.end) (Rescues s (mapfile_of c files) lines)
 
 -- the first call of a rescue, and the three of its opening
 abbrev pub opened : Setting → List Entry
@@ -103,77 +103,78 @@ run_goes s files g load statuses state end run on loaded stands grew runs =
     (subst (λ (l : List Call). g.calls ≡ map Returned (l ++ load) ++ run) (sym (opening_is s on)) grew) runs
 
 -- a run over the map that was loaded, which may not have begun
-over_goes : (s : Setting) (files : List ℕ → Option File) (e : Ending) (g : Gain) (load : List Call) (statuses : List Status)
+over_goes : (s : Setting) (files : List ℕ → Option File) (lines : List (List ℕ)) (e : Ending) (g : Gain) (load : List Call) (statuses : List Status)
     (state : Option MapState) (run : List Entry) → s.has_mapfile ≡ true → IsLoad s.names.map (files s.names.map) load
     → Stands (mapfile_in s files) s.end statuses state → g.calls ≡ map Returned (settling_calls s ++ load) ++ run
-    → RunsOver s statuses state e (record g { calls = run }) → GoesOn s files g
-over_goes s files e g load statuses state run on loaded stands grew (inl un) =
+    → RunsOver s statuses state lines e (record g { calls = run }) → GoesOn s files g
+over_goes s files lines e g load statuses state run on loaded stands grew (inl un) =
     load_goes s files g load on loaded.begins un.reads (inl (grew ∙ ap (λ r. map Returned (settling_calls s ++ load) ++ r) un.calls
     ∙ append-nil (map Returned (settling_calls s ++ load))))
-over_goes s files e g load statuses state run on loaded stands grew (inr (end, is, runs)) =
-    run_goes s files g load statuses state end run on loaded stands grew runs
+over_goes s files lines e g load statuses state run on loaded stands grew (inr ran) =
+    run_goes s files g load statuses state ran.end run on loaded stands grew ran.runs
 
 -- a load behind the barrier, and what follows it
-loaded_goes : (o : Options) (s : Setting) (files : List ℕ → Option File) (e : Ending) (d : Deeds) (load : List Call) (run : List Entry)
+loaded_goes : (o : Options) (s : Setting) (files : List ℕ → Option File) (lines : List (List ℕ)) (e : Ending) (d : Deeds) (load : List Call) (run : List Entry)
     → s.has_mapfile ≡ true → IsLoad s.names.map (files s.names.map) load → d.gain.calls ≡ map Returned (settling_calls s ++ load) ++ run
-    → Works rescue_faults (Look (MapfileRefused (files s.names.map)) ∷ Look (PlacesRefused o s.end) ∷ []) (Rescues s (mapfile_in s files)) e
-    (with_calls d run)
+    → Works rescue_faults (Look (MapfileRefused (files s.names.map)) ∷ Look (PlacesRefused o s.end) ∷ [])
+    (Rescues s (mapfile_in s files) lines) e (with_calls d run)
     → GoesOn s files d.gain
-loaded_goes o s files e d load run on loaded grew (inl (refused, none)) =
+loaded_goes o s files lines e d load run on loaded grew (inl (refused, none)) =
     load_goes s files d.gain load on loaded.begins none.gain.reads (inl (alone_behind s load d.gain.calls run grew none.gain.calls))
-loaded_goes o s files e d load run on loaded grew (inr (accepted, inl (refused, none))) =
+loaded_goes o s files lines e d load run on loaded grew (inr (accepted, inl (refused, none))) =
     load_goes s files d.gain load on loaded.begins none.gain.reads (inl (alone_behind s load d.gain.calls run grew none.gain.calls))
-loaded_goes o s files e d load run on loaded grew (inr (accepted, inr (placed, (none, (statuses, state, stands, runs))))) =
-    over_goes s files e d.gain load statuses state run on loaded stands grew runs
+loaded_goes o s files lines e d load run on loaded grew (inr (accepted, inr (placed, (none, (statuses, state, stands, runs))))) =
+    over_goes s files lines e d.gain load statuses state run on loaded stands grew runs
 
-read_goes : (o : Options) (s : Setting) (files : List ℕ → Option File) (e : Ending) (d : Deeds) (rest more : List Entry) → s.has_mapfile ≡ true
+read_goes : (o : Options) (s : Setting) (files : List ℕ → Option File) (lines : List (List ℕ)) (e : Ending) (d : Deeds) (rest more : List Entry) → s.has_mapfile ≡ true
     → d.gain.calls ≡ opened s ++ rest → rest ≡ map Returned (barrier_calls s.names) ++ more
     → Works rescue_faults (Read (Some s.names.map) (files s.names.map) ∷ Look (MapfileRefused (files s.names.map)) ∷ Look (PlacesRefused o s.end) ∷ [])
-    (Rescues s (mapfile_in s files)) e (with_calls d more)
+    (Rescues s (mapfile_in s files) lines) e (with_calls d more)
     → GoesOn s files d.gain
-read_goes o s files e d rest more on grew grew' (inl (load, is, begins, broke, only)) =
+read_goes o s files lines e d rest more on grew grew' (inl (load, is, begins, broke, only)) =
     load_goes s files d.gain load on begins only.reads (inr (broke_settled s load d.gain.calls more (settled_more s d.gain.calls rest more grew grew') broke))
-read_goes o s files e d rest more on grew grew' (inr (inl (load, is, begins, all, only))) =
+read_goes o s files lines e d rest more on grew grew' (inr (inl (load, is, begins, all, only))) =
     load_goes s files d.gain load on begins only.reads (inl (settled_more s d.gain.calls rest more grew grew' ∙ ap (λ r. settled s ++ r) all))
-read_goes o s files e d rest more on grew grew' (inr (inr (load, run, loaded, all, next))) =
-    loaded_goes o s files e d load run on loaded (settled_more s d.gain.calls rest more grew grew' ∙ ap (λ r. settled s ++ r) all) next
+read_goes o s files lines e d rest more on grew grew' (inr (inr (load, run, loaded, all, next))) =
+    loaded_goes o s files lines e d load run on loaded (settled_more s d.gain.calls rest more grew grew' ∙ ap (λ r. settled s ++ r) all) next
 
 -- what follows the opening of the output
-output_goes : (c : Command) (mapfile : Option (List ℕ)) (line : List ℕ) (end : ℕ) (maps : Maps) (files : List ℕ → Option File) (e : Ending)
-    (d : Deeds) (rest : List Entry) → (setting_by c (option_map names_of mapfile) line end maps).has_mapfile ≡ true
+output_goes : (c : Command) (mapfile : Option (List ℕ)) (line : List ℕ) (end : ℕ) (maps : Maps)
+    (files : List ℕ → Option File) (lines : List (List ℕ)) (e : Ending) (d : Deeds) (rest : List Entry) → (setting_by c (option_map names_of mapfile) line end maps).has_mapfile ≡ true
     → d.gain.calls ≡ opened (setting_by c (option_map names_of mapfile) line end maps) ++ rest
     → Works rescue_faults (load_rows mapfile (file_of mapfile files) ++ Look (PlacesRefused c.options end) ∷ [])
-    (Rescues (setting_by c (option_map names_of mapfile) line end maps) (file_of mapfile files)) e (with_calls d rest)
+    (Rescues (setting_by c (option_map names_of mapfile) line end maps) (file_of mapfile files) lines) e (with_calls d rest)
     → GoesOn (setting_by c (option_map names_of mapfile) line end maps) files d.gain
-output_goes c None line end maps files e d rest on grew w = absurd (cc)
-output_goes c (Some n) line end maps files e d rest on grew (inl (call, is, inl (name, lost), only)) =
+output_goes c None line end maps files lines e d rest on grew w = absurd (cc)
+output_goes c (Some n) line end maps files lines e d rest on grew (inl (call, is, inl (name, lost), only)) =
     let s : Setting = setting_by c (Some (names_of n)) line end maps in
     opening_goes s files d.gain (image_open s.outfile true ∷ []) (barrier_calls s.names) on refl only.reads
     (inr (map_settle s.names.map, image_sync ∷ [], refl, lost_settled s d.gain.calls rest grew lost))
-output_goes c (Some n) line end maps files e d rest on grew (inl (call, is, inr (inl (name, lost)), only)) =
+output_goes c (Some n) line end maps files lines e d rest on grew (inl (call, is, inr (inl (name, lost)), only)) =
     let s : Setting = setting_by c (Some (names_of n)) line end maps in
     opening_goes s files d.gain (image_open s.outfile true ∷ map_settle s.names.map ∷ []) (image_sync ∷ []) on refl only.reads
     (inr (image_sync, [], refl, lost_synced s d.gain.calls rest grew lost))
-output_goes c (Some n) line end maps files e d rest on grew (inl (call, is, inr (inr broke), only)) = absurd broke
-output_goes c (Some n) line end maps files e d rest on grew (inr (more, grew', read)) =
-    read_goes c.options (setting_by c (Some (names_of n)) line end maps) files e d rest more on grew grew' read
+output_goes c (Some n) line end maps files lines e d rest on grew (inl (call, is, inr (inr broke), only)) = absurd broke
+output_goes c (Some n) line end maps files lines e d rest on grew (inr (more, grew', read)) =
+    read_goes c.options (setting_by c (Some (names_of n)) line end maps) files lines e d rest more on grew grew' read
 
-goes_on : (c : Command) (line : List ℕ) (end : ℕ) (maps : Maps) (files : List ℕ → Option File) (e : Ending) (d : Deeds)
-    → (setting_of c line end maps).has_mapfile ≡ true → WorksOpened c (setting_of c line end maps) files e d
+goes_on : (c : Command) (line : List ℕ) (end : ℕ) (maps : Maps) (files : List ℕ → Option File)
+    (lines : List (List ℕ)) (e : Ending) (d : Deeds) → (setting_of c line end maps).has_mapfile ≡ true
+    → WorksOpened c (setting_of c line end maps) files lines e d
     → GoesOn (setting_of c line end maps) files d.gain
-goes_on c line end maps files e d on (inl (is, opens, none)) =
+goes_on c line end maps files lines e d on (inl (is, opens, none)) =
     let s : Setting = setting_of c line end maps in
     opening_goes s files d.gain [] (settling_calls s) on refl none.reads (inl none.calls)
-goes_on c line end maps files e d on (inr (os, opens, inl (call, is, inl (name, lost), only))) =
+goes_on c line end maps files lines e d on (inr (os, opens, inl (call, is, inl (name, lost), only))) =
     let s : Setting = setting_of c line end maps in
     opening_goes s files d.gain [] (settling_calls s) on refl only.reads (inr (image_open s.outfile true, barrier_calls s.names, refl, lost))
-goes_on c line end maps files e d on (inr (os, opens, inl (call, is, inr broke, only))) = absurd broke
-goes_on c line end maps files e d on (inr (os, opens, inr (rest, grew, inl (refused, none)))) =
+goes_on c line end maps files lines e d on (inr (os, opens, inl (call, is, inr broke, only))) = absurd broke
+goes_on c line end maps files lines e d on (inr (os, opens, inr (rest, grew, inl (refused, none)))) =
     let s : Setting = setting_of c line end maps in
     opening_goes s files d.gain (image_open s.outfile true ∷ []) (barrier_calls s.names) on refl none.gain.reads
     (inl (grew ∙ ap (λ r. opened s ++ r) none.gain.calls))
-goes_on c line end maps files e d on (inr (os, opens, inr (rest, grew, inr (passes, w)))) =
-    output_goes c c.mapfile line end maps files e (with_opens d os) rest on grew w
+goes_on c line end maps files lines e d on (inr (os, opens, inr (rest, grew, inr (passes, w)))) =
+    output_goes c c.mapfile line end maps files lines e (with_opens d os) rest on grew w
 
 -- behind reads of maps
 goes_behind : (s : Setting) (files : List ℕ → Option File) (g : Gain) (load : List Call) (rest : List Entry) → AreMapReads load
@@ -213,18 +214,20 @@ map_goes which mode (Some n) s files more run e d on next (inr (inr (load, rest,
 map_goes which mode (Some n) s files more run e d on next (inr (inr (load, rest, loaded, grew, inr (accepted, w)))) =
     goes_behind s files d.gain load rest (load_reads n (files n) load loaded.begins) grew (next (with_calls d rest) w)
 
-pub work_goes : (c : Command) (line : List ℕ) (end : ℕ) (maps : Maps) (files : List ℕ → Option File) (e : Ending) (d : Deeds)
-    → (setting_of c line end maps).has_mapfile ≡ true
-    → Works rescue_faults (worked_rows c (found_in c files) end) (Rescues (setting_of c line end maps) (mapfile_of c files)) e d
+pub work_goes : (c : Command) (line : List ℕ) (end : ℕ) (maps : Maps) (files : List ℕ → Option File)
+    (lines : List (List ℕ)) (e : Ending) (d : Deeds) → (setting_of c line end maps).has_mapfile ≡ true
+    → Works rescue_faults (worked_rows c (found_in c files) end)
+    (Rescues (setting_of c line end maps) (mapfile_of c files) lines) e d
     → Goes (setting_of c line end maps) files d.gain
-work_goes c line end maps files e d on works =
+work_goes c line end maps files lines e d on works =
     let s : Setting = setting_of c line end maps in
-    let run : Ending → Deeds → Type 0 = Rescues s (mapfile_of c files) in
+    let run : Ending → Deeds → Type 0 = Rescues s (mapfile_of c files) lines in
     let opening : List (Step Ending) = opened_rows c (found_in c files) end in
     map_goes DomainMap (map_mode c.options.loose) c.domain_map s files
     (map_rows TestMap (map_mode c.options.loose) c.test_map (file_of c.test_map files) ++ opening) run e d on
     (λ h more. map_goes TestMap (map_mode c.options.loose) c.test_map s files opening run e h on
-    (λ k last. BehindMaps [] k.gain.calls (All-nil IsMapRead) refl (goes_on c line end maps files e k on last)) more) works
+    (λ k last. BehindMaps [] k.gain.calls (All-nil IsMapRead) refl (goes_on c line end maps files lines e k on last)) more)
+    works
 
 -- where nothing was done but that maps were read, a stop is safe, whatever the input's length
 maps_cut : (maps : List Call) (calls : List Entry) → (calls ≡ map Returned maps) ⊎ BrokeAt MapRead maps [] calls → Cut maps calls

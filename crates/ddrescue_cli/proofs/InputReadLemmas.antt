@@ -25,7 +25,7 @@ use Rattle.rescue_rules.specs.Moves.{state_after, has_ended, IsMove}
 use Rattle.rescue_rules.specs.Preparation.{prepared}
 use Rattle.rescue_rules.specs.Beginning.{first_pass, goes_on_from, shown_at_first, machine_over}
 use Rattle.rescue_rules.specs.Events.{began_at, reads_of}
-use Rattle.rescue_rules.specs.Work.{events_in}
+use Rattle.rescue_rules.specs.Work.{Runs, events_in}
 use Rattle.rescue_rules.proofs.ReadyLemmas.{order_over}
 use Rattle.trim_scrape.specs.Bounds.{AskFew}
 use Rattle.trim_scrape.proofs.BoundLemmas.{run_asks_few}
@@ -132,11 +132,15 @@ run_refused (RunStopped NoRoom) late refused = refused.room refl
 run_refused (SaveFailed call earlier) late refused = call_refused call earlier late (refused.call call earlier refl)
 
 run_so : (o : Setting) (test : Option (List Status)) (s s' : SourceState) (mapfile : Option File) (e : Ending)
-    (d : Deeds) → IsSensible o → (o.has_mapfile ≡ false → mapfile ≡ None) → Rescues o mapfile e d → IsReadSo o test s s' e d
-run_so o test s s' mapfile e d ok none (opens, (statuses, state, stands, inl unbegun)) are =
+    (lines : List (List ℕ)) (d : Deeds) → IsSensible o → (o.has_mapfile ≡ false → mapfile ≡ None)
+    → Rescues o mapfile lines e d → IsReadSo o test s s' e d
+run_so o test s s' mapfile e lines d ok none (opens, (statuses, state, stands, inl unbegun)) are =
     none_so o test s s' e d (λ is. let no : NoMemory ≡ Done = sym unbegun.answer ∙ is in cc) unbegun.reads are
-run_so o test s s' mapfile e d ok none (opens, (statuses, state, stands, inr (end, is, runs))) are =
-    let late : IsLate e = rescue_late o mapfile e d (opens, (statuses, state, stands, inr (end, is, runs))) in
+run_so o test s s' mapfile e lines d ok none (opens, (statuses, state, stands, inr ran)) are =
+    let end : RunEnd = ran.end in
+    let is : e ≡ answer_of end = ran.answer in
+    let runs : Runs o statuses state d.gain end = ran.runs in
+    let late : IsLate e = rescue_late o mapfile lines e d (opens, (statuses, state, stands, inr ran)) in
     let time : ℕ = began_at d.gain.times in
     let m : Machine = machine_over o statuses state time in
     let reads : reads_of (events_in d.gain) ≡ d.gain.reads =
@@ -174,25 +178,25 @@ mapfile_none c found end (domain, (test, (mapfile, more))) = mapfile
 
 -- the reads are a run, which gave the input's own bytes, and there is none before a refusal
 came_so : (c : Command) (found : Found) (end : ℕ) (o : Setting) (test : Option (List Status)) (s s' : SourceState) (e : Ending)
-    (d : Deeds) → IsSensible o → o.has_mapfile ≡ is_some c.mapfile
-    → Came rescue_faults (worked_rows c found end) (Rescues o found.mapfile) e d → IsReadSo o test s s' e d
-came_so c found end o test s s' e d ok has (Stopped stops unread) are =
+    (lines : List (List ℕ)) (d : Deeds) → IsSensible o → o.has_mapfile ≡ is_some c.mapfile
+    → Came rescue_faults (worked_rows c found end) (Rescues o found.mapfile lines) e d → IsReadSo o test s s' e d
+came_so c found end o test s s' e lines d ok has (Stopped stops unread) are =
     none_so o test s s' e d (undone c found end e stops) unread are
-came_so c found end o test s s' e d ok has (Went x ran reads none) are =
-    run_so o test s s' found.mapfile e x ok
+came_so c found end o test s s' e lines d ok has (Went x ran reads none) are =
+    run_so o test s s' found.mapfile e lines x ok
     (λ off. mapfile_none c found end none (none_named c.mapfile (sym has ∙ off))) ran
     (subst (λ (rs : List Reading). HasGainedReads test s s' rs) (sym reads) are)
 
 works_so : (c : Command) (found : Found) (end : ℕ) (o : Setting) (test : Option (List Status)) (s s' : SourceState) (e : Ending)
-    (d : Deeds) → IsSensible o → o.has_mapfile ≡ is_some c.mapfile
-    → Works rescue_faults (rescue_rows c found end) (Rescues o found.mapfile) e d → IsReadSo o test s s' e d
-works_so c found end o test s s' e d ok has (inl (is, idle)) are =
+    (lines : List (List ℕ)) (d : Deeds) → IsSensible o → o.has_mapfile ≡ is_some c.mapfile
+    → Works rescue_faults (rescue_rows c found end) (Rescues o found.mapfile lines) e d → IsReadSo o test s s' e d
+works_so c found end o test s s' e lines d ok has (inl (is, idle)) are =
     none_so o test s s' e d (λ done. let no : NoMemory ≡ Done = sym is ∙ done in cc) idle.gain.reads are
-works_so c found end o test s s' e d ok has (inr (inl (r, idle))) are =
+works_so c found end o test s s' e lines d ok has (inr (inl (r, idle))) are =
     none_so o test s s' e d (λ done. let no : SameName r.0 r.1 ≡ Done = sym r.3 ∙ done in cc) idle.gain.reads are
-works_so c found end o test s s' e d ok has (inr (inr (passed, w))) are =
-    came_so c found end o test s s' e d ok has
-    (came rescue_faults (worked_rows c found end) (Rescues o found.mapfile) e d w) are
+works_so c found end o test s s' e lines d ok has (inr (inr (passed, w))) are =
+    came_so c found end o test s s' e lines d ok has
+    (came rescue_faults (worked_rows c found end) (Rescues o found.mapfile lines) e d w) are
 
 has_map : (n : Option (List ℕ)) → is_some (option_map names_of n) ≡ is_some n
 has_map None = refl
@@ -203,6 +207,6 @@ reads_are_a_run t c d asks tells =
     let p : Promise c t = d.asked_for c asks in
     let o : Outside = p.outside in
     let s : Setting = asked_of c t o in
-    works_so c o.found o.end s o.maps.test t.source t.source' t.answer o.did
+    works_so c o.found o.end s o.maps.test t.source t.source' t.answer o.lines o.did
     (sensible_to c t.words (command_line program_name t.words) o.end o.maps asks) (has_map c.mapfile) p.works
     (p.agrees.reads tells)

@@ -107,8 +107,9 @@ ends_late s m es spare calls end (IsBroken before last call split none is broke)
     (moves_own call s (move_of s (state_after s m before) last)
     (broke_named call (move_calls s (move_of s (state_after s m before) last)) (map Returned (run_calls s m before)) calls broke)))
 
-pub rescue_late : (s : Setting) (mapfile : Option File) (e : Ending) (d : Deeds) → Rescues s mapfile e d → IsLate e
-rescue_late s mapfile e d (opens, (statuses, state, stands, inl unbegun)) =
+pub rescue_late : (s : Setting) (mapfile : Option File) (lines : List (List ℕ)) (e : Ending) (d : Deeds)
+    → Rescues s mapfile lines e d → IsLate e
+rescue_late s mapfile lines e d (opens, (statuses, state, stands, inl unbegun)) =
     subst IsLate (sym unbegun.answer) (record { names = λ call earlier is. absurd (cc) })
-rescue_late s mapfile e d (opens, (statuses, state, stands, inr (end, is, runs))) =
-    subst IsLate (sym is) (ends_late s _ _ runs.spare d.gain.calls end runs.ends)
+rescue_late s mapfile lines e d (opens, (statuses, state, stands, inr ran)) =
+    subst IsLate (sym ran.answer) (ends_late s _ _ ran.runs.spare d.gain.calls ran.end ran.runs.ends)

@@ -312,9 +312,10 @@ files_are_left t c d asks tells =
     let o : Outside = p.outside in
     let here : Folder = after t.site.start t.site.calls in
     let found : Found = found_in c (files_of t) in
-    let run : Ending → Deeds → Type 0 = Rescues (asked_of c t o) found.mapfile in
+    let run : Ending → Deeds → Type 0 = Rescues (asked_of c t o) found.mapfile o.lines in
     let works : Works rescue_faults (rescue_rows c found o.end) run t.answer o.did =
-    subst (λ (f : Found). Works rescue_faults (rescue_rows c f o.end) (Rescues (asked_of c t o) f.mapfile) t.answer o.did)
+    subst (λ (f : Found). Works rescue_faults (rescue_rows c f o.end) (Rescues (asked_of c t o) f.mapfile o.lines) t.answer
+    o.did)
     (p.agrees.found tells) p.works in
     let now : files_in t.site' ≡ (after here o.did.gain.calls).files =
     ap (λ (s : Folder). (after s t.site'.calls).files) (d.site.start tells)
@@ -322,5 +323,5 @@ files_are_left t c d asks tells =
     ∙ ap (λ (f : Folder). f.files) (after-append t.site.start t.site.calls o.did.gain.calls) in
     subst (λ (fs : List ℕ → Option File). IsLeft t.answer (names_maps c) c.outfile (files_of t) fs) (sym now)
     (holds rescue_faults (rescue_rows c found o.end) run (Leaves c here here)
-    (leaves_steps c here o.end run (rescue_ends (asked_of c t o) found.mapfile)
-    (rescue_late (asked_of c t o) found.mapfile)) t.answer o.did works)
+    (leaves_steps c here o.end run (rescue_ends (asked_of c t o) found.mapfile o.lines)
+    (rescue_late (asked_of c t o) found.mapfile o.lines)) t.answer o.did works)

@@ -16,6 +16,7 @@ pub mod LoadLemmas
 pub mod MapReadLemmas
 pub mod MapsLemmas
 pub mod OpenLemmas
+pub mod OpeningLemmas
 pub mod OpenedLemmas
 pub mod OutputLemmas
 pub mod PhaseLemmas
@@ -25,6 +26,7 @@ pub mod ReadLemmas
 pub mod RefusalLemmas
 pub mod RowLemmas
 pub mod SaysLemmas
+pub mod SpokenLemmas
 pub mod TestedLemmas
 pub mod TurnLemmas
 pub mod VerdictLemmas

@@ -13,8 +13,11 @@ use Rattle.crash_site.specs.SiteState.{SiteState, files_in, Keeps}
 use Rattle.crash_site.proofs.LawLemmas.{after-append}
 use Rattle.save_resume.specs.MapNames.{MapNames, names_of}
 use Rattle.rescue_console.specs.ClockState.{ClockState}
+use Rattle.rescue_console.specs.ConsoleState.{ConsoleState}
 use Rattle.option_words.specs.declared.fault.UsageFault.TheVariants.{PlaceTooLarge}
-use Rattle.copy_passes.specs.Turns.{Across, IsFrom}
+use Rattle.rescue_core.proofs.TurnEndLemmas.{says_none}
+use Rattle.copy_passes.specs.Turns.{IsFrom}
+use Rattle.copy_passes.proofs.TurnLemmas.{between as across}
 use Rattle.work_steps.specs.Work.{Opened as IsOpened, Unopened, Deeds, Look, Works}
 use Rattle.work_steps.specs.Parts.{only_calls, WentThrough}
 use Rattle.work_steps.specs.Holds.{behind_entries, behind_open}
@@ -25,17 +28,14 @@ use Rattle.ddrescue_cli.specs.declared.ending.Ending.{Ending}
 use Rattle.ddrescue_cli.specs.declared.ending.Ending.TheVariants.{Usage, SourceFault}
 use Rattle.ddrescue_cli.specs.declared.load.Start.{Start}
 use Rattle.ddrescue_cli.specs.Names.{AreNamedApart}
-use Rattle.ddrescue_cli.specs.Asked.{names_by, place_by, setting_asked, setting_of, ArePlacedBy, IsBeyond}
+use Rattle.ddrescue_cli.specs.Asked.{names_by, place_by, setting_of, ArePlacedBy, IsBeyond}
 use Rattle.ddrescue_cli.specs.Maps.{Found, file_of, found_in, mapfile_of, seen_through}
 use Rattle.ddrescue_cli.specs.Refusals.{PlacesRefused}
 use Rattle.ddrescue_cli.specs.Outside.{AreOpens, HasGainedReads}
 use Rattle.ddrescue_cli.specs.Work.{Rescues, rescue_faults, output_rows, load_rows, opened_rows}
-use Rattle.ddrescue_cli.specs.Steps.{Gains, Ran, OpensOutput, Loads, mapfile_by, maps_of, Opened}
+use Rattle.ddrescue_cli.specs.Steps.{Gains, DidRun, OpensOutput, Loads, mapfile_by, maps_of, Opened}
 use Rattle.ddrescue_cli.proofs.ListingLemmas.{Listing, listed_if, own_listing, some_listing}
-
--- what objects tell before and behind, named apart
-abbrev pub across : (s s' : SourceState) (d d' : SiteState) (k k' : ClockState) → Across
-across s s' d d' k k' = record { source = s; source' = s'; site = d; site' = d'; clock = k; clock' = k' }
+use Rattle.ddrescue_cli.proofs.RanLemmas.{ran_silent}
 
 -- an open of this input, which went well or failed
 abbrev pub IsOpen : List ℕ → (s0 s1 : SourceState) → Type 0
@@ -67,10 +67,10 @@ none_seen (Some map) = refl
 
 -- nothing but calls was gained
 pub gains_alone : (test : Option (List Status)) (s0 s1 : SourceState) (d0 d1 : SiteState) (k : ClockState)
-    (calls : List Entry) → (IsTrue s0.tells → s1.journal ≡ s0.journal)
+    (x : ConsoleState) (calls : List Entry) → (IsTrue s0.tells → s1.journal ≡ s0.journal)
     → (IsTrue d0.tells → d1.calls ≡ d0.calls ++ calls)
-    → Gains test (across s0 s1 d0 d1 k k) (record { calls = calls; reads = []; times = [] })
-gains_alone test s0 s1 d0 d1 k calls same grew = record {
+    → Gains test (across s0 s1 d0 d1 k k x x) (record { calls = calls; reads = []; times = [] })
+gains_alone test s0 s1 d0 d1 k x calls same grew = record {
   calls = grew;
   reads = λ tell. record {
     raw = [];
@@ -83,10 +83,10 @@ gains_alone test s0 s1 d0 d1 k calls same grew = record {
 }
 
 -- the input couldn't be opened
-pub input_fails : (c : Command) (l : List ℕ) (domain test : Option (List Status)) (s0 s1 : SourceState) (d : SiteState)
-    (k : ClockState) → (IsTrue s0.tells → s1.journal ≡ s0.journal) → IsNotOpen c.infile s0 s1
-    → Opened c l domain test SourceFault (across s0 s1 d d k k)
-input_fails c l domain test s0 s1 d k same opens =
+pub input_fails : (c : Command) (l : List ℕ) (domain test : Option (List Status)) (heard : Bool) (s0 s1 : SourceState)
+    (d : SiteState) (k : ClockState) (x : ConsoleState) → (IsTrue s0.tells → s1.journal ≡ s0.journal)
+    → IsNotOpen c.infile s0 s1 → Opened c l domain test heard heard SourceFault (across s0 s1 d d k k x x)
+input_fails c l domain test heard s0 s1 d k x same opens =
     let found : Found = found_in c (files_in d) in
     let some : (listed : Option (ℕ × ℕ)) × Listing c found.mapfile listed = some_listing c found.mapfile in
     record {
@@ -100,17 +100,20 @@ input_fails c l domain test s0 s1 d k same opens =
       lists = some.1.are;
       did = record { opens = Unopened c.infile ∷ []; gain = record { calls = []; reads = []; times = [] } };
       opens = opens;
-      gains = gains_alone test s0 s1 d d k [] same (λ td. sym (append-nil d.calls));
+      gains = gains_alone test s0 s1 d d k x [] same (λ td. sym (append-nil d.calls));
+      lines = [];
+      silent = λ none. refl;
+      says = says_none heard x;
       works = inl (refl, refl, record { calls = refl; reads = refl; times = refl });
       short = inl (record { calls = refl; reads = refl; times = refl });
     }
 
 -- the output was refused, or couldn't be opened
-pub output_fails : (c : Command) (l : List ℕ) (domain test : Option (List Status)) (end : ℕ) (e : Ending)
-    (s0 s1 : SourceState) (d0 d1 : SiteState) (k : ClockState) → HasInput c.infile end s0 s1
+pub output_fails : (c : Command) (l : List ℕ) (domain test : Option (List Status)) (heard : Bool) (end : ℕ) (e : Ending)
+    (s0 s1 : SourceState) (d0 d1 : SiteState) (k : ClockState) (x : ConsoleState) → HasInput c.infile end s0 s1
     → OpensOutput {T = Unit {0}} c.options.forced c.outfile (Err e) d0 d1
-    → Opened c l domain test e (across s0 s1 d0 d1 k k)
-output_fails c l domain test end e s0 s1 d0 d1 k input o =
+    → Opened c l domain test heard heard e (across s0 s1 d0 d1 k k x x)
+output_fails c l domain test heard end e s0 s1 d0 d1 k x input o =
     let found : Found = record (found_in c (files_in d0)) { output = o.file } in
     let some : (listed : Option (ℕ × ℕ)) × Listing c found.mapfile listed = some_listing c found.mapfile in
     record {
@@ -124,13 +127,16 @@ output_fails c l domain test end e s0 s1 d0 d1 k input o =
       lists = some.1.are;
       did = behind_open c.infile (only_calls o.calls);
       opens = input.opened;
-      gains = gains_alone test s0 s1 d0 d1 k o.calls input.same o.gained;
+      gains = gains_alone test s0 s1 d0 d1 k x o.calls input.same o.gained;
+      lines = [];
+      silent = λ none. refl;
+      says = says_none heard x;
       works = inr (
         [],
         refl,
         stopped_more rescue_faults (output_rows c.options.forced c.outfile o.file)
             (load_rows c.mapfile found.mapfile ++ Look (PlacesRefused c.options end) ∷ [])
-            (Rescues (setting_of c l end (maps_of domain test some.0)) found.mapfile) e (only_calls o.calls) o.did,
+            (Rescues (setting_of c l end (maps_of domain test some.0)) found.mapfile []) e (only_calls o.calls) o.did,
       );
       short = inr input.short;
     }
@@ -204,10 +210,11 @@ grew_both d0 d1 d2 more o l first second =
     ap (λ r. r ++ more) second ∙ append_assoc d1 l more ∙ ap (λ r. r ++ (l ++ more)) first ∙ append_assoc d0 o (l ++ more)
 
 -- the load of the mapfile stopped
-pub load_fails : (c : Command) (l : List ℕ) (domain test : Option (List Status)) (n : Option MapNames) (end : ℕ)
-    (e : Ending) (s0 s1 : SourceState) (d0 d1 d2 : SiteState) (k : ClockState) → HasInput c.infile end s0 s1
-    → HasLoaded c n end (Err e) d0 d1 d2 → Opened c l domain test e (across s0 s1 d0 d2 k k)
-load_fails c l domain test n end e s0 s1 d0 d1 d2 k input h =
+pub load_fails : (c : Command) (l : List ℕ) (domain test : Option (List Status)) (heard : Bool) (n : Option MapNames)
+    (end : ℕ) (e : Ending) (s0 s1 : SourceState) (d0 d1 d2 : SiteState) (k : ClockState) (x : ConsoleState)
+    → HasInput c.infile end s0 s1 → HasLoaded c n end (Err e) d0 d1 d2
+    → Opened c l domain test heard heard e (across s0 s1 d0 d2 k k x x)
+load_fails c l domain test heard n end e s0 s1 d0 d1 d2 k x input h =
     let o : OpensOutput {T = Unit {0}} c.options.forced c.outfile (Ok tt) d0 d1 = h.output in
     let p : Loads c.mapfile end (Err e) d1 d2 = own_loads c n end (Err e) d0 d1 d2 h in
     let found : Found = record (found_in c (files_in d0)) { output = o.file; mapfile = p.file } in
@@ -223,17 +230,20 @@ load_fails c l domain test n end e s0 s1 d0 d1 d2 k input h =
       lists = some.1.are;
       did = behind_open c.infile (behind_entries o.calls (only_calls p.calls));
       opens = input.opened;
-      gains = gains_alone test s0 s1 d0 d2 k (o.calls ++ p.calls) input.same
+      gains = gains_alone test s0 s1 d0 d2 k x (o.calls ++ p.calls) input.same
           (λ td. p.gained (rw h.keeps.tells td) ∙ ap (λ r. r ++ p.calls) (o.gained td)
           ∙ append_assoc d0.calls o.calls p.calls);
+      lines = [];
+      silent = λ none. refl;
+      says = says_none heard x;
       works = inr (
         [],
         refl,
         through_then rescue_faults (output_rows c.options.forced c.outfile o.file)
             (load_rows c.mapfile p.file ++ Look (PlacesRefused c.options end) ∷ [])
-            (Rescues (setting_of c l end (maps_of domain test some.0)) p.file) e o.calls (only_calls p.calls) o.did.1
+            (Rescues (setting_of c l end (maps_of domain test some.0)) p.file []) e o.calls (only_calls p.calls) o.did.1
             (stopped_more rescue_faults (load_rows c.mapfile p.file) (Look (PlacesRefused c.options end) ∷ [])
-            (Rescues (setting_of c l end (maps_of domain test some.0)) p.file) e (only_calls p.calls) p.did),
+            (Rescues (setting_of c l end (maps_of domain test some.0)) p.file []) e (only_calls p.calls) p.did),
       );
       short = inr input.short;
     }
@@ -257,11 +267,11 @@ loaded_goes c found end run e output load d t u w =
     )
 
 -- a position has no place in the output
-pub place_fails : (c : Command) (l : List ℕ) (domain test : Option (List Status)) (n : Option MapNames) (end : ℕ)
-    (start : Start) (s0 s1 : SourceState) (d0 d1 d2 : SiteState) (k : ClockState) → HasInput c.infile end s0 s1
-    → HasLoaded c n end (Ok start) d0 d1 d2 → IsBeyond c.options end
-    → Opened c l domain test (Usage PlaceTooLarge) (across s0 s1 d0 d2 k k)
-place_fails c l domain test n end start s0 s1 d0 d1 d2 k input h far =
+pub place_fails : (c : Command) (l : List ℕ) (domain test : Option (List Status)) (heard : Bool) (n : Option MapNames)
+    (end : ℕ) (start : Start) (s0 s1 : SourceState) (d0 d1 d2 : SiteState) (k : ClockState) (x : ConsoleState)
+    → HasInput c.infile end s0 s1 → HasLoaded c n end (Ok start) d0 d1 d2 → IsBeyond c.options end
+    → Opened c l domain test heard heard (Usage PlaceTooLarge) (across s0 s1 d0 d2 k k x x)
+place_fails c l domain test heard n end start s0 s1 d0 d1 d2 k x input h far =
     let o : OpensOutput {T = Unit {0}} c.options.forced c.outfile (Ok tt) d0 d1 = h.output in
     let p : Loads c.mapfile end (Ok start) d1 d2 = own_loads c n end (Ok start) d0 d1 d2 h in
     let found : Found = record (found_in c (files_in d0)) { output = o.file; mapfile = p.file } in
@@ -279,10 +289,13 @@ place_fails c l domain test n end start s0 s1 d0 d1 d2 k input h far =
       lists = listing.are;
       did = behind_open c.infile (behind_entries o.calls (behind_entries p.calls (only_calls [])));
       opens = input.opened;
-      gains = gains_alone test s0 s1 d0 d2 k (o.calls ++ (p.calls ++ [])) input.same
+      gains = gains_alone test s0 s1 d0 d2 k x (o.calls ++ (p.calls ++ [])) input.same
           (λ td. sym (append-nil d2.calls)
           ∙ grew_both d0.calls d1.calls d2.calls [] o.calls p.calls (o.gained td) (p.gained (rw h.keeps.tells td)));
-      works = loaded_goes c found end (Rescues (setting_of c l end (maps_of domain test listed)) p.file)
+      lines = [];
+      silent = λ none. refl;
+      says = says_none heard x;
+      works = loaded_goes c found end (Rescues (setting_of c l end (maps_of domain test listed)) p.file [])
           (Usage PlaceTooLarge) o.calls p.calls (only_calls []) o.did.1 p.did.1
           (inl ((far, refl), record { opens = refl; gain = record { calls = refl; reads = refl; times = refl } }));
       short = inr input.short;
@@ -296,26 +309,22 @@ placed_passes o end placed e refused =
     let far : 2 ^ 63 ≤ place_by o x + 1 = refused.0.2 in
     omega (arith, near, far)
 
--- a run had begun
-pub run_goes : (c : Command) (l : List ℕ) (domain test : Option (List Status)) (n : Option MapNames) (end : ℕ)
-    (start : Start) (e : Ending) (s0 s1 s2 : SourceState) (d0 d1 d2 d3 : SiteState) (k k' : ClockState)
-    → HasInput c.infile end s0 s1 → HasLoaded c n end (Ok start) d0 d1 d2 → d2.tells ≡ d0.tells
+-- a run came behind it, which may not have begun
+pub run_goes : (c : Command) (l : List ℕ) (domain test : Option (List Status)) (heard heard' : Bool) (n : Option MapNames)
+    (end : ℕ) (start : Start) (e : Ending) (s0 s1 s2 : SourceState) (d0 d1 d2 d3 : SiteState) (k k' : ClockState)
+    (x x' : ConsoleState) → HasInput c.infile end s0 s1 → HasLoaded c n end (Ok start) d0 d1 d2 → d2.tells ≡ d0.tells
     → ArePlacedBy c.options end → SourceStays s1 s2
-    → Ran (setting_asked c.infile c.outfile n l c.options end
+    → DidRun (setting_of c l end
     (maps_of domain test (listed_if c.options.complete_only start.first start.listed_end))) test start.tiles.statuses
-    start.state e (across s1 s2 d2 d3 k k')
-    → Opened c l domain test e (across s0 s2 d0 d3 k k')
-run_goes c l domain test n end start e s0 s1 s2 d0 d1 d2 d3 k k' input h told placed stays r =
+    start.state heard heard' e (across s1 s2 d2 d3 k k' x x')
+    → Opened c l domain test heard heard' e (across s0 s2 d0 d3 k k' x x')
+run_goes c l domain test heard heard' n end start e s0 s1 s2 d0 d1 d2 d3 k k' x x' input h told placed stays ran =
     let o : OpensOutput {T = Unit {0}} c.options.forced c.outfile (Ok tt) d0 d1 = h.output in
     let p : Loads c.mapfile end (Ok start) d1 d2 = own_loads c n end (Ok start) d0 d1 d2 h in
     let found : Found = record (found_in c (files_in d0)) { output = o.file; mapfile = p.file } in
     let listing : Listing c p.file (listed_if c.options.complete_only start.first start.listed_end) =
     own_listing c p.file start.first start.listed_end p.did.0.lists in
     let listed : Option (ℕ × ℕ) = listed_if c.options.complete_only start.first start.listed_end in
-    let ran : Ran (setting_of c l end (maps_of domain test listed)) test start.tiles.statuses start.state e
-    (across s1 s2 d2 d3 k k') =
-    subst (λ (m : Option MapNames). Ran (setting_asked c.infile c.outfile m l c.options end (maps_of domain test listed))
-    test start.tiles.statuses start.state e (across s1 s2 d2 d3 k k')) h.names r in
     record {
       found = found;
       output = o.is_own;
@@ -343,7 +352,12 @@ run_goes c l domain test n end start e s0 s1 s2 d0 d1 d2 d3 k k' input h told pl
         times = ran.gains.times;
         fit = ran.gains.fit;
       };
-      works = loaded_goes c found end (Rescues (setting_of c l end (maps_of domain test listed)) p.file) e o.calls p.calls
+      lines = ran.lines;
+      silent = ran_silent (setting_of c l end (maps_of domain test listed)) start.tiles.statuses start.state ran.lines e ran.gain
+          ran.runs;
+      says = ran.says;
+      works = loaded_goes c found end (Rescues (setting_of c l end (maps_of domain test listed)) p.file ran.lines) e o.calls
+          p.calls
           (record { opens = []; gain = ran.gain }) o.did.1 p.did.1
           (inr (
             placed_passes c.options end placed,

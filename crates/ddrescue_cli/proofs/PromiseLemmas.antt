@@ -1,5 +1,5 @@
 -- The promise of a rescue, by what its work did.
-use Rattle.std.proofs.Common.{◌≡◌, ◌≢◌, ◌⊎◌, ℕ, ◌+◌, ◌<◌, ◌^◌, Bool, true, false, List, [], ◌∷◌, length, Option, Some, None, is_some, Result, Ok, Err, refl, sym, ap, ◌∙◌, inl, inr, subst, arith, append-nil, length-append}
+use Rattle.std.proofs.Common.{◌≡◌, ◌≢◌, ◌⊎◌, ◌↔◌, ℕ, ◌+◌, ◌<◌, ◌^◌, Bool, true, false, not, List, [], ◌∷◌, length, Option, Some, None, is_some, Result, Ok, Err, refl, sym, ap, ◌∙◌, inl, inr, subst, arith, append-nil, length-append}
 use Rattle.std.specs.Bool.{⊤, MatchBool}
 use Rattle.std.proofs.lemmas.List.Elements.{All-nil}
 use Rattle.std.specs.Prelude.{codes, option_map}
@@ -20,12 +20,13 @@ use Rattle.option_words.proofs.MemoryLemmas.{never_memory}
 use Rattle.save_resume.specs.MapNames.{MapNames, names_of}
 use Rattle.rescue_console.specs.ClockState.{ClockState, Keeps as ClockKeeps}
 use Rattle.rescue_console.specs.ConsoleState.{ConsoleState}
+use Rattle.rescue_console.specs.Speaking.{SpeaksOn}
 use Rattle.rescue_rules.specs.Stops.{StopsSafely}
 use Rattle.rescue_rules.specs.Laws.{AreTimes, AreThreeNames}
 use Rattle.rescue_rules.proofs.StopsLemmas.{goes_safely}
 use Rattle.rescue_core.specs.RunState.{names_in}
 use Rattle.rescue_command.specs.declared.options.Options.{Options}
-use Rattle.rescue_command.specs.Command.{Command, Asks, AreRefused, Unread, Wrong, IsAsked, IsRefusal as IsRefusedFor, MapOptions, cluster_word, command_by, command_with, empty_operand, is_too_large, maps_in, unless_empty}
+use Rattle.rescue_command.specs.Command.{Command, Asks, AreRefused, Unread, Wrong, IsAsked, IsRefusal as IsRefusedFor, AskQuiet, MapOptions, cluster_word, command_by, command_with, empty_operand, is_too_large, maps_in, unless_empty}
 use Rattle.rescue_command.specs.Options.{options_in}
 use Rattle.ddrescue_cli.specs.declared.ending.Operand.{Operand}
 use Rattle.ddrescue_cli.specs.declared.ending.Operand.TheVariants.{Infile, Outfile, Mapfile, Draft}
@@ -35,7 +36,9 @@ use Rattle.option_words.specs.Words.{command_line}
 use Rattle.ddrescue_cli.specs.Names.{first_same, AreNamedApart, program_name}
 use Rattle.ddrescue_cli.specs.Asked.{Maps, names_by, setting_of}
 use Rattle.ddrescue_cli.specs.Maps.{Found, found_in}
-use Rattle.ddrescue_cli.specs.Outside.{Outside}
+use Rattle.ddrescue_cli.specs.Outside.{Outside, Agrees}
+use Rattle.rescue_core.specs.Across.{Across}
+use Rattle.ddrescue_cli.specs.Messages.{message_pieces}
 use Rattle.ddrescue_cli.specs.Told.{Told, across_of, calls_before, files_of, asked_of}
 use Rattle.ddrescue_cli.specs.Refusals.{NamesRefused}
 use Rattle.ddrescue_cli.specs.Work.{Rescues, rescue_faults, rescue_rows, worked_rows}
@@ -51,6 +54,7 @@ use Rattle.ddrescue_cli.proofs.MapsLemmas.{MapsOf, maps_for}
 use Rattle.ddrescue_cli.proofs.OpenedLemmas.{none_seen}
 use Rattle.ddrescue_cli.proofs.RefusalLemmas.{says_of_words}
 use Rattle.ddrescue_cli.proofs.RowLemmas.{rescue_ends}
+use Rattle.ddrescue_cli.proofs.SaysLemmas.{MaySay, says_heard, says_both}
 
 -- an answer that comes before anything was done
 abbrev pub IsEarly : Ending → Type 0
@@ -102,12 +106,18 @@ nothing : IsIdle (only_calls [])
 nothing = record { opens = refl; gain = record { calls = refl; reads = refl; times = refl } }
 
 still_promised : (words : List (List ℕ)) (e : Ending) (s : SourceState) (d : SiteState) (k : ClockState) (p p' : ConsoleState) (c : Command)
-    → NamesRefused c e ⊎ (e ≡ NoMemory) → Promise c (told_still words e s d k p p')
-still_promised words e s d k p p' c refused =
+    → NamesRefused c e ⊎ (e ≡ NoMemory) → Says [] (told_still words e s d k p p') → Promise c (told_still words e s d k p p')
+still_promised words e s d k p p' c refused says =
     let t : Told = told_still words e s d k p p' in
     let found : Found = found_in c (files_of t) in
     let m : MapsOf c found = maps_for c found in
-    let outside : Outside = record { found = found; end = length s.bytes; maps = m.maps; did = only_calls [] } in
+    let outside : Outside = record {
+      found = found;
+      end = length s.bytes;
+      maps = m.maps;
+      did = only_calls [];
+      lines = [];
+    } in
     record {
       outside = outside;
       agrees = record {
@@ -125,28 +135,47 @@ still_promised words e s d k p p' c refused =
       };
       asked_maps = m.asked;
       are_maps = m.are;
-      works = still_works c found (length s.bytes) (Rescues (asked_of c t outside) found.mapfile) e (only_calls []) nothing refused;
+      works = still_works c found (length s.bytes) (Rescues (asked_of c t outside) found.mapfile []) e (only_calls []) nothing
+          refused;
       stops = λ tells on. nothing_stops (calls_before t) (asked_of c t outside) (only_calls []).gain nothing.gain;
+      silent = λ none. refl;
+      says = says;
     }
 
 still_kept : (words : List (List ℕ)) (e : Ending) (s : SourceState) (d : SiteState) (k : ClockState) (p p' : ConsoleState)
     → IsEarly e → SaysOfWords e words → ((c : Command) → Asks words c → NamesRefused c e ⊎ (e ≡ NoMemory)) → d.is_drafting ≡ false
-    → Says (told_still words e s d k p p') → Ddrescue (told_still words e s d k p p')
+    → Says [] (told_still words e s d k p p') → Ddrescue (told_still words e s d k p p')
 still_kept words e s d k p p' early says_words refused none says = record {
   words = says_words;
   cause = early_causes e s d early;
-  asked_for = λ c asks. still_promised words e s d k p p' c (refused c asks);
+  asked_for = λ c asks. still_promised words e s d k p p' c (refused c asks) says;
   draft = none ∙ sym (early_drafts e early);
-  says = says;
+  says = λ none_asked. says;
   source = keeps_self s;
   site = record { tells = refl; start = λ tells. refl; planned = refl; later = omega arith };
   clock = record { planned = refl; plan = refl };
 }
 
 -- the promise where memory ran out before anything was done
-pub starved_kept : (words : List (List ℕ)) (s : SourceState) (d : SiteState) (k : ClockState) (p p' : ConsoleState) → d.is_drafting ≡ false
-    → Says (told_still words NoMemory s d k p p') → Ddrescue (told_still words NoMemory s d k p p')
-starved_kept words s d k p p' none says = still_kept words NoMemory s d k p p' tt tt (λ c asks. inr refl) none says
+pub starved_kept : (words : List (List ℕ)) (s : SourceState) (d : SiteState) (k : ClockState) (p p' : ConsoleState)
+    (heard : Bool) → d.is_drafting ≡ false → SpeaksOn (message_pieces NoMemory) true heard p p'
+    → Ddrescue (told_still words NoMemory s d k p p')
+starved_kept words s d k p p' heard none says =
+    let t : Told = told_still words NoMemory s d k p p' in
+    still_kept words NoMemory s d k p p' tt tt (λ c asks. inr refl) none
+    (says_heard t true heard [] (record {
+      silent = λ off. absurd (cc);
+      loud = λ on quiet. (refl, refl, record { input = refl; files = refl; time = refl });
+    }) says)
+
+-- whether a call is heard, by whether nothing is to be said
+heard_by : (t : Told) (quiet : Bool) (lines : List (List ℕ)) → AskQuiet t.words ↔ (quiet ≡ true)
+    → MaySay t (not quiet) lines
+heard_by t true lines asks = record { silent = λ off. asks.1 refl; loud = λ on. absurd (cc) }
+heard_by t false lines asks = record {
+  silent = λ off. absurd (cc);
+  loud = λ on silence. absurd (let both : false ≡ true = asks.0 silence in cc);
+}
 
 -- a fault that isn't one of what was read
 record IsElse (fault : UsageFault) : Type 0 where
@@ -211,28 +240,39 @@ refused_says words fault refused =
 
 -- the promise where the words are refused
 pub refused_kept : (words : List (List ℕ)) (fault : UsageFault) (quiet : Bool) (s : SourceState) (d : SiteState) (k : ClockState)
-    (p p' : ConsoleState) → IsRefusedFor words fault quiet → d.is_drafting ≡ false
-    → Says (told_still words (Usage fault) s d k p p') → Ddrescue (told_still words (Usage fault) s d k p p')
-refused_kept words fault quiet s d k p p' r none says =
+    (p p' : ConsoleState) (heard : Bool) → IsRefusedFor words fault quiet → d.is_drafting ≡ false
+    → SpeaksOn (message_pieces (Usage fault)) (not quiet) heard p p' → Ddrescue (told_still words (Usage fault) s d k p p')
+refused_kept words fault quiet s d k p p' heard r none says =
+    let t : Told = told_still words (Usage fault) s d k p p' in
     still_kept words (Usage fault) s d k p p' tt (refused_says words fault r.refused)
-    (λ c asks. absurd (r.nothing c asks)) none says
+    (λ c asks. absurd (r.nothing c asks)) none (says_heard t (not quiet) heard [] (heard_by t quiet [] r.quiet_is) says)
 
 -- and where two files have one name, or memory ran out behind the words
 same_kept : (words : List (List ℕ)) (e : Ending) (s : SourceState) (d : SiteState) (k : ClockState) (p p' : ConsoleState) (c : Command)
     (first second : Operand) → IsAsked words c → first_same c.infile c.outfile (names_by c) ≡ Some (first, second) → e ≡ SameName first second
-    → d.is_drafting ≡ false → Says (told_still words e s d k p p') → Ddrescue (told_still words e s d k p p')
+    → d.is_drafting ≡ false → Says [] (told_still words e s d k p p') → Ddrescue (told_still words e s d k p p')
 same_kept words e s d k p p' c first second a same is none says =
     still_kept words e s d k p p' (subst IsEarly (sym is) tt)
     (subst (λ (v : Ending). SaysOfWords v words) (sym is) (record { command = c; asks = a.asks; same = same }))
     (λ other asks. inl (subst (λ (x : Command). NamesRefused x e) (sym (a.alone other asks)) (first, second, same, is))) none says
 
-pub plan_kept : (words : List (List ℕ)) (e : Ending) (s : SourceState) (d : SiteState) (k : ClockState) (p p' : ConsoleState) (c : Command)
-    → IsAsked words c → NamesRefused c e ⊎ (e ≡ NoMemory) → d.is_drafting ≡ false
-    → Says (told_still words e s d k p p') → Ddrescue (told_still words e s d k p p')
-plan_kept words e s d k p p' c a (inl (first, second, same, is)) none says = same_kept words e s d k p p' c first second a same is none says
-plan_kept words e s d k p p' c a (inr is) none says =
+plan_says : (words : List (List ℕ)) (e : Ending) (s : SourceState) (d : SiteState) (k : ClockState) (p p' : ConsoleState)
+    (c : Command) → IsAsked words c → NamesRefused c e ⊎ (e ≡ NoMemory) → d.is_drafting ≡ false
+    → Says [] (told_still words e s d k p p') → Ddrescue (told_still words e s d k p p')
+plan_says words e s d k p p' c a (inl (first, second, same, is)) none says =
+    same_kept words e s d k p p' c first second a same is none says
+plan_says words e s d k p p' c a (inr is) none says =
     still_kept words e s d k p p' (subst IsEarly (sym is) tt) (subst (λ (v : Ending). SaysOfWords v words) (sym is) tt)
     (λ other asks. inr is) none says
+
+pub plan_kept : (words : List (List ℕ)) (e : Ending) (s : SourceState) (d : SiteState) (k : ClockState)
+    (p p' : ConsoleState) (c : Command) (heard : Bool) → IsAsked words c → NamesRefused c e ⊎ (e ≡ NoMemory)
+    → d.is_drafting ≡ false → SpeaksOn (message_pieces e) (not c.options.quiet) heard p p'
+    → Ddrescue (told_still words e s d k p p')
+plan_kept words e s d k p p' c heard a refused none says =
+    let t : Told = told_still words e s d k p p' in
+    plan_says words e s d k p p' c a refused none
+    (says_heard t (not c.options.quiet) heard [] (heard_by t c.options.quiet [] a.quiet) says)
 
 -- names apart
 pub apart_of : (i o : List ℕ) (n : Option MapNames) → first_same i o n ≡ None → AreNamedApart o n
@@ -290,9 +330,13 @@ named_apart words c a different first second twice =
     names_pass c different (SameName first second)
     (first, second, subst P (a.alone twice.command twice.asks) twice.same, refl)
 
--- What a rescue did for a command behind its words, and what else is said of it.
-pub record SaysBy (c : Command) (line : List ℕ) (t : Told) : Type 0 where
-  pub worked : Worked c line t.answer (across_of t)
+-- what is told up to the message
+abbrev pub up_to : Told → ConsoleState → Across
+up_to t between = record (across_of t) { console' = between }
+
+-- What a rescue did for a command behind its words, up to its message, and what else is said of it.
+pub record SaysBy (c : Command) (line : List ℕ) (t : Told) (quiet heard : Bool) (between : ConsoleState) : Type 0 where
+  pub worked : Worked c line (not quiet) heard t.answer (up_to t between)
   pub cause : Causes t.answer t.source t.source' t.site t.site'
   pub draft : t.site'.is_drafting ≡ drafting_left t.answer
   pub source : SourceKeeps t.source t.source'
@@ -300,13 +344,13 @@ pub record SaysBy (c : Command) (line : List ℕ) (t : Told) : Type 0 where
   pub clock : ClockKeeps t.clock t.clock'
 
 -- the same by the words' command line
-abbrev SaysOf : Command → Told → Type 0
-SaysOf c t = SaysBy c (command_line program_name t.words) t
+abbrev SaysOf : Command → Told → (quiet heard : Bool) → (between : ConsoleState) → Type 0
+SaysOf c t quiet heard between = SaysBy c (command_line program_name t.words) t quiet heard between
 
 -- what was done by then, among files that tell
 abbrev WorksIn : Command → Told → Outside → Found → Type 0
 WorksIn c t o found =
-    Works rescue_faults (worked_rows c found o.end) (Rescues (asked_of c t o) found.mapfile) t.answer o.did
+    Works rescue_faults (worked_rows c found o.end) (Rescues (asked_of c t o) found.mapfile o.lines) t.answer o.did
 
 stops_by : (c : Command) (t : Told) (o : Outside) → Asks t.words c → first_same c.infile c.outfile (names_by c) ≡ None
     → (asked_of c t o).has_mapfile ≡ true → WorksIn c t o (found_in c (files_of t)) → AreTimes o.did.gain.times
@@ -316,45 +360,64 @@ stops_by c t o asks different on works fit (inr short) =
     let line : List ℕ = command_line program_name t.words in
     goes_safely (calls_before t) (asked_of c t o) o.did.gain (sensible_to c t.words line o.end o.maps asks) on
     (three_names c line o.end o.maps on different) short fit
-    (work_goes c line o.end o.maps (files_of t) t.answer o.did on works)
+    (work_goes c line o.end o.maps (files_of t) o.lines t.answer o.did on works)
 
-work_promised : (c : Command) (t : Told) → Asks t.words c → first_same c.infile c.outfile (names_by c) ≡ None
-    → Worked c (command_line program_name t.words) t.answer (across_of t) → Promise c t
-work_promised c t asks different w =
+-- the console is no matter of what is outside
+agrees_whole : (c : Command) (t : Told) (between : ConsoleState) (o : Outside) → Agrees c (up_to t between) o
+    → Agrees c (across_of t) o
+agrees_whole c t between o a = record {
+  opens = a.opens;
+  found = a.found;
+  calls = a.calls;
+  end = a.end;
+  reads = a.reads;
+  times = a.times;
+}
+
+work_promised : (c : Command) (t : Told) (heard heard' : Bool) (between : ConsoleState) → IsAsked t.words c
+    → first_same c.infile c.outfile (names_by c) ≡ None
+    → Worked c (command_line program_name t.words) (not c.options.quiet) heard t.answer (up_to t between)
+    → SpeaksOn (message_pieces t.answer) heard heard' between t.console' → Promise c t
+work_promised c t heard heard' between a different w says =
     let o : Outside = w.outside in
     record {
       outside = o;
-      agrees = w.agrees;
+      agrees = agrees_whole c t between o w.agrees;
       asked_maps = w.asked_maps;
       are_maps = w.are_maps;
       works = inr (inr (names_pass c different, w.works));
-      stops = λ tells on. stops_by c t o asks different on
+      stops = λ tells on. stops_by c t o a.asks different on
           (subst (WorksIn c t o) (w.agrees.found tells) w.works) w.fit w.short;
+      silent = w.silent;
+      says = says_both t (not c.options.quiet) heard heard' o.lines between (heard_by t c.options.quiet o.lines a.quiet) w.says says;
     }
 
 -- the promise of an answer behind the words
-says_kept : (t : Told) (c : Command) → IsAsked t.words c → first_same c.infile c.outfile (names_by c) ≡ None → SaysOf c t
-    → Says t → Ddrescue t
-says_kept t c a different r says =
-    let kept : Promise c t = work_promised c t a.asks different r.worked in
+says_kept : (t : Told) (c : Command) (heard heard' : Bool) (between : ConsoleState) → IsAsked t.words c
+    → first_same c.infile c.outfile (names_by c) ≡ None → SaysOf c t c.options.quiet heard between
+    → SpeaksOn (message_pieces t.answer) heard heard' between t.console' → Ddrescue t
+says_kept t c heard heard' between a different r says =
+    let kept : Promise c t = work_promised c t heard heard' between a different r.worked says in
     let o : Outside = r.worked.outside in
-    let run : Ending → Deeds → Type 0 = Rescues (asked_of c t o) o.found.mapfile in
+    let run : Ending → Deeds → Type 0 = Rescues (asked_of c t o) o.found.mapfile o.lines in
     record {
       words = says_of_words t.words c o.found o.end run t.answer o.did
-          (record { command = c; asks = a.asks; apart = different }) (rescue_ends (asked_of c t o) o.found.mapfile)
+          (record { command = c; asks = a.asks; apart = different }) (rescue_ends (asked_of c t o) o.found.mapfile o.lines)
           r.worked.works;
       cause = r.cause;
       asked_for = λ other asks. subst (λ (x : Command). Promise x t) (sym (a.alone other asks)) kept;
       draft = r.draft;
-      says = says;
+      says = λ none. absurd (none c a.asks);
       source = r.source;
       site = r.site;
       clock = r.clock;
     }
 
-pub work_kept : (t : Told) (c planned : Command) (line : List ℕ) → IsAsked t.words c → planned ≡ c
-    → line ≡ command_line program_name t.words → first_same c.infile c.outfile (names_by c) ≡ None → SaysBy planned line t
-    → Says t → Ddrescue t
-work_kept t c planned line a is line_is different r says =
-    says_kept t c a different
-    (subst (λ (x : Command). SaysOf x t) is (subst (λ (l : List ℕ). SaysBy planned l t) line_is r)) says
+pub work_kept : (t : Told) (c planned : Command) (line : List ℕ) (heard heard' : Bool) (between : ConsoleState)
+    → IsAsked t.words c → planned ≡ c → line ≡ command_line program_name t.words
+    → first_same c.infile c.outfile (names_by c) ≡ None → SaysBy planned line t c.options.quiet heard between
+    → SpeaksOn (message_pieces t.answer) heard heard' between t.console' → Ddrescue t
+work_kept t c planned line heard heard' between a is line_is different r says =
+    says_kept t c heard heard' between a different
+    (subst (λ (x : Command). SaysOf x t c.options.quiet heard between) is
+    (subst (λ (l : List ℕ). SaysBy planned l t c.options.quiet heard between) line_is r)) says

@@ -1,5 +1,5 @@
 -- What a run did, whatever its input and its output are named.
-use Rattle.std.proofs.Common.{◌≡◌, ℕ, ◌*◌, ◌<◌, ◌^◌, Bool, IsTrue, List, [], ◌∷◌, ◌++◌, length, All, Option, Some, None, is_some, refl, sym, ap, ◌∙◌, arith, subst, inl, inr, append-nil, length-append}
+use Rattle.std.proofs.Common.{◌≡◌, ℕ, ◌*◌, ◌<◌, ◌^◌, Bool, IsTrue, List, [], ◌∷◌, ◌++◌, length, All, Option, Some, None, is_some, option_map, refl, sym, ap, ◌∙◌, arith, subst, inl, inr, append-nil, length-append}
 use Rattle.std.proofs.Math.Path.{fun_ext}
 use Rattle.std.proofs.lemmas.List.Elements.{All-nil, All-cons}
 use Rattle.block_list.specs.declared.status.Status.{Status}
@@ -9,6 +9,8 @@ use Rattle.crash_site.specs.Calls.{Entry}
 use Rattle.crash_site.specs.SiteState.{SiteState}
 use Rattle.save_resume.specs.MapNames.{MapNames}
 use Rattle.rescue_console.specs.ClockState.{ClockState, Reads as ReadsClock}
+use Rattle.rescue_console.specs.ConsoleState.{ConsoleState}
+use Rattle.rescue_console.specs.Speaking.{SpeaksOn, out_pieces}
 use Rattle.rescue_domain.specs.Parts.{covers}
 use Rattle.rescue_rules.specs.declared.stop.RunEnd.{RunEnd}
 use Rattle.rescue_rules.specs.declared.stop.Stop.{Stop}
@@ -22,6 +24,7 @@ use Rattle.rescue_rules.specs.Preparation.{prepared}
 use Rattle.rescue_rules.specs.Beginning.{goes_on_from, shown_at_first, machine_of, machine_over}
 use Rattle.rescue_rules.specs.Events.{reads_of, times_of, with_times}
 use Rattle.rescue_rules.specs.Laws.{AreTimes}
+use Rattle.rescue_rules.specs.Lines.{lines_of, opening_lines}
 use Rattle.rescue_rules.specs.Work.{Gain, events_in, EndsBy, Ends, IsSaved, IsUnsaved, IsBroken}
 use Rattle.rescue_rules.proofs.NamelessLemmas.{run_named}
 use Rattle.rescue_core.specs.declared.settings.Settings.{Settings}
@@ -29,18 +32,23 @@ use Rattle.rescue_core.specs.RunState.{RunState, names_in, setting_with as core_
 use Rattle.ddrescue_cli.specs.declared.ending.Ending.{Ending}
 use Rattle.ddrescue_cli.specs.declared.ending.Ending.TheVariants.{NoMemory}
 use Rattle.rescue_command.specs.declared.options.Options.{Options}
-use Rattle.ddrescue_cli.specs.Asked.{Maps, setting_asked, domain_asked}
-use Rattle.copy_passes.specs.Turns.{Across, IsFrom}
-use Rattle.ddrescue_cli.specs.Work.{answer_of}
-use Rattle.ddrescue_cli.specs.Steps.{Ran}
-use Rattle.ddrescue_cli.specs.Running.{settings_by, IsRunOver, WentToEnd}
-use Rattle.ddrescue_cli.proofs.TurnLemmas.{timed_more}
+use Rattle.rescue_command.specs.Command.{Command}
+use Rattle.ddrescue_cli.specs.declared.ready.Ready.{Ready}
+use Rattle.ddrescue_cli.specs.Asked.{Maps, names_by, setting_asked, setting_of, domain_asked}
+use Rattle.rescue_core.specs.Across.{Across}
+use Rattle.rescue_core.proofs.TurnEndLemmas.{says_none}
+use Rattle.copy_passes.specs.Turns.{IsFrom}
+use Rattle.copy_passes.proofs.TurnLemmas.{says_more, timed_more}
+use Rattle.ddrescue_cli.specs.Work.{RunsOver, answer_of, said_by}
+use Rattle.ddrescue_cli.specs.Steps.{DidRun}
+use Rattle.ddrescue_cli.specs.Running.{settings_by, lines_in, IsReady, IsRunOver, WentToEnd}
 
 -- the setting of such a run is the rescue's, but for the names of its files
 setting_is : (i o : List ℕ) (n : Option MapNames) (l : List ℕ) (opts : Options) (end : ℕ) (maps : Maps)
-    (statuses : List Status) (state : Option MapState) (moment : ℕ) (r : RunState)
-    → IsRunOver n l opts end maps statuses state moment r → setting_in r ≡ nameless (setting_asked i o n l opts end maps)
-setting_is i o n l opts end maps statuses state moment r is =
+    (statuses : List Status) (state : Option MapState) (moment : ℕ) (heard : Bool) (r : RunState)
+    → IsRunOver n l opts end maps statuses state moment heard r
+    → setting_in r ≡ nameless (setting_asked i o n l opts end maps)
+setting_is i o n l opts end maps statuses state moment heard r is =
     let domain : ℕ → Bool = domain_asked opts end maps in
     let positions : covers r.domain ≡ domain = fun_ext is.domain in
     let S : Settings → Setting = λ settings. core_setting settings r.domain r.names r.line in
@@ -72,8 +80,9 @@ ends_named s m es spare calls end (IsUnsaved stop call by is broke) =
     IsUnsaved stop call (ends_by_named stop s (state_after s m es) spare by) is broke
 ends_named s m es spare calls end (IsBroken before last call split none is broke) = IsBroken before last call split none is broke
 
--- a run over a map from this moment on, in the words of a rescue
-record InWords (s : Setting) (statuses : List Status) (state : Option MapState) (moment : ℕ) (end : RunEnd) (o : Across) : Type 0 where
+-- a run over a map from this moment on, which is heard before and behind it or not, in the words of a rescue
+record InWords (s : Setting) (statuses : List Status) (state : Option MapState) (moment : ℕ) (heard heard' : Bool)
+    (end : RunEnd) (o : Across) : Type 0 where
   events : List Event
   spare : List ℕ
   run : IsRun s (machine_over s statuses state moment) events
@@ -84,14 +93,15 @@ record InWords (s : Setting) (statuses : List Status) (state : Option MapState) 
   right : IsTrue o.source.tells → All (IsFrom o.source.bytes) (reads_of events)
   timed : ReadsClock (times_of events ++ spare) o.clock o.clock'
   fit : AreTimes (times_of events ++ spare)
+  says : SpeaksOn (out_pieces (lines_of s (machine_over s statuses state moment) events end)) heard heard' o.console o.console'
 
 in_words : (i o : List ℕ) (n : Option MapNames) (l : List ℕ) (opts : Options) (end : ℕ) (maps : Maps)
-    (statuses : List Status) (state : Option MapState) (moment : ℕ) (r : RunState) (at : RunEnd)
-    (a : Across) → IsRunOver n l opts end maps statuses state moment r → WentToEnd r at a
-    → InWords (setting_asked i o n l opts end maps) statuses state moment at a
-in_words i o n l opts end maps statuses state moment r at a is w =
+    (statuses : List Status) (state : Option MapState) (moment : ℕ) (heard heard' : Bool) (r : RunState) (at : RunEnd)
+    (a : Across) → IsRunOver n l opts end maps statuses state moment heard r → WentToEnd r at heard' a
+    → InWords (setting_asked i o n l opts end maps) statuses state moment heard heard' at a
+in_words i o n l opts end maps statuses state moment heard heard' r at a is w =
     let s : Setting = setting_asked i o n l opts end maps in
-    let same : setting_in r ≡ nameless s = setting_is i o n l opts end maps statuses state moment r is in
+    let same : setting_in r ≡ nameless s = setting_is i o n l opts end maps statuses state moment heard r is in
     let m : Machine = machine_over s statuses state moment in
     let positions : covers r.domain ≡ s.domain = fun_ext is.domain in
     let M : (ℕ → Bool) → Setting → Machine =
@@ -99,6 +109,8 @@ in_words i o n l opts end maps statuses state moment r at a is w =
     let start : r.machine ≡ m = is.machine ∙ ap (λ (inside : ℕ → Bool). M inside (setting_in r)) positions ∙ ap (M s.domain) same in
     let P : Setting → Machine → Type 0 = λ t n. IsRun t n w.events in
     let E : Setting → Machine → Type 0 = λ t n. Ends t n w.events (length w.spare) w.gained at in
+    let L : Setting → Machine → Bool → Type 0 =
+    λ t n h. SpeaksOn (out_pieces (lines_of t n w.events at)) h heard' a.console a.console' in
     record {
       events = w.events;
       spare = w.spare;
@@ -111,13 +123,17 @@ in_words i o n l opts end maps statuses state moment r at a is w =
       right = w.right;
       timed = w.timed;
       fit = w.fit;
+      says = subst (L s m) is.heard_is (subst (λ (n : Machine). L (nameless s) n r.heard) start
+          (subst (λ (t : Setting). L t r.machine r.heard) same w.says));
     }
 
 -- the run with all its calls, reads and readings
-ran_so : (s : Setting) (statuses : List Status) (state : Option MapState) (moment : ℕ) (end : RunEnd) (o : Across) (before : ClockState)
-    → InWords s statuses state moment end o → ReadsClock (moment ∷ []) before o.clock → moment < 2 ^ 64
-    → Ran s None statuses state (answer_of end) (record o { clock = before })
-ran_so s statuses state moment end o before w first small =
+ran_so : (s : Setting) (statuses : List Status) (state : Option MapState) (moment : ℕ) (heard between heard' : Bool)
+    (end : RunEnd) (o : Across) (before : ClockState) (unsaid : ConsoleState)
+    → InWords s statuses state moment between heard' end o → ReadsClock (moment ∷ []) before o.clock → moment < 2 ^ 64
+    → SpeaksOn (out_pieces (opening_lines s (length statuses))) heard between unsaid o.console
+    → DidRun s None statuses state heard heard' (answer_of end) (record o { clock = before; console = unsaid })
+ran_so s statuses state moment heard between heard' end o before unsaid w first small opening =
     let times : List ℕ = moment ∷ (times_of w.events ++ w.spare) in
     let g : Gain = record { calls = w.gained; reads = reads_of w.events; times = times } in
     let m : Machine = machine_over s statuses state moment in
@@ -132,35 +148,53 @@ ran_so s statuses state moment end o before w first small =
         times = λ tell. all.told tell;
         fit = All-cons (λ t. t < 2 ^ 64) moment (times_of w.events ++ w.spare) small w.fit;
       };
-      runs = inr (
-        end,
-        refl,
-        record {
+      lines = said_by s statuses state g end;
+      says = subst
+          (λ (es : List Event). SpeaksOn (out_pieces (opening_lines s (length statuses) ++ lines_of s m es end)) heard heard'
+          unsaid o.console')
+          (sym own)
+          (says_more (opening_lines s (length statuses)) (lines_of s m w.events end) heard between heard' unsaid o.console
+          o.console' opening w.says);
+      runs = inr (record {
+        end = end;
+        answer = refl;
+        runs = record {
           spare = length w.spare;
           times = omega (arith, length-append (times_of w.events) w.spare, two_times w.events);
           run = subst (λ (es : List Event). IsRun s m es) (sym own) w.run;
           ends = subst (λ (es : List Event). Ends s m es (length w.spare) w.gained end) (sym own) w.ends;
-        },
-      );
+        };
+        says = refl;
+      });
     }
 
--- a run that was begun
-pub ran_went : (i o : List ℕ) (n : Option MapNames) (l : List ℕ) (opts : Options) (end : ℕ) (maps : Maps)
-    (statuses : List Status) (state : Option MapState) (moment : ℕ) (r : RunState) (at : RunEnd)
-    (e : Ending) (a : Across) (before : ClockState) → IsRunOver n l opts end maps statuses state moment r
-    → WentToEnd r at a → e ≡ answer_of at → ReadsClock (moment ∷ []) before a.clock → moment < 2 ^ 64
-    → Ran (setting_asked i o n l opts end maps) None statuses state e (record a { clock = before })
-ran_went i o n l opts end maps statuses state moment r at e a before is w answered first small =
-    let s : Setting = setting_asked i o n l opts end maps in
-    subst (λ (x : Ending). Ran s None statuses state x (record a { clock = before })) (sym answered)
-    (ran_so s statuses state moment at a before (in_words i o n l opts end maps statuses state moment r at a is w) first small)
+-- a run of what a command asks for, behind the line of what it began with
+pub ran_by : (c : Command) (n : Option MapNames) (l : List ℕ) (end : ℕ) (maps : Maps) (statuses : List Status)
+    (state : Option MapState) (moment : ℕ) (heard between heard' : Bool) (ready : Ready) (r : RunState) (at : RunEnd)
+    (e : Ending) (a : Across) (before : ClockState) (unsaid : ConsoleState) → n ≡ names_by c
+    → IsReady c end maps statuses state ready → IsRunOver n l c.options end maps statuses state moment between r
+    → WentToEnd r at heard' a → e ≡ answer_of at → ReadsClock (moment ∷ []) before a.clock → moment < 2 ^ 64
+    → SpeaksOn (out_pieces (lines_in (option_map (λ line. line.items) ready.opening))) heard between unsaid a.console
+    → DidRun (setting_of c l end maps) None statuses state heard heard' e (record a { clock = before; console = unsaid })
+ran_by c n l end maps statuses state moment heard between heard' ready r at e a before unsaid named is over w answered first
+    small opening =
+    let s : Setting = setting_of c l end maps in
+    let begun : IsRunOver (names_by c) l c.options end maps statuses state moment between r =
+    subst (λ (m : Option MapNames). IsRunOver m l c.options end maps statuses state moment between r) named over in
+    let b : Across = record a { clock = before; console = unsaid } in
+    subst (λ (x : Ending). DidRun s None statuses state heard heard' x b) (sym answered)
+    (ran_so s statuses state moment heard between heard' at a before unsaid
+    (in_words c.infile c.outfile (names_by c) l c.options end maps statuses state moment between heard' r at a begun w) first
+    small
+    (subst (λ (lines : List (List ℕ)). SpeaksOn (out_pieces lines) heard between unsaid a.console) (is.opening l) opening))
 
 -- memory that ran out before a run began
-pub ran_unbegun : (s : Setting) (statuses : List Status) (state : Option MapState) (moment : ℕ) (a : SourceState) (d : SiteState)
-    (k k' : ClockState) → ReadsClock (moment ∷ []) k k' → moment < 2 ^ 64
-    → Ran s None statuses state NoMemory (record { source = a; source' = a; site = d; site' = d; clock = k; clock' = k' })
-ran_unbegun s statuses state moment a d k k' first small = record {
-  gain = record { calls = []; reads = []; times = moment ∷ [] };
+pub ran_unbegun : (s : Setting) (statuses : List Status) (state : Option MapState) (heard : Bool) (a : SourceState)
+    (d : SiteState) (k : ClockState) (x : ConsoleState)
+    → DidRun s None statuses state heard heard NoMemory
+    (record { source = a; source' = a; site = d; site' = d; clock = k; clock' = k; console = x; console' = x })
+ran_unbegun s statuses state heard a d k x = record {
+  gain = record { calls = []; reads = []; times = [] };
   gains = record {
     calls = λ tell. sym (append-nil d.calls);
     reads = λ tell. record {
@@ -169,8 +203,16 @@ ran_unbegun s statuses state moment a d k k' first small = record {
       seen_are = refl;
       right = All-nil (IsFrom a.bytes);
     };
-    times = λ tell. first.told tell;
-    fit = All-cons (λ t. t < 2 ^ 64) moment [] small (All-nil (λ t. t < 2 ^ 64));
+    times = λ tell. sym (append-nil k.readings);
+    fit = All-nil (λ t. t < 2 ^ 64);
   };
-  runs = inl (record { answer = refl; calls = refl; reads = refl; times = omega arith });
+  lines = [];
+  says = says_none heard x;
+  runs = inl (record { answer = refl; calls = refl; reads = refl; times = refl; silent = refl });
 }
+
+-- where no clock was read nothing was said
+pub ran_silent : (s : Setting) (statuses : List Status) (state : Option MapState) (lines : List (List ℕ)) (e : Ending)
+    (g : Gain) → RunsOver s statuses state lines e g → g.times ≡ [] → lines ≡ []
+ran_silent s statuses state lines e g (inl unbegun) none = unbegun.silent
+ran_silent s statuses state lines e g (inr ran) none = absurd (omega (arith, ran.runs.times, ap length none))

@@ -131,5 +131,5 @@ faults_are_of_steps t d call earlier is =
     let ok : AreAccepted t.words = subst (λ (e : Ending). SaysOfWords e t.words) is d.words in
     let p : Promise ok.command t = d.asked_for ok.command ok.asks in
     let o : Outside = p.outside in
-    works_own ok.command o.found o.end (Rescues (asked_of ok.command t o) o.found.mapfile) t.answer o.did call earlier
-    (rescue_late (asked_of ok.command t o) o.found.mapfile) is p.works
+    works_own ok.command o.found o.end (Rescues (asked_of ok.command t o) o.found.mapfile o.lines) t.answer o.did call
+    earlier (rescue_late (asked_of ok.command t o) o.found.mapfile o.lines) is p.works

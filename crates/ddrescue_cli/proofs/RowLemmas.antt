@@ -22,9 +22,10 @@ use Rattle.ddrescue_cli.specs.Work.{IfNamed, Rescues, answer_of, barrier_of, map
 abbrev pub EndsRun : Ending → Type 0
 EndsRun e = (end : RunEnd) × (e ≡ answer_of end)
 
-pub rescue_ends : (s : Setting) (mapfile : Option File) (e : Ending) (d : Deeds) → Rescues s mapfile e d → EndsRun e
-rescue_ends s mapfile e d (opens, (statuses, state, stands, inl unbegun)) = (Stopped NoRoom, unbegun.answer)
-rescue_ends s mapfile e d (opens, (statuses, state, stands, inr (end, is, runs))) = (end, is)
+pub rescue_ends : (s : Setting) (mapfile : Option File) (lines : List (List ℕ)) (e : Ending) (d : Deeds)
+    → Rescues s mapfile lines e d → EndsRun e
+rescue_ends s mapfile lines e d (opens, (statuses, state, stands, inl unbegun)) = (Stopped NoRoom, unbegun.answer)
+rescue_ends s mapfile lines e d (opens, (statuses, state, stands, inr ran)) = (ran.end, ran.answer)
 
 -- the call of an open of the output
 pub open_call : (call : SiteCall) (out : List ℕ) (old new : List Entry) → BrokeAt call (image_open out true ∷ []) old new

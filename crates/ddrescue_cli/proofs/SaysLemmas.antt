@@ -1,40 +1,80 @@
--- What is said of an answer.
-use Rattle.std.proofs.Common.{◌≡◌, ◌≢◌, ◌⊎◌, Bool, true, false, IsTrue, List, ℕ, Result, Ok, Err, inl, inr, subst}
-use Rattle.fault_count.specs.Plan.{counted}
-use Rattle.rescue_console.specs.ConsoleState.{ConsoleState, Puts, PutsPart, Answers as ConsoleAnswers}
+-- What is said of a rescue: its lines, and behind them the message of its answer.
+use Rattle.std.proofs.Common.{◌≡◌, ◌≢◌, ◌⊎◌, Bool, true, false, List, [], ◌∷◌, ◌++◌, ℕ, Result, Ok, Err, is_ok, inl, inr, refl, sym, subst}
+use Rattle.rescue_console.specs.declared.console.Channel.{Channel}
 use Rattle.rescue_console.specs.declared.console.Channel.TheVariants.{Err as ErrorChannel}
-use Rattle.ddrescue_cli.specs.declared.ending.Ending.TheVariants.{Done}
-use Rattle.ddrescue_cli.specs.Messages.{message}
-use Rattle.ddrescue_cli.specs.Answers.{IsUntouched, MaySay}
+use Rattle.rescue_console.specs.ConsoleState.{ConsoleState, Answers}
+use Rattle.rescue_console.specs.Speaking.{Piece, SpeaksOn, out_pieces}
+use Rattle.rescue_console.proofs.SpeakingLemmas.{heard_speak, speeches_join}
+use Rattle.rescue_command.specs.Command.{AskQuiet}
+use Rattle.ddrescue_cli.specs.declared.ending.Ending.{Ending}
+use Rattle.ddrescue_cli.specs.declared.ending.Ending.TheVariants.{Done, NoMemory}
+use Rattle.ddrescue_cli.specs.Messages.{message, message_pieces}
+use Rattle.ddrescue_cli.specs.Answers.{IsUntouched}
 use Rattle.ddrescue_cli.specs.Told.{Told}
-use Rattle.ddrescue_cli.specs.Ddrescue.{Says, Nothing, Message}
+use Rattle.ddrescue_cli.specs.Ddrescue.{Says, Nothing, Spoken}
 
--- what may be said of a call
-abbrev MaySayOf : Told → Bool → Type 0
-MaySayOf t quiet = MaySay t.words t.answer quiet (IsUntouched t.source t.source' t.site t.site' t.clock t.clock')
+-- One put, which went well or failed, says a piece: who was heard is heard behind it where it went well.
+pub put_says : {T E : Type 0} (channel : Channel) (text : List ℕ) (result : Result T E) (old new : ConsoleState)
+    → Answers channel text result old new
+    → SpeaksOn (record { channel = channel; text = text } ∷ []) true (is_ok result) old new
+put_says channel text (Ok x) old new a =
+    inl (new, record { puts = a.puts; one = λ planned. (a.plan planned).plan }, (refl, refl))
+put_says channel text (Err e) old new a =
+    inr (refl, record { puts = a.fails; one = λ planned. (a.plan planned).plan })
 
--- a put, whole or not
-puts_or : {T E : Type 0} (piece : List ℕ) (result : Result T E) (old new : ConsoleState) → ConsoleAnswers ErrorChannel piece result old new
-    → Puts ErrorChannel piece old new ⊎ PutsPart ErrorChannel piece old new
-puts_or piece (Ok x) old new a = inl a.puts
-puts_or piece (Err e) old new a = inr a.fails
+-- who isn't heard says nothing
+pub unheard_says : (ps : List Piece) (x : ConsoleState) → SpeaksOn ps false false x x
+unheard_says [] x = (refl, refl)
+unheard_says (p ∷ ps) x = (refl, refl)
 
--- by its plan a console counts one put
-counts_one : {T E : Type 0} (piece : List ℕ) (result : Result T E) (old new : ConsoleState) → ConsoleAnswers ErrorChannel piece result old new
-    → IsTrue old.is_planned → new.plan ≡ counted old.plan
-counts_one piece result old new a planned = (a.plan planned).plan
+unheard : (ps : List Piece) (heard : Bool) (old new : ConsoleState) → SpeaksOn ps false heard old new → new ≡ old
+unheard [] heard old new says = says.1
+unheard (p ∷ ps) heard old new says = says.1
 
-pub says_message : {T E : Type 0} (t : Told) (quiet : Bool) (piece : List ℕ) (result : Result T E) (between : ConsoleState)
-    → MaySayOf t quiet → quiet ≡ false → t.answer ≢ Done → piece ≡ message t.answer → between ≡ t.console
-    → ConsoleAnswers ErrorChannel piece result between t.console' → Says t
-says_message t quiet piece result between may off other is still a =
-    let P : List ℕ → ConsoleState → Type 0 = λ p old. Puts ErrorChannel p old t.console' ⊎ PutsPart ErrorChannel p old t.console' in
-    let C : ConsoleState → Type 0 = λ old. IsTrue old.is_planned → t.console'.plan ≡ counted old.plan in
-    Message other (may.loud off)
-    (subst (P (message t.answer)) still (subst (λ (p : List ℕ). P p between) is (puts_or piece result between t.console' a)))
-    (subst C still (counts_one piece result between t.console' a))
+-- a message, unless the rescue is done
+message_by : (e : Ending) → e ≢ Done → message_pieces e ≡ record { channel = ErrorChannel; text = message e } ∷ []
+message_by Done other = absurd (other refl)
+message_by e other = refl
 
-pub says_nothing : (t : Told) (quiet : Bool) → MaySayOf t quiet → (t.answer ≡ Done) ⊎ (quiet ≡ true)
-    → t.console' ≡ t.console → Says t
-says_nothing t quiet may (inl done) still = Nothing (inl done) still
-says_nothing t quiet may (inr on) still = Nothing (inr (may.silent on)) still
+pub says_message : {T E : Type 0} (e : Ending) (text : List ℕ) (result : Result T E) (heard : Bool)
+    (old new : ConsoleState) → heard ≡ true → e ≢ Done → text ≡ message e → Answers ErrorChannel text result old new
+    → SpeaksOn (message_pieces e) heard (is_ok result) old new
+says_message e text result heard old new on other is put =
+    subst (λ (h : Bool). SpeaksOn (message_pieces e) h (is_ok result) old new) (sym on)
+    (subst (λ (ps : List Piece). SpeaksOn ps true (is_ok result) old new) (sym (message_by e other))
+    (put_says ErrorChannel (message e) result old new
+    (subst (λ (t : List ℕ). Answers ErrorChannel t result old new) is put)))
+
+-- no message of a rescue that is done, or isn't heard
+pub says_no_message : (e : Ending) (heard : Bool) (x : ConsoleState) → (e ≡ Done) ⊎ (heard ≡ false)
+    → SpeaksOn (message_pieces e) heard heard x x
+says_no_message e heard x (inr off) =
+    subst (λ (h : Bool). SpeaksOn (message_pieces e) h h x x) (sym off) (unheard_says (message_pieces e) x)
+says_no_message e true x (inl done) =
+    subst (λ (v : Ending). SpeaksOn (message_pieces v) true true x x) (sym done) (refl, refl)
+says_no_message e false x (inl done) = unheard_says (message_pieces e) x
+
+-- What is said of a call that is heard or not, as its words ask.
+pub record MaySay (t : Told) (heard : Bool) (lines : List (List ℕ)) : Type 0 where
+  pub silent : heard ≡ false → AskQuiet t.words
+  pub loud : heard ≡ true → AskQuiet t.words
+      → (t.answer ≡ NoMemory) × (lines ≡ []) × IsUntouched t.source t.source' t.site t.site' t.clock t.clock'
+
+-- so it says what is to be said
+pub says_heard : (t : Told) (heard heard' : Bool) (lines : List (List ℕ)) → MaySay t heard lines
+    → SpeaksOn (out_pieces lines ++ message_pieces t.answer) heard heard' t.console t.console' → Says lines t
+says_heard t true heard' lines may says =
+    Spoken (may.loud refl)
+    (heard_speak (out_pieces lines ++ message_pieces t.answer) heard' t.console t.console' says)
+says_heard t false heard' lines may says =
+    Nothing (may.silent refl)
+    (unheard (out_pieces lines ++ message_pieces t.answer) heard' t.console t.console' says)
+
+-- lines, and behind them the message
+pub says_both : (t : Told) (heard heard' heard'' : Bool) (lines : List (List ℕ)) (between : ConsoleState)
+    → MaySay t heard lines → SpeaksOn (out_pieces lines) heard heard' t.console between
+    → SpeaksOn (message_pieces t.answer) heard' heard'' between t.console' → Says lines t
+says_both t heard heard' heard'' lines between may first second =
+    says_heard t heard heard'' lines may
+    (speeches_join (out_pieces lines) (message_pieces t.answer) heard heard' heard'' t.console between t.console' first
+    second)

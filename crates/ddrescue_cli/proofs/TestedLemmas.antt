@@ -1,5 +1,5 @@
 -- What a run in test mode did to the input that its source reads.
-use Rattle.std.proofs.Common.{◌≡◌, ℕ, IsTrue, List, ◌++◌, map, Option, Some, None, sym, ap, ◌∙◌}
+use Rattle.std.proofs.Common.{◌≡◌, ℕ, Bool, IsTrue, List, ◌++◌, map, Option, Some, None, sym, ap, ◌∙◌}
 use Rattle.std.proofs.lemmas.List.{map-append, append_cancel_left}
 use Rattle.block_list.specs.declared.status.Status.{Status}
 use Rattle.mapfile_text.specs.declared.state.MapState.{MapState}
@@ -7,27 +7,17 @@ use Rattle.faulty_source.specs.Journal.{Reading, Gains as JournalGains}
 use Rattle.faulty_source.specs.SourceState.{SourceState, Keeps as SourceKeeps}
 use Rattle.crash_site.specs.SiteState.{SiteState}
 use Rattle.rescue_console.specs.ClockState.{ClockState}
+use Rattle.rescue_console.specs.ConsoleState.{ConsoleState}
 use Rattle.rescue_domain.specs.Testing.{seen, state_seen, GainsSeen}
 use Rattle.rescue_domain.proofs.TestingLemmas.{said_below}
 use Rattle.rescue_rules.specs.Setting.{Setting}
 use Rattle.rescue_rules.specs.declared.stop.Stop.TheVariants.{Site}
-use Rattle.copy_passes.specs.Turns.{Across}
+use Rattle.copy_passes.proofs.TurnLemmas.{between}
 use Rattle.ddrescue_cli.specs.declared.ending.Ending.{Ending}
 use Rattle.ddrescue_cli.specs.declared.ending.Ending.TheVariants.{MapRefused, SiteFault}
 use Rattle.ddrescue_cli.specs.Answers.{Rises, Causes}
 use Rattle.ddrescue_cli.specs.Outside.{HasGainedReads}
-use Rattle.ddrescue_cli.specs.Steps.{Ran}
-
--- what is told before and behind a call
-abbrev pub across : (site site' : SiteState) (clock clock' : ClockState) (source source' : SourceState) → Across
-across site site' clock clock' source source' = record {
-  source = source;
-  source' = source';
-  site = site;
-  site' = site';
-  clock = clock;
-  clock' = clock';
-}
+use Rattle.ddrescue_cli.specs.Steps.{DidRun}
 
 -- Between two states of an input, as they are seen in test mode:
 module _ (reference : ℕ) (tests : List Status) (old new : SourceState)
@@ -42,12 +32,12 @@ module _ (reference : ℕ) (tests : List Status) (old new : SourceState)
       record { gains = gains; seen = append_cancel_left (map (seen tests) old.journal) _ _ same }
 
   -- and so the run is one of that input.
-  ran_seen : (s : Setting) (statuses : List Status) (state : Option MapState) (e : Ending) (site site' : SiteState)
-      (clock clock' : ClockState)
-      → Ran s None statuses state e
-      (across site site' clock clock' (state_seen reference tests old) (state_seen reference tests new))
-      → Ran s (Some tests) statuses state e (across site site' clock clock' old new)
-  ran_seen s statuses state e site site' clock clock' ran = record {
+  ran_seen : (s : Setting) (statuses : List Status) (state : Option MapState) (heard heard' : Bool) (e : Ending)
+      (site site' : SiteState) (clock clock' : ClockState) (console console' : ConsoleState)
+      → DidRun s None statuses state heard heard' e
+      (between (state_seen reference tests old) (state_seen reference tests new) site site' clock clock' console console')
+      → DidRun s (Some tests) statuses state heard heard' e (between old new site site' clock clock' console console')
+  ran_seen s statuses state heard heard' e site site' clock clock' console console' ran = record {
     gain = ran.gain;
     gains = record {
       calls = ran.gains.calls;
@@ -59,6 +49,8 @@ module _ (reference : ℕ) (tests : List Status) (old new : SourceState)
       times = ran.gains.times;
       fit = ran.gains.fit;
     };
+    lines = ran.lines;
+    says = ran.says;
     runs = ran.runs;
   }
 
@@ -84,13 +76,15 @@ module _ (reference reference' : ℕ) (tests tests' : List Status) (old new test
   below = said_below reference reference' tests tests' old new test made kept
 
   -- it did that to the input,
-  pub ran_below : (s : Setting) (statuses : List Status) (state : Option MapState) (e : Ending) (site site' : SiteState)
-      (clock clock' : ClockState)
-      → Ran s None statuses state e (across site site' clock clock' test (state_seen reference' tests' new))
-      → Ran s (Some tests) statuses state e (across site site' clock clock' old new)
-  ran_below s statuses state e site site' clock clock' ran =
-      ran_seen reference tests old new (below SourceKeeps kept) s statuses state e site site' clock clock'
-      (below (λ a b. Ran s None statuses state e (across site site' clock clock' a b)) ran)
+  pub ran_below : (s : Setting) (statuses : List Status) (state : Option MapState) (heard heard' : Bool) (e : Ending)
+      (site site' : SiteState) (clock clock' : ClockState) (console console' : ConsoleState)
+      → DidRun s None statuses state heard heard' e
+      (between test (state_seen reference' tests' new) site site' clock clock' console console')
+      → DidRun s (Some tests) statuses state heard heard' e (between old new site site' clock clock' console console')
+  ran_below s statuses state heard heard' e site site' clock clock' console console' ran =
+      ran_seen reference tests old new (below SourceKeeps kept) s statuses state heard heard' e site site' clock clock'
+      console console'
+      (below (λ a b. DidRun s None statuses state heard heard' e (between a b site site' clock clock' console console')) ran)
 
   -- and its answer has that cause there.
   pub causes_below : (e : Ending) (site site' : SiteState) → Causes e test (state_seen reference' tests' new) site site'

@@ -1,9 +1,10 @@
 -- Turns of a copy, and one more event.
-use Rattle.std.proofs.Common.{◌≡◌, ℕ, ◌+◌, ◌<◌, ◌≤◌, ◌^◌, IsTrue, List, [], ◌∷◌, ◌++◌, length, All, refl, sym, ap, ◌∙◌, subst, append_assoc}
+use Rattle.std.proofs.Common.{◌≡◌, ℕ, ◌+◌, ◌<◌, ◌≤◌, ◌^◌, IsTrue, List, [], ◌∷◌, ◌++◌, length, All, refl, sym, ap, ◌∙◌, subst}
 use Rattle.std.specs.List.{slice_range}
 use Rattle.std.proofs.lemmas.List.Elements.{All-nil, All-cons, All-append}
 use Rattle.faulty_source.specs.Journal.{Reading}
 use Rattle.faulty_source.specs.SourceState.{SourceState, Stays as SourceStays, Reads}
+use Rattle.faulty_source.proofs.Keeping.{reads_more}
 use Rattle.crash_site.specs.Calls.{Call}
 use Rattle.crash_site.specs.SiteState.{SiteState}
 use Rattle.rescue_console.specs.ClockState.{ClockState, Reads as ReadsClock}
@@ -21,24 +22,9 @@ use Rattle.rescue_rules.proofs.ReadyLemmas.{ready_here}
 use Rattle.rescue_rules.proofs.SearchLemmas.{request_seen}
 use Rattle.rescue_core.specs.RunState.{RunState, setting_in}
 use Rattle.rescue_core.specs.Turning.{IsEvent, move_by}
-use Rattle.copy_passes.specs.Turns.{Across, IsFrom, IsAlike, Went}
-
--- What the objects tell, across two things done one after the other.
-pub timed_more : (xs ys : List ℕ) (a b c : ClockState) → ReadsClock xs a b → ReadsClock ys b c → ReadsClock (xs ++ ys) a c
-timed_more xs ys a b c f g = record {
-  tells = λ now. f.tells (g.tells now);
-  told = λ now. g.told now ∙ ap (λ (r : List ℕ). r ++ ys) (f.told (g.tells now)) ∙ append_assoc a.readings xs ys;
-}
-
-reads_more : (xs ys : List Reading) (a b c : SourceState) → b.tells ≡ a.tells → Reads xs a b → Reads ys b c → Reads (xs ++ ys) a c
-reads_more xs ys a b c same f g = record {
-  told = λ tells. g.told (rw same tells) ∙ ap (λ (r : List Reading). r ++ ys) (f.told tells) ∙ append_assoc a.journal xs ys;
-  losses = g.losses ∙ f.losses;
-}
-
-times_append : (front back : List Event) → times_of (front ++ back) ≡ times_of front ++ times_of back
-times_append [] back = refl
-times_append (e ∷ front) back = ap (λ (ts : List ℕ). e.before ∷ e.after ∷ ts) (times_append front back)
+use Rattle.rescue_core.specs.Across.{Across}
+use Rattle.copy_passes.specs.Turns.{IsFrom, IsAlike, Went}
+use Rattle.copy_passes.proofs.TurnLemmas.{timed_more, times_append}
 
 -- A run of events that led to another run's state, or to one alike, and one more that reads that one's request.
 pub record EventMore (r r1 : RunState) (es : List Event) (e : Event) : Type 0 where

@@ -12,8 +12,9 @@ use Rattle.rescue_rules.specs.declared.stop.Stop.TheVariants.{SourceLost as Inpu
 use Rattle.rescue_rules.specs.declared.stop.RunEnd.{RunEnd}
 use Rattle.rescue_rules.specs.declared.stop.RunEnd.TheVariants.{Done as Finished, Stopped, SaveFailed}
 use Rattle.rescue_rules.specs.Work.{Gain}
-use Rattle.work_steps.specs.Work.{Deeds}
+use Rattle.work_steps.specs.Work.{Deeds, Step}
 use Rattle.work_steps.specs.Verdicts.{IsOnce, RefuseOnce, AreVerdicts}
+use Rattle.work_steps.proofs.PartLemmas.{works_as}
 use Rattle.work_steps.proofs.VerdictLemmas.{one_verdict}
 use Rattle.rescue_command.specs.declared.options.Options.{Options}
 use Rattle.rescue_command.specs.Command.{Command}
@@ -36,16 +37,20 @@ done_only e (Stopped NoRoom) is verdict = absurd (verdict.room is)
 done_only e (SaveFailed call earlier) is verdict = absurd (verdict.call call earlier is)
 
 -- a run that was done, or none that had begun
-pub done_over : (s : Setting) (statuses : List Status) (state : Option MapState) (e : Ending) (g : Gain)
-    → RunsOver s statuses state e g → IsVerdict e → e ≡ Done
-done_over s statuses state e g (inl unbegun) verdict = absurd (verdict.room unbegun.answer)
-done_over s statuses state e g (inr (end, is, runs)) verdict = done_only e end is verdict
+pub done_over : (s : Setting) (statuses : List Status) (state : Option MapState) (lines : List (List ℕ)) (e : Ending)
+    (g : Gain) → RunsOver s statuses state lines e g → IsVerdict e → e ≡ Done
+done_over s statuses state lines e g (inl unbegun) verdict = absurd (verdict.room unbegun.answer)
+done_over s statuses state lines e g (inr ran) verdict = done_only e ran.end ran.answer verdict
 
--- so two runs have one
-run_once : (s : Setting) (mapfile : Option File) (e e' : Ending) (d d' : Deeds) → Rescues s mapfile e d → Rescues s mapfile e' d'
-    → IsVerdict e → IsVerdict e' → e ≡ e'
-run_once s mapfile e e' d d' (opens, (statuses, state, stands, runs)) (opens', (statuses', state', stands', runs')) v v' =
-    done_over s statuses state e d.gain runs v ∙ sym (done_over s statuses' state' e' d'.gain runs' v')
+-- so two runs have one, whatever they say
+abbrev SaysSome : Setting → Option File → Ending → Deeds → Type 0
+SaysSome s mapfile e d = (lines : List (List ℕ)) × Rescues s mapfile lines e d
+
+run_once : (s : Setting) (mapfile : Option File) (e e' : Ending) (d d' : Deeds) → SaysSome s mapfile e d
+    → SaysSome s mapfile e' d' → IsVerdict e → IsVerdict e' → e ≡ e'
+run_once s mapfile e e' d d' (lines, run) (lines', run') v v' =
+    done_over s run.1.0 run.1.1 lines e d.gain run.1.3 v
+    ∙ sym (done_over s run'.1.0 run'.1.1 lines' e' d'.gain run'.1.3 v')
 
 one_names : (c : Command) → IsOnce (NamesRefused c)
 one_names c e e' a b =
@@ -86,6 +91,9 @@ pub verdicts : AreVerdicts rescue_faults IsVerdict
 verdicts = record { memory = λ v. v.room refl; input = λ v. v.opened refl; call = λ call v. v.call call None refl }
 
 pub has_one_verdict : HasOneVerdict
-has_one_verdict c s found e e' d d' w w' v v' =
-    one_verdict Ending rescue_faults IsVerdict verdicts (rescue_rows c found s.end) (Rescues s found.mapfile)
-    (rows_once c found s.end) (run_once s found.mapfile) e e' d d' w w' v v'
+has_one_verdict c s found lines lines' e e' d d' w w' v v' =
+    let rows : List (Step Ending) = rescue_rows c found s.end in
+    let run : Ending → Deeds → Type 0 = SaysSome s found.mapfile in
+    one_verdict Ending rescue_faults IsVerdict verdicts rows run (rows_once c found s.end) (run_once s found.mapfile) e e'
+    d d' (works_as rescue_faults rows (Rescues s found.mapfile lines) run (λ v x ran. (lines, ran)) e d w)
+    (works_as rescue_faults rows (Rescues s found.mapfile lines') run (λ v x ran. (lines', ran)) e' d' w') v v'

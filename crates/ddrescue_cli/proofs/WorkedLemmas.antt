@@ -1,5 +1,5 @@
 -- What a rescue did behind its words: the reads of maps that options name, and what was done behind them.
-use Rattle.std.proofs.Common.{◌≡◌, ◌⊎◌, ℕ, ◌<◌, ◌^◌, IsTrue, List, [], ◌++◌, length, map, Option, Some, None, Ok, Err, refl, sym, ap, ◌∙◌, inl, inr, subst, append_assoc, append-nil}
+use Rattle.std.proofs.Common.{◌≡◌, ◌⊎◌, ℕ, ◌<◌, ◌^◌, Bool, IsTrue, List, [], ◌++◌, length, map, Option, Some, None, Ok, Err, refl, sym, ap, ◌∙◌, inl, inr, subst, append_assoc, append-nil}
 use Rattle.std.proofs.lemmas.List.Elements.{All-nil, All-append}
 use Rattle.block_list.specs.declared.status.Status.{Status}
 use Rattle.block_list.specs.Tiled.{Tiled}
@@ -13,6 +13,7 @@ use Rattle.crash_site.specs.SiteState.{SiteState, files_in, Stays}
 use Rattle.crash_site.proofs.LawLemmas.{after-append}
 use Rattle.save_resume.specs.Named.{map_mode}
 use Rattle.rescue_console.specs.ClockState.{ClockState}
+use Rattle.rescue_console.specs.ConsoleState.{ConsoleState}
 use Rattle.rescue_rules.specs.Work.{Gain, IsNothing, AreMapReads}
 use Rattle.copy_passes.specs.Turns.{IsFrom}
 use Rattle.work_steps.specs.Work.{Deeds, Works}
@@ -28,7 +29,9 @@ use Rattle.ddrescue_cli.specs.Asked.{Maps, setting_of}
 use Rattle.ddrescue_cli.specs.Maps.{Found, IsNamedMap, file_of, found_in, mapfile_of}
 use Rattle.ddrescue_cli.specs.Work.{Rescues, rescue_faults, map_rows, opened_rows}
 use Rattle.ddrescue_cli.specs.Steps.{statuses_in, HasTiles, ReadsMap, IsOnlyMaps, maps_of, Opened, Worked}
-use Rattle.ddrescue_cli.proofs.OpenedLemmas.{across, none_seen}
+use Rattle.ddrescue_cli.proofs.OpenedLemmas.{none_seen}
+use Rattle.copy_passes.proofs.TurnLemmas.{between as across}
+use Rattle.rescue_core.proofs.TurnEndLemmas.{says_none}
 use Rattle.ddrescue_cli.proofs.MapsLemmas.{MapsOf, maps_for, map_is_one}
 use Rattle.work_steps.proofs.FrontLemmas.{IsMapRead, load_reads, reads_stand, broke_in_both, made_both}
 
@@ -114,16 +117,22 @@ abbrev mode_by : Command → Mode
 mode_by c = map_mode c.options.loose
 
 -- nothing but calls was gained, of which all read maps
-worked_reads : (c : Command) (line : List ℕ) (e : Ending) (source : SourceState) (old new : SiteState) (clock : ClockState)
-    (found : Found) (calls : List Entry) → (IsTrue old.tells → found ≡ found_in c (files_in old))
+worked_reads : (c : Command) (line : List ℕ) (heard : Bool) (e : Ending) (source : SourceState) (old new : SiteState)
+    (clock : ClockState) (x : ConsoleState) (found : Found) (calls : List Entry) → (IsTrue old.tells → found ≡ found_in c (files_in old))
     → (IsTrue old.tells → new.calls ≡ old.calls ++ calls) → AreReads calls
     → ((run : Ending → Deeds → Type 0) → Works rescue_faults (map_rows DomainMap (mode_by c) c.domain_map found.domain
     ++ map_rows TestMap (mode_by c) c.test_map found.test ++ opened_rows c found (length source.bytes)) run e (only_calls calls))
-    → Worked c line e (across source source old new clock clock)
-worked_reads c line e source old new clock found calls own grew reads works =
+    → Worked c line heard heard e (across source source old new clock clock x x)
+worked_reads c line heard e source old new clock x found calls own grew reads works =
     let m : MapsOf c found = maps_for c found in
     record {
-      outside = record { found = found; end = length source.bytes; maps = m.maps; did = only_calls calls };
+      outside = record {
+        found = found;
+        end = length source.bytes;
+        maps = m.maps;
+        did = only_calls calls;
+        lines = [];
+      };
       agrees = record {
         opens = refl;
         found = own;
@@ -139,18 +148,20 @@ worked_reads c line e source old new clock found calls own grew reads works =
       };
       asked_maps = m.asked;
       are_maps = m.are;
-      works = works (Rescues (setting_of c line (length source.bytes) m.maps) found.mapfile);
+      works = works (Rescues (setting_of c line (length source.bytes) m.maps) found.mapfile []);
+      silent = λ none. refl;
+      says = says_none heard x;
       fit = All-nil (λ t. t < 2 ^ 64);
       short = inl (only_maps (only_calls calls).gain reads refl refl);
     }
 
 -- it stopped in the first read,
-pub worked_domain : (c : Command) (line : List ℕ) (e : Ending) (source : SourceState) (old new : SiteState)
-    (clock : ClockState) → ReadsMap DomainMap (mode_by c) c.domain_map (Err e) old new
-    → Worked c line e (across source source old new clock clock)
-worked_domain c line e source old new clock r =
+pub worked_domain : (c : Command) (line : List ℕ) (heard : Bool) (e : Ending) (source : SourceState) (old new : SiteState)
+    (clock : ClockState) (x : ConsoleState) → ReadsMap DomainMap (mode_by c) c.domain_map (Err e) old new
+    → Worked c line heard heard e (across source source old new clock clock x x)
+worked_domain c line heard e source old new clock x r =
     let found : Found = record (found_in c (files_in old)) { domain = r.file } in
-    worked_reads c line e source old new clock found r.calls
+    worked_reads c line heard e source old new clock x found r.calls
     (λ t. ap (λ (f : Option File). record (found_in c (files_in old)) { domain = f }) (r.is_own t)) r.gained
     (reads_stopped DomainMap (mode_by c) c.domain_map r.file e r.calls r.did)
     (λ run. stopped_more rescue_faults (map_rows DomainMap (mode_by c) c.domain_map r.file)
@@ -168,16 +179,16 @@ stands_behind which mode name tiles old new f stays t =
     files_stand f.calls old new (reads_through which mode name f.file f.calls f.did.1) (stays.keeps.start t) (f.gained t)
 
 -- or in the second,
-pub worked_test : (c : Command) (line : List ℕ) (domain : Option Tiled) (e : Ending) (source : SourceState)
-    (old mid new : SiteState) (clock : ClockState) → ReadsMap DomainMap (mode_by c) c.domain_map (Ok domain) old mid
+pub worked_test : (c : Command) (line : List ℕ) (domain : Option Tiled) (heard : Bool) (e : Ending) (source : SourceState)
+    (old mid new : SiteState) (clock : ClockState) (x : ConsoleState) → ReadsMap DomainMap (mode_by c) c.domain_map (Ok domain) old mid
     → Stays old mid → ReadsMap TestMap (mode_by c) c.test_map (Err e) mid new
-    → Worked c line e (across source source old new clock clock)
-worked_test c line domain e source old mid new clock f stays r =
+    → Worked c line heard heard e (across source source old new clock clock x x)
+worked_test c line domain heard e source old mid new clock x f stays r =
     let found : Found = record (found_in c (files_in old)) { domain = f.file; test = r.file } in
     let own : IsTrue old.tells → r.file ≡ file_of c.test_map (files_in old) =
     λ t. r.is_own (rw stays.keeps.tells t)
     ∙ ap (file_of c.test_map) (stands_behind DomainMap (mode_by c) c.domain_map domain old mid f stays t) in
-    worked_reads c line e source old new clock found (f.calls ++ r.calls)
+    worked_reads c line heard e source old new clock x found (f.calls ++ r.calls)
     (λ t. ap (λ (g : Option File). record (found_in c (files_in old)) { domain = g; test = r.file }) (f.is_own t)
     ∙ ap (λ (g : Option File). record (found_in c (files_in old)) { test = g }) (own t))
     (λ t. grew_both old.calls mid.calls new.calls f.calls r.calls (f.gained t) (r.gained (rw stays.keeps.tells t)))
@@ -218,15 +229,15 @@ short_behind g end first second f h (inl none) =
     none.reads none.times)
 short_behind g end first second f h (inr short) = inr short
 
-pub worked_behind : (c : Command) (line : List ℕ) (domain test : Option Tiled) (e : Ending) (s0 s1 : SourceState)
-    (old mid new last : SiteState) (k k' : ClockState) → ReadsMap DomainMap (mode_by c) c.domain_map (Ok domain) old mid
+pub worked_behind : (c : Command) (line : List ℕ) (domain test : Option Tiled) (heard heard' : Bool) (e : Ending)
+    (s0 s1 : SourceState) (old mid new last : SiteState) (k k' : ClockState) (x x' : ConsoleState) → ReadsMap DomainMap (mode_by c) c.domain_map (Ok domain) old mid
     → Stays old mid → ReadsMap TestMap (mode_by c) c.test_map (Ok test) mid new → Stays mid new
-    → Opened c line (statuses_in domain) (statuses_in test) e (across s0 s1 new last k k')
-    → Worked c line e (across s0 s1 old last k k')
-worked_behind c line domain test e s0 s1 old mid new last k k' f stays h stays' o =
+    → Opened c line (statuses_in domain) (statuses_in test) heard heard' e (across s0 s1 new last k k' x x')
+    → Worked c line heard heard' e (across s0 s1 old last k k' x x')
+worked_behind c line domain test heard heard' e s0 s1 old mid new last k k' x x' f stays h stays' o =
     let found : Found = record o.found { domain = f.file; test = h.file } in
     let maps : Maps = maps_of (statuses_in domain) (statuses_in test) o.listed in
-    let run : Ending → Deeds → Type 0 = Rescues (setting_of c line o.end maps) o.found.mapfile in
+    let run : Ending → Deeds → Type 0 = Rescues (setting_of c line o.end maps) o.found.mapfile o.lines in
     let first : AllReads f.calls = reads_through DomainMap (mode_by c) c.domain_map f.file f.calls f.did.1 in
     let second : AllReads h.calls = reads_through TestMap (mode_by c) c.test_map h.file h.calls h.did.1 in
     let told : IsTrue old.tells → IsTrue mid.tells = λ t. rw stays.keeps.tells t in
@@ -241,6 +252,7 @@ worked_behind c line domain test e s0 s1 old mid new last k k' f stays h stays' 
         end = o.end;
         maps = maps;
         did = behind_entries f.calls (behind_entries h.calls o.did);
+        lines = o.lines;
       };
       agrees = record {
         opens = o.opens;
@@ -271,6 +283,8 @@ worked_behind c line domain test e s0 s1 old mid new last k k' f stays h stays' 
           (behind_entries h.calls o.did) f.did.1
           (through_then rescue_faults (map_rows TestMap (mode_by c) c.test_map h.file) (opened_rows c found o.end) run e
           h.calls o.did h.did.1 o.works);
+      silent = o.silent;
+      says = o.says;
       fit = o.gains.fit;
       short = short_behind o.did.gain o.end f.calls h.calls first second o.short;
     }

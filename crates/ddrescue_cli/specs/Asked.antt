@@ -71,6 +71,7 @@ setting_asked infile outfile names line o end maps = record {
   one_way = o.unidirectional;
   max_errors = None;
   timeout = None;
+  verbose = o.verbose;
 }
 
 -- the names of the mapfile and its draft, if there is a mapfile

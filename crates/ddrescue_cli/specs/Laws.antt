@@ -130,7 +130,7 @@ pub record IsVerdict (e : Ending) : Type 0 where
 
 -- They bring one such answer at most.
 abbrev pub HasOneVerdict : Type 0
-HasOneVerdict = (c : Command) (s : Setting) (found : Found) (e e' : Ending) (d d' : Deeds)
-    → Works rescue_faults (rescue_rows c found s.end) (Rescues s found.mapfile) e d
-    → Works rescue_faults (rescue_rows c found s.end) (Rescues s found.mapfile) e' d'
+HasOneVerdict = (c : Command) (s : Setting) (found : Found) (lines lines' : List (List ℕ)) (e e' : Ending)
+    (d d' : Deeds) → Works rescue_faults (rescue_rows c found s.end) (Rescues s found.mapfile lines) e d
+    → Works rescue_faults (rescue_rows c found s.end) (Rescues s found.mapfile lines') e' d'
     → IsVerdict e → IsVerdict e' → e ≡ e'

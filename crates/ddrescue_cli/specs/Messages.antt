@@ -1,8 +1,10 @@
 -- What is said of each answer on the console.
-use Rattle.std.specs.Prelude.{ℕ, List, [], ◌++◌, Option, Some, None, codes}
+use Rattle.std.specs.Prelude.{ℕ, List, [], ◌∷◌, ◌++◌, Option, Some, None, codes}
 use Rattle.mapfile_text.specs.declared.read.MapError.{MapError}
 use Rattle.rescue_rules.specs.declared.stop.Stop.{Stop}
 use Rattle.rescue_rules.specs.declared.stop.Stop.TheVariants.{SourceLost as InputLost, Site, NoMemory as NoRoom}
+use Rattle.rescue_console.specs.declared.console.Channel.TheVariants.{Err}
+use Rattle.rescue_console.specs.Speaking.{Piece}
 use Rattle.fault_texts.specs.Texts.{usage_text, error_text, fault_text, message_of}
 use Rattle.ddrescue_cli.specs.declared.ending.Which.{Which}
 use Rattle.ddrescue_cli.specs.declared.ending.Which.TheVariants.{DomainMap, TestMap, RunMap}
@@ -47,3 +49,8 @@ text_of_ending NoMemory = codes "out of memory"
 -- the message on the console
 abbrev pub message : Ending → List ℕ
 message e = message_of program_name (text_of_ending e)
+
+-- what is said of an answer on the console: nothing of a finished rescue, else its message, on standard error
+abbrev pub message_pieces : Ending → List Piece
+message_pieces Done = []
+message_pieces e = record { channel = Err; text = message e } ∷ []

@@ -5,19 +5,21 @@ use Rattle.block_list.specs.declared.status.Status.{Status}
 use Rattle.faulty_source.specs.Journal.{Reading}
 use Rattle.faulty_source.specs.SourceState.{SourceState, OpenFails}
 use Rattle.crash_site.specs.SiteState.{files_in}
-use Rattle.copy_passes.specs.Turns.{Across, IsFrom}
+use Rattle.rescue_core.specs.Across.{Across}
+use Rattle.copy_passes.specs.Turns.{IsFrom}
 use Rattle.work_steps.specs.Work.{Opening, Opened, Unopened, Deeds}
 use Rattle.rescue_command.specs.Command.{Command}
 use Rattle.ddrescue_cli.specs.Asked.{Maps}
 use Rattle.ddrescue_cli.specs.Maps.{Found, found_in, seen_through}
 
 -- The files that its steps found, the input's length, what the maps say, and what it did: opens of the input, calls on
--- the files, reads as they are seen by the maps, and readings of the clock.
+-- the files, reads as they are seen by the maps, readings of the clock, and the lines that it says.
 pub record Outside : Type 0 where
   pub found : Found
   pub end : ℕ
   pub maps : Maps
   pub did : Deeds
+  pub lines : List (List ℕ)
 
 -- The source was asked to open these: it stands where it was asked for none.
 abbrev pub AreOpens : List Opening → (source source' : SourceState) → Type 0

@@ -17,12 +17,13 @@ use Rattle.save_resume.specs.declared.named.NamedFault.TheVariants.{ReadFailed, 
 use Rattle.save_resume.specs.MapNames.{MapNames}
 use Rattle.save_resume.specs.Named.{IsMapOf}
 use Rattle.save_resume.specs.Resuming.{IsResumeCall}
+use Rattle.rescue_console.specs.Speaking.{SpeaksOn, out_pieces}
 use Rattle.rescue_rules.specs.Setting.{Setting}
 use Rattle.rescue_rules.specs.Snapshots.{heading_at}
 use Rattle.rescue_rules.specs.Start.{Stands}
 use Rattle.rescue_rules.specs.Laws.{AreTimes}
 use Rattle.rescue_rules.specs.Work.{Gain, IsNothing, AreMapReads}
-use Rattle.copy_passes.specs.Turns.{Across}
+use Rattle.rescue_core.specs.Across.{Across}
 use Rattle.work_steps.specs.Work.{Deeds, Works}
 use Rattle.work_steps.specs.Parts.{DidPart}
 use Rattle.rescue_command.specs.declared.options.Options.{Options}
@@ -31,6 +32,7 @@ use Rattle.ddrescue_cli.specs.declared.load.Start.{Start}
 use Rattle.ddrescue_cli.specs.declared.plan.Plan.{Plan}
 use Rattle.ddrescue_cli.specs.declared.ending.Which.{Which}
 use Rattle.ddrescue_cli.specs.declared.ending.Which.TheVariants.{RunMap}
+use Rattle.ddrescue_cli.specs.declared.ending.Ended.{Ended}
 use Rattle.ddrescue_cli.specs.declared.ending.Ending.{Ending}
 use Rattle.ddrescue_cli.specs.declared.ending.Ending.TheVariants.{NoMap, NotRegular, MapRefused, SiteFault, NoMemory}
 use Rattle.ddrescue_cli.specs.Names.{AreNamedApart}
@@ -40,9 +42,14 @@ use Rattle.ddrescue_cli.specs.Outside.{Outside, AreOpens, HasGainedReads, Agrees
 use Rattle.ddrescue_cli.specs.Work.{RunsOver, Rescues, rescue_faults, map_rows, output_rows, load_rows, opened_rows, worked_rows}
 
 -- how a rescue ends whose parts returned this
-abbrev pub ending_of : Result Ending Ending → Ending
-ending_of (Ok e) = e
+abbrev pub ending_of : Result Ended Ending → Ending
+ending_of (Ok ended) = ended.ending
 ending_of (Err e) = e
+
+-- whether it is heard then: where it was refused it is heard as before
+abbrev pub heard_behind : (heard : Bool) → Result Ended Ending → Bool
+heard_behind heard (Ok ended) = ended.heard
+heard_behind heard (Err e) = heard
 
 -- what a rescue needs before it opens a file: the names of its mapfile and its draft, apart from the outfile's, the
 -- heading of a map that wasn't saved yet, and options within their limits
@@ -80,12 +87,18 @@ pub record Gains (test : Option (List Status)) (o : Across) (g : Gain) : Type 0 
   pub times : IsTrue o.clock'.tells → o.clock'.readings ≡ o.clock.readings ++ g.times
   pub fit : AreTimes g.times
 
--- what a run did over a map that it began with, up to its end or to where it stopped
-pub record Ran (s : Setting) (test : Option (List Status)) (statuses : List Status) (state : Option MapState)
-    (e : Ending) (o : Across) : Type 0 where
+-- These lines were said by one who is heard before, and behind them or not.
+abbrev pub SaysLines : (lines : List (List ℕ)) → (heard heard' : Bool) → Across → Type 0
+SaysLines lines heard heard' o = SpeaksOn (out_pieces lines) heard heard' o.console o.console'
+
+-- what a run did over a map that it began with, up to its end or to where it stopped, and what it said
+pub record DidRun (s : Setting) (test : Option (List Status)) (statuses : List Status) (state : Option MapState)
+    (heard heard' : Bool) (e : Ending) (o : Across) : Type 0 where
   pub gain : Gain
   pub gains : Gains test o gain
-  pub runs : RunsOver s statuses state e gain
+  pub lines : List (List ℕ)
+  pub says : SaysLines lines heard heard' o
+  pub runs : RunsOver s statuses state lines e gain
 
 -- the statuses of tiles, if there are some
 abbrev pub statuses_in : Option Tiled → Option (List Status)
@@ -161,8 +174,8 @@ abbrev pub maps_of : (domain test : Option (List Status)) → (listed : Option (
 maps_of domain test listed = record { domain = domain; test = test; listed = listed }
 
 -- What the work did behind the maps that options name, which have these statuses. Of their files nothing is said here.
-pub record Opened (c : Command) (line : List ℕ) (domain test : Option (List Status)) (e : Ending) (o : Across)
-    : Type 0 where
+pub record Opened (c : Command) (line : List ℕ) (domain test : Option (List Status)) (heard heard' : Bool) (e : Ending)
+    (o : Across) : Type 0 where
   pub found : Found
   pub output : IsTrue o.site.tells → found.output ≡ files_in o.site c.outfile
   pub mapfile : IsTrue o.site.tells → found.mapfile ≡ mapfile_of c (files_in o.site)
@@ -174,17 +187,22 @@ pub record Opened (c : Command) (line : List ℕ) (domain test : Option (List St
   pub did : Deeds
   pub opens : AreOpens did.opens o.source o.source'
   pub gains : Gains test o did.gain
+  pub lines : List (List ℕ)
   pub works : Works rescue_faults (opened_rows c found end)
-      (Rescues (setting_of c line end (maps_of domain test listed)) found.mapfile) e did
+      (Rescues (setting_of c line end (maps_of domain test listed)) found.mapfile lines) e did
+  pub silent : did.gain.times ≡ [] → lines ≡ []
+  pub says : SaysLines lines heard heard' o
   pub short : IsNothing did.gain ⊎ (end < 2 ^ 63)
 
 -- what it did behind the words
-pub record Worked (c : Command) (line : List ℕ) (e : Ending) (o : Across) : Type 0 where
+pub record Worked (c : Command) (line : List ℕ) (heard heard' : Bool) (e : Ending) (o : Across) : Type 0 where
   pub outside : Outside
   pub agrees : Agrees c o outside
   pub asked_maps : AreAskedFor c outside.maps
   pub are_maps : AreMapsIn c outside.found outside.maps
   pub works : Works rescue_faults (worked_rows c outside.found outside.end)
-      (Rescues (setting_of c line outside.end outside.maps) outside.found.mapfile) e outside.did
+      (Rescues (setting_of c line outside.end outside.maps) outside.found.mapfile outside.lines) e outside.did
+  pub silent : outside.did.gain.times ≡ [] → outside.lines ≡ []
+  pub says : SaysLines outside.lines heard heard' o
   pub fit : AreTimes outside.did.gain.times
   pub short : IsOnlyMaps outside.did.gain ⊎ (outside.end < 2 ^ 63)

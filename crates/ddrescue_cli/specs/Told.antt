@@ -8,7 +8,7 @@ use Rattle.rescue_console.specs.ClockState.{ClockState}
 use Rattle.rescue_console.specs.ConsoleState.{ConsoleState}
 use Rattle.rescue_rules.specs.Setting.{Setting}
 use Rattle.rescue_rules.specs.Stops.{Behind}
-use Rattle.copy_passes.specs.Turns.{Across}
+use Rattle.rescue_core.specs.Across.{Across}
 use Rattle.rescue_command.specs.Command.{Command}
 use Rattle.ddrescue_cli.specs.declared.ending.Ending.{Ending}
 use Rattle.ddrescue_cli.specs.Names.{program_name}
@@ -28,7 +28,7 @@ pub record Told : Type 0 where
   pub console : ConsoleState
   pub console' : ConsoleState
 
--- the same without words, answer and console
+-- the same without words and answer
 abbrev pub across_of : Told → Across
 across_of t = record {
   source = t.source;
@@ -37,6 +37,8 @@ across_of t = record {
   site' = t.site';
   clock = t.clock;
   clock' = t.clock';
+  console = t.console;
+  console' = t.console';
 }
 
 -- the calls stand behind those that the site had made

@@ -1,5 +1,5 @@
 -- The work of a rescue: its steps in order, each a row, and the run behind them.
-use Rattle.std.specs.Prelude.{◌≡◌, ◌⊎◌, ℕ, ◌≤◌, Bool, true, List, [], ◌∷◌, ◌++◌, length, Option, Some, None, is_some}
+use Rattle.std.specs.Prelude.{◌≡◌, ◌⊎◌, ℕ, Bool, true, List, [], ◌∷◌, ◌++◌, length, Option, Some, None, is_some}
 use Rattle.block_list.specs.declared.status.Status.{Status}
 use Rattle.mapfile_text.specs.declared.read.Mode.{Mode}
 use Rattle.mapfile_text.specs.declared.state.MapState.{MapState}
@@ -13,7 +13,8 @@ use Rattle.rescue_rules.specs.Start.{Stands}
 use Rattle.rescue_rules.specs.declared.stop.Stop.TheVariants.{SourceLost as InputLost, Site, NoMemory as NoRoom}
 use Rattle.rescue_rules.specs.declared.stop.RunEnd.{RunEnd}
 use Rattle.rescue_rules.specs.declared.stop.RunEnd.TheVariants.{Done as Finished, Stopped, SaveFailed}
-use Rattle.rescue_rules.specs.Work.{Gain, Runs}
+use Rattle.rescue_rules.specs.Lines.{opening_lines, lines_of}
+use Rattle.rescue_rules.specs.Work.{Gain, Runs, begins, events_in}
 use Rattle.work_steps.specs.Work.{Deeds, Faults, Step, Take, Look, Open, Make, Read}
 use Rattle.rescue_command.specs.Command.{Command}
 use Rattle.ddrescue_cli.specs.declared.ending.Ending.{Ending}
@@ -74,23 +75,37 @@ answer_of (Stopped (Site call)) = SiteFault call None
 answer_of (Stopped NoRoom) = NoMemory
 answer_of (SaveFailed call earlier) = SiteFault call earlier
 
--- memory ran out before a run began, which reads the clock at most once
-pub record IsUnbegun (e : Ending) (g : Gain) : Type 0 where
+-- all that a run says: how much is asked for, if more is said, and its own lines
+abbrev pub said_by : Setting → List Status → Option MapState → Gain → RunEnd → List (List ℕ)
+said_by s statuses state g end =
+    opening_lines s (length statuses) ++ lines_of s (begins s statuses state g) (events_in g) end
+
+-- memory ran out before a run began: it read no clock and said nothing
+pub record IsUnbegun (e : Ending) (g : Gain) (lines : List (List ℕ)) : Type 0 where
   pub answer : e ≡ NoMemory
   pub calls : g.calls ≡ []
   pub reads : g.reads ≡ []
-  pub times : length g.times ≤ 1
+  pub times : g.times ≡ []
+  pub silent : lines ≡ []
+
+-- a run over a map and what it said, by how it ended
+pub record Ran (s : Setting) (statuses : List Status) (state : Option MapState) (lines : List (List ℕ)) (e : Ending)
+    (g : Gain) : Type 0 where
+  pub end : RunEnd
+  pub answer : e ≡ answer_of end
+  pub runs : Runs s statuses state g end
+  pub says : lines ≡ said_by s statuses state g end
 
 -- a run over a map, which may not have begun
-abbrev pub RunsOver : Setting → List Status → Option MapState → Ending → Gain → Type 0
-RunsOver s statuses state e g = IsUnbegun e g ⊎ ((end : RunEnd) × (e ≡ answer_of end) × Runs s statuses state g end)
+abbrev pub RunsOver : Setting → List Status → Option MapState → (lines : List (List ℕ)) → Ending → Gain → Type 0
+RunsOver s statuses state lines e g = IsUnbegun e g lines ⊎ Ran s statuses state lines e g
 
 -- the run over the map that the mapfile stands for, or no mapfile
-abbrev pub ThenRun : Setting → (mapfile : Option File) → Ending → Gain → Type 0
-ThenRun s mapfile e g =
+abbrev pub ThenRun : Setting → (mapfile : Option File) → (lines : List (List ℕ)) → Ending → Gain → Type 0
+ThenRun s mapfile lines e g =
     (statuses : List Status) × (state : Option MapState) × Stands mapfile s.end statuses state
-    × RunsOver s statuses state e g
+    × RunsOver s statuses state lines e g
 
 -- That run is behind the steps, and opens no input.
-abbrev pub Rescues : Setting → (mapfile : Option File) → Ending → Deeds → Type 0
-Rescues s mapfile e d = (d.opens ≡ []) × ThenRun s mapfile e d.gain
+abbrev pub Rescues : Setting → (mapfile : Option File) → (lines : List (List ℕ)) → Ending → Deeds → Type 0
+Rescues s mapfile lines e d = (d.opens ≡ []) × ThenRun s mapfile lines e d.gain

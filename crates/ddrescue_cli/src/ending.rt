@@ -80,6 +80,13 @@ impl Ending {
     }
 }
 
+/// How a rescue ended, and whether it is still heard: whether something is to be said, and each line was put.
+#[derive(Clone, Copy, Debug)]
+pub(crate) struct Ended {
+    pub ending: Ending,
+    pub heard: bool,
+}
+
 /// The answer of a run that ended so.
 pub(crate) fn answer(end: RunEnd) -> Ending
     ensures { result ≡ answer_of end }

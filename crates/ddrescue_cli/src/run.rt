@@ -1,13 +1,12 @@
-//! The run of a rescue: its phases, and the last save behind them.
-ghost use Rattle.std.specs.Prelude.{◌≡◌, false, IfOk, IfErr, OnOk};
+//! The run of a rescue: its phases, and behind them the last save and the last line.
+ghost use Rattle.std.specs.Prelude.{◌≡◌, IfOk};
 ghost use Rattle.faulty_source.specs.SourceState.{Stays as SourceStays};
 ghost use Rattle.crash_site.specs.SiteState.{Keeps as SiteKeeps};
 ghost use Rattle.rescue_console.specs.ClockState.{Keeps as ClockKeeps};
 ghost use Rattle.rescue_domain.specs.Parts.{covers};
 ghost use Rattle.rescue_rules.specs.declared.phase.Phase.TheVariants.{Retrying as LastPhase};
 ghost use Rattle.rescue_core.specs.RunState.{HasPlaces};
-ghost use Rattle.rescue_core.specs.Closing.{drafting_after};
-ghost use Rattle.copy_passes.specs.Turns.{Went, WentUpTo};
+ghost use Rattle.copy_passes.specs.Turns.{PhaseEnds};
 ghost use Rattle.copy_passes.specs.Copying.{IsCopying};
 ghost use Rattle.trim_scrape.specs.Behind.{IsBehind};
 ghost use Rattle.ddrescue_cli.specs.Answers.{Causes, drafting_left};
@@ -20,8 +19,8 @@ use crash_site::site::Site;
 use faulty_source::source::Source;
 use rescue_console::clock::Clock;
 use rescue_console::console::Console;
+use rescue_core::closing::Closed;
 use rescue_core::phases::{Copying, Finished, Rescue, Stopped};
-use rescue_rules::stop::RunEnd;
 use trim_scrape::phases::{run_retrying, run_scraping, run_trimming};
 
 /// The map of a run.
@@ -38,29 +37,17 @@ fn run_phases<S: Source, D: Site, K: Clock, C: Console>(
     requires copying { IsCopying rescue }
     requires places { HasPlaces rescue.settings (covers rescue.domain) }
     requires ready { AreReady (S.state source.old) (D.state site.old) }
-    ensures went { IfOk result (λ r. Went rescue r (record {
+    ensures ends { PhaseEnds rescue result (record {
       source = S.state source.old;
       source' = S.state source.new;
       site = D.state site.old;
       site' = D.state site.new;
       clock = K.state clock.old;
       clock' = K.state clock.new;
-    })) }
+      console = C.state console.old;
+      console' = C.state console.new;
+    }) }
     ensures behind { IfOk result (λ r. IsBehind LastPhase r) }
-    ensures halted { IfErr result (λ s. WentUpTo s.stop rescue s.run (record {
-      source = S.state source.old;
-      source' = S.state source.new;
-      site = D.state site.old;
-      site' = D.state site.new;
-      clock = K.state clock.old;
-      clock' = K.state clock.new;
-    })) }
-    ensures draft { OnOk result ((D.state site.new).is_drafting ≡ false) }
-    ensures draft_left { IfErr result (λ s. (D.state site.new).is_drafting ≡ drafting_after s.stop) }
-    ensures source { SourceStays (S.state source.old) (S.state source.new) }
-    ensures site { SiteKeeps (D.state site.old) (D.state site.new) }
-    ensures clock { ClockKeeps (K.state clock.old) (K.state clock.new) }
-    ensures console { C.state console.new ≡ C.state console.old }
 {
     let copied = match run_copying(rescue, source, site, clock, console) {
         Ok(copied) => copied,
@@ -77,33 +64,34 @@ fn run_phases<S: Source, D: Site, K: Clock, C: Console>(
     run_retrying(scraped, source, site, clock, console)
 }
 
-/// Makes the phases of a rescue in order, and saves the map at its end, or where it stopped.
-/// Without a mapfile the output is made durable then.
+/// Makes the phases of a rescue in order, and saves the map at its end, or where it stopped; without a mapfile the
+/// output is made durable then. A line says now and then how far it has come, and one how it ended.
 pub fn run_rescue<S: Source, D: Site, K: Clock, C: Console>(
     rescue: Rescue<Copying, RunMap>,
     source: &mut S,
     site: &mut D,
     clock: &mut K,
     console: &mut C,
-) -> RunEnd
+) -> Closed
     requires copying { IsCopying rescue }
     requires places { HasPlaces rescue.settings (covers rescue.domain) }
     requires ready { AreReady (S.state source.old) (D.state site.old) }
-    ensures went { WentToEnd rescue result (record {
+    ensures went { WentToEnd rescue result.end result.heard (record {
       source = S.state source.old;
       source' = S.state source.new;
       site = D.state site.old;
       site' = D.state site.new;
       clock = K.state clock.old;
       clock' = K.state clock.new;
+      console = C.state console.old;
+      console' = C.state console.new;
     }) }
-    ensures cause { Causes (answer_of result) (S.state source.old) (S.state source.new) (D.state site.old)
+    ensures cause { Causes (answer_of result.end) (S.state source.old) (S.state source.new) (D.state site.old)
         (D.state site.new) }
-    ensures draft { (D.state site.new).is_drafting ≡ drafting_left (answer_of result) }
+    ensures draft { (D.state site.new).is_drafting ≡ drafting_left (answer_of result.end) }
     ensures source { SourceStays (S.state source.old) (S.state source.new) }
     ensures site { SiteKeeps (D.state site.old) (D.state site.new) }
     ensures clock { ClockKeeps (K.state clock.old) (K.state clock.new) }
-    ensures console { C.state console.new ≡ C.state console.old }
 {
     match run_phases(rescue, source, site, clock, console) {
         Ok(finished) => finished.close(site, console),

@@ -8,7 +8,7 @@ use Rattle.mapfile_text.specs.declared.heading.Program.TheVariants.{Ddrescuelog}
 use Rattle.mapfile_text.specs.declared.state.MapState.{MapState}
 use Rattle.mapfile_text.specs.declared.state.Current.TheVariants.{Copying}
 use Rattle.mapfile_text.specs.Printed.{ended, printed, current_symbol}
-use Rattle.map_algebra.specs.declared.summary.Count.{Count}
+use Rattle.block_list.specs.declared.areas.Count.{Count}
 use Rattle.map_algebra.specs.declared.summary.Summary.{Summary}
 use Rattle.map_algebra.specs.Change.{changed_map}
 use Rattle.map_algebra.specs.Combine.{combined_map}

@@ -4,9 +4,10 @@ ghost use Rattle.arrayvec.specs.ArrayVec.{array_vec_len};
 ghost use Rattle.ddrescuelog_cli.specs.Results.{status_name, count_line, domain_line, shown_line, summary_text};
 
 use crate::out::Buffer;
+use block_list::areas::Count;
 use block_list::status::Status;
 use fault_texts::message::{Message, add, add_number};
-use map_algebra::summary::{Count, Summary};
+use map_algebra::summary::Summary;
 use mapfile_text::state::MapState;
 
 /// How a status is called.

@@ -3,7 +3,7 @@ use Rattle.std.proofs.Common.{◌≡◌, ℕ, zero, suc, ◌+◌, ◌<◌, Bool,
 use Rattle.std.proofs.lemmas.Bool.{cases_Bool, cases_eq, and_parts, and_from, not-true, not_from_false, both_ways, false_from_ne_true}
 use Rattle.block_list.specs.Places.{IsRunUp}
 use Rattle.rescue_domain.specs.Domain.{IsIn}
-use Rattle.map_algebra.specs.Summary.{begins_area}
+use Rattle.block_list.specs.Areas.{begins_area}
 use Rattle.map_algebra.specs.Laws.{AreasAreRuns}
 
 -- a run that begins here, in a set of which no position lies n behind

@@ -7,11 +7,12 @@ use Rattle.rescue_domain.specs.Domain.{IsIn}
 use Rattle.rescue_domain.specs.Finished.{is_finished_at}
 use Rattle.map_algebra.specs.declared.combine.Op.{Op}
 use Rattle.map_algebra.specs.declared.combine.Op.TheVariants.{And, Or, Xor}
-use Rattle.map_algebra.specs.declared.summary.Count.{Count}
+use Rattle.block_list.specs.declared.areas.Count.{Count}
 use Rattle.map_algebra.specs.At.{status_at, map_by}
 use Rattle.map_algebra.specs.Combine.{combined_map}
 use Rattle.map_algebra.specs.Compare.{FinishAlikeIn}
-use Rattle.map_algebra.specs.Summary.{begins_area, summary_of}
+use Rattle.block_list.specs.Areas.{begins_area}
+use Rattle.map_algebra.specs.Summary.{summary_of}
 
 -- a map by statuses has each of them
 abbrev pub MapHasEach : Type 0

@@ -52,6 +52,29 @@ impl Near {
             part: 0,
         }
     }
+
+    /// At a position.
+    pub(crate) fn at<T: Tiles>(tiles: &T, x: u64) -> Near {
+        Near {
+            stretch: number_at(tiles, x),
+            part: 0,
+        }
+    }
+}
+
+/// The number of the last stretch of a map that begins at a position or before it, or 0, by halves.
+fn number_at<T: Tiles>(tiles: &T, x: u64) -> usize {
+    let mut low = 0;
+    let mut high = tiles.blocks();
+    while low < high {
+        let middle = low + (high - low) / 2;
+        if tiles.block(middle).pos <= x {
+            low = middle + 1;
+        } else {
+            high = middle;
+        }
+    }
+    low.saturating_sub(1)
 }
 
 /// The same for two maps.

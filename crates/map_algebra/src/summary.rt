@@ -1,21 +1,17 @@
-//! How much of a domain has each status.
+//! How much of a domain has some statuses, and how much has each one.
 ghost use Rattle.std.specs.Prelude.{◌≡◌, ◌+◌, ◌-◌, ◌<◌, ◌^◌, ◌&&◌, not, length, if◌then◌else◌};
+ghost use Rattle.std.specs.List.{list_any};
 ghost use Rattle.block_list.specs.Status.{same};
 ghost use Rattle.rescue_domain.specs.Parts.{covers};
 ghost use Rattle.map_algebra.specs.At.{IsWithin};
-ghost use Rattle.map_algebra.specs.Summary.{summary_of, count_of, has_status};
+ghost use Rattle.block_list.specs.Areas.{count_of};
+ghost use Rattle.map_algebra.specs.Summary.{summary_of, count_from, has_one, has_status};
 
 use crate::pieces::{Near, Piece, piece_at};
+use block_list::areas::Count;
 use block_list::status::Status;
 use block_list::tiles::Tiles;
 use rescue_domain::domain::Domain;
-
-/// How much of a set of positions there is: how many positions, and in how many areas, which are maximal intervals.
-#[derive(Clone, Copy, Debug, PartialEq, Eq)]
-pub struct Count {
-    pub bytes: u64,
-    pub areas: u64,
-}
 
 /// How many positions a domain has, and how much of it has each status, in the order in which `Status` lists them.
 #[derive(Clone, Copy, Debug, PartialEq, Eq)]
@@ -48,15 +44,29 @@ fn count_status<T: Tiles>(tiles: &T, domain: &Domain, status: Status) -> Count
     ensures { result ≡ count_of (has_status (covers domain.now) (T.statuses tiles.now) status)
         (length (T.statuses tiles.now)) }
 {
-    let end = tiles.end();
-    let mut near = Near::start();
+    count_statuses(tiles, domain, &[status], 0, tiles.end())
+}
+
+/// How much of a domain has one of some statuses in a map, from one position up to another. Of an area its beginning
+/// counts, and what lies behind the map's end is non-tried.
+pub fn count_statuses<T: Tiles>(
+    tiles: &T,
+    domain: &Domain,
+    statuses: &[Status],
+    from: u64,
+    to: u64,
+) -> Count
+    ensures { result ≡ count_from (has_one (covers domain.now) (T.statuses tiles.now) statuses.now) from to }
+{
+    let mut near = Near::at(tiles, from);
     let mut count = Count { bytes: 0, areas: 0 };
     // Whether the position right in front of `at` was counted.
-    let mut begun = false;
-    let mut at = 0;
-    while at < end {
-        let piece = piece_at(tiles, domain, &mut near, at, end);
-        let counts = has(piece, status);
+    let mut begun = from > 0
+        && has_one(piece_at(tiles, domain, &mut near, from - 1, from), statuses);
+    let mut at = from;
+    while at < to {
+        let piece = piece_at(tiles, domain, &mut near, at, to);
+        let counts = has_one(piece, statuses);
         count = counted(count, piece.to - at, counts, begun);
         begun = counts;
         at = piece.to;
@@ -64,11 +74,19 @@ fn count_status<T: Tiles>(tiles: &T, domain: &Domain, status: Status) -> Count
     count
 }
 
-/// Whether the positions of a piece are in the domain and have a status.
-fn has(piece: Piece, status: Status) -> bool
-    ensures { result ≡ (piece.inside && same piece.status status) }
+/// Whether the positions of a piece are in the domain and have one of some statuses.
+fn has_one(piece: Piece, statuses: &[Status]) -> bool
+    ensures { result ≡ (piece.inside && list_any (λ s. same piece.status s) statuses.now) }
 {
-    piece.inside && piece.status.symbol() == status.symbol()
+    piece.inside && is_one(piece.status, statuses)
+}
+
+/// Whether a status is one of some.
+fn is_one(status: Status, statuses: &[Status]) -> bool
+    ensures { result ≡ list_any (λ s. same status s) statuses.now }
+{
+    let symbol = status.symbol();
+    statuses.iter().any(|s| symbol == s.symbol())
 }
 
 /// A count with so many more positions, if they count. They begin an area, unless one is begun already.

@@ -211,7 +211,10 @@ rows_keep = (
                                       (λ s o o' v. length_keeps s o o' (size_by s v)),
                                       (
                                         (λ s o o' v. plain s o o' _ refl (λ h. h) refl),
-                                        tt,
+                                        (
+                                          (λ s o o' v. plain s o o' _ refl (λ h. h) refl),
+                                          tt,
+                                        ),
                                       ),
                                     ),
                                   ),

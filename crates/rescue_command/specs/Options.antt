@@ -133,6 +133,7 @@ option_rows =
     ∷ flag 82 (codes "reverse") (λ o. record o { reverse = true })
     ∷ valued 115 (codes "size") (λ sector o value. option_map (λ n. record o { size = Some n }) (size_by sector value))
     ∷ flag 117 (codes "unidirectional") (λ o. record o { unidirectional = true })
+    ∷ flag 118 (codes "verbose") (λ o. record o { verbose = true })
     ∷ []
 
 -- each option's letter, its long name, and whether it takes a value
@@ -161,6 +162,7 @@ no_options sector = record {
   loose = false;
   forced = false;
   quiet = false;
+  verbose = false;
 }
 
 -- what all options ask for, or the word of the first bad value

@@ -39,7 +39,7 @@ pub(crate) const DOMAIN_MAPFILE: char = 'm';
 pub(crate) const QUIET: char = 'q';
 
 /// The options. A later one is a row here and an arm in `with_letter`.
-pub static ROWS: [Row; 20] = [
+pub static ROWS: [Row; 21] = [
     Row {
         short: Some('a'),
         long: "min-read-rate",
@@ -140,6 +140,11 @@ pub static ROWS: [Row; 20] = [
         long: "unidirectional",
         takes: Takes::Never,
     },
+    Row {
+        short: Some('v'),
+        long: "verbose",
+        takes: Takes::Never,
+    },
 ];
 
 /// What the options of a command line ask for.
@@ -183,8 +188,10 @@ pub struct Options {
     pub loose: bool,
     /// The outfile may be something else than a regular file; by default it may not.
     pub forced: bool,
-    /// Nothing is put on the console; by default messages are.
+    /// Nothing is put on the console; by default lines and messages are.
     pub quiet: bool,
+    /// It is said first how much is to be rescued; by default it isn't.
+    pub verbose: bool,
 }
 
 impl Options {
@@ -212,6 +219,7 @@ impl Options {
             loose: false,
             forced: false,
             quiet: false,
+            verbose: false,
         }
     }
 
@@ -341,6 +349,7 @@ fn with_letter(options: Options, sector: u64, letter: char, value: Option<&str>)
         'R' => reverse = true;
         's' => size = Some(size?);
         'u' => unidirectional = true;
+        'v' => verbose = true;
     )
 }
 

@@ -1,5 +1,5 @@
 -- What is said on a console, piece by piece, up to the first put that fails.
-use Rattle.std.specs.Prelude.{◌≡◌, ◌⊎◌, ℕ, Bool, true, false, IsTrue, List, [], ◌∷◌, ◌++◌}
+use Rattle.std.specs.Prelude.{◌≡◌, ◌⊎◌, ℕ, Bool, true, false, IsTrue, List, [], ◌∷◌, ◌++◌, map}
 use Rattle.fault_count.specs.Plan.{counted}
 use Rattle.rescue_console.specs.declared.console.Channel.{Channel}
 use Rattle.rescue_console.specs.declared.console.Channel.TheVariants.{Out, Err}
@@ -9,6 +9,10 @@ use Rattle.rescue_console.specs.ConsoleState.{ConsoleState, channel_of, Puts, Pu
 pub record Piece : Type 0 where
   pub channel : Channel
   pub text : List ℕ
+
+-- texts for standard output
+abbrev pub out_pieces : List (List ℕ) → List Piece
+out_pieces texts = map (λ t. record { channel = Out; text = t }) texts
 
 -- a piece was put whole, by one put
 pub record PutsWhole (p : Piece) (old new : ConsoleState) : Type 0 where

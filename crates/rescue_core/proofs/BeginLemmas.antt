@@ -1,10 +1,13 @@
 -- A run at its start, and at the start of its next pass.
-use Rattle.std.proofs.Common.{◌≡◌, ℕ, ◌<◌, ◌≤◌, min, true, false, not, nat_eq, List, ◌∷◌, ◌^◌, length, drop, Option, Some, None, refl, sym, ap, ◌∙◌, arith, ⊎_elim}
+use Rattle.std.proofs.Common.{◌≡◌, ℕ, ◌<◌, ◌≤◌, min, Bool, true, false, ◌&&◌, not, nat_eq, List, ◌∷◌, ◌^◌, length, drop, Option, Some, None, refl, sym, ap, ◌∙◌, arith, ⊎_elim}
 use Rattle.std.specs.List.{slice_get}
+use Rattle.std.proofs.Math.Bool.{and-true}
+use Rattle.std.proofs.Math.Path.{fun_ext}
 use Rattle.std.proofs.lemmas.Bool.{cond_both, cond-true, not-true, eq-eqb}
 use Rattle.block_list.specs.declared.block.Run.{Run}
 use Rattle.block_list.specs.declared.status.Status.{Status}
 use Rattle.mapfile_text.specs.declared.state.MapState.{MapState}
+use Rattle.faulty_source.specs.Ends.{is_before}
 use Rattle.save_resume.specs.MapNames.{MapNames}
 use Rattle.rescue_rules.specs.declared.phase.Phase.{Phase}
 use Rattle.rescue_rules.specs.declared.phase.Phase.TheVariants.{Copying, Trimming, Scraping}
@@ -12,14 +15,16 @@ use Rattle.rescue_rules.specs.declared.stop.TrimMode.{TrimMode}
 use Rattle.rescue_rules.specs.declared.stop.TrimMode.TheVariants.{Lead}
 use Rattle.rescue_rules.specs.Setting.{Setting}
 use Rattle.rescue_rules.specs.Passes.{Pass, is_up, numbered, passes_from}
-use Rattle.rescue_rules.specs.Machine.{Machine, start_of}
+use Rattle.rescue_rules.specs.Machine.{Machine, start_of, is_live}
 use Rattle.rescue_rules.specs.MachineLaws.{IsInOrder}
 use Rattle.rescue_rules.specs.Beginning.{first_pass, first_cursor}
 use Rattle.rescue_domain.specs.Parts.{covers}
 use Rattle.rescue_core.specs.declared.settings.Settings.{Settings}
 use Rattle.rescue_core.specs.declared.state.Place.{Place}
 use Rattle.rescue_core.specs.declared.state.Tally.{Tally}
-use Rattle.rescue_core.specs.RunState.{RunState, setting_with, setting_in, IsSound, Suits, run_at, IsRunning, passed}
+use Rattle.rescue_rules.specs.declared.report.Counts.{Counts}
+use Rattle.rescue_rules.specs.Counts.{counts_of}
+use Rattle.rescue_core.specs.RunState.{RunState, setting_with, setting_in, IsSound, Suits, run_at, IsRunning, Counted, passed}
 use Rattle.rescue_core.proofs.RequestLemmas.{start_up}
 use Rattle.rescue_core.proofs.PassLemmas.{next_passes, IsOn, next_on, copying_leads}
 
@@ -72,15 +77,15 @@ at_pass r phase pass passes cursor mode skip = record r {
 }
 
 pub passed_is : (settings : Settings) (domain : List Run) (names : Option MapNames) (line : List ℕ) (map : List Status) (phase : Phase)
-    (place : Place) (tally : Tally) (phase' : Phase) (pass : ℕ) (place' : Place)
+    (place : Place) (tally : Tally) (heard : Bool) (phase' : Phase) (pass : ℕ) (place' : Place)
     → slice_get (passes_from (setting_with settings domain names line) phase place.pass) 1 ≡ Some (numbered phase' pass)
     → place'.pass ≡ pass → place'.cursor ≡ start_of (setting_with settings domain names line) (numbered phase' pass) map
     → place'.mode ≡ Lead → place'.skip ≡ settings.skip
-    → run_at settings domain names line map phase' place' tally
-    ≡ passed (run_at settings domain names line map phase place tally) phase' pass
-passed_is settings domain names line map phase place tally phase' pass place' next is begins lead skip =
+    → run_at settings domain names line map phase' place' tally heard
+    ≡ passed (run_at settings domain names line map phase place tally heard) phase' pass
+passed_is settings domain names line map phase place tally heard phase' pass place' next is begins lead skip =
     let s : Setting = setting_with settings domain names line in
-    let r : RunState = run_at settings domain names line map phase place tally in
+    let r : RunState = run_at settings domain names line map phase place tally heard in
     ap (λ (n : ℕ). at_pass r phase' n (passes_from s phase' n) place'.cursor place'.mode place'.skip) is
     ∙ ap (λ (ps : List Pass). at_pass r phase' pass ps place'.cursor place'.mode place'.skip)
     (next_passes s phase place.pass (numbered phase' pass) next)
@@ -117,14 +122,14 @@ few_passes None = omega arith
 few_passes (Some state) = omega arith
 
 pub running_started : (settings : Settings) (domain : List Run) (names : Option MapNames) (line : List ℕ) (map : List Status)
-    (loaded : Option MapState) (place : Place) (tally : Tally) (room : ℕ) → IsSound settings
+    (loaded : Option MapState) (place : Place) (tally : Tally) (heard : Bool) (room : ℕ) → IsSound settings
     → Suits settings (covers domain) (length map) → length map < 2 ^ 63 → place.pass ≡ first_pass loaded
     → place.cursor ≡ first_cursor (setting_with settings domain names line) loaded map → place.mode ≡ Lead
     → place.skip ≡ settings.skip → room ≡ settings.cluster
-    → IsRunning (run_at settings domain names line map Copying place tally) room
-running_started settings domain names line map loaded place tally room sound suits short pass cursor lead skip size =
+    → IsRunning (run_at settings domain names line map Copying place tally heard) room
+running_started settings domain names line map loaded place tally heard room sound suits short pass cursor lead skip size =
     let s : Setting = setting_with settings domain names line in
-    let m : Machine = (run_at settings domain names line map Copying place tally).machine in
+    let m : Machine = (run_at settings domain names line map Copying place tally heard).machine in
     record {
       sound = sound;
       suits = suits;
@@ -137,4 +142,17 @@ running_started settings domain names line map loaded place tally room sound sui
       scrapes = λ is. absurd (cc);
       led = λ is. absurd (cc);
       room_is = size;
+    }
+
+-- and its counts are those of its whole map
+all_live : (s : Setting) (m : Machine) → m.over ≡ None → is_live s m ≡ s.domain
+all_live s m none = fun_ext (λ x. ap (λ (o : Option ℕ). s.domain x && is_before o x) none ∙ and-true (s.domain x))
+
+pub counted_started : (settings : Settings) (domain : List Run) (names : Option MapNames) (line : List ℕ) (map : List Status)
+    (place : Place) (tally : Tally) (heard : Bool) (counts : Counts) → tally.over ≡ None
+    → counts ≡ counts_of (covers domain) map
+    → Counted (run_at settings domain names line map Copying place tally heard) counts
+counted_started settings domain names line map place tally heard counts none is =
+    let r : RunState = run_at settings domain names line map Copying place tally heard in record {
+      counts_are = is ∙ ap (λ (set : ℕ → Bool). counts_of set map) (sym (all_live (setting_in r) r.machine none));
     }

@@ -1,6 +1,8 @@
 pub mod BeginLemmas
 pub mod ChangeLemmas
 pub mod ClosingLemmas
+pub mod CountsLemmas
+pub mod LineLemmas
 pub mod PassLemmas
 pub mod PlaceLemmas
 pub mod PrepareLemmas
@@ -10,6 +12,7 @@ pub mod RunningLemmas
 pub mod SaveLemmas
 pub mod StageLemmas
 pub mod TurnCallLemmas
+pub mod TurnEndLemmas
 pub mod TurnLemmas
 pub mod TurnMarkLemmas
 pub mod TurnedLemmas

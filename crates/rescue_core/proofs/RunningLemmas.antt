@@ -187,10 +187,10 @@ led_by r room e (Tail low) x t is live has below =
     led_tail r room e low x t is (live_was s r.machine (step s r.machine e) e.reading x refl live) has
     (untrimmed r room e x t live has) (tail_after low (not (is_failed e.reading)) _ _ _ x below)
 
-led_steps : (r : RunState) (room : ℕ) (e : Event) → IsRunning r room
+led_steps : (r : RunState) (room : ℕ) (e : Event) (heard : Bool) → IsRunning r room
     → IsRequest (setting_in r) r.machine e.reading.pos (e.reading.pos + e.reading.asked)
-    → StepsBy (setting_in r) r.machine e → IsLed (stepped r e)
-led_steps r room e i request by phase up x below live has =
+    → StepsBy (setting_in r) r.machine e → IsLed (stepped r e heard)
+led_steps r room e heard i request by phase up x below live has =
     let s : Setting = setting_in r in
     let m : Machine = r.machine in
     let t : Trims r room e = record { running = i; request = request; by = by; phase = phase; up = up } in
@@ -206,10 +206,10 @@ led_steps r room e i request by phase up x below live has =
     (subst (λ (n : TrimMode). x < led_from n (step s m e).cursor) mode below))
 
 -- a run stands behind an event of its request as between any turns
-pub running_steps : (r : RunState) (room : ℕ) (e : Event) → IsRunning r room
+pub running_steps : (r : RunState) (room : ℕ) (e : Event) (heard : Bool) → IsRunning r room
     → IsRequest (setting_in r) r.machine e.reading.pos (e.reading.pos + e.reading.asked)
-    → length e.reading.given ≤ e.reading.asked → IsRunning (stepped r e) room
-running_steps r room e i request few =
+    → length e.reading.given ≤ e.reading.asked → IsRunning (stepped r e heard) room
+running_steps r room e heard i request few =
     let s : Setting = setting_in r in
     let m : Machine = r.machine in
     let by : StepsBy s m e = move_steps s m e (sensible_in r room i) i.order request few in
@@ -226,6 +226,6 @@ running_steps r room e i request few =
       pass = i.pass;
       trims = i.trims;
       scrapes = i.scrapes;
-      led = led_steps r room e i request by;
+      led = led_steps r room e heard i request by;
       room_is = i.room_is;
     }

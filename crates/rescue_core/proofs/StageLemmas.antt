@@ -1,12 +1,11 @@
 -- What is known of a run stays so in a turn, and in a new pass.
-use Rattle.std.proofs.Common.{◌≡◌, ℕ, ◌+◌, true, false, List, [], ◌∷◌, drop, All, Some, Ok, Err, Result, IfOk, IfErr, refl, sym, ap, ◌∙◌, subst, ⊎_elim, arith}
+use Rattle.std.proofs.Common.{◌≡◌, ℕ, ◌+◌, Bool, true, false, List, [], ◌∷◌, drop, All, Some, Ok, Err, Result, IfOk, IfErr, refl, sym, ap, ◌∙◌, subst, ⊎_elim, arith}
 use Rattle.std.specs.List.{slice_get}
 use Rattle.std.proofs.lemmas.Bool.{true_from_ne_false, true≢false}
 use Rattle.std.proofs.lemmas.Option.{same_Some}
 use Rattle.block_list.specs.declared.status.Status.TheVariants.{NonTried, NonTrimmed, NonScraped}
 use Rattle.block_list.specs.Map.{Has}
 use Rattle.faulty_source.specs.SourceState.{SourceState}
-use Rattle.crash_site.specs.SiteState.{SiteState}
 use Rattle.rescue_console.specs.ClockState.{ClockState}
 use Rattle.transfer_token.specs.declared.token.Request.{Request}
 use Rattle.rescue_rules.specs.declared.stop.Stop.{Stop}
@@ -16,7 +15,7 @@ use Rattle.rescue_rules.specs.declared.phase.Phase.TheVariants.{Copying, Trimmin
 use Rattle.rescue_rules.specs.Setting.{Setting, IsSensible}
 use Rattle.rescue_rules.specs.Passes.{Pass, taken, numbered}
 use Rattle.rescue_rules.specs.Machine.{Machine, pass_of, is_live, is_wanted, IsRequest, has_request}
-use Rattle.rescue_rules.specs.Step.{Event, copies, trims, is_copying, is_trimming}
+use Rattle.rescue_rules.specs.Step.{Event, copies, trims, is_copying, is_trimming, step}
 use Rattle.rescue_rules.specs.Moves.{ready, no_pass_left}
 use Rattle.rescue_rules.proofs.SearchLemmas.{request_seen}
 use Rattle.rescue_rules.proofs.OverLemmas.{live_was, wanted_live}
@@ -26,6 +25,7 @@ use Rattle.rescue_rules.proofs.ReadyLemmas.{ready_here, ready_on, ready_end, spe
 use Rattle.rescue_core.specs.RunState.{RunState, setting_in, passed, IsRunning, IsGone}
 use Rattle.rescue_core.specs.Stages.{Reached, Begun, Copied, Trimmed, Scraped, Over, IsTrimmed, IsScraped, IsOver, Known}
 use Rattle.rescue_core.specs.declared.turn.Turn.{Turn}
+use Rattle.rescue_core.specs.Across.{Across}
 use Rattle.rescue_core.specs.Turning.{stepped, IsEvent, Turned, Halted, Starved, Lost, Unwritten, Unsaved}
 
 -- its settings are sensible
@@ -92,26 +92,26 @@ never_trims r room e t gone low at =
     never_asked r room e t (subst (λ (phase : Phase). IsGone (taken phase) r) (sym trims) (gone on))
 
 -- what is left of the domain behind an event was left before
-live_before : (r : RunState) (e : Event) (x : ℕ) → is_live (setting_in r) (stepped r e).machine x ≡ true
+live_before : (r : RunState) (e : Event) (x : ℕ) → is_live (setting_in r) (step (setting_in r) r.machine e) x ≡ true
     → is_live (setting_in r) r.machine x ≡ true
-live_before r e x live = live_was (setting_in r) r.machine (stepped r e).machine e.reading x refl live
+live_before r e x live = live_was (setting_in r) r.machine (step (setting_in r) r.machine e) e.reading x refl live
 
-tried_steps : (r : RunState) (room : ℕ) (e : Event) → IsTurn r room e → IsGone NonTried r → IsGone NonTried (stepped r e)
-tried_steps r room e t gone x live has =
+tried_steps : (r : RunState) (room : ℕ) (e : Event) (heard : Bool) → IsTurn r room e → IsGone NonTried r → IsGone NonTried (stepped r e heard)
+tried_steps r room e heard t gone x live has =
     gone x (live_before r e x live) (non_tried_stood (setting_in r) r.machine e.reading x has)
 
-trimmed_steps : (r : RunState) (room : ℕ) (e : Event) → IsTurn r room e → IsTrimmed r → IsTrimmed (stepped r e)
-trimmed_steps r room e t known = record {
-  tried = tried_steps r room e t known.tried;
+trimmed_steps : (r : RunState) (room : ℕ) (e : Event) (heard : Bool) → IsTurn r room e → IsTrimmed r → IsTrimmed (stepped r e heard)
+trimmed_steps r room e heard t known = record {
+  tried = tried_steps r room e heard t known.tried;
   trimmed = λ on x live has. ⊎_elim
       (λ (was : Has r.machine.map NonTrimmed x). known.trimmed on x (live_before r e x live) was)
       (λ (copying : is_copying r.machine ≡ true). never_copies r room e t known.tried copying)
       (non_trimmed_stood (setting_in r) r.machine e.reading x has);
 }
 
-scraped_steps : (r : RunState) (room : ℕ) (e : Event) → IsTurn r room e → IsScraped r → IsScraped (stepped r e)
-scraped_steps r room e t known = record {
-  trimmed = trimmed_steps r room e t known.trimmed;
+scraped_steps : (r : RunState) (room : ℕ) (e : Event) (heard : Bool) → IsTurn r room e → IsScraped r → IsScraped (stepped r e heard)
+scraped_steps r room e heard t known = record {
+  trimmed = trimmed_steps r room e heard t known.trimmed;
   scraped = λ on x live has. ⊎_elim
       (λ (was : Has r.machine.map NonScraped x). known.scraped on x (live_before r e x live) was)
       (λ (back : (low : ℕ) × (r.machine.mode ≡ Tail low)).
@@ -130,50 +130,47 @@ never_over r room e t known =
     true≢false (sym on ∙ spent_request s r.machine none)
 
 -- an event of the run's request keeps what is known
-pub known_steps : (reached : Reached) (r : RunState) (room : ℕ) (e : Event) → IsRunning r room
+pub known_steps : (reached : Reached) (r : RunState) (room : ℕ) (e : Event) (heard : Bool) → IsRunning r room
     → IsRequest (setting_in r) r.machine e.reading.pos (e.reading.pos + e.reading.asked)
-    → Known reached r → Known reached (stepped r e)
-known_steps Begun r room e is request known = known
-known_steps Copied r room e is request known = tried_steps r room e (is_turn r room e is request) known
-known_steps Trimmed r room e is request known = trimmed_steps r room e (is_turn r room e is request) known
-known_steps Scraped r room e is request known = scraped_steps r room e (is_turn r room e is request) known
-known_steps Over r room e is request known = absurd (never_over r room e (is_turn r room e is request) known)
+    → Known reached r → Known reached (stepped r e heard)
+known_steps Begun r room e heard is request known = known
+known_steps Copied r room e heard is request known = tried_steps r room e heard (is_turn r room e is request) known
+known_steps Trimmed r room e heard is request known = trimmed_steps r room e heard (is_turn r room e is request) known
+known_steps Scraped r room e heard is request known = scraped_steps r room e heard (is_turn r room e is request) known
+known_steps Over r room e heard is request known = absurd (never_over r room e (is_turn r room e is request) known)
 
-known_event : (reached : Reached) (r : RunState) (room : ℕ) (request : Request) (e : Event)
+known_event : (reached : Reached) (r : RunState) (room : ℕ) (request : Request) (e : Event) (heard : Bool)
     (source source' : SourceState) (clock clock' : ClockState) → IsRunning r room
     → IsRequest (setting_in r) r.machine request.pos (request.pos + request.len)
-    → IsEvent request e source source' clock clock' → Known reached r → Known reached (stepped r e)
-known_event reached r room request e source source' clock clock' is asks event known =
-    known_steps reached r room e is
+    → IsEvent request e source source' clock clock' → Known reached r → Known reached (stepped r e heard)
+known_event reached r room request e heard source source' clock clock' is asks event known =
+    known_steps reached r room e heard is
     (subst (λ (pos : ℕ). IsRequest (setting_in r) r.machine pos (pos + e.reading.asked)) (sym event.pos)
     (subst (λ (len : ℕ). IsRequest (setting_in r) r.machine request.pos (request.pos + len)) (sym event.asked) asks))
     known
 
 -- a turn keeps what is known, whatever its outcome
-known_halted : (reached : Reached) (request : Request) (stop : Stop) (r r' : RunState) (room : ℕ)
-    (source source' : SourceState) (site site' : SiteState) (clock clock' : ClockState) → IsRunning r room
-    → IsRequest (setting_in r) r.machine request.pos (request.pos + request.len)
-    → Halted request stop r r' source source' site site' clock clock' → Known reached r → Known reached r'
-known_halted reached request stop r r' room source source' site site' clock clock' is asks h known =
+known_halted : (reached : Reached) (request : Request) (stop : Stop) (r r' : RunState) (room : ℕ) (o : Across)
+    → IsRunning r room → IsRequest (setting_in r) r.machine request.pos (request.pos + request.len)
+    → Halted request stop r r' o → Known reached r → Known reached r'
+known_halted reached request stop r r' room o is asks h known =
     elim h [
-      | Starved why same read wrote told ↦ subst (Known reached) (sym same) known
-      | Lost why same read wrote before few told ↦ subst (Known reached) (sym same) known
-      | Unwritten why same e event named wrote ↦ subst (Known reached) (sym same) known
-      | Unsaved call why e event same due named wrote rose ↦ subst (Known reached) (sym same)
-          (known_event reached r room request e source source' clock clock' is asks event known)
+      | Starved why same read wrote told silent ↦ subst (Known reached) (sym same) known
+      | Lost why same read wrote before few told silent ↦ subst (Known reached) (sym same) known
+      | Unwritten why same e event named wrote silent ↦ subst (Known reached) (sym same) known
+      | Unsaved call why e event same due named wrote rose says ↦ subst (Known reached) (sym same)
+          (known_event reached r room request e r'.heard o.source o.source' o.clock o.clock' is asks event known)
     ]
 
-pub known_turns : (reached : Reached) (request : Request) (result : Result Turn Stop) (r r' : RunState) (room : ℕ)
-    (source source' : SourceState) (site site' : SiteState) (clock clock' : ClockState) → IsRunning r room
-    → IsRequest (setting_in r) r.machine request.pos (request.pos + request.len)
-    → IfOk result (λ turn. Turned request turn r r' source source' site site' clock clock')
-    → IfErr result (λ stop. Halted request stop r r' source source' site site' clock clock')
+pub known_turns : (reached : Reached) (request : Request) (result : Result Turn Stop) (r r' : RunState) (room : ℕ) (o : Across)
+    → IsRunning r room → IsRequest (setting_in r) r.machine request.pos (request.pos + request.len)
+    → IfOk result (λ turn. Turned request turn r r' o) → IfErr result (λ stop. Halted request stop r r' o)
     → Known reached r → Known reached r'
-known_turns reached request (Ok turn) r r' room source source' site site' clock clock' is asks t h known =
+known_turns reached request (Ok turn) r r' room o is asks t h known =
     subst (Known reached) (sym t.steps)
-    (known_event reached r room request t.event source source' clock clock' is asks t.is known)
-known_turns reached request (Err stop) r r' room source source' site site' clock clock' is asks t h known =
-    known_halted reached request stop r r' room source source' site site' clock clock' is asks h known
+    (known_event reached r room request t.event r'.heard o.source o.source' o.clock o.clock' is asks t.is known)
+known_turns reached request (Err stop) r r' room o is asks t h known =
+    known_halted reached request stop r r' room o is asks h known
 
 -- a pass behind the first one
 next_pass : (ps : List Pass) (p : Pass) → slice_get ps 1 ≡ Some p → (c : Pass) × (ps ≡ c ∷ p ∷ drop 2 ps)

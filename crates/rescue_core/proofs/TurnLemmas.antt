@@ -121,15 +121,15 @@ wanted_in s m map phase n k pos x wanted pass =
 
 -- a run behind an event, by its parts
 pub run_steps : (settings : Settings) (domain : List Run) (names : Option MapNames) (line : List ℕ) (map map' : List Status)
-    (phase : Phase) (place place' : Place) (tally tally' : Tally) (e : Event)
-    → let r : RunState = run_at settings domain names line map phase place tally in
+    (phase : Phase) (place place' : Place) (tally tally' : Tally) (heard : Bool) (e : Event)
+    → let r : RunState = run_at settings domain names line map phase place tally heard in
     map' ≡ map_after (setting_in r) r.machine e.reading
     → place' ≡ place_of place.pass (step (setting_in r) r.machine e)
     → tally' ≡ tally_of (step (setting_in r) r.machine e)
-    → run_at settings domain names line map' phase place' tally' ≡ stepped r e
-run_steps settings domain names line map map' phase place place' tally tally' e map_is place_is tally_is =
-    let r : RunState = run_at settings domain names line map phase place tally in
+    → run_at settings domain names line map' phase place' tally' heard ≡ stepped r e heard
+run_steps settings domain names line map map' phase place place' tally tally' heard e map_is place_is tally_is =
+    let r : RunState = run_at settings domain names line map phase place tally heard in
     let n : Machine = step (setting_in r) r.machine e in
-    ap (λ (l : List Status). run_at settings domain names line l phase place' tally') map_is
-    ∙ ap (λ (p : Place). run_at settings domain names line n.map phase p tally') place_is
-    ∙ ap (λ (t : Tally). run_at settings domain names line n.map phase (place_of place.pass n) t) tally_is
+    ap (λ (l : List Status). run_at settings domain names line l phase place' tally' heard) map_is
+    ∙ ap (λ (p : Place). run_at settings domain names line n.map phase p tally' heard) place_is
+    ∙ ap (λ (t : Tally). run_at settings domain names line n.map phase (place_of place.pass n) t heard) tally_is

@@ -1,31 +1,29 @@
 -- What a turn makes of a run, by what its parts say.
-use Rattle.std.proofs.Common.{◌≡◌, ℕ, ◌+◌, Bool, true, false, ◌&&◌, if◌then◌else◌, Option, is_some, List, [], ◌∷◌, length, take, drop, ◌++◌, refl, sym, ap, subst, ◌∙◌, arith, length-append, length-drop, length-take-le}
+use Rattle.std.proofs.Common.{◌≡◌, ℕ, ◌+◌, ◌/◌, Bool, ◌&&◌, Option, List, [], ◌∷◌, length, take, drop, ◌++◌, refl, sym, ap, subst, ◌∙◌, arith, length-append, length-drop, length-take-le}
 use Rattle.std.specs.List.{slice_get}
 use Rattle.block_list.specs.declared.block.Run.{Run}
 use Rattle.block_list.specs.declared.status.Status.{Status}
+use Rattle.mapfile_text.specs.declared.state.Current.{Current}
 use Rattle.mapfile_text.specs.declared.state.MapState.{MapState}
 use Rattle.faulty_source.specs.Ends.{is_before}
 use Rattle.faulty_source.specs.Journal.{Reading}
 use Rattle.faulty_source.specs.SourceState.{SourceState}
-use Rattle.crash_site.specs.declared.site.SiteCall.{SiteCall}
-use Rattle.crash_site.specs.Calls.{Call}
-use Rattle.crash_site.specs.SiteState.{SiteState, Keeps, Makes, Breaks}
+use Rattle.crash_site.specs.SiteState.{SiteState}
 use Rattle.save_resume.specs.MapNames.{MapNames}
-use Rattle.save_resume.specs.Saving.{save_calls, IsNameIn}
 use Rattle.rescue_console.specs.ClockState.{ClockState}
+use Rattle.rescue_domain.specs.declared.live.Live.{Live}
 use Rattle.rescue_domain.specs.Parts.{covers}
 use Rattle.transfer_token.specs.declared.token.Request.{Request}
 use Rattle.transfer_token.specs.Tokens.{IsCut}
 use Rattle.rescue_rules.specs.declared.phase.Phase.{Phase}
 use Rattle.rescue_rules.specs.declared.phase.Phase.TheVariants.{Trimming}
 use Rattle.rescue_rules.specs.declared.stop.Stop.{Stop}
-use Rattle.rescue_rules.specs.declared.stop.Stop.TheVariants.{Site}
 use Rattle.rescue_rules.specs.Setting.{Setting}
 use Rattle.rescue_rules.specs.Passes.{Pass, numbered, current_of}
-use Rattle.rescue_rules.specs.Machine.{Machine, has_taken, is_live, is_wanted, IsRequest}
+use Rattle.rescue_rules.specs.Machine.{Machine, pass_of, has_taken, is_live, is_wanted, IsRequest}
 use Rattle.rescue_rules.specs.Step.{Event, is_timely, map_after, step}
-use Rattle.rescue_rules.specs.Snapshots.{text_of, snapshot_of}
-use Rattle.rescue_rules.specs.RunCalls.{write_calls, move_calls}
+use Rattle.rescue_rules.specs.declared.report.Counts.{Counts}
+use Rattle.rescue_rules.specs.Said.{is_line_due}
 use Rattle.rescue_rules.specs.MachineLaws.{StepsBy}
 use Rattle.rescue_rules.proofs.StepLemmas.{move_steps}
 use Rattle.rescue_core.specs.declared.gather.Gathered.{Gathered}
@@ -35,12 +33,13 @@ use Rattle.rescue_core.specs.declared.settings.Settings.{Settings}
 use Rattle.rescue_core.specs.declared.state.Place.{Place}
 use Rattle.rescue_core.specs.declared.state.Tally.{Tally}
 use Rattle.rescue_core.specs.declared.turn.Turn.{Turn}
-use Rattle.rescue_core.specs.RunState.{RunState, names_in, setting_in, run_at, HasPlaces, IsRunning}
-use Rattle.rescue_core.specs.Turning.{turn_of, stepped, move_by, Turned, Halted, Unsaved}
-use Rattle.rescue_core.specs.TurnParts.{place_of, tally_of, RunsAt, IsReadOf, fetched_of, end_met, Gathers}
+use Rattle.rescue_core.specs.Across.{Across}
+use Rattle.rescue_core.specs.Counting.{IsMarkedRead}
+use Rattle.rescue_core.specs.RunState.{RunState, setting_in, run_at, HasPlaces, IsRunning, Counted}
+use Rattle.rescue_core.specs.Turning.{turn_of, stepped, Halted}
+use Rattle.rescue_core.specs.TurnParts.{place_of, tally_of, RunsAt, IsReadOf, fetched_of, end_met, Gathers, Advances}
 use Rattle.rescue_core.proofs.TurnLemmas.{sensible_in, Fits, request_fits, wanted_in, run_steps}
 use Rattle.rescue_core.proofs.RunningLemmas.{running_steps}
-use Rattle.rescue_core.proofs.TurnCallLemmas.{timely_due, named_there, untimely_calls, timely_calls, timely_breaks, timely_rose}
 
 -- what the marks, the place and the tally say
 abbrev pub Marks : Settings → Phase → Place → Request → Kept → List Status → List Status → Type 0
@@ -66,6 +65,11 @@ Tallies tally turn after shown end tally' =
     → shown ≡ (step (setting_in r) r.machine e).shown → end ≡ end_met e.reading
     → tally' ≡ tally_of (step (setting_in r) r.machine e)
 
+abbrev pub Recounts : Counts → Live → List Status → Phase → Request → Turn → (end : Option ℕ) → Counts → Type 0
+Recounts counts live map' phase request turn end counts' =
+    (r : RunState) (e : Event) (heard : Bool) → Counted r counts → IsMarkedRead r e phase request turn live map'
+    → end ≡ end_met e.reading → Counted (stepped r e heard) counts'
+
 -- the parts of a run before a turn, and behind it
 pub record Parts : Type 0 where
   pub settings : Settings
@@ -76,6 +80,7 @@ pub record Parts : Type 0 where
   pub phase : Phase
   pub place : Place
   pub tally : Tally
+  pub heard : Bool
 
 abbrev pub parts_of : (T : Type 0) → (T → List Status) → Inside T → Parts
 parts_of T statuses r = record {
@@ -87,14 +92,15 @@ parts_of T statuses r = record {
   phase = r.phase;
   place = r.place;
   tally = r.tally;
+  heard = r.heard;
 }
 
 abbrev pub run_of : Parts → RunState
-run_of p = run_at p.settings p.domain p.names p.line p.map p.phase p.place p.tally
+run_of p = run_at p.settings p.domain p.names p.line p.map p.phase p.place p.tally p.heard
 
--- the parts behind a turn
-abbrev pub parts_behind : Parts → List ℕ → List Status → Place → Tally → Parts
-parts_behind p line map place tally = record p { line = line; map = map; place = place; tally = tally }
+-- the parts behind the marks of a turn
+abbrev pub parts_behind : Parts → List Status → Place → Tally → Parts
+parts_behind p map place tally = record p { map = map; place = place; tally = tally }
 
 -- a turn begins with this run, in which it has a request
 pub record Begins (p : Parts) (r : RunState) (room : ℕ) (request : Request) : Type 0 where
@@ -104,8 +110,8 @@ pub record Begins (p : Parts) (r : RunState) (room : ℕ) (request : Request) : 
   pub asks : IsRequest (setting_in r) r.machine request.pos (request.pos + request.len)
 
 -- what the parts of a turn say of the parts of the run
-pub record Does (p : Parts) (request : Request) (got : Gathered) (line' : List ℕ) (map' : List Status) (place' : Place)
-    (tally' : Tally) : Type 0 where
+pub record Does (p : Parts) (request : Request) (got : Gathered) (map' : List Status) (place' : Place) (tally' : Tally)
+    : Type 0 where
   pub old : List Status
   pub old_is : old ≡ p.map
   pub marks : Marks p.settings p.phase p.place request got.kept old map'
@@ -121,7 +127,6 @@ pub record Does (p : Parts) (request : Request) (got : Gathered) (line' : List �
   pub shown : MapState
   pub shown_is : shown ≡ record { pos = place'.cursor; current = current_of p.phase; pass = place'.pass }
   pub tallies : Tallies p.tally got.turn got.after shown end tally'
-  pub line_is : line' ≡ p.line
 
 pub begins_of : (T : Type 0) (statuses : T → List Status) (was : Inside T) (r : RunState) (request : Request)
     → run_of (parts_of T statuses was) ≡ r → IsRunning (run_of (parts_of T statuses was)) (length was.buf.items)
@@ -187,14 +192,25 @@ marks_size p r room request got old map' source source' site site' clock clock' 
     (marks_map p r room request got old map' source source' site site' clock clock' b g old_is marks)
     ∙ (event_steps p r room request got source source' site site' clock clock' b g).size
 
--- the run behind a turn is the one behind its event
-pub does_step : (p : Parts) (r : RunState) (room : ℕ) (request : Request) (got : Gathered) (line' : List ℕ)
-    (map' : List Status) (place' : Place) (tally' : Tally) (source source' : SourceState) (site site' : SiteState)
-    (clock clock' : ClockState) → Begins p r room request
-    → (g : Gathers request p.settings got source source' site site' clock clock')
-    → Does p request got line' map' place' tally'
-    → run_of (parts_behind p line' map' place' tally') ≡ stepped (run_of p) g.event
-does_step p r room request got line' map' place' tally' source source' site site' clock clock' b g d =
+-- what a turn answers tells of its read
+read_of : (p : Parts) (request : Request) (got : Gathered) (source source' : SourceState) (site site' : SiteState)
+    (clock clock' : ClockState) → (g : Gathers request p.settings got source source' site site' clock clock')
+    → IsReadOf request got.turn.given got.turn.ended g.event.reading
+read_of p request got source source' site site' clock clock' g =
+    let turn : got.turn ≡ turn_of (run_of p) g.event = g.turn (run_of p) refl in record {
+      pos = g.is.pos;
+      asked = g.is.asked;
+      count = sym (ap (λ (t : Turn). t.given) turn);
+      end = sym (ap (λ (t : Turn). t.ended) turn);
+    }
+
+-- the run behind the marks of a turn is the one behind its event
+pub does_step : (p : Parts) (r : RunState) (room : ℕ) (request : Request) (got : Gathered) (map' : List Status)
+    (place' : Place) (tally' : Tally) (source source' : SourceState) (site site' : SiteState) (clock clock' : ClockState)
+    → Begins p r room request → (g : Gathers request p.settings got source source' site site' clock clock')
+    → Does p request got map' place' tally'
+    → run_of (parts_behind p map' place' tally') ≡ stepped (run_of p) g.event p.heard
+does_step p r room request got map' place' tally' source source' site site' clock clock' b g d =
     let before : RunState = run_of p in
     let e : Event = g.event in
     let s : Setting = setting_in before in
@@ -203,12 +219,7 @@ does_step p r room request got line' map' place' tally' source source' site site
     let turn : got.turn ≡ turn_of before e = g.turn before refl in
     let at : RunsAt p.settings p.phase p.place before = stands_at p r room request b in
     let read : IsReadOf request got.turn.given got.turn.ended e.reading
-    = record {
-      pos = g.is.pos;
-      asked = g.is.asked;
-      count = sym (ap (λ (t : Turn). t.given) turn);
-      end = sym (ap (λ (t : Turn). t.ended) turn);
-    } in
+    = read_of p request got source source' site site' clock clock' g in
     let map_is : map' ≡ n.map
     = marks_map p r room request got d.old map' source source' site site' clock clock' b g d.old_is d.marks in
     let x : ℕ = request.pos + request.len in
@@ -226,110 +237,95 @@ does_step p r room request got line' map' place' tally' source source' site site
     ∙ ap (λ (q : Pass). record { pos = n.cursor; current = current_of q.phase; pass = q.number }) (sym b.running.pass) in
     let tally_is : tally' ≡ tally_of n
     = d.tallies before e refl turn g.after shown (d.meets e.reading g.cut) in
-    ap (λ (l : List ℕ). run_at p.settings p.domain p.names l map' p.phase place' tally') d.line_is
-    ∙ run_steps p.settings p.domain p.names p.line p.map map' p.phase p.place place' p.tally tally' e map_is place_is tally_is
+    run_steps p.settings p.domain p.names p.line p.map map' p.phase p.place place' p.tally tally' p.heard e map_is
+    place_is tally_is
 
 -- it stands as between any turns
-pub does_running : (p : Parts) (r : RunState) (room : ℕ) (request : Request) (got : Gathered) (line' : List ℕ)
-    (map' : List Status) (place' : Place) (tally' : Tally) (source source' : SourceState) (site site' : SiteState)
-    (clock clock' : ClockState) → Begins p r room request
-    → Gathers request p.settings got source source' site site' clock clock'
-    → Does p request got line' map' place' tally'
-    → IsRunning (run_of (parts_behind p line' map' place' tally')) room
-does_running p r room request got line' map' place' tally' source source' site site' clock clock' b g d =
+pub does_running : (p : Parts) (r : RunState) (room : ℕ) (request : Request) (got : Gathered) (map' : List Status)
+    (place' : Place) (tally' : Tally) (source source' : SourceState) (site site' : SiteState) (clock clock' : ClockState)
+    → Begins p r room request → Gathers request p.settings got source source' site site' clock clock'
+    → Does p request got map' place' tally' → IsRunning (run_of (parts_behind p map' place' tally')) room
+does_running p r room request got map' place' tally' source source' site site' clock clock' b g d =
     let before : RunState = run_of p in
     let e : Event = g.event in
     subst (λ (x : RunState). IsRunning x room)
-    (sym (does_step p r room request got line' map' place' tally' source source' site site' clock clock' b g d))
-    (running_steps before room e b.running
+    (sym (does_step p r room request got map' place' tally' source source' site site' clock clock' b g d))
+    (running_steps before room e p.heard b.running
     (event_asks (setting_in before) before.machine e request.pos request.len g.is.pos g.is.asked
     (begins_asks p r room request b))
     (omega (arith, g.is.few, g.is.asked)))
 
--- a whole turn
-pub does_turned : (p : Parts) (r : RunState) (room : ℕ) (request : Request) (got : Gathered) (line' : List ℕ)
-    (map' : List Status) (place' : Place) (tally' : Tally) (source source' : SourceState) (site site' : SiteState)
+-- and its counts are those of its map
+pub does_counted : (p : Parts) (r : RunState) (room : ℕ) (request : Request) (got : Gathered) (map' : List Status)
+    (place' : Place) (tally' : Tally) (counts counts' : Counts) (live : Live) (source source' : SourceState)
+    (site site' : SiteState) (clock clock' : ClockState) → Begins p r room request
+    → Gathers request p.settings got source source' site site' clock clock' → (d : Does p request got map' place' tally')
+    → Counted (run_of p) counts → live.domain.now ≡ p.domain → live.over ≡ p.tally.over
+    → Recounts counts live map' p.phase request got.turn d.end counts'
+    → Counted (run_of (parts_behind p map' place' tally')) counts'
+does_counted p r room request got map' place' tally' counts counts' live source source' site site' clock clock' b g d were domain over recounts =
+    subst (λ (x : RunState). Counted x counts')
+    (sym (does_step p r room request got map' place' tally' source source' site site' clock clock' b g d))
+    (recounts (run_of p) g.event p.heard were (record {
+      room = room;
+      running = b.running;
+      phase_is = refl;
+      asks = begins_asks p r room request b;
+      read = read_of p request got source source' site site' clock clock' g;
+      few = g.is.few;
+      answers = g.turn (run_of p) refl;
+      domain_is = domain;
+      over_is = over;
+      map_is = marks_map p r room request got d.old map' source source' site site' clock clock' b g d.old_is d.marks;
+    }) (d.meets g.event.reading g.cut))
+
+-- a turn up to its marks
+pub does_advance : (p : Parts) (r : RunState) (room : ℕ) (request : Request) (got : Gathered) (map' : List Status)
+    (place' : Place) (tally' : Tally) (speaks saves : Bool) (source source' : SourceState) (site site' : SiteState)
     (clock clock' : ClockState) → Begins p r room request
-    → (g : Gathers request p.settings got source source' site site' clock clock')
-    → Does p request got line' map' place' tally' → (end : SiteState)
-    → Makes (move_calls (setting_in (run_of p)) (move_by (run_of p) g.event)) site end
-    → Turned request got.turn r (run_of (parts_behind p line' map' place' tally')) source source' site end clock clock'
-does_turned p r room request got line' map' place' tally' source source' site site' clock clock' b g d end calls =
-    subst (λ (x : RunState). Turned request got.turn x (run_of (parts_behind p line' map' place' tally')) source source'
-    site end clock clock') b.is (record {
+    → (g : Gathers request p.settings got source source' site site' clock clock') → (d : Does p request got map' place' tally')
+    → speaks ≡ is_line_due p.tally.said d.shown.current (got.after / 1000)
+    → ((m : Machine) (e : Event) → m.due_at ≡ p.tally.due_at → e.after ≡ got.after → saves ≡ is_timely m e)
+    → Advances request (record { turn = got.turn; speaks = speaks; saves = saves }) r
+    (run_of (parts_behind p map' place' tally')) source source' site site' clock clock'
+does_advance p r room request got map' place' tally' speaks saves source source' site site' clock clock' b g d line due =
+    let behind : RunState = run_of (parts_behind p map' place' tally') in
+    let is : behind ≡ stepped (run_of p) g.event p.heard
+    = does_step p r room request got map' place' tally' source source' site site' clock clock' b g d in
+    subst (λ (x : RunState). Advances request (record { turn = got.turn; speaks = speaks; saves = saves }) x behind source
+    source' site site' clock clock') b.is (record {
       event = g.event;
       is = g.is;
       answers = g.turn (run_of p) refl;
-      steps = does_step p r room request got line' map' place' tally' source source' site site' clock clock' b g d;
-      calls = calls;
+      steps = is;
+      writes = g.writes (run_of p) refl;
+      speaks = line
+          ∙ ap (λ (current : Current). is_line_due p.tally.said current (got.after / 1000))
+          (ap (λ (shown : MapState). shown.current) d.shown_is
+          ∙ ap (λ (q : Pass). current_of q.phase) (sym b.running.pass))
+          ∙ ap (λ (n : ℕ). is_line_due p.tally.said (current_of (pass_of (run_of p).machine).phase) (n / 1000)) (sym g.after);
+      saves = due (run_of p).machine g.event refl g.after;
     })
 
--- a whole turn behind which it isn't time for a save
-pub does_untimely : (p : Parts) (r : RunState) (room : ℕ) (request : Request) (got : Gathered) (line' : List ℕ)
-    (map' : List Status) (place' : Place) (tally' : Tally) (source source' : SourceState) (site site' : SiteState)
-    (clock clock' : ClockState) → Begins p r room request
-    → (g : Gathers request p.settings got source source' site site' clock clock')
-    → Does p request got line' map' place' tally' → is_timely (run_of p).machine g.event ≡ false
-    → Turned request got.turn r (run_of (parts_behind p line' map' place' tally')) source source' site site' clock clock'
-does_untimely p r room request got line' map' place' tally' source source' site site' clock clock' b g d untimely =
-    does_turned p r room request got line' map' place' tally' source source' site site' clock clock' b g d site'
-    (untimely_calls (run_of p) g.event site site' untimely (g.writes (run_of p) refl))
-
--- a whole turn with the save for which it was time, if there is a mapfile
-pub does_saved : (p : Parts) (r : RunState) (room : ℕ) (request : Request) (got : Gathered) (line' : List ℕ)
-    (map' : List Status) (place' : Place) (tally' : Tally) (source source' : SourceState) (site site' : SiteState)
-    (clock clock' : ClockState) → Begins p r room request
-    → (g : Gathers request p.settings got source source' site site' clock clock')
-    → Does p request got line' map' place' tally' → (end : SiteState)
-    → is_timely (run_of p).machine g.event ≡ true → Keeps site site'
-    → Makes (if is_some p.names
-    then save_calls (names_in p.names) (text_of p.line (snapshot_of (run_of (parts_behind p line' map' place' tally')).machine))
-    else []) site' end
-    → Turned request got.turn r (run_of (parts_behind p line' map' place' tally')) source source' site end clock clock'
-does_saved p r room request got line' map' place' tally' source source' site site' clock clock' b g d end timely keeps saves =
-    does_turned p r room request got line' map' place' tally' source source' site site' clock clock' b g d end
-    (timely_calls (run_of p) (run_of (parts_behind p line' map' place' tally')) g.event site site' end
-    (does_step p r room request got line' map' place' tally' source source' site site' clock clock' b g d)
-    timely keeps (g.writes (run_of p) refl) saves)
-
--- a turn whose due save broke
-pub does_unsaved : (p : Parts) (r : RunState) (room : ℕ) (request : Request) (got : Gathered) (line' : List ℕ)
-    (map' : List Status) (place' : Place) (tally' : Tally) (source source' : SourceState) (site site' : SiteState)
-    (clock clock' : ClockState) → Begins p r room request
-    → (g : Gathers request p.settings got source source' site site' clock clock')
-    → Does p request got line' map' place' tally' → (call : SiteCall) (end : SiteState)
-    → is_timely (run_of p).machine g.event ≡ true → Keeps site site'
-    → IsNameIn call (if is_some p.names
-    then save_calls (names_in p.names) (text_of p.line (snapshot_of (run_of (parts_behind p line' map' place' tally')).machine))
-    else [])
-    → Breaks call (if is_some p.names
-    then save_calls (names_in p.names) (text_of p.line (snapshot_of (run_of (parts_behind p line' map' place' tally')).machine))
-    else []) site' end
-    → Halted request (Site call) r (run_of (parts_behind p line' map' place' tally')) source source' site end clock clock'
-does_unsaved p r room request got line' map' place' tally' source source' site site' clock clock' b g d call end timely keeps named broke =
-    let before : RunState = run_of p in
-    let behind : RunState = run_of (parts_behind p line' map' place' tally') in
-    let save : List Call = save_calls (names_in p.names) (text_of p.line (snapshot_of behind.machine)) in
-    let there : is_some p.names ≡ true = named_there p.names call save named in
-    let all : (if is_some p.names then save else []) ≡ save = ap (λ (b : Bool). if b then save else []) there in
-    let writes : Makes (write_calls (setting_in before) g.event.reading) site site' = g.writes before refl in
-    subst (λ (x : RunState). Halted request (Site call) x behind source source' site end clock clock') b.is
-    (Unsaved call refl g.event g.is
-    (does_step p r room request got line' map' place' tally' source source' site site' clock clock' b g d)
-    (timely_due before g.event there timely) (subst (λ (cs : List Call). IsNameIn call cs) all named)
-    (timely_breaks call (write_calls (setting_in before) g.event.reading) save site site' end keeps writes
-    (subst (λ (cs : List Call). Breaks call cs site' end) all broke))
-    (timely_rose (write_calls (setting_in before) g.event.reading) site site' end.faults writes broke.rose))
-
 -- a turn that stopped before its marks leaves the run
-pub halts_same : (p : Parts) (r : RunState) (request : Request) (stop : Stop) (map' : List Status)
-    (source source' : SourceState) (site site' : SiteState) (clock clock' : ClockState) → run_of p ≡ r → map' ≡ p.map
-    → Halted request stop (run_of p) (run_of p) source source' site site' clock clock'
-    → Halted request stop r (run_of (record p { map = map' })) source source' site site' clock clock'
-halts_same p r request stop map' source source' site site' clock clock' is map_is h =
-    subst (λ (x : RunState). Halted request stop x (run_of (record p { map = map' })) source source' site site' clock clock') is
-    (subst (λ (l : List Status). Halted request stop (run_of p) (run_of (record p { map = l })) source source' site site' clock clock')
-    (sym map_is) h)
+pub halts_same : (p : Parts) (r : RunState) (request : Request) (stop : Stop) (map' : List Status) (o : Across)
+    → run_of p ≡ r → map' ≡ p.map → Halted request stop (run_of p) (run_of p) o
+    → Halted request stop r (run_of (record p { map = map' })) o
+halts_same p r request stop map' o is map_is h =
+    subst (λ (x : RunState). Halted request stop x (run_of (record p { map = map' })) o) is
+    (subst (λ (l : List Status). Halted request stop (run_of p) (run_of (record p { map = l })) o) (sym map_is) h)
+
+-- and what holds of it
+pub holds_same : (p : Parts) (room room' : ℕ) (map' : List Status) → map' ≡ p.map → room' ≡ room
+    → IsRunning (run_of p) room → IsRunning (run_of (record p { map = map' })) room'
+holds_same p room room' map' map_is size running =
+    subst (λ (n : ℕ). IsRunning (run_of (record p { map = map' })) n) (sym size)
+    (subst (λ (l : List Status). IsRunning (run_of (record p { map = l })) room) (sym map_is) running)
+
+pub counted_same : (p : Parts) (map' : List Status) (counts : Counts) → map' ≡ p.map → Counted (run_of p) counts
+    → Counted (run_of (record p { map = map' })) counts
+counted_same p map' counts map_is counted =
+    subst (λ (l : List Status). Counted (run_of (record p { map = l })) counts) (sym map_is) counted
 
 -- a buffer keeps its room
 pub room_same : (len : ℕ) (new now items : List ℕ) → length now ≡ len → now ≡ items → length new ≡ length now

@@ -1,5 +1,5 @@
 -- What the end of a run does.
-use Rattle.std.specs.Prelude.{◌≡◌, ⊤, false, Bool, Option, Some, None}
+use Rattle.std.specs.Prelude.{◌≡◌, ⊤, false, Bool, List, [], ◌∷◌, Option, Some, None}
 use Rattle.crash_site.specs.declared.site.SiteCall.{SiteCall}
 use Rattle.crash_site.specs.SiteState.{SiteState, Makes, Breaks}
 use Rattle.save_resume.specs.Saving.{IsNameIn, drafting_after_fault}
@@ -9,6 +9,8 @@ use Rattle.rescue_rules.specs.declared.stop.RunEnd.{RunEnd}
 use Rattle.rescue_rules.specs.declared.stop.RunEnd.TheVariants.{Done, Stopped, SaveFailed}
 use Rattle.rescue_rules.specs.Snapshots.{Snapshot, snapshot_of, finished_snapshot}
 use Rattle.rescue_rules.specs.RunCalls.{closing_calls}
+use Rattle.rescue_rules.specs.Lines.{is_done, last_line}
+use Rattle.rescue_console.specs.Speaking.{Piece, out_pieces}
 use Rattle.rescue_core.specs.RunState.{RunState, setting_in}
 
 -- whether a draft is left begun behind a stop
@@ -55,3 +57,7 @@ MayClose None site = site.is_drafting ≡ false
 MayClose (Some SourceLost) site = site.is_drafting ≡ false
 MayClose (Some (Site call)) site = ⊤
 MayClose (Some NoMemory) site = site.is_drafting ≡ false
+
+-- what is said last
+abbrev pub last_pieces : RunState → RunEnd → List Piece
+last_pieces r end = out_pieces (last_line (setting_in r) (is_done end) r.machine ∷ [])

@@ -1,3 +1,4 @@
+pub mod Across
 pub mod RunState
 pub mod Search
 pub mod Preparing
@@ -6,3 +7,4 @@ pub mod Turning
 pub mod Closing
 pub mod Stages
 pub mod TurnParts
+pub mod Counting

@@ -15,6 +15,8 @@ use Rattle.rescue_rules.specs.Passes.{passes_from, is_up, numbered}
 use Rattle.rescue_rules.specs.Machine.{Machine, pass_of, is_live}
 use Rattle.rescue_rules.specs.MachineLaws.{IsInOrder}
 use Rattle.rescue_rules.specs.Moves.{begun}
+use Rattle.rescue_rules.specs.declared.report.Counts.{Counts}
+use Rattle.rescue_rules.specs.Counts.{counts_of}
 use Rattle.rescue_rules.specs.Beginning.{first_pass, nothing_shown, machine_of}
 use Rattle.rescue_domain.specs.Parts.{covers}
 use Rattle.rescue_core.specs.declared.settings.Settings.{Settings}
@@ -22,7 +24,7 @@ use Rattle.rescue_core.specs.declared.state.Place.{Place}
 use Rattle.rescue_core.specs.declared.state.Tally.{Tally}
 
 -- its settings, its domain, the names of its mapfile and its draft if there is a mapfile, the command line, the phase
--- and the pass that it is in, and where it stands
+-- and the pass that it is in, and where it stands; and whether it is heard: lines are asked for, and each was put
 pub record RunState : Type 0 where
   pub settings : Settings
   pub domain : List Run
@@ -31,6 +33,7 @@ pub record RunState : Type 0 where
   pub phase : Phase
   pub pass : ℕ
   pub machine : Machine
+  pub heard : Bool
 
 -- those names, which mean nothing where there is no mapfile
 abbrev pub names_in : Option MapNames → MapNames
@@ -38,7 +41,8 @@ names_in None = record { map = []; draft = [] }
 names_in (Some names) = names
 
 -- what settings, a domain by its intervals, names and a command line ask for. A run knows neither the names of the
--- input and of the output nor the input's length, nor what the output may be, nor how its map was prepared.
+-- input and of the output nor the input's length, nor what the output may be, nor how its map was prepared, nor whether
+-- more is said before it.
 abbrev pub setting_with : Settings → List Run → Option MapNames → List ℕ → Setting
 setting_with settings domain names line = record {
   infile = [];
@@ -65,6 +69,7 @@ setting_with settings domain names line = record {
   one_way = settings.one_way;
   max_errors = None;
   timeout = None;
+  verbose = false;
 }
 
 abbrev pub setting_in : RunState → Setting
@@ -108,11 +113,14 @@ machine_at s map phase place tally = record {
   due_at = tally.due_at;
   shown = tally.shown;
   over = tally.over;
+  written = tally.written;
+  said = tally.said;
 }
 
 -- the run that these parts make
-abbrev pub run_at : Settings → List Run → Option MapNames → List ℕ → List Status → Phase → Place → Tally → RunState
-run_at settings domain names line map phase place tally = record {
+abbrev pub run_at : Settings → List Run → Option MapNames → List ℕ → List Status → Phase → Place → Tally → Bool
+    → RunState
+run_at settings domain names line map phase place tally heard = record {
   settings = settings;
   domain = domain;
   names = names;
@@ -120,6 +128,7 @@ run_at settings domain names line map phase place tally = record {
   phase = phase;
   pass = place.pass;
   machine = machine_at (setting_with settings domain names line) map phase place tally;
+  heard = heard;
 }
 
 -- no position that is left of the domain has this status
@@ -154,6 +163,10 @@ pub record IsRunning (r : RunState) (room : ℕ) : Type 0 where
   -- a cluster is read at once
   pub room_is : room ≡ r.settings.cluster
 
+-- counts are those of what is left of the domain
+pub record Counted (r : RunState) (counts : Counts) : Type 0 where
+  pub counts_are : counts ≡ counts_of (is_live (setting_in r) r.machine) r.machine.map
+
 -- what a run shows at first: what a mapfile showed that it goes on from, or a rescue that has done nothing
 abbrev pub first_shown : Option MapState → MapState
 first_shown None = nothing_shown
@@ -161,8 +174,8 @@ first_shown (Some state) = state
 
 -- a run at its start
 abbrev pub started : Settings → List Run → Option MapNames → List ℕ → List Status → Option MapState → (moment : ℕ)
-    → RunState
-started settings domain names line map loaded moment = record {
+    → (heard : Bool) → RunState
+started settings domain names line map loaded moment heard = record {
   settings = settings;
   domain = domain;
   names = names;
@@ -170,6 +183,7 @@ started settings domain names line map loaded moment = record {
   phase = Copying;
   pass = first_pass loaded;
   machine = machine_of (setting_with settings domain names line) map loaded (first_shown loaded) moment;
+  heard = heard;
 }
 
 -- a run at the start of its next pass

@@ -1,5 +1,5 @@
 -- What the parts of a turn take, and what they make.
-use Rattle.std.specs.Prelude.{◌≡◌, ⊤, ℕ, ◌+◌, ◌≤◌, Bool, List, length, take, Option, Some, None, if◌then◌else◌}
+use Rattle.std.specs.Prelude.{◌≡◌, ⊤, ℕ, ◌+◌, ◌/◌, ◌≤◌, Bool, List, length, take, Option, Some, None, if◌then◌else◌}
 use Rattle.faulty_source.specs.Got.{count_of, is_end}
 use Rattle.faulty_source.specs.Journal.{Reading}
 use Rattle.faulty_source.specs.SourceState.{SourceState}
@@ -15,7 +15,8 @@ use Rattle.rescue_rules.specs.declared.stop.TrimMode.TheVariants.{Lead, Tail}
 use Rattle.rescue_rules.specs.Setting.{Setting, place}
 use Rattle.rescue_rules.specs.Passes.{numbered}
 use Rattle.rescue_rules.specs.Machine.{Machine, pass_of}
-use Rattle.rescue_rules.specs.Step.{Event}
+use Rattle.rescue_rules.specs.Said.{is_line_due}
+use Rattle.rescue_rules.specs.Step.{Event, is_timely}
 use Rattle.rescue_rules.specs.RunCalls.{write_calls}
 use Rattle.rescue_core.specs.declared.gather.Gathered.{Gathered}
 use Rattle.rescue_core.specs.declared.landing.Kept.{Kept}
@@ -24,8 +25,9 @@ use Rattle.rescue_core.specs.declared.settings.Settings.{Settings}
 use Rattle.rescue_core.specs.declared.state.Place.{Place}
 use Rattle.rescue_core.specs.declared.state.Tally.{Tally}
 use Rattle.rescue_core.specs.declared.timed.Timed.{Timed}
+use Rattle.rescue_core.specs.declared.turn.Advanced.{Advanced}
 use Rattle.rescue_core.specs.RunState.{RunState, setting_in}
-use Rattle.rescue_core.specs.Turning.{IsEvent, turn_of}
+use Rattle.rescue_core.specs.Turning.{IsEvent, turn_of, stepped, move_by}
 
 -- where a state stands, in a pass with this number
 abbrev pub place_of : (pass : ℕ) → Machine → Place
@@ -41,6 +43,8 @@ tally_of m = record {
   due_at = m.due_at;
   shown = m.shown;
   over = m.over;
+  written = m.written;
+  said = m.said;
 }
 
 -- a run with these settings, in this phase and at this place
@@ -102,3 +106,16 @@ pub record Gathers (request : Request) (settings : Settings) (got : Gathered) (s
   pub turn : (r : RunState) → r.settings ≡ settings → got.turn ≡ turn_of r event
   pub after : event.after ≡ got.after
   pub writes : (r : RunState) → r.settings ≡ settings → Makes (write_calls (setting_in r) event.reading) site site'
+
+-- A turn up to its marks: one event of the request, its step and its write; and whether a line is due behind it, and
+-- whether it is time for a save.
+pub record Advances (request : Request) (got : Advanced) (r r' : RunState) (source source' : SourceState)
+    (site site' : SiteState) (clock clock' : ClockState) : Type 0 where
+  pub event : Event
+  pub is : IsEvent request event source source' clock clock'
+  pub answers : got.turn ≡ turn_of r event
+  pub steps : r' ≡ stepped r event r.heard
+  pub writes : Makes (write_calls (setting_in r) event.reading) site site'
+  pub speaks : got.speaks
+      ≡ is_line_due r.machine.said (move_by r event).after.shown.current ((move_by r event).after.now / 1000)
+  pub saves : got.saves ≡ is_timely r.machine event

@@ -1,14 +1,15 @@
 -- What a turn does, by its outcome.
-use Rattle.std.specs.Prelude.{◌≡◌, ℕ, ◌+◌, ◌<◌, ◌≤◌, ◌^◌, true, IsTrue, [], ◌∷◌, ◌++◌, length, map, slice_range}
+use Rattle.std.specs.Prelude.{◌≡◌, ℕ, ◌+◌, ◌<◌, ◌≤◌, ◌^◌, Bool, true, IsTrue, List, [], ◌∷◌, ◌++◌, length, map, slice_range}
 use Rattle.fault_count.specs.Counts.{Rose}
 use Rattle.faulty_source.specs.Journal.{is_whole, kept}
 use Rattle.faulty_source.specs.SourceState.{SourceState, Reads, Loses}
 use Rattle.crash_site.specs.declared.site.SiteCall.{SiteCall}
 use Rattle.crash_site.specs.declared.site.SiteCall.TheVariants.{ImageWrite}
 use Rattle.crash_site.specs.Calls.{Done, BrokeAt}
-use Rattle.crash_site.specs.SiteState.{SiteState, Makes, Breaks}
+use Rattle.crash_site.specs.SiteState.{Makes, Breaks}
 use Rattle.save_resume.specs.Saving.{save_calls, IsNameIn}
 use Rattle.rescue_console.specs.ClockState.{ClockState, Reads as ReadsClock}
+use Rattle.rescue_console.specs.Speaking.{Piece, SpeaksOn, out_pieces}
 use Rattle.transfer_token.specs.declared.token.Request.{Request}
 use Rattle.rescue_rules.specs.declared.stop.Stop.{Stop}
 use Rattle.rescue_rules.specs.declared.stop.Stop.TheVariants.{SourceLost, Site, NoMemory}
@@ -16,7 +17,9 @@ use Rattle.rescue_rules.specs.Step.{Event, is_slow, step}
 use Rattle.rescue_rules.specs.Moves.{Move}
 use Rattle.rescue_rules.specs.Snapshots.{text_of, snapshot_of, is_due}
 use Rattle.rescue_rules.specs.RunCalls.{write_calls, move_calls}
+use Rattle.rescue_rules.specs.Lines.{move_lines}
 use Rattle.rescue_core.specs.declared.turn.Turn.{Turn}
+use Rattle.rescue_core.specs.Across.{Across}
 use Rattle.rescue_core.specs.RunState.{RunState, names_in, setting_in}
 
 -- a read of what was requested, which gave the input's own bytes, between two readings of the clock
@@ -34,9 +37,9 @@ pub record IsEvent (request : Request) (e : Event) (source source' : SourceState
   pub before : e.before < 2 ^ 64
   pub after : e.after < 2 ^ 64
 
--- the state behind an event: one step of the rules; all else of the run stands
-abbrev pub stepped : RunState → Event → RunState
-stepped r e = record r { machine = step (setting_in r) r.machine e }
+-- the state behind an event, of a run that is heard behind it or not: one step of the rules; all else of the run stands
+abbrev pub stepped : RunState → Event → (heard : Bool) → RunState
+stepped r e heard = record r { machine = step (setting_in r) r.machine e; heard = heard }
 
 -- the move of an event
 abbrev pub move_by : RunState → Event → Move
@@ -53,35 +56,41 @@ turn_of r e = record {
   ended = e.reading.ended;
 }
 
--- A whole turn: one event of the request, its step, its write, and the save that is due behind it.
-pub record Turned (request : Request) (turn : Turn) (r r' : RunState) (source source' : SourceState)
-    (site site' : SiteState) (clock clock' : ClockState) : Type 0 where
+-- what is said of an event: its line, if one is due
+abbrev pub move_pieces : RunState → Event → List Piece
+move_pieces r e = out_pieces (move_lines (setting_in r) (move_by r e))
+
+-- A whole turn: one event of the request, its step, its write, its line, and the save that is due behind it.
+pub record Turned (request : Request) (turn : Turn) (r r' : RunState) (o : Across) : Type 0 where
   pub event : Event
-  pub is : IsEvent request event source source' clock clock'
+  pub is : IsEvent request event o.source o.source' o.clock o.clock'
   pub answers : turn ≡ turn_of r event
-  pub steps : r' ≡ stepped r event
-  pub calls : Makes (move_calls (setting_in r) (move_by r event)) site site'
+  pub steps : r' ≡ stepped r event r'.heard
+  pub calls : Makes (move_calls (setting_in r) (move_by r event)) o.site o.site'
+  pub says : SpeaksOn (move_pieces r event) r.heard r'.heard o.console o.console'
 
 -- A turn that stopped:
-pub data Halted (request : Request) (stop : Stop) (r r' : RunState) (source source' : SourceState)
-    (site site' : SiteState) (clock clock' : ClockState) : Type 0 where
+pub data Halted (request : Request) (stop : Stop) (r r' : RunState) (o : Across) : Type 0 where
   -- for want of memory, before it read anything
-  Starved : stop ≡ NoMemory → r' ≡ r → source' ≡ source → site' ≡ site → clock' ≡ clock
-      → Halted request stop r r' source source' site site' clock clock'
+  Starved : stop ≡ NoMemory → r' ≡ r → o.source' ≡ o.source → o.site' ≡ o.site → o.clock' ≡ o.clock
+      → o.console' ≡ o.console → Halted request stop r r' o
   -- in its read, which was lost
-  Lost : stop ≡ SourceLost → r' ≡ r → Loses source source' → site' ≡ site
-      → (before : ℕ) → before < 2 ^ 64 → ReadsClock (before ∷ []) clock clock'
-      → Halted request stop r r' source source' site site' clock clock'
-  -- in the write of what was kept, and nothing is marked
-  Unwritten : stop ≡ Site ImageWrite → r' ≡ r → (event : Event) → IsEvent request event source source' clock clock'
+  Lost : stop ≡ SourceLost → r' ≡ r → Loses o.source o.source' → o.site' ≡ o.site
+      → (before : ℕ) → before < 2 ^ 64 → ReadsClock (before ∷ []) o.clock o.clock' → o.console' ≡ o.console
+      → Halted request stop r r' o
+  -- in the write of what was kept, and nothing is marked or said
+  Unwritten : stop ≡ Site ImageWrite → r' ≡ r → (event : Event)
+      → IsEvent request event o.source o.source' o.clock o.clock'
       → IsNameIn ImageWrite (write_calls (setting_in r) event.reading)
-      → Breaks ImageWrite (write_calls (setting_in r) event.reading) site site'
-      → Halted request stop r r' source source' site site' clock clock'
-  -- in a call of the save that was due, behind the event's step
-  Unsaved : (call : SiteCall) → stop ≡ Site call → (event : Event) → IsEvent request event source source' clock clock'
-      → r' ≡ stepped r event → is_due (setting_in r) (move_by r event) ≡ true
+      → Breaks ImageWrite (write_calls (setting_in r) event.reading) o.site o.site' → o.console' ≡ o.console
+      → Halted request stop r r' o
+  -- in a call of the save that was due, behind the event's step and its line
+  Unsaved : (call : SiteCall) → stop ≡ Site call → (event : Event)
+      → IsEvent request event o.source o.source' o.clock o.clock'
+      → r' ≡ stepped r event r'.heard → is_due (setting_in r) (move_by r event) ≡ true
       → IsNameIn call (save_calls (names_in r.names) (text_of r.line (snapshot_of r'.machine)))
-      → (IsTrue site.tells → BrokeAt call (save_calls (names_in r.names) (text_of r.line (snapshot_of r'.machine)))
-      (site.calls ++ map Done (write_calls (setting_in r) event.reading)) site'.calls)
-      → Rose site.faults site'.faults
-      → Halted request stop r r' source source' site site' clock clock'
+      → (IsTrue o.site.tells → BrokeAt call (save_calls (names_in r.names) (text_of r.line (snapshot_of r'.machine)))
+      (o.site.calls ++ map Done (write_calls (setting_in r) event.reading)) o.site'.calls)
+      → Rose o.site.faults o.site'.faults
+      → SpeaksOn (move_pieces r event) r.heard r'.heard o.console o.console'
+      → Halted request stop r r' o

@@ -6,6 +6,13 @@ ghost use Rattle.rescue_core.specs.Closing.{end_of};
 use mapfile_text::state::{Current, MapState};
 use rescue_rules::stop::{RunEnd, Stop};
 
+/// How a run ended, and whether it is still heard: whether lines were asked for, and each was put.
+#[derive(Clone, Copy, Debug, PartialEq, Eq)]
+pub struct Closed {
+    pub end: RunEnd,
+    pub heard: bool,
+}
+
 /// What the last mapfile shows: a run without a stop is finished.
 pub(crate) fn last_shown(shown: MapState, stop: Option<Stop>) -> MapState
     ensures { MatchOption stop (result ≡ record shown { current = Finished; pass = 1 }) (λ _. result ≡ shown) }

@@ -1,9 +1,11 @@
 //! The run of a rescue: its state, its turns, its end. A turn is one step of the rules.
 #![tactic(auto)]
 
-mod closing;
+pub mod closing;
+mod counts;
 mod gather;
 mod landing;
+mod line;
 mod mark;
 pub mod phases;
 mod place;

@@ -10,13 +10,15 @@ ghost use Rattle.rescue_rules.specs.Moves.{ready, no_pass_left};
 ghost use Rattle.rescue_core.specs.RunState.{RunState, setting_in, IsSound, Suits, HasPlaces, started, passed, showing, IsGone};
 ghost use Rattle.rescue_domain.specs.Parts.{covers};
 ghost use Rattle.rescue_core.specs.Turning.{Turned, Halted};
-ghost use Rattle.rescue_core.specs.Closing.{Closes, MayClose, drafting_after};
+ghost use Rattle.rescue_console.specs.Speaking.{SpeaksOn};
+ghost use Rattle.rescue_core.specs.Closing.{Closes, MayClose, drafting_after, last_pieces};
 ghost use Rattle.rescue_core.specs.Stages.{Reached, Begun, Copied, Trimmed, Scraped, Over};
 
+use crate::closing::Closed;
 use crate::running::Running;
 use crate::settings::Settings;
 use crate::turn::Turn;
-use block_list::tiles::{NoMemory, Tiles};
+use block_list::tiles::Tiles;
 use crash_site::site::Site;
 use faulty_source::source::Source;
 use mapfile_text::heading::Heading;
@@ -25,9 +27,8 @@ use rescue_console::clock::Clock;
 use rescue_console::console::Console;
 use rescue_domain::domain::Domain;
 use rescue_rules::phase::Phase;
-use rescue_rules::stop::{RunEnd, Stop};
+use rescue_rules::stop::Stop;
 use save_resume::names::Names;
-use std::alloc::Global;
 use std::marker::Model;
 use transfer_token::token::Request;
 
@@ -97,10 +98,10 @@ impl<P: Stage, T: Tiles> Model for Rescue<P, T> {
 
 impl<T: Tiles> Rescue<Copying, T> {
     /// A rescue of a domain of a map, at this moment (milliseconds since 1970): in copying's first pass, or in that of
-    /// a state that a mapfile showed, where it goes on from its position. Without a mapfile it saves nothing. It takes
-    /// memory for a cluster.
+    /// a state that a mapfile showed, where it goes on from its position. Without a mapfile it saves nothing. It reads
+    /// into a buffer for a cluster, and says lines if it is heard.
     pub fn start(
-        alloc: Global,
+        buf: Vec<u8>,
         settings: Settings,
         domain: Domain,
         tiles: T,
@@ -108,22 +109,24 @@ impl<T: Tiles> Rescue<Copying, T> {
         names: Option<Names>,
         heading: Heading,
         moment: u64,
-    ) -> Result<Rescue<Copying, T>, NoMemory>
+        heard: bool,
+    ) -> Rescue<Copying, T>
+        requires room { length buf.items ≡ settings.cluster }
         requires sound { IsSound settings }
         requires suits { Suits settings (covers domain) (length (T.statuses tiles)) }
         requires short { length (T.statuses tiles) < 2 ^ 63 }
         requires program { heading.program ≡ Ddrescue }
         requires pos { IfSome loaded (λ state. state.pos < 2 ^ 63) }
         requires pass { IfSome loaded (λ state. 0 < state.pass) }
-        ensures { IfOk result (λ r. r ≡ started settings domain names heading.line (T.statuses tiles) loaded moment) }
+        ensures { result ≡ started settings domain names heading.line (T.statuses tiles) loaded moment heard }
     {
         let running = Running::start(
-            alloc, settings, domain, tiles, loaded, names, heading, moment,
-        )?;
-        Ok(Rescue {
+            buf, settings, domain, tiles, loaded, names, heading, moment, heard,
+        );
+        Rescue {
             stage: Copying,
             running,
-        })
+        }
     }
 
     /// Has saved mapfiles show a state until the first event.
@@ -191,12 +194,14 @@ impl<T: Tiles> Rescue<Retrying, T> {
 }
 
 impl<T: Tiles> Rescue<Finished, T> {
-    /// Saves the map of a rescue that went on to its end, or syncs the output if there is no mapfile.
-    pub fn close<D: Site, C: Console>(self, site: &mut D, console: &mut C) -> RunEnd
+    /// Saves the map of a rescue that went on to its end, or syncs the output if there is no mapfile, and says the last
+    /// line.
+    pub fn close<D: Site, C: Console>(self, site: &mut D, console: &mut C) -> Closed
         requires no_draft { (D.state site.old).is_drafting ≡ false }
-        ensures closes { Closes None self result (D.state site.old) (D.state site.new) }
+        ensures closes { Closes None self result.end (D.state site.old) (D.state site.new) }
         ensures site { SiteKeeps (D.state site.old) (D.state site.new) }
-        ensures console { C.state console.new ≡ C.state console.old }
+        ensures says { SpeaksOn (last_pieces self result.end) self.heard result.heard (C.state console.old)
+            (C.state console.new) }
     {
         let Rescue { stage: _, running } = self;
         running.close(None, site, console)
@@ -261,8 +266,9 @@ impl<P: Stage, T: Tiles> Rescue<P, T> {
     }
 
     /// One turn: room in the map, a reading of the clock, the read, another reading, the write of what was kept, the
-    /// marks, and the save if one is due (without a mapfile none is). Want of memory comes before the read; a lost read
-    /// or a failed write leaves the range as it was; a call of the save may fail behind the marks.
+    /// marks, the line if one is due and the rescue is heard, and the save if one is due (without a mapfile none is).
+    /// Want of memory comes before the read; a lost read or a failed write leaves the range as it was, and says
+    /// nothing; a call of the save may fail behind the marks. Behind a put that fails it isn't heard any more.
     // Inlined in the loop of each phase, or a request of one sector costs half as much again (bench/turns).
     #[inline(always)]
     pub fn turn<S: Source, D: Site, K: Clock, C: Console>(
@@ -278,17 +284,32 @@ impl<P: Stage, T: Tiles> Rescue<P, T> {
         requires input { (S.state source.old).is_open ≡ true }
         requires image { (D.state site.old).is_open ≡ true }
         requires no_draft { (D.state site.old).is_drafting ≡ false }
-        ensures turned { IfOk result (λ turn. Turned request turn self.old self.new (S.state source.old)
-            (S.state source.new) (D.state site.old) (D.state site.new) (K.state clock.old) (K.state clock.new)) }
-        ensures halted { IfErr result (λ stop. Halted request stop self.old self.new (S.state source.old)
-            (S.state source.new) (D.state site.old) (D.state site.new) (K.state clock.old) (K.state clock.new)) }
+        ensures turned { IfOk result (λ turn. Turned request turn self.old self.new (record {
+          source = S.state source.old;
+          source' = S.state source.new;
+          site = D.state site.old;
+          site' = D.state site.new;
+          clock = K.state clock.old;
+          clock' = K.state clock.new;
+          console = C.state console.old;
+          console' = C.state console.new;
+        })) }
+        ensures halted { IfErr result (λ stop. Halted request stop self.old self.new (record {
+          source = S.state source.old;
+          source' = S.state source.new;
+          site = D.state site.old;
+          site' = D.state site.new;
+          clock = K.state clock.old;
+          clock' = K.state clock.new;
+          console = C.state console.old;
+          console' = C.state console.new;
+        })) }
         ensures draft { OnOk result ((D.state site.new).is_drafting ≡ false) }
         ensures draft_left { IfErr result (λ stop. (D.state site.new).is_drafting ≡ drafting_after stop) }
         ensures image { (D.state site.new).is_open ≡ true }
         ensures source { SourceStays (S.state source.old) (S.state source.new) }
         ensures site { SiteKeeps (D.state site.old) (D.state site.new) }
         ensures clock { ClockKeeps (K.state clock.old) (K.state clock.new) }
-        ensures console { C.state console.new ≡ C.state console.old }
     {
         self.running.turn(request, source, site, clock, console)
     }
@@ -327,12 +348,13 @@ impl<T: Tiles> Stopped<T> {
     }
 
     /// Saves the map as it is, or syncs the output if there is no mapfile; but makes no call if it stopped at a call on
-    /// its files.
-    pub fn close<D: Site, C: Console>(self, site: &mut D, console: &mut C) -> RunEnd
+    /// its files. Then it says the last line.
+    pub fn close<D: Site, C: Console>(self, site: &mut D, console: &mut C) -> Closed
         requires no_draft { MayClose (Some self.stop) (D.state site.old) }
-        ensures closes { Closes (Some self.stop) self.run result (D.state site.old) (D.state site.new) }
+        ensures closes { Closes (Some self.stop) self.run result.end (D.state site.old) (D.state site.new) }
         ensures site { SiteKeeps (D.state site.old) (D.state site.new) }
-        ensures console { C.state console.new ≡ C.state console.old }
+        ensures says { SpeaksOn (last_pieces self.run result.end) self.run.heard result.heard (C.state console.old)
+            (C.state console.new) }
     {
         let Stopped { running, stop } = self;
         running.close(Some(stop), site, console)

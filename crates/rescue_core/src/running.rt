@@ -1,27 +1,35 @@
-ghost use Rattle.std.specs.Prelude.{◌≡◌, ℕ, ◌+◌, ◌<◌, ◌≤◌, ◌^◌, true, false, Some, None, length, slice_get, IfOk, IfErr, IfSome, IfNone, OnOk};
+ghost use Rattle.std.specs.Prelude.{◌≡◌, ℕ, ◌+◌, ◌/◌, ◌<◌, ◌≤◌, ◌^◌, true, false, [], ◌∷◌, Some, None, is_some, length, slice_get, if◌then◌else◌, IfOk, IfErr, IfSome, IfNone, OnOk};
 ghost use Rattle.faulty_source.specs.SourceState.{Stays as SourceStays};
-ghost use Rattle.crash_site.specs.SiteState.{Keeps as SiteKeeps};
+ghost use Rattle.crash_site.specs.SiteState.{Keeps as SiteKeeps, Stays as SiteStays};
 ghost use Rattle.rescue_console.specs.ClockState.{Keeps as ClockKeeps};
+ghost use Rattle.rescue_console.specs.ConsoleState.{ConsoleState};
+ghost use Rattle.rescue_console.specs.Speaking.{SpeaksOn, out_pieces};
 ghost use Rattle.mapfile_text.specs.declared.heading.Program.TheVariants.{Ddrescue};
+ghost use Rattle.save_resume.specs.Saving.{save_calls, Saves as SavesMap};
+ghost use Rattle.rescue_domain.specs.Parts.{covers};
 ghost use Rattle.rescue_rules.specs.Passes.{numbered};
 ghost use Rattle.rescue_rules.specs.Machine.{IsRequest, has_request};
-ghost use Rattle.rescue_core.specs.RunState.{setting_in, IsRunning, IsSound, Suits, HasPlaces, started, passed, showing};
-ghost use Rattle.rescue_domain.specs.Parts.{covers};
+ghost use Rattle.rescue_rules.specs.Snapshots.{text_of, snapshot_of};
+ghost use Rattle.rescue_rules.specs.Lines.{phase_front, report_of, report_text};
+ghost use Rattle.rescue_core.specs.RunState.{names_in, setting_in, IsRunning, IsSound, Suits, HasPlaces, started, passed, showing};
 ghost use Rattle.rescue_core.specs.Turning.{Turned, Halted};
-ghost use Rattle.rescue_core.specs.Closing.{Closes, MayClose, Saves, drafting_after};
+ghost use Rattle.rescue_core.specs.TurnParts.{Advances};
+ghost use Rattle.rescue_core.specs.Closing.{Closes, MayClose, Saves, drafting_after, last_pieces};
 
-use crate::closing::{end_saved, last_shown};
+use crate::closing::{Closed, end_saved, last_shown};
+use crate::counts::{counts_at_first, counts_behind};
 use crate::gather::{Gathered, gather};
+use crate::line::{say_last, say_phase};
 use crate::mark::mark;
 use crate::place::place_behind;
 use crate::request::{leads_up, next_lead, next_request};
 use crate::save_now::{save_now, save_or_sync};
 use crate::settings::Settings;
 use crate::state::{Place, Tally};
-use crate::tally::{is_due, shown_at, tally_behind};
-use crate::turn::Turn;
+use crate::tally::{is_due, is_line_due, shown_at, tally_behind};
+use crate::turn::{Advanced, Turn};
 use crate::wanted::trims_on;
-use block_list::tiles::{NoMemory, Tiles};
+use block_list::tiles::Tiles;
 use crash_site::site::Site;
 use faulty_source::source::Source;
 use mapfile_text::heading::Heading;
@@ -31,10 +39,10 @@ use rescue_console::console::Console;
 use rescue_domain::domain::Domain;
 use rescue_domain::live::Live;
 use rescue_rules::phase::Phase;
+use rescue_rules::report::{Counts, Report};
 use rescue_rules::stop::{RunEnd, Stop};
 use save_resume::draft::SaveFault;
 use save_resume::names::Names;
-use std::alloc::Global;
 use std::marker::Model;
 use transfer_token::token::Request;
 
@@ -53,27 +61,31 @@ pub(crate) struct Running<T: Tiles> {
     phase: Phase,
     place: Place,
     tally: Tally,
+    counts: Counts,
+    heard: bool,
 }
 
 impl<T: Tiles> Model for Running<T> {
     ghost use Rattle.std.specs.Prelude.{◌≡◌, length};
     ghost use Rattle.mapfile_text.specs.declared.heading.Program.TheVariants.{Ddrescue};
-    ghost use Rattle.rescue_core.specs.RunState.{RunState, run_at, IsRunning};
+    ghost use Rattle.rescue_core.specs.RunState.{RunState, run_at, IsRunning, Counted};
 
     ghost Value = { RunState };
 
     ghost view = { λ r. run_at r.settings r.domain r.names r.heading.line (T.statuses r.tiles) r.phase
-        r.place r.tally };
+        r.place r.tally r.heard };
 
     ghost invariant = { λ r. IsRunning (run_at r.settings r.domain r.names r.heading.line (T.statuses r.tiles) r.phase
-        r.place r.tally) (length r.buf.items) × (r.heading.program ≡ Ddrescue) };
+        r.place r.tally r.heard) (length r.buf.items) × (r.heading.program ≡ Ddrescue)
+        × Counted (run_at r.settings r.domain r.names r.heading.line (T.statuses r.tiles) r.phase r.place r.tally
+        r.heard) r.counts };
 }
 
 impl<T: Tiles> Running<T> {
     /// A run that begins with copying: in its first pass, or where it was in the pass of a state that a mapfile showed.
-    /// It takes memory for a cluster.
+    /// It reads into a buffer for a cluster.
     pub fn start(
-        alloc: Global,
+        buf: Vec<u8>,
         settings: Settings,
         domain: Domain,
         tiles: T,
@@ -81,20 +93,20 @@ impl<T: Tiles> Running<T> {
         names: Option<Names>,
         heading: Heading,
         moment: u64,
-    ) -> Result<Running<T>, NoMemory>
+        heard: bool,
+    ) -> Running<T>
+        requires room { length buf.items ≡ settings.cluster }
         requires sound { IsSound settings }
         requires suits { Suits settings (covers domain) (length (T.statuses tiles)) }
         requires short { length (T.statuses tiles) < 2 ^ 63 }
         requires program { heading.program ≡ Ddrescue }
         requires pos { IfSome loaded (λ state. state.pos < 2 ^ 63) }
         requires pass { IfSome loaded (λ state. 0 < state.pass) }
-        ensures { IfOk result (λ r. r ≡ started settings domain names heading.line (T.statuses tiles) loaded moment) }
+        ensures { result ≡ started settings domain names heading.line (T.statuses tiles) loaded moment heard }
     {
-        let Ok(buf) = vec![in alloc; 0; settings.cluster as usize] else {
-            return Err(NoMemory);
-        };
         let place = Place::first(&settings, loaded, tiles.end());
-        Ok(Running {
+        let counts = counts_at_first(&domain, &tiles);
+        Running {
             settings,
             domain,
             tiles,
@@ -104,7 +116,9 @@ impl<T: Tiles> Running<T> {
             phase: Phase::Copying,
             place,
             tally: Tally::first(loaded, moment),
-        })
+            counts,
+            heard,
+        }
     }
 
     pub fn settings(&self) -> &Settings
@@ -177,7 +191,7 @@ impl<T: Tiles> Running<T> {
     }
 
     /// One turn: room in the map, a reading of the clock, the read, another reading, the write of what was kept, the
-    /// marks, and the save if one is due: without a mapfile none is.
+    /// marks, the line if one is due, and the save if one is: without a mapfile none is.
     // Inlined in the loop of each phase, or a request of one sector costs half as much again (bench/turns).
     #[inline(always)]
     pub fn turn<S: Source, D: Site, K: Clock, C: Console>(
@@ -193,17 +207,76 @@ impl<T: Tiles> Running<T> {
         requires input { (S.state source.old).is_open ≡ true }
         requires image { (D.state site.old).is_open ≡ true }
         requires no_draft { (D.state site.old).is_drafting ≡ false }
-        ensures turned { IfOk result (λ turn. Turned request turn self.old self.new (S.state source.old)
-            (S.state source.new) (D.state site.old) (D.state site.new) (K.state clock.old) (K.state clock.new)) }
-        ensures halted { IfErr result (λ stop. Halted request stop self.old self.new (S.state source.old)
-            (S.state source.new) (D.state site.old) (D.state site.new) (K.state clock.old) (K.state clock.new)) }
+        ensures turned { IfOk result (λ turn. Turned request turn self.old self.new (record {
+          source = S.state source.old;
+          source' = S.state source.new;
+          site = D.state site.old;
+          site' = D.state site.new;
+          clock = K.state clock.old;
+          clock' = K.state clock.new;
+          console = C.state console.old;
+          console' = C.state console.new;
+        })) }
+        ensures halted { IfErr result (λ stop. Halted request stop self.old self.new (record {
+          source = S.state source.old;
+          source' = S.state source.new;
+          site = D.state site.old;
+          site' = D.state site.new;
+          clock = K.state clock.old;
+          clock' = K.state clock.new;
+          console = C.state console.old;
+          console' = C.state console.new;
+        })) }
         ensures draft { OnOk result ((D.state site.new).is_drafting ≡ false) }
         ensures draft_left { IfErr result (λ stop. (D.state site.new).is_drafting ≡ drafting_after stop) }
         ensures image { (D.state site.new).is_open ≡ true }
         ensures source { SourceStays (S.state source.old) (S.state source.new) }
         ensures site { SiteKeeps (D.state site.old) (D.state site.new) }
         ensures clock { ClockKeeps (K.state clock.old) (K.state clock.new) }
-        ensures console { C.state console.new ≡ C.state console.old }
+        ensures running { (room : ℕ) × IsRunning self.old room }
+    {
+        let Advanced {
+            turn,
+            speaks,
+            saves,
+        } = self.advance(request, source, site, clock)?;
+        self.say_due(speaks, console);
+        if let Err(fault) = self.save_due(saves, site) {
+            return Err(Stop::Site(fault.call));
+        }
+        Ok(turn)
+    }
+
+    /// A turn up to its marks, and what it has come to behind them.
+    #[inline(always)]
+    fn advance<S: Source, D: Site, K: Clock>(
+        &mut self,
+        request: Request,
+        source: &mut S,
+        site: &mut D,
+        clock: &mut K,
+    ) -> Result<Advanced, Stop>
+        requires request { IsRequest (setting_in self.old) self.old.machine request.pos (request.pos + request.len) }
+        requires places { HasPlaces self.old.settings (covers self.old.domain) }
+        requires input { (S.state source.old).is_open ≡ true }
+        requires image { (D.state site.old).is_open ≡ true }
+        ensures advanced { IfOk result (λ got. Advances request got self.old self.new (S.state source.old)
+            (S.state source.new) (D.state site.old) (D.state site.new) (K.state clock.old) (K.state clock.new)) }
+        ensures halted { IfErr result (λ stop. (console : ConsoleState) → Halted request stop self.old self.new
+            (record {
+              source = S.state source.old;
+              source' = S.state source.new;
+              site = D.state site.old;
+              site' = D.state site.new;
+              clock = K.state clock.old;
+              clock' = K.state clock.new;
+              console = console;
+              console' = console;
+            })) }
+        ensures draft { IfErr result (λ stop. drafting_after stop ≡ false) }
+        ensures source { SourceStays (S.state source.old) (S.state source.new) }
+        ensures site { SiteStays (D.state site.old) (D.state site.new) }
+        ensures clock { ClockKeeps (K.state clock.old) (K.state clock.new) }
         ensures running { (room : ℕ) × IsRunning self.old room }
     {
         if self.tiles.reserve(MOST_NEW_BLOCKS).is_err() {
@@ -230,6 +303,15 @@ impl<T: Tiles> Running<T> {
             domain: &self.domain,
             over: self.tally.over,
         };
+        self.counts = counts_behind(
+            self.counts,
+            live,
+            &self.tiles,
+            self.phase,
+            request,
+            turn,
+            met,
+        );
         let more = trims_on(live, &self.tiles, self.phase, end);
         self.place = place_behind(
             &self.settings,
@@ -240,40 +322,89 @@ impl<T: Tiles> Running<T> {
             turn,
             more,
         );
-        let due = is_due(self.tally, after);
-        self.tally = tally_behind(
-            self.tally,
+        let shown = shown_at(self.phase, self.place);
+        let speaks = is_line_due(self.tally.said, shown.current, after / 1000);
+        let saves = is_due(self.tally, after);
+        self.tally = tally_behind(self.tally, turn, after, shown, met);
+        Ok(Advanced {
             turn,
-            after,
-            shown_at(self.phase, self.place),
-            met,
-        );
+            speaks,
+            saves,
+        })
+    }
+
+    /// Saves the map if it is time for that and there is a mapfile.
+    fn save_due<D: Site>(&mut self, due: bool, site: &mut D) -> Result<(), SaveFault>
+        requires no_draft { (D.state site.old).is_drafting ≡ false }
+        ensures stands { self.new ≡ self.old }
+        ensures call { SavesMap (if due then (if is_some self.old.names then save_calls (names_in self.old.names)
+            (text_of self.old.line (snapshot_of self.old.machine)) else []) else []) false result (D.state site.old)
+            (D.state site.new) }
+    {
         if due {
-            let saved = save_now(
+            save_now(
                 site,
                 &self.names,
                 &mut self.heading,
                 &self.tiles,
                 self.tally,
-            );
-            if let Err(SaveFault { call }) = saved {
-                return Err(Stop::Site(call));
-            }
+            )
+        } else {
+            Ok(())
         }
-        Ok(turn)
+    }
+
+    /// What a line tells.
+    fn report(&self) -> Report
+        ensures { result ≡ report_of (setting_in self.now) self.now.machine }
+    {
+        Report {
+            shown: self.tally.shown,
+            counts: self.counts,
+            errors: self.tally.failed,
+            taken: self.tally.now.saturating_sub(self.tally.began),
+            written: self.tally.written,
+        }
+    }
+
+    /// Says the line behind an event, if one is due. A console that fails isn't told any further.
+    fn say_due<C: Console>(&mut self, due: bool, console: &mut C)
+        ensures stands { self.new ≡ record self.old { heard = self.new.heard } }
+        ensures says { SpeaksOn (out_pieces (if due then report_text (phase_front self.old.machine.shown)
+            (report_of (setting_in self.old) self.old.machine) ∷ [] else [])) self.old.heard self.new.heard
+            (C.state console.old) (C.state console.new) }
+    {
+        if due {
+            self.heard = say_phase(console, self.heard, &self.report());
+        }
     }
 
     /// Saves the map at the run's end, which is finished where it has no stop; without a mapfile it syncs the output.
+    /// Then it says the last line.
     pub fn close<D: Site, C: Console>(
         self,
         stop: Option<Stop>,
         site: &mut D,
         console: &mut C,
-    ) -> RunEnd
+    ) -> Closed
+        requires no_draft { MayClose stop (D.state site.old) }
+        ensures closes { Closes stop self result.end (D.state site.old) (D.state site.new) }
+        ensures says { SpeaksOn (last_pieces self result.end) self.heard result.heard (C.state console.old)
+            (C.state console.new) }
+        ensures site { SiteKeeps (D.state site.old) (D.state site.new) }
+    {
+        let heard = self.heard;
+        let report = self.report();
+        let end = self.close_files(stop, site);
+        let heard = say_last(console, heard, end.is_done(), &report);
+        Closed { end, heard }
+    }
+
+    /// Makes the last calls on the files.
+    fn close_files<D: Site>(self, stop: Option<Stop>, site: &mut D) -> RunEnd
         requires no_draft { MayClose stop (D.state site.old) }
         ensures closes { Closes stop self result (D.state site.old) (D.state site.new) }
         ensures site { SiteKeeps (D.state site.old) (D.state site.new) }
-        ensures console { C.state console.new ≡ C.state console.old }
     {
         match stop {
             None => self.save_last(None, site),
@@ -310,6 +441,8 @@ impl<T: Tiles> Running<T> {
             phase: _,
             place: _,
             tally,
+            counts: _,
+            heard: _,
         } = self;
         let tally = Tally {
             shown: last_shown(tally.shown, stop),

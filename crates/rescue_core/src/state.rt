@@ -1,6 +1,7 @@
 use crate::request::start_of;
 use crate::settings::Settings;
 use mapfile_text::state::{Current, MapState};
+use rescue_rules::report::Said;
 use rescue_rules::stop::TrimMode;
 
 /// How many times copying goes over the input.
@@ -84,6 +85,10 @@ pub(crate) struct Tally {
     pub shown: MapState,
     /// Where the input was found to end, if it was.
     pub over: Option<u64>,
+    /// How many bytes were written.
+    pub written: u64,
+    /// The line that was said last behind an event, if one was.
+    pub said: Option<Said>,
 }
 
 impl Tally {
@@ -100,6 +105,8 @@ impl Tally {
           due_at = moment;
           shown = first_shown loaded;
           over = None;
+          written = 0;
+          said = None;
         } }
     {
         let nothing = MapState {
@@ -115,6 +122,8 @@ impl Tally {
             due_at: moment,
             shown: loaded.unwrap_or(nothing),
             over: None,
+            written: 0,
+            said: None,
         }
     }
 }

@@ -4,6 +4,7 @@ ghost use Rattle.faulty_source.specs.Got.{count_of, is_end};
 ghost use Rattle.faulty_source.specs.Journal.{kept as kept_by};
 ghost use Rattle.rescue_rules.specs.Passes.{numbered, current_of};
 ghost use Rattle.rescue_rules.specs.Machine.{Machine, pass_of};
+ghost use Rattle.rescue_rules.specs.Said.{is_line_due as line_due, said_after};
 ghost use Rattle.rescue_rules.specs.Step.{Event, is_timely, earlier, step};
 ghost use Rattle.rescue_core.specs.RunState.{RunState, setting_in};
 ghost use Rattle.rescue_core.specs.Turning.{turn_of};
@@ -15,6 +16,7 @@ use crate::turn::Turn;
 use faulty_source::source::Got;
 use mapfile_text::state::{Current, MapState};
 use rescue_rules::phase::Phase;
+use rescue_rules::report::Said;
 use transfer_token::token::Request;
 
 /// So many milliseconds lie between two due saves.
@@ -85,6 +87,29 @@ pub(crate) fn tally_behind(
         },
         shown,
         over: earlier(tally.over, end),
+        written: tally.written.saturating_add(turn.kept),
+        said: said_behind(tally.said, shown.current, after / 1000),
+    }
+}
+
+/// Whether a line is due behind an event, in this phase and this second.
+pub(crate) fn is_line_due(said: Option<Said>, current: Current, second: u64) -> bool
+    ensures { result ≡ line_due said current second }
+{
+    match said {
+        None => true,
+        Some(said) => said.current.symbol() != current.symbol() || said.second < second,
+    }
+}
+
+/// The line that was said last, behind an event in this phase and this second.
+fn said_behind(said: Option<Said>, current: Current, second: u64) -> Option<Said>
+    ensures { result ≡ said_after said current second }
+{
+    if is_line_due(said, current, second) {
+        Some(Said { current, second })
+    } else {
+        said
     }
 }
 

@@ -14,6 +14,14 @@ pub struct Turn {
     pub ended: bool,
 }
 
+/// What a turn answers once its marks are made, and what is due then.
+pub(crate) struct Advanced {
+    pub turn: Turn,
+    /// Whether a line is due, and whether it is time for a save.
+    pub speaks: bool,
+    pub saves: bool,
+}
+
 impl Turn {
     /// Whether the read failed: it gave less than was asked for, and not since the input ended.
     pub(crate) fn failed(&self) -> bool

@@ -28,3 +28,5 @@ pub mod FitLemmas
 pub mod MoveStages
 pub mod RunStopLemmas
 pub mod SnapshotLemmas
+pub mod SetLemmas
+pub mod CountLemmas

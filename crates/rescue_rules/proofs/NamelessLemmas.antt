@@ -45,4 +45,5 @@ runs_alike s m es = record {
   calls = refl;
   last = refl;
   saves = refl;
+  lines = λ end. refl;
 }

@@ -56,6 +56,8 @@ pub record Stays (m n : Machine) : Type 0 where
   pub due_at : n.due_at ≡ m.due_at
   pub shown : n.shown ≡ m.shown
   pub over : n.over ≡ m.over
+  pub written : n.written ≡ m.written
+  pub said : n.said ≡ m.said
 
 stays_same : (m : Machine) → Stays m m
 stays_same m = record {
@@ -67,14 +69,40 @@ stays_same m = record {
   due_at = refl;
   shown = refl;
   over = refl;
+  written = refl;
+  said = refl;
+}
+
+stays_begun : (s : Setting) (m : Machine) (p : Pass) (ps : List Pass) → Stays m (begun s m p ps)
+stays_begun s m p ps = record {
+  map = refl;
+  failed = refl;
+  began = refl;
+  now = refl;
+  whole_at = refl;
+  due_at = refl;
+  shown = refl;
+  over = refl;
+  written = refl;
+  said = refl;
 }
 
 pub stays_next : (s : Setting) (m : Machine) (ps : List Pass) → Stays m (at_next s m ps)
-stays_next s m [] =
-    record { map = refl; failed = refl; began = refl; now = refl; whole_at = refl; due_at = refl; shown = refl; over = refl }
+stays_next s m [] = record {
+  map = refl;
+  failed = refl;
+  began = refl;
+  now = refl;
+  whole_at = refl;
+  due_at = refl;
+  shown = refl;
+  over = refl;
+  written = refl;
+  said = refl;
+}
 stays_next s m (p ∷ ps) =
     cond_both (has_request s (begun s m p ps)) (begun s m p ps) (at_next s m ps) (Stays m)
-    (λ on. record { map = refl; failed = refl; began = refl; now = refl; whole_at = refl; due_at = refl; shown = refl; over = refl })
+    (λ on. stays_begun s m p ps)
     (λ off. stays_next s m ps)
 
 pub stays_ready : (s : Setting) (m : Machine) → Stays m (ready s m)

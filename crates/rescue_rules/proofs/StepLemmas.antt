@@ -2,7 +2,7 @@
 use Rattle.std.proofs.Common.{◌≡◌, ◌⊎◌, ℕ, ◌+◌, ◌-◌, ◌*◌, ◌<◌, ◌≤◌, Bool, true, false, ◌&&◌, not, nat_lt, Option, List, [], ◌∷◌, length, map, Some, refl, sym, ap, subst, ◌∙◌, arith, inl, inr, ⊎_elim}
 use Rattle.std.specs.List.{slice_get}
 use Rattle.std.proofs.Math.Nat.{mul-le-mul_right}
-use Rattle.std.proofs.lemmas.Bool.{cases_lt, ltb-true, and_parts, and_from, not-true, not-false, cond-false, cond_both, true_from_ne_false, true≢false}
+use Rattle.std.proofs.lemmas.Bool.{cases_lt, ltb-true, and_parts, and_from, not-true, not-false, cases_Bool, cond-true, cond-false, cond_both, true_from_ne_false, true≢false}
 use Rattle.std.proofs.lemmas.Option.{same_Some}
 use Rattle.block_list.specs.declared.status.Status.{Status}
 use Rattle.block_list.specs.declared.status.Status.TheVariants.{NonTrimmed, NonScraped, BadSector, Finished}
@@ -95,13 +95,13 @@ wanted_domain s m x wanted =
     (and_parts (is_live s m x) (has_taken m.passes (slice_get m.map x)) wanted).0).0
 
 -- in the mode of a run's back, trimming asks for the back of the run that begins there
-trims_is : (phase : Phase) → trims phase ≡ true → phase ≡ Trimming
+pub trims_is : (phase : Phase) → trims phase ≡ true → phase ≡ Trimming
 trims_is Copying is = absurd (cc)
 trims_is Trimming is = refl
 trims_is Scraping is = absurd (cc)
 trims_is Retrying is = absurd (cc)
 
-tail_trims : (s : Setting) (m : Machine) (low : ℕ) → IsInOrder s m → m.mode ≡ Tail low → is_trimming m ≡ true
+pub tail_trims : (s : Setting) (m : Machine) (low : ℕ) → IsInOrder s m → m.mode ≡ Tail low → is_trimming m ≡ true
 tail_trims s m low order is = true_from_ne_false (is_trimming m) (λ off. let e : Tail low ≡ Lead = sym is ∙ order.lead off in absurd (cc))
 
 tail_search : (s : Setting) (m : Machine) (low : ℕ) → IsInOrder s m → m.mode ≡ Tail low
@@ -140,7 +140,7 @@ length-scraped : (mode : TrimMode) (p : ℕ) (map : List Status) → p ≤ lengt
 length-scraped Lead p map there back = refl
 length-scraped (Tail low) p map there back = length-marked map low (p - low) NonScraped (omega (arith, back low refl))
 
-scraped_outside : (mode : TrimMode) (p : ℕ) (map : List Status) (x : ℕ) → p ≤ length map
+pub scraped_outside : (mode : TrimMode) (p : ℕ) (map : List Status) (x : ℕ) → p ≤ length map
     → ((low : ℕ) → mode ≡ Tail low → low ≤ p) → ((low : ℕ) → mode ≡ Tail low → (x < low) ⊎ (p ≤ x))
     → slice_get (scraped mode p map) x ≡ slice_get map x
 scraped_outside Lead p map x there back apart = refl
@@ -165,23 +165,33 @@ scraped_only (Tail low) p map x there back has =
     (cases_lt x low)
 
 -- a read of a request, of which no more is kept than was asked for
-record Taking (s : Setting) (m : Machine) (r : Reading) : Type 0 where
-  asks : Asks s m r.pos (r.pos + r.asked)
-  back : (low : ℕ) → m.mode ≡ Tail low → AsksBack s m r.pos low
-  few : kept s.sector r ≤ r.asked
+pub record Taking (s : Setting) (m : Machine) (r : Reading) : Type 0 where
+  pub asks : Asks s m r.pos (r.pos + r.asked)
+  pub back : (low : ℕ) → m.mode ≡ Tail low → AsksBack s m r.pos low
+  pub few : kept s.sector r ≤ r.asked
+
+pub read_takes : (s : Setting) (m : Machine) (r : Reading) → IsSensible s → IsInOrder s m
+    → IsRequest s m r.pos (r.pos + r.asked) → length r.given ≤ r.asked → Taking s m r
+read_takes s m r ok order request few =
+    let given : kept s.sector r ≤ length r.given = kept_given s.sector r in
+    record {
+      asks = request_asks s ok m r.pos (r.pos + r.asked) request;
+      back = λ low is. asks_back s ok m r.pos (r.pos + r.asked) low order request is;
+      few = omega arith;
+    }
 
 -- the map with the kept part marked, and with the rest marked too
-abbrev with_kept : Setting → Machine → Reading → List Status
+abbrev pub with_kept : Setting → Machine → Reading → List Status
 with_kept s m r = marked m.map r.pos (kept s.sector r) Finished
 
-abbrev with_rest : Setting → Machine → Reading → List Status
+abbrev pub with_rest : Setting → Machine → Reading → List Status
 with_rest s m r =
     marked (with_kept s m r) (r.pos + kept s.sector r) (r.asked - kept s.sector r) (rest_status s m (r.asked - kept s.sector r))
 
 length-with_kept : (s : Setting) (m : Machine) (r : Reading) → Taking s m r → length (with_kept s m r) ≡ length m.map
 length-with_kept s m r t = length-marked m.map r.pos (kept s.sector r) Finished (omega (arith, t.asks.there, t.few))
 
-rest_there : (s : Setting) (m : Machine) (r : Reading) → Taking s m r
+pub rest_there : (s : Setting) (m : Machine) (r : Reading) → Taking s m r
     → r.pos + kept s.sector r + (r.asked - kept s.sector r) ≤ length (with_kept s m r)
 rest_there s m r t = omega (arith, length-with_kept s m r t, t.asks.there, t.few)
 
@@ -191,14 +201,14 @@ length-with_rest s m r t =
     (rest_status s m (r.asked - kept s.sector r)) (rest_there s m r t)
     ∙ length-with_kept s m r t
 
-back_low : (s : Setting) (m : Machine) (r : Reading) → Taking s m r → (low : ℕ) → m.mode ≡ Tail low → low ≤ r.pos
+pub back_low : (s : Setting) (m : Machine) (r : Reading) → Taking s m r → (low : ℕ) → m.mode ≡ Tail low → low ≤ r.pos
 back_low s m r t low is = (t.back low is).after
 
-pos_there : (s : Setting) (m : Machine) (r : Reading) → Taking s m r → r.pos ≤ length (with_rest s m r)
+pub pos_there : (s : Setting) (m : Machine) (r : Reading) → Taking s m r → r.pos ≤ length (with_rest s m r)
 pos_there s m r t = omega (arith, length-with_rest s m r t, t.asks.there)
 
 -- a read leaves the map's length
-length-map_after : (s : Setting) (m : Machine) (r : Reading) → Taking s m r → length (map_after s m r) ≡ length m.map
+pub length-map_after : (s : Setting) (m : Machine) (r : Reading) → Taking s m r → length (map_after s m r) ≡ length m.map
 length-map_after s m r t =
     cond_both (is_failed r) (scraped m.mode r.pos (with_rest s m r)) (with_kept s m r)
     (λ (map : List Status). length map ≡ length m.map)
@@ -207,16 +217,16 @@ length-map_after s m r t =
     (λ good. length-with_kept s m r t)
 
 -- outside what was asked for
-abbrev Apart : Reading → ℕ → Type 0
+abbrev pub Apart : Reading → ℕ → Type 0
 Apart r x = (x < r.pos) ⊎ (r.pos + r.asked ≤ x)
 
-kept_apart : (s : Setting) (m : Machine) (r : Reading) (x : ℕ) → Taking s m r → Apart r x
+pub kept_apart : (s : Setting) (m : Machine) (r : Reading) (x : ℕ) → Taking s m r → Apart r x
     → slice_get (with_kept s m r) x ≡ slice_get m.map x
 kept_apart s m r x t apart =
     marked_outside m.map r.pos (kept s.sector r) Finished x (omega (arith, t.asks.there, t.few))
     (⊎_elim (λ (lt : x < r.pos). inl lt) (λ (ge : r.pos + r.asked ≤ x). inr (omega (arith, t.few))) apart)
 
-rest_apart : (s : Setting) (m : Machine) (r : Reading) (x : ℕ) → Taking s m r → Apart r x
+pub rest_apart : (s : Setting) (m : Machine) (r : Reading) (x : ℕ) → Taking s m r → Apart r x
     → slice_get (with_rest s m r) x ≡ slice_get m.map x
 rest_apart s m r x t apart =
     marked_outside (with_kept s m r) (r.pos + kept s.sector r) (r.asked - kept s.sector r)
@@ -245,7 +255,7 @@ only_apart s m r x t apart =
     (λ good has. sym (kept_apart s m r x t apart) ∙ has)
 
 -- what is kept becomes finished
-kept_finished : (s : Setting) (m : Machine) (r : Reading) (x : ℕ) → Taking s m r → r.pos ≤ x → x < r.pos + kept s.sector r
+pub kept_finished : (s : Setting) (m : Machine) (r : Reading) (x : ℕ) → Taking s m r → r.pos ≤ x → x < r.pos + kept s.sector r
     → Has (map_after s m r) Finished x
 kept_finished s m r x t from to =
     let is : Has (with_kept s m r) Finished x
@@ -263,21 +273,36 @@ rest_not_finished s m size =
     cond_both (is_copying m && nat_lt s.sector size) NonTrimmed BadSector (λ (status : Status). status ≡ Finished → ⊥)
     (λ is e. absurd (cc)) (λ is e. absurd (cc))
 
--- and the rest doesn't
+-- what is behind it gets the status of the rest where the read failed,
+pub rest_marked : (s : Setting) (m : Machine) (r : Reading) (x : ℕ) → Taking s m r → is_failed r ≡ true
+    → r.pos + kept s.sector r ≤ x → x < r.pos + r.asked
+    → Has (map_after s m r) (rest_status s m (r.asked - kept s.sector r)) x
+rest_marked s m r x t failed from to =
+    ap (λ (map : List Status). slice_get map x)
+    (cond-true (is_failed r) (scraped m.mode r.pos (with_rest s m r)) (with_kept s m r) failed)
+    ∙ scraped_outside m.mode r.pos (with_rest s m r) x (pos_there s m r t) (back_low s m r t)
+    (λ low at. inr (omega (arith, from)))
+    ∙ marked_inside (with_kept s m r) (r.pos + kept s.sector r) (r.asked - kept s.sector r)
+    (rest_status s m (r.asked - kept s.sector r)) x (rest_there s m r t) from (omega (arith, t.few))
+
+-- and else it stands
+pub rest_stands : (s : Setting) (m : Machine) (r : Reading) (x : ℕ) → Taking s m r → is_failed r ≡ false
+    → r.pos + kept s.sector r ≤ x → slice_get (map_after s m r) x ≡ slice_get m.map x
+rest_stands s m r x t good from =
+    ap (λ (map : List Status). slice_get map x)
+    (cond-false (is_failed r) (scraped m.mode r.pos (with_rest s m r)) (with_kept s m r) good)
+    ∙ marked_outside m.map r.pos (kept s.sector r) Finished x (omega (arith, t.asks.there, t.few)) (inr from)
+
+-- so it isn't finished
 rest_unfinished : (s : Setting) (m : Machine) (r : Reading) (x : ℕ) → Taking s m r → r.pos + kept s.sector r ≤ x
     → x < r.pos + r.asked → Has (map_after s m r) Finished x → ⊥
-rest_unfinished s m r x t from to =
-    let is : Has (with_rest s m r) (rest_status s m (r.asked - kept s.sector r)) x
-    = marked_inside (with_kept s m r) (r.pos + kept s.sector r) (r.asked - kept s.sector r)
-    (rest_status s m (r.asked - kept s.sector r)) x (rest_there s m r t) from (omega (arith, t.few)) in
-    cond_both (is_failed r) (scraped m.mode r.pos (with_rest s m r)) (with_kept s m r)
-    (λ (map : List Status). Has map Finished x → ⊥)
-    (λ failed has. rest_not_finished s m (r.asked - kept s.sector r)
-    (same_Some (rest_status s m (r.asked - kept s.sector r)) Finished
-    (sym is ∙ scraped_only m.mode r.pos (with_rest s m r) x (pos_there s m r t) (back_low s m r t) has)))
-    (λ good has. finished_unwanted s m x
-    (sym (marked_outside m.map r.pos (kept s.sector r) Finished x (omega (arith, t.asks.there, t.few)) (inr from)) ∙ has)
+rest_unfinished s m r x t from to has =
+    ⊎_elim
+    (λ (failed : is_failed r ≡ true). rest_not_finished s m (r.asked - kept s.sector r)
+    (same_Some (rest_status s m (r.asked - kept s.sector r)) Finished (sym (rest_marked s m r x t failed from to) ∙ has)))
+    (λ (good : is_failed r ≡ false). finished_unwanted s m x (sym (rest_stands s m r x t good from) ∙ has)
     (t.asks.wanted x (omega (arith, from)) to))
+    (cases_Bool (is_failed r))
 
 after_only : (s : Setting) (m : Machine) (r : Reading) (x : ℕ) → Taking s m r → Has (map_after s m r) Finished x
     → Has m.map Finished x ⊎ (covers s.sector r x ≡ true)
@@ -360,19 +385,13 @@ step_lead s m e off =
 pub move_steps : MoveSteps
 move_steps s m e ok order request few =
     let r : Reading = e.reading in
-    let asks : Asks s m r.pos (r.pos + r.asked) = request_asks s ok m r.pos (r.pos + r.asked) request in
-    let given : kept s.sector r ≤ length r.given = kept_given s.sector r in
-    let t : Taking s m r = record {
-      asks = asks;
-      back = λ low is. asks_back s ok m r.pos (r.pos + r.asked) low order request is;
-      few = omega arith;
-    } in
+    let t : Taking s m r = read_takes s m r ok order request few in
     record {
-      some = omega (arith, asks.some);
-      there = asks.there;
-      wanted = asks.wanted;
-      kept_given = given;
-      kept_asked = omega arith;
+      some = omega (arith, t.asks.some);
+      there = t.asks.there;
+      wanted = t.asks.wanted;
+      kept_given = kept_given s.sector r;
+      kept_asked = t.few;
       finishes = λ x is. let c : Covered s.sector r x = covered_here s.sector r x is in kept_finished s m r x t c.from c.to;
       stays = λ x has.
           after_apart s m r x t (finished_apart s m r x t has) (finished_off s m r x t has) ∙ has;

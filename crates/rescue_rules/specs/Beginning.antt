@@ -48,6 +48,8 @@ machine_of s map from shown time = record {
   due_at = time;
   shown = shown;
   over = None;
+  written = 0;
+  said = None;
 }
 
 -- a mapfile showed that its rescue was copying

@@ -36,6 +36,7 @@ small end cluster skip = record {
   one_way = false;
   max_errors = None;
   timeout = None;
+  verbose = false;
 }
 
 abbrev pub small_start : (end cluster skip : ℕ) → Machine

@@ -2,9 +2,13 @@ pub mod Setting
 pub mod Preparation
 pub mod Start
 pub mod Passes
+pub mod Said
+pub mod Counts
+pub mod Recounts
 pub mod Machine
 pub mod Step
 pub mod Moves
+pub mod Lines
 pub mod Nameless
 pub mod Beginning
 pub mod Events

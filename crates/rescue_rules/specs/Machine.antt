@@ -13,6 +13,7 @@ use Rattle.rescue_rules.specs.Setting.{Setting}
 use Rattle.rescue_rules.specs.declared.phase.Phase.{Phase}
 use Rattle.rescue_rules.specs.declared.phase.Phase.TheVariants.{Copying, Trimming, Scraping, Retrying}
 use Rattle.rescue_rules.specs.Passes.{Pass, taken, is_up, numbered}
+use Rattle.rescue_rules.specs.declared.report.Said.{Said}
 
 pub record Machine : Type 0 where
   pub map : List Status
@@ -32,6 +33,9 @@ pub record Machine : Type 0 where
   pub shown : MapState
   -- where reads met the input's end, if they did: what lies there or behind isn't asked for any more
   pub over : Option ℕ
+  -- how many bytes were written, and the line that was said last
+  pub written : ℕ
+  pub said : Option Said
 
 -- the pass that it is in
 abbrev pub pass_of : Machine → Pass

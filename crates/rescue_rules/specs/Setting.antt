@@ -39,6 +39,8 @@ pub record Setting : Type 0 where
   -- how many reads may fail, and how long there may be no whole one
   pub max_errors : Option ℕ
   pub timeout : Option ℕ
+  -- whether it is said first how much is asked for
+  pub verbose : Bool
 
 -- where a position stands in the output
 abbrev pub place : Setting → ℕ → ℕ

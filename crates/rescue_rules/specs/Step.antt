@@ -1,6 +1,6 @@
--- What a read changes: the marks, the mode of trimming, the cursor and the skip, the counts and the times, and what is
--- left of the domain.
-use Rattle.std.specs.Prelude.{ℕ, ◌+◌, ◌-◌, ◌*◌, min, Bool, true, false, ◌&&◌, ◌||◌, not, nat_le, nat_lt, List, length, Option, Some, None, if◌then◌else◌}
+-- What a read changes: the marks, the mode of trimming, the cursor and the skip, the counts and the times, what is left
+-- of the domain, and the line that was said last.
+use Rattle.std.specs.Prelude.{ℕ, ◌+◌, ◌-◌, ◌*◌, ◌/◌, min, Bool, true, false, ◌&&◌, ◌||◌, not, nat_le, nat_lt, List, length, Option, Some, None, if◌then◌else◌}
 use Rattle.block_list.specs.declared.status.Status.{Status}
 use Rattle.block_list.specs.declared.status.Status.TheVariants.{NonTrimmed, NonScraped, BadSector, Finished}
 use Rattle.block_list.specs.Map.{marked}
@@ -13,6 +13,7 @@ use Rattle.rescue_rules.specs.declared.phase.Phase.{Phase}
 use Rattle.rescue_rules.specs.declared.phase.Phase.TheVariants.{Copying, Trimming}
 use Rattle.rescue_rules.specs.Passes.{current_of, is_up}
 use Rattle.rescue_rules.specs.Machine.{Machine, pass_of, is_wanted}
+use Rattle.rescue_rules.specs.Said.{said_after, more_written}
 
 -- a read, and the times before it and behind it
 pub record Event : Type 0 where
@@ -121,6 +122,8 @@ step s m e =
       due_at = if is_timely m e then e.after else m.due_at;
       shown = record { pos = cursor_after s m e; current = current_of (pass_of m).phase; pass = (pass_of m).number };
       over = over_after m r;
+      written = more_written m.written (kept s.sector r);
+      said = said_after m.said (current_of (pass_of m).phase) (e.after / 1000);
     }
 
 -- a limit that a run has met: so many reads failed, or so many milliseconds went by without a whole one

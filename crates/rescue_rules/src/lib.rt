@@ -3,4 +3,5 @@
 
 pub mod laws;
 pub mod phase;
+pub mod report;
 pub mod stop;

@@ -1,3 +1,6 @@
+ghost use Rattle.std.specs.Prelude.{◌≡◌};
+ghost use Rattle.rescue_rules.specs.Lines.{is_done};
+
 use crash_site::site::SiteCall;
 
 /// Why a run stopped before its end.
@@ -30,4 +33,13 @@ pub enum RunEnd {
         call: SiteCall,
         earlier: Option<Stop>,
     },
+}
+
+impl RunEnd {
+    /// Whether it went on to its end.
+    pub fn is_done(&self) -> bool
+        ensures { result ≡ is_done self.now }
+    {
+        matches!(self, RunEnd::Done)
+    }
 }

@@ -47,7 +47,8 @@ scraped_before (Tail low) p map x there back from =
     marked_outside map low (p - low) NonScraped x (omega (arith, le, there)) (inr (omega (arith, le, from)))
 
 rest_marked : (s : Setting) (m : Machine) (e : Event) (x : ℕ) → StepsLater s m e
-    → is_before (over_after m e.reading) x ≡ true → e.reading.pos + kept s.sector e.reading ≤ x → x < e.reading.pos + e.reading.asked → Has (step s m e).map BadSector x
+    → is_before (over_after m e.reading) x ≡ true → e.reading.pos + kept s.sector e.reading ≤ x
+    → x < e.reading.pos + e.reading.asked → Has (step s m e).map BadSector x
 rest_marked s m e x l before from to =
     let r : Reading = e.reading in
     let k : ℕ = kept s.sector r in
@@ -66,7 +67,8 @@ rest_marked s m e x l before from to =
 
 -- So a position with another status wasn't asked for.
 pub unasked : (s : Setting) (m : Machine) (e : Event) (u : Status) (x : ℕ) → StepsLater s m e
-    → is_before (over_after m e.reading) x ≡ true → (Finished ≡ u → ⊥) → (BadSector ≡ u → ⊥) → Has (step s m e).map u x → (x < e.reading.pos) ⊎ (e.reading.pos + e.reading.asked ≤ x)
+    → is_before (over_after m e.reading) x ≡ true → (Finished ≡ u → ⊥) → (BadSector ≡ u → ⊥)
+    → Has (step s m e).map u x → (x < e.reading.pos) ⊎ (e.reading.pos + e.reading.asked ≤ x)
 unasked s m e u x l before unfinished well has =
     let r : Reading = e.reading in
     let k : ℕ = kept s.sector r in

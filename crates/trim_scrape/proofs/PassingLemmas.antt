@@ -1,5 +1,5 @@
 -- A run within a pass behind copying stays so in a turn.
-use Rattle.std.proofs.Common.{◌≡◌, ℕ, suc, ◌+◌, ◌-◌, ◌<◌, ◌≤◌, true, false, List, [], ◌∷◌, ◌++◌, length, map, drop, take, Some, refl, sym, ap, ◌∙◌, arith, subst, ⊎_elim}
+use Rattle.std.proofs.Common.{◌≡◌, ℕ, suc, ◌+◌, ◌-◌, ◌<◌, ◌≤◌, Bool, true, false, List, [], ◌∷◌, ◌++◌, length, map, drop, take, Some, refl, sym, ap, ◌∙◌, arith, subst, ⊎_elim}
 use Rattle.std.specs.List.{slice_get, slice_index_or, range_with_len}
 use Rattle.std.proofs.lemmas.Bool.{and_from, le-leb, true≢false}
 use Rattle.block_list.specs.declared.status.Status.TheVariants.{NonTrimmed, NonScraped}
@@ -68,9 +68,9 @@ left_of Trimming r = count NonTrimmed (take (top_of r.machine) r.machine.map)
 left_of Scraping r = ahead_of r
 left_of Retrying r = ahead_of r
 
-trims_less : (r : RunState) (e : Event) → IsInPass r → StepsLater (setting_in r) r.machine e → r.phase ≡ Trimming
-    → left_of Trimming (stepped r e) < left_of Trimming r
-trims_less r e i l is =
+trims_less : (r : RunState) (e : Event) (heard : Bool) → IsInPass r → StepsLater (setting_in r) r.machine e → r.phase ≡ Trimming
+    → left_of Trimming (stepped r e heard) < left_of Trimming r
+trims_less r e heard i l is =
     let s : Setting = setting_in r in
     let m : Machine = r.machine in
     let n : Machine = step s m e in
@@ -90,28 +90,28 @@ trims_less r e i l is =
     (unasked s m e NonTrimmed p l (before_top n p (front_within (top_of n) n.map p NonTrimmed has)) (λ same. cc) (λ same. cc)
     (front_had (top_of n) n.map p NonTrimmed has)))
 
-sweeps_less : (r : RunState) (e : Event) → Sweeps (setting_in r) r.machine → StepsLater (setting_in r) r.machine e
-    → IsRequest (setting_in r) r.machine e.reading.pos (e.reading.pos + e.reading.asked) → ahead_of (stepped r e) < ahead_of r
-sweeps_less r e w l asks =
+sweeps_less : (r : RunState) (e : Event) (heard : Bool) → Sweeps (setting_in r) r.machine → StepsLater (setting_in r) r.machine e
+    → IsRequest (setting_in r) r.machine e.reading.pos (e.reading.pos + e.reading.asked) → ahead_of (stepped r e heard) < ahead_of r
+sweeps_less r e heard w l asks =
     sweeps_on (setting_in r) r.machine e w asks l.steps
 
 sweeps_in : (r : RunState) (phase : Phase) → IsInPass r → r.phase ≡ phase → pass_of r.machine ≡ numbered phase r.pass
 sweeps_in r phase i is = pass_is r i ∙ ap (λ (at : Phase). numbered at r.pass) is
 
-reads_less : (phase : Phase) (r : RunState) (e : Event) → IsInPass r → StepsLater (setting_in r) r.machine e
+reads_less : (phase : Phase) (r : RunState) (e : Event) (heard : Bool) → IsInPass r → StepsLater (setting_in r) r.machine e
     → IsRequest (setting_in r) r.machine e.reading.pos (e.reading.pos + e.reading.asked) → r.phase ≡ phase
-    → left_of phase (stepped r e) < left_of phase r
-reads_less Copying r e i l asks is = absurd (subst (λ (phase : Phase). IsPassOf (setting_in r) phase r.pass) is i.there)
-reads_less Trimming r e i l asks is = trims_less r e i l is
-reads_less Scraping r e i l asks is =
-    sweeps_less r e (scraping_sweeps (setting_in r) r.machine r.pass (sweeps_in r Scraping i is)) l asks
-reads_less Retrying r e i l asks is =
-    sweeps_less r e (retrying_sweeps (setting_in r) r.machine r.pass (sweeps_in r Retrying i is)) l asks
+    → left_of phase (stepped r e heard) < left_of phase r
+reads_less Copying r e heard i l asks is = absurd (subst (λ (phase : Phase). IsPassOf (setting_in r) phase r.pass) is i.there)
+reads_less Trimming r e heard i l asks is = trims_less r e heard i l is
+reads_less Scraping r e heard i l asks is =
+    sweeps_less r e heard (scraping_sweeps (setting_in r) r.machine r.pass (sweeps_in r Scraping i is)) l asks
+reads_less Retrying r e heard i l asks is =
+    sweeps_less r e heard (retrying_sweeps (setting_in r) r.machine r.pass (sweeps_in r Retrying i is)) l asks
 
 -- scraping leaves nothing behind
 scrapes_all : (r : RunState) (e : Event) → IsInPass r → StepsLater (setting_in r) r.machine e
     → IsRequest (setting_in r) r.machine e.reading.pos (e.reading.pos + e.reading.asked)
-    → length e.reading.given ≤ e.reading.asked → r.phase ≡ Scraping → LeavesNone (setting_in r) (stepped r e).machine
+    → length e.reading.given ≤ e.reading.asked → r.phase ≡ Scraping → LeavesNone (setting_in r) (step (setting_in r) r.machine e)
 scrapes_all r e i l asks few is =
     let s : Setting = setting_in r in
     let m : Machine = r.machine in
@@ -135,18 +135,18 @@ scrapes_all r e i l asks few is =
     }
 
 -- An event of its request, and what it does.
-pub record PassStep (r : RunState) (e : Event) : Type 0 where
-  pub less : left_of r.phase (stepped r e) < left_of r.phase r
-  pub inside : IsInPass (stepped r e)
+pub record PassStep (r : RunState) (e : Event) (heard : Bool) : Type 0 where
+  pub less : left_of r.phase (stepped r e heard) < left_of r.phase r
+  pub inside : IsInPass (stepped r e heard)
 
-pub passes_step : (r : RunState) (e : Event) → IsInPass r
+pub passes_step : (r : RunState) (e : Event) (heard : Bool) → IsInPass r
     → IsRequest (setting_in r) r.machine e.reading.pos (e.reading.pos + e.reading.asked)
-    → length e.reading.given ≤ e.reading.asked → PassStep r e
-passes_step r e i asks few =
+    → length e.reading.given ≤ e.reading.asked → PassStep r e heard
+passes_step r e heard i asks few =
     let l : StepsLater (setting_in r) r.machine e =
     steps_later (setting_in r) r.machine e i.sensible i.order (later_is r i) asks few in
     record {
-      less = reads_less r.phase r e i l asks refl;
+      less = reads_less r.phase r e heard i l asks refl;
       inside = record {
         sensible = i.sensible;
         there = i.there;

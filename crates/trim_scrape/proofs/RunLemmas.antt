@@ -59,12 +59,9 @@ pub asked_taken : (s : Setting) (m : Machine) (e : Event) (x : ℕ) → Moves s 
 asked_taken s m e x by asks = wanted_taken s (ready s m) x (by.steps.wanted x asks.from asks.to)
 
 -- what is left of the domain at a run's end was left at its start
-pub live_unready : (s : Setting) (m : Machine) (x : ℕ) → is_live s (ready s m) x ≡ true → is_live s m x ≡ true
+live_unready : (s : Setting) (m : Machine) (x : ℕ) → is_live s (ready s m) x ≡ true → is_live s m x ≡ true
 live_unready s m x live =
     sym (ap (λ (o : Option ℕ). s.domain x && is_before o x) (stays_ready s m).over) ∙ live
-
-pub live_ready : (s : Setting) (m : Machine) (x : ℕ) → is_live s m x ≡ true → is_live s (ready s m) x ≡ true
-live_ready s m x live = ap (λ (o : Option ℕ). s.domain x && is_before o x) (stays_ready s m).over ∙ live
 
 pub run_live : (s : Setting) (m : Machine) (es : List Event) (x : ℕ) → is_live s (state_after s m es) x ≡ true
     → is_live s m x ≡ true

@@ -5,6 +5,7 @@ use Rattle.mapfile_text.specs.declared.state.MapState.{MapState}
 use Rattle.faulty_source.specs.SourceState.{SourceState, Stays as SourceStays}
 use Rattle.crash_site.specs.SiteState.{SiteState}
 use Rattle.rescue_console.specs.ClockState.{ClockState}
+use Rattle.rescue_console.specs.ConsoleState.{ConsoleState}
 use Rattle.rescue_rules.specs.declared.stop.Stop.{Stop}
 use Rattle.rescue_rules.specs.declared.phase.Phase.{Phase}
 use Rattle.rescue_rules.specs.declared.phase.Phase.TheVariants.{Copying}
@@ -15,8 +16,9 @@ use Rattle.rescue_rules.specs.MachineLaws.{IsInOrder}
 use Rattle.rescue_rules.specs.Step.{Event}
 use Rattle.rescue_rules.specs.Moves.{state_after, has_ended, IsRun}
 use Rattle.rescue_rules.specs.Beginning.{machine_of}
+use Rattle.rescue_core.specs.Across.{Across}
 use Rattle.rescue_core.specs.RunState.{RunState, setting_in}
-use Rattle.copy_passes.specs.Turns.{Across, Went, WentUpTo}
+use Rattle.copy_passes.specs.Turns.{Went, WentUpTo}
 use Rattle.copy_passes.specs.Copying.{IsCopying}
 use Rattle.trim_scrape.specs.Behind.{IsBehind}
 use Rattle.trim_scrape.specs.Bounds.{AskFew}
@@ -42,12 +44,16 @@ CopiedIsBehind = (r : RunState) → IsCopying r → r.pass ≡ copying_passes �
 -- whole turns behind whole turns are whole turns
 abbrev pub TurnsJoin : Type 0
 TurnsJoin = (r q p : RunState) (o : Across) (source : SourceState) (site : SiteState) (clock : ClockState)
-    → Went r q (record o { source' = source; site' = site; clock' = clock }) → SourceStays o.source source
-    → site.tells ≡ o.site.tells → Went q p (record o { source = source; site = site; clock = clock }) → Went r p o
+    (console : ConsoleState)
+    → Went r q (record o { source' = source; site' = site; clock' = clock; console' = console })
+    → SourceStays o.source source → site.tells ≡ o.site.tells
+    → Went q p (record o { source = source; site = site; clock = clock; console = console }) → Went r p o
 
 -- and so are those up to a turn that stopped
 abbrev pub StoppedTurnsJoin : Type 0
 StoppedTurnsJoin = (stop : Stop) (r q p : RunState) (o : Across) (source : SourceState) (site : SiteState)
-    (clock : ClockState) → Went r q (record o { source' = source; site' = site; clock' = clock })
+    (clock : ClockState) (console : ConsoleState)
+    → Went r q (record o { source' = source; site' = site; clock' = clock; console' = console })
     → SourceStays o.source source → site.tells ≡ o.site.tells
-    → WentUpTo stop q p (record o { source = source; site = site; clock = clock }) → WentUpTo stop r p o
+    → WentUpTo stop q p (record o { source = source; site = site; clock = clock; console = console })
+    → WentUpTo stop r p o

@@ -1,16 +1,12 @@
 //! The phases of a rescue behind copying. Each goes on until its passes have no request left, and stops where a turn
 //! does: for want of memory, at a read that was lost, or at a call on the output or the mapfile that failed.
-ghost use Rattle.std.specs.Prelude.{◌≡◌, ◌+◌, true, false, IfOk, IfErr, OnOk};
-ghost use Rattle.faulty_source.specs.SourceState.{Stays as SourceStays};
-ghost use Rattle.crash_site.specs.SiteState.{Keeps as SiteKeeps};
-ghost use Rattle.rescue_console.specs.ClockState.{Keeps as ClockKeeps};
+ghost use Rattle.std.specs.Prelude.{◌≡◌, ◌+◌, true, false, IfOk, OnOk};
 ghost use Rattle.rescue_domain.specs.Parts.{covers};
 ghost use Rattle.rescue_rules.specs.declared.phase.Phase.TheVariants.{Copying as CopyingPhase, Trimming as TrimmingPhase, Scraping as ScrapingPhase, Retrying as RetryingPhase};
 ghost use Rattle.rescue_core.specs.RunState.{setting_in, HasPlaces};
-ghost use Rattle.rescue_core.specs.Closing.{drafting_after};
-ghost use Rattle.copy_passes.specs.Turns.{Went, WentUpTo};
+ghost use Rattle.copy_passes.specs.Turns.{TurnsEnd, PhaseEnds};
 ghost use Rattle.trim_scrape.specs.Behind.{IsBehind};
-ghost use Rattle.trim_scrape.specs.Passing.{GoesOn, IsBefore, IsDone, IsPassOf};
+ghost use Rattle.trim_scrape.specs.Passing.{IsBefore, IsDone, IsPassOf};
 
 use block_list::tiles::Tiles;
 use crash_site::site::Site;
@@ -37,30 +33,18 @@ fn run_pass<P: Stage, S: Source, D: Site, K: Clock, C: Console, T: Tiles>(
     requires input { (S.state source.old).is_open ≡ true }
     requires image { (D.state site.old).is_open ≡ true }
     requires no_draft { (D.state site.old).is_drafting ≡ false }
-    ensures goes { OnOk result (GoesOn rescue.old rescue.new (record {
+    ensures ends { TurnsEnd result rescue.old rescue.new (record {
       source = S.state source.old;
       source' = S.state source.new;
       site = D.state site.old;
       site' = D.state site.new;
       clock = K.state clock.old;
       clock' = K.state clock.new;
-    })) }
+      console = C.state console.old;
+      console' = C.state console.new;
+    }) }
     ensures before { OnOk result (IsBefore phase (pass + 1) rescue.new) }
     ensures done { OnOk result (IsDone phase rescue.new) }
-    ensures halted { IfErr result (λ stop. WentUpTo stop rescue.old rescue.new (record {
-      source = S.state source.old;
-      source' = S.state source.new;
-      site = D.state site.old;
-      site' = D.state site.new;
-      clock = K.state clock.old;
-      clock' = K.state clock.new;
-    })) }
-    ensures draft_left { IfErr result (λ stop. (D.state site.new).is_drafting ≡ drafting_after stop) }
-    ensures image { (D.state site.new).is_open ≡ true }
-    ensures source { SourceStays (S.state source.old) (S.state source.new) }
-    ensures site { SiteKeeps (D.state site.old) (D.state site.new) }
-    ensures clock { ClockKeeps (K.state clock.old) (K.state clock.new) }
-    ensures console { C.state console.new ≡ C.state console.old }
 {
     rescue.begin_pass(phase, pass);
     'turns: while let Some(request) = rescue.next_request() {
@@ -83,30 +67,17 @@ pub fn run_trimming<S: Source, D: Site, K: Clock, C: Console, T: Tiles>(
     requires input { (S.state source.old).is_open ≡ true }
     requires image { (D.state site.old).is_open ≡ true }
     requires no_draft { (D.state site.old).is_drafting ≡ false }
-    ensures went { IfOk result (λ r. Went rescue r (record {
+    ensures ends { PhaseEnds rescue result (record {
       source = S.state source.old;
       source' = S.state source.new;
       site = D.state site.old;
       site' = D.state site.new;
       clock = K.state clock.old;
       clock' = K.state clock.new;
-    })) }
+      console = C.state console.old;
+      console' = C.state console.new;
+    }) }
     ensures behind { IfOk result (λ r. IsBehind TrimmingPhase r) }
-    ensures halted { IfErr result (λ s. WentUpTo s.stop rescue s.run (record {
-      source = S.state source.old;
-      source' = S.state source.new;
-      site = D.state site.old;
-      site' = D.state site.new;
-      clock = K.state clock.old;
-      clock' = K.state clock.new;
-    })) }
-    ensures draft { OnOk result ((D.state site.new).is_drafting ≡ false) }
-    ensures draft_left { IfErr result (λ s. (D.state site.new).is_drafting ≡ drafting_after s.stop) }
-    ensures image { (D.state site.new).is_open ≡ true }
-    ensures source { SourceStays (S.state source.old) (S.state source.new) }
-    ensures site { SiteKeeps (D.state site.old) (D.state site.new) }
-    ensures clock { ClockKeeps (K.state clock.old) (K.state clock.new) }
-    ensures console { C.state console.new ≡ C.state console.old }
 {
     let mut rescue = rescue;
     if rescue.settings().no_trim {
@@ -139,30 +110,17 @@ pub fn run_scraping<S: Source, D: Site, K: Clock, C: Console, T: Tiles>(
     requires input { (S.state source.old).is_open ≡ true }
     requires image { (D.state site.old).is_open ≡ true }
     requires no_draft { (D.state site.old).is_drafting ≡ false }
-    ensures went { IfOk result (λ r. Went rescue r (record {
+    ensures ends { PhaseEnds rescue result (record {
       source = S.state source.old;
       source' = S.state source.new;
       site = D.state site.old;
       site' = D.state site.new;
       clock = K.state clock.old;
       clock' = K.state clock.new;
-    })) }
+      console = C.state console.old;
+      console' = C.state console.new;
+    }) }
     ensures behind { IfOk result (λ r. IsBehind ScrapingPhase r) }
-    ensures halted { IfErr result (λ s. WentUpTo s.stop rescue s.run (record {
-      source = S.state source.old;
-      source' = S.state source.new;
-      site = D.state site.old;
-      site' = D.state site.new;
-      clock = K.state clock.old;
-      clock' = K.state clock.new;
-    })) }
-    ensures draft { OnOk result ((D.state site.new).is_drafting ≡ false) }
-    ensures draft_left { IfErr result (λ s. (D.state site.new).is_drafting ≡ drafting_after s.stop) }
-    ensures image { (D.state site.new).is_open ≡ true }
-    ensures source { SourceStays (S.state source.old) (S.state source.new) }
-    ensures site { SiteKeeps (D.state site.old) (D.state site.new) }
-    ensures clock { ClockKeeps (K.state clock.old) (K.state clock.new) }
-    ensures console { C.state console.new ≡ C.state console.old }
 {
     let mut rescue = rescue;
     if rescue.settings().no_scrape {
@@ -195,29 +153,17 @@ fn run_retries<S: Source, D: Site, K: Clock, C: Console, T: Tiles>(
     requires input { (S.state source.old).is_open ≡ true }
     requires image { (D.state site.old).is_open ≡ true }
     requires no_draft { (D.state site.old).is_drafting ≡ false }
-    ensures goes { OnOk result (GoesOn rescue.old rescue.new (record {
+    ensures ends { TurnsEnd result rescue.old rescue.new (record {
       source = S.state source.old;
       source' = S.state source.new;
       site = D.state site.old;
       site' = D.state site.new;
       clock = K.state clock.old;
       clock' = K.state clock.new;
-    })) }
+      console = C.state console.old;
+      console' = C.state console.new;
+    }) }
     ensures behind { OnOk result (IsBehind RetryingPhase rescue.new) }
-    ensures halted { IfErr result (λ stop. WentUpTo stop rescue.old rescue.new (record {
-      source = S.state source.old;
-      source' = S.state source.new;
-      site = D.state site.old;
-      site' = D.state site.new;
-      clock = K.state clock.old;
-      clock' = K.state clock.new;
-    })) }
-    ensures draft_left { IfErr result (λ stop. (D.state site.new).is_drafting ≡ drafting_after stop) }
-    ensures image { (D.state site.new).is_open ≡ true }
-    ensures source { SourceStays (S.state source.old) (S.state source.new) }
-    ensures site { SiteKeeps (D.state site.old) (D.state site.new) }
-    ensures clock { ClockKeeps (K.state clock.old) (K.state clock.new) }
-    ensures console { C.state console.new ≡ C.state console.old }
 {
     'passes: for pass in 1..=rescue.settings().retries {
         run_pass(rescue, Phase::Retrying, pass, source, site, clock, console)?;
@@ -238,30 +184,17 @@ pub fn run_retrying<S: Source, D: Site, K: Clock, C: Console, T: Tiles>(
     requires input { (S.state source.old).is_open ≡ true }
     requires image { (D.state site.old).is_open ≡ true }
     requires no_draft { (D.state site.old).is_drafting ≡ false }
-    ensures went { IfOk result (λ r. Went rescue r (record {
+    ensures ends { PhaseEnds rescue result (record {
       source = S.state source.old;
       source' = S.state source.new;
       site = D.state site.old;
       site' = D.state site.new;
       clock = K.state clock.old;
       clock' = K.state clock.new;
-    })) }
+      console = C.state console.old;
+      console' = C.state console.new;
+    }) }
     ensures behind { IfOk result (λ r. IsBehind RetryingPhase r) }
-    ensures halted { IfErr result (λ s. WentUpTo s.stop rescue s.run (record {
-      source = S.state source.old;
-      source' = S.state source.new;
-      site = D.state site.old;
-      site' = D.state site.new;
-      clock = K.state clock.old;
-      clock' = K.state clock.new;
-    })) }
-    ensures draft { OnOk result ((D.state site.new).is_drafting ≡ false) }
-    ensures draft_left { IfErr result (λ s. (D.state site.new).is_drafting ≡ drafting_after s.stop) }
-    ensures image { (D.state site.new).is_open ≡ true }
-    ensures source { SourceStays (S.state source.old) (S.state source.new) }
-    ensures site { SiteKeeps (D.state site.old) (D.state site.new) }
-    ensures clock { ClockKeeps (K.state clock.old) (K.state clock.new) }
-    ensures console { C.state console.new ≡ C.state console.old }
 {
     let mut rescue = rescue;
     match run_retries(&mut rescue, source, site, clock, console) {

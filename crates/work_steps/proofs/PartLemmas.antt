@@ -50,3 +50,22 @@ through_then f (Read (Some name) file ∷ rows) more run e calls d t w =
       grown calls t.1 d.gain.calls (map Returned t.0) t.3,
       through_then f rows more run e t.1 d t.4 w,
     ))
+
+-- work behind which another run may come as well
+pub works_as : {E : Type 0} (f : Faults E) (rows : List (Step E)) (run other : E → Deeds → Type 0)
+    → ((e : E) (d : Deeds) → run e d → other e d) → (e : E) (d : Deeds) → Works f rows run e d → Works f rows other e d
+works_as f [] run other also e d w = also e d w
+works_as f (Take ∷ rows) run other also e d (inl h) = inl h
+works_as f (Take ∷ rows) run other also e d (inr w) = inr (works_as f rows run other also e d w)
+works_as f (Look refuses ∷ rows) run other also e d (inl h) = inl h
+works_as f (Look refuses ∷ rows) run other also e d (inr h) = inr (h.0, works_as f rows run other also e d h.1)
+works_as f (Open name ∷ rows) run other also e d (inl h) = inl h
+works_as f (Open name ∷ rows) run other also e d (inr h) = inr (h.0, h.1, works_as f rows run other also e _ h.2)
+works_as f (Make calls ∷ rows) run other also e d (inl h) = inl h
+works_as f (Make calls ∷ rows) run other also e d (inr h) = inr (h.0, h.1, works_as f rows run other also e _ h.2)
+works_as f (Read None file ∷ rows) run other also e d (inl h) = inl h
+works_as f (Read None file ∷ rows) run other also e d (inr h) = inr (h.0, works_as f rows run other also e d h.1)
+works_as f (Read (Some name) file ∷ rows) run other also e d (inl h) = inl h
+works_as f (Read (Some name) file ∷ rows) run other also e d (inr (inl h)) = inr (inl h)
+works_as f (Read (Some name) file ∷ rows) run other also e d (inr (inr h)) =
+    inr (inr (h.0, h.1, h.2, h.3, works_as f rows run other also e _ h.4))

@@ -1,17 +1,20 @@
-use Rattle.std.proofs.Common.{◌≡◌, ◌-◌}
+use Rattle.std.proofs.Common.{◌-◌}
 use Rattle.rescue_rules.specs.Passes.{copying_passes}
-use Rattle.copy_passes.specs.Copying.{CopiesOn}
+use Rattle.copy_passes.specs.Turns.{GoesOn}
+use Rattle.copy_passes.specs.Copying.{IsCopying}
 use Rattle.copy_passes.proofs.copy.run_passes.Given as goal
 
 abbrev pub invariant-passes : goal.invariant-passes
-invariant-passes g l = CopiesOn l.initial.rescue l.rescue (record {
+invariant-passes g l = GoesOn l.initial.rescue l.rescue (record {
   source = g.S.Source.state l.initial.source;
   source' = g.S.Source.state l.source;
   site = g.D.Site.state l.initial.site;
   site' = g.D.Site.state l.site;
   clock = g.K.Clock.state l.initial.clock;
   clock' = g.K.Clock.state l.clock;
-}) × (g.C.Console.state l.console ≡ g.C.Console.state l.initial.console)
+  console = g.C.Console.state l.initial.console;
+  console' = g.C.Console.state l.console;
+}) × IsCopying l.rescue
 
 abbrev pub decreases-passes : goal.decreases-passes
 decreases-passes g l = copying_passes - l.rescue.pass

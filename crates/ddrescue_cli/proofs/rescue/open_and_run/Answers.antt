@@ -8,13 +8,13 @@ use Rattle.ddrescue_cli.proofs.OpenedLemmas.{not_opened, input_fails, output_fai
 use Rattle.ddrescue_cli.proofs.rescue.open_and_run.Goals as goal
 
 pub returns-in_default-clause-opened : goal.returns-in_default-clause-opened
-returns-in_default-clause-opened g c = input_fails _ _ _ _ _ _ _ _ c.open_input.ensures.call.journal
+returns-in_default-clause-opened g c = input_fails _ _ _ _ _ _ _ _ _ _ c.open_input.ensures.call.journal
     (not_opened _ c.open_input.result _ _ c.in_default.not-Ok c.open_input.ensures.call c.open_input.ensures.plan)
 
 pub returns-in_err-open_output-clause-opened : goal.returns-in_err-open_output-clause-opened
 returns-in_err-open_output-clause-opened g c =
     let p = err_from_is_err_and c.from_residual.result c.from_residual.ensures.1 in
-    rw (p.1, p.2) (output_fails (told_by c.args.plan.command) _ _ _ c.in-Ok.end _ _ _ _ _ _ (record {
+    rw (p.1, p.2) (output_fails (told_by c.args.plan.command) _ _ _ c.args.heard c.in-Ok.end _ _ _ _ _ _ _ (record {
       opened = (c.open_input.ensures.call.opens, c.in-Ok.ensures.call.named);
       same = c.open_input.ensures.call.journal;
       bytes = c.open_input.ensures.call.keeps.bytes;
@@ -26,8 +26,8 @@ returns-in_err-open_output-clause-opened g c =
 pub returns-in_err-start-clause-opened : goal.returns-in_err-start-clause-opened
 returns-in_err-start-clause-opened g c =
     let p = err_from_is_err_and c.from_residual-in_err-start.result c.from_residual-in_err-start.ensures.1 in
-    rw (p.1, p.2) (load_fails (told_by c.args.plan.command) _ _ _ c.args.plan.names c.in-Ok.end _ _ _
-    (g.D.Site.state c.args.site.now) (g.D.Site.state c.open_output.new.site) (g.D.Site.state c.load.new.site) _ (record {
+    rw (p.1, p.2) (load_fails (told_by c.args.plan.command) _ _ _ c.args.heard c.args.plan.names c.in-Ok.end _ _ _
+    (g.D.Site.state c.args.site.now) (g.D.Site.state c.open_output.new.site) (g.D.Site.state c.load.new.site) _ _ (record {
       opened = (c.open_input.ensures.call.opens, c.in-Ok.ensures.call.named);
       same = c.open_input.ensures.call.journal;
       bytes = c.open_input.ensures.call.keeps.bytes;
@@ -50,8 +50,8 @@ returns-in_err-start-clause-draft g c =
 
 pub returns-then-not-places_fit-clause-opened : goal.returns-then-not-places_fit-clause-opened
 returns-then-not-places_fit-clause-opened g c =
-    place_fails (told_by c.args.plan.command) _ _ _ c.args.plan.names c.in-Ok.end c.in_ok-start.start _ _
-    (g.D.Site.state c.args.site.now) (g.D.Site.state c.open_output.new.site) (g.D.Site.state c.load.new.site) _ (record {
+    place_fails (told_by c.args.plan.command) _ _ _ c.args.heard c.args.plan.names c.in-Ok.end c.in_ok-start.start _ _
+    (g.D.Site.state c.args.site.now) (g.D.Site.state c.open_output.new.site) (g.D.Site.state c.load.new.site) _ _ (record {
       opened = (c.open_input.ensures.call.opens, c.in-Ok.ensures.call.named);
       same = c.open_input.ensures.call.journal;
       bytes = c.open_input.ensures.call.keeps.bytes;
@@ -68,9 +68,9 @@ returns-then-not-places_fit-clause-opened g c =
 
 pub returns-clause-opened : goal.returns-clause-opened
 returns-clause-opened g c =
-    run_goes (told_by c.args.plan.command) _ _ _ c.args.plan.names c.in-Ok.end c.in_ok-start.start _ _
+    run_goes (told_by c.args.plan.command) _ _ _ c.args.heard _ c.args.plan.names c.in-Ok.end c.in_ok-start.start _ _
     (g.S.Source.state c.open_input.new.self) _ (g.D.Site.state c.args.site.now) (g.D.Site.state c.open_output.new.site)
-    (g.D.Site.state c.load.new.site) _ _ _ (record {
+    (g.D.Site.state c.load.new.site) _ _ _ _ _ (record {
       opened = (c.open_input.ensures.call.opens, c.in-Ok.ensures.call.named);
       same = c.open_input.ensures.call.journal;
       bytes = c.open_input.ensures.call.keeps.bytes;
@@ -84,7 +84,7 @@ returns-clause-opened g c =
       keeps = c.open_output.ensures.keeps;
       loads = c.in_ok-start.ensures.loaded;
     }) (c.load.ensures.site.keeps.tells ∙ c.open_output.ensures.keeps.tells) (c.if-not-places_fit.ensures.fit refl)
-    c.run_tested.ensures.source (c.run_tested.ensures.ran c.args.plan.command.infile.now c.args.plan.command.outfile.now)
+    c.run_tested.ensures.source c.run_tested.ensures.ran
 
 pub returns-clause-source : goal.returns-clause-source
 returns-clause-source g c = keeps_more (g.S.Source.state c.args.source.now) (g.S.Source.state c.open_input.new.self)

@@ -7,22 +7,23 @@ use Rattle.ddrescue_cli.proofs.PromiseLemmas.{starved_kept, refused_kept, plan_k
 use Rattle.ddrescue_cli.proofs.rescue.work.Goals as goal
 
 pub returns-in-Err-NoMemory-clause-promise : goal.returns-in-Err-NoMemory-clause-promise
-returns-in-Err-NoMemory-clause-promise g c = λ now says. starved_kept _ _ _ _ _ _ c.requires says
+returns-in-Err-NoMemory-clause-promise g c = λ now heard says. starved_kept _ _ _ _ _ _ heard c.requires says
 
 pub returns-in-Err-Usage-clause-promise : goal.returns-in-Err-Usage-clause-promise
 returns-in-Err-Usage-clause-promise g c =
     let refused : IsErrorOf c.args.words.now (Usage c.in-Err-Usage.fault c.in-Err-Usage.quiet) =
     subst (λ (e : CommandError). IsErrorOf c.args.words.now e) c.in-Err-Usage.field-0-is c.in-Err-Usage.ensures.refused in
-    rw c.in-Err-Usage.fault-is
-    (λ now says. refused_kept _ c.in-Err-Usage.fault c.in-Err-Usage.quiet _ _ _ _ _ refused c.requires says)
+    rw (c.in-Err-Usage.fault-is, c.in-Err-Usage.quiet-is)
+    (λ now heard says. refused_kept _ c.in-Err-Usage.fault c.in-Err-Usage.quiet _ _ _ _ _ heard refused c.requires says)
 
 pub returns-in-Err-clause-promise : goal.returns-in-Err-clause-promise
-returns-in-Err-clause-promise g c = λ now says.
-    plan_kept _ _ _ _ _ _ _ (told_by c.in-Ok.command) c.in-Ok.ensures.asked c.in-Err.ensures.refused c.requires says
+returns-in-Err-clause-promise g c = λ now heard says.
+    plan_kept _ _ _ _ _ _ _ (told_by c.in-Ok.command) heard c.in-Ok.ensures.asked c.in-Err.ensures.refused c.requires says
 
 pub returns-in-Ok-rescue-clause-promise : goal.returns-in-Ok-rescue-clause-promise
-returns-in-Ok-rescue-clause-promise g c = λ now says.
-    work_kept _ (told_by c.in-Ok.command) (told_by c.in-Ok-make_plan.plan.command) c.in-Ok-make_plan.plan.heading.line c.in-Ok.ensures.asked
+returns-in-Ok-rescue-clause-promise g c = λ now heard says.
+    work_kept _ (told_by c.in-Ok.command) (told_by c.in-Ok-make_plan.plan.command) c.in-Ok-make_plan.plan.heading.line _ heard _
+    c.in-Ok.ensures.asked
     c.in-Ok-make_plan.ensures.command (ap (λ (h : HeadingLines). h.line) c.in-Ok-make_plan.ensures.heading)
     c.in-Ok-make_plan.ensures.different
     (record {
@@ -42,8 +43,9 @@ returns-in-Ok-rescue-clause-unopened g c = λ first second twice.
     absurd (named_apart c.args.words.now (told_by c.in-Ok.command) c.in-Ok.ensures.asked c.in-Ok-make_plan.ensures.different first second twice)
 
 pub returns-in-Err-rescue-clause-promise : goal.returns-in-Err-rescue-clause-promise
-returns-in-Err-rescue-clause-promise g c = λ now says.
-    work_kept _ (told_by c.in-Ok.command) (told_by c.in-Ok-make_plan.plan.command) c.in-Ok-make_plan.plan.heading.line c.in-Ok.ensures.asked
+returns-in-Err-rescue-clause-promise g c = λ now heard says.
+    work_kept _ (told_by c.in-Ok.command) (told_by c.in-Ok-make_plan.plan.command) c.in-Ok-make_plan.plan.heading.line _ heard _
+    c.in-Ok.ensures.asked
     c.in-Ok-make_plan.ensures.command (ap (λ (h : HeadingLines). h.line) c.in-Ok-make_plan.ensures.heading)
     c.in-Ok-make_plan.ensures.different
     (record {

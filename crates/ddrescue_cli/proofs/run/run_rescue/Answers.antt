@@ -4,13 +4,15 @@ use Rattle.ddrescue_cli.proofs.run.run_rescue.Goals as goal
 
 pub returns-in-Ok-clause-went : goal.returns-in-Ok-clause-went
 returns-in-Ok-clause-went g c =
-    run_end _ _ _ _ _ c.in-Ok.ensures.went c.in-Ok.ensures.behind c.run_phases.ensures.site.tells c.close.ensures.closes
+    run_end _ _ _ _ _ _ _ c.in-Ok.ensures.ends.goes.went c.in-Ok.ensures.behind c.in-Ok.ensures.ends.objects.site.tells c.close.ensures.closes
+    c.close.ensures.says
 
 pub returns-in-Ok-clause-site : goal.returns-in-Ok-clause-site
-returns-in-Ok-clause-site g c = keeps_more _ _ _ c.run_phases.ensures.site c.close.ensures.site
+returns-in-Ok-clause-site g c = keeps_more _ _ _ c.run_phases.ensures.ends.objects.site c.close.ensures.site
 
 pub returns-in-Err-clause-went : goal.returns-in-Err-clause-went
-returns-in-Err-clause-went g c = stopped_end _ _ _ _ _ _ c.in-Err.ensures.halted c.close-in-Err.ensures.closes
+returns-in-Err-clause-went g c =
+    stopped_end _ _ _ _ _ _ _ _ c.in-Err.ensures.ends.halted c.close-in-Err.ensures.closes c.close-in-Err.ensures.says
 
 pub returns-in-Err-clause-site : goal.returns-in-Err-clause-site
-returns-in-Err-clause-site g c = keeps_more _ _ _ c.run_phases.ensures.site c.close-in-Err.ensures.site
+returns-in-Err-clause-site g c = keeps_more _ _ _ c.run_phases.ensures.ends.objects.site c.close-in-Err.ensures.site

@@ -1,23 +1,14 @@
-use Rattle.std.proofs.Common.{arith}
-use Rattle.map_algebra.proofs.CountLemmas.{few, counted_piece, has_constant}
+use Rattle.std.proofs.Common.{◌≡◌, ℕ, [], ◌∷◌, length, ap, ◌∙◌}
+use Rattle.rescue_domain.specs.Parts.{covers}
+use Rattle.map_algebra.specs.Summary.{count_from, has_one}
+use Rattle.map_algebra.proofs.CountLemmas.{one_counted}
 use Rattle.map_algebra.proofs.summary.count_status.Goals as goal
 
-pub counted-count-requires-clause-bytes : goal.counted-count-requires-clause-bytes
-counted-count-requires-clause-bytes g c =
-    let k = few _ _ _ _ c.loop-at.invariant.so_far in
-    omega (arith, k.0, c.piece_at-piece.ensures.limit, c.end-end.ensures.short)
-
-pub counted-count-requires-clause-areas : goal.counted-count-requires-clause-areas
-counted-count-requires-clause-areas g c =
-    let k = few _ _ _ _ c.loop-at.invariant.so_far in
-    omega (arith, k.1, c.piece_at-piece.ensures.limit, c.end-end.ensures.short)
-
-pub loop-at-preserved : goal.loop-at-preserved
-loop-at-preserved g c =
-    let p = c.piece_at-piece.ensures in
-    let k = has_constant _ _ c.args.status _ _ _ _ p.inside p.status in
-    record {
-      so_far = counted_piece _ _ _ _ _ _ _ c.loop-at.invariant.so_far (rw (← c.has-counts.ensures) at k)
-          c.counted-count.ensures.bytes c.counted-count.ensures.areas;
-      below = p.limit;
-    }
+pub returns : goal.returns
+returns g c =
+    let domain = covers c.args.domain.now in
+    let map = g.T.Tiles.statuses c.args.tiles.now in
+    let set = has_one domain map (c.args.status ∷ []) in
+    let to_end : count_from set 0 c.end.result ≡ count_from set 0 (length map)
+    = ap (λ (n : ℕ). count_from set 0 n) c.end.ensures.end in
+    c.count_statuses.ensures ∙ to_end ∙ one_counted domain map c.args.status (length map)

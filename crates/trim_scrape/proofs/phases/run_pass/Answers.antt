@@ -1,8 +1,8 @@
-use Rattle.std.proofs.Common.{refl, sym, ◌∙◌, ap, subst}
+use Rattle.std.proofs.Common.{sym, ◌∙◌, ap, subst}
 use Rattle.std.proofs.lemmas.Result.{err_from_is_err_and}
 use Rattle.rescue_core.specs.RunState.{RunState}
-use Rattle.copy_passes.proofs.TurnLemmas.{source_stays}
-use Rattle.trim_scrape.proofs.GoingLemmas.{begins_next, goes_on_by_turn, turns_in, halts}
+use Rattle.copy_passes.proofs.TurnLemmas.{goes_on_by_turn, halts, objects_stay}
+use Rattle.trim_scrape.proofs.GoingLemmas.{begins_next, turns_in}
 use Rattle.trim_scrape.proofs.PassingLemmas.{IsInPass, begins_pass, goes_next, is_done}
 use Rattle.trim_scrape.proofs.phases.run_pass.Goals as goal
 
@@ -11,36 +11,46 @@ begin_pass-requires-clause-next g c = (goes_next _ _ _ c.requires.before c.requi
 
 pub turns-init : goal.turns-init
 turns-init g c = (
-  begins_next _ _ _ _ _ _ _ c.requires.before c.requires.there c.requires.places c.requires.input c.requires.image
+  begins_next _ _ _ _ _ _ _ _ c.requires.before c.requires.there c.requires.places c.requires.input c.requires.image
       c.requires.no_draft c.begin_pass.ensures,
   subst IsInPass (sym c.begin_pass.ensures) (begins_pass _ _ _ c.requires.before c.requires.there),
   ap (λ (r : RunState). r.phase) c.begin_pass.ensures,
   ap (λ (r : RunState). r.pass) c.begin_pass.ensures,
-  refl,
 )
 
 pub turns-smaller : goal.turns-smaller
 turns-smaller g c =
-    (turns_in _ _ _ _ _ _ _ _ _ _ c.turns.invariant.1 c.in-Some.ensures.some c.in_ok-turn.ensures.turned).less
+    (turns_in _ _ _ _ _ c.turns.invariant.1 c.in-Some.ensures.some c.in_ok-turn.ensures.turned).less
 
 pub turns-preserved : goal.turns-preserved
 turns-preserved g c =
-    let by = turns_in _ _ _ _ _ _ _ _ _ _ c.turns.invariant.1 c.in-Some.ensures.some c.in_ok-turn.ensures.turned in (
-      goes_on_by_turn _ _ _ _ _ _ _ _ _ _ _ _ _ _ c.turns.invariant.0 c.in-Some.ensures.some c.in_ok-turn.ensures.turned
-          c.turn.ensures.source c.turn.ensures.site c.turn.ensures.clock c.turn.ensures.image c.in_ok-turn.ensures.draft,
+    let by = turns_in _ _ _ _ _ c.turns.invariant.1 c.in-Some.ensures.some c.in_ok-turn.ensures.turned in (
+      goes_on_by_turn _ _ _ _ _ _ _ _ _ _ _ _ _ _ _ _ _ c.turns.invariant.0 c.in-Some.ensures.some
+          c.in_ok-turn.ensures.turned c.in_ok-turn.ensures.draft (record {
+            source = c.turn.ensures.source;
+            site = c.turn.ensures.site;
+            image = c.turn.ensures.image;
+            clock = c.turn.ensures.clock;
+          }),
       by.inside,
       by.phase ∙ c.turns.invariant.2,
       by.pass ∙ c.turns.invariant.3,
-      c.turn.ensures.console ∙ c.turns.invariant.4,
     )
 
-pub returns-in_err-turn-clause-halted : goal.returns-in_err-turn-clause-halted
-returns-in_err-turn-clause-halted g c =
+pub returns-in_err-turn-clause-ends : goal.returns-in_err-turn-clause-ends
+returns-in_err-turn-clause-ends g c =
     let p = err_from_is_err_and c.from_residual.result c.from_residual.ensures.1 in
-    rw (p.1, p.2) (halts _ _ _ _ _ _ _ _ _ _ _ _ _ _ c.turns.invariant.0 c.in-Some.ensures.some c.in_err-turn.ensures.halted)
+    rw (p.1, p.2) (record {
+      goes = tt;
+      halted = halts _ _ _ _ _ _ _ _ _ _ _ _ _ _ _ _ _ c.turns.invariant.0 c.in-Some.ensures.some
+          c.in_err-turn.ensures.halted c.in_err-turn.ensures.draft_left;
+      objects = objects_stay _ _ _ _ _ _ _ _ _ _ _ _ c.turns.invariant.0.objects (record {
+        source = c.turn.ensures.source;
+        site = c.turn.ensures.site;
+        image = c.turn.ensures.image;
+        clock = c.turn.ensures.clock;
+      });
+    })
 
 pub returns-clause-done : goal.returns-clause-done
 returns-clause-done g c = is_done _ _ c.turns.invariant.1 c.turns.invariant.2 c.in_default.ensures.none
-
-pub returns-in_err-turn-clause-source : goal.returns-in_err-turn-clause-source
-returns-in_err-turn-clause-source g c = source_stays _ _ _ c.turns.invariant.0.source c.turn.ensures.source

@@ -1,5 +1,5 @@
 use Rattle.std.proofs.Common.{◌≡◌}
-use Rattle.trim_scrape.specs.Passing.{GoesOn}
+use Rattle.copy_passes.specs.Turns.{GoesOn}
 use Rattle.trim_scrape.proofs.PassingLemmas.{IsInPass, left_of}
 use Rattle.trim_scrape.proofs.phases.run_pass.Given as goal
 
@@ -11,8 +11,9 @@ invariant-turns g l = GoesOn l.fn.rescue l.rescue (record {
   site' = g.D.Site.state l.site;
   clock = g.K.Clock.state l.fn.clock;
   clock' = g.K.Clock.state l.clock;
+  console = g.C.Console.state l.fn.console;
+  console' = g.C.Console.state l.console;
 }) × IsInPass l.rescue × (l.rescue.phase ≡ l.fn.phase) × (l.rescue.pass ≡ l.fn.pass)
-    × (g.C.Console.state l.console ≡ g.C.Console.state l.fn.console)
 
 abbrev pub decreases-turns : goal.decreases-turns
 decreases-turns g l = left_of l.rescue.phase l.rescue

@@ -1,6 +1,6 @@
-use Rattle.std.proofs.Common.{◌≡◌}
 use Rattle.rescue_rules.specs.declared.phase.Phase.TheVariants.{Retrying}
-use Rattle.trim_scrape.specs.Passing.{IsBefore, GoesOn}
+use Rattle.copy_passes.specs.Turns.{GoesOn}
+use Rattle.trim_scrape.specs.Passing.{IsBefore}
 use Rattle.trim_scrape.proofs.phases.run_retries.Given as goal
 
 abbrev pub invariant-passes : goal.invariant-passes
@@ -11,4 +11,6 @@ invariant-passes g l = GoesOn l.fn.rescue l.rescue (record {
   site' = g.D.Site.state l.site;
   clock = g.K.Clock.state l.fn.clock;
   clock' = g.K.Clock.state l.clock;
-}) × IsBefore Retrying l.pass l.rescue × (g.C.Console.state l.console ≡ g.C.Console.state l.fn.console)
+  console = g.C.Console.state l.fn.console;
+  console' = g.C.Console.state l.console;
+}) × IsBefore Retrying l.pass l.rescue

@@ -1,8 +1,7 @@
-use Rattle.copy_passes.proofs.TurnLemmas.{source_self, went_none}
+use Rattle.copy_passes.proofs.TurnLemmas.{begins}
 use Rattle.trim_scrape.proofs.phases.run_scraping.Goals as goal
 
-pub returns-then-settings-clause-went : goal.returns-then-settings-clause-went
-returns-then-settings-clause-went g c = rw c.end_scraping.ensures (went_none _ _ _ _)
-
-pub returns-then-settings-clause-source : goal.returns-then-settings-clause-source
-returns-then-settings-clause-source g c = source_self _
+pub returns-then-settings-clause-ends : goal.returns-then-settings-clause-ends
+returns-then-settings-clause-ends g c =
+    let goes = begins _ _ _ _ _ c.requires.places c.requires.input c.requires.image c.requires.no_draft in
+    rw c.end_scraping.ensures (record { goes = goes; halted = tt; objects = goes.objects })

@@ -1,11 +1,14 @@
-use Rattle.std.proofs.Common.{◌≡◌, ℕ, true, List, Option, subst}
+use Rattle.std.proofs.Common.{◌≡◌, ℕ, ◌+◌, true, List, Option, IfSome, subst}
+use Rattle.std.proofs.lemmas.Option.{IfSome_then}
 use Rattle.block_list.specs.declared.block.Run.{Run}
 use Rattle.save_resume.specs.MapNames.{MapNames}
 use Rattle.rescue_rules.specs.declared.phase.Phase.{Phase}
 use Rattle.rescue_rules.specs.declared.phase.Phase.TheVariants.{Trimming}
 use Rattle.rescue_rules.specs.Passes.{is_up, numbered}
+use Rattle.rescue_rules.specs.Machine.{IsRequest}
 use Rattle.rescue_core.specs.declared.settings.Settings.{Settings}
-use Rattle.rescue_core.specs.RunState.{RunState, run_at, setting_with}
+use Rattle.rescue_core.specs.RunState.{RunState, run_at, setting_with, setting_in}
+use Rattle.rescue_core.proofs.RequestLemmas.{stands}
 use Rattle.rescue_core.proofs.WantedLemmas.{led_clear}
 use Rattle.rescue_core.proofs.running.Running.next_request.Goals as goal
 
@@ -18,7 +21,7 @@ up_in settings domain names line phase pass is up =
 pub next_lead-requires : goal.next_lead-requires
 next_lead-requires g c =
     let i = c.self.inside in
-    let r : RunState = run_at i.settings i.domain i.names i.heading.line (g.T.Tiles.statuses i.tiles) i.phase i.place i.tally in
+    let r : RunState = run_at i.settings i.domain i.names i.heading.line (g.T.Tiles.statuses i.tiles) i.phase i.place i.tally i.heard in
     let phase = c.leads_up.ensures.phase c.if-leads_up.true in
     let up = c.leads_up.ensures.up c.if-leads_up.true in
     record {
@@ -29,3 +32,13 @@ next_lead-requires g c =
           c.self.invariant.0.led;
       short = c.self.invariant.0.short;
     }
+
+pub returns-else-leads_up-clause-some : goal.returns-else-leads_up-clause-some
+returns-else-leads_up-clause-some g c =
+    let i = c.self.inside in
+    let map = g.T.Tiles.statuses i.tiles in
+    let r : RunState = run_at i.settings i.domain i.names i.heading.line map i.phase i.place i.tally i.heard in
+    subst (λ (q : RunState). IfSome c.next_request.result (λ asked. IsRequest (setting_in q) q.machine asked.pos (asked.pos + asked.len)))
+    c.self.view_is
+    (IfSome_then c.next_request.result c.next_request.ensures.some (λ asked is. is i.names i.heading.line r.machine
+    (stands (setting_in r) map i.phase i.place i.tally c.self.invariant.0.pass)))

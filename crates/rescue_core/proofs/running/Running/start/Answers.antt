@@ -1,5 +1,6 @@
-use Rattle.std.proofs.Common.{length, sym, arith}
-use Rattle.rescue_core.proofs.BeginLemmas.{running_started}
+use Rattle.std.proofs.Common.{length, ap, sym}
+use Rattle.rescue_core.specs.declared.state.Tally.{Tally}
+use Rattle.rescue_core.proofs.BeginLemmas.{running_started, counted_started}
 use Rattle.rescue_core.proofs.running.Running.start.Goals as goal
 
 pub invariant_of-result : goal.invariant_of-result
@@ -7,8 +8,10 @@ invariant_of-result g c =
     let a = c.args in
     let place = c.first-place in (
       running_started a.settings a.domain a.names a.heading.line (g.T.Tiles.statuses a.tiles) a.loaded place.result c.first.result
-          (length c.in-Ok.buf.items) c.requires.sound c.requires.suits c.requires.short place.ensures.pass
+          a.heard (length a.buf.items) c.requires.sound c.requires.suits c.requires.short place.ensures.pass
           (place.ensures.cursor a.domain a.names a.heading.line (g.T.Tiles.statuses a.tiles) (sym c.end.ensures.end))
-          place.ensures.mode place.ensures.skip (omega (arith, c.in-Ok.buf.ok.0, c.in-Ok.ensures.len)),
+          place.ensures.mode place.ensures.skip c.requires.room,
       c.requires.program,
+      counted_started a.settings a.domain a.names a.heading.line (g.T.Tiles.statuses a.tiles) place.result c.first.result
+          a.heard c.counts_at_first-counts.result (ap (λ (t : Tally). t.over) c.first.ensures) c.counts_at_first-counts.ensures,
     )

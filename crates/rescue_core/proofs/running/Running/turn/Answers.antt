@@ -1,236 +1,35 @@
-use Rattle.std.proofs.Common.{◌∙◌, length, refl, ap, sym, subst, arith, rules}
-use Rattle.std.proofs.lemmas.Result.{err_from_is_err_and, IfOk-at_ok, IfErr-at_err}
-use Rattle.rescue_core.specs.declared.turn.Turn.{Turn}
-use Rattle.rescue_core.specs.RunState.{IsRunning}
-use Rattle.rescue_core.proofs.TurnedLemmas.{Parts, parts_of, parts_behind, run_of, begins_of, Does, begins_fits, marks_size, does_running, does_untimely, does_saved, does_unsaved, halts_same, room_same}
-use Rattle.faulty_source.proofs.Keeping.{stays_self}
+use Rattle.std.proofs.lemmas.Result.{err_from_is_err_and}
+use Rattle.save_resume.proofs.FillLemmas.{keeps_more}
+use Rattle.rescue_core.proofs.TurnEndLemmas.{says_turned, says_unsaved}
 use Rattle.rescue_core.proofs.running.Running.turn.Goals as goal
 
-pub gather-requires : goal.gather-requires
-gather-requires g c =
-    let begins = begins_of _ g.T.Tiles.statuses c.self.inside c.args.self.now c.args.request c.self.view_is c.self.invariant.0
-    c.requires.places c.requires.request in
-    let fits = begins_fits _ _ _ _ begins in
-    record {
-      sound = search rules;
-      some = fits.some;
-      fits = omega arith;
-      cluster = omega arith;
-      short = fits.short;
-      place = fits.place;
-      input = search rules;
-      image = search rules;
-    }
-
-pub returns-in_err-kept-clause-halted : goal.returns-in_err-kept-clause-halted
-returns-in_err-kept-clause-halted g c =
-    let p : Parts = parts_of _ g.T.Tiles.statuses c.self.inside in
+pub returns-in_err-turn-clause-halted : goal.returns-in_err-turn-clause-halted
+returns-in_err-turn-clause-halted g c =
     let stop = err_from_is_err_and c.from_residual.result c.from_residual.ensures.1 in
-    let halted = c.in_err-kept.ensures.halted (run_of p) refl in
-    rw (stop.1, stop.2)
-    (halts_same p c.args.self.now c.args.request _ (g.T.Tiles.statuses c.reserve.new.self) _ _ _ _ _ _ c.self.view_is
-    c.reserve.ensures.statuses halted)
-
-pub mark-met-requires-clause-within : goal.mark-met-requires-clause-within
-mark-met-requires-clause-within g c =
-    let begins = begins_of _ g.T.Tiles.statuses c.self.inside c.args.self.now c.args.request c.self.view_is c.self.invariant.0
-    c.requires.places c.requires.request in
-    let fits = begins_fits _ _ _ _ begins in
-    omega (arith, ap length c.reserve.ensures.statuses)
-
-pub overflow_add-end : goal.overflow_add-end
-overflow_add-end g c =
-    let begins = begins_of _ g.T.Tiles.statuses c.self.inside c.args.self.now c.args.request c.self.view_is c.self.invariant.0
-    c.requires.places c.requires.request in
-    let fits = begins_fits _ _ _ _ begins in
-    omega (arith, fits.short)
-
-pub place_behind-self-inside-requires-clause-given : goal.place_behind-self-inside-requires-clause-given
-place_behind-self-inside-requires-clause-given g c =
-    let p : Parts = parts_of _ g.T.Tiles.statuses c.self.inside in
-    let got = c.in_ok-kept.ensures.gathered in
-    omega (arith, ap (λ (turn : Turn). turn.given) (got.turn (run_of p) refl), got.is.few)
-
-pub place_behind-self-inside-requires-clause-within : goal.place_behind-self-inside-requires-clause-within
-place_behind-self-inside-requires-clause-within g c =
-    let p : Parts = parts_of _ g.T.Tiles.statuses c.self.inside in
-    let begins = begins_of _ g.T.Tiles.statuses c.self.inside c.args.self.now c.args.request c.self.view_is c.self.invariant.0
-    c.requires.places c.requires.request in
-    let fits = begins_fits _ _ _ _ begins in
-    let size = marks_size p c.args.self.now _ c.args.request c.in_ok-kept.field-0 (g.T.Tiles.statuses c.reserve.new.self)
-    (g.T.Tiles.statuses c.mark-met.new.tiles) _ _ _ _ _ _ begins c.in_ok-kept.ensures.gathered
-    c.reserve.ensures.statuses c.mark-met.ensures.map in
-    omega arith
-
-pub invariant_of-self-in-Err : goal.invariant_of-self-in-Err
-invariant_of-self-in-Err g c =
-    let p : Parts = parts_of _ g.T.Tiles.statuses c.self.inside in
-    let begins = begins_of _ g.T.Tiles.statuses c.self.inside c.args.self.now c.args.request c.self.view_is c.self.invariant.0
-    c.requires.places c.requires.request in
-    let does : Does p c.args.request c.in_ok-kept.field-0 c.save_now-saved.new.heading.line (g.T.Tiles.statuses c.mark-met.new.tiles)
-    c.place_behind-self-inside.result c.tally_behind-self-inside.result = record {
-      old = g.T.Tiles.statuses c.reserve.new.self;
-      old_is = c.reserve.ensures.statuses;
-      marks = c.mark-met.ensures.map;
-      end = c.mark-met.result;
-      meets = c.mark-met.ensures.end;
-      more = c.trims_on-more.result;
-      more_is = c.trims_on-more.ensures;
-      top = c.end.result;
-      top_is = c.end.ensures.end;
-      places = c.place_behind-self-inside.ensures;
-      shown = c.shown_at.result;
-      shown_is = c.shown_at.ensures;
-      tallies = c.tally_behind-self-inside.ensures;
-      line_is = c.save_now-saved.ensures.line;
-    } in
-    let running = does_running p c.args.self.now _ c.args.request c.in_ok-kept.field-0 _ _ _ _ _ _ _ _ _ _ begins c.in_ok-kept.ensures.gathered does in
-    let room = room_same c.self.inside.buf.len c.gather.new.buf _ c.self.inside.buf.items c.deref_mut.ensures.len
-    c.deref_mut.ensures.value c.gather.ensures.same in (
-      subst (λ n. IsRunning (run_of (parts_behind p c.save_now-saved.new.heading.line (g.T.Tiles.statuses c.mark-met.new.tiles)
-          c.place_behind-self-inside.result c.tally_behind-self-inside.result)) n) (sym room) running,
-      c.save_now-saved.ensures.program,
-    )
-
-pub invariant_of-self-in_default : goal.invariant_of-self-in_default
-invariant_of-self-in_default g c =
-    let p : Parts = parts_of _ g.T.Tiles.statuses c.self.inside in
-    let begins = begins_of _ g.T.Tiles.statuses c.self.inside c.args.self.now c.args.request c.self.view_is c.self.invariant.0
-    c.requires.places c.requires.request in
-    let does : Does p c.args.request c.in_ok-kept.field-0 c.save_now-saved.new.heading.line (g.T.Tiles.statuses c.mark-met.new.tiles)
-    c.place_behind-self-inside.result c.tally_behind-self-inside.result = record {
-      old = g.T.Tiles.statuses c.reserve.new.self;
-      old_is = c.reserve.ensures.statuses;
-      marks = c.mark-met.ensures.map;
-      end = c.mark-met.result;
-      meets = c.mark-met.ensures.end;
-      more = c.trims_on-more.result;
-      more_is = c.trims_on-more.ensures;
-      top = c.end.result;
-      top_is = c.end.ensures.end;
-      places = c.place_behind-self-inside.ensures;
-      shown = c.shown_at.result;
-      shown_is = c.shown_at.ensures;
-      tallies = c.tally_behind-self-inside.ensures;
-      line_is = c.save_now-saved.ensures.line;
-    } in
-    let running = does_running p c.args.self.now _ c.args.request c.in_ok-kept.field-0 _ _ _ _ _ _ _ _ _ _ begins c.in_ok-kept.ensures.gathered does in
-    let room = room_same c.self.inside.buf.len c.gather.new.buf _ c.self.inside.buf.items c.deref_mut.ensures.len
-    c.deref_mut.ensures.value c.gather.ensures.same in (
-      subst (λ n. IsRunning (run_of (parts_behind p c.save_now-saved.new.heading.line (g.T.Tiles.statuses c.mark-met.new.tiles)
-          c.place_behind-self-inside.result c.tally_behind-self-inside.result)) n) (sym room) running,
-      c.save_now-saved.ensures.program,
-    )
-
-pub invariant_of-self-else-due : goal.invariant_of-self-else-due
-invariant_of-self-else-due g c =
-    let p : Parts = parts_of _ g.T.Tiles.statuses c.self.inside in
-    let begins = begins_of _ g.T.Tiles.statuses c.self.inside c.args.self.now c.args.request c.self.view_is c.self.invariant.0
-    c.requires.places c.requires.request in
-    let does : Does p c.args.request c.in_ok-kept.field-0 c.self.inside.heading.line (g.T.Tiles.statuses c.mark-met.new.tiles)
-    c.place_behind-self-inside.result c.tally_behind-self-inside.result = record {
-      old = g.T.Tiles.statuses c.reserve.new.self;
-      old_is = c.reserve.ensures.statuses;
-      marks = c.mark-met.ensures.map;
-      end = c.mark-met.result;
-      meets = c.mark-met.ensures.end;
-      more = c.trims_on-more.result;
-      more_is = c.trims_on-more.ensures;
-      top = c.end.result;
-      top_is = c.end.ensures.end;
-      places = c.place_behind-self-inside.ensures;
-      shown = c.shown_at.result;
-      shown_is = c.shown_at.ensures;
-      tallies = c.tally_behind-self-inside.ensures;
-      line_is = refl;
-    } in
-    let running = does_running p c.args.self.now _ c.args.request c.in_ok-kept.field-0 _ _ _ _ _ _ _ _ _ _ begins c.in_ok-kept.ensures.gathered does in
-    let room = room_same c.self.inside.buf.len c.gather.new.buf _ c.self.inside.buf.items c.deref_mut.ensures.len
-    c.deref_mut.ensures.value c.gather.ensures.same in (
-      subst (λ n. IsRunning (run_of (parts_behind p c.self.inside.heading.line (g.T.Tiles.statuses c.mark-met.new.tiles)
-          c.place_behind-self-inside.result c.tally_behind-self-inside.result)) n) (sym room) running,
-      c.self.invariant.1,
-    )
-
-pub returns-else-due-clause-turned : goal.returns-else-due-clause-turned
-returns-else-due-clause-turned g c =
-    let p : Parts = parts_of _ g.T.Tiles.statuses c.self.inside in
-    let begins = begins_of _ g.T.Tiles.statuses c.self.inside c.args.self.now c.args.request c.self.view_is c.self.invariant.0
-    c.requires.places c.requires.request in
-    let does : Does p c.args.request c.in_ok-kept.field-0 c.self.inside.heading.line (g.T.Tiles.statuses c.mark-met.new.tiles)
-    c.place_behind-self-inside.result c.tally_behind-self-inside.result = record {
-      old = g.T.Tiles.statuses c.reserve.new.self;
-      old_is = c.reserve.ensures.statuses;
-      marks = c.mark-met.ensures.map;
-      end = c.mark-met.result;
-      meets = c.mark-met.ensures.end;
-      more = c.trims_on-more.result;
-      more_is = c.trims_on-more.ensures;
-      top = c.end.result;
-      top_is = c.end.ensures.end;
-      places = c.place_behind-self-inside.ensures;
-      shown = c.shown_at.result;
-      shown_is = c.shown_at.ensures;
-      tallies = c.tally_behind-self-inside.ensures;
-      line_is = refl;
-    } in
-    let timely = sym (c.is_due-due.ensures (run_of p).machine c.in_ok-kept.ensures.gathered.event refl
-    c.in_ok-kept.ensures.gathered.after) ∙ c.if-due.false in
-    does_untimely p c.args.self.now _ c.args.request c.in_ok-kept.field-0 _ _ _ _ _ _ _ _ _ _ begins c.in_ok-kept.ensures.gathered does timely
-
-pub returns-in_default-clause-turned : goal.returns-in_default-clause-turned
-returns-in_default-clause-turned g c =
-    let p : Parts = parts_of _ g.T.Tiles.statuses c.self.inside in
-    let begins = begins_of _ g.T.Tiles.statuses c.self.inside c.args.self.now c.args.request c.self.view_is c.self.invariant.0
-    c.requires.places c.requires.request in
-    let does : Does p c.args.request c.in_ok-kept.field-0 c.save_now-saved.new.heading.line (g.T.Tiles.statuses c.mark-met.new.tiles)
-    c.place_behind-self-inside.result c.tally_behind-self-inside.result = record {
-      old = g.T.Tiles.statuses c.reserve.new.self;
-      old_is = c.reserve.ensures.statuses;
-      marks = c.mark-met.ensures.map;
-      end = c.mark-met.result;
-      meets = c.mark-met.ensures.end;
-      more = c.trims_on-more.result;
-      more_is = c.trims_on-more.ensures;
-      top = c.end.result;
-      top_is = c.end.ensures.end;
-      places = c.place_behind-self-inside.ensures;
-      shown = c.shown_at.result;
-      shown_is = c.shown_at.ensures;
-      tallies = c.tally_behind-self-inside.ensures;
-      line_is = c.save_now-saved.ensures.line;
-    } in
-    let timely = sym (c.is_due-due.ensures (run_of p).machine c.in_ok-kept.ensures.gathered.event refl
-    c.in_ok-kept.ensures.gathered.after) ∙ c.if-due.true in
-    does_saved p c.args.self.now _ c.args.request c.in_ok-kept.field-0 _ _ _ _ _ _ _ _ _ _ begins c.in_ok-kept.ensures.gathered does _ timely c.gather.ensures.site.keeps
-    (IfOk-at_ok _ c.in_default.is c.save_now-saved.ensures.call.made)
+    rw (stop.1, stop.2) (c.in_err-turn.ensures.halted (g.C.Console.state c.args.console.now))
 
 pub returns-in-Err-clause-halted : goal.returns-in-Err-clause-halted
 returns-in-Err-clause-halted g c =
-    let p : Parts = parts_of _ g.T.Tiles.statuses c.self.inside in
-    let begins = begins_of _ g.T.Tiles.statuses c.self.inside c.args.self.now c.args.request c.self.view_is c.self.invariant.0
-    c.requires.places c.requires.request in
-    let does : Does p c.args.request c.in_ok-kept.field-0 c.save_now-saved.new.heading.line (g.T.Tiles.statuses c.mark-met.new.tiles)
-    c.place_behind-self-inside.result c.tally_behind-self-inside.result = record {
-      old = g.T.Tiles.statuses c.reserve.new.self;
-      old_is = c.reserve.ensures.statuses;
-      marks = c.mark-met.ensures.map;
-      end = c.mark-met.result;
-      meets = c.mark-met.ensures.end;
-      more = c.trims_on-more.result;
-      more_is = c.trims_on-more.ensures;
-      top = c.end.result;
-      top_is = c.end.ensures.end;
-      places = c.place_behind-self-inside.ensures;
-      shown = c.shown_at.result;
-      shown_is = c.shown_at.ensures;
-      tallies = c.tally_behind-self-inside.ensures;
-      line_is = c.save_now-saved.ensures.line;
-    } in
-    let timely = sym (c.is_due-due.ensures (run_of p).machine c.in_ok-kept.ensures.gathered.event refl
-    c.in_ok-kept.ensures.gathered.after) ∙ c.if-due.true in
-    does_unsaved p c.args.self.now _ c.args.request c.in_ok-kept.field-0 _ _ _ _ _ _ _ _ _ _ begins c.in_ok-kept.ensures.gathered does _ _ timely c.gather.ensures.site.keeps
-    (IfErr-at_err _ c.in-Err.is c.save_now-saved.ensures.call.named) (IfErr-at_err _ c.in-Err.is c.save_now-saved.ensures.call.broke)
+    says_unsaved c.args.request c.in_ok-turn.field-0 c.args.self.now c.advance.new.self c.say_due.new.self
+    c.save_due.new.self _ (g.D.Site.state c.advance.new.site) _ (record {
+      advances = c.in_ok-turn.ensures.advanced;
+      keeps = c.advance.ensures.site.keeps;
+      stands = c.say_due.ensures.stands;
+      says = c.say_due.ensures.says;
+    }) c.save_due.ensures.stands c.in-Err.ensures.call.named c.in-Err.ensures.call.broke
 
-pub returns-then-is_err-clause-source : goal.returns-then-is_err-clause-source
-returns-then-is_err-clause-source g c = stays_self _
+pub returns-clause-turned : goal.returns-clause-turned
+returns-clause-turned g c =
+    says_turned c.args.request c.in_ok-turn.field-0 c.args.self.now c.advance.new.self c.say_due.new.self
+    c.save_due.new.self _ (g.D.Site.state c.advance.new.site) (record {
+      advances = c.in_ok-turn.ensures.advanced;
+      keeps = c.advance.ensures.site.keeps;
+      stands = c.say_due.ensures.stands;
+      says = c.say_due.ensures.says;
+    }) c.save_due.ensures.stands c.in_default.ensures.call.made
+
+pub returns-in-Err-clause-site : goal.returns-in-Err-clause-site
+returns-in-Err-clause-site g c = keeps_more _ _ _ c.advance.ensures.site.keeps c.save_due.ensures.call.keeps
+
+pub returns-clause-site : goal.returns-clause-site
+returns-clause-site g c = keeps_more _ _ _ c.advance.ensures.site.keeps c.save_due.ensures.call.keeps

@@ -1,0 +1,99 @@
+-- A turn behind its marks: what is said and saved then.
+use Rattle.std.proofs.Common.{◌≡◌, Bool, true, false, if◌then◌else◌, List, [], ◌∷◌, is_some, refl, sym, ap, subst, ◌∙◌}
+use Rattle.crash_site.specs.declared.site.SiteCall.{SiteCall}
+use Rattle.crash_site.specs.Calls.{Call}
+use Rattle.crash_site.specs.SiteState.{SiteState, Keeps, Makes, Breaks}
+use Rattle.save_resume.specs.Saving.{save_calls, IsNameIn}
+use Rattle.rescue_console.specs.ConsoleState.{ConsoleState}
+use Rattle.rescue_console.specs.Speaking.{SpeaksOn, out_pieces}
+use Rattle.transfer_token.specs.declared.token.Request.{Request}
+use Rattle.rescue_rules.specs.declared.stop.Stop.TheVariants.{Site}
+use Rattle.rescue_rules.specs.Step.{Event, is_timely}
+use Rattle.rescue_rules.specs.Snapshots.{text_of, snapshot_of}
+use Rattle.rescue_rules.specs.RunCalls.{write_calls}
+use Rattle.rescue_rules.specs.Lines.{phase_front, report_of, report_text}
+use Rattle.rescue_core.specs.declared.turn.Advanced.{Advanced}
+use Rattle.rescue_core.specs.Across.{Across}
+use Rattle.rescue_core.specs.RunState.{RunState, names_in, setting_in}
+use Rattle.rescue_core.specs.Turning.{stepped, move_pieces, Turned, Halted, Unsaved}
+use Rattle.rescue_core.specs.TurnParts.{Advances}
+use Rattle.rescue_core.proofs.TurnCallLemmas.{save_if, timely_due, save_named, move_makes, timely_breaks, timely_rose}
+
+-- who says nothing is heard as before
+pub says_none : (heard : Bool) (console : ConsoleState) → SpeaksOn [] heard heard console console
+says_none true console = (refl, refl)
+says_none false console = (refl, refl)
+
+-- the line of a run, if it is due, is said by one who is heard so far or not
+abbrev pub SaysOf : RunState → (due heard heard' : Bool) → (console console' : ConsoleState) → Type 0
+SaysOf r due heard heard' console console' =
+    SpeaksOn (out_pieces (if due then report_text (phase_front r.machine.shown) (report_of (setting_in r) r.machine) ∷ []
+    else [])) heard heard' console console'
+
+-- A turn up to its marks, between these two states, behind which the line that is due was said, and the run was heard
+-- or not.
+pub record Says (request : Request) (got : Advanced) (r r1 r2 : RunState) (o : Across) (site1 : SiteState) : Type 0 where
+  pub advances : Advances request got r r1 o.source o.source' o.site site1 o.clock o.clock'
+  pub keeps : Keeps o.site site1
+  pub stands : r2 ≡ record r1 { heard = r2.heard }
+  pub says : SaysOf r1 got.speaks r1.heard r2.heard o.console o.console'
+
+says_step : (request : Request) (got : Advanced) (r r1 r2 : RunState) (o : Across) (site1 : SiteState)
+    → (w : Says request got r r1 r2 o site1) → r2 ≡ stepped r w.advances.event r2.heard
+says_step request got r r1 r2 o site1 w =
+    w.stands ∙ ap (λ (q : RunState). record q { heard = r2.heard }) w.advances.steps
+
+says_line : (request : Request) (got : Advanced) (r r1 r2 : RunState) (o : Across) (site1 : SiteState)
+    → (w : Says request got r r1 r2 o site1)
+    → SpeaksOn (move_pieces r w.advances.event) r.heard r2.heard o.console o.console'
+says_line request got r r1 r2 o site1 w =
+    let e : Event = w.advances.event in
+    subst (λ (due : Bool). SaysOf (stepped r e r.heard) due r.heard r2.heard o.console o.console') w.advances.speaks
+    (subst (λ (q : RunState). SaysOf q got.speaks q.heard r2.heard o.console o.console') w.advances.steps w.says)
+
+-- the save that is due then
+save_is : (request : Request) (got : Advanced) (r r1 r2 : RunState) (o : Across) (site1 : SiteState)
+    → (w : Says request got r r1 r2 o site1)
+    → save_if r2 got.saves ≡ save_if (stepped r w.advances.event r2.heard) (is_timely r.machine w.advances.event)
+save_is request got r r1 r2 o site1 w =
+    ap (save_if r2) w.advances.saves
+    ∙ ap (λ (q : RunState). save_if q (is_timely r.machine w.advances.event)) (says_step request got r r1 r2 o site1 w)
+
+-- With that save it is whole,
+pub says_turned : (request : Request) (got : Advanced) (r r1 r2 r3 : RunState) (o : Across) (site1 : SiteState)
+    → Says request got r r1 r2 o site1 → r3 ≡ r2 → Makes (save_if r2 got.saves) site1 o.site'
+    → Turned request got.turn r r3 o
+says_turned request got r r1 r2 r3 o site1 w is saves =
+    let e : Event = w.advances.event in
+    subst (λ (q : RunState). Turned request got.turn r q o) (sym is) (record {
+      event = e;
+      is = w.advances.is;
+      answers = w.advances.answers;
+      steps = says_step request got r r1 r2 o site1 w;
+      calls = move_makes r e r2.heard o.site site1 o.site' w.keeps w.advances.writes
+          (subst (λ (cs : List Call). Makes cs site1 o.site') (save_is request got r r1 r2 o site1 w) saves);
+      says = says_line request got r r1 r2 o site1 w;
+    })
+
+-- and where a call of the save fails, it stops there.
+pub says_unsaved : (request : Request) (got : Advanced) (r r1 r2 r3 : RunState) (o : Across) (site1 : SiteState)
+    (call : SiteCall) → Says request got r r1 r2 o site1 → r3 ≡ r2 → IsNameIn call (save_if r2 got.saves)
+    → Breaks call (save_if r2 got.saves) site1 o.site' → Halted request (Site call) r r3 o
+says_unsaved request got r r1 r2 r3 o site1 call w is named broke =
+    let e : Event = w.advances.event in
+    let where_due : (got.saves ≡ true) × (is_some r2.names ≡ true) = save_named r2 got.saves call named in
+    let step : r2 ≡ stepped r e r2.heard = says_step request got r r1 r2 o site1 w in
+    let there : is_some r.names ≡ true = ap (λ (q : RunState). is_some q.names) (sym step) ∙ where_due.1 in
+    let timely : is_timely r.machine e ≡ true = sym w.advances.saves ∙ where_due.0 in
+    let save : List Call = save_calls (names_in r.names) (text_of r.line (snapshot_of r2.machine)) in
+    let all : save_if r2 got.saves ≡ save
+    = ap (save_if r2) where_due.0
+    ∙ ap (λ (b : Bool). if b then save_calls (names_in r2.names) (text_of r2.line (snapshot_of r2.machine)) else []) where_due.1
+    ∙ ap (λ (q : RunState). save_calls (names_in q.names) (text_of q.line (snapshot_of r2.machine))) step in
+    subst (λ (q : RunState). Halted request (Site call) r q o) (sym is)
+    (Unsaved call refl e w.advances.is step (timely_due r e there timely)
+    (subst (λ (cs : List Call). IsNameIn call cs) all named)
+    (timely_breaks call (write_calls (setting_in r) e.reading) save o.site site1 o.site' w.keeps w.advances.writes
+    (subst (λ (cs : List Call). Breaks call cs site1 o.site') all broke))
+    (timely_rose (write_calls (setting_in r) e.reading) o.site site1 o.site'.faults w.advances.writes broke.rose)
+    (says_line request got r r1 r2 o site1 w))

@@ -1,0 +1,9 @@
+use Rattle.std.proofs.Common.{subst}
+use Rattle.rescue_console.specs.Speaking.{SpeaksOn}
+use Rattle.rescue_core.specs.Closing.{StoppedState, last_pieces}
+use Rattle.rescue_core.proofs.phases.Stopped.close.Goals as goal
+
+pub returns-clause-says : goal.returns-clause-says
+returns-clause-says g c =
+    subst (λ (s : StoppedState). SpeaksOn (last_pieces s.run c.close.result.end) s.run.heard c.close.result.heard
+    (g.C.Console.state c.args.console.now) (g.C.Console.state c.close.new.console)) c.self.view_is c.close.ensures.says

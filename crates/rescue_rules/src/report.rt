@@ -1,0 +1,32 @@
+use block_list::areas::Count;
+use mapfile_text::state::{Current, MapState};
+
+/// How much of a domain is finished, and how much of it failed.
+#[derive(Clone, Copy, Debug, PartialEq, Eq)]
+pub struct Counts {
+    /// In bytes.
+    pub rescued: u64,
+    pub failed: Count,
+}
+
+/// The line that was said last behind an event: in which phase, and in which second.
+#[derive(Clone, Copy, Debug, PartialEq, Eq)]
+pub struct Said {
+    pub current: Current,
+    /// In whole seconds since 1970.
+    pub second: u64,
+}
+
+/// What a line tells.
+#[derive(Clone, Copy, Debug, PartialEq, Eq)]
+pub struct Report {
+    /// Where a mapfile would show that the run stands.
+    pub shown: MapState,
+    pub counts: Counts,
+    /// How many reads failed.
+    pub errors: u64,
+    /// How long the run has taken, in milliseconds.
+    pub taken: u64,
+    /// How many bytes it has written.
+    pub written: u64,
+}
