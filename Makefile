@@ -1,12 +1,17 @@
 # The usual ways into the repository: `make` proves and builds the programs, `make bin/ddrescue`, `make bin/ddrescuelog`
 # and `make bin/ddrescuepart` one of them, `make scenes` the player of transcripts, and `make check` runs the gate.
+# `make install` puts programs, man pages and completions of bash and zsh in place, and `make uninstall` takes them away.
 PREFIX ?= /usr/local
 SOURCES := crates.txt $(shell find crates -path '*/out' -prune -o -type f -print)
-MANUAL := $(DESTDIR)$(PREFIX)/share/man/man1
+PROGRAMS := ddrescue ddrescuelog ddrescuepart
+SHARE := $(DESTDIR)$(PREFIX)/share
+MANUAL := $(SHARE)/man/man1
+BASH := $(SHARE)/bash-completion/completions
+ZSH := $(SHARE)/zsh/site-functions
 
-.PHONY: all scenes check install clean
+.PHONY: all scenes check install uninstall clean
 
-all: bin/ddrescue bin/ddrescuelog bin/ddrescuepart
+all: $(PROGRAMS:%=bin/%)
 
 scenes: bin/rescue_scenes
 
@@ -38,13 +43,18 @@ bin/rescue_scenes: $(SOURCES)
 check:
 	bash .ci/run
 
-install: bin/ddrescue bin/ddrescuelog bin/ddrescuepart
-	install -D bin/ddrescue $(DESTDIR)$(PREFIX)/bin/ddrescue
-	install -D bin/ddrescuelog $(DESTDIR)$(PREFIX)/bin/ddrescuelog
-	install -D bin/ddrescuepart $(DESTDIR)$(PREFIX)/bin/ddrescuepart
-	install -D -m 644 man/ddrescue.1 $(MANUAL)/ddrescue.1
-	install -D -m 644 man/ddrescuelog.1 $(MANUAL)/ddrescuelog.1
-	install -D -m 644 man/ddrescuepart.1 $(MANUAL)/ddrescuepart.1
+install: $(PROGRAMS:%=bin/%)
+	for name in $(PROGRAMS); do \
+	    install -D bin/$$name $(DESTDIR)$(PREFIX)/bin/$$name && \
+	    install -D -m 644 man/$$name.1 $(MANUAL)/$$name.1 && \
+	    install -D -m 644 completions/bash/$$name $(BASH)/$$name && \
+	    install -D -m 644 completions/zsh/_$$name $(ZSH)/_$$name || exit 1; \
+	done
+
+uninstall:
+	for name in $(PROGRAMS); do \
+	    rm -f $(DESTDIR)$(PREFIX)/bin/$$name $(MANUAL)/$$name.1 $(BASH)/$$name $(ZSH)/_$$name; \
+	done
 
 clean:
 	rm -rf bin crates/*/out

@@ -1,10 +1,13 @@
 -- States that are alike, and runs from them.
-use Rattle.std.proofs.Common.{◌≡◌, List, [], ◌∷◌, ◌++◌, All, refl, sym, ap, subst, ◌∙◌}
+use Rattle.std.proofs.Common.{◌≡◌, ℕ, Option, List, [], ◌∷◌, ◌++◌, All, refl, sym, ap, subst, ◌∙◌}
 use Rattle.std.specs.List.{flat_map}
 use Rattle.std.proofs.lemmas.Grind.{flat_map-append}
 use Rattle.rescue_rules.specs.Setting.{Setting}
 use Rattle.rescue_rules.specs.Machine.{Machine}
-use Rattle.rescue_rules.specs.Step.{Event, step}
+use Rattle.block_list.specs.declared.status.Status.{Status}
+use Rattle.rescue_rules.specs.declared.report.Said.{Said}
+use Rattle.rescue_rules.specs.declared.stop.Limit.{Limit}
+use Rattle.rescue_rules.specs.Step.{Event, limit_met, step}
 use Rattle.rescue_rules.specs.Moves.{Move, begun, ready, moves, state_after, IsMove, IsRun}
 use Rattle.rescue_rules.specs.RunCalls.{move_calls, run_calls}
 use Rattle.rescue_rules.specs.Lines.{move_lines, run_lines}
@@ -29,8 +32,30 @@ alike_by s m n same =
       over = sym b.over ∙ ap (λ (k : Machine). k.over) same ∙ a.over;
       written = sym b.written ∙ ap (λ (k : Machine). k.written) same ∙ a.written;
       said = sym b.said ∙ ap (λ (k : Machine). k.said) same ∙ a.said;
+      first_areas = sym b.first_areas ∙ ap (λ (k : Machine). k.first_areas) same ∙ a.first_areas;
       next = same;
     }
+
+-- they have met the same limit
+pub limit_alike : (s : Setting) (m n : Machine) → IsAlike s m n → limit_met s n ≡ limit_met s m
+limit_alike s m n alike =
+    let L : List Status → Option ℕ → Option Said → (failed first_areas now whole_at : ℕ) → Option Limit =
+    λ map over said failed first_areas now whole_at. limit_met s (record m {
+      map = map;
+      over = over;
+      said = said;
+      failed = failed;
+      first_areas = first_areas;
+      now = now;
+      whole_at = whole_at;
+    }) in
+    ap (λ (v : List Status). L v n.over n.said n.failed n.first_areas n.now n.whole_at) alike.map
+    ∙ ap (λ (v : Option ℕ). L m.map v n.said n.failed n.first_areas n.now n.whole_at) alike.over
+    ∙ ap (λ (v : Option Said). L m.map m.over v n.failed n.first_areas n.now n.whole_at) alike.said
+    ∙ ap (λ (v : ℕ). L m.map m.over m.said v n.first_areas n.now n.whole_at) alike.failed
+    ∙ ap (λ (v : ℕ). L m.map m.over m.said m.failed v n.now n.whole_at) alike.first_areas
+    ∙ ap (λ (v : ℕ). L m.map m.over m.said m.failed m.first_areas v n.whole_at) alike.now
+    ∙ ap (L m.map m.over m.said m.failed m.first_areas m.now) alike.whole_at
 
 -- what an event makes of the state that is ready for it
 abbrev moved : Setting → Event → Machine → Move

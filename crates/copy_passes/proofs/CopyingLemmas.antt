@@ -1,5 +1,5 @@
 -- A run between turns of copying stays so in a turn, and in its next pass.
-use Rattle.std.proofs.Common.{◌≡◌, ◌⊎◌, ℕ, suc, ◌+◌, ◌-◌, ◌<◌, ◌≤◌, min, Bool, true, false, ◌&&◌, nat_le, nat_lt, if◌then◌else◌, List, ◌∷◌, ◌++◌, length, map, drop, Some, refl, sym, ap, ◌∙◌, arith, subst, ⊎_elim, get_or}
+use Rattle.std.proofs.Common.{◌≡◌, ◌⊎◌, ℕ, suc, ◌+◌, ◌-◌, ◌<◌, ◌≤◌, min, Bool, true, false, ◌&&◌, nat_le, nat_lt, if◌then◌else◌, List, ◌∷◌, ◌++◌, length, map, drop, Some, None, refl, sym, ap, ◌∙◌, arith, subst, ⊎_elim, get_or}
 use Rattle.std.specs.List.{slice_get, slice_index_or, range_with_len}
 use Rattle.std.proofs.lemmas.Bool.{cond-false, and_from, leb-true, ltb-true, le-leb, lt-ltb}
 use Rattle.std.proofs.lemmas.List.Folds.{list_any_at}
@@ -12,7 +12,7 @@ use Rattle.rescue_rules.specs.declared.phase.Phase.TheVariants.{Copying}
 use Rattle.rescue_rules.specs.Setting.{Setting}
 use Rattle.rescue_rules.specs.Passes.{Pass, taken, is_up, numbered, copying_passes, passes_behind, passes_from}
 use Rattle.rescue_rules.specs.Machine.{Machine, pass_of, start_of, has_taken, is_live, is_wanted, IsWanted, Search, search_in, search_of, IsNextRun, cut_start, cut_end, is_ahead, IsRequest, has_request}
-use Rattle.rescue_rules.specs.Step.{Event, trims, is_copying, is_trimming, is_slow, is_jump, reach, cursor_after, step}
+use Rattle.rescue_rules.specs.Step.{Event, trims, is_copying, is_trimming, is_slow, is_jump, reach, cursor_after, limit_met, step}
 use Rattle.rescue_rules.specs.MachineLaws.{StepsBy}
 use Rattle.rescue_rules.proofs.OverLemmas.{live_was, wanted_live, wanted_before}
 use Rattle.rescue_rules.proofs.ReadyLemmas.{order_lead}
@@ -244,8 +244,9 @@ pub record CopyStep (r : RunState) (e : Event) (heard : Bool) : Type 0 where
 
 pub copy_steps : (r : RunState) (e : Event) (heard : Bool) → IsCopying r
     → IsRequest (setting_in r) r.machine e.reading.pos (e.reading.pos + e.reading.asked)
-    → length e.reading.given ≤ e.reading.asked → CopyStep r e heard
-copy_steps r e heard c asks few =
+    → length e.reading.given ≤ e.reading.asked → limit_met (setting_in r) (stepped r e heard).machine ≡ None
+    → CopyStep r e heard
+copy_steps r e heard c asks few within =
     let s : Setting = setting_in r in
     let m : Machine = r.machine in
     let p : ℕ = e.reading.pos in
@@ -258,6 +259,7 @@ copy_steps r e heard c asks few =
           (top_within m) (omega (arith, top_within (step s m e), by.size)) (cursor_is r e c);
       copying = record {
         sensible = c.sensible;
+        within = within;
         phase = c.phase;
         few = c.few;
         passes = c.passes;
@@ -317,6 +319,7 @@ copying_passed r c few =
     ap (λ (ps : List Pass). slice_get ps 1) (two_of s r.pass few).1 in
     record {
       sensible = c.sensible;
+      within = c.within;
       phase = refl;
       few = omega (arith, few);
       passes = ap (λ (ps : List Pass). p ∷ drop 2 ps) c.passes ∙ sym (next_passes s Copying r.pass p second);

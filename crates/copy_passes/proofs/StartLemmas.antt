@@ -39,6 +39,7 @@ start_may_copy settings domain names line map loaded moment heard sound suits =
         from = suits.from;
         retries = sound.retries;
       };
+      within = refl;
       phase = refl;
       few = few_passes loaded;
       passes = refl;
@@ -50,6 +51,7 @@ start_may_copy settings domain names line map loaded moment heard sound suits =
 pub shown_may_copy : ShownMayCopy
 shown_may_copy r state c = record {
   sensible = c.sensible;
+  within = c.within;
   phase = c.phase;
   few = c.few;
   passes = c.passes;

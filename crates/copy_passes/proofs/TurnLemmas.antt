@@ -1,5 +1,5 @@
 -- Turns of copying, one after another, and one that stops.
-use Rattle.std.proofs.Common.{◌≡◌, ℕ, ◌+◌, ◌<◌, ◌≤◌, ◌^◌, Bool, true, false, IsTrue, List, [], ◌∷◌, ◌++◌, length, drop, All, refl, sym, ap, ◌∙◌, arith, subst, append_assoc, append-nil}
+use Rattle.std.proofs.Common.{◌≡◌, ℕ, ◌+◌, ◌<◌, ◌≤◌, ◌^◌, Bool, true, false, IsTrue, List, [], ◌∷◌, ◌++◌, length, drop, All, None, refl, sym, ap, ◌∙◌, arith, subst, append_assoc, append-nil}
 use Rattle.std.specs.List.{slice_range}
 use Rattle.std.proofs.lemmas.List.{map-append}
 use Rattle.std.proofs.lemmas.List.Elements.{All-nil, All-cons, All-append}
@@ -22,7 +22,7 @@ use Rattle.rescue_rules.specs.declared.stop.Stop.{Stop}
 use Rattle.rescue_rules.specs.Setting.{Setting}
 use Rattle.rescue_rules.specs.Passes.{Pass, numbered, copying_passes}
 use Rattle.rescue_rules.specs.Machine.{Machine, IsRequest, has_request}
-use Rattle.rescue_rules.specs.Step.{Event, step}
+use Rattle.rescue_rules.specs.Step.{Event, limit_met, step}
 use Rattle.rescue_rules.specs.Moves.{Move, move_of, ready, state_after, IsMove, IsRun}
 use Rattle.rescue_rules.specs.Events.{reads_of, times_of}
 use Rattle.rescue_rules.specs.RunCalls.{move_calls, run_calls}
@@ -35,7 +35,7 @@ use Rattle.rescue_domain.specs.Parts.{covers}
 use Rattle.rescue_core.specs.declared.turn.Turn.{Turn}
 use Rattle.rescue_core.specs.Across.{Across}
 use Rattle.rescue_core.specs.RunState.{RunState, setting_in, passed, HasPlaces}
-use Rattle.rescue_core.specs.Turning.{IsEvent, move_by, Turned, Halted}
+use Rattle.rescue_core.specs.Turning.{IsEvent, move_by, Turned, Halted, stepped, move_pieces}
 use Rattle.rescue_core.specs.Closing.{drafting_after}
 use Rattle.rescue_core.proofs.TurnEndLemmas.{says_none}
 use Rattle.copy_passes.specs.Turns.{IsFrom, IsAlike, moved_to, Went, WentUpTo, ObjectsStay, GoesOn}
@@ -117,8 +117,9 @@ pub record IsOneMove (r : RunState) (e : Event) : Type 0 where
   pub lines : run_lines (setting_in r) r.machine (e ∷ []) ≡ move_lines (setting_in r) (move_by r e)
 
 pub one_move : (r : RunState) (request : Request) (e : Event) (a a2 : SourceState) (k k2 : ClockState)
+    → limit_met (setting_in r) r.machine ≡ None
     → IsRequest (setting_in r) r.machine request.pos (request.pos + request.len) → IsEvent request e a a2 k k2 → IsOneMove r e
-one_move r request e a a2 k k2 asks is =
+one_move r request e a a2 k k2 within asks is =
     let s : Setting = setting_in r in
     let m : Machine = r.machine in
     let asks' : IsRequest s m e.reading.pos (e.reading.pos + e.reading.asked) = rw (is.pos, is.asked) asks in
@@ -126,7 +127,7 @@ one_move r request e a a2 k k2 asks is =
     let here : ready s m ≡ m = ready_here s m (request_seen s m e.reading.pos (e.reading.pos + e.reading.asked) asks') in
     let M : Machine → Move = λ n. record { before = n; event = e; after = step s n e } in
     let moved : move_of s m e ≡ move_by r e = ap M here in
-    let one : IsMove s (move_of s m e) = subst (λ (v : Move). IsMove s v) (sym moved) (record { request = asks'; few = few; within = refl }) in
+    let one : IsMove s (move_of s m e) = subst (λ (v : Move). IsMove s v) (sym moved) (record { request = asks'; few = few; within = within }) in
     record {
       asks = asks';
       few = few;
@@ -141,29 +142,36 @@ own_bytes : (request : Request) (e : Event) (a a2 : SourceState) (k k2 : ClockSt
 own_bytes request e a a2 k k2 is tells =
     is.right tells ∙ ap (λ (pos : ℕ). slice_range a.bytes pos (pos + length e.reading.given)) (sym is.pos)
 
--- one turn
-went_one : (r r2 : RunState) (request : Request) (turn : Turn) (o : Across)
-    → IsRequest (setting_in r) r.machine request.pos (request.pos + request.len) → Turned request turn r r2 o → Went r r2 o
-went_one r r2 request turn o asks t =
-    let e : Event = t.event in
+-- an event, with its calls and its line
+pub went_event : (r r2 : RunState) (request : Request) (e : Event) (o : Across) → limit_met (setting_in r) r.machine ≡ None
+    → IsRequest (setting_in r) r.machine request.pos (request.pos + request.len)
+    → IsEvent request e o.source o.source' o.clock o.clock' → r2 ≡ stepped r e r2.heard
+    → Makes (move_calls (setting_in r) (move_by r e)) o.site o.site'
+    → SpeaksOn (move_pieces r e) r.heard r2.heard o.console o.console' → Went r r2 o
+went_event r r2 request e o within asks is steps calls says =
     let s : Setting = setting_in r in
-    let one : IsOneMove r e = one_move r request e o.source o.source' o.clock o.clock' asks t.is in
+    let one : IsOneMove r e = one_move r request e o.source o.source' o.clock o.clock' within asks is in
     let small : ℕ → Type 0 = λ n. n < 2 ^ 64 in
     let from : Reading → Type 0 = IsFrom o.source.bytes in
     record {
       events = e ∷ [];
       run = one.run;
-      stands = subst (λ (q : RunState). q ≡ moved_to r q) (sym t.steps) refl;
-      state = subst (λ (q : RunState). IsAlike s (state_after s r.machine (e ∷ [])) q.machine) (sym t.steps) one.state;
-      read = t.is.read;
+      stands = subst (λ (q : RunState). q ≡ moved_to r q) (sym steps) refl;
+      state = subst (λ (q : RunState). IsAlike s (state_after s r.machine (e ∷ [])) q.machine) (sym steps) one.state;
+      read = is.read;
       right = λ tells. All-cons from e.reading []
-          (own_bytes request e o.source o.source' o.clock o.clock' t.is tells) (All-nil from);
-      timed = t.is.times;
-      fit = All-cons small e.before (e.after ∷ []) t.is.before (All-cons small e.after [] t.is.after (All-nil small));
-      made = subst (λ (cs : List Call). Makes cs o.site o.site') (sym one.calls) t.calls;
+          (own_bytes request e o.source o.source' o.clock o.clock' is tells) (All-nil from);
+      timed = is.times;
+      fit = All-cons small e.before (e.after ∷ []) is.before (All-cons small e.after [] is.after (All-nil small));
+      made = subst (λ (cs : List Call). Makes cs o.site o.site') (sym one.calls) calls;
       says = subst (λ (ls : List (List ℕ)). SpeaksOn (out_pieces ls) r.heard r2.heard o.console o.console') (sym one.lines)
-          t.says;
+          says;
     }
+
+-- one turn
+went_one : (r r2 : RunState) (request : Request) (turn : Turn) (o : Across) → limit_met (setting_in r) r.machine ≡ None
+    → IsRequest (setting_in r) r.machine request.pos (request.pos + request.len) → Turned request turn r r2 o → Went r r2 o
+went_one r r2 request turn o within asks t = went_event r r2 request t.event o within asks t.is t.steps t.calls t.says
 
 -- the setting of a run stands
 pub setting_stands : (r q : RunState) → q ≡ moved_to r q → setting_in q ≡ setting_in r
@@ -223,6 +231,7 @@ went_up_to_on stop r r1 r2 a b c d e f k l n x y z w stays tells_site u = record
       tells_site u.went;
   source = source_stays a b u.source_between stays u.source;
   site_tells = u.site_tells ∙ tells_site;
+  within = u.within;
   request = u.request;
   asks = u.asks;
   halted = u.halted;
@@ -264,13 +273,14 @@ goes_on r r1 r2 a b c d e f k l n x y z i j = record {
 -- by a turn,
 pub goes_on_by_turn : (r r1 r2 : RunState) (request : Request) (turn : Turn) (a b c : SourceState) (d e f : SiteState)
     (k l n : ClockState) (x y z : ConsoleState) → GoesOn r r1 (between a b d e k l x y)
+    → limit_met (setting_in r1) r1.machine ≡ None
     → IsRequest (setting_in r1) r1.machine request.pos (request.pos + request.len)
     → Turned request turn r1 r2 (between b c e f l n y z) → f.is_drafting ≡ false → ObjectsStay (between b c e f l n y z)
     → GoesOn r r2 (between a c d f k n x z)
-goes_on_by_turn r r1 r2 request turn a b c d e f k l n x y z i asks t no_draft objects =
+goes_on_by_turn r r1 r2 request turn a b c d e f k l n x y z i within asks t no_draft objects =
     goes_on r r1 r2 a b c d e f k l n x y z i (record {
       places = subst (λ (q : RunState). HasPlaces q.settings (covers q.domain)) (sym t.steps) i.places;
-      went = went_one r1 r2 request turn (between b c e f l n y z) asks t;
+      went = went_one r1 r2 request turn (between b c e f l n y z) within asks t;
       input = objects.source.input ∙ i.input;
       no_draft = no_draft;
       objects = objects;
@@ -310,10 +320,11 @@ goes_on_by_pass r r1 r2 o phase number first i spent are is =
 -- A turn stops.
 pub halts : (stop : Stop) (r r1 r2 : RunState) (request : Request) (a b c : SourceState) (d e f : SiteState)
     (k l n : ClockState) (x y z : ConsoleState) → GoesOn r r1 (between a b d e k l x y)
+    → limit_met (setting_in r1) r1.machine ≡ None
     → IsRequest (setting_in r1) r1.machine request.pos (request.pos + request.len)
     → Halted request stop r1 r2 (between b c e f l n y z) → f.is_drafting ≡ drafting_after stop
     → WentUpTo stop r r2 (between a c d f k n x z)
-halts stop r r1 r2 request a b c d e f k l n x y z i asks h draft = record {
+halts stop r r1 r2 request a b c d e f k l n x y z i within asks h draft = record {
   between = r1;
   source_between = b;
   site_between = e;
@@ -322,6 +333,7 @@ halts stop r r1 r2 request a b c d e f k l n x y z i asks h draft = record {
   went = i.went;
   source = i.objects.source;
   site_tells = i.objects.site.tells;
+  within = within;
   request = request;
   asks = asks;
   halted = h;
@@ -333,8 +345,10 @@ turn_step : (r r2 : RunState) (request : Request) (turn : Turn) (o : Across) →
     → IsRequest (setting_in r) r.machine request.pos (request.pos + request.len) → (t : Turned request turn r r2 o)
     → CopyStep r t.event r2.heard
 turn_step r r2 request turn o copying asks t =
-    let one : IsOneMove r t.event = one_move r request t.event o.source o.source' o.clock o.clock' asks t.is in
+    let one : IsOneMove r t.event =
+    one_move r request t.event o.source o.source' o.clock o.clock' copying.within asks t.is in
     copy_steps r t.event r2.heard copying one.asks one.few
+    (ap (λ (q : RunState). limit_met (setting_in r) q.machine) (sym t.steps) ∙ t.within)
 
 -- leaves less of the map ahead,
 pub less_ahead : (r r2 : RunState) (request : Request) (turn : Turn) (o : Across) → IsCopying r

@@ -1,5 +1,5 @@
 -- Whole turns of a run, by what the objects tell, and a turn that stopped behind them.
-use Rattle.std.specs.Prelude.{◌≡◌, ℕ, ◌+◌, true, false, IsTrue, List, length, slice_range, All, Result, IfOk, IfErr, OnOk}
+use Rattle.std.specs.Prelude.{◌≡◌, ℕ, ◌+◌, true, false, IsTrue, List, length, slice_range, All, Result, IfOk, IfErr, OnOk, None}
 use Rattle.faulty_source.specs.Journal.{Reading}
 use Rattle.faulty_source.specs.SourceState.{SourceState, Stays as SourceStays, Reads}
 use Rattle.crash_site.specs.SiteState.{SiteState, Keeps as SiteKeeps, Makes}
@@ -11,7 +11,7 @@ use Rattle.transfer_token.specs.declared.token.Request.{Request}
 use Rattle.rescue_rules.specs.declared.stop.Stop.{Stop}
 use Rattle.rescue_rules.specs.Setting.{Setting}
 use Rattle.rescue_rules.specs.Machine.{Machine, IsRequest}
-use Rattle.rescue_rules.specs.Step.{Event}
+use Rattle.rescue_rules.specs.Step.{Event, limit_met}
 use Rattle.rescue_rules.specs.Moves.{ready, state_after, IsRun}
 use Rattle.rescue_rules.specs.Events.{reads_of, times_of}
 use Rattle.rescue_rules.specs.RunCalls.{run_calls}
@@ -27,7 +27,7 @@ abbrev pub IsFrom : (bytes : List ℕ) → Reading → Type 0
 IsFrom bytes r = r.given ≡ slice_range bytes r.pos (r.pos + length r.given)
 
 -- Two states that differ at most in the passes without a request that one of them has gone on over: they have the
--- same map, counts, times, shown state, end and last line, and go on to the same request, or both to the end.
+-- same map, counts, times, shown state, end, last line and first areas, and go on to the same request, or both to the end.
 pub record IsAlike (s : Setting) (m n : Machine) : Type 0 where
   pub map : n.map ≡ m.map
   pub failed : n.failed ≡ m.failed
@@ -39,6 +39,7 @@ pub record IsAlike (s : Setting) (m n : Machine) : Type 0 where
   pub over : n.over ≡ m.over
   pub written : n.written ≡ m.written
   pub said : n.said ≡ m.said
+  pub first_areas : n.first_areas ≡ m.first_areas
   pub next : ready s n ≡ ready s m
 
 -- a run in the pass of another, where that one stands, and heard as that one is
@@ -60,7 +61,7 @@ pub record Went (r r' : RunState) (o : Across) : Type 0 where
   pub made : Makes (run_calls (setting_in r) r.machine events) o.site o.site'
   pub says : SpeaksOn (out_pieces (run_lines (setting_in r) r.machine events)) r.heard r'.heard o.console o.console'
 
--- a turn that stopped, behind whole ones; and a draft is left begun where its stop says so
+-- a turn that stopped, behind whole ones, which had met no limit; and a draft is left begun where its stop says so
 pub record WentUpTo (stop : Stop) (r r' : RunState) (o : Across) : Type 0 where
   pub between : RunState
   pub source_between : SourceState
@@ -75,6 +76,7 @@ pub record WentUpTo (stop : Stop) (r r' : RunState) (o : Across) : Type 0 where
   })
   pub source : SourceStays o.source source_between
   pub site_tells : site_between.tells ≡ o.site.tells
+  pub within : limit_met (setting_in between) between.machine ≡ None
   pub request : Request
   pub asks : IsRequest (setting_in between) between.machine request.pos (request.pos + request.len)
   pub halted : Halted request stop between r' (record o {

@@ -37,12 +37,12 @@ use Rattle.rescue_rules.proofs.HoldLemmas.{run_holds}
 use Rattle.rescue_rules.proofs.MapfileLemmas.{opening_is, mapfile_is}
 use Rattle.rescue_rules.proofs.ReadyLemmas.{order_begins}
 use Rattle.rescue_rules.specs.declared.stop.Stop.{Stop}
-use Rattle.rescue_rules.specs.declared.stop.Stop.TheVariants.{SourceLost as InputLost, Site, NoMemory as NoRoom}
+use Rattle.rescue_rules.specs.declared.stop.Stop.TheVariants.{SourceLost as InputLost, Site, LimitMet as Limited, NoMemory as NoRoom}
 use Rattle.rescue_rules.specs.declared.stop.RunEnd.{RunEnd}
 use Rattle.rescue_rules.specs.Work.{Gain, begins, events_in, opening_calls, mapfile_in, IsLoadOf, AreMapReads, EndsBy, end_of, Ends, IsSaved as RunSaved, IsUnsaved, IsBroken}
 use Rattle.rescue_rules.specs.Stops.{LeftAt, has_barrier, is_settle, is_publish, returned, published, files_before, IsSave, IsKept}
 use Rattle.ddrescue_cli.specs.declared.ending.Ending.{Ending}
-use Rattle.ddrescue_cli.specs.declared.ending.Ending.TheVariants.{Done, SameName, SourceLost, SiteFault, NoMemory}
+use Rattle.ddrescue_cli.specs.declared.ending.Ending.TheVariants.{Done, SameName, SourceLost, SiteFault, NoMemory, LimitMet}
 use Rattle.rescue_command.specs.Command.{Command, Asks}
 use Rattle.option_words.specs.Words.{command_line}
 use Rattle.ddrescue_cli.specs.Names.{program_name}
@@ -99,6 +99,7 @@ answer_done : (end : RunEnd) (stop : Option Stop) → Done ≡ answer_of end →
 answer_done end None is same = refl
 answer_done end (Some InputLost) is same = absurd (let no : Done ≡ SourceLost = is ∙ ap answer_of same in cc)
 answer_done end (Some (Site call)) is same = absurd (let no : Done ≡ SiteFault call None = is ∙ ap answer_of same in cc)
+answer_done end (Some (Limited limit)) is same = absurd (let no : Done ≡ LimitMet limit = is ∙ ap answer_of same in cc)
 answer_done end (Some NoRoom) is same = absurd (let no : Done ≡ NoMemory = is ∙ ap answer_of same in cc)
 
 pub saved_ends : (s : Setting) (m : Machine) (events : List Event) (spare : ℕ) (calls : List Entry) (end : RunEnd)

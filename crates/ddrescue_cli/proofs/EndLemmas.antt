@@ -1,13 +1,17 @@
 -- How a run ends: its last save, or the turn that it stopped in.
+use Rattle.copy_passes.proofs.TurnLemmas.{between, went_event, went_on}
+use Rattle.copy_passes.proofs.AlikeLemmas.{limit_alike}
+use Rattle.rescue_rules.specs.declared.stop.Limit.{Limit}
 use Rattle.std.proofs.Common.{◌≡◌, ℕ, ◌+◌, ◌<◌, ◌^◌, Bool, true, false, ◌&&◌, IsTrue, if◌then◌else◌, List, [], ◌∷◌, ◌++◌, map, length, All, Option, Some, None, is_none, refl, sym, ap, ◌∙◌, arith, subst, append_assoc, append-nil}
 use Rattle.std.proofs.lemmas.List.Elements.{All-nil, All-cons, All-append}
 use Rattle.std.proofs.lemmas.Bool.{false_from_ne_true}
+use Rattle.std.proofs.Math.Bool.{and-false}
 use Rattle.block_list.specs.declared.status.Status.{Status}
 use Rattle.faulty_source.specs.SourceState.{SourceState, Stays as SourceStays}
 use Rattle.crash_site.specs.declared.site.SiteCall.{SiteCall}
 use Rattle.crash_site.specs.declared.site.SiteCall.TheVariants.{ImageWrite}
 use Rattle.crash_site.specs.Calls.{Call, Entry, Done as Returned, Made, BrokeAt}
-use Rattle.crash_site.specs.SiteState.{SiteState, Breaks}
+use Rattle.crash_site.specs.SiteState.{SiteState, Breaks, Makes}
 use Rattle.mapfile_text.specs.declared.state.Current.TheVariants.{Finished}
 use Rattle.mapfile_text.specs.declared.state.MapState.{MapState}
 use Rattle.save_resume.specs.Saving.{save_calls, IsNameIn}
@@ -17,13 +21,13 @@ use Rattle.rescue_console.specs.ConsoleState.{ConsoleState}
 use Rattle.rescue_console.specs.Speaking.{SpeaksOn, out_pieces}
 use Rattle.transfer_token.specs.declared.token.Request.{Request}
 use Rattle.rescue_rules.specs.declared.stop.Stop.{Stop}
-use Rattle.rescue_rules.specs.declared.stop.Stop.TheVariants.{SourceLost, Site, NoMemory}
+use Rattle.rescue_rules.specs.declared.stop.Stop.TheVariants.{SourceLost, Site, NoMemory, LimitMet}
 use Rattle.rescue_rules.specs.declared.stop.RunEnd.{RunEnd}
 use Rattle.rescue_rules.specs.declared.stop.RunEnd.TheVariants.{Stopped}
 use Rattle.rescue_rules.specs.Setting.{Setting}
 use Rattle.rescue_rules.specs.declared.phase.Phase.TheVariants.{Retrying}
 use Rattle.rescue_rules.specs.Machine.{Machine, IsRequest, has_request}
-use Rattle.rescue_rules.specs.Step.{Event, limit_met}
+use Rattle.rescue_rules.specs.Step.{Event, limit_met, is_timely}
 use Rattle.rescue_rules.specs.Moves.{Move, ready, no_pass_left, state_after, has_ended, IsRun}
 use Rattle.rescue_rules.specs.Snapshots.{Snapshot, text_of, snapshot_of, finished_snapshot, last_snapshot, is_due}
 use Rattle.rescue_rules.specs.RunCalls.{write_calls, due_calls, move_calls, run_calls, closing_calls, end_calls}
@@ -34,7 +38,7 @@ use Rattle.rescue_rules.specs.Work.{EndsBy, Ends, end_of, IsSaved, IsUnsaved, Is
 use Rattle.rescue_rules.proofs.ReadyLemmas.{ready_here, spent_request}
 use Rattle.rescue_rules.proofs.SearchLemmas.{request_seen}
 use Rattle.rescue_core.specs.RunState.{RunState, names_in, setting_in}
-use Rattle.rescue_core.specs.Turning.{IsEvent, stepped, move_by, Halted, Starved, Lost, Unwritten, Unsaved}
+use Rattle.rescue_core.specs.Turning.{IsEvent, stepped, move_by, Halted, Starved, Lost, Unwritten, Unsaved, Limited, move_pieces}
 use Rattle.rescue_core.specs.Closing.{Saves, Saved, Unsaved as UnsavedEnd, Closes, closing_snapshot, end_of as core_end, last_pieces}
 use Rattle.rescue_core.specs.Across.{Across}
 use Rattle.copy_passes.specs.Turns.{IsFrom, IsAlike, moved_to, Went, WentUpTo}
@@ -67,7 +71,9 @@ last_over s m over is = ap (λ (b : Bool). if b then finished_snapshot m else sn
 over_alike : (r : RunState) (m n : Machine) (over : Bool) → IsAlike (setting_in r) m n → has_ended (setting_in r) n ≡ over
     → has_ended (setting_in r) m ≡ over
 over_alike r m n over alike is =
-    ap (λ (k : Machine). no_pass_left k.passes && is_none (limit_met (setting_in r) n)) (sym alike.next) ∙ is
+    ap (λ (k : Machine). no_pass_left k.passes && is_none (limit_met (setting_in r) m)) (sym alike.next)
+    ∙ ap (λ (met : Option Limit). no_pass_left (ready (setting_in r) n).passes && is_none met)
+    (sym (limit_alike (setting_in r) m n alike)) ∙ is
 
 snapshot_alike : (s : Setting) (m n : Machine) → IsAlike s m n → snapshot_of n ≡ snapshot_of m
 snapshot_alike s m n alike =
@@ -96,6 +102,14 @@ behind_over : (r r1 : RunState) (events : List Event) (over : Bool) → r1 ≡ m
 behind_over r r1 events over stands alike is =
     over_alike r (behind r events) r1.machine over alike
     (subst (λ (t : Setting). has_ended t r1.machine ≡ over) (setting_stands r r1 stands) is)
+
+-- the limit that it met, if it did, or none
+behind_limit : (r r1 : RunState) (events : List Event) (met : Option Limit) → r1 ≡ moved_to r r1
+    → IsAlike (setting_in r) (behind r events) r1.machine → limit_met (setting_in r1) r1.machine ≡ met
+    → limit_met (setting_in r) (behind r events) ≡ met
+behind_limit r r1 events met stands alike is =
+    sym (limit_alike (setting_in r) (behind r events) r1.machine alike)
+    ∙ subst (λ (t : Setting). limit_met t r1.machine ≡ met) (setting_stands r r1 stands) is
 
 -- what the end of that one saves is what the run's end saves
 saves_over : (r r1 : RunState) (events : List Event) → IsAlike (setting_in r) (behind r events) r1.machine
@@ -215,6 +229,42 @@ pub run_end : (r r1 : RunState) (end : RunEnd) (heard : Bool) (o : Across) (site
 run_end r r1 end heard o site2 console2 w behind same saves last =
     ended_done r r1 end heard o site2 console2 w (behind_all r1 behind) same saves last
 
+-- a run whose last event met a limit
+limited_end : (r r2 : RunState) (limit : Limit) (end : RunEnd) (heard : Bool) (o : Across) (site2 : SiteState)
+    (console2 : ConsoleState) → Went r r2 o → limit_met (setting_in r2) r2.machine ≡ Some limit
+    → o.site'.tells ≡ o.site.tells → Saves (Some (LimitMet limit)) r2 end o.site' site2
+    → SpeaksOn (last_pieces r2 end) r2.heard heard o.console' console2
+    → WentToEnd r end heard (record o { site' = site2; console' = console2 })
+limited_end r r2 limit end heard o site2 console2 w is same saves last =
+    let s : Setting = setting_in r in
+    let m : Machine = behind r w.events in
+    let met : limit_met s m ≡ Some limit = behind_limit r r2 w.events (Some limit) w.stands w.state is in
+    let on : has_ended s m ≡ false =
+    ap (λ (l : Option Limit). no_pass_left (ready s m).passes && is_none l) met ∙ and-false (no_pass_left (ready s m).passes) in
+    to_end r end heard w.events [] (record o { site' = site2; console' = console2 })
+    (done_went r r2 o site2 console2 w)
+    (save_ends r r2 w.events (Some (LimitMet limit)) 0 end o.site.tells o.site.calls o.site' site2 (met, refl)
+    (setting_stands r r2 w.stands) (saves_on r r2 w.events (LimitMet limit) w.state on) w.made.made
+    (λ tells. rw same tells) saves)
+    (says_all r r2 w.events end heard o.console o.console' console2 (setting_stands r r2 w.stands) w.state w.says last
+    (saves_written (Some (LimitMet limit)) r2 end o.site' site2 refl saves))
+
+-- where a limit is met no save is due behind the write
+limited_calls : (r r2 : RunState) (e : Event) (limit : Limit) (a b : SiteState) → r2 ≡ stepped r e r2.heard
+    → limit_met (setting_in r) r2.machine ≡ Some limit → Makes (write_calls (setting_in r) e.reading) a b
+    → Makes (move_calls (setting_in r) (move_by r e)) a b
+limited_calls r r2 e limit a b steps is makes =
+    let s : Setting = setting_in r in
+    let v : Move = move_by r e in
+    let met : limit_met s v.after ≡ Some limit = ap (λ (q : RunState). limit_met s q.machine) (sym steps) ∙ is in
+    let timely : Bool = is_timely v.before v.event in
+    let due : is_due s v ≡ false =
+    ap (λ (l : Option Limit). s.has_mapfile && timely && is_none l) met ∙ and-false (s.has_mapfile && timely) in
+    let saves : List Call = save_calls s.names (text_of s.line (snapshot_of v.after)) in
+    let none : due_calls s v ≡ [] = ap (λ (on : Bool). if on then saves else []) due in
+    subst (λ (cs : List Call). Makes (write_calls s e.reading ++ cs) a b) (sym none)
+    (subst (λ (cs : List Call). Makes cs a b) (sym (append-nil (write_calls s e.reading))) makes)
+
 -- what is told up to a moment
 abbrev across_to : Across → SourceState → SiteState → ClockState → ConsoleState → Across
 across_to o source site clock console =
@@ -230,20 +280,21 @@ last_as r q end heard x y z same still last =
 -- a run that stopped before its event's calls
 stopped_saves : (r r1 r2 : RunState) (stop : Stop) (end : RunEnd) (heard : Bool) (p q : ℕ) (spare : List ℕ) (o : Across)
     (site2 : SiteState) (source2 : SourceState) (clock2 : ClockState) (console2 console3 : ConsoleState)
-    → (w : Went r r1 o) → IsRequest (setting_in r1) r1.machine p q → r2 ≡ r1
-    → ((m : Machine) → has_ended (setting_in r) m ≡ false → EndsBy (Some stop) (setting_in r) m (length spare))
+    → (w : Went r r1 o) → limit_met (setting_in r1) r1.machine ≡ None → IsRequest (setting_in r1) r1.machine p q → r2 ≡ r1
+    → ((m : Machine) → has_ended (setting_in r) m ≡ false → limit_met (setting_in r) m ≡ None
+    → EndsBy (Some stop) (setting_in r) m (length spare))
     → is_unwritten (core_end (Some stop)) ≡ false → o.site'.tells ≡ o.site.tells
     → IsDone r w.events spare (across_to o source2 site2 clock2 console3) → Saves (Some stop) r2 end o.site' site2
     → console2 ≡ o.console' → SpeaksOn (last_pieces r2 end) r2.heard heard console2 console3
     → WentToEnd r end heard (across_to o source2 site2 clock2 console3)
-stopped_saves r r1 r2 stop end heard p q spare o site2 source2 clock2 console2 console3 w asks still by told same d saves
-    unsaid last =
+stopped_saves r r1 r2 stop end heard p q spare o site2 source2 clock2 console2 console3 w within asks still by told same d
+    saves unsaid last =
     let on : has_ended (setting_in r) (behind r w.events) ≡ false =
     behind_over r r1 w.events false w.stands w.state (asked_on (setting_in r1) r1.machine p q asks) in
     let saves' : Saves (Some stop) r1 end o.site' site2 = saves_as (Some stop) r2 r1 end o.site' site2 still saves in
     to_end r end heard w.events spare (across_to o source2 site2 clock2 console3) d
     (save_ends r r1 w.events (Some stop) (length spare) end o.site.tells o.site.calls o.site' site2
-    (by (behind r w.events) on) (setting_stands r r1 w.stands) (saves_on r r1 w.events stop w.state on) w.made.made
+    (by (behind r w.events) on (behind_limit r r1 w.events None w.stands w.state within)) (setting_stands r r1 w.stands) (saves_on r r1 w.events stop w.state on) w.made.made
     (λ tells. rw same tells) saves')
     (says_all r r1 w.events end heard o.console o.console' console3 (setting_stands r r1 w.stands) w.state w.says
     (last_as r2 r1 end heard console2 o.console' console3 still unsaid last)
@@ -293,10 +344,12 @@ broken_end r r1 call end heard request e o source2 site2 clock2 console2 w more 
     says
 
 event_next : (r r1 : RunState) (request : Request) (e : Event) (o : Across) (source2 : SourceState) (clock2 : ClockState)
-    → (w : Went r r1 o) → IsRequest (setting_in r1) r1.machine request.pos (request.pos + request.len)
+    → (w : Went r r1 o) → limit_met (setting_in r1) r1.machine ≡ None
+    → IsRequest (setting_in r1) r1.machine request.pos (request.pos + request.len)
     → IsEvent request e o.source' source2 o.clock' clock2 → EventMore r r1 w.events e
-event_next r r1 request e o source2 clock2 w asks is =
-    event_more r r1 w.events e w.run (setting_stands r r1 w.stands) w.state (rw (is.pos, is.asked) asks) (omega (arith, is.few, is.asked))
+event_next r r1 request e o source2 clock2 w within asks is =
+    event_more r r1 w.events e w.run (setting_stands r r1 w.stands) w.state within (rw (is.pos, is.asked) asks)
+    (omega (arith, is.few, is.asked))
 
 -- what a lost read leaves
 done_lost : (r r1 : RunState) (before : ℕ) (o : Across) (source2 : SourceState) (site2 : SiteState) (clock2 : ClockState)
@@ -369,55 +422,69 @@ due_named r r2 e call steps due named =
 -- where the turn stopped
 pub halted_end : (r r1 r2 : RunState) (stop : Stop) (end : RunEnd) (heard : Bool) (request : Request) (o : Across)
     (source2 : SourceState) (site2 site3 : SiteState) (clock2 : ClockState) (console2 console3 : ConsoleState) → Went r r1 o
-    → SourceStays o.source o.source' → o.site'.tells ≡ o.site.tells
+    → SourceStays o.source o.source' → o.site'.tells ≡ o.site.tells → limit_met (setting_in r1) r1.machine ≡ None
     → IsRequest (setting_in r1) r1.machine request.pos (request.pos + request.len)
     → Halted request stop r1 r2 (between o.source' source2 o.site' site2 o.clock' clock2 o.console' console2)
-    → Closes (Some stop) r2 end site2 site3 → SpeaksOn (last_pieces r2 end) r2.heard heard console2 console3
+    → site2.tells ≡ o.site.tells → Closes (Some stop) r2 end site2 site3
+    → SpeaksOn (last_pieces r2 end) r2.heard heard console2 console3
     → WentToEnd r end heard (across_to o source2 site3 clock2 console3)
-halted_end r r1 r2 stop end heard request o source2 site2 site3 clock2 console2 console3 w stays same asks
-    (Starved is still untouched unmade unread unsaid) closes last =
+halted_end r r1 r2 stop end heard request o source2 site2 site3 clock2 console2 console3 w stays same within
+    asks (Starved is still untouched unmade unread unsaid) told closes last =
     let C : Stop → Type 0 = λ x. Closes (Some x) r2 end site2 site3 in
     let S : SiteState → Type 0 = λ d. Saves (Some NoMemory) r2 end d site3 in
     stopped_saves r r1 r2 NoMemory end heard request.pos (request.pos + request.len) [] o site3 source2 clock2 console2
-    console3 w asks still (λ m on. (on, refl, refl)) refl same (done_still r r1 o source2 site3 clock2 console3 w untouched unread)
+    console3 w within asks still (λ m on none. (on, none, refl)) refl same
+    (done_still r r1 o source2 site3 clock2 console3 w untouched unread)
     (subst S unmade (subst C is closes)) unsaid last
-halted_end r r1 r2 stop end heard request o source2 site2 site3 clock2 console2 console3 w stays same asks
-    (Lost is still loses unmade before small times unsaid) closes last =
+halted_end r r1 r2 stop end heard request o source2 site2 site3 clock2 console2 console3 w stays same within
+    asks (Lost is still loses unmade before small times unsaid) told closes last =
     let C : Stop → Type 0 = λ x. Closes (Some x) r2 end site2 site3 in
     let S : SiteState → Type 0 = λ d. Saves (Some SourceLost) r2 end d site3 in
     stopped_saves r r1 r2 SourceLost end heard request.pos (request.pos + request.len) (before ∷ []) o site3 source2 clock2
-    console2 console3 w asks still (λ m on. (on, refl, refl)) refl same
+    console2 console3 w within asks still (λ m on none. (on, none, refl)) refl same
     (done_lost r r1 before o source2 site3 clock2 console3 w (λ tells. loses.untold (rw stays.keeps.tells tells)) small times)
     (subst S unmade (subst C is closes)) unsaid last
-halted_end r r1 r2 stop end heard request o source2 site2 site3 clock2 console2 console3 w stays same asks
-    (Unwritten is still e event named breaks unsaid) closes last =
+halted_end r r1 r2 stop end heard request o source2 site2 site3 clock2 console2 console3 w stays same within
+    asks (Unwritten is still e event named breaks unsaid) told closes last =
     let C : Stop → Type 0 = λ x. Closes (Some x) r2 end site2 site3 in
     let closed : (end ≡ Stopped (Site ImageWrite)) × (site3 ≡ site2) = subst C is closes in
     broken_end r r1 ImageWrite end heard request e o source2 site3 clock2 console3 w
-    (event_next r r1 request e o source2 clock2 w asks event) event stays closed.0
+    (event_next r r1 request e o source2 clock2 w within asks event) event stays closed.0
     (named_front ImageWrite (write_calls (setting_in r1) e.reading) (due_calls (setting_in r1) (move_by r1 e)) named)
     (λ tells. broken_write r1 e o.site' site2 site3 closed.1 breaks (rw same tells))
     (says_front r r1 w.events end heard o.console o.console' console3 (setting_stands r r1 w.stands) w.state w.says
     (last_as r2 r1 end heard console2 o.console' console3 still unsaid last) e (ap is_unwritten closed.0))
-halted_end r r1 r2 stop end heard request o source2 site2 site3 clock2 console2 console3 w stays same asks
-    (Unsaved call is e event steps due named broke rose says) closes last =
+halted_end r r1 r2 stop end heard request o source2 site2 site3 clock2 console2 console3 w stays same within
+    asks (Limited limit is e event steps met makes says) told closes last =
+    let C : Stop → Type 0 = λ x. Closes (Some x) r2 end site2 site3 in
+    let one : Went r1 r2 (between o.source' source2 o.site' site2 o.clock' clock2 o.console' console2) =
+    went_event r1 r2 request e (between o.source' source2 o.site' site2 o.clock' clock2 o.console' console2) within asks event
+    steps (limited_calls r1 r2 e limit o.site' site2 steps met makes) says in
+    limited_end r r2 limit end heard (across_to o source2 site2 clock2 console2) site3 console3
+    (went_on r r1 r2 o.source o.source' source2 o.site o.site' site2 o.clock o.clock' clock2 o.console o.console' console2 w
+    stays same one)
+    (subst (λ (t : Setting). limit_met t r2.machine ≡ Some limit) (sym (ap setting_in steps)) met)
+    told (subst C is closes) last
+halted_end r r1 r2 stop end heard request o source2 site2 site3 clock2 console2 console3 w stays same within
+    asks (Unsaved call is e event steps due named broke rose says) told closes last =
     let C : Stop → Type 0 = λ x. Closes (Some x) r2 end site2 site3 in
     let closed : (end ≡ Stopped (Site call)) × (site3 ≡ site2) = subst C is closes in
     let more : SaidMore r r2 (w.events ++ e ∷ []) o.console console2 =
-    said_more r r1 r2 request e o source2 clock2 console2 w asks event steps says in
+    said_more r r1 r2 request e o source2 clock2 console2 w within asks event steps says in
     let text : List ℕ = text_of r1.line (snapshot_of r2.machine) in
     broken_end r r1 call end heard request e o source2 site3 clock2 console3 w
-    (event_next r r1 request e o source2 clock2 w asks event) event stays closed.0
+    (event_next r r1 request e o source2 clock2 w within asks event) event stays closed.0
     (named_back call (write_calls (setting_in r1) e.reading) (due_calls (setting_in r1) (move_by r1 e)) (due_named r1 r2 e call steps due named))
     (λ tells. broken_save r1 r2 e call o.site' site2 site3 closed.1 steps due (broke (rw same tells)))
     (says_all r r2 (w.events ++ e ∷ []) end heard o.console console2 console3 more.same more.alike more.says last
     (ap is_unwritten closed.0 ∙ save_writes_none call (names_in r1.names) text named))
 
 pub stopped_end : (r r2 : RunState) (stop : Stop) (end : RunEnd) (heard : Bool) (o : Across) (site3 : SiteState)
-    (console3 : ConsoleState) → WentUpTo stop r r2 o → Closes (Some stop) r2 end o.site' site3
+    (console3 : ConsoleState) → WentUpTo stop r r2 o → o.site'.tells ≡ o.site.tells → Closes (Some stop) r2 end o.site' site3
     → SpeaksOn (last_pieces r2 end) r2.heard heard o.console' console3
     → WentToEnd r end heard (record o { site' = site3; console' = console3 })
-stopped_end r r2 stop end heard o site3 console3 h closes last =
+stopped_end r r2 stop end heard o site3 console3 h told closes last =
     halted_end r h.between r2 stop end heard h.request
     (across_to o h.source_between h.site_between h.clock_between h.console_between) o.source' o.site' site3 o.clock'
-    o.console' console3 h.went h.source h.site_tells h.asks h.halted closes last
+    o.console' console3 h.went h.source h.site_tells h.within h.asks h.halted told
+    closes last

@@ -15,7 +15,7 @@ use Rattle.crash_site.specs.Files.{File}
 use Rattle.rescue_domain.specs.Testing.{seen}
 use Rattle.rescue_rules.specs.declared.phase.Phase.TheVariants.{Copying}
 use Rattle.rescue_rules.specs.declared.stop.Stop.{Stop}
-use Rattle.rescue_rules.specs.declared.stop.Stop.TheVariants.{SourceLost as InputLost, Site, NoMemory as NoRoom}
+use Rattle.rescue_rules.specs.declared.stop.Stop.TheVariants.{SourceLost as InputLost, Site, LimitMet as Limited, NoMemory as NoRoom}
 use Rattle.rescue_rules.specs.declared.stop.RunEnd.{RunEnd}
 use Rattle.rescue_rules.specs.declared.stop.RunEnd.TheVariants.{Done as Finished, Stopped as RunStopped, SaveFailed}
 use Rattle.rescue_rules.specs.Setting.{Setting, IsSensible}
@@ -128,6 +128,7 @@ run_refused : (end : RunEnd) → IsLate (answer_of end) → IsBeforeReads (answe
 run_refused Finished late refused = refused.done refl
 run_refused (RunStopped InputLost) late refused = refused.lost refl
 run_refused (RunStopped (Site call)) late refused = call_refused call None late (refused.call call None refl)
+run_refused (RunStopped (Limited limit)) late refused = refused.within limit refl
 run_refused (RunStopped NoRoom) late refused = refused.room refl
 run_refused (SaveFailed call earlier) late refused = call_refused call earlier late (refused.call call earlier refl)
 

@@ -18,3 +18,4 @@ none_follows s m off none =
 pub behind_all : (r : RunState) → IsBehind Retrying r → has_ended (setting_in r) r.machine ≡ true
 behind_all r b =
     ap (λ (none : Bool). none && is_none (limit_met (setting_in r) r.machine)) (none_follows (setting_in r) r.machine b.spent b.left)
+    ∙ ap is_none b.within

@@ -17,7 +17,7 @@ use Rattle.rescue_rules.specs.RunCalls.{move_calls, run_calls}
 use Rattle.rescue_rules.specs.Machine.{Machine}
 use Rattle.rescue_rules.specs.Step.{Event}
 use Rattle.rescue_rules.specs.declared.stop.Stop.{Stop}
-use Rattle.rescue_rules.specs.declared.stop.Stop.TheVariants.{SourceLost as InputLost, Site, NoMemory as NoRoom}
+use Rattle.rescue_rules.specs.declared.stop.Stop.TheVariants.{SourceLost as InputLost, Site, LimitMet as Limited, NoMemory as NoRoom}
 use Rattle.rescue_rules.specs.declared.stop.RunEnd.{RunEnd}
 use Rattle.rescue_rules.specs.Work.{EndsBy, Ends, IsSaved, IsUnsaved, IsBroken, end_of}
 use Rattle.work_steps.specs.Work.{Deeds}
@@ -92,6 +92,7 @@ stop_late : (stop : Option Stop) (s : Setting) (m : Machine) (spare : ℕ) → E
 stop_late None s m spare by = record { names = λ call earlier is. absurd (cc) }
 stop_late (Some InputLost) s m spare by = record { names = λ call earlier is. absurd (cc) }
 stop_late (Some (Site call)) s m spare by = absurd by
+stop_late (Some (Limited limit)) s m spare by = record { names = λ call earlier is. absurd (cc) }
 stop_late (Some NoRoom) s m spare by = record { names = λ call earlier is. absurd (cc) }
 
 ends_late : (s : Setting) (m : Machine) (es : List Event) (spare : ℕ) (calls : List Entry) (end : RunEnd)

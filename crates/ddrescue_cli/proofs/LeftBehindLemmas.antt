@@ -13,13 +13,13 @@ use Rattle.save_resume.specs.Loading.{BeginsLoad}
 use Rattle.mapfile_text.specs.declared.read.Mode.{Mode}
 use Rattle.mapfile_text.specs.declared.read.MapError.{MapError}
 use Rattle.rescue_rules.specs.declared.stop.Stop.{Stop}
-use Rattle.rescue_rules.specs.declared.stop.Stop.TheVariants.{SourceLost as InputLost, Site, NoMemory as NoRoom}
+use Rattle.rescue_rules.specs.declared.stop.Stop.TheVariants.{SourceLost as InputLost, Site, LimitMet as Limited, NoMemory as NoRoom}
 use Rattle.option_words.specs.declared.fault.UsageFault.TheVariants.{PlaceTooLarge}
 use Rattle.rescue_rules.specs.declared.stop.RunEnd.{RunEnd}
 use Rattle.rescue_rules.specs.declared.stop.RunEnd.TheVariants.{Done as Finished, Stopped, SaveFailed}
 use Rattle.rescue_command.specs.Command.{Command}
 use Rattle.ddrescue_cli.specs.declared.ending.Ending.{Ending}
-use Rattle.ddrescue_cli.specs.declared.ending.Ending.TheVariants.{Done, Usage, SameName, NoMap, SourceFault, NotRegular, MapRefused, SourceLost, SiteFault, NoMemory}
+use Rattle.ddrescue_cli.specs.declared.ending.Ending.TheVariants.{Done, Usage, SameName, NoMap, SourceFault, NotRegular, MapRefused, SourceLost, SiteFault, NoMemory, LimitMet}
 use Rattle.ddrescue_cli.specs.declared.ending.Which.{Which}
 use Rattle.ddrescue_cli.specs.declared.ending.Which.TheVariants.{DomainMap, TestMap, RunMap}
 use Rattle.ddrescue_cli.specs.Maps.{Found, found_in}
@@ -172,6 +172,9 @@ end_leaves (Stopped InputLost) maps out files files' late =
     (λ fault. let x = fault.1 in cc)
 end_leaves (Stopped (Site call)) maps out files files' late =
     call_leaves call maps out files files' (late.names call None refl) None
+end_leaves (Stopped (Limited limit)) maps out files files' late =
+    late_left (LimitMet limit) maps out files files' (λ before. before.within limit refl)
+    (not_behind (LimitMet limit) (λ x. cc) (λ error x. cc)) (λ fault. let x = fault.1 in cc)
 end_leaves (Stopped NoRoom) maps out files files' late = starved_left maps out files files'
 end_leaves (SaveFailed call earlier) maps out files files' late =
     call_leaves call maps out files files' (late.names call earlier refl) earlier

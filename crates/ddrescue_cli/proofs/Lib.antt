@@ -27,6 +27,7 @@ pub mod RefusalLemmas
 pub mod RowLemmas
 pub mod SaysLemmas
 pub mod SpokenLemmas
+pub mod StoppedLemmas
 pub mod TestedLemmas
 pub mod TurnLemmas
 pub mod VerdictLemmas

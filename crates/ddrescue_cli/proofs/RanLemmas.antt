@@ -14,7 +14,7 @@ use Rattle.rescue_console.specs.Speaking.{SpeaksOn, out_pieces}
 use Rattle.rescue_domain.specs.Parts.{covers}
 use Rattle.rescue_rules.specs.declared.stop.RunEnd.{RunEnd}
 use Rattle.rescue_rules.specs.declared.stop.Stop.{Stop}
-use Rattle.rescue_rules.specs.declared.stop.Stop.TheVariants.{SourceLost as InputLost, Site, NoMemory as NoRoom}
+use Rattle.rescue_rules.specs.declared.stop.Stop.TheVariants.{SourceLost as InputLost, Site, LimitMet as Limited, NoMemory as NoRoom}
 use Rattle.rescue_rules.specs.Setting.{Setting}
 use Rattle.rescue_rules.specs.Nameless.{nameless}
 use Rattle.rescue_rules.specs.Machine.{Machine}
@@ -71,6 +71,7 @@ ends_by_named : (stop : Option Stop) (s : Setting) (m : Machine) (spare : ℕ) �
 ends_by_named None s m spare by = by
 ends_by_named (Some InputLost) s m spare by = by
 ends_by_named (Some (Site call)) s m spare by = by
+ends_by_named (Some (Limited limit)) s m spare by = by
 ends_by_named (Some NoRoom) s m spare by = by
 
 ends_named : (s : Setting) (m : Machine) (es : List Event) (spare : ℕ) (calls : List Entry) (end : RunEnd)

@@ -5,7 +5,7 @@ use Rattle.crash_site.specs.declared.site.SiteCall.{SiteCall}
 use Rattle.crash_site.specs.declared.site.SiteCall.TheVariants.{ImageRead, MapRead, MapRemove}
 use Rattle.crash_site.specs.Files.{File}
 use Rattle.rescue_rules.specs.declared.stop.Stop.{Stop}
-use Rattle.rescue_rules.specs.declared.stop.Stop.TheVariants.{SourceLost as InputLost, Site, NoMemory as NoRoom}
+use Rattle.rescue_rules.specs.declared.stop.Stop.TheVariants.{SourceLost as InputLost, Site, LimitMet as Limited, NoMemory as NoRoom}
 use Rattle.rescue_rules.specs.declared.stop.RunEnd.TheVariants.{Done as Finished, Stopped as RunStopped, SaveFailed}
 use Rattle.work_steps.specs.Work.{Deeds, Works}
 use Rattle.work_steps.proofs.AnswerLemmas.{Stops, IsCalled, IsRefused, Starved, Unopened, Broken, Refused, Came, Stopped, Went, came}
@@ -60,6 +60,7 @@ ends_words : (words : List (List ℕ)) (e : Ending) → EndsRun e → AreAccepte
 ends_words words e (Finished, is) ok = rw is ok
 ends_words words e (RunStopped InputLost, is) ok = rw is ok
 ends_words words e (RunStopped (Site call), is) ok = rw is ok
+ends_words words e (RunStopped (Limited limit), is) ok = rw is ok
 ends_words words e (RunStopped NoRoom, is) ok = rw is tt
 ends_words words e (SaveFailed call earlier, is) ok = rw is ok
 

@@ -1,5 +1,5 @@
 -- What a run says up to its end, or to where it stopped.
-use Rattle.std.proofs.Common.{◌≡◌, ℕ, ◌+◌, ◌-◌, Bool, true, false, ◌&&◌, if◌then◌else◌, List, [], ◌∷◌, ◌++◌, map, length, take, Option, inl, inr, sym, ap, ◌∙◌, arith, subst, length-append}
+use Rattle.std.proofs.Common.{◌≡◌, ℕ, ◌+◌, ◌-◌, Bool, true, false, ◌&&◌, if◌then◌else◌, List, [], ◌∷◌, ◌++◌, map, length, take, Option, inl, inr, sym, ap, ◌∙◌, arith, subst, length-append, None}
 use Rattle.std.proofs.Math.Seq.{take-append_seam}
 use Rattle.block_list.specs.declared.status.Status.{Status}
 use Rattle.mapfile_text.specs.Pieces.{pieces_of}
@@ -19,7 +19,7 @@ use Rattle.rescue_rules.specs.declared.stop.Stop.{Stop}
 use Rattle.rescue_rules.specs.declared.stop.RunEnd.{RunEnd}
 use Rattle.rescue_rules.specs.Setting.{Setting}
 use Rattle.rescue_rules.specs.Machine.{Machine, IsRequest, is_live}
-use Rattle.rescue_rules.specs.Step.{Event}
+use Rattle.rescue_rules.specs.Step.{Event, limit_met}
 use Rattle.rescue_rules.specs.Moves.{state_after, IsRun}
 use Rattle.rescue_rules.specs.Counts.{counts_of}
 use Rattle.rescue_rules.specs.Lines.{is_done, is_unwritten, is_write, last_front, last_line, lines_of, marked_events, move_lines, report_of, report_text, run_lines}
@@ -128,16 +128,16 @@ pub record SaidMore (r r2 : RunState) (es : List Event) (x z : ConsoleState) : T
   pub says : SpeaksOn (out_pieces (run_lines (setting_in r) r.machine es)) r.heard r2.heard x z
 
 pub said_more : (r r1 r2 : RunState) (request : Request) (e : Event) (o : Across) (source2 : SourceState)
-    (clock2 : ClockState) (console2 : ConsoleState) → (w : Went r r1 o)
+    (clock2 : ClockState) (console2 : ConsoleState) → (w : Went r r1 o) → limit_met (setting_in r1) r1.machine ≡ None
     → IsRequest (setting_in r1) r1.machine request.pos (request.pos + request.len)
     → IsEvent request e o.source' source2 o.clock' clock2 → r2 ≡ stepped r1 e r2.heard
     → SpeaksOn (move_pieces r1 e) r1.heard r2.heard o.console' console2
     → SaidMore r r2 (w.events ++ e ∷ []) o.console console2
-said_more r r1 r2 request e o source2 clock2 console2 w asks is steps says =
+said_more r r1 r2 request e o source2 clock2 console2 w within asks is steps says =
     let s : Setting = setting_in r in
     let n : Machine = (move_by r1 e).after in
     let stands : setting_in r1 ≡ s = ap setting_in w.stands in
-    let one : IsOneMove r1 e = one_move r1 request e o.source' source2 o.clock' clock2 asks is in
+    let one : IsOneMove r1 e = one_move r1 request e o.source' source2 o.clock' clock2 within asks is in
     let run : IsRun s r1.machine (e ∷ []) =
     subst (λ (t : Setting). IsRun t r1.machine (e ∷ [])) stands one.run in
     let more : RunMore s r.machine r1.machine w.events (e ∷ []) =

@@ -1,5 +1,5 @@
 -- Turns of a copy, and one more event.
-use Rattle.std.proofs.Common.{◌≡◌, ℕ, ◌+◌, ◌<◌, ◌≤◌, ◌^◌, IsTrue, List, [], ◌∷◌, ◌++◌, length, All, refl, sym, ap, ◌∙◌, subst}
+use Rattle.std.proofs.Common.{◌≡◌, ℕ, ◌+◌, ◌<◌, ◌≤◌, ◌^◌, IsTrue, List, [], ◌∷◌, ◌++◌, length, All, refl, sym, ap, ◌∙◌, subst, None}
 use Rattle.std.specs.List.{slice_range}
 use Rattle.std.proofs.lemmas.List.Elements.{All-nil, All-cons, All-append}
 use Rattle.faulty_source.specs.Journal.{Reading}
@@ -11,7 +11,7 @@ use Rattle.rescue_console.specs.ClockState.{ClockState, Reads as ReadsClock}
 use Rattle.transfer_token.specs.declared.token.Request.{Request}
 use Rattle.rescue_rules.specs.Setting.{Setting}
 use Rattle.rescue_rules.specs.Machine.{Machine, IsRequest}
-use Rattle.rescue_rules.specs.Step.{Event, step}
+use Rattle.rescue_rules.specs.Step.{Event, step, limit_met}
 use Rattle.rescue_rules.specs.Moves.{Move, move_of, ready, state_after, IsMove, IsRun}
 use Rattle.rescue_rules.specs.MachineLaws.{GoesOnBy}
 use Rattle.rescue_rules.specs.Events.{reads_of, times_of}
@@ -34,9 +34,10 @@ pub record EventMore (r r1 : RunState) (es : List Event) (e : Event) : Type 0 wh
 
 pub event_more : (r r1 : RunState) (es : List Event) (e : Event) → IsRun (setting_in r) r.machine es
     → setting_in r1 ≡ setting_in r → IsAlike (setting_in r) (state_after (setting_in r) r.machine es) r1.machine
+    → limit_met (setting_in r1) r1.machine ≡ None
     → IsRequest (setting_in r1) r1.machine e.reading.pos (e.reading.pos + e.reading.asked)
     → length e.reading.given ≤ e.reading.asked → EventMore r r1 es e
-event_more r r1 es e run same alike asks few =
+event_more r r1 es e run same alike within asks few =
     let s : Setting = setting_in r in
     let m : Machine = state_after s r.machine es in
     let n : Machine = r1.machine in
@@ -46,7 +47,11 @@ event_more r r1 es e run same alike asks few =
     sym alike.next ∙ ready_here s n (request_seen s n e.reading.pos (e.reading.pos + e.reading.asked) asks') in
     let M : Machine → Move = λ k. record { before = k; event = e; after = step s k e } in
     let moved : move_of s m e ≡ M n = ap M here in
-    let is : IsMove s (move_of s m e) = subst (λ (v : Move). IsMove s v) (sym moved) (record { request = asks'; few = few; within = refl }) in
+    let is : IsMove s (move_of s m e) = subst (λ (v : Move). IsMove s v) (sym moved) (record {
+      request = asks';
+      few = few;
+      within = subst (λ (t : Setting). limit_met t n ≡ None) same within;
+    }) in
     let on : GoesOnBy s r.machine es e = goes_on s r.machine es e run is in
     let C : Setting → List Call = λ t. move_calls t (record { before = n; event = e; after = step t n e }) in
     record {

@@ -8,7 +8,7 @@ use Rattle.crash_site.specs.Files.{File}
 use Rattle.save_resume.specs.Named.{map_mode}
 use Rattle.save_resume.proofs.AnswerLemmas.{refused_for_one}
 use Rattle.rescue_rules.specs.Setting.{Setting}
-use Rattle.rescue_rules.specs.declared.stop.Stop.TheVariants.{SourceLost as InputLost, Site, NoMemory as NoRoom}
+use Rattle.rescue_rules.specs.declared.stop.Stop.TheVariants.{SourceLost as InputLost, Site, LimitMet as Limited, NoMemory as NoRoom}
 use Rattle.rescue_rules.specs.declared.stop.RunEnd.{RunEnd}
 use Rattle.rescue_rules.specs.declared.stop.RunEnd.TheVariants.{Done as Finished, Stopped, SaveFailed}
 use Rattle.rescue_rules.specs.Work.{Gain}
@@ -33,6 +33,7 @@ done_only : (e : Ending) (end : RunEnd) → e ≡ answer_of end → IsVerdict e 
 done_only e Finished is verdict = is
 done_only e (Stopped InputLost) is verdict = absurd (verdict.kept is)
 done_only e (Stopped (Site call)) is verdict = absurd (verdict.call call None is)
+done_only e (Stopped (Limited limit)) is verdict = absurd (verdict.within limit is)
 done_only e (Stopped NoRoom) is verdict = absurd (verdict.room is)
 done_only e (SaveFailed call earlier) is verdict = absurd (verdict.call call earlier is)
 

@@ -6,6 +6,7 @@ use Rattle.block_list.specs.declared.status.Status.{Status}
 use Rattle.mapfile_text.specs.declared.state.MapState.{MapState}
 use Rattle.crash_site.specs.declared.site.SiteCall.{SiteCall}
 use Rattle.crash_site.specs.declared.site.SiteCall.TheVariants.{ImageOpen, MapRead}
+use Rattle.rescue_rules.specs.declared.stop.Limit.{Limit}
 use Rattle.rescue_rules.specs.declared.stop.Stop.{Stop}
 use Rattle.rescue_rules.specs.Setting.{Setting}
 use Rattle.rescue_rules.specs.Start.{IsFresh}
@@ -17,7 +18,7 @@ use Rattle.copy_passes.specs.Turns.{IsFrom}
 use Rattle.trim_scrape.specs.Bounds.{AskFew}
 use Rattle.trim_scrape.specs.Endings.{EndsWell}
 use Rattle.ddrescue_cli.specs.declared.ending.Ending.{Ending}
-use Rattle.ddrescue_cli.specs.declared.ending.Ending.TheVariants.{Done, SourceLost, SiteFault, NoMemory}
+use Rattle.ddrescue_cli.specs.declared.ending.Ending.TheVariants.{Done, SourceLost, SiteFault, LimitMet, NoMemory}
 use Rattle.ddrescue_cli.specs.Maps.{seen_through}
 
 -- a call that a run doesn't make: the open of the output, and a read of a map
@@ -30,6 +31,7 @@ IsOfOpening call = ⊥
 pub record IsBeforeReads (e : Ending) : Type 0 where
   pub done : e ≢ Done
   pub lost : e ≢ SourceLost
+  pub within : (limit : Limit) → e ≢ LimitMet limit
   pub room : e ≢ NoMemory
   pub call : (call : SiteCall) (earlier : Option Stop) → e ≡ SiteFault call earlier → IsOfOpening call
 

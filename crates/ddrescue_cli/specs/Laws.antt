@@ -1,5 +1,6 @@
 -- What the definitions mean.
-use Rattle.std.specs.Prelude.{◌≡◌, ◌≢◌, ℕ, ◌-◌, ◌^◌, ◌<◌, true, IsTrue, List, length, slice_get, Option, Some}
+use Rattle.rescue_command.specs.declared.options.Options.{Options}
+use Rattle.std.specs.Prelude.{◌≡◌, ◌≢◌, ℕ, ◌-◌, ◌^◌, ◌<◌, true, IsTrue, List, length, slice_get, Option, Some, ◌⊎◌, None}
 use Rattle.block_list.specs.declared.status.Status.{Status}
 use Rattle.mapfile_text.specs.declared.state.MapState.{MapState}
 use Rattle.crash_site.specs.declared.site.SiteCall.{SiteCall}
@@ -19,8 +20,9 @@ use Rattle.rescue_rules.specs.Stops.{has_barrier, IsKept}
 use Rattle.work_steps.specs.Work.{Deeds, Works}
 use Rattle.work_steps.specs.Verdicts.{RefuseNothing}
 use Rattle.rescue_command.specs.Command.{Command, Asks}
+use Rattle.rescue_rules.specs.declared.stop.Limit.{Limit}
 use Rattle.ddrescue_cli.specs.declared.ending.Ending.{Ending}
-use Rattle.ddrescue_cli.specs.declared.ending.Ending.TheVariants.{Done, SourceFault, SourceLost, SiteFault, NoMemory}
+use Rattle.ddrescue_cli.specs.declared.ending.Ending.TheVariants.{Done, SourceFault, SourceLost, SiteFault, LimitMet, NoMemory}
 use Rattle.ddrescue_cli.specs.Asked.{Maps}
 use Rattle.ddrescue_cli.specs.Maps.{Found, AreMapsIn}
 use Rattle.ddrescue_cli.specs.Outside.{Outside}
@@ -112,10 +114,21 @@ pub record NothingFailed (t : Told) : Type 0 where
 abbrev pub NothingIsRefused : Command → Outside → Type 0
 NothingIsRefused c o = RefuseNothing (rescue_rows c o.found o.end)
 
--- Where nothing failed, nothing is refused and memory doesn't run out, the rescue is done, whoever tells.
+-- options that set no limit
+pub record AreUnlimited (o : Options) : Type 0 where
+  pub errors : o.max_read_errors ≡ None
+  pub areas : o.max_bad_areas ≡ None
+  pub time : o.timeout ≡ None
+
+-- a rescue is done, or it met a limit, if one was set
+pub record IsDoneOrLimited (o : Options) (e : Ending) : Type 0 where
+  pub ends : (e ≡ Done) ⊎ ((limit : Limit) × (e ≡ LimitMet limit))
+  pub unlimited : AreUnlimited o → e ≡ Done
+
+-- Where nothing failed, nothing is refused and memory doesn't run out, a rescue is done or met a limit, whoever tells.
 abbrev pub IsDoneUnless : Type 0
 IsDoneUnless = (t : Told) (c : Command) (d : Ddrescue t) (asks : Asks t.words c) → NothingFailed t
-    → NothingIsRefused c (outside_by d asks) → t.answer ≢ NoMemory → t.answer ≡ Done
+    → NothingIsRefused c (outside_by d asks) → t.answer ≢ NoMemory → IsDoneOrLimited c.options t.answer
 
 -- There are such maps for any files that were found: those that the files say.
 abbrev pub MapsAreThere : Type 0
@@ -125,6 +138,7 @@ MapsAreThere = (c : Command) (found : Found) → (maps : Maps) × AreMapsIn c fo
 pub record IsVerdict (e : Ending) : Type 0 where
   pub opened : e ≢ SourceFault
   pub kept : e ≢ SourceLost
+  pub within : (limit : Limit) → e ≢ LimitMet limit
   pub room : e ≢ NoMemory
   pub call : (call : SiteCall) (earlier : Option Stop) → e ≢ SiteFault call earlier
 

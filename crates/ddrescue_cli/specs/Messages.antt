@@ -2,14 +2,16 @@
 use Rattle.std.specs.Prelude.{ℕ, List, [], ◌∷◌, ◌++◌, Option, Some, None, codes}
 use Rattle.mapfile_text.specs.declared.read.MapError.{MapError}
 use Rattle.rescue_rules.specs.declared.stop.Stop.{Stop}
-use Rattle.rescue_rules.specs.declared.stop.Stop.TheVariants.{SourceLost as InputLost, Site, NoMemory as NoRoom}
+use Rattle.rescue_rules.specs.declared.stop.Stop.TheVariants.{SourceLost as InputLost, Site, LimitMet as Limited, NoMemory as NoRoom}
+use Rattle.rescue_rules.specs.declared.stop.Limit.{Limit}
+use Rattle.rescue_rules.specs.declared.stop.Limit.TheVariants.{TooManyErrors, TooManyAreas, TimedOut}
 use Rattle.rescue_console.specs.declared.console.Channel.TheVariants.{Err}
 use Rattle.rescue_console.specs.Speaking.{Piece}
-use Rattle.fault_texts.specs.Texts.{usage_text, error_text, fault_text, message_of}
+use Rattle.fault_texts.specs.Texts.{numbered_text, usage_text, error_text, fault_text, message_of}
 use Rattle.ddrescue_cli.specs.declared.ending.Which.{Which}
 use Rattle.ddrescue_cli.specs.declared.ending.Which.TheVariants.{DomainMap, TestMap, RunMap}
 use Rattle.ddrescue_cli.specs.declared.ending.Ending.{Ending}
-use Rattle.ddrescue_cli.specs.declared.ending.Ending.TheVariants.{Done, Usage, SameName, NoMap, SourceFault, NotRegular, MapRefused, SourceLost, SiteFault, NoMemory}
+use Rattle.ddrescue_cli.specs.declared.ending.Ending.TheVariants.{Done, Usage, SameName, NoMap, SourceFault, NotRegular, MapRefused, SourceLost, SiteFault, LimitMet, NoMemory}
 use Rattle.ddrescue_cli.specs.Names.{program_name}
 
 -- which map it is
@@ -22,10 +24,17 @@ which_text RunMap = codes "mapfile"
 abbrev pub map_error_text : Which → MapError → List ℕ
 map_error_text which error = which_text which ++ codes ": " ++ error_text error
 
+-- a limit that a run met
+abbrev pub limit_text : Limit → List ℕ
+limit_text (TooManyErrors n) = numbered_text (codes "read errors: ") n []
+limit_text (TooManyAreas n) = numbered_text (codes "bad areas: ") n []
+limit_text (TimedOut ms) = numbered_text (codes "no whole read for ") ms (codes " ms")
+
 -- why a run had stopped
 abbrev pub stop_text : Stop → List ℕ
 stop_text InputLost = codes "input lost"
 stop_text (Site call) = fault_text call
+stop_text (Limited limit) = limit_text limit
 stop_text NoRoom = codes "out of memory"
 
 -- a call of the last save that failed, of a run that had stopped before
@@ -44,6 +53,7 @@ text_of_ending NotRegular = codes "output is not a regular file, use --force"
 text_of_ending (MapRefused which error) = map_error_text which error
 text_of_ending SourceLost = codes "input lost"
 text_of_ending (SiteFault call earlier) = fault_text call ++ behind_text earlier
+text_of_ending (LimitMet limit) = limit_text limit
 text_of_ending NoMemory = codes "out of memory"
 
 -- the message on the console

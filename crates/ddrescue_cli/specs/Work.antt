@@ -10,7 +10,7 @@ use Rattle.save_resume.specs.Named.{map_mode}
 use Rattle.save_resume.specs.Resuming.{barrier_calls}
 use Rattle.rescue_rules.specs.Setting.{Setting}
 use Rattle.rescue_rules.specs.Start.{Stands}
-use Rattle.rescue_rules.specs.declared.stop.Stop.TheVariants.{SourceLost as InputLost, Site, NoMemory as NoRoom}
+use Rattle.rescue_rules.specs.declared.stop.Stop.TheVariants.{SourceLost as InputLost, Site, LimitMet as Limited, NoMemory as NoRoom}
 use Rattle.rescue_rules.specs.declared.stop.RunEnd.{RunEnd}
 use Rattle.rescue_rules.specs.declared.stop.RunEnd.TheVariants.{Done as Finished, Stopped, SaveFailed}
 use Rattle.rescue_rules.specs.Lines.{opening_lines, lines_of}
@@ -18,7 +18,7 @@ use Rattle.rescue_rules.specs.Work.{Gain, Runs, begins, events_in}
 use Rattle.work_steps.specs.Work.{Deeds, Faults, Step, Take, Look, Open, Make, Read}
 use Rattle.rescue_command.specs.Command.{Command}
 use Rattle.ddrescue_cli.specs.declared.ending.Ending.{Ending}
-use Rattle.ddrescue_cli.specs.declared.ending.Ending.TheVariants.{Done, SourceFault, SourceLost, SiteFault, NoMemory}
+use Rattle.ddrescue_cli.specs.declared.ending.Ending.TheVariants.{Done, SourceFault, SourceLost, SiteFault, LimitMet, NoMemory}
 use Rattle.ddrescue_cli.specs.declared.ending.Which.{Which}
 use Rattle.ddrescue_cli.specs.declared.ending.Which.TheVariants.{DomainMap, TestMap}
 use Rattle.ddrescue_cli.specs.Refusals.{NamesRefused, NamedMapRefused, OutputRefused, MapfileRefused, PlacesRefused}
@@ -72,6 +72,7 @@ abbrev pub answer_of : RunEnd → Ending
 answer_of Finished = Done
 answer_of (Stopped InputLost) = SourceLost
 answer_of (Stopped (Site call)) = SiteFault call None
+answer_of (Stopped (Limited limit)) = LimitMet limit
 answer_of (Stopped NoRoom) = NoMemory
 answer_of (SaveFailed call earlier) = SiteFault call earlier
 

@@ -5,7 +5,7 @@ ghost use Rattle.ddrescue_cli.specs.Work.{answer_of};
 use crash_site::site::SiteCall;
 use mapfile_text::read::MapError;
 use option_words::fault::UsageFault;
-use rescue_rules::stop::{RunEnd, Stop};
+use rescue_rules::stop::{Limit, RunEnd, Stop};
 
 /// A file that a rescue names.
 #[derive(Clone, Copy, Debug, PartialEq, Eq)]
@@ -61,6 +61,8 @@ pub enum Ending {
         call: SiteCall,
         earlier: Option<Stop>,
     },
+    /// The run met a limit that was set to it, and its map was saved.
+    LimitMet(Limit),
     /// Memory wasn't there.
     NoMemory,
 }
@@ -98,6 +100,7 @@ pub(crate) fn answer(end: RunEnd) -> Ending
             call,
             earlier: None,
         },
+        RunEnd::Stopped(Stop::LimitMet(limit)) => Ending::LimitMet(limit),
         RunEnd::Stopped(Stop::NoMemory) => Ending::NoMemory,
         RunEnd::SaveFailed { call, earlier } => Ending::SiteFault { call, earlier },
     }

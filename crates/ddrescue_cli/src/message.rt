@@ -1,14 +1,14 @@
 //! What is said of an answer on the console.
 ghost use Rattle.std.specs.Prelude.{◌≡◌, ◌+◌, ◌≤◌, ◌++◌};
 ghost use Rattle.arrayvec.specs.ArrayVec.{array_vec_len};
-ghost use Rattle.ddrescue_cli.specs.Messages.{which_text, map_error_text, behind_text, text_of_ending, message};
+ghost use Rattle.ddrescue_cli.specs.Messages.{which_text, map_error_text, behind_text, limit_text, text_of_ending, message};
 
 use crate::ending::{Ending, Which};
 use crate::plan::PROGRAM;
 use fault_texts::faults::{add_map_error, add_site_fault, add_usage};
-use fault_texts::message::{Message, add, begin, end};
+use fault_texts::message::{Message, add, add_number, begin, end};
 use mapfile_text::read::MapError;
-use rescue_rules::stop::Stop;
+use rescue_rules::stop::{Limit, Stop};
 
 /// Adds which map it is.
 fn add_which(message: &mut Message, which: Which)
@@ -34,17 +34,31 @@ fn add_refusal(message: &mut Message, which: Which, error: MapError)
     add_map_error(message, error);
 }
 
+/// Adds which limit a run met.
+fn add_limit(message: &mut Message, limit: Limit)
+    requires { array_vec_len message.old ≤ 60 }
+    ensures text { message.new.items ≡ message.old.items ++ limit_text limit }
+    ensures len { array_vec_len message.new ≤ array_vec_len message.old + 61 }
+{
+    match limit {
+        Limit::TooManyErrors(errors) => add_number(message, "read errors: ", errors as usize, ""),
+        Limit::TooManyAreas(areas) => add_number(message, "bad areas: ", areas as usize, ""),
+        Limit::TimedOut(idle) => add_number(message, "no whole read for ", idle as usize, " ms"),
+    }
+}
+
 /// Adds why a run had stopped before its last call failed.
 fn add_behind(message: &mut Message, earlier: Option<Stop>)
     requires { array_vec_len message.old ≤ 50 }
     ensures text { message.new.items ≡ message.old.items ++ behind_text earlier }
-    ensures len { array_vec_len message.new ≤ array_vec_len message.old + 30 }
+    ensures len { array_vec_len message.new ≤ array_vec_len message.old + 68 }
 {
     let Some(stop) = earlier else { return };
     add(message, " after ");
     match stop {
         Stop::SourceLost => add(message, "input lost"),
         Stop::Site(call) => add_site_fault(message, call),
+        Stop::LimitMet(limit) => add_limit(message, limit),
         Stop::NoMemory => add(message, "out of memory"),
     }
 }
@@ -71,6 +85,7 @@ fn add_ending(message: &mut Message, ending: Ending)
             add_site_fault(message, call);
             add_behind(message, earlier);
         }
+        Ending::LimitMet(limit) => add_limit(message, limit),
         Ending::NoMemory => add(message, "out of memory"),
     }
 }

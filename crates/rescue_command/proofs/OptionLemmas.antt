@@ -1,8 +1,11 @@
 -- What options set, one after the other, is within limits.
-use Rattle.std.proofs.Common.{◌≡◌, ℕ, ◌+◌, ◌-◌, ◌*◌, ◌/◌, ◌^◌, ◌<◌, ◌≤◌, Bool, true, false, cond, ◌||◌, List, [], ◌∷◌, slice_get, Option, Some, None, Result, Ok, Err, IfSome, refl, sym, ◌∙◌, ap, subst, arith}
+use Rattle.std.proofs.Common.{◌≡◌, ◌≢◌, ℕ, nat_eq, ◌+◌, ◌-◌, ◌*◌, ◌/◌, ◌^◌, ◌<◌, ◌≤◌, Bool, true, false, cond, ◌||◌, List, [], ◌∷◌, slice_get, Option, Some, None, Result, Ok, Err, IfSome, refl, sym, ◌∙◌, ap, subst, arith}
 use Rattle.std.proofs.lemmas.Nat.{div-add-mod'}
+use Rattle.std.proofs.lemmas.Bool.Decides.{nat_tests}
 use Rattle.std.proofs.lemmas.Option.{same_Some}
 use Rattle.std.specs.Option.{option_map, option_and_then}
+use Rattle.std.specs.Result.{result_ok}
+use Rattle.size_suffixes.specs.Interval.{interval}
 use Rattle.option_words.specs.Rows.{is_letter}
 use Rattle.option_words.specs.declared.reading.Item.{Item}
 use Rattle.option_values.specs.Values.{OptionRow, default_sector, is_given, is_name, is_of, letter_meant, number_by, options_with, set_by, set_in_turn, size_by, value_of, with_item, with_sector, within_range, word_at}
@@ -10,7 +13,7 @@ use Rattle.option_values.proofs.RowLemmas.{EachRow, letter_given, row_passes}
 use Rattle.option_values.proofs.TurnLemmas.{IsSector, fault_stays, sector_in_turn, turn_parts}
 use Rattle.option_values.proofs.ValueLemmas.{in_range, map_part, or_part, size_by_below, then_part}
 use Rattle.rescue_command.specs.declared.options.Options.{Options}
-use Rattle.rescue_command.specs.Options.{no_options, option_meanings, option_rows, options_in, quiet_letter, sector_letter, skips_of}
+use Rattle.rescue_command.specs.Options.{area_limit_of, limit_with, no_options, option_meanings, option_rows, options_in, quiet_letter, sector_letter, skips_of}
 use Rattle.rescue_command.proofs.SkipLemmas.{AreSkips, skips_of_are}
 
 -- the limits of the values, but for that of a cluster in bytes, which is looked at behind all options
@@ -170,6 +173,32 @@ length_keeps : (s : ℕ) (o o' : Options) (m : Option ℕ) → option_map (λ n.
 length_keeps s o o' m =
     value_keeps s o o' (λ n. record o { size = Some n }) m (λ n. refl) (λ n p h. h) (λ n. or_false o.quiet)
 
+pub limit_whole : (text : List ℕ) → ((rest : List ℕ) → text ≢ 43 ∷ rest) → area_limit_of text ≡ limit_with false text
+limit_whole [] none = refl
+limit_whole (c ∷ text) none =
+    let other : c ≢ 43 = λ is. none text (ap (λ (k : ℕ). k ∷ text) is) in
+    let apart : nat_eq c 43 ≡ false = grind (arith, nat_tests) in
+    rw apart refl
+
+areas_keep : (s : ℕ) (o o' : Options) (v : Option (List ℕ))
+    → option_map (λ (k : Bool × Option ℕ). record o { new_areas = k.0; max_bad_areas = k.1 })
+    (option_and_then area_limit_of v) ≡ Some o' → Keeps s o false o'
+areas_keep s o o' v =
+    value_keeps s o o' (λ (k : Bool × Option ℕ). record o { new_areas = k.0; max_bad_areas = k.1 })
+    (option_and_then area_limit_of v) (λ k. refl) (λ k p h. h) (λ k. or_false o.quiet)
+
+time_keeps : (s : ℕ) (o o' : Options) (v : Option (List ℕ))
+    → option_map (λ n. record o { timeout = Some n }) (option_and_then (λ text. result_ok (interval text)) v) ≡ Some o'
+    → Keeps s o false o'
+time_keeps s o o' v =
+    value_keeps s o o' (λ n. record o { timeout = Some n }) (option_and_then (λ text. result_ok (interval text)) v)
+    (λ n. refl) (λ n p h. h) (λ n. or_false o.quiet)
+
+errors_keep : (s : ℕ) (o o' : Options) (m : Option ℕ) → option_map (λ n. record o { max_read_errors = Some n }) m ≡ Some o'
+    → Keeps s o false o'
+errors_keep s o o' m =
+    value_keeps s o o' (λ n. record o { max_read_errors = Some n }) m (λ n. refl) (λ n p h. h) (λ n. or_false o.quiet)
+
 rows_keep : EachRow RowKeeps option_rows
 rows_keep = (
   (λ s o o' v. min_rate_keeps s o o' _),
@@ -182,38 +211,47 @@ rows_keep = (
         (
           (λ s o o' v. plain s o o' _ refl (λ h. h) refl),
           (
-            (λ s o o' v. plain s o o' _ refl (λ h. h) refl),
+            (λ s o o' v. areas_keep s o o' v),
             (
-              (λ s o o' v. name_keeps s o o' (is_name v)),
+              (λ s o o' v. plain s o o' _ refl (λ h. h) refl),
               (
-                (λ s o o' v. input_keeps s o o' v),
+                (λ s o o' v. name_keeps s o o' (is_name v)),
                 (
-                  (λ s o o' v. skips_keep s o o' v),
+                  (λ s o o' v. input_keeps s o o' v),
                   (
-                    (λ s o o' v. plain s o o' _ refl (λ h. h) refl),
+                    (λ s o o' v. skips_keep s o o' v),
                     (
-                      (λ s o o' v. name_keeps s o o' (is_name v)),
+                      (λ s o o' v. plain s o o' _ refl (λ h. h) refl),
                       (
-                        (λ s o o' v. plain s o o' _ refl (λ h. h) refl),
+                        (λ s o o' v. name_keeps s o o' (is_name v)),
                         (
                           (λ s o o' v. plain s o o' _ refl (λ h. h) refl),
                           (
                             (λ s o o' v. plain s o o' _ refl (λ h. h) refl),
                             (
-                              (λ s o o' v. output_keeps s o o' v),
+                              (λ s o o' v. plain s o o' _ refl (λ h. h) refl),
                               (
-                                (λ s o o' v. flag_keeps s o o' true _ refl (λ h. h) (or_true o.quiet)),
+                                (λ s o o' v. output_keeps s o o' v),
                                 (
-                                  (λ s o o' v. retries_keep s o o' (number_by v)),
+                                  (λ s o o' v. flag_keeps s o o' true _ refl (λ h. h) (or_true o.quiet)),
                                   (
-                                    (λ s o o' v. plain s o o' _ refl (λ h. h) refl),
+                                    (λ s o o' v. retries_keep s o o' (number_by v)),
                                     (
-                                      (λ s o o' v. length_keeps s o o' (size_by s v)),
+                                      (λ s o o' v. plain s o o' _ refl (λ h. h) refl),
                                       (
-                                        (λ s o o' v. plain s o o' _ refl (λ h. h) refl),
+                                        (λ s o o' v. length_keeps s o o' (size_by s v)),
                                         (
-                                          (λ s o o' v. plain s o o' _ refl (λ h. h) refl),
-                                          tt,
+                                          (λ s o o' v. time_keeps s o o' v),
+                                          (
+                                            (λ s o o' v. plain s o o' _ refl (λ h. h) refl),
+                                            (
+                                              (λ s o o' v. plain s o o' _ refl (λ h. h) refl),
+                                              (
+                                                (λ s o o' v. errors_keep s o o' (number_by v)),
+                                                tt,
+                                              ),
+                                            ),
+                                          ),
                                         ),
                                       ),
                                     ),

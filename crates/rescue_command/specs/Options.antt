@@ -1,5 +1,8 @@
 -- The options of a rescue, one a row, and what they ask for. A later option is a row more.
 use Rattle.std.specs.Prelude.{ℕ, ◌+◌, ◌-◌, ◌*◌, ◌/◌, ◌^◌, min, max, Bool, true, false, nat_eq, nat_le, nat_lt, List, [], ◌∷◌, Option, Some, None, Result, option_map, option_and_then, codes, if◌then◌else◌}
+use Rattle.std.specs.Result.{result_ok}
+use Rattle.size_suffixes.specs.Number.{number}
+use Rattle.size_suffixes.specs.Interval.{interval}
 use Rattle.option_words.specs.declared.row.Takes.TheVariants.{Never, Always}
 use Rattle.option_words.specs.declared.reading.Item.{Item}
 use Rattle.option_values.specs.Values.{Meaning, OptionRow, is_empty_text, is_name, meanings_of, number_by, size_by, within_range}
@@ -75,6 +78,17 @@ skips_of sector text =
     else option_and_then (λ (k : ℕ × ℕ). if nat_lt (whole_sectors sector k.1) (2 ^ 63) then Some k else None)
     (skips_in_parts sector (comma_parts text))
 
+-- ---- limits
+
+-- a limit of areas: how many there may be, and whether that many new ones
+abbrev pub limit_with : (new : Bool) → List ℕ → Option (Bool × Option ℕ)
+limit_with new text = option_map (λ n. (new, Some n)) (result_ok (number text))
+
+-- It is a number, or, where new areas alone count, a number behind a `+`.
+abbrev pub area_limit_of : List ℕ → Option (Bool × Option ℕ)
+area_limit_of [] = None
+area_limit_of (c ∷ text) = if nat_eq c 43 then limit_with true text else limit_with false (c ∷ text)
+
 -- ---- the rows
 
 -- an option that stands alone, and one with a value
@@ -113,6 +127,9 @@ option_rows =
     (λ sector o value. option_map (λ n. record o { cluster_sectors = Some n })
     (option_and_then (within_range 1 65536) (size_by sector value)))
     ∷ flag 67 (codes "complete-only") (λ o. record o { complete_only = true })
+    ∷ valued 101 (codes "max-bad-areas")
+    (λ sector o value. option_map (λ (k : Bool × Option ℕ). record o { new_areas = k.0; max_bad_areas = k.1 })
+    (option_and_then area_limit_of value))
     ∷ flag 102 (codes "force") (λ o. record o { forced = true })
     ∷ valued test_letter (codes "test-mode") (λ sector o value. if is_name value then Some o else None)
     ∷ valued 105 (codes "input-position") (λ sector o value. option_map (λ n. record o { input_position = n })
@@ -132,8 +149,12 @@ option_rows =
     (option_and_then (within_range 0 65535) (number_by value)))
     ∷ flag 82 (codes "reverse") (λ o. record o { reverse = true })
     ∷ valued 115 (codes "size") (λ sector o value. option_map (λ n. record o { size = Some n }) (size_by sector value))
+    ∷ valued 84 (codes "timeout") (λ sector o value. option_map (λ n. record o { timeout = Some n })
+    (option_and_then (λ text. result_ok (interval text)) value))
     ∷ flag 117 (codes "unidirectional") (λ o. record o { unidirectional = true })
     ∷ flag 118 (codes "verbose") (λ o. record o { verbose = true })
+    ∷ valued 88 (codes "max-read-errors") (λ sector o value. option_map (λ n. record o { max_read_errors = Some n })
+    (number_by value))
     ∷ []
 
 -- each option's letter, its long name, and whether it takes a value
@@ -152,6 +173,10 @@ no_options sector = record {
   output_position = None;
   size = None;
   retries = 0;
+  max_read_errors = None;
+  max_bad_areas = None;
+  new_areas = false;
+  timeout = None;
   try_again = false;
   retrim = false;
   no_trim = false;

@@ -1,7 +1,9 @@
 //! The options of a rescue, and what they ask for.
 ghost use Rattle.std.specs.Prelude.{◌≡◌, ◌^◌, ◌<◌, ◌≤◌, option_map, option_and_then};
+ghost use Rattle.std.specs.Result.{result_ok};
+ghost use Rattle.size_suffixes.specs.Interval.{interval};
 ghost use Rattle.option_values.specs.Values.{number_by, row_of, set_by, size_by, within_range};
-ghost use Rattle.rescue_command.specs.Options.{cluster_of, in_sectors, no_options, option_rows, sectors_of, skips_of};
+ghost use Rattle.rescue_command.specs.Options.{area_limit_of, cluster_of, in_sectors, limit_with, no_options, option_rows, sectors_of, skips_of};
 ghost use Rattle.rescue_command.specs.Command.{AreInLimits, AreOptions, is_too_large};
 
 use crate::skips::{DEFAULT_SKIP, DEFAULT_SKIP_MAX, in_sectors, read_skips};
@@ -10,6 +12,8 @@ use option_values::settings::Settings;
 use option_values::values::{is_name, number_by, size_by, within_range};
 use option_words::row::{Row, Takes};
 use option_words::table::OptionTable;
+use size_suffixes::interval::read_interval;
+use size_suffixes::number::read_number;
 
 /// The size of a cluster in bytes, where no option gives it and no sector is larger.
 const DEFAULT_CLUSTER: u64 = 65_536;
@@ -39,7 +43,7 @@ pub(crate) const DOMAIN_MAPFILE: char = 'm';
 pub(crate) const QUIET: char = 'q';
 
 /// The options. A later one is a row here and an arm in `with_letter`.
-pub static ROWS: [Row; 21] = [
+pub static ROWS: [Row; 24] = [
     Row {
         short: Some('a'),
         long: "min-read-rate",
@@ -64,6 +68,11 @@ pub static ROWS: [Row; 21] = [
         short: Some('C'),
         long: "complete-only",
         takes: Takes::Never,
+    },
+    Row {
+        short: Some('e'),
+        long: "max-bad-areas",
+        takes: Takes::Always,
     },
     Row {
         short: Some('f'),
@@ -136,6 +145,11 @@ pub static ROWS: [Row; 21] = [
         takes: Takes::Always,
     },
     Row {
+        short: Some('T'),
+        long: "timeout",
+        takes: Takes::Always,
+    },
+    Row {
         short: Some('u'),
         long: "unidirectional",
         takes: Takes::Never,
@@ -144,6 +158,11 @@ pub static ROWS: [Row; 21] = [
         short: Some('v'),
         long: "verbose",
         takes: Takes::Never,
+    },
+    Row {
+        short: Some('X'),
+        long: "max-read-errors",
+        takes: Takes::Always,
     },
 ];
 
@@ -170,6 +189,15 @@ pub struct Options {
     pub size: Option<u64>,
     /// How many passes go over the bad sectors again; 0 if it isn't given.
     pub retries: u32,
+    /// How many reads may fail; no limit if it isn't given.
+    pub max_read_errors: Option<u64>,
+    /// How many areas may have failed; no limit if it isn't given.
+    pub max_bad_areas: Option<u64>,
+    /// That many may have failed beyond those that were there at first; by default those count too.
+    pub new_areas: bool,
+    /// For how many seconds there may be no read that gives all it was asked for or meets the infile's end; no limit if
+    /// it isn't given.
+    pub timeout: Option<u64>,
     /// What the mapfile leaves to trim or to scrape is copied again; by default it isn't.
     pub try_again: bool,
     /// What the mapfile calls failed is trimmed again; by default it isn't.
@@ -209,6 +237,10 @@ impl Options {
             output_position: None,
             size: None,
             retries: 0,
+            max_read_errors: None,
+            max_bad_areas: None,
+            new_areas: false,
+            timeout: None,
             try_again: false,
             retrim: false,
             no_trim: false,
@@ -308,6 +340,33 @@ fn read_retries(value: Option<&str>) -> Option<u32>
     }
 }
 
+/// The limit of areas that a number gives, if it is one.
+fn limit_with(new: bool, number: &str) -> Option<(bool, Option<u64>)>
+    ensures { result ≡ limit_with new number.now }
+{
+    match read_number(number) {
+        Ok(number) => Some((new, Some(number))),
+        Err(_) => None,
+    }
+}
+
+/// The limit of areas that a value gives, if it does, and whether new areas alone count.
+fn read_area_limit(value: &str) -> Option<(bool, Option<u64>)>
+    ensures { result ≡ area_limit_of value.now }
+{
+    match value.strip_prefix('+') {
+        Some(number) => limit_with(true, number),
+        None => limit_with(false, value),
+    }
+}
+
+/// The seconds that a value gives, if it does.
+fn read_timeout(value: &str) -> Option<u64>
+    ensures { result ≡ result_ok (interval value.now) }
+{
+    read_interval(value).ok()
+}
+
 /// Writes the arms of a `match` over the letters: each sets one field or two. The size of a sector is set before, and
 /// the names of maps are read apart.
 macro_rules! set_by_letter {
@@ -336,6 +395,7 @@ fn with_letter(options: Options, sector: u64, letter: char, value: Option<&str>)
         'A' => try_again = true;
         'c' => cluster_sectors = Some(read_cluster_sectors(sector, value)?);
         'C' => complete_only = true;
+        'e' => new_areas, max_bad_areas = read_area_limit(value?)?;
         'f' => forced = true;
         'i' => input_position = size?;
         'K' => skip, skip_max = read_skips(sector, value?)?;
@@ -348,8 +408,10 @@ fn with_letter(options: Options, sector: u64, letter: char, value: Option<&str>)
         'r' => retries = read_retries(value)?;
         'R' => reverse = true;
         's' => size = Some(size?);
+        'T' => timeout = Some(read_timeout(value?)?);
         'u' => unidirectional = true;
         'v' => verbose = true;
+        'X' => max_read_errors = Some(number_by(value)?);
     )
 }
 

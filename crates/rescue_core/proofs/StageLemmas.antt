@@ -26,7 +26,7 @@ use Rattle.rescue_core.specs.RunState.{RunState, setting_in, passed, IsRunning, 
 use Rattle.rescue_core.specs.Stages.{Reached, Begun, Copied, Trimmed, Scraped, Over, IsTrimmed, IsScraped, IsOver, Known}
 use Rattle.rescue_core.specs.declared.turn.Turn.{Turn}
 use Rattle.rescue_core.specs.Across.{Across}
-use Rattle.rescue_core.specs.Turning.{stepped, IsEvent, Turned, Halted, Starved, Lost, Unwritten, Unsaved}
+use Rattle.rescue_core.specs.Turning.{stepped, IsEvent, Turned, Halted, Starved, Lost, Unwritten, Limited, Unsaved}
 
 -- its settings are sensible
 pub running_sensible : (r : RunState) (room : ℕ) → IsRunning r room → IsSensible (setting_in r)
@@ -158,6 +158,8 @@ known_halted reached request stop r r' room o is asks h known =
       | Starved why same read wrote told silent ↦ subst (Known reached) (sym same) known
       | Lost why same read wrote before few told silent ↦ subst (Known reached) (sym same) known
       | Unwritten why same e event named wrote silent ↦ subst (Known reached) (sym same) known
+      | Limited limit why e event same met wrote says ↦ subst (Known reached) (sym same)
+          (known_event reached r room request e r'.heard o.source o.source' o.clock o.clock' is asks event known)
       | Unsaved call why e event same due named wrote rose says ↦ subst (Known reached) (sym same)
           (known_event reached r room request e r'.heard o.source o.source' o.clock o.clock' is asks event known)
     ]

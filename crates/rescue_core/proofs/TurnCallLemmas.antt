@@ -1,5 +1,5 @@
 -- The calls that a turn makes on its files.
-use Rattle.std.proofs.Common.{◌≡◌, ℕ, Bool, true, false, ◌&&◌, IsTrue, if◌then◌else◌, List, [], ◌++◌, map, Option, Some, None, is_some, refl, sym, ap, subst, ◌∙◌, append_assoc}
+use Rattle.std.proofs.Common.{◌≡◌, ℕ, Bool, true, false, ◌&&◌, IsTrue, if◌then◌else◌, List, [], ◌++◌, map, Option, Some, None, is_none, is_some, refl, sym, ap, subst, ◌∙◌, append_assoc}
 use Rattle.std.proofs.lemmas.List.{map-append}
 use Rattle.fault_count.specs.Counts.{Rose, raised}
 use Rattle.crash_site.specs.declared.site.SiteCall.{SiteCall}
@@ -7,7 +7,8 @@ use Rattle.crash_site.specs.Calls.{Call, Entry, Done, BrokeAt}
 use Rattle.crash_site.specs.SiteState.{SiteState, Keeps, Makes, Breaks}
 use Rattle.save_resume.specs.MapNames.{MapNames}
 use Rattle.save_resume.specs.Saving.{save_calls, IsNameIn}
-use Rattle.rescue_rules.specs.Step.{Event, is_timely}
+use Rattle.rescue_rules.specs.declared.stop.Limit.{Limit}
+use Rattle.rescue_rules.specs.Step.{Event, is_timely, limit_met, step}
 use Rattle.rescue_rules.specs.Snapshots.{text_of, snapshot_of, is_due}
 use Rattle.rescue_rules.specs.RunCalls.{write_calls, due_calls, move_calls}
 use Rattle.rescue_core.specs.RunState.{RunState, names_in, setting_in}
@@ -28,7 +29,7 @@ save_if r due =
     if due then (if is_some r.names then save_calls (names_in r.names) (text_of r.line (snapshot_of r.machine)) else [])
     else []
 
--- A run has no limit, so with a mapfile a save is due where it is timely.
+-- Where no limit is met, with a mapfile a save is due where it is timely.
 due_where : (names : Option MapNames) (timely : Bool) (calls : List Call)
     → (if is_some names && timely && true then calls else [])
     ≡ (if timely then (if is_some names then calls else []) else [])
@@ -38,15 +39,19 @@ due_where (Some names) true calls = refl
 due_where (Some names) false calls = refl
 
 due_calls_are : (r : RunState) (e : Event) (heard : Bool)
+    → limit_met (setting_in r) (step (setting_in r) r.machine e) ≡ None
     → due_calls (setting_in r) (move_by r e) ≡ save_if (stepped r e heard) (is_timely r.machine e)
-due_calls_are r e heard =
-    due_where r.names (is_timely r.machine e)
-    (save_calls (names_in r.names) (text_of r.line (snapshot_of (move_by r e).after)))
+due_calls_are r e heard within =
+    let calls : List Call = save_calls (names_in r.names) (text_of r.line (snapshot_of (move_by r e).after)) in
+    ap (λ (met : Option Limit). if is_some r.names && is_timely r.machine e && is_none met then calls else []) within
+    ∙ due_where r.names (is_timely r.machine e) calls
 
-pub timely_due : (r : RunState) (e : Event) → is_some r.names ≡ true → is_timely r.machine e ≡ true
-    → is_due (setting_in r) (move_by r e) ≡ true
-timely_due r e there timely =
-    ap (λ (b : Bool). b && is_timely r.machine e && true) there ∙ ap (λ (b : Bool). true && b && true) timely
+pub timely_due : (r : RunState) (e : Event) → limit_met (setting_in r) (step (setting_in r) r.machine e) ≡ None
+    → is_some r.names ≡ true → is_timely r.machine e ≡ true → is_due (setting_in r) (move_by r e) ≡ true
+timely_due r e within there timely =
+    let met : Option Limit = limit_met (setting_in r) (step (setting_in r) r.machine e) in
+    ap (λ (b : Bool). b && is_timely r.machine e && is_none met) there ∙ ap (λ (b : Bool). true && b && is_none met) timely
+    ∙ ap is_none within
 
 -- only there a call of it has a name
 named_there : (names : Option MapNames) (due : Bool) (at : SiteCall) (calls : List Call)
@@ -61,13 +66,14 @@ save_named r due at named =
     named_there r.names due at (save_calls (names_in r.names) (text_of r.line (snapshot_of r.machine))) named
 
 -- a move makes its save behind its write
-pub move_makes : (r : RunState) (e : Event) (heard : Bool) (a b c : SiteState) → Keeps a b
+pub move_makes : (r : RunState) (e : Event) (heard : Bool) (a b c : SiteState)
+    → limit_met (setting_in r) (step (setting_in r) r.machine e) ≡ None → Keeps a b
     → Makes (write_calls (setting_in r) e.reading) a b → Makes (save_if (stepped r e heard) (is_timely r.machine e)) b c
     → Makes (move_calls (setting_in r) (move_by r e)) a c
-move_makes r e heard a b c keeps writes saves =
+move_makes r e heard a b c within keeps writes saves =
     let w : List Call = write_calls (setting_in r) e.reading in
     let all : List Call = save_if (stepped r e heard) (is_timely r.machine e) in
-    subst (λ (cs : List Call). Makes (w ++ cs) a c) (sym (due_calls_are r e heard))
+    subst (λ (cs : List Call). Makes (w ++ cs) a c) (sym (due_calls_are r e heard within))
     (makes_both w all a b c keeps writes saves)
 
 -- and up to a call of the save that failed

@@ -4,7 +4,7 @@ use Rattle.crash_site.specs.declared.site.SiteCall.{SiteCall}
 use Rattle.crash_site.specs.SiteState.{SiteState, Makes, Breaks}
 use Rattle.save_resume.specs.Saving.{IsNameIn, drafting_after_fault}
 use Rattle.rescue_rules.specs.declared.stop.Stop.{Stop}
-use Rattle.rescue_rules.specs.declared.stop.Stop.TheVariants.{SourceLost, Site, NoMemory}
+use Rattle.rescue_rules.specs.declared.stop.Stop.TheVariants.{SourceLost, Site, LimitMet, NoMemory}
 use Rattle.rescue_rules.specs.declared.stop.RunEnd.{RunEnd}
 use Rattle.rescue_rules.specs.declared.stop.RunEnd.TheVariants.{Done, Stopped, SaveFailed}
 use Rattle.rescue_rules.specs.Snapshots.{Snapshot, snapshot_of, finished_snapshot}
@@ -17,6 +17,7 @@ use Rattle.rescue_core.specs.RunState.{RunState, setting_in}
 abbrev pub drafting_after : Stop → Bool
 drafting_after SourceLost = false
 drafting_after (Site call) = drafting_after_fault call false
+drafting_after (LimitMet limit) = false
 drafting_after NoMemory = false
 
 -- what is saved: a run without a stop is finished
@@ -44,6 +45,7 @@ abbrev pub Closes : Option Stop → RunState → RunEnd → (site site' : SiteSt
 Closes None r end site site' = Saves None r end site site'
 Closes (Some SourceLost) r end site site' = Saves (Some SourceLost) r end site site'
 Closes (Some (Site call)) r end site site' = (end ≡ Stopped (Site call)) × (site' ≡ site)
+Closes (Some (LimitMet limit)) r end site site' = Saves (Some (LimitMet limit)) r end site site'
 Closes (Some NoMemory) r end site site' = Saves (Some NoMemory) r end site site'
 
 -- a run that stopped, and why
@@ -56,6 +58,7 @@ abbrev pub MayClose : Option Stop → SiteState → Type 0
 MayClose None site = site.is_drafting ≡ false
 MayClose (Some SourceLost) site = site.is_drafting ≡ false
 MayClose (Some (Site call)) site = ⊤
+MayClose (Some (LimitMet limit)) site = site.is_drafting ≡ false
 MayClose (Some NoMemory) site = site.is_drafting ≡ false
 
 -- what is said last

@@ -67,8 +67,10 @@ setting_with settings domain names line = record {
   retries = settings.retries;
   reverse = settings.reverse;
   one_way = settings.one_way;
-  max_errors = None;
-  timeout = None;
+  max_errors = settings.max_errors;
+  max_areas = settings.max_areas;
+  new_areas = settings.new_areas;
+  timeout = settings.timeout;
   verbose = false;
 }
 
@@ -115,6 +117,7 @@ machine_at s map phase place tally = record {
   over = tally.over;
   written = tally.written;
   said = tally.said;
+  first_areas = tally.first_areas;
 }
 
 -- the run that these parts make

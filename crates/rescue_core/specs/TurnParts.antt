@@ -45,6 +45,7 @@ tally_of m = record {
   over = m.over;
   written = m.written;
   said = m.said;
+  first_areas = m.first_areas;
 }
 
 -- a run with these settings, in this phase and at this place

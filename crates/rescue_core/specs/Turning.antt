@@ -1,5 +1,5 @@
 -- What a turn does, by its outcome.
-use Rattle.std.specs.Prelude.{◌≡◌, ℕ, ◌+◌, ◌<◌, ◌≤◌, ◌^◌, Bool, true, IsTrue, List, [], ◌∷◌, ◌++◌, length, map, slice_range}
+use Rattle.std.specs.Prelude.{◌≡◌, ℕ, ◌+◌, ◌<◌, ◌≤◌, ◌^◌, Bool, true, IsTrue, List, [], ◌∷◌, ◌++◌, length, map, slice_range, Some, None}
 use Rattle.fault_count.specs.Counts.{Rose}
 use Rattle.faulty_source.specs.Journal.{is_whole, kept}
 use Rattle.faulty_source.specs.SourceState.{SourceState, Reads, Loses}
@@ -12,8 +12,9 @@ use Rattle.rescue_console.specs.ClockState.{ClockState, Reads as ReadsClock}
 use Rattle.rescue_console.specs.Speaking.{Piece, SpeaksOn, out_pieces}
 use Rattle.transfer_token.specs.declared.token.Request.{Request}
 use Rattle.rescue_rules.specs.declared.stop.Stop.{Stop}
-use Rattle.rescue_rules.specs.declared.stop.Stop.TheVariants.{SourceLost, Site, NoMemory}
-use Rattle.rescue_rules.specs.Step.{Event, is_slow, step}
+use Rattle.rescue_rules.specs.declared.stop.Stop.TheVariants.{SourceLost, Site, LimitMet, NoMemory}
+use Rattle.rescue_rules.specs.declared.stop.Limit.{Limit}
+use Rattle.rescue_rules.specs.Step.{Event, is_slow, limit_met, step}
 use Rattle.rescue_rules.specs.Moves.{Move}
 use Rattle.rescue_rules.specs.Snapshots.{text_of, snapshot_of, is_due}
 use Rattle.rescue_rules.specs.RunCalls.{write_calls, move_calls}
@@ -60,12 +61,14 @@ turn_of r e = record {
 abbrev pub move_pieces : RunState → Event → List Piece
 move_pieces r e = out_pieces (move_lines (setting_in r) (move_by r e))
 
--- A whole turn: one event of the request, its step, its write, its line, and the save that is due behind it.
+-- A whole turn: one event of the request, its step, its write, its line, and the save that is due behind it; it meets no
+-- limit.
 pub record Turned (request : Request) (turn : Turn) (r r' : RunState) (o : Across) : Type 0 where
   pub event : Event
   pub is : IsEvent request event o.source o.source' o.clock o.clock'
   pub answers : turn ≡ turn_of r event
   pub steps : r' ≡ stepped r event r'.heard
+  pub within : limit_met (setting_in r) r'.machine ≡ None
   pub calls : Makes (move_calls (setting_in r) (move_by r event)) o.site o.site'
   pub says : SpeaksOn (move_pieces r event) r.heard r'.heard o.console o.console'
 
@@ -83,6 +86,13 @@ pub data Halted (request : Request) (stop : Stop) (r r' : RunState) (o : Across)
       → IsEvent request event o.source o.source' o.clock o.clock'
       → IsNameIn ImageWrite (write_calls (setting_in r) event.reading)
       → Breaks ImageWrite (write_calls (setting_in r) event.reading) o.site o.site' → o.console' ≡ o.console
+      → Halted request stop r r' o
+  -- at a limit, behind the event's step, its write and its line; no save is due then
+  Limited : (limit : Limit) → stop ≡ LimitMet limit → (event : Event)
+      → IsEvent request event o.source o.source' o.clock o.clock'
+      → r' ≡ stepped r event r'.heard → limit_met (setting_in r) r'.machine ≡ Some limit
+      → Makes (write_calls (setting_in r) event.reading) o.site o.site'
+      → SpeaksOn (move_pieces r event) r.heard r'.heard o.console o.console'
       → Halted request stop r r' o
   -- in a call of the save that was due, behind the event's step and its line
   Unsaved : (call : SiteCall) → stop ≡ Site call → (event : Event)

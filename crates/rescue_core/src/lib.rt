@@ -5,6 +5,7 @@ pub mod closing;
 mod counts;
 mod gather;
 mod landing;
+mod limit;
 mod line;
 mod mark;
 pub mod phases;

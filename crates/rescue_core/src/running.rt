@@ -9,6 +9,7 @@ ghost use Rattle.save_resume.specs.Saving.{save_calls, Saves as SavesMap};
 ghost use Rattle.rescue_domain.specs.Parts.{covers};
 ghost use Rattle.rescue_rules.specs.Passes.{numbered};
 ghost use Rattle.rescue_rules.specs.Machine.{IsRequest, has_request};
+ghost use Rattle.rescue_rules.specs.Step.{limit_met as limit_by};
 ghost use Rattle.rescue_rules.specs.Snapshots.{text_of, snapshot_of};
 ghost use Rattle.rescue_rules.specs.Lines.{phase_front, report_of, report_text};
 ghost use Rattle.rescue_core.specs.RunState.{names_in, setting_in, IsRunning, IsSound, Suits, HasPlaces, started, passed, showing};
@@ -19,6 +20,7 @@ ghost use Rattle.rescue_core.specs.Closing.{Closes, MayClose, Saves, drafting_af
 use crate::closing::{Closed, end_saved, last_shown};
 use crate::counts::{counts_at_first, counts_behind};
 use crate::gather::{Gathered, gather};
+use crate::limit::limit_met;
 use crate::line::{say_last, say_phase};
 use crate::mark::mark;
 use crate::place::place_behind;
@@ -40,7 +42,7 @@ use rescue_domain::domain::Domain;
 use rescue_domain::live::Live;
 use rescue_rules::phase::Phase;
 use rescue_rules::report::{Counts, Report};
-use rescue_rules::stop::{RunEnd, Stop};
+use rescue_rules::stop::{Limit, RunEnd, Stop};
 use save_resume::draft::SaveFault;
 use save_resume::names::Names;
 use std::marker::Model;
@@ -106,6 +108,7 @@ impl<T: Tiles> Running<T> {
     {
         let place = Place::first(&settings, loaded, tiles.end());
         let counts = counts_at_first(&domain, &tiles);
+        let tally = Tally::first(loaded, moment, counts.failed.areas);
         Running {
             settings,
             domain,
@@ -115,7 +118,7 @@ impl<T: Tiles> Running<T> {
             heading,
             phase: Phase::Copying,
             place,
-            tally: Tally::first(loaded, moment),
+            tally,
             counts,
             heard,
         }
@@ -191,7 +194,7 @@ impl<T: Tiles> Running<T> {
     }
 
     /// One turn: room in the map, a reading of the clock, the read, another reading, the write of what was kept, the
-    /// marks, the line if one is due, and the save if one is: without a mapfile none is.
+    /// marks, the line if one is due, a look at the limits, and the save if one is due: without a mapfile none is.
     // Inlined in the loop of each phase, or a request of one sector costs half as much again (bench/turns).
     #[inline(always)]
     pub fn turn<S: Source, D: Site, K: Clock, C: Console>(
@@ -241,6 +244,9 @@ impl<T: Tiles> Running<T> {
             saves,
         } = self.advance(request, source, site, clock)?;
         self.say_due(speaks, console);
+        if let Some(limit) = self.limit() {
+            return Err(Stop::LimitMet(limit));
+        }
         if let Err(fault) = self.save_due(saves, site) {
             return Err(Stop::Site(fault.call));
         }
@@ -367,6 +373,13 @@ impl<T: Tiles> Running<T> {
         }
     }
 
+    /// The limit that it has met, if it has.
+    fn limit(&self) -> Option<Limit>
+        ensures { result ≡ limit_by (setting_in self.now) self.now.machine }
+    {
+        limit_met(&self.settings, self.tally, self.counts)
+    }
+
     /// Says the line behind an event, if one is due. A console that fails isn't told any further.
     fn say_due<C: Console>(&mut self, due: bool, console: &mut C)
         ensures stands { self.new ≡ record self.old { heard = self.new.heard } }
@@ -421,6 +434,7 @@ impl<T: Tiles> Running<T> {
         match stop {
             Stop::SourceLost => self.save_last(Some(stop), site),
             Stop::Site(_) => RunEnd::Stopped(stop),
+            Stop::LimitMet(_) => self.save_last(Some(stop), site),
             Stop::NoMemory => self.save_last(Some(stop), site),
         }
     }

@@ -89,14 +89,17 @@ pub(crate) struct Tally {
     pub written: u64,
     /// The line that was said last behind an event, if one was.
     pub said: Option<Said>,
+    /// How many areas had failed at the start.
+    pub first_areas: u64,
 }
 
 impl Tally {
     ghost use Rattle.std.specs.Prelude.{◌≡◌, None};
     ghost use Rattle.rescue_core.specs.RunState.{first_shown};
 
-    /// That of a run which begins at this moment, and may go on from a state that a mapfile showed.
-    pub fn first(loaded: Option<MapState>, moment: u64) -> Tally
+    /// That of a run which begins at this moment, with so many areas that have failed, and may go on from a state that
+    /// a mapfile showed.
+    pub fn first(loaded: Option<MapState>, moment: u64, first_areas: u64) -> Tally
         ensures { result ≡ record {
           failed = 0;
           began = moment;
@@ -107,6 +110,7 @@ impl Tally {
           over = None;
           written = 0;
           said = None;
+          first_areas = first_areas;
         } }
     {
         let nothing = MapState {
@@ -124,6 +128,7 @@ impl Tally {
             over: None,
             written: 0,
             said: None,
+            first_areas,
         }
     }
 }

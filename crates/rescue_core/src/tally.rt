@@ -89,6 +89,7 @@ pub(crate) fn tally_behind(
         over: earlier(tally.over, end),
         written: tally.written.saturating_add(turn.kept),
         said: said_behind(tally.said, shown.current, after / 1000),
+        first_areas: tally.first_areas,
     }
 }
 

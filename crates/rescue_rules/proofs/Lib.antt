@@ -30,3 +30,4 @@ pub mod RunStopLemmas
 pub mod SnapshotLemmas
 pub mod SetLemmas
 pub mod CountLemmas
+pub mod LimitLemmas

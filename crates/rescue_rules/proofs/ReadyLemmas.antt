@@ -58,6 +58,7 @@ pub record Stays (m n : Machine) : Type 0 where
   pub over : n.over ≡ m.over
   pub written : n.written ≡ m.written
   pub said : n.said ≡ m.said
+  pub first_areas : n.first_areas ≡ m.first_areas
 
 stays_same : (m : Machine) → Stays m m
 stays_same m = record {
@@ -71,6 +72,7 @@ stays_same m = record {
   over = refl;
   written = refl;
   said = refl;
+  first_areas = refl;
 }
 
 stays_begun : (s : Setting) (m : Machine) (p : Pass) (ps : List Pass) → Stays m (begun s m p ps)
@@ -85,6 +87,7 @@ stays_begun s m p ps = record {
   over = refl;
   written = refl;
   said = refl;
+  first_areas = refl;
 }
 
 pub stays_next : (s : Setting) (m : Machine) (ps : List Pass) → Stays m (at_next s m ps)
@@ -99,6 +102,7 @@ stays_next s m [] = record {
   over = refl;
   written = refl;
   said = refl;
+  first_areas = refl;
 }
 stays_next s m (p ∷ ps) =
     cond_both (has_request s (begun s m p ps)) (begun s m p ps) (at_next s m ps) (Stays m)

@@ -8,6 +8,7 @@ use Rattle.rescue_rules.specs.declared.stop.TrimMode.TheVariants.{Lead}
 use Rattle.rescue_rules.specs.Setting.{Setting}
 use Rattle.rescue_rules.specs.declared.phase.Phase.TheVariants.{Copying}
 use Rattle.rescue_rules.specs.Passes.{copying_passes, passes_from, numbered}
+use Rattle.rescue_rules.specs.Counts.{counts_of}
 use Rattle.rescue_rules.specs.Machine.{Machine, start_of}
 use Rattle.rescue_rules.specs.Preparation.{prepared}
 
@@ -50,6 +51,7 @@ machine_of s map from shown time = record {
   over = None;
   written = 0;
   said = None;
+  first_areas = (counts_of s.domain map).failed.areas;
 }
 
 -- a mapfile showed that its rescue was copying

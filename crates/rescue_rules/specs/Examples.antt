@@ -35,6 +35,8 @@ small end cluster skip = record {
   reverse = false;
   one_way = false;
   max_errors = None;
+  max_areas = None;
+  new_areas = false;
   timeout = None;
   verbose = false;
 }

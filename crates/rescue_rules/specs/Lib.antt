@@ -19,6 +19,7 @@ pub mod RunCalls
 pub mod Work
 pub mod Stops
 pub mod Laws
+pub mod Limiting
 pub mod MachineLaws
 pub mod RunStops
 pub mod Examples

@@ -10,7 +10,7 @@ use Rattle.crash_site.specs.declared.site.SiteCall.{SiteCall}
 use Rattle.crash_site.specs.declared.site.SiteCall.TheVariants.{ImageOpen, ImageRead, ImageWrite, ImageSync, MapRead, DraftBegin, DraftAppend, DraftSync, DraftPublish, MapSettle, MapRemove}
 use Rattle.block_list.specs.Areas.{count_below}
 use Rattle.rescue_rules.specs.declared.report.Report.{Report}
-use Rattle.rescue_rules.specs.declared.stop.Stop.TheVariants.{SourceLost, Site, NoMemory}
+use Rattle.rescue_rules.specs.declared.stop.Stop.TheVariants.{SourceLost, Site, LimitMet, NoMemory}
 use Rattle.rescue_rules.specs.declared.stop.RunEnd.{RunEnd}
 use Rattle.rescue_rules.specs.declared.stop.RunEnd.TheVariants.{Done, Stopped, SaveFailed}
 use Rattle.rescue_rules.specs.Setting.{Setting}
@@ -102,6 +102,7 @@ abbrev pub is_unwritten : RunEnd → Bool
 is_unwritten Done = false
 is_unwritten (Stopped SourceLost) = false
 is_unwritten (Stopped (Site call)) = is_write call
+is_unwritten (Stopped (LimitMet limit)) = false
 is_unwritten (Stopped NoMemory) = false
 is_unwritten (SaveFailed call earlier) = false
 

@@ -33,9 +33,11 @@ pub record Machine : Type 0 where
   pub shown : MapState
   -- where reads met the input's end, if they did: what lies there or behind isn't asked for any more
   pub over : Option ℕ
-  -- how many bytes were written, and the line that was said last
+  -- how many bytes were written, and the line that was said last, if an event had one
   pub written : ℕ
   pub said : Option Said
+  -- how many areas of the domain had failed at the start
+  pub first_areas : ℕ
 
 -- the pass that it is in
 abbrev pub pass_of : Machine → Pass

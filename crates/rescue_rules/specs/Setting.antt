@@ -2,8 +2,7 @@
 use Rattle.std.specs.Prelude.{ℕ, ◌+◌, ◌-◌, ◌*◌, ◌^◌, ◌<◌, ◌≤◌, ◌≡◌, Bool, true, List, Option}
 use Rattle.save_resume.specs.MapNames.{MapNames}
 
--- What the words of a rescue ask for, once its input's length is known. Sizes and positions are in bytes, times in
--- milliseconds.
+-- What the words of a rescue ask for, once its input's length is known. Sizes and positions are in bytes.
 pub record Setting : Type 0 where
   -- the input and the output, and whether the output may be something else than a regular file
   pub infile : List ℕ
@@ -36,8 +35,11 @@ pub record Setting : Type 0 where
   pub retries : ℕ
   pub reverse : Bool
   pub one_way : Bool
-  -- how many reads may fail, and how long there may be no whole one
+  -- how many reads may fail; how many areas there may be that failed, and whether those that were there at first come on
+  -- top; and for how many seconds there may be no read but failed ones
   pub max_errors : Option ℕ
+  pub max_areas : Option ℕ
+  pub new_areas : Bool
   pub timeout : Option ℕ
   -- whether it is said first how much is asked for
   pub verbose : Bool

@@ -1,6 +1,6 @@
 -- What a read changes: the marks, the mode of trimming, the cursor and the skip, the counts and the times, what is left
 -- of the domain, and the line that was said last.
-use Rattle.std.specs.Prelude.{ℕ, ◌+◌, ◌-◌, ◌*◌, ◌/◌, min, Bool, true, false, ◌&&◌, ◌||◌, not, nat_le, nat_lt, List, length, Option, Some, None, if◌then◌else◌}
+use Rattle.std.specs.Prelude.{ℕ, ◌+◌, ◌-◌, ◌*◌, ◌/◌, min, Bool, true, false, ◌&&◌, ◌||◌, not, is_none, nat_le, nat_lt, List, length, Option, Some, None, option_map, if◌then◌else◌}
 use Rattle.block_list.specs.declared.status.Status.{Status}
 use Rattle.block_list.specs.declared.status.Status.TheVariants.{NonTrimmed, NonScraped, BadSector, Finished}
 use Rattle.block_list.specs.Map.{marked}
@@ -8,11 +8,14 @@ use Rattle.fault_count.specs.Counts.{raised}
 use Rattle.faulty_source.specs.Journal.{Reading, is_whole, is_failed, kept}
 use Rattle.rescue_rules.specs.declared.stop.TrimMode.{TrimMode}
 use Rattle.rescue_rules.specs.declared.stop.TrimMode.TheVariants.{Lead, Tail}
+use Rattle.rescue_rules.specs.declared.stop.Limit.{Limit}
+use Rattle.rescue_rules.specs.declared.stop.Limit.TheVariants.{TooManyErrors, TooManyAreas, TimedOut}
 use Rattle.rescue_rules.specs.Setting.{Setting}
 use Rattle.rescue_rules.specs.declared.phase.Phase.{Phase}
 use Rattle.rescue_rules.specs.declared.phase.Phase.TheVariants.{Copying, Trimming}
 use Rattle.rescue_rules.specs.Passes.{current_of, is_up}
-use Rattle.rescue_rules.specs.Machine.{Machine, pass_of, is_wanted}
+use Rattle.rescue_rules.specs.Counts.{counts_of}
+use Rattle.rescue_rules.specs.Machine.{Machine, pass_of, is_live, is_wanted}
 use Rattle.rescue_rules.specs.Said.{said_after, more_written}
 
 -- a read, and the times before it and behind it
@@ -126,18 +129,28 @@ step s m e =
       said = said_after m.said (current_of (pass_of m).phase) (e.after / 1000);
     }
 
--- a limit that a run has met: so many reads failed, or so many milliseconds went by without a whole one
-pub data Limit : Type 0 where
-  TooManyErrors : ℕ → Limit
-  TimedOut : ℕ → Limit
-
 abbrev pub is_beyond : Option ℕ → ℕ → Bool
 is_beyond None n = false
 is_beyond (Some limit) n = nat_lt limit n
 
--- the limit that a state has met: too many failed reads, or else too long without a whole one
+-- in how many areas what is left of the domain has failed
+abbrev pub areas_of : Setting → Machine → ℕ
+areas_of s m = (counts_of (is_live s m) m.map).failed.areas
+
+-- how many areas may have failed, if there is a limit: where new ones alone count, those at the start come on top
+abbrev pub areas_allowed : Setting → Machine → Option ℕ
+areas_allowed s m = option_map (λ n. if s.new_areas then m.first_areas + n else n) s.max_areas
+
+-- how many milliseconds there may be no read but failed ones, if there is a limit
+abbrev pub time_allowed : Setting → Option ℕ
+time_allowed s = option_map (λ n. n * 1000) s.timeout
+
+-- The limit that a state has met: too many failed reads, or else too many areas, or else too long without a read that
+-- didn't fail. Before the first event, which has its line, there is none.
 abbrev pub limit_met : Setting → Machine → Option Limit
 limit_met s m =
-    if is_beyond s.max_errors m.failed then Some (TooManyErrors m.failed)
-    else if is_beyond s.timeout (m.now - m.whole_at) then Some (TimedOut (m.now - m.whole_at))
+    if is_none m.said then None
+    else if is_beyond s.max_errors m.failed then Some (TooManyErrors m.failed)
+    else if is_beyond (areas_allowed s m) (areas_of s m) then Some (TooManyAreas (areas_of s m))
+    else if is_beyond (time_allowed s) (m.now - m.whole_at) then Some (TimedOut (m.now - m.whole_at))
     else None

@@ -10,7 +10,7 @@ use Rattle.crash_site.specs.Calls.{Call, Entry, Done, Lost, BrokeAt, image_open,
 use Rattle.save_resume.specs.Resuming.{barrier_calls}
 use Rattle.save_resume.specs.Loading.{BeginsLoad, IsLoad}
 use Rattle.rescue_rules.specs.declared.stop.Stop.{Stop}
-use Rattle.rescue_rules.specs.declared.stop.Stop.TheVariants.{SourceLost, Site, NoMemory}
+use Rattle.rescue_rules.specs.declared.stop.Stop.TheVariants.{SourceLost, Site, LimitMet, NoMemory}
 use Rattle.rescue_rules.specs.declared.stop.RunEnd.{RunEnd}
 use Rattle.rescue_rules.specs.declared.stop.RunEnd.TheVariants.{Done as Finished, Stopped, SaveFailed}
 use Rattle.rescue_rules.specs.Setting.{Setting}
@@ -43,11 +43,12 @@ abbrev pub events_in : Gain → List Event
 events_in g = events_of g.reads g.times
 
 -- Why a run ended, by the state that it came to, and how many readings of the clock there are beyond two for each read:
--- no request is left; or there was one, and the input was lost, or memory ran out.
+-- no request is left; or there was one, and the input was lost, or memory ran out; or a limit was met.
 abbrev pub EndsBy : Option Stop → Setting → Machine → (spare : ℕ) → Type 0
 EndsBy None s m spare = (has_ended s m ≡ true) × (spare ≡ 0)
 EndsBy (Some SourceLost) s m spare = (has_ended s m ≡ false) × (limit_met s m ≡ None) × (spare ≡ 1)
 EndsBy (Some (Site call)) s m spare = ⊥
+EndsBy (Some (LimitMet limit)) s m spare = (limit_met s m ≡ Some limit) × (spare ≡ 0)
 EndsBy (Some NoMemory) s m spare = (has_ended s m ≡ false) × (limit_met s m ≡ None) × (spare ≡ 0)
 
 -- how a run ends whose last calls returned

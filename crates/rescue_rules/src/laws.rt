@@ -5,6 +5,7 @@ ghost use Rattle.rescue_rules.specs.Examples.{JumpsAndComesBack, TrimsFrontAndBa
 ghost use Rattle.rescue_rules.specs.RunStops.{RunStopsSafely};
 ghost use Rattle.rescue_rules.specs.Preparation.{PreparesNoFinished};
 ghost use Rattle.rescue_rules.specs.Nameless.{RunNeedsNoNames};
+ghost use Rattle.rescue_rules.specs.Limiting.{LimitsBehindEvents};
 
 /// A rescue with a mapfile that goes as it should stops safely at every moment.
 pub fn a_rescue_stops_safely()
@@ -87,6 +88,11 @@ pub fn a_run_stops_safely()
 /// Going on over passes leads to a request, or to the end, where it leads if nothing is left to ask for.
 pub fn a_state_leads_on()
     ensures { StateLeadsOn }
+{}
+
+/// Limits are looked at behind events, and before the first one none is met.
+pub fn limits_are_met_behind_events()
+    ensures { LimitsBehindEvents }
 {}
 
 /// Preparation makes nothing finished, and leaves what is.

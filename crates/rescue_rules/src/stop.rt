@@ -3,6 +3,17 @@ ghost use Rattle.rescue_rules.specs.Lines.{is_done};
 
 use crash_site::site::SiteCall;
 
+/// A limit that a run met.
+#[derive(Clone, Copy, Debug, PartialEq, Eq)]
+pub enum Limit {
+    /// More reads failed than may: so many.
+    TooManyErrors(u64),
+    /// More areas failed than may: so many.
+    TooManyAreas(u64),
+    /// So many milliseconds went by without a read that gave all it was asked for, or met the input's end.
+    TimedOut(u64),
+}
+
 /// Why a run stopped before its end.
 #[derive(Clone, Copy, Debug, PartialEq, Eq)]
 pub enum Stop {
@@ -10,6 +21,8 @@ pub enum Stop {
     SourceLost,
     /// A call on the outfile, the mapfile or its folder failed.
     Site(SiteCall),
+    /// It met a limit that was set to it.
+    LimitMet(Limit),
     /// Memory wasn't there.
     NoMemory,
 }

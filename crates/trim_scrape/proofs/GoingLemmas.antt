@@ -1,5 +1,6 @@
 -- Turns of a pass behind copying.
-use Rattle.std.proofs.Common.{◌≡◌, ℕ, ◌+◌, ◌<◌, true, false, refl, sym, subst}
+use Rattle.std.proofs.Common.{◌≡◌, ℕ, ◌+◌, ◌<◌, true, false, refl, sym, ap, ◌∙◌, subst}
+use Rattle.rescue_rules.specs.Step.{limit_met}
 use Rattle.faulty_source.specs.SourceState.{SourceState}
 use Rattle.crash_site.specs.SiteState.{SiteState}
 use Rattle.rescue_console.specs.ClockState.{ClockState}
@@ -38,7 +39,10 @@ pub turns_in : (r r2 : RunState) (request : Request) (turn : Turn) (o : Across) 
     → IsRequest (setting_in r) r.machine request.pos (request.pos + request.len) → Turned request turn r r2 o
     → TurnsIn r r2
 turns_in r r2 request turn o i asks t =
-    let one : IsOneMove r t.event = one_move r request t.event o.source o.source' o.clock o.clock' asks t.is in
-    let by : PassStep r t.event r2.heard = passes_step r t.event r2.heard i one.asks one.few in
+    let one : IsOneMove r t.event =
+    one_move r request t.event o.source o.source' o.clock o.clock' i.within asks t.is in
+    let by : PassStep r t.event r2.heard =
+    passes_step r t.event r2.heard i one.asks one.few
+    (ap (λ (q : RunState). limit_met (setting_in r) q.machine) (sym t.steps) ∙ t.within) in
     subst (λ (q : RunState). TurnsIn r q) (sym t.steps)
     (record { phase = refl; pass = refl; inside = by.inside; less = by.less })

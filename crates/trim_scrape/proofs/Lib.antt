@@ -1,3 +1,4 @@
+pub mod BehindLemmas
 pub mod AskedLemmas
 pub mod BoundLemmas
 pub mod CountLemmas

@@ -1,5 +1,5 @@
 -- A run within a pass behind copying stays so in a turn.
-use Rattle.std.proofs.Common.{◌≡◌, ℕ, suc, ◌+◌, ◌-◌, ◌<◌, ◌≤◌, Bool, true, false, List, [], ◌∷◌, ◌++◌, length, map, drop, take, Some, refl, sym, ap, ◌∙◌, arith, subst, ⊎_elim}
+use Rattle.std.proofs.Common.{◌≡◌, ℕ, suc, ◌+◌, ◌-◌, ◌<◌, ◌≤◌, Bool, true, false, List, [], ◌∷◌, ◌++◌, length, map, drop, take, Some, None, refl, sym, ap, ◌∙◌, arith, subst, ⊎_elim}
 use Rattle.std.specs.List.{slice_get, slice_index_or, range_with_len}
 use Rattle.std.proofs.lemmas.Bool.{and_from, le-leb, true≢false}
 use Rattle.block_list.specs.declared.status.Status.TheVariants.{NonTrimmed, NonScraped}
@@ -12,7 +12,7 @@ use Rattle.rescue_rules.specs.declared.phase.Phase.TheVariants.{Copying, Trimmin
 use Rattle.rescue_rules.specs.Setting.{Setting, IsSensible}
 use Rattle.rescue_rules.specs.Passes.{Pass, taken, is_up, numbered, passes_behind, passes_from}
 use Rattle.rescue_rules.specs.Machine.{Machine, pass_of, has_taken, is_live, is_wanted, Search, search_in, search_of, is_ahead, IsRequest, has_request}
-use Rattle.rescue_rules.specs.Step.{Event, copies, is_copying, step}
+use Rattle.rescue_rules.specs.Step.{Event, copies, is_copying, limit_met, step}
 use Rattle.rescue_rules.specs.MachineLaws.{IsInOrder}
 use Rattle.rescue_rules.proofs.OverLemmas.{live_was, wanted_live, wanted_before}
 use Rattle.rescue_rules.proofs.ReadyLemmas.{order_begun}
@@ -28,9 +28,10 @@ use Rattle.trim_scrape.proofs.AskedLemmas.{StepsLater, steps_later, unasked}
 use Rattle.trim_scrape.proofs.CountLemmas.{count, fewer, front_has, front_had, front_within}
 use Rattle.trim_scrape.proofs.SweepLemmas.{Sweeps, scraping_sweeps, retrying_sweeps, sweeps_on, ahead_is, ahead_still, ahead_at_start}
 
--- A run within such a pass: those behind it follow; and in scraping it has left nothing behind.
+-- A run within such a pass: it has met no limit, and those behind it follow; and in scraping it has left nothing behind.
 pub record IsInPass (r : RunState) : Type 0 where
   pub sensible : IsSensible (setting_in r)
+  pub within : limit_met (setting_in r) r.machine ≡ None
   pub there : IsPassOf (setting_in r) r.phase r.pass
   pub passes : r.machine.passes ≡ numbered r.phase r.pass ∷ passes_from (setting_in r) r.phase (r.pass + 1)
   pub order : IsInOrder (setting_in r) r.machine
@@ -141,14 +142,16 @@ pub record PassStep (r : RunState) (e : Event) (heard : Bool) : Type 0 where
 
 pub passes_step : (r : RunState) (e : Event) (heard : Bool) → IsInPass r
     → IsRequest (setting_in r) r.machine e.reading.pos (e.reading.pos + e.reading.asked)
-    → length e.reading.given ≤ e.reading.asked → PassStep r e heard
-passes_step r e heard i asks few =
+    → length e.reading.given ≤ e.reading.asked → limit_met (setting_in r) (stepped r e heard).machine ≡ None
+    → PassStep r e heard
+passes_step r e heard i asks few within =
     let l : StepsLater (setting_in r) r.machine e =
     steps_later (setting_in r) r.machine e i.sensible i.order (later_is r i) asks few in
     record {
       less = reads_less r.phase r e heard i l asks refl;
       inside = record {
         sensible = i.sensible;
+        within = within;
         there = i.there;
         passes = i.passes;
         order = l.steps.order;
@@ -246,6 +249,7 @@ begins_pass phase number r b there =
     let n : Machine = (passed r phase number).machine in
     record {
       sensible = b.sensible;
+      within = b.within;
       there = there;
       passes = sym (ap (λ (ps : List Pass). drop 1 ps) by.passes) ∙ b.left ∙ first_is s phase number there;
       order = order_begun s r.machine p (drop 2 r.machine.passes);

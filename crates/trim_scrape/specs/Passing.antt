@@ -1,11 +1,12 @@
 -- The passes behind copying, one after another.
-use Rattle.std.specs.Prelude.{◌≡◌, ⊤, ℕ, ◌≤◌, false, drop}
+use Rattle.std.specs.Prelude.{◌≡◌, ⊤, ℕ, ◌≤◌, false, drop, None}
 use Rattle.block_list.specs.declared.status.Status.TheVariants.{NonTrimmed, NonScraped}
 use Rattle.rescue_rules.specs.declared.phase.Phase.{Phase}
 use Rattle.rescue_rules.specs.declared.phase.Phase.TheVariants.{Copying, Trimming, Scraping, Retrying}
 use Rattle.rescue_rules.specs.Setting.{Setting, IsSensible}
 use Rattle.rescue_rules.specs.Passes.{passes_from}
 use Rattle.rescue_rules.specs.Machine.{has_request}
+use Rattle.rescue_rules.specs.Step.{limit_met}
 use Rattle.rescue_core.specs.RunState.{RunState, setting_in, IsGone}
 
 -- a phase behind copying has a pass with this number
@@ -22,8 +23,10 @@ IsDone Trimming r = IsGone NonTrimmed r
 IsDone Scraping r = IsGone NonScraped r
 IsDone Retrying r = ⊤
 
--- A run whose pass has no request left: those that follow are the passes from this one of a phase on.
+-- A run that has met no limit, and whose pass has no request left: those that follow are the passes from this one of a
+-- phase on.
 pub record IsBefore (phase : Phase) (number : ℕ) (r : RunState) : Type 0 where
   pub sensible : IsSensible (setting_in r)
+  pub within : limit_met (setting_in r) r.machine ≡ None
   pub spent : has_request (setting_in r) r.machine ≡ false
   pub left : drop 1 r.machine.passes ≡ passes_from (setting_in r) phase number

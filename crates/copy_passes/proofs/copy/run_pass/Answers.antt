@@ -17,7 +17,8 @@ returns-in_err-turn g c =
     rw (p.1, p.2) (record {
       ends = record {
         goes = tt;
-        halted = halts _ _ _ _ _ _ _ _ _ _ _ _ _ _ _ _ _ c.turns.invariant.0 c.in-Some.ensures.some
+        halted = halts _ _ _ _ _ _ _ _ _ _ _ _ _ _ _ _ _ c.turns.invariant.0 c.turns.invariant.1.within
+            c.in-Some.ensures.some
             c.in_err-turn.ensures.halted c.in_err-turn.ensures.draft_left;
         objects = objects_stay _ _ _ _ _ _ _ _ _ _ _ _ c.turns.invariant.0.objects (record {
           source = c.turn.ensures.source;
@@ -33,7 +34,7 @@ returns-in_err-turn g c =
 
 pub turns-preserved : goal.turns-preserved
 turns-preserved g c = (
-  goes_on_by_turn _ _ _ _ _ _ _ _ _ _ _ _ _ _ _ _ _ c.turns.invariant.0 c.in-Some.ensures.some
+  goes_on_by_turn _ _ _ _ _ _ _ _ _ _ _ _ _ _ _ _ _ c.turns.invariant.0 c.turns.invariant.1.within c.in-Some.ensures.some
       c.in_ok-turn.ensures.turned c.in_ok-turn.ensures.draft (record {
         source = c.turn.ensures.source;
         site = c.turn.ensures.site;

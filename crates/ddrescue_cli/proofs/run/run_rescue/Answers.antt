@@ -1,4 +1,5 @@
 use Rattle.save_resume.proofs.FillLemmas.{keeps_more}
+use Rattle.ddrescue_cli.proofs.StoppedLemmas.{stopped_cause, stopped_draft}
 use Rattle.ddrescue_cli.proofs.EndLemmas.{run_end, stopped_end}
 use Rattle.ddrescue_cli.proofs.run.run_rescue.Goals as goal
 
@@ -12,7 +13,16 @@ returns-in-Ok-clause-site g c = keeps_more _ _ _ c.run_phases.ensures.ends.objec
 
 pub returns-in-Err-clause-went : goal.returns-in-Err-clause-went
 returns-in-Err-clause-went g c =
-    stopped_end _ _ _ _ _ _ _ _ c.in-Err.ensures.ends.halted c.close-in-Err.ensures.closes c.close-in-Err.ensures.says
+    stopped_end _ _ _ _ _ _ _ _ c.in-Err.ensures.ends.halted c.in-Err.ensures.ends.objects.site.tells
+    c.close-in-Err.ensures.closes c.close-in-Err.ensures.says
+
+pub returns-in-Err-clause-cause : goal.returns-in-Err-clause-cause
+returns-in-Err-clause-cause g c =
+    stopped_cause _ _ _ _ _ _ c.in-Err.ensures.ends.halted c.in-Err.ensures.ends.objects c.close-in-Err.ensures.closes
+
+pub returns-in-Err-clause-draft : goal.returns-in-Err-clause-draft
+returns-in-Err-clause-draft g c =
+    stopped_draft _ _ _ _ _ c.in-Err.ensures.ends.halted.draft c.close-in-Err.ensures.closes
 
 pub returns-in-Err-clause-site : goal.returns-in-Err-clause-site
 returns-in-Err-clause-site g c = keeps_more _ _ _ c.run_phases.ensures.ends.objects.site c.close-in-Err.ensures.site

@@ -25,7 +25,7 @@ turns-smaller g c =
 pub turns-preserved : goal.turns-preserved
 turns-preserved g c =
     let by = turns_in _ _ _ _ _ c.turns.invariant.1 c.in-Some.ensures.some c.in_ok-turn.ensures.turned in (
-      goes_on_by_turn _ _ _ _ _ _ _ _ _ _ _ _ _ _ _ _ _ c.turns.invariant.0 c.in-Some.ensures.some
+      goes_on_by_turn _ _ _ _ _ _ _ _ _ _ _ _ _ _ _ _ _ c.turns.invariant.0 c.turns.invariant.1.within c.in-Some.ensures.some
           c.in_ok-turn.ensures.turned c.in_ok-turn.ensures.draft (record {
             source = c.turn.ensures.source;
             site = c.turn.ensures.site;
@@ -42,7 +42,8 @@ returns-in_err-turn-clause-ends g c =
     let p = err_from_is_err_and c.from_residual.result c.from_residual.ensures.1 in
     rw (p.1, p.2) (record {
       goes = tt;
-      halted = halts _ _ _ _ _ _ _ _ _ _ _ _ _ _ _ _ _ c.turns.invariant.0 c.in-Some.ensures.some
+      halted = halts _ _ _ _ _ _ _ _ _ _ _ _ _ _ _ _ _ c.turns.invariant.0 c.turns.invariant.1.within
+            c.in-Some.ensures.some
           c.in_err-turn.ensures.halted c.in_err-turn.ensures.draft_left;
       objects = objects_stay _ _ _ _ _ _ _ _ _ _ _ _ c.turns.invariant.0.objects (record {
         source = c.turn.ensures.source;

@@ -1,12 +1,23 @@
+use Rattle.std.proofs.Common.{sym}
 use Rattle.std.proofs.lemmas.Result.{err_from_is_err_and}
 use Rattle.save_resume.proofs.FillLemmas.{keeps_more}
-use Rattle.rescue_core.proofs.TurnEndLemmas.{says_turned, says_unsaved}
+use Rattle.rescue_core.proofs.TurnEndLemmas.{says_limited, says_turned, says_unsaved}
 use Rattle.rescue_core.proofs.running.Running.turn.Goals as goal
 
 pub returns-in_err-turn-clause-halted : goal.returns-in_err-turn-clause-halted
 returns-in_err-turn-clause-halted g c =
     let stop = err_from_is_err_and c.from_residual.result c.from_residual.ensures.1 in
     rw (stop.1, stop.2) (c.in_err-turn.ensures.halted (g.C.Console.state c.args.console.now))
+
+pub returns-in-Some-clause-halted : goal.returns-in-Some-clause-halted
+returns-in-Some-clause-halted g c =
+    says_limited c.args.request c.in_ok-turn.field-0 c.args.self.now c.advance.new.self c.say_due.new.self _ c.in-Some.limit
+    (record {
+      advances = c.in_ok-turn.ensures.advanced;
+      keeps = c.advance.ensures.site.keeps;
+      stands = c.say_due.ensures.stands;
+      says = c.say_due.ensures.says;
+    }) (sym c.in-Some.ensures)
 
 pub returns-in-Err-clause-halted : goal.returns-in-Err-clause-halted
 returns-in-Err-clause-halted g c =
@@ -16,7 +27,7 @@ returns-in-Err-clause-halted g c =
       keeps = c.advance.ensures.site.keeps;
       stands = c.say_due.ensures.stands;
       says = c.say_due.ensures.says;
-    }) c.save_due.ensures.stands c.in-Err.ensures.call.named c.in-Err.ensures.call.broke
+    }) (sym c.in_default.ensures) c.save_due.ensures.stands c.in-Err.ensures.call.named c.in-Err.ensures.call.broke
 
 pub returns-clause-turned : goal.returns-clause-turned
 returns-clause-turned g c =
@@ -26,7 +37,7 @@ returns-clause-turned g c =
       keeps = c.advance.ensures.site.keeps;
       stands = c.say_due.ensures.stands;
       says = c.say_due.ensures.says;
-    }) c.save_due.ensures.stands c.in_default.ensures.call.made
+    }) (sym c.in_default.ensures) c.save_due.ensures.stands c.in_default-save_due.ensures.call.made
 
 pub returns-in-Err-clause-site : goal.returns-in-Err-clause-site
 returns-in-Err-clause-site g c = keeps_more _ _ _ c.advance.ensures.site.keeps c.save_due.ensures.call.keeps

@@ -1,0 +1,61 @@
+//! The limits that are set to a run.
+ghost use Rattle.std.specs.Prelude.{◌≡◌, option_map};
+ghost use Rattle.rescue_rules.specs.Step.{areas_allowed, is_beyond, limit_met, time_allowed};
+ghost use Rattle.rescue_core.specs.RunState.{RunState, Counted, setting_in};
+ghost use Rattle.rescue_core.specs.TurnParts.{tally_of};
+
+use crate::settings::Settings;
+use crate::state::Tally;
+use rescue_rules::report::Counts;
+use rescue_rules::stop::Limit;
+
+/// Whether a number is beyond a limit, if there is one.
+fn is_beyond(limit: Option<u64>, number: u64) -> bool
+    ensures { result ≡ is_beyond limit number }
+{
+    match limit {
+        None => false,
+        Some(limit) => limit < number,
+    }
+}
+
+/// Whether more areas have failed than may.
+fn has_too_many(settings: &Settings, tally: Tally, areas: u64) -> bool
+    ensures { (r : RunState) → r.settings ≡ settings.now → tally ≡ tally_of r.machine
+        → result ≡ is_beyond (areas_allowed (setting_in r) r.machine) areas }
+{
+    match settings.max_areas {
+        None => false,
+        Some(most) if settings.new_areas => tally.first_areas.saturating_add(most) < areas,
+        Some(most) => most < areas,
+    }
+}
+
+/// Whether there was no read but failed ones for longer than may be.
+fn is_late(settings: &Settings, idle: u64) -> bool
+    ensures { (r : RunState) → r.settings ≡ settings.now → result ≡ is_beyond (time_allowed (setting_in r)) idle }
+{
+    match settings.timeout {
+        None => false,
+        Some(seconds) => seconds.saturating_mul(1000) < idle,
+    }
+}
+
+/// The limit that a run has met, if it has, by what it has come to and its counts: none before its first event.
+pub(crate) fn limit_met(settings: &Settings, tally: Tally, counts: Counts) -> Option<Limit>
+    ensures { (r : RunState) → r.settings ≡ settings.now → tally ≡ tally_of r.machine → Counted r counts
+        → result ≡ limit_met (setting_in r) r.machine }
+{
+    let idle = tally.now.saturating_sub(tally.whole_at);
+    if tally.said.is_none() {
+        None
+    } else if is_beyond(settings.max_errors, tally.failed) {
+        Some(Limit::TooManyErrors(tally.failed))
+    } else if has_too_many(settings, tally, counts.failed.areas) {
+        Some(Limit::TooManyAreas(counts.failed.areas))
+    } else if is_late(settings, idle) {
+        Some(Limit::TimedOut(idle))
+    } else {
+        None
+    }
+}

@@ -1,0 +1,18 @@
+-- When a limit is looked at.
+use Rattle.std.specs.Prelude.{◌≡◌, ℕ, false, is_none, List, Option, None}
+use Rattle.block_list.specs.declared.status.Status.{Status}
+use Rattle.mapfile_text.specs.declared.state.MapState.{MapState}
+use Rattle.rescue_rules.specs.Setting.{Setting}
+use Rattle.rescue_rules.specs.Machine.{Machine}
+use Rattle.rescue_rules.specs.Step.{Event, step, limit_met}
+use Rattle.rescue_rules.specs.Beginning.{machine_of}
+
+-- none is met where a run begins, and behind an event a line was said, so that they are looked at
+pub record LooksAtLimits (s : Setting) (map : List Status) (from : Option MapState) (shown : MapState) (time : ℕ)
+    (m : Machine) (e : Event) : Type 0 where
+  pub first : limit_met s (machine_of s map from shown time) ≡ None
+  pub behind : is_none (step s m e).said ≡ false
+
+abbrev pub LimitsBehindEvents : Type 0
+LimitsBehindEvents = (s : Setting) (map : List Status) (from : Option MapState) (shown : MapState) (time : ℕ)
+    (m : Machine) (e : Event) → LooksAtLimits s map from shown time m e
