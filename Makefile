@@ -1,9 +1,10 @@
 # The usual ways into the repository: `make` proves and builds the programs, `make bin/ddrescue`, `make bin/ddrescuelog`
-# and `make bin/ddrescuepart` one of them, `make scenes` the player of transcripts, and `make check` runs the gate.
+# `make bin/ddrescuepart` and `make bin/ddrescueverify` one of them, `make scenes` the player of transcripts, and
+# `make check` runs the gate.
 # `make install` puts programs, man pages and completions of bash and zsh in place, and `make uninstall` takes them away.
 PREFIX ?= /usr/local
 SOURCES := crates.txt $(shell find crates -path '*/out' -prune -o -type f -print)
-PROGRAMS := ddrescue ddrescuelog ddrescuepart
+PROGRAMS := ddrescue ddrescuelog ddrescuepart ddrescueverify
 SHARE := $(DESTDIR)$(PREFIX)/share
 MANUAL := $(SHARE)/man/man1
 BASH := $(SHARE)/bash-completion/completions
@@ -33,6 +34,13 @@ bin/ddrescuepart: $(SOURCES)
 	    && cd crates/ddrescuepart && rt run -- "$$trial" 1 > /dev/null
 	mkdir -p bin
 	cp crates/ddrescuepart/out/ddrescuepart bin/ddrescuepart
+
+# Proves and builds the comparison, and has it compare an empty file.
+bin/ddrescueverify: $(SOURCES)
+	trial=$$(mktemp -d) && trap 'rm -rf "$$trial"' EXIT && touch "$$trial/out" && echo '0 + 1' > "$$trial/map" && \
+		cd crates/ddrescueverify && rt run -- /dev/null "$$trial/out" "$$trial/map"
+	mkdir -p bin
+	cp crates/ddrescueverify/out/ddrescueverify bin/ddrescueverify
 
 # Proves and builds the player of transcripts, and tries it on an empty one.
 bin/rescue_scenes: $(SOURCES)

@@ -68,6 +68,8 @@ pub(crate) enum Command {
     Log(Words),
     /// A run of ddrescuepart.
     Part(Words),
+    /// A run of ddrescueverify.
+    Verify(Words),
     /// So many calls of the site were made, and then a stop came.
     Stop {
         calls: usize,
@@ -102,6 +104,7 @@ pub(crate) fn read_command(alloc: Global, line: &[u8]) -> Result<Command, Refusa
         "run" => Ok(Command::Run(take_words(fields)?)),
         "log" => Ok(Command::Log(take_words(fields)?)),
         "part" => Ok(Command::Part(take_words(fields)?)),
+        "verify" => Ok(Command::Verify(take_words(fields)?)),
         "stop" => read_stop(fields),
         "stops" => read_stops(fields),
         "left" => Ok(Command::Left(take_texts(fields)?)),

@@ -13,6 +13,7 @@ mod scene;
 mod shown;
 mod stated;
 mod values;
+mod verified;
 
 use crate::player::play;
 use std::io::{self, Read};

@@ -1,4 +1,4 @@
-//! A scene: an input, files, and the runs of both programs that go over them.
+//! A scene: an input, files, and the runs of the programs that go over them.
 ghost use Rattle.std.specs.Prelude.{◌≡◌, false};
 ghost use Rattle.crash_site.specs.MemoryState.{state_of};
 
@@ -11,6 +11,7 @@ use crate::results::{append_calls, append_console, append_ending, append_reads};
 use crate::shown::{append_escaped, append_lines, append_shown};
 use crate::stated::Stated;
 use crate::values::BYTES_LIMIT;
+use crate::verified::verify;
 use crash_site::memory::MemorySite;
 use ddrescue_cli::ending::Ending;
 use ddrescue_cli::rescue::ddrescue;
@@ -283,6 +284,28 @@ impl Scene {
         let mut console = self.make_console()?;
         play_part(self.alloc, words, &mut source, &mut console, out)?;
         self.silent.clear();
+        self.source = Some(source);
+        Ok(())
+    }
+
+    /// Runs ddrescueverify, and adds its results.
+    pub(crate) fn verify(&mut self, words: &Words, out: &mut Vec<u8>) -> Result<(), Refusal> {
+        if self.site.is_drafting() {
+            return Err(Refusal::NotUnderstood);
+        }
+        let mut source = match self.source.take() {
+            Some(source) => source,
+            None => self.stated.make_source(self.alloc)?,
+        };
+        let mut console = self.make_console()?;
+        let read = source.journal().len();
+        let made = self.site.made();
+        let ending = verify(self.alloc, words, &mut source, &mut self.site, &mut console)?;
+        self.silent.clear();
+        append_reads(out, source.journal().get(read..).unwrap_or(&[]))?;
+        append_calls(out, &self.site, made)?;
+        append_console(out, &console)?;
+        append_ending(out, &ending, ending.code())?;
         self.source = Some(source);
         Ok(())
     }

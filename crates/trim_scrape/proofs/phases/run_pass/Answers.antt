@@ -43,7 +43,7 @@ returns-in_err-turn-clause-ends g c =
     rw (p.1, p.2) (record {
       goes = tt;
       halted = halts _ _ _ _ _ _ _ _ _ _ _ _ _ _ _ _ _ c.turns.invariant.0 c.turns.invariant.1.within
-            c.in-Some.ensures.some
+          c.in-Some.ensures.some
           c.in_err-turn.ensures.halted c.in_err-turn.ensures.draft_left;
       objects = objects_stay _ _ _ _ _ _ _ _ _ _ _ _ c.turns.invariant.0.objects (record {
         source = c.turn.ensures.source;

@@ -1,0 +1,30 @@
+//! ddrescueverify: compares what a mapfile calls finished with the infile again.
+#![tactic(auto)]
+
+use crash_site::folder::FolderSite;
+use ddrescueverify_cli::verify::ddrescueverify;
+use faulty_source::file::FileSource;
+use program_start::status::status_of;
+use program_start::streams::{Closed, fill_streams};
+use program_start::words::collect_words;
+use real_files::identity::OpenInput;
+use rescue_console::system::StdConsole;
+use std::io;
+use std::process::ExitCode;
+
+fn run(rt: HostRuntime) -> io::Result<u8> {
+    fill_streams(&rt, Closed::Faulty)?;
+    let words = collect_words(&rt)?;
+    let input = OpenInput::new(rt.alloc())?;
+    let mut source = FileSource::new(rt.clone()?);
+    let mut site = FolderSite::new(rt.clone()?);
+    source.note_in(input.share()?);
+    site.keep_apart(input);
+    let mut console = StdConsole::new(rt.clone()?);
+    let ending = ddrescueverify(rt.alloc(), &words, &mut source, &mut site, &mut console);
+    Ok(ending.code())
+}
+
+fn main(rt: HostRuntime) -> ExitCode {
+    ExitCode::from(status_of(run(rt)))
+}

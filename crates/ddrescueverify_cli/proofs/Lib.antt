@@ -1,0 +1,13 @@
+pub mod OutputLemmas
+pub mod LoadLemmas
+pub mod SaveLemmas
+pub mod OpenedLemmas
+pub mod SaysLemmas
+pub mod ShapeLemmas
+pub mod StopsLemmas
+pub mod OtherLemmas
+pub mod PromiseLemmas
+pub mod JudgeLemmas
+pub mod CompleteLemmas
+pub mod SavedLemmas
+pub mod ComparingLemmas

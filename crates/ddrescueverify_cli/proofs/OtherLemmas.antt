@@ -1,0 +1,162 @@
+-- Files that a call leaves as they read.
+use Rattle.std.proofs.Common.{◌≡◌, ◌≢◌, Bool, false, ℕ, IsTrue, List, [], ◌∷◌, ◌++◌, map, Option, Some, None, refl, sym, ap, ◌∙◌, inl, inr, subst}
+use Rattle.std.specs.Prelude.{⊤}
+use Rattle.crash_site.specs.Files.{File}
+use Rattle.crash_site.specs.Calls.{Call, Entry, Done as Returned, Failed, draft_append, draft_begin, draft_sync, image_read, map_read}
+use Rattle.crash_site.specs.Changes.{Changes}
+use Rattle.crash_site.specs.Folder.{Folder, after, after_done, after_entry, after_failed, appended, opened}
+use Rattle.crash_site.specs.Along.{Goes}
+use Rattle.crash_site.specs.SiteState.{Keeps as SiteKeeps, files_in}
+use Rattle.crash_site.proofs.DiskLemmas.{failed_files}
+use Rattle.crash_site.proofs.LawLemmas.{after-append, done_other}
+use Rattle.crash_site.proofs.AlongLemmas.{WentOn, all_go, broke_goes, made_goes}
+use Rattle.mapfile_text.specs.Pieces.{pieces_of}
+use Rattle.save_resume.specs.MapNames.{MapNames, names_of}
+use Rattle.save_resume.specs.Saving.{publish_calls, save_calls}
+use Rattle.work_steps.specs.Work.{Works}
+use Rattle.verify_command.specs.Command.{Command}
+use Rattle.ddrescueverify_cli.specs.Told.{Agrees, Outside, Told, files_of, line_of}
+use Rattle.ddrescueverify_cli.specs.Work.{Verifies, verify_faults, verify_rows}
+use Rattle.ddrescueverify_cli.proofs.ShapeLemmas.{AreReads, Early, HasSaved, IsRead, Reads, Saving, Shape, opening, opening_calls}
+use Rattle.ddrescueverify_cli.proofs.StopsLemmas.{own_shape}
+
+-- ---- calls that leave every file
+
+-- these calls do, as they are made one behind another
+abbrev AllLeave : Folder → List Call → Type 0
+AllLeave d [] = ⊤
+AllLeave d (call ∷ calls) = ((after_done d call).files ≡ d.files) × AllLeave (after_done d call) calls
+
+all_left : (d : Folder) (calls : List Call) (es : List Entry) → AllLeave d calls → Goes calls es
+    → (after d es).files ≡ d.files
+all_left d calls [] leave goes = refl
+all_left d [] (e ∷ es) leave goes = absurd goes
+all_left d (call ∷ calls) (Returned c ∷ es) leave goes =
+    let Q : Folder → Type 0 = λ f. (after f es).files ≡ d.files in
+    subst (λ (x : Call). Q (after_done d x)) (sym goes.0)
+    (all_left (after_done d call) calls es leave.1 goes.1 ∙ leave.0)
+all_left d (call ∷ calls) (Failed c ∷ es) leave goes =
+    ap (λ (r : List Entry). (after (after_failed d c) r).files) goes.1 ∙ failed_files d c
+
+open_leaves : (d : Folder) (name : List ℕ) (file : Option File) → (opened d name false file).files ≡ d.files
+open_leaves d name None = refl
+open_leaves d name (Some f) = refl
+
+opening_leaves : (c : Command) (d : Folder) → AllLeave d (opening_calls c)
+opening_leaves c d = (open_leaves d c.outfile (d.files c.outfile), (refl, (refl, tt)))
+
+read_leaves : (d : Folder) (e : Entry) → IsRead e → after_entry d e ≡ d
+read_leaves d (Returned (map_read name at size answer)) is = refl
+read_leaves d (Failed (map_read name at size answer)) is = refl
+read_leaves d (Returned (image_read at size answer)) is = refl
+read_leaves d (Failed (image_read at size answer)) is = refl
+read_leaves d (Returned c) is = absurd (cc)
+read_leaves d (Failed c) is = absurd (cc)
+
+reads_leave : (d : Folder) (es : List Entry) → AreReads es → after d es ≡ d
+reads_leave d [] reads = refl
+reads_leave d (e ∷ es) reads =
+    ap (λ (f : Folder). after f es) (read_leaves d e reads.0) ∙ reads_leave d es reads.1
+
+-- ---- calls that spare a file
+
+-- none of these calls changes it, as they are made one behind another
+abbrev AllSpare : List ℕ → Folder → List Call → Type 0
+AllSpare n d [] = ⊤
+AllSpare n d (call ∷ calls) = (Changes d call n → ⊥) × AllSpare n (after_done d call) calls
+
+-- so it reads as it did, however far they came
+spared : (n : List ℕ) (d : Folder) (calls : List Call) (es : List Entry) → AllSpare n d calls → Goes calls es
+    → (after d es).files n ≡ d.files n
+spared n d calls [] spare goes = refl
+spared n d [] (e ∷ es) spare goes = absurd goes
+spared n d (call ∷ calls) (Returned c ∷ es) spare goes =
+    let Q : Folder → Type 0 = λ f. (after f es).files n ≡ d.files n in
+    subst (λ (x : Call). Q (after_done d x)) (sym goes.0)
+    (spared n (after_done d call) calls es spare.1 goes.1 ∙ done_other d call n spare.0)
+spared n d (call ∷ calls) (Failed c ∷ es) spare goes =
+    ap (λ (r : List Entry). (after (after_failed d c) r).files n) goes.1
+    ∙ ap (λ (f : List ℕ → Option File). f n) (failed_files d c)
+
+appended_draft : (d : Folder) (o : Option (List ℕ)) (piece : List ℕ) → (appended d o piece).draft ≡ d.draft
+appended_draft d None piece = refl
+appended_draft d (Some draft) piece = refl
+
+-- another name than the draft's
+not_draft : (n draft : List ℕ) (o : Option (List ℕ)) → o ≡ Some draft → n ≢ draft → o ≡ Some n → ⊥
+not_draft n draft o begun apart is =
+    let both : Some draft ≡ Some n = sym begun ∙ is in
+    apart (let same : draft ≡ n = cc in sym same)
+
+module _ (names : MapNames) (n : List ℕ) (other : n ≢ names.map) (apart : n ≢ names.draft) where
+  fill_spares : (d : Folder) (pieces : List (List ℕ)) → d.draft ≡ Some names.draft
+      → AllSpare n d (map draft_append pieces ++ draft_sync ∷ publish_calls names)
+  fill_spares d [] begun = (
+    (λ never. never),
+    (
+      (λ changes. elim changes [
+        | inl is ↦ not_draft n names.draft d.draft begun apart is
+        | inr is ↦ other is
+      ]),
+      ((λ never. never), tt),
+    ),
+  )
+  fill_spares d (piece ∷ pieces) begun = (
+    not_draft n names.draft d.draft begun apart,
+    fill_spares (appended d d.draft piece) pieces (appended_draft d d.draft piece ∙ begun),
+  )
+
+  save_spares : (d : Folder) (text : List ℕ) → AllSpare n d (save_calls names text)
+  save_spares d text =
+      ((λ never. never), (apart, fill_spares (after_done d (draft_begin names.draft)) (pieces_of text) refl))
+
+  saved_goes : (text : List ℕ) (rest : List Entry) → HasSaved names text [] rest → WentOn (save_calls names text) [] rest
+  saved_goes text rest (inl made) = made_goes (save_calls names text) [] rest made
+  saved_goes text rest (inr (at, broke)) = broke_goes at (save_calls names text) [] rest broke
+
+  save_leaves : (d : Folder) (text : List ℕ) (rest : List Entry) → HasSaved names text [] rest
+      → (after d rest).files n ≡ d.files n
+  save_leaves d text rest saved =
+      let went : WentOn (save_calls names text) [] rest = saved_goes text rest saved in
+      ap (λ (r : List Entry). (after d r).files n) went.is
+      ∙ spared n d (save_calls names text) went.since (save_spares d text) went.goes
+
+-- ---- all of it
+
+module _ (c : Command) (d : Folder) (n : List ℕ) (other : n ≢ c.mapfile) (apart : n ≢ (names_of c.mapfile).draft) where
+  -- behind the opening
+  opened_at : (after d (opening c)).files ≡ d.files
+  opened_at = all_left d (opening_calls c) (opening c) (opening_leaves c d) (all_go (opening_calls c))
+
+  reads_at : (reads : List Entry) → AreReads reads → (after d (opening c ++ reads)).files ≡ d.files
+  reads_at reads are =
+      ap (λ (f : Folder). f.files) (after-append d (opening c) reads ∙ reads_leave (after d (opening c)) reads are)
+      ∙ opened_at
+
+  shape_leaves : (there : Type 0) (saved : Bool) (IsText : List ℕ → Type 0) (calls : List Entry)
+      → Shape c there saved IsText calls → (after d calls).files n ≡ d.files n
+  shape_leaves there saved IsText calls (Early short none goes) =
+      ap (λ (f : List ℕ → Option File). f n) (all_left d (opening_calls c) calls (opening_leaves c d) goes)
+  shape_leaves there saved IsText calls (Reads reads is_there short are is) =
+      ap (λ (r : List Entry). (after d r).files n) is
+      ∙ ap (λ (f : List ℕ → Option File). f n) (reads_at reads are)
+  shape_leaves there saved IsText calls (Saving reads rest text is_there are is_text has whole is) =
+      let front : Folder = after (after d (opening c)) reads in
+      ap (λ (r : List Entry). (after d r).files n) is
+      ∙ ap (λ (f : Folder). f.files n)
+      (after-append d (opening c) (reads ++ rest) ∙ after-append (after d (opening c)) reads rest)
+      ∙ save_leaves (names_of c.mapfile) n other apart front text rest has
+      ∙ ap (λ (f : List ℕ → Option File). f n)
+      (ap (λ (f : Folder). f.files) (reads_leave (after d (opening c)) reads are) ∙ opened_at)
+
+-- a file that isn't the mapfile nor its draft reads as it did
+pub others_stand : (c : Command) (t : Told) (o : Outside) → Agrees c t o → SiteKeeps t.site t.site' → IsTrue t.site.tells
+    → Works verify_faults (verify_rows c o.found o.end) (Verifies c (line_of t) o.found o.end o.looks) t.answer o.did
+    → (name : List ℕ) → name ≢ c.mapfile → name ≢ (names_of c.mapfile).draft
+    → files_in t.site' name ≡ files_of t name
+others_stand c t o agrees keeps tells works name other apart =
+    ap (λ (s : Folder). (after s t.site'.calls).files name) (keeps.start tells)
+    ∙ ap (λ (r : List Entry). (after t.site.start r).files name) (agrees.calls tells)
+    ∙ ap (λ (f : Folder). f.files name) (after-append t.site.start t.site.calls o.did.gain.calls)
+    ∙ shape_leaves c (after t.site.start t.site.calls) name other apart _ _ _ o.did.gain.calls
+    (own_shape c t o agrees tells works)

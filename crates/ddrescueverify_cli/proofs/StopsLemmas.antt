@@ -1,0 +1,493 @@
+-- What a stop of the work finds, by the calls that it made.
+use Rattle.std.proofs.Common.{◌≡◌, ◌≢◌, ◌⊎◌, ℕ, zero, suc, ◌+◌, ◌-◌, ◌<◌, ◌≤◌, Bool, true, false, cond, ◌||◌, IsTrue, List, [], ◌∷◌, ◌++◌, map, length, take, Option, Some, None, Result, Ok, Err, refl, sym, ap, ◌∙◌, inl, inr, subst, arith, append_assoc, append-nil, length-append}
+use Rattle.std.specs.Prelude.{codes}
+use Rattle.std.specs.Str.{bytes_eq}
+use Rattle.std.specs.List.{list_any}
+use Rattle.std.proofs.lemmas.Bool.{cases_lt, cond_both}
+use Rattle.fault_count.specs.Plan.{no_plan}
+use Rattle.mapfile_text.specs.Printed.{printed}
+use Rattle.crash_site.specs.declared.site.SiteCall.{SiteCall}
+use Rattle.crash_site.specs.Files.{File, bytes_of}
+use Rattle.crash_site.specs.Calls.{Entry, Done as Returned, BrokeAt, image_open, image_sync, map_settle}
+use Rattle.crash_site.specs.Folder.{Folder, opened}
+use Rattle.crash_site.specs.Along.{Along, AlongCalls, Goes}
+use Rattle.crash_site.specs.Disk.{Showing, Disk, only, with_opened, under_some, at_rest, entered, disk_after}
+use Rattle.crash_site.specs.Left.{MayShow, Leaves, until, MayBeLeft}
+use Rattle.crash_site.specs.SiteState.{SiteState, files_in}
+use Rattle.crash_site.proofs.AlongLemmas.{along_until, along_calls}
+use Rattle.crash_site.proofs.DiskLemmas.{reads_run, rest_sound, run-append, run_reads}
+use Rattle.crash_site.proofs.LawLemmas.{found_only, own_name, until_all, left_past}
+use Rattle.save_resume.specs.declared.draft.SaveFault.{SaveFault}
+use Rattle.save_resume.specs.MapNames.{MapNames, names_of}
+use Rattle.save_resume.specs.Saving.{save_calls, drafting_after_fault, Saves}
+use Rattle.save_resume.specs.SaveStops.{disk_of, text_file, IsOldOrNew, Old, New, IsSaved}
+use Rattle.save_resume.proofs.StopLemmas.{stops_in_save, saved_where_ok}
+use Rattle.rescue_rules.specs.Start.{Stands as StandsFor}
+use Rattle.rescue_rules.specs.Stops.{has_barrier, is_sync}
+use Rattle.work_steps.specs.Work.{Works}
+use Rattle.work_steps.proofs.GainLemmas.{broke_behind, broke_named}
+use Rattle.rescue_verify.specs.Looks.{Look, reads_of, seen_in}
+use Rattle.rescue_verify.specs.Verified.{judged_by}
+use Rattle.verify_command.specs.Command.{Command}
+use Rattle.ddrescueverify_cli.specs.Answers.{is_saved}
+use Rattle.ddrescueverify_cli.specs.Asked.{heading_of, shown_by}
+use Rattle.ddrescueverify_cli.specs.Stops.{CouldBefore, IsVerifiedMap, LeftAt, StopsSafely}
+use Rattle.ddrescueverify_cli.specs.Told.{Agrees, Found, Outside, Told, files_of, line_of, place_by}
+use Rattle.ddrescueverify_cli.specs.Work.{Verifies, verify_faults, verify_rows}
+use Rattle.ddrescueverify_cli.proofs.ShapeLemmas.{AreReads, Early, HasSaved, IsNewText, Reads, Saving, Shape, opening, opening_calls, reads_at, reads_keep, reads_until, shape_of}
+
+-- ---- a save behind other calls
+
+-- a site that began so and made these calls
+abbrev site_at : Folder → List Entry → (drafting : Bool) → (faults : ℕ) → SiteState
+site_at start calls drafting faults = record {
+  tells = true;
+  start = start;
+  calls = calls;
+  is_open = false;
+  is_drafting = drafting;
+  faults = faults;
+  is_planned = false;
+  plan = no_plan;
+  starved = 0;
+}
+
+-- what a save did, by a result without a value
+abbrev SavesBy : MapNames → List ℕ → Result (Unit {0}) SaveFault → (old new : SiteState) → Type 0
+SavesBy names text result old new = Saves (save_calls names text) false result old new
+
+made_saves : (names : MapNames) (text : List ℕ) (start : Folder) (old new : List Entry)
+    → new ≡ old ++ map Returned (save_calls names text)
+    → SavesBy names text (Ok tt) (site_at start old false 0) (site_at start new false 0)
+made_saves names text start old new grew = record {
+  keeps = record { tells = refl; start = λ t. refl; planned = refl; later = omega arith };
+  made = record { made = λ t. grew; faults = refl };
+  broke = tt;
+  named = tt;
+  image = refl;
+  draft = refl;
+  draft_left = tt;
+}
+
+broke_saves : (names : MapNames) (text : List ℕ) (start : Folder) (at : SiteCall) (old new : List Entry)
+    → BrokeAt at (save_calls names text) old new
+    → SavesBy names text (Err (record { call = at })) (site_at start old false 0)
+    (site_at start new (drafting_after_fault at false) 1)
+broke_saves names text start at old new broke = record {
+  keeps = record { tells = refl; start = λ t. refl; planned = refl; later = omega arith };
+  made = tt;
+  broke = record { broke = λ t. broke; rose = refl };
+  named = broke_named at (save_calls names text) old new broke;
+  image = refl;
+  draft = tt;
+  draft_left = refl;
+}
+
+stops_by_save : (names : MapNames) (text : List ℕ) (start : Folder) (old new : List Entry) → HasSaved names text old new
+    → (k : ℕ) (found : List ℕ → Option File) → length old ≤ k → k ≤ length new → MayBeLeft start new k found
+    → (name : List ℕ) → name ≢ names.draft
+    → IsOldOrNew names text (disk_after (at_rest start) old) (disk_after (at_rest start) (until k new)) name
+    (found name)
+stops_by_save names text start old new (inl grew) k found le most left name apart =
+    stops_in_save names text (Ok tt) (site_at start old false 0) (site_at start new false 0) refl
+    (made_saves names text start old new grew) k found le most left name apart
+stops_by_save names text start old new (inr (at, broke)) k found le most left name apart =
+    stops_in_save names text (Err (record { call = at })) (site_at start old false 0)
+    (site_at start new (drafting_after_fault at false) 1) refl
+    (broke_saves names text start at old new broke) k found le most left name apart
+
+saved_by : (names : MapNames) (text : List ℕ) (start : Folder) (old new : List Entry)
+    → new ≡ old ++ map Returned (save_calls names text)
+    → IsSaved names text (disk_after (at_rest start) old) (disk_after (at_rest start) new)
+saved_by names text start old new grew =
+    saved_where_ok names text (Ok tt) (site_at start old false 0) (site_at start new false 0)
+    (made_saves names text start old new grew) refl
+
+save_behind : (names : MapNames) (text : List ℕ) (before rest : List Entry) → HasSaved names text [] rest
+    → HasSaved names text before (before ++ rest)
+save_behind names text before rest (inl made) = inl (ap (λ (r : List Entry). before ++ r) made)
+save_behind names text before rest (inr (at, broke)) =
+    let P : List Entry → Type 0 = λ r. BrokeAt at (save_calls names text) r (before ++ rest) in
+    inr (at, subst P (append-nil before) (broke_behind at (save_calls names text) before [] rest broke))
+
+-- a draft has another name than its mapfile
+apart_draft : (name : List ℕ) → name ≢ (names_of name).draft
+apart_draft name same =
+    let lengths : length name ≡ length name + length (codes ".tmp") =
+    ap length same ∙ length-append name (codes ".tmp") in
+    let four : length (codes ".tmp") ≡ 4 = refl in
+    omega (arith, lengths, four)
+
+-- ---- what a stop may show up to the barrier, and behind it
+
+-- all that may be found on a disk could be found on another
+abbrev Narrower : Disk → Disk → Type 0
+Narrower was d = (name : List ℕ) (found : Option File) → MayShow (d.shows name) found → MayShow (was.shows name) found
+
+module _ (c : Command) (was : Disk) (sound : Leaves was was.reads.files) where
+  abbrev at_open : Disk
+  at_open = entered was (Returned (image_open c.outfile false))
+
+  abbrev at_settle : Disk
+  at_settle = entered at_open (Returned (map_settle c.mapfile))
+
+  abbrev at_sync : Disk
+  at_sync = entered at_settle (Returned image_sync)
+
+  open_shows : Narrower was at_open
+  open_shows name found =
+      let P : Showing → Type 0 = λ s. MayShow s found → MayShow (was.shows name) found in
+      cond_both (bytes_eq name c.outfile) (with_opened false (was.reads.files name) (was.shows name)) (was.shows name) P
+      (λ on h. h) (λ off h. h)
+
+  open_files : (file : Option File) → (opened was.reads c.outfile false file).files ≡ was.reads.files
+  open_files None = refl
+  open_files (Some f) = refl
+
+  files_stand : at_open.reads.files ≡ was.reads.files
+  files_stand = open_files (was.reads.files c.outfile)
+
+  -- what reads could be found
+  as_it_reads : (name : List ℕ) (found : Option File) → found ≡ at_open.reads.files name → MayShow (was.shows name) found
+  as_it_reads name found is =
+      let own : found ≡ was.reads.files name =
+      is ∙ ap (λ (files : List ℕ → Option File). files name) files_stand in
+      subst (λ (f : Option File). MayShow (was.shows name) f) (sym own) (sound name)
+
+  settle_shows : Narrower was at_settle
+  settle_shows name found =
+      let P : Showing → Type 0 = λ s. MayShow s found → MayShow (was.shows name) found in
+      cond_both (bytes_eq name c.mapfile) (only (at_open.reads.files name)) (at_open.shows name) P
+      (λ on h. as_it_reads name found (found_only (at_open.reads.files name) found h))
+      (λ off h. open_shows name found h)
+
+  synced_shows : (o : Option (List ℕ)) (name : List ℕ) (found : Option File)
+      → MayShow ((under_some o (λ file s. only file) at_settle).shows name) found → MayShow (was.shows name) found
+  synced_shows None name found h = settle_shows name found h
+  synced_shows (Some image) name found h =
+      let P : Showing → Type 0 = λ s. MayShow s found → MayShow (was.shows name) found in
+      cond_both (bytes_eq name image) (only (at_settle.reads.files name)) (at_settle.shows name) P
+      (λ on g. as_it_reads name found (found_only (at_open.reads.files name) found g))
+      (λ off g. settle_shows name found g) h
+
+  sync_shows : Narrower was at_sync
+  sync_shows name found h = synced_shows at_settle.reads.image name found h
+
+  along_opening : AlongCalls (Narrower was) was (opening_calls c)
+  along_opening =
+      ((λ name found h. h), open_shows, (open_shows, open_shows, (settle_shows, settle_shows, sync_shows)))
+
+  module _ (f : File) (there : was.reads.files c.outfile ≡ Some f) where
+    image_is : at_settle.reads.image ≡ Some c.outfile
+    image_is = ap (λ (o : Option File). (opened was.reads c.outfile false o).image) there
+
+    -- what is shown behind the sync under a name
+    shown_as : (name : List ℕ) (found : Option File) → MayShow (at_sync.shows name) found
+        → MayShow (cond (bytes_eq name c.outfile) (only (at_settle.reads.files name)) (at_settle.shows name)) found
+    shown_as name found h =
+        subst (λ (o : Option (List ℕ)). MayShow ((under_some o (λ file s. only file) at_settle).shows name) found) image_is
+        h
+
+    output_sure : (found : Option File) → MayShow (at_sync.shows c.outfile) found → found ≡ was.reads.files c.outfile
+    output_sure found h =
+        let own : MayShow (only (at_open.reads.files c.outfile)) found =
+        subst (λ (b : Bool). MayShow (cond b (only (at_settle.reads.files c.outfile)) (at_settle.shows c.outfile)) found)
+        (own_name c.outfile) (shown_as c.outfile found h) in
+        found_only (at_open.reads.files c.outfile) found own
+        ∙ ap (λ (files : List ℕ → Option File). files c.outfile) files_stand
+
+    mapfile_sure : (found : Option File) → MayShow (at_sync.shows c.mapfile) found → found ≡ was.reads.files c.mapfile
+    mapfile_sure found h =
+        let settled : MayShow (at_settle.shows c.mapfile) found → found ≡ at_open.reads.files c.mapfile =
+        λ g. found_only (at_open.reads.files c.mapfile) found
+        (subst (λ (b : Bool). MayShow (cond b (only (at_open.reads.files c.mapfile)) (at_open.shows c.mapfile)) found)
+        (own_name c.mapfile) g) in
+        let P : Showing → Type 0 = λ s. MayShow s found → found ≡ at_open.reads.files c.mapfile in
+        cond_both (bytes_eq c.mapfile c.outfile) (only (at_settle.reads.files c.mapfile)) (at_settle.shows c.mapfile) P
+        (λ on g. found_only (at_open.reads.files c.mapfile) found g) (λ off g. settled g)
+        (shown_as c.mapfile found h)
+        ∙ ap (λ (files : List ℕ → Option File). files c.mapfile) files_stand
+
+-- ---- each stop
+
+-- one of two isn't so where neither is
+or_false_by : (a b b' : Bool) → (a || b) ≡ false → (b ≡ false → b' ≡ false) → (a || b') ≡ false
+or_false_by true b b' none step = none
+or_false_by false b b' none step = step none
+
+no_sync : (calls : List Entry) (k : ℕ) → list_any is_sync calls ≡ false → list_any is_sync (take k calls) ≡ false
+no_sync [] zero none = refl
+no_sync [] (suc k) none = refl
+no_sync (e ∷ calls) zero none = refl
+no_sync (e ∷ calls) (suc k) none =
+    or_false_by (is_sync e) (list_any is_sync calls) (list_any is_sync (take k calls)) none (no_sync calls k)
+
+-- some file
+there_by : (file : Option File) → (file ≡ None → ⊥) → (f : File) × (file ≡ Some f)
+there_by None there = absurd (there refl)
+there_by (Some f) there = (f, refl)
+
+both_ways_at : (b : Bool) → b ≡ true → b ≡ false → ⊥
+both_ways_at b on off = let no : true ≡ false = sym on ∙ off in absurd (cc)
+
+-- what a stop found: all that could be found before, or the output as it was and the mapfile as it was or new
+data AtStop (c : Command) (IsNew : Option File → Type 0) (site : SiteState) (calls : List Entry) (k : ℕ)
+    (files : List ℕ → Option File) : Type 0 where
+  Before : has_barrier (take k calls) ≡ false → ((name : List ℕ) → CouldBefore site name (files name))
+      → AtStop c IsNew site calls k files
+  Behind : has_barrier (take k calls) ≡ true → files c.outfile ≡ files_in site c.outfile
+      → (files c.mapfile ≡ files_in site c.mapfile) ⊎ IsNew (files c.mapfile)
+      → ((name : List ℕ) → name ≢ c.outfile → name ≢ c.mapfile → name ≢ (names_of c.mapfile).draft
+      → CouldBefore site name (files name))
+      → AtStop c IsNew site calls k files
+
+module _ (c : Command) (site : SiteState) (apart : c.outfile ≢ c.mapfile)
+    (draft : c.outfile ≢ (names_of c.mapfile).draft) where
+  abbrev before : Disk
+  before = disk_of site
+
+  sound : Leaves before before.reads.files
+  sound = reads_run (at_rest site.start) site.calls (rest_sound site.start)
+
+  own_files : (name : List ℕ) → before.reads.files name ≡ files_in site name
+  own_files name = ap (λ (d : Folder). d.files name) (run_reads (at_rest site.start) site.calls)
+
+  leaves_at : (calls : List Entry) (k : ℕ) (files : List ℕ → Option File) → LeftAt site calls k files
+      → Leaves (disk_after before (until k calls)) files
+  leaves_at calls k files left = left_past site.start site.calls calls k (length site.calls + k) files refl left
+
+  module _ (IsNew : Option File → Type 0) where
+    -- behind the barrier nothing but reads was made
+    at_barrier : (f : File) → before.reads.files c.outfile ≡ Some f → (calls : List Entry) (k : ℕ)
+        (files : List ℕ → Option File) → has_barrier (take k calls) ≡ true
+        → Leaves (at_sync c before sound) files → AtStop c IsNew site calls k files
+    at_barrier f there calls k files behind left =
+        Behind behind
+        (output_sure c before sound f there (files c.outfile) (left c.outfile) ∙ own_files c.outfile)
+        (inl (mapfile_sure c before sound f there (files c.mapfile) (left c.mapfile) ∙ own_files c.mapfile))
+        (λ name output map other. sync_shows c before sound name (files name) (left name))
+
+    -- up to the barrier, whatever follows it
+    up_to : (more : List Entry) (k : ℕ) (files : List ℕ → Option File) → k < 3
+        → Leaves (disk_after before (until k (opening c ++ more))) files → AtStop c IsNew site (opening c ++ more) k files
+    up_to more zero files less left = Before refl (λ name. open_shows c before sound name (files name) (left name))
+    up_to more (suc zero) files less left = Before refl (λ name. open_shows c before sound name (files name) (left name))
+    up_to more (suc (suc zero)) files less left =
+        Before refl (λ name. settle_shows c before sound name (files name) (left name))
+    up_to more (suc (suc (suc k))) files less left = absurd (omega arith)
+
+    early_stop : (calls : List Entry) (k : ℕ) (files : List ℕ → Option File) → list_any is_sync calls ≡ false
+        → Goes (opening_calls c) calls → LeftAt site calls k files → AtStop c IsNew site calls k files
+    early_stop calls k files none goes left =
+        Before (no_sync calls k none)
+        (λ name. along_until (Narrower before) before calls k
+        (along_calls (Narrower before) before (opening_calls c) calls (along_opening c before sound) goes) name (files name)
+        (leaves_at calls k files left name))
+
+    reads_stop : (f : File) → before.reads.files c.outfile ≡ Some f → (reads : List Entry) (k : ℕ)
+        (files : List ℕ → Option File) → AreReads reads → LeftAt site (opening c ++ reads) k files
+        → AtStop c IsNew site (opening c ++ reads) k files
+    reads_stop f there reads zero files are left = up_to reads zero files (omega arith) (leaves_at _ zero files left)
+    reads_stop f there reads (suc zero) files are left = up_to reads 1 files (omega arith) (leaves_at _ 1 files left)
+    reads_stop f there reads (suc (suc zero)) files are left = up_to reads 2 files (omega arith) (leaves_at _ 2 files left)
+    reads_stop f there reads (suc (suc (suc j))) files are left =
+        at_barrier f there (opening c ++ reads) (suc (suc (suc j))) files refl
+        (subst (λ (d : Disk). Leaves d files) (reads_at (at_sync c before sound) reads j are)
+        (leaves_at _ (suc (suc (suc j))) files left))
+
+    -- behind the barrier
+    behind_at : (k n : ℕ) → k ≡ 3 + n → (more : List Entry) → has_barrier (take k (opening c ++ more)) ≡ true
+    behind_at k n is more =
+        let at : k ≡ suc (suc (suc n)) = omega arith in
+        subst (λ (m : ℕ). has_barrier (take m (opening c ++ more)) ≡ true) (sym at) refl
+
+    -- a stop within the save finds the mapfile as it was, or new
+    save_stop : (f : File) → before.reads.files c.outfile ≡ Some f → (reads rest : List Entry) (text : List ℕ)
+        → ((found : Option File) → found ≡ Some (text_file text) → IsNew found) → AreReads reads
+        → HasSaved (names_of c.mapfile) text [] rest → (k j : ℕ) → k ≡ 3 + (length reads + j)
+        → k ≤ length (opening c ++ (reads ++ rest)) → (files : List ℕ → Option File)
+        → LeftAt site (opening c ++ (reads ++ rest)) k files → AtStop c IsNew site (opening c ++ (reads ++ rest)) k files
+    save_stop f there reads rest text new are saved k j is le files left =
+        let old : List Entry = site.calls ++ (opening c ++ reads) in
+        let all : site.calls ++ (opening c ++ (reads ++ rest)) ≡ old ++ rest =
+        sym (append_assoc site.calls (opening c ++ reads) rest) in
+        let disk : disk_after (at_rest site.start) old ≡ at_sync c before sound =
+        run-append (at_rest site.start) site.calls (opening c ++ reads)
+        ∙ reads_keep (at_sync c before sound) reads are in
+        let olds : length old ≡ length site.calls + length (opening c ++ reads) =
+        length-append site.calls (opening c ++ reads) in
+        let news : length (old ++ rest) ≡ length old + length rest = length-append old rest in
+        let rests : length (reads ++ rest) ≡ length reads + length rest = length-append reads rest in
+        let found : (name : List ℕ) → name ≢ (names_of c.mapfile).draft
+        → IsOldOrNew (names_of c.mapfile) text (disk_after (at_rest site.start) old)
+        (disk_after (at_rest site.start) (until (length site.calls + k) (old ++ rest))) name (files name) =
+        λ name other. stops_by_save (names_of c.mapfile) text site.start old (old ++ rest)
+        (save_behind (names_of c.mapfile) text old rest saved) (length site.calls + k) files
+        (omega (arith, olds, is)) (omega (arith, olds, news, rests, is, le))
+        (subst (λ (es : List Entry). MayBeLeft site.start es (length site.calls + k) files) all left) name other in
+        let here : (name : List ℕ) (file : Option File) → MayShow ((disk_after (at_rest site.start) old).shows name) file
+        → MayShow ((at_sync c before sound).shows name) file =
+        λ name file h. subst (λ (d : Disk). MayShow (d.shows name) file) disk h in
+        Behind (behind_at k (length reads + j) is (reads ++ rest))
+        (elim (found c.outfile draft) [
+          | Old h ↦
+              output_sure c before sound f there (files c.outfile) (here c.outfile (files c.outfile) h)
+              ∙ own_files c.outfile
+          | New same is_text durable ↦ absurd (apart same)
+        ])
+        (elim (found c.mapfile (apart_draft c.mapfile)) [
+          | Old h ↦
+              inl (mapfile_sure c before sound f there (files c.mapfile) (here c.mapfile (files c.mapfile) h)
+              ∙ own_files c.mapfile)
+          | New same is_text durable ↦ inr (new (files c.mapfile) is_text)
+        ])
+        (λ name output map other. elim (found name other) [
+          | Old h ↦ sync_shows c before sound name (files name) (here name (files name) h)
+          | New same is_text durable ↦ absurd (map same)
+        ])
+
+    saving_stop : (f : File) → before.reads.files c.outfile ≡ Some f → (reads rest : List Entry) (text : List ℕ)
+        → ((found : Option File) → found ≡ Some (text_file text) → IsNew found) → AreReads reads
+        → HasSaved (names_of c.mapfile) text [] rest → (k : ℕ) → k ≤ length (opening c ++ (reads ++ rest))
+        → (files : List ℕ → Option File) → LeftAt site (opening c ++ (reads ++ rest)) k files
+        → AtStop c IsNew site (opening c ++ (reads ++ rest)) k files
+    saving_stop f there reads rest text new are saved zero le files left =
+        up_to (reads ++ rest) zero files (omega arith) (leaves_at _ zero files left)
+    saving_stop f there reads rest text new are saved (suc zero) le files left =
+        up_to (reads ++ rest) 1 files (omega arith) (leaves_at _ 1 files left)
+    saving_stop f there reads rest text new are saved (suc (suc zero)) le files left =
+        up_to (reads ++ rest) 2 files (omega arith) (leaves_at _ 2 files left)
+    saving_stop f there reads rest text new are saved (suc (suc (suc j))) le files left =
+        elim (cases_lt j (length reads)) [
+          | inl within ↦
+              at_barrier f there (opening c ++ (reads ++ rest)) (suc (suc (suc j))) files refl
+              (subst (λ (d : Disk). Leaves d files) (reads_until (at_sync c before sound) reads rest j are within)
+              (leaves_at _ (suc (suc (suc j))) files left))
+          | inr past ↦
+              save_stop f there reads rest text new are saved (suc (suc (suc j))) (j - length reads) (omega (arith, past))
+              le files left
+        ]
+
+    at_stop : (saved : Bool) (IsText : List ℕ → Type 0) (calls : List Entry)
+        → ((text : List ℕ) (found : Option File) → IsText text → found ≡ Some (text_file text) → IsNew found)
+        → Shape c (files_in site c.outfile ≡ None → ⊥) saved IsText calls → (k : ℕ) → k ≤ length calls
+        → (files : List ℕ → Option File) → LeftAt site calls k files → AtStop c IsNew site calls k files
+    at_stop saved IsText calls new (Early short none goes) k le files left = early_stop calls k files none goes left
+    at_stop saved IsText calls new (Reads reads there short are is) k le files left =
+        let f = there_by (files_in site c.outfile) there in
+        rw is (reads_stop f.0 (own_files c.outfile ∙ f.1) reads k files are (rw is at left))
+    at_stop saved IsText calls new (Saving reads rest text there are is_text has whole is) k le files left =
+        let f = there_by (files_in site c.outfile) there in
+        rw is (saving_stop f.0 (own_files c.outfile ∙ f.1) reads rest text (λ found. new text found is_text) are has k
+        (rw is at le) files (rw is at left))
+
+    -- and once all is saved, the new one
+    kept_at_end : (IsText : List ℕ → Type 0) (saved : Bool) (calls : List Entry)
+        → ((text : List ℕ) (found : Option File) → IsText text → found ≡ Some (text_file text) → IsNew found)
+        → Shape c (files_in site c.outfile ≡ None → ⊥) saved IsText calls → saved ≡ true
+        → (files : List ℕ → Option File) → LeftAt site calls (length calls) files → IsNew (files c.mapfile)
+    kept_at_end IsText saved calls new (Early short none goes) whole_saved files left =
+        let no : true ≡ false = sym whole_saved ∙ short in absurd (cc)
+    kept_at_end IsText saved calls new (Reads reads there short are is) whole_saved files left =
+        let no : true ≡ false = sym whole_saved ∙ short in absurd (cc)
+    kept_at_end IsText saved calls new (Saving reads rest text there are is_text has whole is) whole_saved files left =
+        let old : List Entry = site.calls ++ (opening c ++ reads) in
+        let all : site.calls ++ calls ≡ old ++ map Returned (save_calls (names_of c.mapfile) text) =
+        ap (λ (r : List Entry). site.calls ++ r) is ∙ sym (append_assoc site.calls (opening c ++ reads) rest)
+        ∙ ap (λ (r : List Entry). old ++ r) (whole whole_saved) in
+        let sure : IsSaved (names_of c.mapfile) text (disk_after (at_rest site.start) old)
+        (disk_after (at_rest site.start) (site.calls ++ calls)) =
+        saved_by (names_of c.mapfile) text site.start old (site.calls ++ calls) all in
+        let same : disk_after before (until (length calls) calls) ≡ disk_after (at_rest site.start) (site.calls ++ calls) =
+        ap (disk_after before) (until_all calls) ∙ sym (run-append (at_rest site.start) site.calls calls) in
+        let shown : MayShow (only (Some (text_file text))) (files c.mapfile) =
+        subst (λ (s : Showing). MayShow s (files c.mapfile)) sure.map_sure
+        (subst (λ (d : Disk). MayShow (d.shows c.mapfile) (files c.mapfile)) same
+        (leaves_at calls (length calls) files left c.mapfile)) in
+        new text (files c.mapfile) is_text (found_only (Some (text_file text)) (files c.mapfile) shown)
+
+-- ---- all of it
+
+-- a text is that of the verified map
+new_is : (c : Command) (t : Told) (o : Outside) → Agrees c t o → IsTrue t.site.tells → (text : List ℕ)
+    (found : Option File) → IsNewText c (line_of t) o.found.mapfile o.end o.looks text → found ≡ Some (text_file text)
+    → IsVerifiedMap c (line_of t) o t.site found
+new_is c t o agrees tells text found n is =
+    let looks : o.looks ≡ map (seen_in (bytes_of (files_of t c.outfile)) (place_by c)) (reads_of o.looks) =
+    agrees.seen tells in
+    record {
+      statuses = n.statuses;
+      shown = n.shown;
+      stands = subst (λ (f : Option File). StandsFor f o.end n.statuses (Some n.shown))
+          (ap (λ (x : Found). x.mapfile) (agrees.found tells)) n.stands;
+      all = n.all;
+      is = is ∙ ap (λ (x : List ℕ). Some (text_file x))
+          (n.is ∙ ap (λ (ls : List Look). printed (heading_of (line_of t)) (shown_by n.shown o.looks)
+          (judged_by n.statuses ls)) looks);
+    }
+
+-- the shape of the calls of a whole call
+pub own_shape : (c : Command) (t : Told) (o : Outside) → Agrees c t o → IsTrue t.site.tells
+    → Works verify_faults (verify_rows c o.found o.end) (Verifies c (line_of t) o.found o.end o.looks) t.answer o.did
+    → Shape c (files_of t c.outfile ≡ None → ⊥) (is_saved t.answer)
+    (IsNewText c (line_of t) o.found.mapfile o.end o.looks) o.did.gain.calls
+own_shape c t o agrees tells works =
+    subst (λ (f : Option File). Shape c (f ≡ None → ⊥) (is_saved t.answer)
+    (IsNewText c (line_of t) o.found.mapfile o.end o.looks) o.did.gain.calls)
+    (ap (λ (x : Found). x.output) (agrees.found tells))
+    (shape_of c (line_of t) o.found o.end o.looks t.answer o.did works)
+
+module _ (c : Command) (t : Told) (o : Outside) (agrees : Agrees c t o) (apart : c.outfile ≢ c.mapfile)
+    (draft : c.outfile ≢ (names_of c.mapfile).draft) (tells : IsTrue t.site.tells)
+    (works : Works verify_faults (verify_rows c o.found o.end) (Verifies c (line_of t) o.found o.end o.looks) t.answer
+    o.did) where
+  abbrev IsNewMap : Option File → Type 0
+  IsNewMap = IsVerifiedMap c (line_of t) o t.site
+
+  stop_at : (k : ℕ) → k ≤ length o.did.gain.calls → (files : List ℕ → Option File)
+      → LeftAt t.site o.did.gain.calls k files → AtStop c IsNewMap t.site o.did.gain.calls k files
+  stop_at k le files left =
+      at_stop c t.site apart draft IsNewMap (is_saved t.answer) (IsNewText c (line_of t) o.found.mapfile o.end o.looks)
+      o.did.gain.calls (new_is c t o agrees tells) (own_shape c t o agrees tells works) k le files left
+
+  pub stops_safely : StopsSafely c (line_of t) o t.site t.answer
+  stops_safely = record {
+    before = λ k files name le left early. elim (stop_at k le files left) [
+      | Before none could ↦ could name
+      | Behind behind output map others ↦ absurd (both_ways_at _ behind early)
+    ];
+    output = λ k files le left late. elim (stop_at k le files left) [
+      | Before none could ↦ absurd (both_ways_at _ late none)
+      | Behind behind output map others ↦ output
+    ];
+    mapfile = λ k files le left late. elim (stop_at k le files left) [
+      | Before none could ↦ absurd (both_ways_at _ late none)
+      | Behind behind output map others ↦ map
+    ];
+    kept = λ files saved left.
+        kept_at_end c t.site apart draft IsNewMap (IsNewText c (line_of t) o.found.mapfile o.end o.looks) (is_saved t.answer)
+        o.did.gain.calls (new_is c t o agrees tells) (own_shape c t o agrees tells works) saved files left;
+    others = λ k files name le left output map other. elim (stop_at k le files left) [
+      | Before none could ↦ could name
+      | Behind behind out map' others ↦ others name output map other
+    ];
+  }
+
+-- a call that made none leaves at any stop what could be found before
+pub nothing_stops : (c : Command) (t : Told) (o : Outside) → o.did.gain.calls ≡ [] → is_saved t.answer ≡ false
+    → StopsSafely c (line_of t) o t.site t.answer
+nothing_stops c t o none short =
+    let could : (k : ℕ) (files : List ℕ → Option File) (name : List ℕ) → LeftAt t.site o.did.gain.calls k files
+    → CouldBefore t.site name (files name) =
+    λ k files name left. along_until (Narrower (disk_of t.site)) (disk_of t.site) o.did.gain.calls k
+    (subst (Along (Narrower (disk_of t.site)) (disk_of t.site)) (sym none) (λ n found h. h)) name (files name)
+    (left_past t.site.start t.site.calls o.did.gain.calls k (length t.site.calls + k) files refl left name) in
+    let early : (k : ℕ) → has_barrier (take k o.did.gain.calls) ≡ false =
+    λ k. no_sync o.did.gain.calls k (ap (list_any is_sync) none) in
+    record {
+      before = λ k files name le left before. could k files name left;
+      output = λ k files le left late. absurd (both_ways_at _ late (early k));
+      mapfile = λ k files le left late. absurd (both_ways_at _ late (early k));
+      kept = λ files saved left. absurd (both_ways_at _ saved short);
+      others = λ k files name le left output map other. could k files name left;
+    }

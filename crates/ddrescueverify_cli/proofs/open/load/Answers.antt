@@ -1,0 +1,28 @@
+-- What a load did, by what the resume answered.
+use Rattle.ddrescueverify_cli.proofs.LoadLemmas.{broken_loads, map_loads, none_loads, refused_loads, starved_loads}
+use Rattle.ddrescueverify_cli.proofs.open.load.Goals as goal
+
+pub returns-in-Ok-Fresh-clause-loaded : goal.returns-in-Ok-Fresh-clause-loaded
+returns-in-Ok-Fresh-clause-loaded g c =
+    none_loads c.args.names.now _ _ _ (rw c.in-Ok-Fresh.field-0-is at c.in-Ok-Fresh.ensures.told)
+    (rw c.in-Ok-Fresh.field-0-is at c.in-Ok-Fresh.ensures.read)
+
+pub returns-in-Ok-Map-clause-loaded : goal.returns-in-Ok-Map-clause-loaded
+returns-in-Ok-Map-clause-loaded g c =
+    map_loads c.args.names.now _ c.in-Ok-Map.map c.begin_with.result _ _
+    (rw c.in-Ok-Map.field-0-is at c.in-Ok-Map.ensures.told) (rw c.in-Ok-Map.field-0-is at c.in-Ok-Map.ensures.read)
+    c.begin_with.ensures.extended c.begin_with.ensures.shown c.begin_with.ensures.starved
+
+pub returns-in-Err-Site-clause-loaded : goal.returns-in-Err-Site-clause-loaded
+returns-in-Err-Site-clause-loaded g c =
+    let counts = rw c.in-Err-Site.field-0-is at c.in-Err-Site.ensures.counts in
+    broken_loads c.args.names.now _ _ _ _ counts.0 (rw c.in-Err-Site.field-0-is at c.in-Err-Site.ensures.told)
+
+pub returns-in-Err-Map-clause-loaded : goal.returns-in-Err-Map-clause-loaded
+returns-in-Err-Map-clause-loaded g c =
+    refused_loads c.args.names.now _ _ _ _ (rw c.in-Err-Map.field-0-is at c.in-Err-Map.ensures.told)
+    (rw c.in-Err-Map.field-0-is at c.in-Err-Map.ensures.read)
+
+pub returns-in-Err-NoMemory-clause-loaded : goal.returns-in-Err-NoMemory-clause-loaded
+returns-in-Err-NoMemory-clause-loaded g c =
+    starved_loads c.args.names.now _ _ _ (rw c.in-Err-NoMemory.field-0-is at c.in-Err-NoMemory.ensures.told)

@@ -1,0 +1,55 @@
+-- What a comparison over a loaded map is handed, and what it came to.
+use Rattle.std.proofs.Common.{refl}
+use Rattle.faulty_source.proofs.Keeping.{stays_self}
+use Rattle.ddrescueverify_cli.specs.Steps.{Beyond, Halted, Starved}
+use Rattle.ddrescueverify_cli.proofs.ComparingLemmas.{are_placed, compares_as, far_by, halt_cause, is_behind, is_short, is_within, near_by}
+use Rattle.ddrescueverify_cli.proofs.verify.compare_loaded.Goals as goal
+
+pub returns-then-not-places_fit-clause-stops : goal.returns-then-not-places_fit-clause-stops
+returns-then-not-places_fit-clause-stops g c =
+    Beyond (far_by c.args.options.now c.args.end _ c.output_from-to.ensures (c.if-not-places_fit.ensures.beyond refl)) refl refl refl
+
+pub returns-in_default-clause-stops : goal.returns-in_default-clause-stops
+returns-in_default-clause-stops g c =
+    Starved (near_by c.args.options.now c.args.end _ c.output_from-to.ensures (c.if-not-places_fit.ensures.fit refl)) refl refl refl
+
+pub compare-requires-clause-within : goal.compare-requires-clause-within
+compare-requires-clause-within g c =
+    is_within c.args.options.now c.args.end c.args.loaded.now.tiles.statuses _ c.in-Ok.ensures c.requires.long
+
+pub compare-requires-clause-short : goal.compare-requires-clause-short
+compare-requires-clause-short g c =
+    is_short c.args.options.now c.args.end c.args.loaded.now.tiles.statuses _ c.in-Ok.ensures c.requires.end
+
+pub compare-requires-clause-behind : goal.compare-requires-clause-behind
+compare-requires-clause-behind g c =
+    is_behind c.args.options.now c.args.end c.args.loaded.now.tiles.statuses _ c.in-Ok.ensures
+
+pub compare-requires-clause-placed : goal.compare-requires-clause-placed
+compare-requires-clause-placed g c =
+    are_placed c.args.options.now c.args.end c.args.loaded.now.tiles.statuses _ c.in-Ok.ensures _
+    (c.if-not-places_fit.ensures.fit refl)
+
+pub returns-then-not-places_fit-clause-source : goal.returns-then-not-places_fit-clause-source
+returns-then-not-places_fit-clause-source g c = stays_self _
+
+pub returns-in_default-clause-source : goal.returns-in_default-clause-source
+returns-in_default-clause-source g c = stays_self _
+
+pub returns-in-Ok-compare-clause-compares : goal.returns-in-Ok-compare-clause-compares
+returns-in-Ok-compare-clause-compares g c =
+    compares_as c.args.options.now c.args.end c.args.loaded.now.tiles.statuses _ c.in-Ok.ensures _
+    c.output_from-to.ensures _ _ _ _ _ _ c.in-Ok-compare.ensures.compares
+
+pub returns-clause-stops : goal.returns-clause-stops
+returns-clause-stops g c =
+    Halted c.in-Err.halt
+    (near_by c.args.options.now c.args.end _ c.output_from-to.ensures (c.if-not-places_fit.ensures.fit refl))
+    c.answer_of_halt.ensures
+    (compares_as c.args.options.now c.args.end c.args.loaded.now.tiles.statuses _ c.in-Ok.ensures _
+    c.output_from-to.ensures _ _ _ _ _ _ c.in-Err.ensures.compares)
+
+pub returns-clause-cause : goal.returns-clause-cause
+returns-clause-cause g c =
+    rw c.answer_of_halt.ensures
+    (halt_cause c.in-Err.halt _ _ _ _ c.compare.ensures.source.faults c.in-Err.ensures.counts)

@@ -1,0 +1,37 @@
+-- The refusals, one a row.
+use Rattle.std.specs.Prelude.{◌≡◌, ◌≢◌, ◌⊎◌, ℕ, Option, Some, None}
+use Rattle.mapfile_text.specs.declared.read.Mode.TheVariants.{Tight}
+use Rattle.mapfile_text.specs.declared.read.MapError.{MapError}
+use Rattle.mapfile_text.specs.declared.read.MapError.TheVariants.{NoStatusLine}
+use Rattle.crash_site.specs.Files.{File}
+use Rattle.save_resume.specs.MapNames.{names_of}
+use Rattle.save_resume.specs.Resuming.{IsLikeNone, IsRefusedFor}
+use Rattle.option_words.specs.declared.fault.UsageFault.TheVariants.{PlaceTooLarge}
+use Rattle.verify_command.specs.declared.options.VerifyOptions.{VerifyOptions}
+use Rattle.verify_command.specs.Command.{Command}
+use Rattle.ddrescueverify_cli.specs.declared.ending.Operand.{Operand}
+use Rattle.ddrescueverify_cli.specs.declared.ending.Which.TheVariants.{RunMap}
+use Rattle.ddrescueverify_cli.specs.declared.ending.VerifyEnding.{VerifyEnding}
+use Rattle.ddrescueverify_cli.specs.declared.ending.VerifyEnding.TheVariants.{Usage, SameName, NoMap, NoOutput, MapRefused}
+use Rattle.ddrescueverify_cli.specs.Asked.{IsBeyond}
+use Rattle.ddrescueverify_cli.specs.Names.{first_same}
+
+-- two files have one name
+abbrev pub NamesRefused : Command → VerifyEnding → Type 0
+NamesRefused c e =
+    (first second : Operand) × (first_same c.infile c.outfile (names_of c.mapfile) ≡ Some (first, second))
+    × (e ≡ SameName first second)
+
+-- the outfile isn't there
+abbrev pub OutputRefused : (output : Option File) → VerifyEnding → Type 0
+OutputRefused output e = (output ≡ None) × (e ≡ NoOutput)
+
+-- the mapfile isn't there or says nothing; or it says something and is no map, or is too long
+abbrev pub MapfileRefused : (mapfile : Option File) → VerifyEnding → Type 0
+MapfileRefused mapfile e =
+    (IsLikeNone mapfile × (e ≡ NoMap))
+    ⊎ ((error : MapError) × IsRefusedFor mapfile Tight error × (error ≢ NoStatusLine) × (e ≡ MapRefused RunMap error))
+
+-- a position that is asked for would end too far behind in the output, whatever the mapfile says of it
+abbrev pub PlacesRefused : VerifyOptions → (end : ℕ) → VerifyEnding → Type 0
+PlacesRefused o end e = IsBeyond o end × (e ≡ Usage PlaceTooLarge)

@@ -1,0 +1,115 @@
+-- What the steps of `ddrescueverify` did, whether the objects tell or not.
+use Rattle.std.specs.Prelude.{◌≡◌, ◌≢◌, ◌⊎◌, ⊤, ℕ, IsTrue, List, [], ◌∷◌, ◌++◌, length, map, Option, Some, None, Result, Ok, Err}
+use Rattle.fault_count.specs.Counts.{Rose}
+use Rattle.block_list.specs.declared.status.Status.{Status}
+use Rattle.mapfile_text.specs.declared.read.MapError.{MapError}
+use Rattle.mapfile_text.specs.declared.read.MapError.TheVariants.{NoStatusLine, NoMemory as OutOfMemory}
+use Rattle.faulty_source.specs.SourceState.{SourceState}
+use Rattle.crash_site.specs.declared.site.SiteCall.{SiteCall}
+use Rattle.crash_site.specs.declared.site.SiteCall.TheVariants.{ImageOpen}
+use Rattle.crash_site.specs.Files.{File, bytes_of}
+use Rattle.crash_site.specs.Calls.{Entry}
+use Rattle.crash_site.specs.SiteState.{SiteState, files_in}
+use Rattle.option_words.specs.declared.fault.UsageFault.TheVariants.{PlaceTooLarge}
+use Rattle.save_resume.specs.MapNames.{MapNames, names_of}
+use Rattle.save_resume.specs.Saving.{save_calls, drafting_after_fault}
+use Rattle.save_resume.specs.Resuming.{IsResumeCall}
+use Rattle.rescue_rules.specs.Start.{Stands}
+use Rattle.work_steps.specs.Work.{Make, Works}
+use Rattle.work_steps.specs.Parts.{Did, DidPart}
+use Rattle.rescue_verify.specs.declared.halt.Halt.{Halt}
+use Rattle.rescue_verify.specs.declared.tally.Tally.{Tally}
+use Rattle.rescue_verify.specs.Looks.{reads_of, seen_in}
+use Rattle.rescue_verify.specs.Comparing.{Compares, tally_of}
+use Rattle.verify_command.specs.declared.options.VerifyOptions.{VerifyOptions}
+use Rattle.verify_command.specs.Command.{Command, AreInLimits, told_by}
+use Rattle.ddrescueverify_cli.specs.declared.ending.VerifyEnding.{VerifyEnding}
+use Rattle.ddrescueverify_cli.specs.declared.ending.VerifyEnding.TheVariants.{Usage, NoMap, NoOutput, MapRefused, SiteFault, NoMemory}
+use Rattle.ddrescueverify_cli.specs.declared.ending.Which.TheVariants.{RunMap}
+use Rattle.ddrescueverify_cli.specs.declared.open.Loaded.{Loaded}
+use Rattle.ddrescueverify_cli.specs.declared.plan.Plan.{Plan}
+use Rattle.ddrescueverify_cli.specs.Asked.{IsBeyond, heading_of, plan_of}
+use Rattle.ddrescueverify_cli.specs.Names.{first_same}
+use Rattle.ddrescueverify_cli.specs.Told.{Outside, AreOpens, found_in, place_by}
+use Rattle.ddrescueverify_cli.specs.Work.{IsAnswer, Verifies, answer_of_halt, load_rows, opened_rows, output_rows, verify_faults}
+
+-- what a comparison needs before it opens a file
+pub record IsPlanned (plan : Plan) : Type 0 where
+  pub names : plan.names ≡ names_of (told_by plan.command).mapfile
+  pub apart : first_same (told_by plan.command).infile (told_by plan.command).outfile plan.names ≡ None
+  pub heading : plan.heading ≡ heading_of plan.heading.line
+  pub limits : AreInLimits plan.command.options
+
+-- what the open of the output did
+abbrev pub OpensOutput : {T : Type 0} → (outfile : List ℕ) → Result T VerifyEnding → (old new : SiteState) → Type 0
+OpensOutput outfile result old new =
+    DidPart verify_faults (output_rows outfile) (files_in old outfile) (λ x file. ⊤) result old new
+
+-- why it isn't open, by the count of failed calls
+abbrev pub OutputCause : VerifyEnding → (faults faults' : ℕ) → Type 0
+OutputCause e faults faults' = ((e ≡ NoOutput) × (faults' ≡ faults)) ⊎ ((e ≡ SiteFault ImageOpen) × Rose faults faults')
+
+-- what was loaded is what the mapfile stands for, for an input with this length
+abbrev pub StandsAs : (end : ℕ) → Loaded → Option File → Type 0
+StandsAs end loaded file = Stands file end loaded.tiles.statuses (Some loaded.state)
+
+-- what the load of the mapfile did
+abbrev pub Loads : (mapfile : List ℕ) → (end : ℕ) → Result Loaded VerifyEnding → (old new : SiteState) → Type 0
+Loads mapfile end result old new =
+    DidPart verify_faults (load_rows mapfile) (files_in old mapfile) (StandsAs end) result old new
+
+-- why there is no map, by the count of failed calls
+abbrev pub LoadCause : VerifyEnding → (faults faults' : ℕ) → Type 0
+LoadCause e faults faults' =
+    ((e ≡ NoMemory) × (faults' ≡ faults))
+    ⊎ ((e ≡ NoMap) × (faults' ≡ faults))
+    ⊎ ((error : MapError) × (e ≡ MapRefused RunMap error) × (error ≢ NoStatusLine) × (error ≢ OutOfMemory)
+    × (faults' ≡ faults))
+    ⊎ ((call : SiteCall) × (e ≡ SiteFault call) × IsResumeCall call × Rose faults faults')
+
+-- Why a comparison behind the mapfile saves nothing: a position has no place, or each has one, and memory ran out before
+-- it began, or it stopped.
+pub data StopsComparing (o : VerifyOptions) (end : ℕ) (old new : List Status) (e : VerifyEnding)
+    (source source' : SourceState) (site site' : SiteState) : Type 0 where
+  Beyond : IsBeyond o end → e ≡ Usage PlaceTooLarge → source' ≡ source → site' ≡ site
+      → StopsComparing o end old new e source source' site site'
+  Starved : (IsBeyond o end → ⊥) → e ≡ NoMemory → source' ≡ source → site' ≡ site
+      → StopsComparing o end old new e source source' site site'
+  Halted : (halt : Halt) → (IsBeyond o end → ⊥) → e ≡ answer_of_halt halt
+      → Compares (plan_of o end old) old new (Err halt) source source' site site'
+      → StopsComparing o end old new e source source' site site'
+
+-- the save of a text: there are its calls, which are the site's own where it tells
+pub record SavesText {T : Type 0} (names : MapNames) (text : List ℕ) (result : Result T VerifyEnding)
+    (old new : SiteState) : Type 0 where
+  pub calls : List Entry
+  pub gained : IsTrue old.tells → new.calls ≡ old.calls ++ calls
+  pub did : Did verify_faults (Make (save_calls names text) ∷ []) (λ x. ⊤) result calls
+
+-- why it wasn't saved: a call of the save failed, behind which a draft may be left begun
+abbrev pub SaveCause : VerifyEnding → (old new : SiteState) → Type 0
+SaveCause e old new =
+    (call : SiteCall) × (e ≡ SiteFault call) × Rose old.faults new.faults
+    × (new.is_drafting ≡ drafting_after_fault call old.is_drafting)
+
+-- The work went as these steps do: it answers so, or counted so much and answers that.
+abbrev pub DidWork : Command → (line : List ℕ) → Outside → Result Tally VerifyEnding → Type 0
+DidWork c line o (Ok tally) =
+    (tally ≡ tally_of o.looks)
+    × ((e : VerifyEnding) → IsAnswer c.options.quiet tally e
+    → Works verify_faults (opened_rows c o.found o.end) (Verifies c line o.found o.end o.looks) e o.did)
+DidWork c line o (Err e) =
+    Works verify_faults (opened_rows c o.found o.end) (Verifies c line o.found o.end o.looks) e o.did
+
+-- What the work did behind the names: there is an outside that agrees with what the objects tell.
+pub record Worked (c : Command) (line : List ℕ) (result : Result Tally VerifyEnding) (source source' : SourceState)
+    (site site' : SiteState) : Type 0 where
+  pub outside : Outside
+  pub opens : AreOpens outside.did.opens source source'
+  pub end : IsTrue source.tells → outside.end ≡ length source.bytes
+  pub reads : IsTrue source.tells → source'.journal ≡ source.journal ++ outside.did.gain.reads
+  pub found : IsTrue site.tells → outside.found ≡ found_in c (files_in site)
+  pub calls : IsTrue site.tells → site'.calls ≡ site.calls ++ outside.did.gain.calls
+  pub seen : IsTrue site.tells
+      → outside.looks ≡ map (seen_in (bytes_of (files_in site c.outfile)) (place_by c)) (reads_of outside.looks)
+  pub works : DidWork c line outside result

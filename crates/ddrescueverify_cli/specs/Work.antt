@@ -1,0 +1,106 @@
+-- The work of `ddrescueverify`: its steps in order, each a row of the fold that all programs share, and the comparison
+-- behind them, with its save.
+use Rattle.std.specs.Prelude.{◌≡◌, ◌⊎◌, ℕ, Bool, false, nat_eq, List, [], ◌∷◌, ◌++◌, map, Option, Some, if◌then◌else◌}
+use Rattle.block_list.specs.declared.status.Status.{Status}
+use Rattle.mapfile_text.specs.declared.state.MapState.{MapState}
+use Rattle.crash_site.specs.declared.site.SiteCall.TheVariants.{ImageRead}
+use Rattle.crash_site.specs.Files.{File}
+use Rattle.crash_site.specs.Calls.{Done as Returned, image_open}
+use Rattle.save_resume.specs.MapNames.{names_of}
+use Rattle.save_resume.specs.Saving.{save_calls}
+use Rattle.save_resume.specs.Resuming.{barrier_calls}
+use Rattle.rescue_rules.specs.Start.{Stands}
+use Rattle.work_steps.specs.Work.{Deeds, IsIdle, Faults, Step, Take, Look as LookAt, Open, Make, Read, Works}
+use Rattle.rescue_verify.specs.declared.halt.Halt.{Halt}
+use Rattle.rescue_verify.specs.declared.halt.Halt.TheVariants.{NoMemory as NoRoom, SourceLost as InputLost, ImageFault}
+use Rattle.rescue_verify.specs.declared.tally.Tally.{Tally}
+use Rattle.rescue_verify.specs.Pieces.{NoneFrom, AskForPieces, end_of_reads}
+use Rattle.rescue_verify.specs.Looks.{Look, reads_of, look_calls}
+use Rattle.rescue_verify.specs.Comparing.{Plan, place_in, tally_of, HaltsAt}
+use Rattle.verify_command.specs.Command.{Command}
+use Rattle.ddrescueverify_cli.specs.declared.ending.VerifyEnding.{VerifyEnding}
+use Rattle.ddrescueverify_cli.specs.declared.ending.VerifyEnding.TheVariants.{Done, Differs, SourceFault, SourceLost, SiteFault, ConsoleFault, NoMemory}
+use Rattle.ddrescueverify_cli.specs.Asked.{plan_of, text_of}
+use Rattle.ddrescueverify_cli.specs.Refusals.{NamesRefused, OutputRefused, MapfileRefused, PlacesRefused}
+use Rattle.ddrescueverify_cli.specs.Told.{Found}
+
+-- how faults are answered
+abbrev pub verify_faults : Faults VerifyEnding
+verify_faults = record { call = λ call. SiteFault call; memory = NoMemory; input = SourceFault }
+
+-- The output is opened, which isn't made, and has to be there.
+abbrev pub output_rows : (outfile : List ℕ) → (file : Option File) → List (Step VerifyEnding)
+output_rows outfile file = Make (image_open outfile false ∷ []) ∷ LookAt (OutputRefused file) ∷ []
+
+-- The barrier makes durable what stands, and the mapfile is read, and may be refused.
+abbrev pub load_rows : (mapfile : List ℕ) → (file : Option File) → List (Step VerifyEnding)
+load_rows mapfile file =
+    Make (barrier_calls (names_of mapfile)) ∷ Read (Some mapfile) file ∷ LookAt (MapfileRefused file) ∷ []
+
+-- what follows the names: the input is opened first, and behind the mapfile each position that is asked for wants a place
+-- in the output
+abbrev pub opened_rows : Command → Found → (end : ℕ) → List (Step VerifyEnding)
+opened_rows c found end =
+    Open c.infile
+    ∷ (output_rows c.outfile found.output ++ load_rows c.mapfile found.mapfile
+    ++ LookAt (PlacesRefused c.options end) ∷ Take ∷ [])
+
+-- The steps before the first piece.
+abbrev pub verify_rows : Command → Found → (end : ℕ) → List (Step VerifyEnding)
+verify_rows c found end = Take ∷ LookAt (NamesRefused c) ∷ opened_rows c found end
+
+-- what is answered where the comparison stopped before its last piece
+abbrev pub answer_of_halt : Halt → VerifyEnding
+answer_of_halt NoRoom = NoMemory
+answer_of_halt InputLost = SourceLost
+answer_of_halt ImageFault = SiteFault ImageRead
+
+-- what is answered where it came to its end: whether a piece differs, and how many bytes of such there are
+abbrev pub answer_of_tally : Tally → VerifyEnding
+answer_of_tally t = if nat_eq t.differing 0 then Done else Differs t.differing
+
+-- the map is saved, and the numbers are put on the console, which fails only where something is to be said
+abbrev pub IsAnswer : (quiet : Bool) → Tally → VerifyEnding → Type 0
+IsAnswer quiet t e = (e ≡ answer_of_tally t) ⊎ ((quiet ≡ false) × (e ≡ ConsoleFault))
+
+abbrev pub EndsSaved : (quiet : Bool) → Tally → VerifyEnding → Deeds → Type 0
+EndsSaved quiet t e d = IsAnswer quiet t e × IsIdle d
+
+-- The end of a comparison behind looks at its first pieces. It stopped before its last one, and saves nothing; or it came
+-- to the last, and made one save, and said how much it compared, unless it was asked to say nothing.
+pub data EndsBehind (c : Command) (p : Plan) (text : List ℕ) (looks : List Look) (e : VerifyEnding) (d : Deeds)
+    : Type 0 where
+  Halts : (halt : Halt) → e ≡ answer_of_halt halt → d.opens ≡ [] → d.gain.times ≡ []
+      → HaltsAt halt p (end_of_reads 0 (reads_of looks)) d.gain.reads d.gain.calls → EndsBehind c p text looks e d
+  Saves : NoneFrom p.compared (end_of_reads 0 (reads_of looks))
+      → Works verify_faults (Make (save_calls (names_of c.mapfile) text) ∷ [])
+      (EndsSaved c.options.quiet (tally_of looks)) e d
+      → EndsBehind c p text looks e d
+
+-- the same deeds behind these reads, and behind calls that returned
+abbrev pub behind_looks : (place : ℕ → ℕ) → List Look → Deeds → Deeds
+behind_looks place looks d = record {
+  opens = d.opens;
+  gain = record {
+    calls = map Returned (look_calls place looks) ++ d.gain.calls;
+    reads = reads_of looks ++ d.gain.reads;
+    times = d.gain.times;
+  };
+}
+
+-- The comparison over a map: it looks at the first pieces, each by one read of the input and, where that was whole, one of
+-- the image, and ends behind them.
+pub record ComparesOver (c : Command) (line : List ℕ) (end : ℕ) (statuses : List Status) (shown : MapState)
+    (looks : List Look) (e : VerifyEnding) (d : Deeds) : Type 0 where
+  pub asks : AskForPieces (plan_of c.options end statuses).compared c.options.sector 0 (reads_of looks)
+  pub rest : Deeds
+  pub is : d ≡ behind_looks (place_in (plan_of c.options end statuses)) looks rest
+  pub ends : EndsBehind c (plan_of c.options end statuses) (text_of line statuses shown looks) looks e rest
+
+-- The comparison over the map that the mapfile stands for, which ends at the input's end or behind it.
+pub record Verifies (c : Command) (line : List ℕ) (found : Found) (end : ℕ) (looks : List Look) (e : VerifyEnding)
+    (d : Deeds) : Type 0 where
+  pub statuses : List Status
+  pub shown : MapState
+  pub stands : Stands found.mapfile end statuses (Some shown)
+  pub compares : ComparesOver c line end statuses shown looks e d

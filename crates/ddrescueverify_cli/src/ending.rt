@@ -1,0 +1,74 @@
+ghost use Rattle.std.specs.Prelude.{◌≡◌};
+ghost use Rattle.ddrescueverify_cli.specs.Answers.{is_silent, status_of_ending};
+
+use crash_site::site::SiteCall;
+use mapfile_text::read::MapError;
+use option_words::fault::UsageFault;
+
+/// A file that a comparison names.
+#[derive(Clone, Copy, Debug, PartialEq, Eq)]
+pub enum Operand {
+    Infile,
+    Outfile,
+    Mapfile,
+    /// The mapfile's name followed by `.tmp`.
+    Draft,
+}
+
+/// A map that is named.
+#[derive(Clone, Copy, Debug, PartialEq, Eq)]
+pub enum Which {
+    /// The mapfile itself.
+    RunMap,
+}
+
+/// How a call of `ddrescueverify` ended.
+#[derive(Clone, Copy, Debug, PartialEq, Eq)]
+pub enum VerifyEnding {
+    /// The outfile has all that the infile gave, and the map was saved.
+    Done,
+    /// The outfile hasn't some of it: the pieces of so many bytes became non-tried, and the map was saved.
+    Differs { bytes: u64 },
+    /// The words ask for nothing that can be done.
+    Usage(UsageFault),
+    /// Two files have one name.
+    SameName { first: Operand, second: Operand },
+    /// The mapfile isn't there, or says nothing.
+    NoMap,
+    /// The outfile isn't there.
+    NoOutput,
+    /// The mapfile's text is no map, or is too long.
+    MapRefused { which: Which, error: MapError },
+    /// The infile couldn't be opened.
+    SourceFault,
+    /// The infile was lost during a read. Nothing was saved.
+    SourceLost,
+    /// A call on the outfile, on the mapfile or on its folder failed. A mapfile that is no regular file fails to be
+    /// read. Unless it was the last settle of a save, the mapfile stands.
+    SiteFault { call: SiteCall },
+    /// The map was saved, and the numbers couldn't be printed, or not all of them.
+    ConsoleFault,
+    /// Memory wasn't there. Nothing was saved.
+    NoMemory,
+}
+
+impl VerifyEnding {
+    /// The exit status: 0 where nothing differs, 2 for a mapfile that is refused, 4 for want of memory, 1 for all else.
+    pub fn code(&self) -> u8
+        ensures { result ≡ status_of_ending self.now }
+    {
+        match self {
+            VerifyEnding::Done => 0,
+            VerifyEnding::MapRefused { .. } => 2,
+            VerifyEnding::NoMemory => 4,
+            _ => 1,
+        }
+    }
+
+    /// Whether nothing is said of it on standard error, since it is what was asked.
+    pub(crate) fn is_silent(&self) -> bool
+        ensures { result ≡ is_silent self.now }
+    {
+        matches!(self, VerifyEnding::Done | VerifyEnding::Differs { .. })
+    }
+}

@@ -1,0 +1,66 @@
+//! What is said of an answer on standard error.
+ghost use Rattle.std.specs.Prelude.{◌≡◌, ◌+◌, ◌≤◌, ◌++◌};
+ghost use Rattle.arrayvec.specs.ArrayVec.{array_vec_len};
+ghost use Rattle.ddrescueverify_cli.specs.Messages.{which_text, map_error_text, text_of_ending, message};
+
+use crate::ending::{VerifyEnding, Which};
+use crate::plan::PROGRAM;
+use fault_texts::faults::{add_map_error, add_site_fault, add_usage};
+use fault_texts::message::{Message, add, begin, end};
+use mapfile_text::read::MapError;
+
+/// Adds which map it is.
+fn add_which(message: &mut Message, which: Which)
+    requires { array_vec_len message.old ≤ 20 }
+    ensures text { message.new.items ≡ message.old.items ++ which_text which }
+    ensures len { array_vec_len message.new ≤ array_vec_len message.old + 7 }
+{
+    match which {
+        Which::RunMap => add(message, "mapfile"),
+    }
+}
+
+/// Adds why a map is refused.
+fn add_refusal(message: &mut Message, which: Which, error: MapError)
+    requires { array_vec_len message.old ≤ 20 }
+    ensures text { message.new.items ≡ message.old.items ++ map_error_text which error }
+    ensures len { array_vec_len message.new ≤ 120 }
+{
+    add_which(message, which);
+    add(message, ": ");
+    add_map_error(message, error);
+}
+
+/// Adds what is said of an answer.
+fn add_ending(message: &mut Message, ending: VerifyEnding)
+    requires { array_vec_len message.old ≤ 20 }
+    ensures text { message.new.items ≡ message.old.items ++ text_of_ending ending }
+    ensures len { array_vec_len message.new ≤ 120 }
+{
+    match ending {
+        VerifyEnding::Done | VerifyEnding::Differs { .. } => {}
+        VerifyEnding::Usage(fault) => add_usage(message, fault),
+        VerifyEnding::SameName { .. } => add(message, "two files have one name"),
+        VerifyEnding::NoMap => {
+            add_which(message, Which::RunMap);
+            add(message, " does not exist");
+        }
+        VerifyEnding::NoOutput => add(message, "output does not exist"),
+        VerifyEnding::MapRefused { which, error } => add_refusal(message, which, error),
+        VerifyEnding::SourceFault => add(message, "cannot open input"),
+        VerifyEnding::SourceLost => add(message, "input lost"),
+        VerifyEnding::SiteFault { call } => add_site_fault(message, call),
+        VerifyEnding::ConsoleFault => add(message, "cannot write standard output"),
+        VerifyEnding::NoMemory => add(message, "out of memory"),
+    }
+}
+
+/// The message of an answer, with the program's name and a newline.
+pub(crate) fn message_of(ending: VerifyEnding) -> Message
+    ensures { result.items ≡ message ending }
+{
+    let mut message = begin(PROGRAM);
+    add_ending(&mut message, ending);
+    end(&mut message);
+    message
+}

@@ -1,0 +1,86 @@
+//! What a comparison needs before it opens a file.
+ghost use Rattle.std.specs.Prelude.{◌≡◌, ◌⊎◌, None, IfOk, IfErr, OnOk};
+ghost use Rattle.option_words.specs.Words.{command_line};
+ghost use Rattle.save_resume.specs.MapNames.{names_of};
+ghost use Rattle.verify_command.specs.Command.{told_by};
+ghost use Rattle.ddrescueverify_cli.specs.declared.ending.VerifyEnding.TheVariants.{NoMemory as OutOfMemory};
+ghost use Rattle.ddrescueverify_cli.specs.Asked.{heading_of};
+ghost use Rattle.ddrescueverify_cli.specs.Names.{first_same, program_name};
+ghost use Rattle.ddrescueverify_cli.specs.Refusals.{NamesRefused};
+
+use crate::ending::{Operand, VerifyEnding};
+use block_list::tiles::NoMemory;
+use mapfile_text::heading::{Heading, Program};
+use option_words::words::Words;
+use save_resume::names::Names;
+use std::alloc::Global;
+use verify_command::command::Command;
+
+/// The program's name, which begins its command line and its messages.
+pub(crate) const PROGRAM: &str = "ddrescueverify";
+
+/// The first two files that have one name.
+fn find_same(infile: &str, outfile: &str, names: &Names) -> Option<(Operand, Operand)>
+    ensures { result ≡ first_same infile.now outfile.now names.now }
+{
+    if infile == outfile {
+        return Some((Operand::Infile, Operand::Outfile));
+    }
+    if infile == names.map() {
+        Some((Operand::Infile, Operand::Mapfile))
+    } else if infile == names.draft() {
+        Some((Operand::Infile, Operand::Draft))
+    } else if outfile == names.map() {
+        Some((Operand::Outfile, Operand::Mapfile))
+    } else if outfile == names.draft() {
+        Some((Operand::Outfile, Operand::Draft))
+    } else {
+        None
+    }
+}
+
+/// The heading of the mapfile, with the command line.
+fn make_heading(alloc: Global, words: &Words) -> Result<Heading, NoMemory>
+    ensures { IfOk result (λ h. h ≡ heading_of (command_line program_name words.now)) }
+{
+    let line = words.command_line(alloc, PROGRAM)?;
+    Heading::new(alloc, Program::Ddrescuelog, line.as_str())
+}
+
+/// What a comparison needs before it opens a file.
+#[derive(Drop)]
+pub(crate) struct Plan<'a> {
+    pub command: Command<'a>,
+    /// The names of the mapfile and its draft.
+    pub names: Names,
+    pub heading: Heading,
+}
+
+/// Refuses two files of one name, and takes the memory that the save wants for names and heading.
+pub(crate) fn make_plan<'a>(
+    alloc: Global,
+    words: &Words,
+    command: Command<'a>,
+) -> Result<Plan<'a>, VerifyEnding>
+    ensures command { IfOk result (λ p. told_by p.command ≡ told_by command.entry) }
+    ensures names { IfOk result (λ p. p.names ≡ names_of (told_by command.entry).mapfile) }
+    ensures heading { IfOk result (λ p. p.heading ≡ heading_of (command_line program_name words.now)) }
+    ensures different { OnOk result (first_same (told_by command.entry).infile (told_by command.entry).outfile
+        (names_of (told_by command.entry).mapfile) ≡ None) }
+    ensures refused { IfErr result (λ e. NamesRefused (told_by command.entry) e ⊎ (e ≡ OutOfMemory)) }
+{
+    let Ok(names) = Names::of_map(alloc, command.mapfile) else {
+        return Err(VerifyEnding::NoMemory);
+    };
+    if let Some((first, second)) = find_same(command.infile, command.outfile, &names) {
+        return Err(VerifyEnding::SameName { first, second });
+    }
+    let Ok(heading) = make_heading(alloc, words) else {
+        return Err(VerifyEnding::NoMemory);
+    };
+    Ok(Plan {
+        command,
+        names,
+        heading,
+    })
+}

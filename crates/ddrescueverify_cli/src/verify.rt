@@ -1,0 +1,231 @@
+//! `ddrescueverify`: the top call.
+ghost use Rattle.std.specs.Prelude.{◌≡◌, ◌<◌, ◌≤◌, ◌^◌, true, false, length, OnOk, IfOk, IfErr, Ok};
+ghost use Rattle.option_words.specs.declared.fault.UsageFault.{UsageFault as Fault};
+ghost use Rattle.faulty_source.specs.SourceState.{Keeps as SourceKeeps, Stays as SourceStays};
+ghost use Rattle.crash_site.specs.SiteState.{Keeps as SiteKeeps, Stays as SiteStays};
+ghost use Rattle.rescue_console.specs.ConsoleState.{ConsoleState};
+ghost use Rattle.rescue_verify.specs.Comparing.{Compares};
+ghost use Rattle.verify_command.specs.Command.{AreInLimits, AreRefused, told_by};
+ghost use Rattle.ddrescueverify_cli.specs.declared.ending.Operand.{Operand};
+ghost use Rattle.ddrescueverify_cli.specs.Answers.{MaySay, NameOneFileTwice};
+ghost use Rattle.ddrescueverify_cli.specs.Asked.{IsBeyond, output_from, plan_of};
+ghost use Rattle.ddrescueverify_cli.specs.Counting.{WorkCause, drafting_behind};
+ghost use Rattle.ddrescueverify_cli.specs.Ddrescueverify.{Ddrescueverify, IsUntouched, Promised};
+ghost use Rattle.ddrescueverify_cli.specs.Steps.{IsPlanned, StopsComparing, Worked};
+ghost use Rattle.ddrescueverify_cli.specs.Work.{answer_of_halt};
+
+use crate::ending::VerifyEnding;
+use crate::message::message_of;
+use crate::open::{Loaded, load, open_output};
+use crate::out::report;
+use crate::plan::{Plan, make_plan};
+use crate::save::save_map;
+use crash_site::site::{Site, SiteCall};
+use faulty_source::source::Source;
+use option_values::command_error::CommandError;
+use option_words::fault::UsageFault;
+use option_words::words::Words;
+use rescue_console::console::{Channel, Console};
+use rescue_domain::domain::Domain;
+use rescue_domain::places::places_fit;
+use rescue_verify::compare::compare;
+use rescue_verify::halt::Halt;
+use rescue_verify::piece::Comparison;
+use rescue_verify::tally::Tally;
+use std::alloc::Global;
+use verify_command::command::read_command;
+use verify_command::options::VerifyOptions;
+
+/// Where the comparison begins in the output.
+fn output_from(options: &VerifyOptions) -> u64
+    ensures { result ≡ output_from options.now }
+{
+    match options.output_position {
+        Some(position) => position,
+        None => options.input_position,
+    }
+}
+
+/// The answer of a comparison that stopped.
+fn answer_of_halt(halt: Halt) -> VerifyEnding
+    ensures { result ≡ answer_of_halt halt }
+{
+    match halt {
+        Halt::NoMemory => VerifyEnding::NoMemory,
+        Halt::SourceLost => VerifyEnding::SourceLost,
+        Halt::ImageFault => VerifyEnding::SiteFault {
+            call: SiteCall::ImageRead,
+        },
+    }
+}
+
+/// Compares what the loaded map calls finished of an input with this length, and marks in it what differs.
+fn compare_loaded<S: Source, D: Site>(
+    alloc: Global,
+    options: &VerifyOptions,
+    end: u64,
+    loaded: &mut Loaded,
+    source: &mut S,
+    site: &mut D,
+) -> Result<Tally, VerifyEnding>
+    requires limits { AreInLimits options.now }
+    requires end { end < 2 ^ 63 }
+    requires long { end ≤ length loaded.old.tiles.statuses }
+    requires input { (S.state source.old).is_open ≡ true }
+    requires image { (D.state site.old).is_open ≡ true }
+    ensures compares { IfOk result (λ tally. Compares (plan_of options.now end loaded.old.tiles.statuses)
+        loaded.old.tiles.statuses loaded.new.tiles.statuses (Ok tally) (S.state source.old) (S.state source.new)
+        (D.state site.old) (D.state site.new)) }
+    ensures stops { IfErr result (λ e. StopsComparing options.now end loaded.old.tiles.statuses
+        loaded.new.tiles.statuses e (S.state source.old) (S.state source.new) (D.state site.old) (D.state site.new)) }
+    ensures placed { OnOk result (IsBeyond options.now end → ⊥) }
+    ensures cause { WorkCause result (S.state source.old) (S.state source.new) (D.state site.old) (D.state site.new) }
+    ensures state { loaded.new.state ≡ loaded.old.state }
+    ensures source { SourceStays (S.state source.old) (S.state source.new) }
+    ensures site { SiteStays (D.state site.old) (D.state site.new) }
+{
+    let from = options.input_position;
+    let to = output_from(options);
+    if !places_fit(from, options.size, to, end) {
+        return Err(VerifyEnding::Usage(UsageFault::PlaceTooLarge));
+    }
+    let Ok(compared) = Domain::within(alloc, from, options.size, end, Some(&loaded.tiles)) else {
+        return Err(VerifyEnding::NoMemory);
+    };
+    let comparison = Comparison {
+        compared: &compared,
+        sector: options.sector,
+        from,
+        to,
+    };
+    match compare(alloc, comparison, &mut loaded.tiles, source, site) {
+        Ok(tally) => Ok(tally),
+        Err(halt) => Err(answer_of_halt(halt)),
+    }
+}
+
+/// Opens the files, loads the mapfile, compares, and saves the map. Answers what was counted.
+fn verify<S: Source, D: Site>(
+    alloc: Global,
+    plan: &Plan<'_>,
+    source: &mut S,
+    site: &mut D,
+) -> Result<Tally, VerifyEnding>
+    requires no_draft { (D.state site.old).is_drafting ≡ false }
+    requires planned { IsPlanned plan.now }
+    ensures worked { Worked (told_by plan.now.command) plan.now.heading.line result (S.state source.old)
+        (S.state source.new) (D.state site.old) (D.state site.new) }
+    ensures cause { WorkCause result (S.state source.old) (S.state source.new) (D.state site.old) (D.state site.new) }
+    ensures draft { (D.state site.new).is_drafting ≡ drafting_behind result }
+    ensures source { SourceKeeps (S.state source.old) (S.state source.new) }
+    ensures site { SiteKeeps (D.state site.old) (D.state site.new) }
+{
+    let command = plan.command;
+    let Ok(end) = source.open_input(command.infile) else {
+        return Err(VerifyEnding::SourceFault);
+    };
+    open_output(site, command.outfile)?;
+    let mut loaded = load(alloc, site, &plan.names, end)?;
+    let tally = compare_loaded(alloc, &command.options, end, &mut loaded, source, site)?;
+    let Loaded { tiles, state } = loaded;
+    save_map(site, &plan.names, &plan.heading, state, &tiles, tally)?;
+    Ok(tally)
+}
+
+/// Does what the words ask for. Says how that ended, and whether nothing is to be said of it.
+fn work<S: Source, D: Site, P: Console>(
+    alloc: Global,
+    words: &Words,
+    source: &mut S,
+    site: &mut D,
+    console: &mut P,
+) -> (VerifyEnding, bool)
+    requires { (D.state site.old).is_drafting ≡ false }
+    ensures promise { (now : ConsoleState) → Promised (P.state console.new) (record {
+      words = words.now;
+      answer = result.0;
+      source = S.state source.old;
+      source' = S.state source.new;
+      site = D.state site.old;
+      site' = D.state site.new;
+      console = P.state console.old;
+      console' = now;
+    }) }
+    ensures quiet { (now : ConsoleState) → MaySay words.now result.0 result.1 (IsUntouched (record {
+      words = words.now;
+      answer = result.0;
+      source = S.state source.old;
+      source' = S.state source.new;
+      site = D.state site.old;
+      site' = D.state site.new;
+      console = P.state console.old;
+      console' = now;
+    }) (P.state console.new)) }
+    ensures untouched { (fault : Fault) → AreRefused words.now fault
+        → (source.new ≡ source.old) × (site.new ≡ site.old) }
+    ensures unopened { (first second : Operand) → NameOneFileTwice words.now first second
+        → (source.new ≡ source.old) × (site.new ≡ site.old) }
+{
+    let command = match read_command(alloc, words) {
+        Ok(command) => command,
+        Err(CommandError::NoMemory) => return (VerifyEnding::NoMemory, false),
+        Err(CommandError::Usage { fault, quiet }) => return (VerifyEnding::Usage(fault), quiet),
+    };
+    let quiet = command.options.quiet;
+    let plan = match make_plan(alloc, words, command) {
+        Ok(plan) => plan,
+        Err(refusal) => return (refusal, quiet),
+    };
+    match verify(alloc, &plan, source, site) {
+        Ok(tally) => (report(tally, quiet, console), quiet),
+        Err(refusal) => (refusal, quiet),
+    }
+}
+
+/// Compares what a mapfile calls finished with the infile, once more: `[options] infile outfile mapfile`, with the
+/// options of `verify_command::options`. Each piece, which is a sector or what of one is finished, is read of the
+/// infile once, and if that gave all of it the outfile is read at the piece's place. A piece that the outfile hasn't so
+/// becomes non-tried in the mapfile, so that the next rescue copies it again. A piece that the infile doesn't give any
+/// more stays finished. The outfile is never written; before the mapfile is read, both are made durable as they read.
+///
+/// Unless it is quiet, one line on the console says how much was compared. Unless the answer is `Done` or `Differs`,
+/// one message says why, on the console's second channel.
+///
+/// The refusals come in this order: words that ask for nothing, two files of one name, an infile that can't be opened,
+/// an outfile that isn't there, a mapfile that isn't there, says nothing or is no map, a position without a place in
+/// the output. At any time the infile may be lost, a call on the files may fail, and memory may run out; then nothing
+/// is saved.
+pub fn ddrescueverify<S: Source, D: Site, P: Console>(
+    alloc: Global,
+    words: &Words,
+    source: &mut S,
+    site: &mut D,
+    console: &mut P,
+) -> VerifyEnding
+    requires { (D.state site.old).is_drafting ≡ false }
+    ensures promise { Ddrescueverify (record {
+      words = words.now;
+      answer = result;
+      source = S.state source.old;
+      source' = S.state source.new;
+      site = D.state site.old;
+      site' = D.state site.new;
+      console = P.state console.old;
+      console' = P.state console.new;
+    }) }
+
+    // Words that are refused touch nothing but standard error,
+    ensures untouched { (fault : Fault) → AreRefused words.now fault
+        → (source.new ≡ source.old) × (site.new ≡ site.old) }
+
+    // nor do those that name two files of one name.
+    ensures unopened { (first second : Operand) → NameOneFileTwice words.now first second
+        → (source.new ≡ source.old) × (site.new ≡ site.old) }
+{
+    let (ending, quiet) = work(alloc, words, source, site, console);
+    if !quiet && !ending.is_silent() {
+        // A console that fails changes no answer.
+        let _put = console.put(Channel::Err, &message_of(ending));
+    }
+    ending
+}

@@ -1,0 +1,33 @@
+//! Runs of ddrescueverify.
+ghost use Rattle.std.specs.Prelude.{◌≡◌, false};
+ghost use Rattle.crash_site.specs.MemoryState.{state_of};
+
+use crate::refusal::Refusal;
+use crash_site::memory::MemorySite;
+use ddrescueverify_cli::ending::VerifyEnding;
+use ddrescueverify_cli::verify::ddrescueverify;
+use faulty_source::memory::MemorySource;
+use option_words::words::Words;
+use rescue_console::memory::MemoryConsole;
+use std::alloc::Global;
+
+/// Runs ddrescueverify. Where it finds no memory there is no answer: a scene can't ask for that.
+pub(crate) fn verify(
+    alloc: Global,
+    words: &Words,
+    source: &mut MemorySource,
+    site: &mut MemorySite,
+    console: &mut MemoryConsole,
+) -> Result<VerifyEnding, Refusal>
+    requires { (state_of site.old).is_drafting ≡ false }
+{
+    let starved = site.starved();
+    let ending = ddrescueverify(alloc, words, source, site, console);
+    if matches!(ending, VerifyEnding::NoMemory)
+        || site.starved() > starved
+        || console.starved() > 0
+    {
+        return Err(Refusal::NoMemory);
+    }
+    Ok(ending)
+}

@@ -1,0 +1,376 @@
+-- How looks follow each other.
+use Rattle.std.proofs.Common.{◌≡◌, ℕ, ◌+◌, ◌-◌, ◌<◌, ◌≤◌, Bool, true, false, not, if◌then◌else◌, IsTrue, List, [], ◌∷◌, ◌++◌, ◌&&◌, map, length, Option, Some, None, Ok, Err, refl, sym, ap, ◌∙◌, subst, arith, append-nil, append_assoc, inl, inr, drop, length-append, length-take-le, take}
+use Rattle.std.specs.Str.{bytes_eq}
+use Rattle.std.proofs.lemmas.List.{map-append, map_push}
+use Rattle.std.proofs.lemmas.List.Sums.{sum_by_push}
+use Rattle.fault_count.specs.Counts.{raised}
+use Rattle.block_list.specs.declared.status.Status.{Status}
+use Rattle.block_list.specs.declared.status.Status.TheVariants.{NonTried}
+use Rattle.block_list.specs.Map.{marked}
+use Rattle.block_list.proofs.Places.{length-marked}
+use Rattle.faulty_source.specs.Journal.{Reading, is_whole}
+use Rattle.rescue_domain.specs.Domain.{IsIn}
+use Rattle.faulty_source.specs.SourceState.{SourceState, Stays as SourceStays}
+use Rattle.crash_site.specs.declared.site.SiteCall.{SiteCall}
+use Rattle.crash_site.specs.Calls.{Call, Entry, Done, Failed, Lost, BrokeAt, image_read}
+use Rattle.crash_site.specs.Files.{File, bytes_of, file_at}
+use Rattle.crash_site.specs.Folder.{Folder, after}
+use Rattle.crash_site.proofs.LawLemmas.{after-append}
+use Rattle.crash_site.specs.SiteState.{SiteState, image_in, Stays as SiteStays}
+use Rattle.rescue_verify.specs.declared.halt.Halt.{Halt}
+use Rattle.rescue_verify.specs.declared.halt.Halt.TheVariants.{NoMemory, SourceLost, ImageFault}
+use Rattle.rescue_verify.specs.declared.tally.Tally.{Tally}
+use Rattle.rescue_verify.specs.Pieces.{IsPiece, NoneFrom, AskForPieces, end_of_reads}
+use Rattle.rescue_verify.specs.Looks.{Look, reads_of, differs, seen_at, seen_in, look_call, look_calls}
+use Rattle.rescue_verify.specs.Looking.{SeesPiece, HaltsLooking}
+use Rattle.rescue_verify.specs.Verified.{judged, judged_by}
+use Rattle.rescue_verify.specs.Comparing.{Plan, Counts, place_in, tally_of, counted, TakesPiece, HaltsAt, HasLooked, Compares}
+
+-- ---- one more look
+
+judged_push : (map : List Status) (looks : List Look) (l : Look) → judged_by map (looks ++ l ∷ []) ≡ judged (judged_by map looks) l
+judged_push map [] l = refl
+judged_push map (k ∷ looks) l = judged_push (judged map k) looks l
+
+end_push : (from : ℕ) (reads : List Reading) (r : Reading) → end_of_reads from (reads ++ r ∷ []) ≡ r.pos + r.asked
+end_push from [] r = refl
+end_push from (q ∷ reads) r = end_push (q.pos + q.asked) reads r
+
+asks_push : (compared : ℕ → Bool) (sector from : ℕ) (reads : List Reading) (r : Reading)
+    → AskForPieces compared sector from reads
+    → IsPiece compared sector (end_of_reads from reads) r.pos (r.pos + r.asked)
+    → AskForPieces compared sector from (reads ++ r ∷ [])
+asks_push compared sector from [] r asks piece = (piece, tt)
+asks_push compared sector from (q ∷ reads) r asks piece =
+    (asks.0, asks_push compared sector (q.pos + q.asked) reads r asks.1 piece)
+
+calls_push : (place : ℕ → ℕ) (looks : List Look) (l : Look)
+    → look_calls place (looks ++ l ∷ []) ≡ look_calls place looks ++ look_call (place l.read.pos) l
+calls_push place [] l = append-nil (look_call (place l.read.pos) l)
+calls_push place (k ∷ looks) l =
+    ap (λ (cs : List Call). look_call (place k.read.pos) k ++ cs) (calls_push place looks l)
+    ∙ sym (append_assoc (look_call (place k.read.pos) k) (look_calls place looks) (look_call (place l.read.pos) l))
+
+reads_push : (looks : List Look) (l : Look) → reads_of (looks ++ l ∷ []) ≡ reads_of looks ++ l.read ∷ []
+reads_push looks l = map_push (λ (k : Look). k.read) looks l
+
+tally_push : (looks : List Look) (l : Look) → tally_of (looks ++ l ∷ []) ≡ counted (tally_of looks) l
+tally_push looks l =
+    let compared = sum_by_push (λ (k : Look). if is_whole k.read then k.read.asked else 0) looks l in
+    let differing = sum_by_push (λ (k : Look). if differs k then k.read.asked else 0) looks l in
+    let unread = sum_by_push (λ (k : Look). if not (is_whole k.read) then k.read.asked else 0) looks l in
+    cc (compared, differing, unread)
+
+-- ---- looks so far
+
+-- looks at the first pieces, up to a position: what they count, and what they make of a map
+pub record UpTo (p : Plan) (from : ℕ) (tally : Tally) (old new : List Status) (source source' : SourceState)
+    (site site' : SiteState) : Type 0 where
+  pub looks : List Look
+  pub looked : HasLooked p looks source source' site site'
+  pub ends : end_of_reads 0 (reads_of looks) ≡ from
+  pub counts : tally ≡ tally_of looks
+  pub map_is : new ≡ judged_by old looks
+
+pub none_yet : (p : Plan) (map : List Status) (source : SourceState) (site : SiteState)
+    → UpTo p 0 (record { compared = 0; differing = 0; unread = 0 }) map map source source site site
+none_yet p map source site = record {
+  looks = [];
+  looked = record {
+    asks = tt;
+    journal = λ tells. sym (append-nil source.journal);
+    record_ = λ tells. sym (append-nil site.calls);
+    seen = λ tells. refl;
+  };
+  ends = refl;
+  counts = refl;
+  map_is = refl;
+}
+
+-- an image that no call changed reads as it did
+pub record SameImage (site site' : SiteState) : Type 0 where
+  pub tells : site'.tells ≡ site.tells
+  pub image : IsTrue site.tells → image_in site' ≡ image_in site
+
+pub one_more : (p : Plan) (from pos size : ℕ) (tally : Tally) (old new : List Status) (l : Look)
+    (source s1 s2 : SourceState) (site d1 d2 : SiteState) → UpTo p from tally old new source s1 site d1
+    → s1.tells ≡ source.tells → SameImage site d1
+    → IsPiece p.compared p.sector from pos (pos + size) → SeesPiece pos size (place_in p pos) l s1 s2 d1 d2
+    → UpTo p (pos + size) (counted tally l) old (judged new l) source s2 site d2
+one_more p from pos size tally old new l source s1 s2 site d1 d2 u told image piece sees =
+    let looks : List Look = u.looks in
+    let at : place_in p l.read.pos ≡ place_in p pos = ap (place_in p) sees.pos_is in
+    let place : ℕ → ℕ = place_in p in
+    record {
+      looks = looks ++ l ∷ [];
+      looked = record {
+        asks = subst (AskForPieces p.compared p.sector 0) (sym (reads_push looks l))
+            (asks_push p.compared p.sector 0 (reads_of looks) l.read u.looked.asks
+            (rw (u.ends, sees.pos_is, sees.size_is) piece));
+        journal = λ tells.
+            sees.read.told (rw told tells) ∙ ap (λ (j : List Reading). j ++ l.read ∷ []) (u.looked.journal tells)
+            ∙ append_assoc source.journal (reads_of looks) (l.read ∷ [])
+            ∙ ap (λ (j : List Reading). source.journal ++ j) (sym (reads_push looks l));
+        record_ = λ tells.
+            sees.made.made (rw image.tells tells)
+            ∙ ap (λ (c : List Entry). c ++ map Done (look_call (place pos) l)) (u.looked.record_ tells)
+            ∙ append_assoc site.calls (map Done (look_calls place looks)) (map Done (look_call (place pos) l))
+            ∙ ap (λ (c : List Entry). site.calls ++ c)
+            (sym (map-append Done (look_calls place looks) (look_call (place pos) l))
+            ∙ ap (λ (cs : List Call). map Done cs)
+            (ap (λ (n : ℕ). look_calls place looks ++ look_call n l) (sym at) ∙ sym (calls_push place looks l)));
+        seen = λ tells.
+            let own : l ≡ seen_in (bytes_of (image_in site)) place l.read =
+            sees.own (rw image.tells tells)
+            ∙ ap (λ (f : Option File). seen_at (bytes_of f) (place pos) l.read) (image.image tells)
+            ∙ ap (λ (n : ℕ). seen_at (bytes_of (image_in site)) n l.read) (sym at) in
+            ap (λ (ks : List Look). ks ++ l ∷ []) (u.looked.seen tells)
+            ∙ ap (λ (k : Look). map (seen_in (bytes_of (image_in site)) place) (reads_of looks) ++ k ∷ []) own
+            ∙ sym (map_push (seen_in (bytes_of (image_in site)) place) (reads_of looks) l.read)
+            ∙ ap (map (seen_in (bytes_of (image_in site)) place)) (sym (reads_push looks l));
+      };
+      ends = ap (end_of_reads 0) (reads_push looks l) ∙ end_push 0 (reads_of looks) l.read
+          ∙ ap (λ (n : ℕ). n + l.read.asked) sees.pos_is ∙ ap (λ (n : ℕ). pos + n) sees.size_is;
+      counts = ap (λ (t : Tally). counted t l) u.counts ∙ sym (tally_push looks l);
+      map_is = ap (λ (m : List Status). judged m l) u.map_is ∙ sym (judged_push old looks l);
+    }
+
+-- ---- what stays
+
+call_stands : (b : Bool) (at n k : ℕ) (d : Folder)
+    → after d (map Done (if b then image_read at n (Some k) ∷ [] else [])) ≡ d
+call_stands true at n k d = refl
+call_stands false at n k d = refl
+
+-- looks change nothing of what files read as
+pub looks_stand : (place : ℕ → ℕ) (looks : List Look) (d : Folder) → after d (map Done (look_calls place looks)) ≡ d
+looks_stand place [] d = refl
+looks_stand place (l ∷ looks) d =
+    let first : List Call = look_call (place l.read.pos) l in
+    ap (after d) (map-append Done first (look_calls place looks))
+    ∙ after-append d (map Done first) (map Done (look_calls place looks))
+    ∙ ap (λ (f : Folder). after f (map Done (look_calls place looks)))
+    (call_stands (is_whole l.read) (place l.read.pos) l.read.asked (length l.there) d)
+    ∙ looks_stand place looks d
+
+pub same_image : (p : Plan) (from : ℕ) (tally : Tally) (old new : List Status) (source source' : SourceState)
+    (site site' : SiteState) → UpTo p from tally old new source source' site site' → SiteStays site site'
+    → SameImage site site'
+same_image p from tally old new source source' site site' u stays = record {
+  tells = stays.keeps.tells;
+  image = λ tells.
+      let calls : after site.start site'.calls ≡ after site.start site.calls =
+      ap (after site.start) (u.looked.record_ tells)
+      ∙ after-append site.start site.calls (map Done (look_calls (place_in p) u.looks))
+      ∙ looks_stand (place_in p) u.looks (after site.start site.calls) in
+      let folder : after site'.start site'.calls ≡ after site.start site.calls =
+      ap (λ (f : Folder). after f site'.calls) (stays.keeps.start tells) ∙ calls in
+      ap (λ (f : Folder). file_at f.files f.image) folder;
+}
+
+-- a piece that was taken is one more look
+pub takes_one : (p : Plan) (from pos to : ℕ) (tally tally' : Tally) (old new new' : List Status)
+    (source s1 s2 : SourceState) (site d1 d2 : SiteState) → UpTo p from tally old new source s1 site d1
+    → SourceStays source s1 → SiteStays site d1 → pos < to → IsPiece p.compared p.sector from pos to
+    → TakesPiece p pos to tally tally' new new' s1 s2 d1 d2
+    → UpTo p to tally' old new' source s2 site d2
+takes_one p from pos to tally tally' old new new' source s1 s2 site d1 d2 u stays site_stays some piece takes =
+    let end : pos + (to - pos) ≡ to = omega arith in
+    let own : IsPiece p.compared p.sector from pos (pos + (to - pos)) =
+    subst (IsPiece p.compared p.sector from pos) (sym end) piece in
+    let more : UpTo p (pos + (to - pos)) (counted tally takes.look) old (judged new takes.look) source s2 site d2 =
+    one_more p from pos (to - pos) tally old new takes.look source s1 s2 site d1 d2 u stays.keeps.tells
+    (same_image p from tally old new source s1 site d1 u site_stays) own takes.sees in
+    rw (takes.counts, takes.map_is) (subst (λ (n : ℕ). UpTo p n (counted tally takes.look) old (judged new takes.look)
+    source s2 site d2) end more)
+
+length_judged_by : (b : Bool) (map : List Status) (pos size : ℕ) → pos + size ≤ length map
+    → length (if b then marked map pos size NonTried else map) ≡ length map
+length_judged_by true map pos size h = length-marked map pos size NonTried h
+length_judged_by false map pos size h = refl
+
+-- a map keeps its length, and the counts stay below the positions that were looked at
+pub record Grows (to : ℕ) (tally tally' : Tally) (old new : List Status) : Type 0 where
+  pub long : length new ≡ length old
+  pub counts : tally'.compared + tally'.unread ≤ to
+  pub part : tally'.differing ≤ tally'.compared
+
+sums_by : (whole same : Bool) (pos n to c d u : ℕ) → pos + n ≡ to → c + u ≤ pos → d ≤ c
+    → ((c + (if whole then n else 0)) + (u + (if not whole then n else 0)) ≤ to)
+    × (d + (if (whole && not same) then n else 0) ≤ c + (if whole then n else 0))
+sums_by true true pos n to c d u e h k = (omega arith, omega arith)
+sums_by true false pos n to c d u e h k = (omega arith, omega arith)
+sums_by false true pos n to c d u e h k = (omega arith, omega arith)
+sums_by false false pos n to c d u e h k = (omega arith, omega arith)
+
+pub takes_grow : (p : Plan) (pos to : ℕ) (tally tally' : Tally) (old new : List Status) (source source' : SourceState)
+    (site site' : SiteState) → TakesPiece p pos to tally tally' old new source source' site site' → pos < to
+    → to ≤ length old → tally.compared + tally.unread ≤ pos → tally.differing ≤ tally.compared
+    → Grows to tally tally' old new
+takes_grow p pos to tally tally' old new source source' site site' takes some within counts part =
+    let l : Look = takes.look in
+    let size : l.read.asked ≡ to - pos = takes.sees.size_is in
+    let start : l.read.pos ≡ pos = takes.sees.pos_is in
+    let ends : pos + l.read.asked ≡ to = omega (arith, size) in
+    let sums = sums_by (is_whole l.read) (bytes_eq l.read.given l.there) pos l.read.asked to tally.compared
+    tally.differing tally.unread ends counts part in
+    record {
+      long = ap length takes.map_is
+          ∙ length_judged_by (differs l) old l.read.pos l.read.asked (omega (arith, start, ends, within));
+      counts = rw takes.counts sums.0;
+      part = rw takes.counts sums.1;
+    }
+
+-- ---- the end
+
+pub came_to_end : (p : Plan) (from : ℕ) (tally : Tally) (old new : List Status) (source source' : SourceState)
+    (site site' : SiteState) → UpTo p from tally old new source source' site site' → NoneFrom p.compared from
+    → Compares p old new (Ok tally) source source' site site'
+came_to_end p from tally old new source source' site site' u none = record {
+  looks = u.looks;
+  reads = [];
+  calls = [];
+  asks = u.looked.asks;
+  ends = (subst (NoneFrom p.compared) (sym u.ends) none, u.map_is, u.counts, refl, refl);
+  journal = λ tells. u.looked.journal tells ∙ ap (λ (j : List Reading). source.journal ++ j) (sym (append-nil (reads_of u.looks)));
+  record_ = λ tells.
+      u.looked.record_ tells
+      ∙ ap (λ (c : List Entry). site.calls ++ c) (sym (append-nil (map Done (look_calls (place_in p) u.looks))));
+  seen = u.looked.seen;
+}
+
+-- what a look that halted read and called
+record Halted (halt : Halt) (p : Plan) (from : ℕ) (source source' : SourceState) (site site' : SiteState) : Type 0 where
+  reads : List Reading
+  calls : List Entry
+  halts : HaltsAt halt p from reads calls
+  journal : IsTrue source.tells → source'.journal ≡ source.journal ++ reads
+  record_ : IsTrue site.tells → site'.calls ≡ site.calls ++ calls
+
+lost_gains : (call : Call) (old new : List Entry) → Lost call old new → (calls : List Entry) × Lost call [] calls × (new ≡ old ++ calls)
+lost_gains call old new (inl grew) = (Failed call ∷ [], inl refl, grew)
+lost_gains call old new (inr same) = ([], inr refl, same ∙ sym (append-nil old))
+
+broken_read : (at : SiteCall) (call : Call) (old new : List Entry) → BrokeAt at (call ∷ []) old new → Lost call old new
+broken_read at call old new (inl b) = b.1
+broken_read at call old new (inr b) = absurd b
+
+halted_by_tells : (b : Bool) (X : Type 0) → (IsTrue b → X) → ((IsTrue b → ⊥) → X) → X
+halted_by_tells true X told untold = told refl
+halted_by_tells false X told untold = untold (λ t. absurd (cc))
+
+halted_looking : (halt : Halt) (p : Plan) (from pos size : ℕ) (source source' : SourceState) (site site' : SiteState)
+    → IsPiece p.compared p.sector from pos (pos + size)
+    → HaltsLooking halt pos size (place_in p pos) source source' site site' → Halted halt p from source source' site site'
+halted_looking NoMemory p from pos size source source' site site' piece h = record {
+  reads = [];
+  calls = [];
+  halts = (refl, refl);
+  journal = λ tells. ap (λ (s : SourceState). s.journal) h.0 ∙ sym (append-nil source.journal);
+  record_ = λ tells. ap (λ (d : SiteState). d.calls) h.1 ∙ sym (append-nil site.calls);
+}
+halted_looking SourceLost p from pos size source source' site site' piece h = record {
+  reads = [];
+  calls = [];
+  halts = (pos, pos + size, piece, refl, refl);
+  journal = λ tells. h.0.untold tells ∙ sym (append-nil source.journal);
+  record_ = λ tells. ap (λ (d : SiteState). d.calls) h.1 ∙ sym (append-nil site.calls);
+}
+halted_looking ImageFault p from pos size source source' site site' piece h =
+    let r : Reading = h.0 in
+    let own : IsPiece p.compared p.sector from r.pos (r.pos + r.asked) = rw (h.1, h.2) piece in
+    let lost : List Entry → Type 0 = λ calls. Lost (image_read (place_in p r.pos) r.asked None) [] calls in
+    let call : image_read (place_in p pos) size None ≡ image_read (place_in p r.pos) r.asked None =
+    ap (λ (x : ℕ). image_read (place_in p x) size None) (sym h.1)
+    ∙ ap (λ (n : ℕ). image_read (place_in p r.pos) n None) (sym h.2) in
+    halted_by_tells site.tells (Halted ImageFault p from source source' site site')
+    (λ t.
+    let l = lost_gains (image_read (place_in p pos) size None) site.calls site'.calls
+    (broken_read _ (image_read (place_in p pos) size None) site.calls site'.calls (h.5.broke t)) in
+    record {
+      reads = r ∷ [];
+      calls = l.0;
+      halts = (r, own, h.3, refl, subst (λ (c : Call). Lost c [] l.0) call l.1);
+      journal = h.4.told;
+      record_ = λ tells. l.2;
+    })
+    (λ n. record {
+      reads = r ∷ [];
+      calls = [];
+      halts = (r, own, h.3, refl, inr refl);
+      journal = h.4.told;
+      record_ = λ tells. absurd (n tells);
+    })
+
+pub came_to_halt : (halt : Halt) (p : Plan) (from pos size : ℕ) (tally : Tally) (old new now : List Status)
+    (source s1 s2 : SourceState) (site d1 d2 : SiteState) → UpTo p from tally old new source s1 site d1
+    → s1.tells ≡ source.tells → d1.tells ≡ site.tells → IsPiece p.compared p.sector from pos (pos + size)
+    → HaltsLooking halt pos size (place_in p pos) s1 s2 d1 d2
+    → Compares p old now (Err halt) source s2 site d2
+came_to_halt halt p from pos size tally old new now source s1 s2 site d1 d2 u told tells piece h =
+    let halted : Halted halt p from s1 s2 d1 d2 = halted_looking halt p from pos size s1 s2 d1 d2 piece h in
+    record {
+      looks = u.looks;
+      reads = halted.reads;
+      calls = halted.calls;
+      asks = u.looked.asks;
+      ends = subst (λ (n : ℕ). HaltsAt halt p n halted.reads halted.calls) (sym u.ends) halted.halts;
+      journal = λ t.
+          halted.journal (rw told t) ∙ ap (λ (j : List Reading). j ++ halted.reads) (u.looked.journal t)
+          ∙ append_assoc source.journal (reads_of u.looks) halted.reads;
+      record_ = λ t.
+          halted.record_ (rw tells t) ∙ ap (λ (c : List Entry). c ++ halted.calls) (u.looked.record_ t)
+          ∙ append_assoc site.calls (map Done (look_calls (place_in p) u.looks)) halted.calls;
+      seen = u.looked.seen;
+    }
+
+-- what is counted of a look that halted, behind looks that counted nothing
+pub halted_counts : (halt : Halt) (pos size place : ℕ) (s0 s s' : SourceState) (d0 d d' : SiteState)
+    → s.losses ≡ s0.losses → d.faults ≡ d0.faults → HaltsLooking halt pos size place s s' d d'
+    → Counts (Err halt) s0 s' d0 d'
+halted_counts NoMemory pos size place s0 s s' d0 d d' losses faults h =
+    (ap (λ (x : SourceState). x.losses) h.0 ∙ losses, ap (λ (x : SiteState). x.faults) h.1 ∙ faults)
+halted_counts SourceLost pos size place s0 s s' d0 d d' losses faults h =
+    (h.0.rose ∙ ap raised losses, ap (λ (x : SiteState). x.faults) h.1 ∙ faults)
+halted_counts ImageFault pos size place s0 s s' d0 d d' losses faults h =
+    (h.4.losses ∙ losses, h.5.rose ∙ ap raised faults)
+
+-- memory ran out before the first look
+pub starved_first : (p : Plan) (old new : List Status) (source : SourceState) (site : SiteState)
+    → Compares p old new (Err NoMemory) source source site site
+starved_first p old new source site = record {
+  looks = [];
+  reads = [];
+  calls = [];
+  asks = tt;
+  ends = (refl, refl);
+  journal = λ tells. sym (append-nil source.journal);
+  record_ = λ tells. sym (append-nil site.calls);
+  seen = λ tells. refl;
+}
+
+-- ---- a piece
+
+-- its last position is compared
+pub piece_holds : (compared : ℕ → Bool) (sector from pos end : ℕ) → pos < end → IsPiece compared sector from pos end
+    → IsIn compared (end - 1)
+piece_holds compared sector from pos end some piece =
+    piece.run.within (end - 1) (omega (arith, some)) (omega (arith, some, piece.ends))
+
+-- it is as long as what is between its ends
+pub long_piece : (compared : ℕ → Bool) (sector from pos end : ℕ) → pos < end → IsPiece compared sector from pos end
+    → IsPiece compared sector from pos (pos + (end - pos))
+long_piece compared sector from pos end some piece =
+    let same : end ≡ pos + (end - pos) = omega (arith, some) in
+    subst (IsPiece compared sector from pos) same piece
+
+-- ---- a buffer
+
+-- a buffer that was lent as a slice is as long as before
+pub buffer_same : (len : ℕ) (new now items : List ℕ) → length now ≡ len → now ≡ items → length new ≡ length now
+    → length (take len (new ++ drop (length new) items)) ≡ length items
+buffer_same len new now items long is same =
+    let all : length items ≡ len = ap (λ (l : List ℕ). length l) (sym is) ∙ long in
+    let size : length (new ++ drop (length new) items) ≡ length new + length (drop (length new) items)
+    = length-append new (drop (length new) items) in
+    length-take-le len (new ++ drop (length new) items) (omega (arith, size, same, long)) ∙ sym all

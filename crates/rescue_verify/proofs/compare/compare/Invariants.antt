@@ -1,0 +1,24 @@
+use Rattle.std.proofs.Common.{◌≡◌, ◌+◌, ◌-◌, ◌≤◌, length}
+use Rattle.faulty_source.specs.SourceState.{Stays as SourceStays}
+use Rattle.crash_site.specs.SiteState.{Stays as SiteStays}
+use Rattle.rescue_verify.specs.Comparing.{plan_by}
+use Rattle.rescue_verify.proofs.CompareLemmas.{UpTo}
+use Rattle.rescue_verify.proofs.compare.compare.Given as goal
+
+abbrev pub invariant-pieces : goal.invariant-pieces
+invariant-pieces g l = record {
+  up_to : UpTo (plan_by l.comparison) l.from l.tally (g.T.Tiles.statuses l.initial.tiles) (g.T.Tiles.statuses l.tiles)
+      (g.S.Source.state l.initial.source) (g.S.Source.state l.source) (g.D.Site.state l.initial.site) (g.D.Site.state l.site);
+  source : SourceStays (g.S.Source.state l.initial.source) (g.S.Source.state l.source);
+  losses : (g.S.Source.state l.source).losses ≡ (g.S.Source.state l.initial.source).losses;
+  faults : (g.D.Site.state l.site).faults ≡ (g.D.Site.state l.initial.site).faults;
+  site : SiteStays (g.D.Site.state l.initial.site) (g.D.Site.state l.site);
+  long : length (g.T.Tiles.statuses l.tiles) ≡ length (g.T.Tiles.statuses l.initial.tiles);
+  given : length l.given.items ≡ l.size;
+  there : length l.there.items ≡ l.size;
+  counts : l.tally.compared + l.tally.unread ≤ l.from;
+  part : l.tally.differing ≤ l.tally.compared;
+}
+
+abbrev pub decreases-pieces : goal.decreases-pieces
+decreases-pieces g l = length (g.T.Tiles.statuses l.initial.tiles) - l.from

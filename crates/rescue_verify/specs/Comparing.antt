@@ -1,0 +1,105 @@
+-- How a comparison goes over its pieces, and how far it comes.
+use Rattle.std.specs.Prelude.{◌≡◌, ℕ, ◌+◌, ◌-◌, Bool, true, not, IsTrue, List, [], ◌∷◌, ◌++◌, map, None, Result, Ok, Err, if◌then◌else◌}
+use Rattle.fault_count.specs.Counts.{Rose}
+use Rattle.block_list.specs.declared.status.Status.{Status}
+use Rattle.faulty_source.specs.Journal.{Reading, is_whole}
+use Rattle.faulty_source.specs.SourceState.{SourceState}
+use Rattle.crash_site.specs.Calls.{Entry, Done, Lost, image_read}
+use Rattle.crash_site.specs.Files.{bytes_of}
+use Rattle.crash_site.specs.SiteState.{SiteState, image_in}
+use Rattle.rescue_domain.specs.Parts.{covers}
+use Rattle.rescue_domain.specs.Places.{place_from}
+use Rattle.rescue_verify.specs.declared.halt.Halt.{Halt}
+use Rattle.rescue_verify.specs.declared.halt.Halt.TheVariants.{NoMemory, SourceLost, ImageFault}
+use Rattle.rescue_verify.specs.declared.tally.Tally.{Tally}
+use Rattle.rescue_verify.specs.declared.piece.Comparison.{Comparison}
+use Rattle.rescue_verify.specs.Pieces.{IsPiece, NoneFrom, AskForPieces, end_of_reads}
+use Rattle.rescue_verify.specs.Looks.{Look, reads_of, differs, seen_in, look_calls, compared_bytes, differing_bytes, unread_bytes}
+use Rattle.rescue_verify.specs.Looking.{SeesPiece}
+use Rattle.rescue_verify.specs.Verified.{judged, judged_by}
+
+-- What is compared, in sectors of this size, and where a position stands in the image: `from` stands at `to`.
+pub record Plan : Type 0 where
+  pub compared : ℕ → Bool
+  pub sector : ℕ
+  pub from : ℕ
+  pub to : ℕ
+
+abbrev pub place_in : Plan → ℕ → ℕ
+place_in p x = place_from p.from p.to x
+
+-- the same of what the code hands on
+abbrev pub plan_by : Comparison → Plan
+plan_by c = record { compared = covers c.compared.now; sector = c.sector; from = c.from; to = c.to }
+
+-- what looks count
+abbrev pub tally_of : List Look → Tally
+tally_of looks = record {
+  compared = compared_bytes looks;
+  differing = differing_bytes looks;
+  unread = unread_bytes looks;
+}
+
+-- what one more look counts
+abbrev pub counted : Tally → Look → Tally
+counted t l = record {
+  compared = t.compared + (if is_whole l.read then l.read.asked else 0);
+  differing = t.differing + (if differs l then l.read.asked else 0);
+  unread = t.unread + (if not (is_whole l.read) then l.read.asked else 0);
+}
+
+-- The piece from one position up to another was looked at, counted, and marked in the map if it differs.
+pub record TakesPiece (p : Plan) (from to : ℕ) (tally tally' : Tally) (old new : List Status)
+    (source source' : SourceState) (site site' : SiteState) : Type 0 where
+  pub look : Look
+  pub sees : SeesPiece from (to - from) (place_in p from) look source source' site site'
+  pub counts : tally' ≡ counted tally look
+  pub map_is : new ≡ judged old look
+
+-- Why a comparison stopped in front of a piece, or within it, and what it read of input and files meanwhile: room in the
+-- map ran out before the piece was read; its read was lost; or it was read whole, and the read of the image failed.
+abbrev pub HaltsAt : Halt → Plan → (from : ℕ) → List Reading → List Entry → Type 0
+HaltsAt NoMemory p from reads calls = (reads ≡ []) × (calls ≡ [])
+HaltsAt SourceLost p from reads calls =
+    (pos end : ℕ) × IsPiece p.compared p.sector from pos end × (reads ≡ []) × (calls ≡ [])
+HaltsAt ImageFault p from reads calls =
+    (r : Reading) × IsPiece p.compared p.sector from r.pos (r.pos + r.asked) × (is_whole r ≡ true) × (reads ≡ r ∷ [])
+    × Lost (image_read (place_in p r.pos) r.asked None) [] calls
+
+-- It came to the last piece, counted what it saw, and marked it in the map; or it stopped.
+abbrev pub EndsComparing : Plan → (old new : List Status) → Result Tally Halt → List Look → List Reading → List Entry
+    → Type 0
+EndsComparing p old new (Ok tally) looks reads calls =
+    NoneFrom p.compared (end_of_reads 0 (reads_of looks)) × (new ≡ judged_by old looks) × (tally ≡ tally_of looks)
+    × (reads ≡ []) × (calls ≡ [])
+EndsComparing p old new (Err halt) looks reads calls = HaltsAt halt p (end_of_reads 0 (reads_of looks)) reads calls
+
+-- A count rises by one where a read was lost or one of the image failed, and no other does.
+abbrev pub Counts : Result Tally Halt → (source source' : SourceState) → (site site' : SiteState) → Type 0
+Counts (Ok tally) source source' site site' = (source'.losses ≡ source.losses) × (site'.faults ≡ site.faults)
+Counts (Err NoMemory) source source' site site' = (source'.losses ≡ source.losses) × (site'.faults ≡ site.faults)
+Counts (Err SourceLost) source source' site site' = Rose source.losses source'.losses × (site'.faults ≡ site.faults)
+Counts (Err ImageFault) source source' site site' = (source'.losses ≡ source.losses) × Rose site.faults site'.faults
+
+-- Looks at the first pieces, in order: they are reads of the input and calls on the files, where these tell; and what the
+-- image gave is what it has there, where the files tell.
+pub record HasLooked (p : Plan) (looks : List Look) (source source' : SourceState) (site site' : SiteState)
+    : Type 0 where
+  pub asks : AskForPieces p.compared p.sector 0 (reads_of looks)
+  pub journal : IsTrue source.tells → source'.journal ≡ source.journal ++ reads_of looks
+  pub record_ : IsTrue site.tells → site'.calls ≡ site.calls ++ map Done (look_calls (place_in p) looks)
+  pub seen : IsTrue site.tells
+      → looks ≡ map (seen_in (bytes_of (image_in site)) (place_in p)) (reads_of looks)
+
+-- What a comparison did, by its outcome: looks at the first pieces, in order, and what came behind them.
+pub record Compares (p : Plan) (old new : List Status) (result : Result Tally Halt) (source source' : SourceState)
+    (site site' : SiteState) : Type 0 where
+  pub looks : List Look
+  pub reads : List Reading
+  pub calls : List Entry
+  pub asks : AskForPieces p.compared p.sector 0 (reads_of looks)
+  pub ends : EndsComparing p old new result looks reads calls
+  pub journal : IsTrue source.tells → source'.journal ≡ source.journal ++ (reads_of looks ++ reads)
+  pub record_ : IsTrue site.tells → site'.calls ≡ site.calls ++ (map Done (look_calls (place_in p) looks) ++ calls)
+  pub seen : IsTrue site.tells
+      → looks ≡ map (seen_in (bytes_of (image_in site)) (place_in p)) (reads_of looks)

@@ -1,0 +1,5 @@
+pub mod Pieces
+pub mod Looks
+pub mod Verified
+pub mod Looking
+pub mod Comparing

@@ -1,0 +1,36 @@
+-- What one look at a piece does, by what the objects tell.
+use Rattle.std.specs.Prelude.{◌≡◌, ℕ, true, IsTrue, [], ◌∷◌, None, if◌then◌else◌}
+use Rattle.faulty_source.specs.Journal.{Reading, is_whole}
+use Rattle.faulty_source.specs.SourceState.{SourceState, Reads, Loses}
+use Rattle.crash_site.specs.declared.site.SiteCall.TheVariants.{ImageRead}
+use Rattle.crash_site.specs.Calls.{image_read}
+use Rattle.crash_site.specs.Files.{bytes_of}
+use Rattle.crash_site.specs.SiteState.{SiteState, image_in, Makes, Breaks}
+use Rattle.rescue_verify.specs.declared.halt.Halt.{Halt}
+use Rattle.rescue_verify.specs.declared.halt.Halt.TheVariants.{NoMemory, SourceLost, ImageFault}
+use Rattle.rescue_verify.specs.declared.look.Seen.{Seen}
+use Rattle.rescue_verify.specs.declared.look.Seen.TheVariants.{Unread, Same, Different}
+use Rattle.rescue_verify.specs.Looks.{Look, differs, seen_at, look_call}
+
+-- what a look found
+abbrev pub seen_by : Look → Seen
+seen_by l = if is_whole l.read then (if differs l then Different else Same) else Unread
+
+-- The piece from a position on, of so many bytes, was read once, and if that was whole the image at a place; and what the
+-- image gave is what it has there.
+pub record SeesPiece (pos size place : ℕ) (look : Look) (source source' : SourceState) (site site' : SiteState)
+    : Type 0 where
+  pub pos_is : look.read.pos ≡ pos
+  pub size_is : look.read.asked ≡ size
+  pub read : Reads (look.read ∷ []) source source'
+  pub made : Makes (look_call place look) site site'
+  pub own : IsTrue site.tells → look ≡ seen_at (bytes_of (image_in site)) place look.read
+
+-- Why there is no look at it: nothing was done, or the read was lost, or it was whole and the read of the image failed.
+abbrev pub HaltsLooking : Halt → (pos size place : ℕ) → (source source' : SourceState) → (site site' : SiteState)
+    → Type 0
+HaltsLooking NoMemory pos size place source source' site site' = (source' ≡ source) × (site' ≡ site)
+HaltsLooking SourceLost pos size place source source' site site' = Loses source source' × (site' ≡ site)
+HaltsLooking ImageFault pos size place source source' site site' =
+    (r : Reading) × (r.pos ≡ pos) × (r.asked ≡ size) × (is_whole r ≡ true) × Reads (r ∷ []) source source'
+    × Breaks ImageRead (image_read place size None ∷ []) site site'

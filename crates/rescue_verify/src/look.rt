@@ -1,0 +1,62 @@
+//! A look at one piece.
+ghost use Rattle.std.specs.Prelude.{◌≡◌, ◌+◌, ◌<◌, ◌^◌, true, length, OnErr, IfOk, IfErr};
+ghost use Rattle.faulty_source.specs.SourceState.{Stays as SourceStays};
+ghost use Rattle.crash_site.specs.SiteState.{Stays as SiteStays};
+ghost use Rattle.rescue_verify.specs.Looks.{Look};
+ghost use Rattle.rescue_verify.specs.Looking.{SeesPiece, HaltsLooking, seen_by};
+
+use crate::halt::Halt;
+use crash_site::site::Site;
+use faulty_source::source::Source;
+
+/// What a look at a piece found.
+#[derive(Clone, Copy, Debug, PartialEq, Eq)]
+pub enum Seen {
+    /// The input didn't give all of it.
+    Unread,
+    /// The image has what the input gave.
+    Same,
+    /// The image has something else, or ends before.
+    Different,
+}
+
+/// Reads a piece of the input from a position on, and if that gave all of it, the image at a place. The two buffers are
+/// as long as the piece.
+pub(crate) fn look<S: Source, D: Site>(
+    pos: u64,
+    place: u64,
+    given: &mut [u8],
+    there: &mut [u8],
+    source: &mut S,
+    site: &mut D,
+) -> Result<Seen, Halt>
+    requires input { (S.state source.old).is_open ≡ true }
+    requires image { (D.state site.old).is_open ≡ true }
+    requires some { 0 < length given.old }
+    requires same { length there.old ≡ length given.old }
+    requires short { pos + length given.old < 2 ^ 63 }
+    requires placed { place + length given.old < 2 ^ 63 }
+    ensures looks { IfOk result (λ seen. (l : Look) × (seen ≡ seen_by l) × SeesPiece pos (length given.old) place l
+        (S.state source.old) (S.state source.new) (D.state site.old) (D.state site.new)) }
+    ensures halts { IfErr result (λ halt. HaltsLooking halt pos (length given.old) place (S.state source.old)
+        (S.state source.new) (D.state site.old) (D.state site.new)) }
+    ensures source { SourceStays (S.state source.old) (S.state source.new) }
+    ensures site { SiteStays (D.state site.old) (D.state site.new) }
+{
+    let got = match source.read_at(pos, given) {
+        Ok(got) => got,
+        Err(_) => return Err(Halt::SourceLost),
+    };
+    if got.count() < given.len() {
+        return Ok(Seen::Unread);
+    }
+    let count = match site.image_read(place, there) {
+        Ok(count) => count,
+        Err(_) => return Err(Halt::ImageFault),
+    };
+    if &*given == &there[..count] {
+        Ok(Seen::Same)
+    } else {
+        Ok(Seen::Different)
+    }
+}
