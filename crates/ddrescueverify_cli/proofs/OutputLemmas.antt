@@ -3,7 +3,7 @@ use Rattle.std.proofs.Common.{◌≡◌, ℕ, Bool, true, false, IsTrue, List, [
 use Rattle.crash_site.specs.declared.site.SiteCall.TheVariants.{ImageOpen}
 use Rattle.crash_site.specs.declared.site.ImageKind.{ImageKind}
 use Rattle.crash_site.specs.declared.site.ImageKind.TheVariants.{Regular, Other, Absent}
-use Rattle.crash_site.specs.Files.{File, empty_file, kind_of, is_absent}
+use Rattle.crash_site.specs.Files.{File, empty_file, kind_of}
 use Rattle.crash_site.specs.Calls.{Done as Returned, Lost, image_open}
 use Rattle.crash_site.specs.SiteState.{SiteState, files_in}
 use Rattle.work_steps.proofs.GainLemmas.{MayGain, may_gain}
@@ -20,11 +20,6 @@ kind_there false is = cc
 is_none : (file : Option File) → Absent ≡ kind_of file false → file ≡ None
 is_none None is = refl
 is_none (Some f) is = absurd (kind_there f.regular is)
-
-pub not_absent : (kind : ImageKind) → (kind ≡ Absent → ⊥) → is_absent kind ≡ false
-not_absent Regular never = refl
-not_absent Other never = refl
-not_absent Absent never = absurd (never refl)
 
 passes : (file : Option File) (kind : ImageKind) → (kind ≡ Absent → ⊥) → kind ≡ kind_of file false → (v : VerifyEnding)
     → OutputRefused file v → ⊥

@@ -1,12 +1,10 @@
 -- What is said of an answer, and what an answer says of the words and of the counts.
-use Rattle.std.proofs.Common.{◌≡◌, ◌⊎◌, ◌↔◌, ℕ, nat_eq, Bool, true, false, List, Result, Ok, Err, if◌then◌else◌, refl, sym, ap, ◌∙◌, inl, inr, subst}
-use Rattle.std.proofs.lemmas.Bool.{both_ways}
+use Rattle.std.proofs.Common.{◌≡◌, ◌⊎◌, ℕ, nat_eq, Bool, true, false, List, Result, Ok, Err, if◌then◌else◌, refl, sym, ap, ◌∙◌, inl, inr, subst}
 use Rattle.fault_count.specs.Counts.{raised}
 use Rattle.rescue_console.specs.ConsoleState.{ChannelState, ConsoleState, Puts, PutsPart, Answers as ConsoleAnswers}
 use Rattle.rescue_console.specs.declared.console.Channel.TheVariants.{Err as ErrorChannel}
 use Rattle.option_words.specs.declared.fault.UsageFault.TheVariants.{Word, BadValue, Conflict, Modes, Operands, PlaceTooLarge}
 use Rattle.rescue_verify.specs.declared.tally.Tally.{Tally}
-use Rattle.verify_command.specs.Command.{AskQuiet}
 use Rattle.ddrescueverify_cli.specs.declared.ending.VerifyEnding.{VerifyEnding}
 use Rattle.ddrescueverify_cli.specs.declared.ending.VerifyEnding.TheVariants.{Done, Differs, Usage, SameName, NoMap, NoOutput, MapRefused, SourceFault, SourceLost, SiteFault, ConsoleFault, NoMemory}
 use Rattle.ddrescueverify_cli.specs.Answers.{AreAccepted, SaysOfWords, Causes, Rises, MaySay, drafting_left, is_silent, unchanged}
@@ -24,14 +22,6 @@ pub said_beside : (t : Told) (between : ConsoleState) → Says t between → t.c
 said_beside t between (Nothing silent same) = ap (λ (c : ConsoleState). c.out) same
 said_beside t between (Message loud untouched (inl put) plan) = put.stays.other
 said_beside t between (Message loud untouched (inr part) plan) = part.stays.other
-
--- whether something is to be said, by what the words ask
-pub may_say : (words : List (List ℕ)) (e : VerifyEnding) (quiet : Bool) (untouched : Type 0)
-    → AskQuiet words ↔ (quiet ≡ true) → MaySay words e quiet untouched
-may_say words e quiet untouched asks = record {
-  silent = λ on. asks.1 on;
-  loud = λ off silence. absurd (both_ways quiet off (asks.0 silence));
-}
 
 -- a put, whole or not
 puts_or : {T E : Type 0} (piece : List ℕ) (result : Result T E) (old new : ConsoleState)

@@ -68,15 +68,17 @@ fn failed_behind<T: Tiles>(
         → result ≡ (counts_of (is_live (setting_in r) r.machine) (T.statuses tiles.now)).failed }
 {
     let from = request.pos;
-    let kept = from.saturating_add(turn.kept);
-    let to = from.saturating_add(request.len as u64);
     if copies(phase) {
         if turn.failed() {
+            let kept = from.saturating_add(turn.kept);
+            let to = from.saturating_add(request.len as u64);
             failed_more(failed, live, tiles, from, kept, to)
         } else {
             failed
         }
     } else if turn.kept > 0 {
+        let kept = from.saturating_add(turn.kept);
+        let to = from.saturating_add(request.len as u64);
         failed_less(failed, live, tiles, from, kept, to)
     } else {
         failed

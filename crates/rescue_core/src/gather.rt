@@ -31,6 +31,7 @@ pub(crate) struct Gathered {
 
 /// Reads what is requested, and writes what is kept of it to its place in the output. A lost read or a failed write is
 /// a stop.
+#[inline(always)]
 pub(crate) fn gather<S: Source, D: Site, K: Clock>(
     request: Request,
     settings: &Settings,

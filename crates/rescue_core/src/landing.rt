@@ -40,6 +40,7 @@ impl Kept {
 
 /// Writes what was loaded, which stands at the buffer's front, at a place of the output. Where that fails, all that was
 /// fetched is set aside.
+#[inline(always)]
 pub(crate) fn land_kept<D: Site>(
     fetched: Fetched,
     buf: &[u8],

@@ -245,6 +245,7 @@ impl<P: Stage, T: Tiles> Rescue<P, T> {
     }
 
     /// The next request of its pass.
+    #[inline(always)]
     pub fn next_request(&self) -> Option<Request>
         ensures some { IfSome result (λ q. IsRequest (setting_in self.now) self.now.machine q.pos (q.pos + q.len)) }
         ensures none { IfNone result (has_request (setting_in self.now) self.now.machine ≡ false) }

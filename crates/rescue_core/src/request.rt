@@ -108,6 +108,7 @@ fn search_at(settings: &Settings, phase: Phase, place: &Place, end: u64) -> Sear
 }
 
 /// The next run of positions left of a domain that have a status, by a search.
+#[inline(always)]
 fn next_run<T: Tiles>(live: Live<'_>, tiles: &T, search: Search, status: Status) -> Option<Run>
     ensures run { IfSome result (λ run. IsNextRun search.up (IsMarked (lives live.entry) (T.statuses tiles.now) status)
         search.from run.from run.to) }
@@ -149,6 +150,7 @@ fn cut(search: Search, sector: u64, run: Run) -> Request
 }
 
 /// What is cut of the next run that a search finds.
+#[inline(always)]
 fn request_by<T: Tiles>(
     settings: &Settings,
     live: Live<'_>,
@@ -174,6 +176,7 @@ fn request_by<T: Tiles>(
 }
 
 /// The next request of a phase at a place, of a machine that stands there.
+#[inline(always)]
 pub(crate) fn next_request<T: Tiles>(
     settings: &Settings,
     live: Live<'_>,

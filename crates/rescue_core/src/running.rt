@@ -28,7 +28,7 @@ use crate::request::{leads_up, next_lead, next_request};
 use crate::save_now::{save_now, save_or_sync};
 use crate::settings::Settings;
 use crate::state::{Place, Tally};
-use crate::tally::{is_due, is_line_due, shown_at, tally_behind};
+use crate::tally::{Tallied, shown_at, tally_behind};
 use crate::turn::{Advanced, Turn};
 use crate::wanted::trims_on;
 use block_list::tiles::Tiles;
@@ -155,6 +155,7 @@ impl<T: Tiles> Running<T> {
     }
 
     /// The next request of this pass.
+    #[inline(always)]
     pub fn next_request(&self) -> Option<Request>
         ensures some { IfSome result (λ q. IsRequest (setting_in self.now) self.now.machine q.pos (q.pos + q.len)) }
         ensures none { IfNone result (has_request (setting_in self.now) self.now.machine ≡ false) }
@@ -195,7 +196,8 @@ impl<T: Tiles> Running<T> {
 
     /// One turn: room in the map, a reading of the clock, the read, another reading, the write of what was kept, the
     /// marks, the line if one is due, a look at the limits, and the save if one is due: without a mapfile none is.
-    // Inlined in the loop of each phase, or a request of one sector costs half as much again (bench/turns).
+    // Inlined in the loop of each phase, with what it calls that is marked so, or a request of one sector costs half as
+    // much again (bench/turns).
     #[inline(always)]
     pub fn turn<S: Source, D: Site, K: Clock, C: Console>(
         &mut self,
@@ -329,9 +331,12 @@ impl<T: Tiles> Running<T> {
             more,
         );
         let shown = shown_at(self.phase, self.place);
-        let speaks = is_line_due(self.tally.said, shown.current, after / 1000);
-        let saves = is_due(self.tally, after);
-        self.tally = tally_behind(self.tally, turn, after, shown, met);
+        let Tallied {
+            tally,
+            speaks,
+            saves,
+        } = tally_behind(self.tally, turn, after, shown, met);
+        self.tally = tally;
         Ok(Advanced {
             turn,
             speaks,

@@ -1,10 +1,10 @@
 //! What a run has come to behind a read.
-ghost use Rattle.std.specs.Prelude.{◌≡◌, ℕ, Some, None, ◌+◌, ◌*◌, ◌<◌, ◌≤◌, ◌^◌, length};
+ghost use Rattle.std.specs.Prelude.{◌≡◌, ℕ, Some, None, ◌+◌, ◌*◌, ◌/◌, ◌<◌, ◌≤◌, ◌^◌, length};
 ghost use Rattle.faulty_source.specs.Got.{count_of, is_end};
 ghost use Rattle.faulty_source.specs.Journal.{kept as kept_by};
 ghost use Rattle.rescue_rules.specs.Passes.{numbered, current_of};
 ghost use Rattle.rescue_rules.specs.Machine.{Machine, pass_of};
-ghost use Rattle.rescue_rules.specs.Said.{is_line_due as line_due, said_after};
+ghost use Rattle.rescue_rules.specs.Said.{is_line_due as line_due};
 ghost use Rattle.rescue_rules.specs.Step.{Event, is_timely, earlier, step};
 ghost use Rattle.rescue_core.specs.RunState.{RunState, setting_in};
 ghost use Rattle.rescue_core.specs.Turning.{turn_of};
@@ -53,10 +53,18 @@ pub(crate) fn turn_behind(
 }
 
 /// Whether a save is due behind a read at this time.
-pub(crate) fn is_due(tally: Tally, after: u64) -> bool
+fn is_due(tally: Tally, after: u64) -> bool
     ensures { (m : Machine) (e : Event) → m.due_at ≡ tally.due_at → e.after ≡ after → result ≡ is_timely m e }
 {
     after.saturating_sub(tally.due_at) >= SAVE_INTERVAL
+}
+
+/// What a run has come to behind a read.
+pub(crate) struct Tallied {
+    pub tally: Tally,
+    /// Whether a line is due, and whether it is time for a save.
+    pub speaks: bool,
+    pub saves: bool,
 }
 
 /// What a run has come to behind a read at this time, which met the input's end there if it did.
@@ -66,12 +74,18 @@ pub(crate) fn tally_behind(
     after: u64,
     shown: MapState,
     end: Option<u64>,
-) -> Tally
-    ensures { (r : RunState) (e : Event) → tally ≡ tally_of r.machine → turn ≡ turn_of r e → e.after ≡ after
+) -> Tallied
+    ensures tally { (r : RunState) (e : Event) → tally ≡ tally_of r.machine → turn ≡ turn_of r e → e.after ≡ after
         → shown ≡ (step (setting_in r) r.machine e).shown → end ≡ end_met e.reading
-        → result ≡ tally_of (step (setting_in r) r.machine e) }
+        → result.tally ≡ tally_of (step (setting_in r) r.machine e) }
+    ensures speaks { result.speaks ≡ line_due tally.said shown.current (after / 1000) }
+    ensures saves { (m : Machine) (e : Event) → m.due_at ≡ tally.due_at → e.after ≡ after
+        → result.saves ≡ is_timely m e }
 {
-    Tally {
+    let second = after / 1000;
+    let speaks = is_line_due(tally.said, shown.current, second);
+    let saves = is_due(tally, after);
+    let tally = Tally {
         failed: if turn.failed() {
             tally.failed.saturating_add(1)
         } else {
@@ -80,37 +94,34 @@ pub(crate) fn tally_behind(
         began: tally.began,
         now: after,
         whole_at: if turn.failed() { tally.whole_at } else { after },
-        due_at: if is_due(tally, after) {
-            after
-        } else {
-            tally.due_at
-        },
+        due_at: if saves { after } else { tally.due_at },
         shown,
         over: earlier(tally.over, end),
         written: tally.written.saturating_add(turn.kept),
-        said: said_behind(tally.said, shown.current, after / 1000),
+        said: if speaks {
+            Some(Said {
+                current: shown.current,
+                second,
+            })
+        } else {
+            tally.said
+        },
         first_areas: tally.first_areas,
+    };
+    Tallied {
+        tally,
+        speaks,
+        saves,
     }
 }
 
 /// Whether a line is due behind an event, in this phase and this second.
-pub(crate) fn is_line_due(said: Option<Said>, current: Current, second: u64) -> bool
+fn is_line_due(said: Option<Said>, current: Current, second: u64) -> bool
     ensures { result ≡ line_due said current second }
 {
     match said {
         None => true,
-        Some(said) => said.current.symbol() != current.symbol() || said.second < second,
-    }
-}
-
-/// The line that was said last, behind an event in this phase and this second.
-fn said_behind(said: Option<Said>, current: Current, second: u64) -> Option<Said>
-    ensures { result ≡ said_after said current second }
-{
-    if is_line_due(said, current, second) {
-        Some(Said { current, second })
-    } else {
-        said
+        Some(said) => said.current != current || said.second < second,
     }
 }
 

@@ -1,5 +1,5 @@
 -- How looks follow each other.
-use Rattle.std.proofs.Common.{◌≡◌, ℕ, ◌+◌, ◌-◌, ◌<◌, ◌≤◌, Bool, true, false, not, if◌then◌else◌, IsTrue, List, [], ◌∷◌, ◌++◌, ◌&&◌, map, length, Option, Some, None, Ok, Err, refl, sym, ap, ◌∙◌, subst, arith, append-nil, append_assoc, inl, inr, drop, length-append, length-take-le, take}
+use Rattle.std.proofs.Common.{◌≡◌, ℕ, ◌+◌, ◌-◌, ◌<◌, ◌≤◌, Bool, true, false, not, if◌then◌else◌, IsTrue, List, [], ◌∷◌, ◌++◌, ◌&&◌, map, length, Option, Some, None, Err, refl, sym, ap, ◌∙◌, subst, arith, append-nil, append_assoc, inl, inr, drop, length-append, length-take-le, take}
 use Rattle.std.specs.Str.{bytes_eq}
 use Rattle.std.proofs.lemmas.List.{map-append, map_push}
 use Rattle.std.proofs.lemmas.List.Sums.{sum_by_push}
@@ -20,7 +20,7 @@ use Rattle.crash_site.specs.SiteState.{SiteState, image_in, Stays as SiteStays}
 use Rattle.rescue_verify.specs.declared.halt.Halt.{Halt}
 use Rattle.rescue_verify.specs.declared.halt.Halt.TheVariants.{NoMemory, SourceLost, ImageFault}
 use Rattle.rescue_verify.specs.declared.tally.Tally.{Tally}
-use Rattle.rescue_verify.specs.Pieces.{IsPiece, NoneFrom, AskForPieces, end_of_reads}
+use Rattle.rescue_verify.specs.Pieces.{IsPiece, AskForPieces, end_of_reads}
 use Rattle.rescue_verify.specs.Looks.{Look, reads_of, differs, seen_at, seen_in, look_call, look_calls}
 use Rattle.rescue_verify.specs.Looking.{SeesPiece, HaltsLooking}
 use Rattle.rescue_verify.specs.Verified.{judged, judged_by}
@@ -223,22 +223,6 @@ takes_grow p pos to tally tally' old new source source' site site' takes some wi
 
 -- ---- the end
 
-pub came_to_end : (p : Plan) (from : ℕ) (tally : Tally) (old new : List Status) (source source' : SourceState)
-    (site site' : SiteState) → UpTo p from tally old new source source' site site' → NoneFrom p.compared from
-    → Compares p old new (Ok tally) source source' site site'
-came_to_end p from tally old new source source' site site' u none = record {
-  looks = u.looks;
-  reads = [];
-  calls = [];
-  asks = u.looked.asks;
-  ends = (subst (NoneFrom p.compared) (sym u.ends) none, u.map_is, u.counts, refl, refl);
-  journal = λ tells. u.looked.journal tells ∙ ap (λ (j : List Reading). source.journal ++ j) (sym (append-nil (reads_of u.looks)));
-  record_ = λ tells.
-      u.looked.record_ tells
-      ∙ ap (λ (c : List Entry). site.calls ++ c) (sym (append-nil (map Done (look_calls (place_in p) u.looks))));
-  seen = u.looked.seen;
-}
-
 -- what a look that halted read and called
 record Halted (halt : Halt) (p : Plan) (from : ℕ) (source source' : SourceState) (site site' : SiteState) : Type 0 where
   reads : List Reading
@@ -334,20 +318,6 @@ halted_counts SourceLost pos size place s0 s s' d0 d d' losses faults h =
     (h.0.rose ∙ ap raised losses, ap (λ (x : SiteState). x.faults) h.1 ∙ faults)
 halted_counts ImageFault pos size place s0 s s' d0 d d' losses faults h =
     (h.4.losses ∙ losses, h.5.rose ∙ ap raised faults)
-
--- memory ran out before the first look
-pub starved_first : (p : Plan) (old new : List Status) (source : SourceState) (site : SiteState)
-    → Compares p old new (Err NoMemory) source source site site
-starved_first p old new source site = record {
-  looks = [];
-  reads = [];
-  calls = [];
-  asks = tt;
-  ends = (refl, refl);
-  journal = λ tells. sym (append-nil source.journal);
-  record_ = λ tells. sym (append-nil site.calls);
-  seen = λ tells. refl;
-}
 
 -- ---- a piece
 

@@ -7,6 +7,7 @@ use crate::token::{Landed, Loaded, Unlanded};
 use crash_site::site::{Site, SiteFault};
 
 /// Writes what was loaded, which stands at the buffer's front, at a place of the output.
+#[inline(always)]
 pub fn land<D: Site>(
     loaded: Loaded,
     buf: &[u8],

@@ -87,7 +87,7 @@ invariant_of-self-2 g c =
     let begins = begins_of _ g.T.Tiles.statuses c.self.inside c.args.self.now c.args.request c.self.view_is c.self.invariant.0
     c.requires.places c.requires.request in
     let does : Does p c.args.request c.in_ok-kept.field-0 (g.T.Tiles.statuses c.mark-met.new.tiles)
-    c.place_behind-self-inside.result c.tally_behind-self-inside.result = record {
+    c.place_behind-self-inside.result c.tally_behind-speaks.result.tally = record {
       old = g.T.Tiles.statuses c.reserve.new.self;
       old_is = c.reserve.ensures.statuses;
       marks = c.mark-met.ensures.map;
@@ -100,14 +100,14 @@ invariant_of-self-2 g c =
       places = c.place_behind-self-inside.ensures;
       shown = c.shown_at-shown.result;
       shown_is = c.shown_at-shown.ensures;
-      tallies = c.tally_behind-self-inside.ensures;
+      tallies = c.tally_behind-speaks.ensures.tally;
     } in
     let running = does_running p c.args.self.now _ c.args.request c.in_ok-kept.field-0 _ _ _ _ _ _ _ _ _ begins
     c.in_ok-kept.ensures.gathered does in
     let room = room_same c.self.inside.buf.len c.gather.new.buf _ c.self.inside.buf.items c.deref_mut.ensures.len
     c.deref_mut.ensures.value c.gather.ensures.same in (
       subst (λ n. IsRunning (run_of (parts_behind p (g.T.Tiles.statuses c.mark-met.new.tiles)
-          c.place_behind-self-inside.result c.tally_behind-self-inside.result)) n) (sym room) running,
+          c.place_behind-self-inside.result c.tally_behind-speaks.result.tally)) n) (sym room) running,
       c.self.invariant.1,
       does_counted p c.args.self.now _ c.args.request c.in_ok-kept.field-0 _ _ _ c.self.inside.counts
           c.counts_behind-self-inside.result _ _ _ _ _ _ _ begins c.in_ok-kept.ensures.gathered does c.self.invariant.2
@@ -120,7 +120,7 @@ returns-clause-advanced g c =
     let begins = begins_of _ g.T.Tiles.statuses c.self.inside c.args.self.now c.args.request c.self.view_is c.self.invariant.0
     c.requires.places c.requires.request in
     let does : Does p c.args.request c.in_ok-kept.field-0 (g.T.Tiles.statuses c.mark-met.new.tiles)
-    c.place_behind-self-inside.result c.tally_behind-self-inside.result = record {
+    c.place_behind-self-inside.result c.tally_behind-speaks.result.tally = record {
       old = g.T.Tiles.statuses c.reserve.new.self;
       old_is = c.reserve.ensures.statuses;
       marks = c.mark-met.ensures.map;
@@ -133,11 +133,11 @@ returns-clause-advanced g c =
       places = c.place_behind-self-inside.ensures;
       shown = c.shown_at-shown.result;
       shown_is = c.shown_at-shown.ensures;
-      tallies = c.tally_behind-self-inside.ensures;
+      tallies = c.tally_behind-speaks.ensures.tally;
     } in
-    does_advance p c.args.self.now _ c.args.request c.in_ok-kept.field-0 _ _ _ c.is_line_due-speaks.result
-    c.is_due-saves.result _ _ _ _ _ _ begins c.in_ok-kept.ensures.gathered does c.is_line_due-speaks.ensures
-    c.is_due-saves.ensures
+    does_advance p c.args.self.now _ c.args.request c.in_ok-kept.field-0 _ _ _ c.tally_behind-speaks.result.speaks
+    c.tally_behind-speaks.result.saves _ _ _ _ _ _ begins c.in_ok-kept.ensures.gathered does c.tally_behind-speaks.ensures.speaks
+    c.tally_behind-speaks.ensures.saves
 
 pub returns-then-is_err-clause-source : goal.returns-then-is_err-clause-source
 returns-then-is_err-clause-source g c = stays_self _
