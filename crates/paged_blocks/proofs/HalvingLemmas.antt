@@ -47,6 +47,9 @@ pub record IsHalved (total width old new : ℕ) : Type 0 where
 pub halved_none : (total old : ℕ) → IsHalved total total old old
 halved_none total old = record { left = λ n h. (n, h, omega arith) }
 
+pub halved_first : (total width old : ℕ) → width ≡ total → IsHalved total width old old
+halved_first total width old e = rw e (halved_none total old)
+
 halved_once : (width less r new bound : ℕ) → 1 < width → less + less ≤ width + 1 → width ≤ 2 ^ r → new + r ≤ bound
     → (q : ℕ) × (less ≤ 2 ^ q) × (new + 1 + q ≤ bound)
 halved_once width less zero new bound h l u v = absurd (omega arith)

@@ -1,4 +1,4 @@
-use Rattle.std.proofs.Common.{◌≡◌, ℕ, suc, ◌+◌, ◌-◌, ◌<◌, ◌≤◌, ◌^◌, List, [], ◌∷◌, ◌++◌, length, take, drop, get_or, slice_range, refl, arith, ap, sym, ◌∙◌, append-nil, length-append, length-drop, ⊎_elim, Result, Ok, Err, IsOk, is_ok, if◌then◌else◌}
+use Rattle.std.proofs.Common.{◌≡◌, ℕ, zero, suc, ◌+◌, ◌-◌, ◌<◌, ◌≤◌, ◌^◌, List, [], ◌∷◌, ◌++◌, length, take, drop, get_or, slice_range, refl, arith, ap, sym, ◌∙◌, append-nil, length-append, length-drop, ⊎_elim, Result, Ok, Err, IsOk, is_ok, if◌then◌else◌}
 use Rattle.std.specs.List.{flat_map}
 use Rattle.std.proofs.lemmas.Bool.{cases_lt}
 use Rattle.std.proofs.lemmas.List.{get_or_append_left, get_or_push, length_push, length-take-le, take_all, take-append-drop}
@@ -14,7 +14,7 @@ use Rattle.block_list.proofs.ApartLemmas.{merged_from_apart, apart_from_merged}
 use Rattle.block_list.proofs.StretchLemmas.{stretches_of_tiles, stretches_tiles, stretches_covered, stretches_apart}
 use Rattle.paged_blocks.specs.declared.entry.Entry.{Entry}
 use Rattle.paged_blocks.specs.Paging.{blocks_of, flat, before, IsEntryOf, IsEntry, IsAdded, IsKept, IsPaging, short_pages, naming}
-use Rattle.paged_blocks.proofs.PagingLemmas.{before_all}
+use Rattle.paged_blocks.proofs.PagingLemmas.{no_entry, before_le, before_more, before_all}
 use Rattle.paged_blocks.proofs.FilingLemmas.{naming-push, shorts-push, names_other, names_one, is_long, other_number, number_one, standing-push}
 
 -- an entry means the same where there are more pages
@@ -210,6 +210,27 @@ tiles_len low (b ∷ bs) end t = omega (arith, length_first b bs, t.1, tiles_len
 
 pub blocks_short : (bs : List Block) → IsTiled bs → length bs < 2 ^ 63
 blocks_short bs t = omega (arith, tiles_len 0 bs (length (flat_map covered bs)) t.tiled, t.short)
+
+-- a map has no more pages than blocks
+entries_few : (pages : List (List Block)) (es : List Entry) (i : ℕ) → IsPaging pages es → i ≤ length es → i ≤ before pages es i
+entries_few pages es zero p h = omega arith
+entries_few pages es (suc i) p h =
+    let z : suc i ≡ i + 1 = omega arith in
+    rw z (omega (
+      arith,
+      before_more pages es i no_entry (omega arith),
+      (p.each i no_entry (omega arith)).some,
+      entries_few pages es i p (omega arith),
+    ))
+
+pub entries_short : (pages : List (List Block)) (es : List Entry) → IsPaging pages es → length es < 2 ^ 63
+entries_short pages es p =
+    omega (
+      arith,
+      entries_few pages es (length es) p (omega arith),
+      before_le pages es (length es),
+      blocks_short (flat pages es) p.tiled,
+    )
 
 -- one more page, which is free
 pub page_added : (pages : List (List Block)) (es : List Entry) (free : List ℕ) (n : ℕ) (page : List Block) → IsKept pages es free

@@ -1,6 +1,8 @@
 pub mod SearchLemmas
+pub mod ListedLemmas
 pub mod PagingLemmas
 pub mod CountLemmas
+pub mod RowLemmas
 pub mod FindLemmas
 pub mod FillLemmas
 pub mod FilingLemmas
@@ -10,3 +12,5 @@ pub mod RegionLemmas
 pub mod RewriteLemmas
 pub mod HalvingLemmas
 pub mod StepLemmas
+pub mod GainLemmas
+pub mod FewLemmas

@@ -186,6 +186,12 @@ former_same pages es back blocks k i d e h =
     ∙ ap (λ r. flat pages (take k es) ++ r) (append-nil (blocks_of pages (get_or es k d))) in
     rw z (simp append_assoc)
 
+pub former_blocks : (none one two page blocks : List Block) (m : ℕ) → none ≡ [] → one ≡ none ++ slice_range page 0 m
+    → m ≡ length page → two ≡ one ++ blocks → two ≡ page ++ blocks
+former_blocks none one two page blocks m z a p c =
+    c
+    ∙ ap (λ x. x ++ blocks) (a ∙ ap (λ x. x ++ slice_range page 0 m) z ∙ ap (λ i. slice_range page 0 i) p ∙ range_whole page)
+
 -- of two places in pages the earlier one is in a page no later
 pub page_order : (pages : List (List Block)) (es : List Entry) (k i l j : ℕ) (d : Entry) → l < length es
     → j ≤ length (blocks_of pages (get_or es l d)) → before pages es k + i < before pages es l + j → k ≤ l

@@ -1,43 +1,15 @@
-use Rattle.std.proofs.Common.{◌≡◌, ℕ, ◌+◌, ◌<◌, ◌≤◌, List, length, get_or, map, Some, ap, sym, ◌∙◌, ⊎_elim, arith}
+use Rattle.std.proofs.Common.{◌≡◌, ℕ, ◌+◌, ◌<◌, ◌≤◌, List, length, get_or, Some, ap, sym, ◌∙◌, ⊎_elim, arith}
 use Rattle.std.specs.List.{slice_get}
 use Rattle.std.proofs.lemmas.Bool.{cases_lt}
 use Rattle.std.proofs.lemmas.Option.{get_or_from_slice_get}
-use Rattle.std.specs.List.Sorted.{IsNonDecreasingBy}
 use Rattle.block_list.proofs.EditLemmas.{no_block}
-use Rattle.std.proofs.Math.ListN.{get_or-map}
-use Rattle.std.proofs.lemmas.List.{length-map}
 use Rattle.block_list.specs.declared.block.Block.{Block}
 use Rattle.block_list.specs.declared.status.Status.{Status}
-use Rattle.paged_blocks.specs.declared.page.Slot.{Slot}
-use Rattle.paged_blocks.specs.Search.{IsSearched, HasNone, HasAt, IsFirstBlock, IsLastBlock}
+use Rattle.paged_blocks.specs.Search.{HasNone, HasAt, IsFirstBlock, IsLastBlock}
 
--- the blocks of a page, as they are kept
-abbrev pub shown : Slot → Block
-shown s = s.block
-
-abbrev pub slot_begins : Slot → ℕ
-slot_begins s = s.block.pos
-
+-- where a block begins
 abbrev pub block_begins : Block → ℕ
 block_begins b = b.pos
-
-pub rising_slots : (xs : List Slot) → IsNonDecreasingBy block_begins (map shown xs) → IsNonDecreasingBy slot_begins xs
-rising_slots xs h i j d l u =
-    let a = ap block_begins (get_or-map shown xs i d) in
-    let b = ap block_begins (get_or-map shown xs j d) in
-    let k = h i j d.block l (omega (arith, length-map xs shown)) in
-    omega (arith, a, b, k)
-
-pub searched_slots : (xs : List Slot) (at n : ℕ) → IsSearched slot_begins xs at n → IsSearched block_begins (map shown xs) at n
-searched_slots xs at n s = record {
-  within = omega (arith, s.within, length-map xs shown);
-  before = λ i d l.
-      let e : Slot = record { block = d } in
-      omega (arith, ap block_begins (get_or-map shown xs i e), s.before i e l);
-  behind = λ i d l u.
-      let e : Slot = record { block = d } in
-      omega (arith, ap block_begins (get_or-map shown xs i e), s.behind i e l (omega (arith, length-map xs shown)));
-}
 
 pub none_at : (bs : List Block) (s : Status) (from i : ℕ) → i ≤ from → HasNone bs s from i
 none_at bs s from i h = record { none = λ k d l u e. absurd (omega arith) }

@@ -1,7 +1,10 @@
 pub mod Tally
+pub mod Listed
+pub mod Rows
 pub mod Search
 pub mod Paging
 pub mod Marks
 pub mod Regions
 pub mod Room
 pub mod Paged
+pub mod Forms

@@ -1,8 +1,8 @@
--- How a `PagedTiles` is kept.
+-- How a map in pages is kept.
 use Rattle.std.specs.Prelude.{◌≡◌, ℕ, ◌≤◌, length, vec_len, vec_capacity}
 use Rattle.std.specs.List.{flat_map}
 use Rattle.block_list.specs.Stretches.{covered}
-use Rattle.paged_blocks.specs.declared.paged_tiles.PagedTiles.TheInside.{Inside}
+use Rattle.paged_blocks.specs.declared.pages.Pages.TheInside.{Inside}
 use Rattle.paged_blocks.specs.Paging.{flat, IsKept}
 use Rattle.paged_blocks.specs.Room.{room_for}
 
@@ -15,4 +15,4 @@ pub record IsPaged (t : Inside) : Type 0 where
 -- how many more blocks there is room for
 abbrev pub spare_of : Inside → ℕ
 spare_of t =
-    room_for (vec_len t.pages) (vec_capacity t.entries) (vec_len t.entries) (length (flat t.pages.items t.entries.items))
+    room_for (vec_len t.pages) t.entries.room (length t.entries.items) (length (flat t.pages.items t.entries.items))

@@ -10,7 +10,7 @@ ghost use Rattle.paged_blocks.specs.Marks.{IsEdit, edited};
 ghost use Rattle.paged_blocks.specs.Regions.{StaysInPage};
 ghost use Rattle.paged_blocks.specs.Room.{room_for};
 
-use crate::entry::Entry;
+use crate::entries::Entries;
 use crate::filing::{refill, rewrite};
 use crate::marks::{Edit, mark};
 use crate::page::Page;
@@ -18,20 +18,20 @@ use crate::regions::{edited_page, first_region, region_of};
 use block_list::block::Block;
 
 /// Whether an edit touches one page, and leaves it as full as it is to be.
-fn stays_in_page(pages: &[Page], entries: &[Entry], edit: &Edit) -> bool
-    requires paging { IsPaging pages.now entries.now }
-    requires edit { IsEdit pages.now entries.now edit.now }
-    ensures { result ≡ true → StaysInPage entries.now edit.now }
+fn stays_in_page(pages: &[Page], entries: &Entries, edit: &Edit) -> bool
+    requires paging { IsPaging pages.now entries.now.items }
+    requires edit { IsEdit pages.now entries.now.items edit.now }
+    ensures { result ≡ true → StaysInPage entries.now.items edit.now }
 {
     if edit.first != edit.last {
         return false;
     }
-    let len = entries[edit.first].len + edit.new.len() - (edit.to - edit.from);
+    let len = entries.at(edit.first).len + edit.new.len() - (edit.to - edit.from);
     len <= 64 && (len >= 32 || entries.len() == 1)
 }
 
 /// Makes an edit in the page that it stays in. No other entry moves.
-fn edit_page(pages: &mut Vec<Page>, entries: &mut Vec<Entry>, edit: &Edit)
+fn edit_page(pages: &mut Vec<Page>, entries: &mut Entries, edit: &Edit)
     requires kept { (free : List ℕ) × IsKept pages.old.items entries.old.items free }
     requires edit { IsEdit pages.old.items entries.old.items edit.now }
     requires stays { StaysInPage entries.old.items edit.now }
@@ -40,28 +40,28 @@ fn edit_page(pages: &mut Vec<Page>, entries: &mut Vec<Entry>, edit: &Edit)
     ensures kept { (free : List ℕ) → IsKept pages.old.items entries.old.items free
         → IsKept pages.new.items entries.new.items free }
     ensures flat { flat pages.new.items entries.new.items ≡ edited pages.old.items entries.old.items edit.now }
-    ensures len { vec_len entries.new ≡ vec_len entries.old }
+    ensures len { length entries.new.items ≡ length entries.old.items }
     ensures pages { vec_len pages.new ≡ vec_len pages.old }
-    ensures capacity { vec_capacity entries.new ≡ vec_capacity entries.old }
+    ensures capacity { entries.new.room ≡ entries.old.room }
 {
     let page = edited_page(pages, entries, edit);
     rewrite(pages, entries, edit.first, page);
 }
 
 /// Makes an edit, for which the pages that it touches are filled anew.
-fn edit_pages(pages: &mut Vec<Page>, entries: &mut Vec<Entry>, free: &mut Vec<usize>, edit: &Edit)
+fn edit_pages(pages: &mut Vec<Page>, entries: &mut Entries, free: &mut Vec<usize>, edit: &Edit)
     requires kept { IsKept pages.old.items entries.old.items free.old.items }
     requires edit { IsEdit pages.old.items entries.old.items edit.now }
     requires tiled { IsTiled (edited pages.old.items entries.old.items edit.now) }
     requires merged { IsMerged (edited pages.old.items entries.old.items edit.now) }
-    requires spare { 1 ≤ room_for (vec_len pages.old) (vec_capacity entries.old) (vec_len entries.old)
+    requires spare { 1 ≤ room_for (vec_len pages.old) (entries.old.room) (length entries.old.items)
         (length (edited pages.old.items entries.old.items edit.now) - 1) }
     requires room { vec_len pages.old ≤ vec_capacity free.old }
     ensures kept { IsKept pages.new.items entries.new.items free.new.items }
     ensures flat { flat pages.new.items entries.new.items ≡ edited pages.old.items entries.old.items edit.now }
-    ensures few { vec_len entries.new ≤ vec_len entries.old + 1 }
+    ensures few { length entries.new.items ≤ length entries.old.items + 1 }
     ensures pages { vec_len pages.new ≡ vec_len pages.old }
-    ensures capacity { vec_capacity entries.old ≤ vec_capacity entries.new }
+    ensures capacity { entries.old.room ≤ entries.new.room }
     ensures room { vec_len pages.new ≤ vec_capacity free.new }
 {
     let region = region_of(pages, entries, edit);
@@ -71,7 +71,7 @@ fn edit_pages(pages: &mut Vec<Page>, entries: &mut Vec<Entry>, free: &mut Vec<us
 /// Gives a status to the positions of a block, of which the last ones may stand behind the map's end.
 pub fn overwrite(
     pages: &mut Vec<Page>,
-    entries: &mut Vec<Entry>,
+    entries: &mut Entries,
     free: &mut Vec<usize>,
     end: u64,
     block: Block,
@@ -81,10 +81,10 @@ pub fn overwrite(
     requires end { end ≡ length (flat_map covered (flat pages.old.items entries.old.items)) }
     requires begins { block.pos ≤ end }
     requires short { block.pos + block.size < 2 ^ 63 }
-    requires spare { 1 ≤ room_for (vec_len pages.old) (vec_capacity entries.old) (vec_len entries.old)
+    requires spare { 1 ≤ room_for (vec_len pages.old) (entries.old.room) (length entries.old.items)
         (length (flat pages.old.items entries.old.items)) }
-    requires inner { block.pos + block.size < end → 2 ≤ room_for (vec_len pages.old) (vec_capacity entries.old)
-        (vec_len entries.old) (length (flat pages.old.items entries.old.items)) }
+    requires inner { block.pos + block.size < end → 2 ≤ room_for (vec_len pages.old) (entries.old.room)
+        (length entries.old.items) (length (flat pages.old.items entries.old.items)) }
     requires room { vec_len pages.old ≤ vec_capacity free.old }
     ensures kept { IsKept pages.new.items entries.new.items free.new.items }
     ensures marked { flat_map covered (flat pages.new.items entries.new.items)
@@ -93,12 +93,12 @@ pub fn overwrite(
         ≤ length (flat pages.old.items entries.old.items) + 2 }
     ensures adds { end ≤ block.pos + block.size → length (flat pages.new.items entries.new.items)
         ≤ length (flat pages.old.items entries.old.items) + 1 }
-    ensures few { vec_len entries.new ≤ vec_len entries.old + 1 }
+    ensures few { length entries.new.items ≤ length entries.old.items + 1 }
     ensures pages { vec_len pages.new ≡ vec_len pages.old }
-    ensures capacity { vec_capacity entries.old ≤ vec_capacity entries.new }
+    ensures capacity { entries.old.room ≤ entries.new.room }
     ensures room { vec_len pages.new ≤ vec_capacity free.new }
 {
-    if entries.is_empty() {
+    if entries.len() == 0 {
         let region = first_region(pages, entries, block);
         refill(pages, entries, free, &region);
         return;

@@ -4,30 +4,25 @@ ghost use Rattle.std.specs.List.{flat_map};
 ghost use Rattle.block_list.specs.Stretches.{covered};
 ghost use Rattle.paged_blocks.specs.declared.entry.Entry.{Entry};
 ghost use Rattle.paged_blocks.specs.Paging.{flat, short_pages, naming, standing, AreFiled, IsKept, IsRewritten};
+ghost use Rattle.paged_blocks.specs.Rows.{AreRow};
 ghost use Rattle.paged_blocks.specs.Regions.{IsRegion, IsFull, refilled};
 ghost use Rattle.block_list.specs.Tiling.{IsMerged};
 ghost use Rattle.block_list.specs.Edits.{IsTiled};
 
-use crate::entry::Entry;
+use crate::entries::Entries;
 use crate::fill::{entry_of, page_len};
 use crate::gathered::Gathered;
 use crate::page::Page;
 use crate::regions::Region;
 
 /// Files a page in front of the entry with an index, under the number of a free page.
-fn place(
-    pages: &mut Vec<Page>,
-    entries: &mut Vec<Entry>,
-    free: &mut Vec<usize>,
-    k: usize,
-    page: Page,
-)
+fn place(pages: &mut Vec<Page>, entries: &mut Entries, free: &mut Vec<usize>, k: usize, page: Page)
     requires filed { AreFiled pages.old.items entries.old.items free.old.items }
-    requires index { k ≤ vec_len entries.old }
+    requires index { k ≤ length entries.old.items }
     requires some { 0 < length page }
     requires short { length (flat_map covered page) < 2 ^ 63 }
     requires there { 0 < vec_len free.old }
-    requires room { vec_len entries.old < vec_capacity entries.old }
+    requires room { length entries.old.items < entries.old.room }
     ensures filed { AreFiled pages.new.items entries.new.items free.new.items }
     ensures front { flat pages.new.items (take (k + 1) entries.new.items)
         ≡ flat pages.old.items (take k entries.old.items) ++ page }
@@ -36,60 +31,60 @@ fn place(
     ensures shorts { short_pages entries.new.items ≤ short_pages entries.old.items + 1 }
     ensures half { 32 ≤ length page → short_pages entries.new.items ≡ short_pages entries.old.items }
     ensures pages { vec_len pages.new ≡ vec_len pages.old }
-    ensures entries { vec_len entries.new ≡ vec_len entries.old + 1 }
-    ensures capacity { vec_capacity entries.old ≤ vec_capacity entries.new }
+    ensures entries { length entries.new.items ≡ length entries.old.items + 1 }
+    ensures capacity { entries.old.room ≤ entries.new.room }
     ensures free { vec_capacity free.new ≡ vec_capacity free.old }
 {
     if let Some(number) = free.pop() {
         let entry = entry_of(number, &page);
         pages[number] = page;
-        // There is room, so this takes no memory and succeeds.
-        let _ = entries.insert(k, entry);
+        entries.insert(k, entry);
     }
 }
 
 /// Takes out the entries from one index up to another. Their pages become free.
-fn release(entries: &mut Vec<Entry>, free: &mut Vec<usize>, first: usize, behind: usize)
+fn release(entries: &mut Entries, free: &mut Vec<usize>, first: usize, behind: usize)
     requires order { first ≤ behind }
-    requires within { behind ≤ vec_len entries.old }
-    requires room { vec_len entries.old + vec_len free.old ≤ vec_capacity free.old }
+    requires within { behind ≤ length entries.old.items }
+    requires room { length entries.old.items + vec_len free.old ≤ vec_capacity free.old }
     ensures entries { entries.new.items ≡ take first entries.old.items ++ drop behind entries.old.items }
     ensures numbers { (n : ℕ) → naming n entries.new.items + standing n free.new.items
         ≡ naming n entries.old.items + standing n free.old.items }
-    ensures len { vec_len entries.new + vec_len free.new ≡ vec_len entries.old + vec_len free.old }
-    ensures capacity { vec_capacity entries.new ≡ vec_capacity entries.old }
+    ensures len { length entries.new.items + vec_len free.new ≡ length entries.old.items + vec_len free.old }
+    ensures capacity { entries.old.room ≤ entries.new.room }
     ensures free { vec_capacity free.old ≤ vec_capacity free.new }
 {
     for k in first..behind {
         // There is room, so this takes no memory and succeeds.
-        let _ = free.push(entries[k].page);
+        let _ = free.push(entries.at(k).page);
     }
-    entries.drain(first..behind);
+    entries.take_out(first, behind);
 }
 
 /// Files blocks in as few pages as hold them, in front of the entry with an index. Each of the pages has at least 32
 /// blocks, if there are that many.
 fn deal(
     pages: &mut Vec<Page>,
-    entries: &mut Vec<Entry>,
+    entries: &mut Entries,
     free: &mut Vec<usize>,
     first: usize,
     blocks: &Gathered,
 )
     requires filed { AreFiled pages.old.items entries.old.items free.old.items }
-    requires index { first ≤ vec_len entries.old }
+    requires index { first ≤ length entries.old.items }
     requires some { 0 < length blocks.now }
     requires short { length (flat_map covered blocks.now) < 2 ^ 63 }
-    requires pages { 64 * vec_len entries.old + length blocks.now ≤ 64 * vec_len pages.old }
-    requires entries { 64 * vec_len entries.old + length blocks.now ≤ 64 * vec_capacity entries.old }
+    requires row { AreRow blocks.now }
+    requires pages { 64 * length entries.old.items + length blocks.now ≤ 64 * vec_len pages.old }
+    requires entries { 64 * length entries.old.items + length blocks.now ≤ 64 * entries.old.room }
     ensures filed { AreFiled pages.new.items entries.new.items free.new.items }
     ensures flat { flat pages.new.items entries.new.items ≡ flat pages.old.items (take first entries.old.items)
         ++ blocks.now ++ flat pages.old.items (drop first entries.old.items) }
     ensures half { 32 ≤ length blocks.now → short_pages entries.new.items ≡ short_pages entries.old.items }
-    ensures one { length blocks.now < 32 → vec_len entries.new ≡ vec_len entries.old + 1 }
-    ensures few { 64 * vec_len entries.new < 64 * vec_len entries.old + length blocks.now + 64 }
+    ensures one { length blocks.now < 32 → length entries.new.items ≡ length entries.old.items + 1 }
+    ensures few { 64 * length entries.new.items < 64 * length entries.old.items + length blocks.now + 64 }
     ensures pages { vec_len pages.new ≡ vec_len pages.old }
-    ensures capacity { vec_capacity entries.old ≤ vec_capacity entries.new }
+    ensures capacity { entries.old.room ≤ entries.new.room }
     ensures free { vec_capacity free.new ≡ vec_capacity free.old }
 {
     let len = blocks.len();
@@ -104,45 +99,40 @@ fn deal(
 }
 
 /// Puts a page in the place of that of the entry with an index, which says then what it holds.
-pub fn rewrite(pages: &mut Vec<Page>, entries: &mut Vec<Entry>, k: usize, page: Page)
-    requires index { k < vec_len entries.old }
+pub fn rewrite(pages: &mut Vec<Page>, entries: &mut Entries, k: usize, page: Page)
+    requires index { k < length entries.old.items }
     requires number { (d : Entry) → (slice_index_or entries.old.items k d).page < vec_len pages.old }
     requires some { 0 < length page }
     requires short { length (flat_map covered page) < 2 ^ 63 }
     ensures rewritten { IsRewritten pages.old.items entries.old.items k page pages.new.items entries.new.items }
     ensures pages { vec_len pages.new ≡ vec_len pages.old }
-    ensures len { vec_len entries.new ≡ vec_len entries.old }
-    ensures capacity { vec_capacity entries.new ≡ vec_capacity entries.old }
+    ensures len { length entries.new.items ≡ length entries.old.items }
+    ensures capacity { entries.new.room ≡ entries.old.room }
 {
-    let number = entries[k].page;
-    entries[k] = entry_of(number, &page);
+    let number = entries.at(k).page;
+    entries.put(k, entry_of(number, &page));
     pages[number] = page;
 }
 
 /// Puts blocks in the place of those of some pages. The pages that had those become free before others are taken into
 /// use.
-pub fn refill(
-    pages: &mut Vec<Page>,
-    entries: &mut Vec<Entry>,
-    free: &mut Vec<usize>,
-    region: &Region,
-)
+pub fn refill(pages: &mut Vec<Page>, entries: &mut Entries, free: &mut Vec<usize>, region: &Region)
     requires kept { IsKept pages.old.items entries.old.items free.old.items }
     requires region { IsRegion entries.old.items region.now }
     requires full { IsFull entries.old.items region.now }
     requires tiled { IsTiled (refilled pages.old.items entries.old.items region.now) }
     requires merged { IsMerged (refilled pages.old.items entries.old.items region.now) }
-    requires pages { 64 * vec_len entries.old + length region.now.blocks
+    requires pages { 64 * length entries.old.items + length region.now.blocks
         ≤ 64 * (vec_len pages.old + (region.now.behind - region.now.first)) }
-    requires entries { 64 * vec_len entries.old + length region.now.blocks
-        ≤ 64 * (vec_capacity entries.old + (region.now.behind - region.now.first)) }
+    requires entries { 64 * length entries.old.items + length region.now.blocks
+        ≤ 64 * (entries.old.room + (region.now.behind - region.now.first)) }
     requires room { vec_len pages.old ≤ vec_capacity free.old }
     ensures kept { IsKept pages.new.items entries.new.items free.new.items }
     ensures flat { flat pages.new.items entries.new.items ≡ refilled pages.old.items entries.old.items region.now }
-    ensures few { 64 * (vec_len entries.new + (region.now.behind - region.now.first))
-        < 64 * vec_len entries.old + length region.now.blocks + 64 }
+    ensures few { 64 * (length entries.new.items + (region.now.behind - region.now.first))
+        < 64 * length entries.old.items + length region.now.blocks + 64 }
     ensures pages { vec_len pages.new ≡ vec_len pages.old }
-    ensures capacity { vec_capacity entries.old ≤ vec_capacity entries.new }
+    ensures capacity { entries.old.room ≤ entries.new.room }
     ensures room { vec_len pages.new ≤ vec_capacity free.new }
 {
     release(entries, free, region.first, region.behind);

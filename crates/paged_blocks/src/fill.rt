@@ -4,6 +4,7 @@ ghost use Rattle.std.specs.List.{flat_map};
 ghost use Rattle.block_list.specs.Stretches.{covered, stretches};
 ghost use Rattle.paged_blocks.specs.Paging.{IsEntryOf, IsAdded};
 
+use crate::entries::Entries;
 use crate::entry::{Entry, Tally};
 use crate::page::Page;
 use block_list::plain_tiles::PlainTiles;
@@ -35,6 +36,7 @@ pub fn page_of(tiles: &PlainTiles, from: usize, to: usize) -> Page
     requires order { from ≤ to }
     requires within { to ≤ length (stretches tiles.now.statuses) }
     requires fits { to ≤ from + 64 }
+    requires short { length tiles.now.statuses < 2 ^ 63 }
     ensures { result ≡ slice_range (stretches tiles.now.statuses) from to }
 {
     let mut page = Page::new();
@@ -64,12 +66,13 @@ pub fn entry_of(number: usize, page: &Page) -> Entry
 }
 
 /// Puts a page behind the others. Where memory wasn't there an entry may have been added without its page.
-pub fn add(pages: &mut Vec<Page>, entries: &mut Vec<Entry>, page: Page) -> Result<(), NoMemory>
+pub fn add(pages: &mut Vec<Page>, entries: &mut Entries, page: Page) -> Result<(), NoMemory>
     requires some { 0 < length page }
     requires short { length (flat_map covered page) < 2 ^ 63 }
     ensures { OnOk result (IsAdded pages.old.items entries.old.items page pages.new.items entries.new.items) }
 {
     let entry = entry_of(pages.len(), &page);
-    entries.push(entry).map_err(|_| NoMemory)?;
+    entries.reserve(1)?;
+    entries.insert(entries.len(), entry);
     pages.push(page).map_err(|_| NoMemory)
 }

@@ -1,8 +1,10 @@
 //! Blocks on their way from pages to pages.
 ghost use Rattle.std.specs.Prelude.{◌≡◌, ◌+◌, ◌-◌, ◌<◌, ◌≤◌, [], ◌∷◌, ◌++◌, length, slice_get, slice_range, Some};
+ghost use Rattle.paged_blocks.specs.Rows.{AreRow};
 
-use crate::page::{Page, Slot};
+use crate::page::Page;
 use crate::piece::Piece;
+use crate::slot::Slot;
 use arrayvec::ArrayVec;
 use block_list::block::Block;
 use std::marker::Model;
@@ -81,11 +83,22 @@ impl Gathered {
         }
     }
 
+    /// Puts all blocks of others behind the last one.
+    pub fn append(&mut self, others: &Gathered)
+        requires { length self.old + length others.now ≤ 192 }
+        ensures { self.new ≡ self.old ++ others.now }
+    {
+        for i in 0..others.len() {
+            self.push(others.block(i));
+        }
+    }
+
     /// A page with the blocks from one index up to another.
     pub fn page(&self, from: usize, to: usize) -> Page
         requires order { from ≤ to }
         requires within { to ≤ length self.now }
         requires fits { to ≤ from + 64 }
+        requires row { AreRow (slice_range self.now from to) }
         ensures { result ≡ slice_range self.now from to }
     {
         let mut page = Page::new();

@@ -1,8 +1,10 @@
-//! The map of a rescue in pages: a search passes over pages, and an edit moves the blocks of a page or two.
+//! The map of a rescue: a plain list of a few blocks, or pages: a search passes over pages, an edit moves few blocks.
 #![tactic(auto)]
 
 mod edits;
+mod entries;
 mod entry;
+mod few;
 mod filing;
 mod fill;
 mod gathered;
@@ -10,8 +12,10 @@ mod lookups;
 mod marks;
 mod page;
 pub mod paged_tiles;
+mod pages;
 mod piece;
 mod regions;
 mod room;
 mod search;
+mod slot;
 pub mod steps;

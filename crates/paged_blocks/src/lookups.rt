@@ -8,9 +8,9 @@ ghost use Rattle.paged_blocks.specs.Search.{AreFilled, HasNone, HasAt, IsFirstBl
 ghost use Rattle.block_list.specs.Stretches.{covered, IsStretchAt};
 ghost use Rattle.paged_blocks.specs.Paging.{blocks_of, flat, IsEntry, IsPaging, IsHeld, AreHalfFull};
 
+use crate::entries::Entries;
 use crate::entry::Entry;
 use crate::page::Page;
-use crate::search::last_before;
 use crate::steps::Steps;
 use block_list::block::{Block, Run};
 use block_list::status::Status;
@@ -20,75 +20,75 @@ use std::sync::ledger::{Blank, Ledger};
 /// The index of the last entry that begins before a position, and how many blocks of its page do.
 fn held_counted<L: Ledger>(
     pages: &[Page],
-    entries: &[Entry],
+    entries: &Entries,
     at: u64,
     steps: &mut Steps<L>,
 ) -> (usize, usize)
-    requires paging { IsPaging pages.now entries.now }
+    requires paging { IsPaging pages.now entries.now.items }
     requires some { 0 < at }
-    requires within { at ≤ length (flat_map covered (flat pages.now entries.now)) }
-    ensures held { IsHeld pages.now entries.now at result.0 result.1 }
+    requires within { at ≤ length (flat_map covered (flat pages.now entries.now.items)) }
+    ensures held { IsHeld pages.now entries.now.items at result.0 result.1 }
     ensures few { steps.new ≤ steps.old + 71 }
-    ensures cost { (n : ℕ) → length entries.now ≤ 2 ^ n → steps.new ≤ steps.old + n + 7 }
+    ensures cost { (n : ℕ) → length entries.now.items ≤ 2 ^ n → steps.new ≤ steps.old + n + 7 }
 {
-    let last = last_before(entries, at, steps);
+    let last = entries.last_before(at, steps);
     steps.tick();
-    let page = &pages[entries[last].page];
+    let page = &pages[entries.at(last).page];
     (last, page.before(at, steps))
 }
 
 /// `held_counted`, in a new ledger that nobody reads.
 fn held_uncounted<L: Ledger>(
     pages: &[Page],
-    entries: &[Entry],
+    entries: &Entries,
     at: u64,
     blank: Blank,
 ) -> (usize, usize)
     requires name { blank.name ≡ L.name }
     requires parts { blank.parts ≡ L.parts }
     requires one { 0 < blank.parts }
-    requires paging { IsPaging pages.now entries.now }
+    requires paging { IsPaging pages.now entries.now.items }
     requires some { 0 < at }
-    requires within { at ≤ length (flat_map covered (flat pages.now entries.now)) }
-    ensures { IsHeld pages.now entries.now at result.0 result.1 }
+    requires within { at ≤ length (flat_map covered (flat pages.now entries.now.items)) }
+    ensures { IsHeld pages.now entries.now.items at result.0 result.1 }
 {
     let mut steps = Steps::<L>::new(blank);
     held_counted(pages, entries, at, &mut steps)
 }
 
 /// The index of the last entry that begins before a position, and how many blocks of its page do.
-pub fn held_before(pages: &[Page], entries: &[Entry], at: u64) -> (usize, usize)
-    requires paging { IsPaging pages.now entries.now }
+pub fn held_before(pages: &[Page], entries: &Entries, at: u64) -> (usize, usize)
+    requires paging { IsPaging pages.now entries.now.items }
     requires some { 0 < at }
-    requires within { at ≤ length (flat_map covered (flat pages.now entries.now)) }
-    ensures { IsHeld pages.now entries.now at result.0 result.1 }
+    requires within { at ≤ length (flat_map covered (flat pages.now entries.now.items)) }
+    ensures { IsHeld pages.now entries.now.items at result.0 result.1 }
 {
     held_uncounted::<Brand>(pages, entries, at, Blank::new(1))
 }
 
 /// The stretch of equal statuses that holds a position.
-pub fn stretch_at(pages: &[Page], entries: &[Entry], x: u64) -> Block
-    requires paging { IsPaging pages.now entries.now }
-    requires within { x < length (flat_map covered (flat pages.now entries.now)) }
-    ensures { IsStretchAt (flat_map covered (flat pages.now entries.now)) x result }
+pub fn stretch_at(pages: &[Page], entries: &Entries, x: u64) -> Block
+    requires paging { IsPaging pages.now entries.now.items }
+    requires within { x < length (flat_map covered (flat pages.now entries.now.items)) }
+    ensures { IsStretchAt (flat_map covered (flat pages.now entries.now.items)) x result }
 {
     let (last, begun) = held_before(pages, entries, x + 1);
-    pages[entries[last].page].block(begun - 1)
+    pages[entries.at(last).page].block(begun - 1)
 }
 
 /// The block with an index among those of all pages.
-pub fn block_at(pages: &[Page], entries: &[Entry], i: usize) -> Block
-    requires paging { IsPaging pages.now entries.now }
-    requires index { i < length (flat pages.now entries.now) }
-    ensures { slice_get (flat pages.now entries.now) i ≡ Some result }
+pub fn block_at(pages: &[Page], entries: &Entries, i: usize) -> Block
+    requires paging { IsPaging pages.now entries.now.items }
+    requires index { i < length (flat pages.now entries.now.items) }
+    ensures { slice_get (flat pages.now entries.now.items) i ≡ Some result }
 {
     let mut k = 0;
     let mut left = i;
-    while entries[k].len <= left {
-        left -= entries[k].len;
+    while entries.at(k).len <= left {
+        left -= entries.at(k).len;
         k += 1;
     }
-    pages[entries[k].page].block(left)
+    pages[entries.at(k).page].block(left)
 }
 
 /// The first block with a status in the page of an entry, from the one with an index on. Blocks are looked at only where
@@ -118,29 +118,29 @@ fn first_in<L: Ledger>(
 /// The first position at or after `from` that has a status, and the end of its block.
 pub fn first_with<L: Ledger>(
     pages: &[Page],
-    entries: &[Entry],
+    entries: &Entries,
     from: u64,
     status: Status,
     steps: &mut Steps<L>,
 ) -> Option<Run>
-    requires paging { IsPaging pages.now entries.now }
-    requires half { AreHalfFull entries.now }
-    requires within { from < length (flat_map covered (flat pages.now entries.now)) }
-    ensures first { IfSome result (λ run. IsFirst (Has (flat_map covered (flat pages.now entries.now)) status) from run.from) }
-    ensures run { IfSome result (λ run. IsRunUp (Has (flat_map covered (flat pages.now entries.now)) status) run.from run.to) }
+    requires paging { IsPaging pages.now entries.now.items }
+    requires half { AreHalfFull entries.now.items }
+    requires within { from < length (flat_map covered (flat pages.now entries.now.items)) }
+    ensures first { IfSome result (λ run. IsFirst (Has (flat_map covered (flat pages.now entries.now.items)) status) from run.from) }
+    ensures run { IfSome result (λ run. IsRunUp (Has (flat_map covered (flat pages.now entries.now.items)) status) run.from run.to) }
     ensures none { IfNone result ((x : ℕ) → from ≤ x
-        → Has (flat_map covered (flat pages.now entries.now)) status x → ⊥) }
-    ensures cost { steps.new ≤ steps.old + length (flat pages.now entries.now) / 16 + 130 }
-    ensures there { Has (flat_map covered (flat pages.now entries.now)) status from → steps.new ≤ steps.old + 130 }
+        → Has (flat_map covered (flat pages.now entries.now.items)) status x → ⊥) }
+    ensures cost { steps.new ≤ steps.old + length (flat pages.now entries.now.items) / 16 + 130 }
+    ensures there { Has (flat_map covered (flat pages.now entries.now.items)) status from → steps.new ≤ steps.old + 130 }
 {
     let (held, begun) = held_counted(pages, entries, from + 1, steps);
     steps.tick();
-    if let Some(block) = first_in(pages, entries[held], begun - 1, status, steps) {
+    if let Some(block) = first_in(pages, entries.at(held), begun - 1, status, steps) {
         return Some(run_up(block, from));
     }
     for k in held + 1..entries.len() {
         steps.tick();
-        if let Some(block) = first_in(pages, entries[k], 0, status, steps) {
+        if let Some(block) = first_in(pages, entries.at(k), 0, status, steps) {
             return Some(run_up(block, from));
         }
     }
@@ -174,32 +174,32 @@ fn last_in<L: Ledger>(
 /// The greatest end at or before `to` below which a position has a status, and the start of its block.
 pub fn last_with<L: Ledger>(
     pages: &[Page],
-    entries: &[Entry],
+    entries: &Entries,
     to: u64,
     status: Status,
     steps: &mut Steps<L>,
 ) -> Option<Run>
-    requires paging { IsPaging pages.now entries.now }
-    requires half { AreHalfFull entries.now }
-    requires within { to ≤ length (flat_map covered (flat pages.now entries.now)) }
-    ensures last { IfSome result (λ run. IsLast (Has (flat_map covered (flat pages.now entries.now)) status) to run.to) }
-    ensures run { IfSome result (λ run. IsRunDown (Has (flat_map covered (flat pages.now entries.now)) status) run.from run.to) }
+    requires paging { IsPaging pages.now entries.now.items }
+    requires half { AreHalfFull entries.now.items }
+    requires within { to ≤ length (flat_map covered (flat pages.now entries.now.items)) }
+    ensures last { IfSome result (λ run. IsLast (Has (flat_map covered (flat pages.now entries.now.items)) status) to run.to) }
+    ensures run { IfSome result (λ run. IsRunDown (Has (flat_map covered (flat pages.now entries.now.items)) status) run.from run.to) }
     ensures none { IfNone result ((x : ℕ) → x < to
-        → Has (flat_map covered (flat pages.now entries.now)) status x → ⊥) }
-    ensures cost { steps.new ≤ steps.old + length (flat pages.now entries.now) / 16 + 130 }
-    ensures there { Has (flat_map covered (flat pages.now entries.now)) status (to - 1) → steps.new ≤ steps.old + 130 }
+        → Has (flat_map covered (flat pages.now entries.now.items)) status x → ⊥) }
+    ensures cost { steps.new ≤ steps.old + length (flat pages.now entries.now.items) / 16 + 130 }
+    ensures there { Has (flat_map covered (flat pages.now entries.now.items)) status (to - 1) → steps.new ≤ steps.old + 130 }
 {
     if to == 0 {
         return None;
     }
     let (held, begun) = held_counted(pages, entries, to, steps);
     steps.tick();
-    if let Some(block) = last_in(pages, entries[held], begun, status, steps) {
+    if let Some(block) = last_in(pages, entries.at(held), begun, status, steps) {
         return Some(run_down(block, to));
     }
     for k in (0..held).rev() {
         steps.tick();
-        let entry = entries[k];
+        let entry = entries.at(k);
         if let Some(block) = last_in(pages, entry, entry.len, status, steps) {
             return Some(run_down(block, to));
         }
@@ -208,7 +208,7 @@ pub fn last_with<L: Ledger>(
 }
 
 /// The part of a block at or after a position.
-fn run_up(block: Block, from: u64) -> Run
+pub fn run_up(block: Block, from: u64) -> Run
     requires { block.pos + block.size < 2 ^ 64 }
     ensures { result ≡ record { from = max from block.pos; to = block.pos + block.size } }
 {
@@ -219,7 +219,7 @@ fn run_up(block: Block, from: u64) -> Run
 }
 
 /// The part of a block below a position.
-fn run_down(block: Block, to: u64) -> Run
+pub fn run_down(block: Block, to: u64) -> Run
     requires { block.pos + block.size < 2 ^ 64 }
     ensures { result ≡ record { from = block.pos; to = min to (block.pos + block.size) } }
 {
@@ -230,13 +230,13 @@ fn run_down(block: Block, to: u64) -> Run
 }
 
 /// How many positions have a status.
-pub fn count(pages: &[Page], entries: &[Entry], status: Status) -> u64
-    requires { IsPaging pages.now entries.now }
-    ensures { result ≡ count_by (λ s. same s status) (flat_map covered (flat pages.now entries.now)) }
+pub fn count(pages: &[Page], entries: &Entries, status: Status) -> u64
+    requires { IsPaging pages.now entries.now.items }
+    ensures { result ≡ count_by (λ s. same s status) (flat_map covered (flat pages.now entries.now.items)) }
 {
     let mut counted = 0;
-    for entry in entries {
-        counted += entry.tally.of(status);
+    for k in 0..entries.len() {
+        counted += entries.at(k).tally.of(status);
     }
     counted
 }

@@ -7,7 +7,7 @@ ghost use Rattle.paged_blocks.specs.declared.entry.Entry.{Entry};
 ghost use Rattle.paged_blocks.specs.Paging.{blocks_of, flat, before, IsPaging};
 ghost use Rattle.paged_blocks.specs.Marks.{IsJoinedFront, IsJoinedBack, IsEdit, AreOfMap, edited, edit_from, edit_to};
 
-use crate::entry::Entry;
+use crate::entries::Entries;
 use crate::lookups::held_before;
 use crate::page::Page;
 use crate::piece::Piece;
@@ -35,17 +35,17 @@ pub struct Edit {
 }
 
 /// A block, joined with the block that holds the position in front of it.
-fn join_front(pages: &[Page], entries: &[Entry], block: Block) -> Joined
-    requires paging { IsPaging pages.now entries.now }
-    requires there { 0 < length entries.now }
+fn join_front(pages: &[Page], entries: &Entries, block: Block) -> Joined
+    requires paging { IsPaging pages.now entries.now.items }
+    requires there { 0 < length entries.now.items }
     requires some { 0 < block.size }
-    requires begins { block.pos ≤ length (flat_map covered (flat pages.now entries.now)) }
+    requires begins { block.pos ≤ length (flat_map covered (flat pages.now entries.now.items)) }
     requires short { block.pos + block.size < 2 ^ 63 }
-    ensures entry { result.entry < length entries.now }
+    ensures entry { result.entry < length entries.now.items }
     ensures index { (d : Entry) → result.index
-        ≤ length (blocks_of pages.now (slice_index_or entries.now result.entry d)) }
-    ensures joined { IsJoinedFront (flat pages.now entries.now) block
-        (before pages.now entries.now result.entry + result.index) result.rest result.block }
+        ≤ length (blocks_of pages.now (slice_index_or entries.now.items result.entry d)) }
+    ensures joined { IsJoinedFront (flat pages.now entries.now.items) block
+        (before pages.now entries.now.items result.entry + result.index) result.rest result.block }
 {
     if block.pos == 0 {
         return Joined {
@@ -57,7 +57,7 @@ fn join_front(pages: &[Page], entries: &[Entry], block: Block) -> Joined
     }
     let (entry, begun) = held_before(pages, entries, block.pos);
     let index = begun - 1;
-    let front = pages[entries[entry].page].block(index);
+    let front = pages[entries.at(entry).page].block(index);
     if front.status.is(block.status) {
         let wide = Block {
             pos: front.pos,
@@ -85,30 +85,30 @@ fn join_front(pages: &[Page], entries: &[Entry], block: Block) -> Joined
 }
 
 /// A block, joined with the block that holds the position behind it, in a map with an end.
-fn join_back(pages: &[Page], entries: &[Entry], end: u64, block: Block) -> Joined
-    requires paging { IsPaging pages.now entries.now }
-    requires there { 0 < length entries.now }
+fn join_back(pages: &[Page], entries: &Entries, end: u64, block: Block) -> Joined
+    requires paging { IsPaging pages.now entries.now.items }
+    requires there { 0 < length entries.now.items }
     requires some { 0 < block.size }
-    requires end { end ≡ length (flat_map covered (flat pages.now entries.now)) }
+    requires end { end ≡ length (flat_map covered (flat pages.now entries.now.items)) }
     requires short { block.pos + block.size < 2 ^ 63 }
-    ensures entry { result.entry < length entries.now }
+    ensures entry { result.entry < length entries.now.items }
     ensures index { (d : Entry) → result.index
-        ≤ length (blocks_of pages.now (slice_index_or entries.now result.entry d)) }
-    ensures joined { IsJoinedBack (flat pages.now entries.now) block
-        (before pages.now entries.now result.entry + result.index) result.rest result.block }
+        ≤ length (blocks_of pages.now (slice_index_or entries.now.items result.entry d)) }
+    ensures joined { IsJoinedBack (flat pages.now entries.now.items) block
+        (before pages.now entries.now.items result.entry + result.index) result.rest result.block }
 {
     let behind = block.pos + block.size;
     if end <= behind {
         let entry = entries.len() - 1;
         return Joined {
             entry,
-            index: entries[entry].len,
+            index: entries.at(entry).len,
             rest: None,
             block,
         };
     }
     let (entry, index) = held_before(pages, entries, behind + 1);
-    let back = pages[entries[entry].page].block(index - 1);
+    let back = pages[entries.at(entry).page].block(index - 1);
     let size = back.pos + back.size - behind;
     if back.status.is(block.status) {
         let wide = Block {
@@ -137,18 +137,18 @@ fn join_back(pages: &[Page], entries: &[Entry], end: u64, block: Block) -> Joine
 }
 
 /// The edit that gives a status to the positions of a block, which may go on behind the map's end.
-pub fn mark(pages: &[Page], entries: &[Entry], end: u64, block: Block) -> Edit
-    requires paging { IsPaging pages.now entries.now }
-    requires there { 0 < length entries.now }
+pub fn mark(pages: &[Page], entries: &Entries, end: u64, block: Block) -> Edit
+    requires paging { IsPaging pages.now entries.now.items }
+    requires there { 0 < length entries.now.items }
     requires some { 0 < block.size }
-    requires end { end ≡ length (flat_map covered (flat pages.now entries.now)) }
+    requires end { end ≡ length (flat_map covered (flat pages.now entries.now.items)) }
     requires begins { block.pos ≤ end }
     requires short { block.pos + block.size < 2 ^ 63 }
-    ensures edit { IsEdit pages.now entries.now result }
-    ensures marked { AreOfMap (edited pages.now entries.now result)
-        (marked (flat_map covered (flat pages.now entries.now)) block.pos block.size block.status) }
-    ensures adds { end ≤ block.pos + block.size → edit_from pages.now entries.now result + length result.new
-        ≤ edit_to pages.now entries.now result + 1 }
+    ensures edit { IsEdit pages.now entries.now.items result }
+    ensures marked { AreOfMap (edited pages.now entries.now.items result)
+        (marked (flat_map covered (flat pages.now entries.now.items)) block.pos block.size block.status) }
+    ensures adds { end ≤ block.pos + block.size → edit_from pages.now entries.now.items result + length result.new
+        ≤ edit_to pages.now entries.now.items result + 1 }
 {
     let front = join_front(pages, entries, block);
     let back = join_back(pages, entries, end, front.block);

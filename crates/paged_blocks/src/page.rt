@@ -1,8 +1,9 @@
 //! A page of blocks.
-ghost use Rattle.std.specs.Prelude.{◌≡◌, ◌+◌, ◌-◌, ◌<◌, ◌≤◌, [], ◌∷◌, ◌++◌, length, slice_get, slice_range, slice_index_or, Some, IfSome, IfNone};
+ghost use Rattle.std.specs.Prelude.{◌≡◌, ◌+◌, ◌-◌, ◌<◌, ◌≤◌, [], ◌∷◌, ◌++◌, length, drop, slice_get, slice_range, slice_index_or, Some, IfSome, IfNone};
 ghost use Rattle.std.specs.List.Sorted.{IsNonDecreasingBy};
 ghost use Rattle.block_list.specs.declared.block.Block.{Block};
 ghost use Rattle.paged_blocks.specs.Marks.{spliced};
+ghost use Rattle.paged_blocks.specs.Rows.{AreRow, first_or};
 ghost use Rattle.paged_blocks.specs.Search.{IsSearched, HasNone, HasAt, IsFirstBlock, IsLastBlock};
 
 use crate::piece::Piece;
@@ -14,47 +15,58 @@ use block_list::status::Status;
 use std::marker::Model;
 use std::sync::ledger::Ledger;
 
-/// A block's place in a page. An unused one has a block of no position.
+/// The status of a block.
 #[derive(Clone, Copy, Debug)]
-pub struct Slot {
-    pub block: Block,
+struct Kept {
+    status: Status,
 }
 
-impl Default for Slot {
-    fn default() -> Slot {
-        Slot {
-            block: Block {
-                pos: 0,
-                size: 0,
-                status: Status::NonTried,
-            },
+impl Default for Kept {
+    fn default() -> Kept {
+        Kept {
+            status: Status::NonTried,
         }
     }
 }
 
-impl Begins for Slot {
-    ghost begin = { λ s. s.block.pos };
+impl Begins for u64 {
+    ghost begin = { λ x. x };
 
     fn pos(&self) -> u64 {
-        self.block.pos
+        *self
     }
 }
 
-/// At most 64 blocks, in the order of their positions.
+/// At most 64 blocks, in the order of their positions. Each goes on up to the next, so of a block its begin and its
+/// status are kept, and of the last one its end.
 #[derive(Drop)]
 pub struct Page {
-    slots: ArrayVec<Slot, 64>,
+    starts: ArrayVec<u64, 64>,
+    statuses: ArrayVec<Kept, 64>,
+    end: u64,
 }
 
 impl Model for Page {
-    ghost use Rattle.std.specs.Prelude.{◌≤◌, List, length, map};
+    ghost use Rattle.std.specs.Prelude.{List};
     ghost use Rattle.block_list.specs.declared.block.Block.{Block as Shown};
+    ghost use Rattle.paged_blocks.specs.Rows.{rows_of, IsPage};
 
     ghost Value = { List Shown };
 
-    ghost view = { λ p. map (λ s. s.block) p.slots.items };
+    ghost view = { rows_of };
 
-    ghost invariant = { λ p. length p.slots.items ≤ 64 };
+    ghost invariant = { IsPage };
+}
+
+/// Where the block with an index ends.
+fn end_of(starts: &[u64], end: u64, i: usize) -> u64
+    requires { i < length starts.now }
+    ensures { result ≡ first_or (drop (i + 1) starts.now) end }
+{
+    if i + 1 < starts.len() {
+        return starts[i + 1];
+    }
+    end
 }
 
 impl Page {
@@ -63,7 +75,9 @@ impl Page {
         ensures { result ≡ [] }
     {
         Page {
-            slots: ArrayVec::new(),
+            starts: ArrayVec::new(),
+            statuses: ArrayVec::new(),
+            end: 0,
         }
     }
 
@@ -72,7 +86,7 @@ impl Page {
         ensures value { result ≡ length self.now }
         ensures fits { result ≤ 64 }
     {
-        self.slots.len()
+        self.starts.len()
     }
 
     /// The block with an index.
@@ -80,7 +94,13 @@ impl Page {
         requires { i < length self.now }
         ensures { slice_get self.now i ≡ Some result }
     {
-        self.slots[i].block
+        let pos = self.starts[i];
+        let end = end_of(&self.starts, self.end, i);
+        Block {
+            pos,
+            size: end.saturating_sub(pos),
+            status: self.statuses[i].status,
+        }
     }
 
     /// How many blocks begin before a position, where the first one does.
@@ -91,7 +111,7 @@ impl Page {
         ensures place { IsSearched (λ (b : Block). b.pos) self.now at result }
         ensures cost { steps.new ≤ steps.old + 6 }
     {
-        last_before(&self.slots, at, steps) + 1
+        last_before(&self.starts, at, steps) + 1
     }
 
     /// The first block from an index on that has a status.
@@ -142,10 +162,15 @@ impl Page {
 
     /// Puts a block behind the last one.
     pub fn push(&mut self, block: Block)
-        requires { length self.old < 64 }
+        requires room { length self.old < 64 }
+        requires row { AreRow (self.old ++ block ∷ []) }
         ensures { self.new ≡ self.old ++ block ∷ [] }
     {
-        self.slots.push(Slot { block });
+        self.starts.push(block.pos);
+        self.statuses.push(Kept {
+            status: block.status,
+        });
+        self.end = block.pos + block.size;
     }
 
     /// Puts the blocks of a page from one index up to another behind the last one.
@@ -153,17 +178,24 @@ impl Page {
         requires order { from ≤ to }
         requires within { to ≤ length page.now }
         requires room { length self.old + (to - from) ≤ 64 }
+        requires row { AreRow (self.old ++ slice_range page.now from to) }
         ensures copied { self.new ≡ self.old ++ slice_range page.now from to }
         ensures len { length self.new ≡ length self.old + (to - from) }
     {
-        for i in from..to {
-            self.push(page.block(i));
+        if from < to {
+            // There is room, so both succeed.
+            let _ = self.starts.try_extend_from_slice(&page.starts[from..to]);
+            let _ = self
+                .statuses
+                .try_extend_from_slice(&page.statuses[from..to]);
+            self.end = end_of(&page.starts, page.end, to - 1);
         }
     }
 
     /// Puts all blocks of a piece behind the last one.
     fn add(&mut self, piece: &Piece)
-        requires { length self.old + length piece.now ≤ 64 }
+        requires room { length self.old + length piece.now ≤ 64 }
+        requires row { AreRow (self.old ++ piece.now) }
         ensures { self.new ≡ self.old ++ piece.now }
     {
         for i in 0..piece.len() {
@@ -176,6 +208,7 @@ impl Page {
         requires order { from ≤ to }
         requires within { to ≤ length self.now }
         requires fits { length self.now + length new.now ≤ 64 + (to - from) }
+        requires row { AreRow (spliced self.now from to new.now) }
         ensures { result ≡ spliced self.now from to new.now }
     {
         let len = self.len();

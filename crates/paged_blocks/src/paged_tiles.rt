@@ -1,14 +1,12 @@
-//! A map in pages.
+//! The map of a rescue: a plain list of a few blocks, or a map in pages.
 ghost use Rattle.std.specs.Prelude.{◌≡◌, ℕ, ◌+◌, ◌-◌, ◌/◌, ◌<◌, ◌≤◌, length, IfOk, IfSome, IfNone};
 ghost use Rattle.block_list.specs.Map.{Has};
 ghost use Rattle.block_list.specs.Places.{IsFirst, IsLast, IsRunUp, IsRunDown};
 ghost use Rattle.block_list.specs.Stretches.{stretches};
 
-use crate::entry::Entry;
-use crate::fill::{add, page_len, page_of};
-use crate::page::Page;
+use crate::few;
+use crate::pages::Pages;
 use crate::steps::Steps;
-use crate::{edits, lookups, room};
 use block_list::block::{Block, Run};
 use block_list::plain_tiles::PlainTiles;
 use block_list::status::Status;
@@ -17,59 +15,61 @@ use std::alloc::Global;
 use std::marker::{Brand, Model};
 use std::sync::ledger::{Blank, Ledger};
 
-/// A map as pages of at most 64 blocks and a list of their places.
+/// A few blocks as a plain list, whose edits move fewest, or many in pages.
+#[derive(Drop)]
+enum Form {
+    Few(PlainTiles),
+    Many(Pages),
+}
+
+/// A map as a plain list while it has few blocks, and in pages from then on.
 #[derive(Drop)]
 pub struct PagedTiles {
-    pages: Vec<Page>,
-    entries: Vec<Entry>,
-    free: Vec<usize>,
-    end: u64,
+    form: Form,
+    alloc: Global,
 }
 
 impl Model for PagedTiles {
-    ghost use Rattle.std.specs.List.{flat_map};
     ghost use Rattle.block_list.specs.Tiled.{Tiled};
-    ghost use Rattle.block_list.specs.Stretches.{covered};
 
     ghost Value = { Tiled };
 
-    ghost use Rattle.paged_blocks.specs.Paging.{flat};
-    ghost use Rattle.paged_blocks.specs.Paged.{IsPaged, spare_of};
+    ghost use Rattle.paged_blocks.specs.Forms.{shown, IsFormed};
 
-    ghost view = { λ t.
-        record { statuses = flat_map covered (flat t.pages.items t.entries.items); spare = spare_of t } };
+    ghost view = { λ t. shown t.form };
 
-    ghost invariant = { IsPaged };
+    ghost invariant = { λ t. IsFormed t.form };
 }
 
 impl PagedTiles {
-    /// The map of a plain list, in pages that are full but for the last two.
+    /// The map of a plain list.
     pub fn from_plain(alloc: Global, tiles: &PlainTiles) -> Result<PagedTiles, NoMemory>
         ensures { IfOk result (λ t. t.statuses ≡ tiles.now.statuses) }
     {
-        let end = tiles.end();
-        let blocks = tiles.blocks();
-        let mut pages = Vec::new(alloc);
-        let mut entries = Vec::new(alloc);
-        let mut made = 0;
-        while made < blocks {
-            let to = made + page_len(blocks - made);
-            add(&mut pages, &mut entries, page_of(tiles, made, to))?;
-            made = to;
-        }
-        let mut free = Vec::new(alloc);
-        free.reserve(pages.len()).map_err(|_| NoMemory)?;
-        Ok(PagedTiles {
-            pages,
-            entries,
-            free,
-            end,
-        })
+        let form = if tiles.blocks() <= few::FEW {
+            Form::Few(few::copied(alloc, tiles)?)
+        } else {
+            Form::Many(Pages::from_plain(alloc, tiles)?)
+        };
+        Ok(PagedTiles { form, alloc })
     }
+}
+
+/// The map of a plain list in pages, with room for n more blocks.
+#[cold]
+#[inline(never)]
+fn paged(alloc: Global, tiles: &PlainTiles, n: usize) -> Result<Pages, NoMemory>
+    ensures statuses { IfOk result (λ t. t.statuses ≡ tiles.now.statuses) }
+    ensures spare { IfOk result (λ t. n ≤ t.spare) }
+{
+    let mut pages = Pages::from_plain(alloc, tiles)?;
+    pages.reserve(n)?;
+    Ok(pages)
 }
 
 impl PagedTiles {
     /// `find_forward`, with its steps counted.
+    #[inline(always)]
     pub fn find_forward_counted<L: Ledger>(
         &self,
         from: u64,
@@ -82,10 +82,9 @@ impl PagedTiles {
         ensures cost { steps.new ≤ steps.old + length (stretches self.now.statuses) / 16 + 130 }
         ensures there { Has self.now.statuses status from → steps.new ≤ steps.old + 130 }
     {
-        if from < self.end {
-            lookups::first_with(&self.pages, &self.entries, from, status, steps)
-        } else {
-            None
+        match &self.form {
+            Form::Few(tiles) => few::first_with(tiles, from, status, steps),
+            Form::Many(pages) => pages.find_forward(from, status, steps),
         }
     }
 
@@ -102,11 +101,14 @@ impl PagedTiles {
         ensures cost { steps.new ≤ steps.old + length (stretches self.now.statuses) / 16 + 130 }
         ensures there { Has self.now.statuses status (before - 1) → steps.new ≤ steps.old + 130 }
     {
-        let to = before.min(self.end);
-        lookups::last_with(&self.pages, &self.entries, to, status, steps)
+        match &self.form {
+            Form::Few(tiles) => few::last_with(tiles, before, status, steps),
+            Form::Many(pages) => pages.find_backward(before, status, steps),
+        }
     }
 
     /// `find_forward_counted`, in a new ledger that nobody reads.
+    #[inline(always)]
     fn find_forward_uncounted<L: Ledger>(
         &self,
         from: u64,
@@ -149,7 +151,10 @@ impl Tiles for PagedTiles {
     ghost spare = { λ t. t.spare };
 
     fn end(&self) -> u64 {
-        self.end
+        match &self.form {
+            Form::Few(tiles) => tiles.end(),
+            Form::Many(pages) => pages.end(),
+        }
     }
 
     fn at(&self, x: u64) -> Status {
@@ -157,9 +162,13 @@ impl Tiles for PagedTiles {
     }
 
     fn stretch_at(&self, x: u64) -> Block {
-        lookups::stretch_at(&self.pages, &self.entries, x)
+        match &self.form {
+            Form::Few(tiles) => tiles.stretch_at(x),
+            Form::Many(pages) => pages.stretch_at(x),
+        }
     }
 
+    #[inline(always)]
     fn find_forward(&self, from: u64, status: Status) -> Option<Run> {
         self.find_forward_uncounted::<Brand>(from, status, Blank::new(1))
     }
@@ -169,47 +178,53 @@ impl Tiles for PagedTiles {
     }
 
     fn count(&self, status: Status) -> u64 {
-        lookups::count(&self.pages, &self.entries, status)
+        match &self.form {
+            Form::Few(tiles) => tiles.count(status),
+            Form::Many(pages) => pages.count(status),
+        }
     }
 
+    #[inline(always)]
     fn reserve(&mut self, n: usize) -> Result<(), NoMemory> {
-        room::reserve(&mut self.pages, &mut self.entries, &mut self.free, n)
+        match &mut self.form {
+            Form::Few(tiles) => {
+                if n <= few::FEW - tiles.blocks() {
+                    return tiles.reserve(n);
+                }
+                let pages = paged(self.alloc, tiles, n)?;
+                self.form = Form::Many(pages);
+                Ok(())
+            }
+            Form::Many(pages) => pages.reserve(n),
+        }
     }
 
+    #[inline(always)]
     fn set(&mut self, pos: u64, size: u64, status: Status) {
-        let block = Block { pos, size, status };
-        edits::overwrite(
-            &mut self.pages,
-            &mut self.entries,
-            &mut self.free,
-            self.end,
-            block,
-        );
+        match &mut self.form {
+            Form::Few(tiles) => tiles.set(pos, size, status),
+            Form::Many(pages) => pages.set(pos, size, status),
+        }
     }
 
     fn extend_to(&mut self, end: u64) {
-        if self.end < end {
-            let block = Block {
-                pos: self.end,
-                size: end - self.end,
-                status: Status::NonTried,
-            };
-            edits::overwrite(
-                &mut self.pages,
-                &mut self.entries,
-                &mut self.free,
-                self.end,
-                block,
-            );
-            self.end = end;
+        match &mut self.form {
+            Form::Few(tiles) => tiles.extend_to(end),
+            Form::Many(pages) => pages.extend_to(end),
         }
     }
 
     fn blocks(&self) -> usize {
-        room::blocks(&self.pages, &self.entries)
+        match &self.form {
+            Form::Few(tiles) => tiles.blocks(),
+            Form::Many(pages) => pages.blocks(),
+        }
     }
 
     fn block(&self, i: usize) -> Block {
-        lookups::block_at(&self.pages, &self.entries, i)
+        match &self.form {
+            Form::Few(tiles) => tiles.block(i),
+            Form::Many(pages) => pages.block(i),
+        }
     }
 }

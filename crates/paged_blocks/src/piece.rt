@@ -1,7 +1,7 @@
 //! The blocks that come in the place of others.
 ghost use Rattle.std.specs.Prelude.{◌≡◌, ◌<◌, ◌≤◌, [], ◌∷◌, ◌++◌, length, slice_get, Some, option_to_list};
 
-use crate::page::Slot;
+use crate::slot::Slot;
 use arrayvec::ArrayVec;
 use block_list::block::Block;
 use std::marker::Model;

@@ -4,11 +4,12 @@ ghost use Rattle.std.specs.List.{flat_map};
 ghost use Rattle.block_list.specs.Map.{marked};
 ghost use Rattle.block_list.specs.Stretches.{covered};
 ghost use Rattle.paged_blocks.specs.declared.entry.Entry.{Entry};
+ghost use Rattle.block_list.specs.Edits.{IsTiled};
 ghost use Rattle.paged_blocks.specs.Paging.{blocks_of, flat, IsPaging, AreHalfFull};
 ghost use Rattle.paged_blocks.specs.Marks.{AreOfMap, IsEdit, spliced, edited};
 ghost use Rattle.paged_blocks.specs.Regions.{IsRegion, IsFull, IsOneBlock, StaysInPage, refilled};
 
-use crate::entry::Entry;
+use crate::entries::Entries;
 use crate::gathered::Gathered;
 use crate::marks::Edit;
 use crate::page::Page;
@@ -23,15 +24,15 @@ pub struct Region {
 }
 
 /// The first block of a map.
-pub fn first_region(pages: &[Page], entries: &[Entry], block: Block) -> Region
-    requires none { length entries.now ≡ 0 }
+pub fn first_region(pages: &[Page], entries: &Entries, block: Block) -> Region
+    requires none { length entries.now.items ≡ 0 }
     requires some { 0 < block.size }
     requires begins { block.pos ≡ 0 }
     requires short { block.pos + block.size < 2 ^ 63 }
-    ensures region { IsRegion entries.now result }
-    ensures full { IsFull entries.now result }
-    ensures marked { AreOfMap (refilled pages.now entries.now result)
-        (marked (flat_map covered (flat pages.now entries.now)) block.pos block.size block.status) }
+    ensures region { IsRegion entries.now.items result }
+    ensures full { IsFull entries.now.items result }
+    ensures marked { AreOfMap (refilled pages.now entries.now.items result)
+        (marked (flat_map covered (flat pages.now entries.now.items)) block.pos block.size block.status) }
     ensures one { IsOneBlock result }
 {
     let mut blocks = Gathered::new();
@@ -44,28 +45,29 @@ pub fn first_region(pages: &[Page], entries: &[Entry], block: Block) -> Region
 }
 
 /// The page of an edit that touches no other, with the edit made.
-pub fn edited_page(pages: &[Page], entries: &[Entry], edit: &Edit) -> Page
-    requires paging { IsPaging pages.now entries.now }
-    requires edit { IsEdit pages.now entries.now edit.now }
-    requires stays { StaysInPage entries.now edit.now }
+pub fn edited_page(pages: &[Page], entries: &Entries, edit: &Edit) -> Page
+    requires paging { IsPaging pages.now entries.now.items }
+    requires edit { IsEdit pages.now entries.now.items edit.now }
+    requires stays { StaysInPage entries.now.items edit.now }
+    requires tiled { IsTiled (edited pages.now entries.now.items edit.now) }
     ensures { (d : Entry) → result
-        ≡ spliced (blocks_of pages.now (slice_index_or entries.now edit.now.first d)) edit.now.from edit.now.to
+        ≡ spliced (blocks_of pages.now (slice_index_or entries.now.items edit.now.first d)) edit.now.from edit.now.to
         edit.now.new }
 {
-    pages[entries[edit.first].page].spliced(edit.from, edit.to, &edit.new)
+    pages[entries.at(edit.first).page].spliced(edit.from, edit.to, &edit.new)
 }
 
 /// The pages that an edit touches, with the blocks that they hold after it.
-fn touched(pages: &[Page], entries: &[Entry], edit: &Edit) -> Region
-    requires paging { IsPaging pages.now entries.now }
-    requires edit { IsEdit pages.now entries.now edit.now }
-    ensures region { IsRegion entries.now result }
-    ensures same { refilled pages.now entries.now result ≡ edited pages.now entries.now edit.now }
+fn touched(pages: &[Page], entries: &Entries, edit: &Edit) -> Region
+    requires paging { IsPaging pages.now entries.now.items }
+    requires edit { IsEdit pages.now entries.now.items edit.now }
+    ensures region { IsRegion entries.now.items result }
+    ensures same { refilled pages.now entries.now.items result ≡ edited pages.now entries.now.items edit.now }
 {
     let mut blocks = Gathered::new();
-    blocks.copy(&pages[entries[edit.first].page], 0, edit.from);
+    blocks.copy(&pages[entries.at(edit.first).page], 0, edit.from);
     blocks.add(&edit.new);
-    let last = &pages[entries[edit.last].page];
+    let last = &pages[entries.at(edit.last).page];
     blocks.copy(last, edit.to, last.len());
     Region {
         first: edit.first,
@@ -75,39 +77,38 @@ fn touched(pages: &[Page], entries: &[Entry], edit: &Edit) -> Region
 }
 
 /// A region with the page behind it.
-fn with_next(pages: &[Page], entries: &[Entry], mut region: Region) -> Region
-    requires paging { IsPaging pages.now entries.now }
-    requires half { AreHalfFull entries.now }
-    requires region { IsRegion entries.now region }
+fn with_next(pages: &[Page], entries: &Entries, mut region: Region) -> Region
+    requires paging { IsPaging pages.now entries.now.items }
+    requires half { AreHalfFull entries.now.items }
+    requires region { IsRegion entries.now.items region }
     requires few { length region.blocks < 32 }
-    requires there { region.behind < length entries.now }
-    ensures region { IsRegion entries.now result }
-    ensures same { refilled pages.now entries.now result ≡ refilled pages.now entries.now region }
-    ensures full { IsFull entries.now result }
+    requires there { region.behind < length entries.now.items }
+    ensures region { IsRegion entries.now.items result }
+    ensures same { refilled pages.now entries.now.items result ≡ refilled pages.now entries.now.items region }
+    ensures full { IsFull entries.now.items result }
 {
-    let next = &pages[entries[region.behind].page];
+    let next = &pages[entries.at(region.behind).page];
     region.blocks.copy(next, 0, next.len());
     region.behind += 1;
     region
 }
 
 /// A region with the page in front of it.
-fn with_former(pages: &[Page], entries: &[Entry], region: Region) -> Region
-    requires paging { IsPaging pages.now entries.now }
-    requires half { AreHalfFull entries.now }
-    requires region { IsRegion entries.now region }
+fn with_former(pages: &[Page], entries: &Entries, region: Region) -> Region
+    requires paging { IsPaging pages.now entries.now.items }
+    requires half { AreHalfFull entries.now.items }
+    requires region { IsRegion entries.now.items region }
     requires few { length region.blocks < 32 }
     requires there { 0 < region.first }
-    ensures region { IsRegion entries.now result }
-    ensures same { refilled pages.now entries.now result ≡ refilled pages.now entries.now region }
-    ensures full { IsFull entries.now result }
+    ensures region { IsRegion entries.now.items result }
+    ensures same { refilled pages.now entries.now.items result ≡ refilled pages.now entries.now.items region }
+    ensures full { IsFull entries.now.items result }
 {
     let first = region.first - 1;
-    let former = &pages[entries[first].page];
+    let former = &pages[entries.at(first).page];
     let mut blocks = Gathered::new();
     blocks.copy(former, 0, former.len());
-    let own = region.blocks.page(0, region.blocks.len());
-    blocks.copy(&own, 0, own.len());
+    blocks.append(&region.blocks);
     Region {
         first,
         behind: region.behind,
@@ -116,13 +117,13 @@ fn with_former(pages: &[Page], entries: &[Entry], region: Region) -> Region
 }
 
 /// The pages that an edit fills anew: those that it touches, and a neighbor where they would have too few blocks.
-pub fn region_of(pages: &[Page], entries: &[Entry], edit: &Edit) -> Region
-    requires paging { IsPaging pages.now entries.now }
-    requires half { AreHalfFull entries.now }
-    requires edit { IsEdit pages.now entries.now edit.now }
-    ensures region { IsRegion entries.now result }
-    ensures same { refilled pages.now entries.now result ≡ edited pages.now entries.now edit.now }
-    ensures full { IsFull entries.now result }
+pub fn region_of(pages: &[Page], entries: &Entries, edit: &Edit) -> Region
+    requires paging { IsPaging pages.now entries.now.items }
+    requires half { AreHalfFull entries.now.items }
+    requires edit { IsEdit pages.now entries.now.items edit.now }
+    ensures region { IsRegion entries.now.items result }
+    ensures same { refilled pages.now entries.now.items result ≡ edited pages.now entries.now.items edit.now }
+    ensures full { IsFull entries.now.items result }
 {
     let region = touched(pages, entries, edit);
     if region.blocks.len() >= 32 {

@@ -3,18 +3,18 @@ ghost use Rattle.std.specs.Prelude.{◌≡◌, ◌≤◌, length, vec_len, vec_c
 ghost use Rattle.paged_blocks.specs.Paging.{flat, IsPaging, IsKept};
 ghost use Rattle.paged_blocks.specs.Room.{room_for};
 
-use crate::entry::Entry;
+use crate::entries::Entries;
 use crate::page::Page;
 use block_list::tiles::NoMemory;
 
 /// How many blocks stand in the pages.
-pub fn blocks(pages: &[Page], entries: &[Entry]) -> usize
-    requires { IsPaging pages.now entries.now }
-    ensures { result ≡ length (flat pages.now entries.now) }
+pub fn blocks(pages: &[Page], entries: &Entries) -> usize
+    requires { IsPaging pages.now entries.now.items }
+    ensures { result ≡ length (flat pages.now entries.now.items) }
 {
     let mut blocks = 0;
-    for entry in entries {
-        blocks += entry.len;
+    for k in 0..entries.len() {
+        blocks += entries.at(k).len;
     }
     blocks
 }
@@ -23,7 +23,7 @@ pub fn blocks(pages: &[Page], entries: &[Entry]) -> usize
 /// all where each is only half full. Where enough are free it looks at no page.
 pub fn reserve(
     pages: &mut Vec<Page>,
-    entries: &mut Vec<Entry>,
+    entries: &mut Entries,
     free: &mut Vec<usize>,
     n: usize,
 ) -> Result<(), NoMemory>
@@ -31,22 +31,20 @@ pub fn reserve(
     requires room { vec_len pages.old ≤ vec_capacity free.old }
     ensures kept { IsKept pages.new.items entries.new.items free.new.items }
     ensures flat { flat pages.new.items entries.new.items ≡ flat pages.old.items entries.old.items }
-    ensures spare { OnOk result (n ≤ room_for (vec_len pages.new) (vec_capacity entries.new) (vec_len entries.old)
+    ensures spare { OnOk result (n ≤ room_for (vec_len pages.new) (entries.new.room) (length entries.old.items)
         (length (flat pages.old.items entries.old.items))) }
-    ensures len { vec_len entries.new ≡ vec_len entries.old }
+    ensures len { length entries.new.items ≡ length entries.old.items }
     ensures more { vec_len pages.old ≤ vec_len pages.new }
-    ensures capacity { vec_capacity entries.old ≤ vec_capacity entries.new }
+    ensures capacity { entries.old.room ≤ entries.new.room }
     ensures room { vec_len pages.new ≤ vec_capacity free.new }
 {
     let used = entries.len();
-    if n <= free.len() && n <= entries.capacity() - used {
+    if n <= free.len() && n <= entries.room() - used {
         return Ok(());
     }
     let halves = blocks(pages, entries).checked_add(n).ok_or(NoMemory)?;
     let wanted = halves.div_ceil(32).min(used.saturating_add(n));
-    entries
-        .reserve(wanted.saturating_sub(used))
-        .map_err(|_| NoMemory)?;
+    entries.reserve(wanted.saturating_sub(used))?;
     free.reserve(wanted.saturating_sub(free.len()))
         .map_err(|_| NoMemory)?;
     add_pages(pages, entries, free, wanted)
@@ -55,15 +53,15 @@ pub fn reserve(
 /// Makes free pages until there is a number of pages.
 fn add_pages(
     pages: &mut Vec<Page>,
-    entries: &[Entry],
+    entries: &Entries,
     free: &mut Vec<usize>,
     wanted: usize,
 ) -> Result<(), NoMemory>
-    requires kept { IsKept pages.old.items entries.now free.old.items }
+    requires kept { IsKept pages.old.items entries.now.items free.old.items }
     requires room { vec_len pages.old ≤ vec_capacity free.old }
     requires capacity { wanted ≤ vec_capacity free.old }
-    ensures kept { IsKept pages.new.items entries.now free.new.items }
-    ensures flat { flat pages.new.items entries.now ≡ flat pages.old.items entries.now }
+    ensures kept { IsKept pages.new.items entries.now.items free.new.items }
+    ensures flat { flat pages.new.items entries.now.items ≡ flat pages.old.items entries.now.items }
     ensures made { OnOk result (wanted ≤ vec_len pages.new) }
     ensures more { vec_len pages.old ≤ vec_len pages.new }
     ensures room { vec_len pages.new ≤ vec_capacity free.new }

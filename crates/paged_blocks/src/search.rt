@@ -3,7 +3,6 @@ ghost use Rattle.std.specs.Prelude.{◌≡◌, ℕ, ◌+◌, ◌<◌, ◌≤◌,
 ghost use Rattle.std.specs.List.Sorted.{IsNonDecreasingBy};
 ghost use Rattle.paged_blocks.specs.Search.{IsSearched};
 
-use crate::entry::Entry;
 use crate::steps::Steps;
 use std::sync::ledger::Ledger;
 
@@ -15,14 +14,6 @@ pub trait Begins {
     /// The position at which it begins.
     fn pos(&self) -> u64
         ensures { result ≡ begin self.now };
-}
-
-impl Begins for Entry {
-    ghost begin = { λ e. e.pos };
-
-    fn pos(&self) -> u64 {
-        self.pos
-    }
 }
 
 /// The index of the last that begins before a position, where the first one does. It looks at one, and

@@ -1,4 +1,4 @@
-use Rattle.std.proofs.Common.{◌+◌, ◌<◌, ◌≤◌, List, length, take, drop, ap, arith}
+use Rattle.std.proofs.Common.{◌+◌, ◌<◌, List, length, take, drop, ap, arith}
 use Rattle.std.specs.List.{flat_map}
 use Rattle.block_list.specs.declared.block.Block.{Block}
 use Rattle.block_list.specs.Stretches.{covered}
@@ -10,10 +10,10 @@ use Rattle.paged_blocks.proofs.RewriteLemmas.{page_flat, page_kept}
 use Rattle.paged_blocks.proofs.edits.edit_page.Goals as goal
 
 pub edited_page-page-requires-clause-paging : goal.edited_page-page-requires-clause-paging
-edited_page-page-requires-clause-paging c = rw (c.deref.ensures.value, c.deref-2.ensures.value) c.requires.kept.1.paging
+edited_page-page-requires-clause-paging c = rw c.deref.ensures.value c.requires.kept.1.paging
 
 pub rewrite-requires-clause-index : goal.rewrite-requires-clause-index
-rewrite-requires-clause-index c = omega (arith, c.requires.edit.order, c.requires.edit.last, c.args.entries.now.ok.0)
+rewrite-requires-clause-index c = omega (arith, c.requires.edit.order, c.requires.edit.last)
 
 pub rewrite-requires-clause-number : goal.rewrite-requires-clause-number
 rewrite-requires-clause-number c = λ d.
@@ -22,12 +22,12 @@ rewrite-requires-clause-number c = λ d.
 
 pub rewrite-requires-clause-some : goal.rewrite-requires-clause-some
 rewrite-requires-clause-some c =
-    let q = rw (c.deref.ensures.value, c.deref-2.ensures.value) at (c.edited_page-page.ensures no_entry) in
+    let q = rw c.deref.ensures.value at (c.edited_page-page.ensures no_entry) in
     page_some _ _ c.args.edit.now _ c.requires.edit c.requires.stays.page q
 
 pub rewrite-requires-clause-short : goal.rewrite-requires-clause-short
 rewrite-requires-clause-short c =
-    let q = rw (c.deref.ensures.value, c.deref-2.ensures.value) at (c.edited_page-page.ensures no_entry) in
+    let q = rw c.deref.ensures.value at (c.edited_page-page.ensures no_entry) in
     let pages : List (List Block) = c.args.pages.now.items in
     let es : List Entry = c.args.entries.now.items in
     omega (
@@ -41,14 +41,17 @@ rewrite-requires-clause-short c =
 
 pub returns-clause-flat : goal.returns-clause-flat
 returns-clause-flat c =
-    let q = rw (c.deref.ensures.value, c.deref-2.ensures.value) at (c.edited_page-page.ensures no_entry) in
+    let q = rw c.deref.ensures.value at (c.edited_page-page.ensures no_entry) in
     let some = page_some _ _ c.args.edit.now _ c.requires.edit c.requires.stays.page q in
     page_flat _ _ _ c.args.edit.now _ _ _ c.requires.kept.1 c.requires.edit c.requires.stays.page q some
     c.rewrite.ensures.rewritten
 
 pub returns-clause-kept : goal.returns-clause-kept
 returns-clause-kept c = λ free h.
-    let q = rw (c.deref.ensures.value, c.deref-2.ensures.value) at (c.edited_page-page.ensures no_entry) in
+    let q = rw c.deref.ensures.value at (c.edited_page-page.ensures no_entry) in
     let some = page_some _ _ c.args.edit.now _ c.requires.edit c.requires.stays.page q in
     page_kept _ _ _ c.args.edit.now _ _ _ h c.requires.edit c.requires.stays q some c.requires.tiled c.requires.merged
     c.rewrite.ensures.rewritten
+
+pub edited_page-page-requires-clause-tiled : goal.edited_page-page-requires-clause-tiled
+edited_page-page-requires-clause-tiled c = rw c.deref.ensures.value c.requires.tiled

@@ -9,6 +9,7 @@ use Rattle.paged_blocks.specs.Paging.{flat}
 use Rattle.paged_blocks.proofs.KeptLemmas.{part_short}
 use Rattle.paged_blocks.proofs.FilingLemmas.{share}
 use Rattle.paged_blocks.proofs.RegionLemmas.{take_on, flat_parts}
+use Rattle.paged_blocks.proofs.RowLemmas.{row_range}
 use Rattle.paged_blocks.proofs.filing.deal.Goals as goal
 
 pub place-requires-clause-short : goal.place-requires-clause-short
@@ -71,3 +72,6 @@ returns-clause-flat c =
     ∙ ap (λ r. flat c.args.pages.now.items (take c.args.first c.args.entries.now.items) ++ r)
     (take_all c.loop-made.made c.args.blocks.now (omega (arith, c.loop-made-test.false, c.len-len.ensures.value))))
     ∙ ap (λ r. flat c.args.pages.now.items (take c.args.first c.args.entries.now.items) ++ c.args.blocks.now ++ r) i.back
+
+pub page-requires-clause-row : goal.page-requires-clause-row
+page-requires-clause-row c = row_range _ _ _ c.requires.row

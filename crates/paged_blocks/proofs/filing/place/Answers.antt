@@ -1,5 +1,5 @@
-use Rattle.std.proofs.Common.{◌≤◌, length, arith}
-use Rattle.paged_blocks.proofs.KeptLemmas.{succeeded}
+use Rattle.std.proofs.Common.{◌≤◌, ◌∙◌, length, ap, arith}
+use Rattle.std.proofs.lemmas.List.Edits.{length-insert}
 use Rattle.paged_blocks.proofs.FilingLemmas.{placed, unused}
 use Rattle.paged_blocks.proofs.filing.place.Goals as goal
 
@@ -9,18 +9,19 @@ index_mut-requires c =
 
 pub returns-in-Some-clause-filed : goal.returns-in-Some-clause-filed
 returns-in-Some-clause-filed c =
-    let h : c.args.k ≤ length c.args.entries.now.items = omega (arith, c.requires.index, c.args.entries.now.ok.0) in
-    let e = succeeded _ _ _ _ (c.insert.ensures.succeeds c.requires.room) c.insert.ensures.items in
-    rw e (placed _ _ _ _ _ _ _ _ c.requires.filed c.in-Some.ensures.items h c.requires.some c.entry_of-entry.ensures).filed
+    let h : c.args.k ≤ length c.args.entries.now.items = c.requires.index in
+    rw c.insert.ensures.items (placed _ _ _ _ _ _ _ _ c.requires.filed c.in-Some.ensures.items h c.requires.some c.entry_of-entry.ensures).filed
 
 pub returns-in-Some-clause-front : goal.returns-in-Some-clause-front
 returns-in-Some-clause-front c =
-    let h : c.args.k ≤ length c.args.entries.now.items = omega (arith, c.requires.index, c.args.entries.now.ok.0) in
-    let e = succeeded _ _ _ _ (c.insert.ensures.succeeds c.requires.room) c.insert.ensures.items in
-    rw e (placed _ _ _ _ _ _ _ _ c.requires.filed c.in-Some.ensures.items h c.requires.some c.entry_of-entry.ensures).front
+    let h : c.args.k ≤ length c.args.entries.now.items = c.requires.index in
+    rw c.insert.ensures.items (placed _ _ _ _ _ _ _ _ c.requires.filed c.in-Some.ensures.items h c.requires.some c.entry_of-entry.ensures).front
 
 pub returns-in-Some-clause-back : goal.returns-in-Some-clause-back
 returns-in-Some-clause-back c =
-    let h : c.args.k ≤ length c.args.entries.now.items = omega (arith, c.requires.index, c.args.entries.now.ok.0) in
-    let e = succeeded _ _ _ _ (c.insert.ensures.succeeds c.requires.room) c.insert.ensures.items in
-    rw e (placed _ _ _ _ _ _ _ _ c.requires.filed c.in-Some.ensures.items h c.requires.some c.entry_of-entry.ensures).back
+    let h : c.args.k ≤ length c.args.entries.now.items = c.requires.index in
+    rw c.insert.ensures.items (placed _ _ _ _ _ _ _ _ c.requires.filed c.in-Some.ensures.items h c.requires.some c.entry_of-entry.ensures).back
+
+pub returns-in-Some-clause-entries : goal.returns-in-Some-clause-entries
+returns-in-Some-clause-entries c =
+    ap length c.insert.ensures.items ∙ length-insert c.args.entries.now.items c.args.k c.entry_of-entry.result c.requires.index

@@ -6,6 +6,7 @@ use Rattle.paged_blocks.specs.declared.entry.Entry.{Entry}
 use Rattle.paged_blocks.specs.Paging.{flat}
 use Rattle.paged_blocks.specs.Regions.{refilled}
 use Rattle.paged_blocks.proofs.FilingLemmas.{released, kept_long, taken_out}
+use Rattle.paged_blocks.proofs.RowLemmas.{row_middle}
 use Rattle.paged_blocks.proofs.filing.refill.Goals as goal
 
 pub deal-requires-clause-filed : goal.deal-requires-clause-filed
@@ -16,9 +17,7 @@ deal-requires-clause-filed c =
     (omega (
       arith,
       c.release.ensures.len,
-      c.release.new.entries.ok.0,
       c.release.new.free.ok.0,
-      c.args.entries.now.ok.0,
       c.args.free.now.ok.0,
     ))
 
@@ -28,8 +27,6 @@ deal-requires-clause-pages c =
       arith,
       taken_out c.args.entries.now.items c.release.new.entries.items c.args.region.now.first c.args.region.now.behind
           c.requires.region.order c.requires.region.within c.release.ensures.entries,
-      c.args.entries.now.ok.0,
-      c.release.new.entries.ok.0,
       c.requires.pages,
     )
 
@@ -39,8 +36,6 @@ deal-requires-clause-entries c =
       arith,
       taken_out c.args.entries.now.items c.release.new.entries.items c.args.region.now.first c.args.region.now.behind
           c.requires.region.order c.requires.region.within c.release.ensures.entries,
-      c.args.entries.now.ok.0,
-      c.release.new.entries.ok.0,
       c.requires.entries,
       c.release.ensures.capacity,
     )
@@ -51,8 +46,6 @@ returns-clause-few c =
       arith,
       taken_out c.args.entries.now.items c.release.new.entries.items c.args.region.now.first c.args.region.now.behind
           c.requires.region.order c.requires.region.within c.release.ensures.entries,
-      c.args.entries.now.ok.0,
-      c.release.new.entries.ok.0,
       c.deal.ensures.few,
     )
 
@@ -85,8 +78,6 @@ returns-clause-kept c =
             (λ (v : length blocks < 32). absurd (omega (
               arith,
               c.deal.ensures.one v,
-              c.deal.new.entries.ok.0,
-              c.release.new.entries.ok.0,
               ap length e,
               length-append (take first es) (drop behind es),
               length-drop behind es,
@@ -99,3 +90,6 @@ returns-clause-kept c =
       };
       numbered = c.deal.ensures.filed.numbered;
     }
+
+pub deal-requires-clause-row : goal.deal-requires-clause-row
+deal-requires-clause-row c = row_middle _ _ _ c.requires.tiled

@@ -2,11 +2,11 @@ use Rattle.std.proofs.Common.{◌≡◌, ◌+◌, ◌-◌, ◌<◌, length}
 use Rattle.paged_blocks.specs.Paging.{before}
 use Rattle.paged_blocks.proofs.lookups.block_at.Given as goal
 
-abbrev pub invariant-loop-k : goal.invariant-loop-k
-invariant-loop-k l = record {
-  index : l.k < length l.entries;
-  place : before l.pages l.entries l.k + l.left ≡ l.i;
+abbrev pub invariant-loop-left : goal.invariant-loop-left
+invariant-loop-left l = record {
+  index : l.k < length l.entries.items;
+  place : before l.pages l.entries.items l.k + l.left ≡ l.i;
 }
 
-abbrev pub decreases-loop-k : goal.decreases-loop-k
-decreases-loop-k l = length l.entries - l.k
+abbrev pub decreases-loop-left : goal.decreases-loop-left
+decreases-loop-left l = length l.entries.items - l.k

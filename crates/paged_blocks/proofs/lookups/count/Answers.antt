@@ -5,27 +5,29 @@ use Rattle.paged_blocks.proofs.lookups.count.Goals as goal
 
 pub overflow_add-counted : goal.overflow_add-counted
 overflow_add-counted c =
-    let e = c.requires.each c.loop-entry.entry-index no_entry c.loop-entry-test.true in
+    let h = rw c.len-k-end.ensures at c.loop-k-test.true in
+    let e = c.requires.each c.loop-k.k no_entry h in
     omega (
       arith,
-      c.of-counted.ensures,
+      rw (c.at.ensures no_entry) at c.of-counted.ensures,
       e.tally c.args.status,
-      c.loop-entry.invariant,
-      paged_more c.args.pages.now c.args.entries.now c.args.status c.loop-entry.entry-index no_entry c.loop-entry-test.true,
-      paged_end c.args.pages.now c.args.entries.now c.args.status (c.loop-entry.entry-index + 1),
+      c.loop-k.invariant,
+      paged_more c.args.pages.now c.args.entries.now.items c.args.status c.loop-k.k no_entry h,
+      paged_end c.args.pages.now c.args.entries.now.items c.args.status (c.loop-k.k + 1),
       c.requires.tiled.short,
     )
 
-pub loop-entry-preserved : goal.loop-entry-preserved
-loop-entry-preserved c =
-    let e = c.requires.each c.loop-entry.entry-index no_entry c.loop-entry-test.true in
+pub loop-k-preserved : goal.loop-k-preserved
+loop-k-preserved c =
+    let h = rw c.len-k-end.ensures at c.loop-k-test.true in
+    let e = c.requires.each c.loop-k.k no_entry h in
     omega (
       arith,
-      c.of-counted.ensures,
+      rw (c.at.ensures no_entry) at c.of-counted.ensures,
       e.tally c.args.status,
-      c.loop-entry.invariant,
-      paged_more c.args.pages.now c.args.entries.now c.args.status c.loop-entry.entry-index no_entry c.loop-entry-test.true,
+      c.loop-k.invariant,
+      paged_more c.args.pages.now c.args.entries.now.items c.args.status c.loop-k.k no_entry h,
     )
 
 pub returns : goal.returns
-returns c = c.loop-entry.invariant ∙ paged_all _ _ _ _ c.loop-entry-test.false
+returns c = c.loop-k.invariant ∙ paged_all _ _ _ _ (rw c.len-k-end.ensures at c.loop-k-test.false)

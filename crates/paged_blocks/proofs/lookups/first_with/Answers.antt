@@ -3,26 +3,35 @@ use Rattle.paged_blocks.specs.Paging.{before}
 use Rattle.paged_blocks.proofs.PagingLemmas.{no_entry}
 use Rattle.paged_blocks.proofs.StepLemmas.{one_page, two_pages, looks_one, looks_two}
 use Rattle.paged_blocks.proofs.FindLemmas.{page_filled, read_short, first_found, first_run, bare_start, bare_rest, bare_up, reaches_page, held_has, held_behind, held_below, not_bare}
+use Rattle.paged_blocks.proofs.KeptLemmas.{entries_short}
 use Rattle.paged_blocks.proofs.lookups.first_with.Goals as goal
 
 pub first_in-requires-clause-filled : goal.first_in-requires-clause-filled
-first_in-requires-clause-filled g c = page_filled _ _ _ no_entry c.requires.paging c.held_counted-held.ensures.held.entry
+first_in-requires-clause-filled g c =
+    rw (c.at.ensures no_entry) (page_filled _ _ _ no_entry c.requires.paging c.held_counted-held.ensures.held.entry)
+
+pub first_in-requires-clause-entry : goal.first_in-requires-clause-entry
+first_in-requires-clause-entry g c =
+    rw (c.at.ensures no_entry) (c.requires.paging.each _ no_entry c.held_counted-held.ensures.held.entry)
+
+pub overflow_step-k : goal.overflow_step-k
+overflow_step-k g c = omega (arith, entries_short _ _ c.requires.paging, c.held_counted-held.ensures.held.entry)
 
 pub run_up-requires : goal.run_up-requires
 run_up-requires g c =
     let f = c.in-Some.ensures.found in
-    omega (arith, read_short _ _ _ _ no_entry _ c.requires.paging c.held_counted-held.ensures.held.entry f.read)
+    omega (arith, read_short _ _ _ _ no_entry _ c.requires.paging c.held_counted-held.ensures.held.entry (rw (c.at.ensures no_entry) at f.read))
 
 pub returns-in-Some-clause-first : goal.returns-in-Some-clause-first
 returns-in-Some-clause-first g c =
     let h = c.held_counted-held.ensures.held in
-    rw c.run_up.ensures (first_found _ _ _ no_entry _ _ _ _ c.requires.paging h.entry c.in-Some.ensures.found
+    rw c.run_up.ensures (first_found _ _ _ no_entry _ _ _ _ c.requires.paging h.entry (rw (c.at.ensures no_entry) at c.in-Some.ensures.found)
     (bare_start _ _ _ _ _ _ h) (held_behind _ _ _ _ _ h))
 
 pub returns-in-Some-clause-run : goal.returns-in-Some-clause-run
 returns-in-Some-clause-run g c =
     let h = c.held_counted-held.ensures.held in
-    rw c.run_up.ensures (first_run _ _ _ no_entry _ _ _ _ c.requires.paging h.entry c.in-Some.ensures.found
+    rw c.run_up.ensures (first_run _ _ _ no_entry _ _ _ _ c.requires.paging h.entry (rw (c.at.ensures no_entry) at c.in-Some.ensures.found)
     (held_behind _ _ _ _ _ h))
 
 pub returns-in-Some-clause-cost : goal.returns-in-Some-clause-cost
@@ -37,7 +46,7 @@ returns-in-Some-clause-there g c = λ q.
       arith,
       c.held_counted-held.ensures.few,
       c.tick.ensures,
-      c.first_in.ensures.there (held_has _ _ _ _ _ no_entry _ c.requires.paging c.held_counted-held.ensures.held q),
+      c.first_in.ensures.there (rw (c.at.ensures no_entry) (held_has _ _ _ _ _ no_entry _ c.requires.paging c.held_counted-held.ensures.held q)),
     )
 
 pub loop-k-init : goal.loop-k-init
@@ -45,38 +54,49 @@ loop-k-init g c =
     let h = c.held_counted-held.ensures.held in
     record {
       bare = bare_rest _ _ _ no_entry _ _ _ c.requires.paging h.entry (omega (arith, h.within no_entry))
-          c.in_default.ensures.none (bare_start _ _ _ _ _ _ h);
+          (rw (c.at.ensures no_entry) at c.in_default.ensures.none) (bare_start _ _ _ _ _ _ h);
       cost = omega arith;
     }
 
 pub first_in-requires-in-loop-k-clause-filled : goal.first_in-requires-in-loop-k-clause-filled
-first_in-requires-in-loop-k-clause-filled g c = page_filled _ _ _ no_entry c.requires.paging c.loop-k-test.true
+first_in-requires-in-loop-k-clause-filled g c =
+    rw (c.at-in-loop-k.ensures no_entry) (page_filled _ _ _ no_entry c.requires.paging (rw c.len-k-end.ensures at c.loop-k-test.true))
+
+pub first_in-requires-in-loop-k-clause-entry : goal.first_in-requires-in-loop-k-clause-entry
+first_in-requires-in-loop-k-clause-entry g c =
+    rw (c.at-in-loop-k.ensures no_entry) (c.requires.paging.each _ no_entry (rw c.len-k-end.ensures at c.loop-k-test.true))
 
 pub run_up-requires-in-Some-first_in : goal.run_up-requires-in-Some-first_in
 run_up-requires-in-Some-first_in g c =
     let f = c.in-Some-first_in.ensures.found in
-    omega (arith, read_short _ _ _ _ no_entry _ c.requires.paging c.loop-k-test.true f.read)
+    omega (
+      arith,
+      read_short _ _ _ _ no_entry _ c.requires.paging (rw c.len-k-end.ensures at c.loop-k-test.true)
+          (rw (c.at-in-loop-k.ensures no_entry) at f.read),
+    )
 
 pub returns-in-Some-first_in-clause-first : goal.returns-in-Some-first_in-clause-first
 returns-in-Some-first_in-clause-first g c =
     let h = c.held_counted-held.ensures.held in
-    let z : before c.args.pages.now c.args.entries.now c.loop-k.k + 0 ≡ before c.args.pages.now c.args.entries.now c.loop-k.k = omega arith in
-    rw c.run_up-in-Some-first_in.ensures (first_found _ _ _ no_entry _ _ _ _ c.requires.paging c.loop-k-test.true
-    c.in-Some-first_in.ensures.found (rw z c.loop-k.invariant.bare) (reaches_page _ _ _ _ _ _ no_entry h (omega arith)))
+    let z : before c.args.pages.now c.args.entries.now.items c.loop-k.k + 0 ≡ before c.args.pages.now c.args.entries.now.items c.loop-k.k = omega arith in
+    rw c.run_up-in-Some-first_in.ensures (first_found _ _ _ no_entry _ _ _ _ c.requires.paging (rw c.len-k-end.ensures at c.loop-k-test.true)
+    (rw (c.at-in-loop-k.ensures no_entry) at c.in-Some-first_in.ensures.found) (rw z c.loop-k.invariant.bare)
+    (reaches_page _ _ _ _ _ _ no_entry h (omega arith)))
 
 pub returns-in-Some-first_in-clause-run : goal.returns-in-Some-first_in-clause-run
 returns-in-Some-first_in-clause-run g c =
     let h = c.held_counted-held.ensures.held in
-    rw c.run_up-in-Some-first_in.ensures (first_run _ _ _ no_entry _ _ _ _ c.requires.paging c.loop-k-test.true
-    c.in-Some-first_in.ensures.found (reaches_page _ _ _ _ _ _ no_entry h (omega arith)))
+    rw c.run_up-in-Some-first_in.ensures (first_run _ _ _ no_entry _ _ _ _ c.requires.paging (rw c.len-k-end.ensures at c.loop-k-test.true)
+    (rw (c.at-in-loop-k.ensures no_entry) at c.in-Some-first_in.ensures.found) (reaches_page _ _ _ _ _ _ no_entry h (omega arith)))
 
 pub returns-in-Some-first_in-clause-cost : goal.returns-in-Some-first_in-clause-cost
 returns-in-Some-first_in-clause-cost g c =
     let h = c.held_counted-held.ensures.held in
     looks_two _ _ _ _ _ _ _ _ _ (omega arith)
-    (two_pages _ _ c.held_counted-held.result.0 c.loop-k.k no_entry c.requires.paging c.requires.half (omega arith) c.loop-k-test.true)
-    c.held_counted-held.ensures.cost (rw c.tick.ensures at c.first_in.ensures.cost)
-    (omega (arith, c.tick-in-loop-k.ensures, c.loop-k.invariant.cost)) c.first_in-in-loop-k.ensures.cost
+    (two_pages _ _ c.held_counted-held.result.0 c.loop-k.k no_entry c.requires.paging c.requires.half (omega arith)
+    (rw c.len-k-end.ensures at c.loop-k-test.true))
+    c.held_counted-held.ensures.cost (rw (c.tick.ensures, c.at.ensures no_entry) at c.first_in.ensures.cost)
+    (omega (arith, c.tick-in-loop-k.ensures, c.loop-k.invariant.cost)) (rw (c.at-in-loop-k.ensures no_entry) at c.first_in-in-loop-k.ensures.cost)
 
 pub returns-in-Some-first_in-clause-there : goal.returns-in-Some-first_in-clause-there
 returns-in-Some-first_in-clause-there g c = λ q.
@@ -84,15 +104,15 @@ returns-in-Some-first_in-clause-there g c = λ q.
 
 pub loop-k-preserved : goal.loop-k-preserved
 loop-k-preserved g c =
-    let z : before c.args.pages.now c.args.entries.now c.loop-k.k + 0 ≡ before c.args.pages.now c.args.entries.now c.loop-k.k = omega arith in
+    let z : before c.args.pages.now c.args.entries.now.items c.loop-k.k + 0 ≡ before c.args.pages.now c.args.entries.now.items c.loop-k.k = omega arith in
     record {
-      bare = bare_rest _ _ _ no_entry 0 _ _ c.requires.paging c.loop-k-test.true (omega arith)
-          c.in_default-first_in.ensures.none (rw z c.loop-k.invariant.bare);
+      bare = bare_rest _ _ _ no_entry 0 _ _ c.requires.paging (rw c.len-k-end.ensures at c.loop-k-test.true) (omega arith)
+          (rw (c.at-in-loop-k.ensures no_entry) at c.in_default-first_in.ensures.none) (rw z c.loop-k.invariant.bare);
       cost = omega (arith, c.tick-in-loop-k.ensures, c.loop-k.invariant.cost, c.in_default-first_in.ensures.passed refl);
     }
 
 pub returns-clause-none : goal.returns-clause-none
-returns-clause-none g c = bare_up _ _ _ _ _ c.loop-k-test.false c.loop-k.invariant.bare
+returns-clause-none g c = bare_up _ _ _ _ _ (rw c.len-k-end.ensures at c.loop-k-test.false) c.loop-k.invariant.bare
 
 pub returns-clause-cost : goal.returns-clause-cost
 returns-clause-cost g c =

@@ -8,7 +8,7 @@ use Rattle.paged_blocks.proofs.lookups.first_with.Given as goal
 
 abbrev pub invariant-loop-k : goal.invariant-loop-k
 invariant-loop-k g l = record {
-  bare : IsBare (flat_map covered (flat l.pages l.entries)) l.status l.from
-      (start_of (flat l.pages l.entries) (before l.pages l.entries l.k));
+  bare : IsBare (flat_map covered (flat l.pages l.entries.items)) l.status l.from
+      (start_of (flat l.pages l.entries.items) (before l.pages l.entries.items l.k));
   cost : l.steps + (l.held + 1) ≤ l.initial.steps + l.k;
 }

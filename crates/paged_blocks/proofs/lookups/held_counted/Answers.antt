@@ -11,8 +11,8 @@ last_before-last-requires g c = record {
 
 pub before-requires : goal.before-requires
 before-requires g c =
-    let h : c.last_before-last.result < length c.args.entries.now = omega (arith, c.last_before-last.ensures.place.within) in
-    let q = named _ _ _ no_entry _ c.requires.paging h c.index-pages-entries.is in
+    let h : c.last_before-last.result < length c.args.entries.now.items = omega (arith, c.last_before-last.ensures.place.within) in
+    let q = named _ _ _ no_entry _ c.requires.paging h (rw (c.at.ensures no_entry) at c.index-pages-at.is) in
     record {
       sorted = rw q (blocks_rise _ _ _ no_entry c.requires.paging h);
       some = rw q ((c.requires.paging.each _ no_entry h).some);
@@ -21,6 +21,6 @@ before-requires g c =
 
 pub returns-clause-held : goal.returns-clause-held
 returns-clause-held g c =
-    let h : c.last_before-last.result < length c.args.entries.now = omega (arith, c.last_before-last.ensures.place.within) in
+    let h : c.last_before-last.result < length c.args.entries.now.items = omega (arith, c.last_before-last.ensures.place.within) in
     held_in_page _ _ _ _ _ no_entry _ c.requires.paging c.requires.some c.requires.within c.last_before-last.ensures.place
-    (named _ _ _ no_entry _ c.requires.paging h c.index-pages-entries.is) c.before-2.ensures.place
+    (named _ _ _ no_entry _ c.requires.paging h (rw (c.at.ensures no_entry) at c.index-pages-at.is)) c.before-2.ensures.place

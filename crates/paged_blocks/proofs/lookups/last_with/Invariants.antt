@@ -8,7 +8,7 @@ use Rattle.paged_blocks.proofs.lookups.last_with.Given as goal
 
 abbrev pub invariant-loop-k : goal.invariant-loop-k
 invariant-loop-k g l = record {
-  bare : IsBare (flat_map covered (flat l.pages l.entries)) l.status
-      (start_of (flat l.pages l.entries) (before l.pages l.entries l.k)) l.to;
+  bare : IsBare (flat_map covered (flat l.pages l.entries.items)) l.status
+      (start_of (flat l.pages l.entries.items) (before l.pages l.entries.items l.k)) l.to;
   cost : l.steps + l.k ≤ l.initial.steps + l.held;
 }

@@ -24,8 +24,8 @@ loop-pages-preserved c =
     let l = ap length p ∙ length_push c.loop-pages.pages.items c.new.result in
     record {
       kept = rw (p, f) (page_added _ _ _ _ c.new.result k n);
-      flat = ap (λ r. flat r c.args.entries.now) p
-          ∙ flat_kept c.loop-pages.pages.items c.new.result c.args.entries.now (λ i d u. (k.paging.each i d u).page)
+      flat = ap (λ r. flat r c.args.entries.now.items) p
+          ∙ flat_kept c.loop-pages.pages.items c.new.result c.args.entries.now.items (λ i d u. (k.paging.each i d u).page)
           ∙ c.loop-pages.invariant.flat;
       more = omega (arith, c.push.ensures.lower_bound, c.loop-pages.invariant.more);
       room = omega (

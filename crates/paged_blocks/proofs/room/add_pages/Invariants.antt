@@ -4,8 +4,8 @@ use Rattle.paged_blocks.proofs.room.add_pages.Given as goal
 
 abbrev pub invariant-loop-pages : goal.invariant-loop-pages
 invariant-loop-pages l = record {
-  kept : IsKept l.pages.items l.entries l.free.items;
-  flat : flat l.pages.items l.entries ≡ flat l.initial.pages.items l.entries;
+  kept : IsKept l.pages.items l.entries.items l.free.items;
+  flat : flat l.pages.items l.entries.items ≡ flat l.initial.pages.items l.entries.items;
   more : vec_len l.initial.pages ≤ vec_len l.pages;
   room : vec_len l.pages ≤ vec_capacity l.free;
   capacity : l.wanted ≤ vec_capacity l.free;

@@ -1,4 +1,5 @@
-use Rattle.std.proofs.Common.{◌+◌, ◌∙◌, arith}
+use Rattle.std.proofs.Common.{◌+◌, ◌∙◌, ap, arith}
+use Rattle.paged_blocks.specs.declared.entry.Entry.{Entry}
 use Rattle.paged_blocks.specs.Paging.{flat}
 use Rattle.paged_blocks.proofs.PagingLemmas.{no_entry, before_more, before_le, before_all}
 use Rattle.paged_blocks.proofs.KeptLemmas.{blocks_short}
@@ -6,25 +7,29 @@ use Rattle.paged_blocks.proofs.room.blocks.Goals as goal
 
 pub overflow_add-blocks : goal.overflow_add-blocks
 overflow_add-blocks c =
-    let e = c.requires.each c.loop-entry.entry-index no_entry c.loop-entry-test.true in
+    let h = rw c.len-k-end.ensures at c.loop-k-test.true in
+    let e = c.requires.each c.loop-k.k no_entry h in
     omega (
       arith,
       e.len,
-      c.loop-entry.invariant,
-      before_more c.args.pages.now c.args.entries.now c.loop-entry.entry-index no_entry c.loop-entry-test.true,
-      before_le c.args.pages.now c.args.entries.now (c.loop-entry.entry-index + 1),
-      blocks_short (flat c.args.pages.now c.args.entries.now) c.requires.tiled,
+      ap (λ (x : Entry). x.len) (c.at-blocks.ensures no_entry),
+      c.loop-k.invariant,
+      before_more c.args.pages.now c.args.entries.now.items c.loop-k.k no_entry h,
+      before_le c.args.pages.now c.args.entries.now.items (c.loop-k.k + 1),
+      blocks_short (flat c.args.pages.now c.args.entries.now.items) c.requires.tiled,
     )
 
-pub loop-entry-preserved : goal.loop-entry-preserved
-loop-entry-preserved c =
-    let e = c.requires.each c.loop-entry.entry-index no_entry c.loop-entry-test.true in
+pub loop-k-preserved : goal.loop-k-preserved
+loop-k-preserved c =
+    let h = rw c.len-k-end.ensures at c.loop-k-test.true in
+    let e = c.requires.each c.loop-k.k no_entry h in
     omega (
       arith,
       e.len,
-      c.loop-entry.invariant,
-      before_more c.args.pages.now c.args.entries.now c.loop-entry.entry-index no_entry c.loop-entry-test.true,
+      ap (λ (x : Entry). x.len) (c.at-blocks.ensures no_entry),
+      c.loop-k.invariant,
+      before_more c.args.pages.now c.args.entries.now.items c.loop-k.k no_entry h,
     )
 
 pub returns : goal.returns
-returns c = c.loop-entry.invariant ∙ before_all _ _ _ c.loop-entry-test.false
+returns c = c.loop-k.invariant ∙ before_all _ _ _ (rw c.len-k-end.ensures at c.loop-k-test.false)

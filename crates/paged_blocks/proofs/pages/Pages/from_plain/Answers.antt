@@ -2,7 +2,7 @@ use Rattle.std.proofs.Common.{◌≡◌, ◌≤◌, ◌<◌, ◌∙◌, ap, sym,
 use Rattle.block_list.specs.Stretches.{stretches}
 use Rattle.block_list.proofs.PushLemmas.{on_success}
 use Rattle.paged_blocks.proofs.KeptLemmas.{adding, filled, filled_statuses, range_short}
-use Rattle.paged_blocks.proofs.paged_tiles.PagedTiles.from_plain.Goals as goal
+use Rattle.paged_blocks.proofs.pages.Pages.from_plain.Goals as goal
 
 pub add-requires-clause-short : goal.add-requires-clause-short
 add-requires-clause-short c =
@@ -34,3 +34,6 @@ pub returns : goal.returns
 returns c =
     let all : length (stretches c.args.tiles.now.statuses) ≤ c.loop-made.made = omega (arith, c.loop-made-test.false, c.blocks-blocks.ensures) in
     filled_statuses _ _ c.args.tiles.now.statuses _ c.loop-made.invariant all
+
+pub page_of-requires-clause-short : goal.page_of-requires-clause-short
+page_of-requires-clause-short c = omega (arith, c.end-end.ensures.end, c.end-end.ensures.short)

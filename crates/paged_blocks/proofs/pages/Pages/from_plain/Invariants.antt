@@ -1,7 +1,7 @@
 use Rattle.std.proofs.Common.{◌-◌, length}
 use Rattle.block_list.specs.Stretches.{stretches}
 use Rattle.paged_blocks.proofs.KeptLemmas.{IsFilling}
-use Rattle.paged_blocks.proofs.paged_tiles.PagedTiles.from_plain.Given as goal
+use Rattle.paged_blocks.proofs.pages.Pages.from_plain.Given as goal
 
 abbrev pub invariant-loop-made : goal.invariant-loop-made
 invariant-loop-made l = IsFilling l.pages.items l.entries.items (stretches l.tiles.statuses) l.made

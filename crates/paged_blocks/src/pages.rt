@@ -1,0 +1,205 @@
+//! A map in pages.
+ghost use Rattle.std.specs.Prelude.{◌≡◌, ℕ, ◌+◌, ◌-◌, ◌/◌, ◌<◌, ◌≤◌, ◌^◌, length, slice_get, count_by, Some, OnOk, IfOk, IfSome, IfNone};
+ghost use Rattle.block_list.specs.Status.{same};
+ghost use Rattle.block_list.specs.Map.{Has, marked, extended};
+ghost use Rattle.block_list.specs.Places.{IsFirst, IsLast, IsRunUp, IsRunDown};
+ghost use Rattle.block_list.specs.Stretches.{stretches, IsStretchAt};
+
+use crate::entries::Entries;
+use crate::fill::{add, page_len, page_of};
+use crate::page::Page;
+use crate::steps::Steps;
+use crate::{edits, lookups, room};
+use block_list::block::{Block, Run};
+use block_list::plain_tiles::PlainTiles;
+use block_list::status::Status;
+use block_list::tiles::{NoMemory, Tiles};
+use std::alloc::Global;
+use std::marker::Model;
+use std::sync::ledger::Ledger;
+
+/// A map as pages of at most 64 blocks and a list of their places.
+#[derive(Drop)]
+pub struct Pages {
+    pages: Vec<Page>,
+    entries: Entries,
+    free: Vec<usize>,
+    end: u64,
+}
+
+impl Model for Pages {
+    ghost use Rattle.std.specs.List.{flat_map};
+    ghost use Rattle.block_list.specs.Tiled.{Tiled};
+    ghost use Rattle.block_list.specs.Stretches.{covered};
+
+    ghost Value = { Tiled };
+
+    ghost use Rattle.paged_blocks.specs.Paging.{flat};
+    ghost use Rattle.paged_blocks.specs.Paged.{IsPaged, spare_of};
+
+    ghost view = { λ t.
+        record { statuses = flat_map covered (flat t.pages.items t.entries.items); spare = spare_of t } };
+
+    ghost invariant = { IsPaged };
+}
+
+impl Pages {
+    /// The map of a plain list, in pages that are full but for the last two.
+    pub fn from_plain(alloc: Global, tiles: &PlainTiles) -> Result<Pages, NoMemory>
+        ensures { IfOk result (λ t. t.statuses ≡ tiles.now.statuses) }
+    {
+        let end = tiles.end();
+        let blocks = tiles.blocks();
+        let mut pages = Vec::new(alloc);
+        let mut entries = Entries::new(alloc);
+        let mut made = 0;
+        while made < blocks {
+            let to = made + page_len(blocks - made);
+            add(&mut pages, &mut entries, page_of(tiles, made, to))?;
+            made = to;
+        }
+        let mut free = Vec::new(alloc);
+        free.reserve(pages.len()).map_err(|_| NoMemory)?;
+        Ok(Pages {
+            pages,
+            entries,
+            free,
+            end,
+        })
+    }
+}
+
+impl Pages {
+    /// The position behind the last one.
+    pub fn end(&self) -> u64
+        ensures end { result ≡ length self.now.statuses }
+        ensures short { result < 2 ^ 63 }
+    {
+        self.end
+    }
+
+    /// The stretch of equal statuses that holds a position.
+    pub fn stretch_at(&self, x: u64) -> Block
+        requires { x < length self.now.statuses }
+        ensures { IsStretchAt self.now.statuses x result }
+    {
+        lookups::stretch_at(&self.pages, &self.entries, x)
+    }
+
+    /// The first position at or after `from` that has a status, and the end of its stretch. Its steps are counted.
+    #[inline(never)]
+    pub fn find_forward<L: Ledger>(
+        &self,
+        from: u64,
+        status: Status,
+        steps: &mut Steps<L>,
+    ) -> Option<Run>
+        ensures first { IfSome result (λ run. IsFirst (Has self.now.statuses status) from run.from) }
+        ensures run { IfSome result (λ run. IsRunUp (Has self.now.statuses status) run.from run.to) }
+        ensures none { IfNone result ((x : ℕ) → from ≤ x → Has self.now.statuses status x → ⊥) }
+        ensures cost { steps.new ≤ steps.old + length (stretches self.now.statuses) / 16 + 130 }
+        ensures there { Has self.now.statuses status from → steps.new ≤ steps.old + 130 }
+    {
+        if from < self.end {
+            lookups::first_with(&self.pages, &self.entries, from, status, steps)
+        } else {
+            None
+        }
+    }
+
+    /// The greatest end at or before `before` below which a position has a status, and the start of its stretch. Its
+    /// steps are counted.
+    pub fn find_backward<L: Ledger>(
+        &self,
+        before: u64,
+        status: Status,
+        steps: &mut Steps<L>,
+    ) -> Option<Run>
+        ensures last { IfSome result (λ run. IsLast (Has self.now.statuses status) before run.to) }
+        ensures run { IfSome result (λ run. IsRunDown (Has self.now.statuses status) run.from run.to) }
+        ensures none { IfNone result ((x : ℕ) → x < before → Has self.now.statuses status x → ⊥) }
+        ensures cost { steps.new ≤ steps.old + length (stretches self.now.statuses) / 16 + 130 }
+        ensures there { Has self.now.statuses status (before - 1) → steps.new ≤ steps.old + 130 }
+    {
+        let to = before.min(self.end);
+        lookups::last_with(&self.pages, &self.entries, to, status, steps)
+    }
+
+    /// How many positions have a status.
+    pub fn count(&self, status: Status) -> u64
+        ensures { result ≡ count_by (λ s. same s status) self.now.statuses }
+    {
+        lookups::count(&self.pages, &self.entries, status)
+    }
+
+    /// How many stretches of equal statuses there are.
+    pub fn blocks(&self) -> usize
+        ensures { result ≡ length (stretches self.now.statuses) }
+    {
+        room::blocks(&self.pages, &self.entries)
+    }
+
+    /// The stretch with a number, counted from 0.
+    pub fn block(&self, i: usize) -> Block
+        requires { i < length (stretches self.now.statuses) }
+        ensures { slice_get (stretches self.now.statuses) i ≡ Some result }
+    {
+        lookups::block_at(&self.pages, &self.entries, i)
+    }
+}
+
+impl Pages {
+    /// Makes spare at least n. It alone takes memory.
+    #[inline(never)]
+    pub fn reserve(&mut self, n: usize) -> Result<(), NoMemory>
+        ensures spare { OnOk result (n ≤ self.new.spare) }
+        ensures kept { self.old.spare ≤ self.new.spare }
+        ensures statuses { self.new.statuses ≡ self.old.statuses }
+    {
+        room::reserve(&mut self.pages, &mut self.entries, &mut self.free, n)
+    }
+
+    /// Gives a status to the positions from `pos` up to `pos + size`.
+    #[inline(never)]
+    pub fn set(&mut self, pos: u64, size: u64, status: Status)
+        requires some { 0 < size }
+        requires within { pos + size ≤ length self.old.statuses }
+        requires spare { 2 ≤ self.old.spare }
+        ensures marked { self.new.statuses ≡ marked self.old.statuses pos size status }
+        ensures spare { self.old.spare ≤ self.new.spare + 2 }
+    {
+        let block = Block { pos, size, status };
+        edits::overwrite(
+            &mut self.pages,
+            &mut self.entries,
+            &mut self.free,
+            self.end,
+            block,
+        );
+    }
+
+    /// Adds non-tried positions up to an end.
+    pub fn extend_to(&mut self, end: u64)
+        requires later { length self.old.statuses ≤ end }
+        requires short { end < 2 ^ 63 }
+        requires spare { 1 ≤ self.old.spare }
+        ensures extended { self.new.statuses ≡ extended self.old.statuses end }
+        ensures spare { self.old.spare ≤ self.new.spare + 1 }
+    {
+        if self.end < end {
+            let block = Block {
+                pos: self.end,
+                size: end - self.end,
+                status: Status::NonTried,
+            };
+            edits::overwrite(
+                &mut self.pages,
+                &mut self.entries,
+                &mut self.free,
+                self.end,
+                block,
+            );
+            self.end = end;
+        }
+    }
+}
