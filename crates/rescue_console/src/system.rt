@@ -3,7 +3,7 @@ ghost use Rattle.std.specs.Prelude.{◌≡◌, ◌≢◌, ◌+◌, ◌-◌, ◌/
 ghost use Rattle.std.specs.Io.KnownBytes.{Appends, Consumes, IsAtEnd};
 ghost use Rattle.std.specs.IoError.{error_kind};
 ghost use Rattle.std.specs.Duration.{as_nanos};
-ghost use Rattle.std.specs.Time.{instant_nanos, system_time_nanos};
+ghost use Rattle.std.specs.Time.{system_time_nanos};
 ghost use Rattle.fault_count.specs.Counts.{HasCause};
 
 use crate::clock::Clock;
@@ -12,13 +12,14 @@ use crate::feed::{Feed, FeedFault};
 use fault_count::FaultCount;
 use real_files::place;
 use std::io::{self, ErrorKind, Read, Stderr, Stdin, Stdout, Write};
-use std::time::{Duration, Instant, SystemTime, UNIX_EPOCH};
+use std::time::{Clock as SystemClocks, Duration, SystemTime, UNIX_EPOCH};
 
-/// Where a clock began: the time of day then, in milliseconds since 1970, and the instant.
+/// Where a clock began: the time of day then, in milliseconds since 1970, and what the clock that isn't set back read, in
+/// whole milliseconds.
 #[derive(Clone, Copy)]
 struct Start {
     time: u64,
-    at: Instant,
+    at: u64,
 }
 
 /// The system's clock. It reads the time of day once, at its first reading, and goes on from there by a clock that isn't
@@ -51,9 +52,10 @@ impl SystemClock {
         ensures last { self.new.last ≡ result }
         ensures start { IsSome self.old.start → self.new.start ≡ self.old.start }
     {
-        let Ok(now) = Instant::now(&self.rt) else {
+        let Ok(now) = self.rt.monotonic() else {
             return self.last;
         };
+        let now = whole_milliseconds(now);
         let Some(start) = self.start else {
             return self.begin(now);
         };
@@ -64,7 +66,7 @@ impl SystemClock {
     /// The first reading of a clock, which begins now if the time of day can be read.
     #[cold]
     #[inline(never)]
-    fn begin(&mut self, now: Instant) -> u64
+    fn begin(&mut self, now: u64) -> u64
         ensures later { self.old.last ≤ result }
         ensures last { self.new.last ≡ result }
     {
@@ -86,8 +88,8 @@ fn milliseconds(time: SystemTime) -> u64
     }
 }
 
-/// Where a clock begins that reads this time of day at an instant. A time before 1970 is invalid data.
-fn start_of(day: io::Result<SystemTime>, at: Instant) -> Option<Start>
+/// Where a clock begins that reads this time of day as the other clock reads `at`. A time before 1970 is invalid data.
+fn start_of(day: io::Result<SystemTime>, at: u64) -> Option<Start>
     ensures read { IfOk day (λ time. result
         ≡ Some (record { time = min (system_time_nanos time / 1_000_000) (2 ^ 64 - 1); at = at })) }
     ensures early { IfErr day (λ e. error_kind e ≡ ErrorKind.InvalidData
@@ -102,12 +104,13 @@ fn start_of(day: io::Result<SystemTime>, at: Instant) -> Option<Start>
     Some(Start { time, at })
 }
 
-/// The reading at an instant of a clock that began there, but not below the last one.
-fn reading_at(start: Start, now: Instant, last: u64) -> u64
+/// What a clock that began there reads as the other clock reads `now`, but not below the last reading. All in
+/// milliseconds.
+fn reading_at(start: Start, now: u64, last: u64) -> u64
     ensures { result ≡ max last
-        (min (start.time + (instant_nanos now - instant_nanos start.at) / 1_000_000) (2 ^ 64 - 1)) }
+        (min (start.time + (now - start.at)) (2 ^ 64 - 1)) }
 {
-    let passed = whole_milliseconds(now.duration_since(start.at));
+    let passed = now.saturating_sub(start.at);
     last.max(start.time.saturating_add(passed))
 }
 

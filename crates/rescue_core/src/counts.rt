@@ -23,69 +23,66 @@ use rescue_rules::report::Counts;
 use transfer_token::token::Request;
 
 /// The counts of a whole map, which are looked up once, when a run begins.
-pub(crate) fn counts_at_first<T: Tiles>(domain: &Domain, tiles: &T) -> Counts
+pub fn counts_at_first<T: Tiles>(domain: &Domain, tiles: &T) -> Counts
     ensures { result ≡ counts_of (covers domain.now) (T.statuses tiles.now) }
 {
     counts_between(domain, tiles, 0, tiles.end())
 }
 
-/// The counts behind a read, by those in front of it. The map has the marks of the read; the domain is what was left in
-/// front of it. Where areas may have changed, the positions right beside the request are looked up.
-pub(crate) fn counts_behind<T: Tiles>(
-    counts: Counts,
+/// Goes on with the counts behind a read. The map has the marks of the read; the domain is what was left in front of it.
+/// Where areas may have changed, the positions right beside the request are looked up.
+#[inline(always)]
+pub(crate) fn count_behind<T: Tiles>(
+    counts: &mut Counts,
     live: Live<'_>,
     tiles: &T,
     phase: Phase,
     request: Request,
     turn: Turn,
     end: Option<u64>,
-) -> Counts
-    ensures { (r : RunState) (e : Event) (heard : Bool) → Counted r counts
+)
+    ensures { (r : RunState) (e : Event) (heard : Bool) → Counted r counts.old
         → IsMarkedRead r e phase request turn live.entry (T.statuses tiles.now) → end ≡ end_met e.reading
-        → Counted (stepped r e heard) result }
+        → Counted (stepped r e heard) counts.new }
 {
-    let counts = Counts {
-        rescued: counts.rescued.saturating_add(turn.kept),
-        failed: failed_behind(counts.failed, live, tiles, phase, request, turn),
-    };
-    match end {
-        None => counts,
-        Some(end) => counts_before(counts, live, tiles, end),
+    counts.rescued = counts.rescued.saturating_add(turn.kept);
+    fail_behind(&mut counts.failed, live, tiles, phase, request, turn);
+    if let Some(end) = end {
+        *counts = counts_before(*counts, live, tiles, end);
     }
 }
 
-/// What failed behind the marks of a read. Behind a whole read of copying it is as before.
-fn failed_behind<T: Tiles>(
-    failed: Count,
+/// Goes on with what failed behind the marks of a read. Behind a whole read of copying it is as before.
+#[inline(always)]
+fn fail_behind<T: Tiles>(
+    failed: &mut Count,
     live: Live<'_>,
     tiles: &T,
     phase: Phase,
     request: Request,
     turn: Turn,
-) -> Count
-    ensures { (r : RunState) (e : Event) → failed ≡ (counts_of (is_live (setting_in r) r.machine) r.machine.map).failed
+)
+    ensures { (r : RunState) (e : Event)
+        → failed.old ≡ (counts_of (is_live (setting_in r) r.machine) r.machine.map).failed
         → IsMarkedRead r e phase request turn live.entry (T.statuses tiles.now)
-        → result ≡ (counts_of (is_live (setting_in r) r.machine) (T.statuses tiles.now)).failed }
+        → failed.new ≡ (counts_of (is_live (setting_in r) r.machine) (T.statuses tiles.now)).failed }
 {
     let from = request.pos;
     if copies(phase) {
         if turn.failed() {
             let kept = from.saturating_add(turn.kept);
             let to = from.saturating_add(request.len as u64);
-            failed_more(failed, live, tiles, from, kept, to)
-        } else {
-            failed
+            *failed = failed_more(*failed, live, tiles, from, kept, to);
         }
     } else if turn.kept > 0 {
         let kept = from.saturating_add(turn.kept);
         let to = from.saturating_add(request.len as u64);
-        failed_less(failed, live, tiles, from, kept, to)
-    } else {
-        failed
+        *failed = failed_less(*failed, live, tiles, from, kept, to);
     }
 }
 
 /// Where positions from `from` up to `to` had not failed, and those from `kept` on do behind a read.
+#[inline(never)]
 fn failed_more<T: Tiles>(
     failed: Count,
     live: Live<'_>,
@@ -106,6 +103,7 @@ fn failed_more<T: Tiles>(
 }
 
 /// Where positions from `from` up to `to` had failed, and those up to `kept` haven't behind a read.
+#[inline(never)]
 fn failed_less<T: Tiles>(
     failed: Count,
     live: Live<'_>,
@@ -136,6 +134,8 @@ fn moved(areas: u64, begins: bool, ends: bool) -> u64
 }
 
 /// The counts less what lies at an end or behind it.
+#[cold]
+#[inline(never)]
 fn counts_before<T: Tiles>(counts: Counts, live: Live<'_>, tiles: &T, end: u64) -> Counts
     ensures { (new : Counts) → EndsAt end (length (T.statuses tiles.now))
         (finished_in live.entry (T.statuses tiles.now)) (failed_in live.entry (T.statuses tiles.now)) counts new

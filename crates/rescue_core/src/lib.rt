@@ -2,11 +2,11 @@
 #![tactic(auto)]
 
 pub mod closing;
-mod counts;
+pub mod counts;
 mod gather;
 mod landing;
 mod limit;
-mod line;
+pub mod line;
 mod mark;
 pub mod phases;
 mod place;

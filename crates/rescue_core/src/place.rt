@@ -16,46 +16,44 @@ use rescue_rules::phase::Phase;
 use rescue_rules::stop::TrimMode;
 use transfer_token::token::Request;
 
-/// Where a run stands behind a read, in a map of so many positions. While it trims, `more` says whether the position
-/// behind the read is asked for.
+/// Goes on to where a run stands behind a read, in a map of so many positions. While it trims, `more` says whether the
+/// position behind the read is asked for.
+#[inline(always)]
 pub(crate) fn place_behind(
     settings: &Settings,
     phase: Phase,
-    place: Place,
+    place: &mut Place,
     top: u64,
     request: Request,
     turn: Turn,
     more: bool,
-) -> Place
+)
     requires sound { IsSound settings.now }
-    requires skip { place.skip ≤ settings.now.skip_max }
+    requires skip { place.old.skip ≤ settings.now.skip_max }
     requires within { request.pos + request.len ≤ top }
     requires given { turn.given ≤ request.len }
     requires short { top < 2 ^ 63 }
-    ensures { (r : RunState) (e : Event) → RunsAt settings.now phase place r
+    ensures { (r : RunState) (e : Event) → RunsAt settings.now phase place.old r
         → IsReadOf request turn.given turn.ended e.reading → turn ≡ turn_of r e → length r.machine.map ≡ top
         → (phase ≡ Trimming
         → more ≡ is_wanted (setting_in r)
         (record r.machine { map = map_after (setting_in r) r.machine e.reading }) (request.pos + request.len))
-        → result ≡ place_of place.pass (step (setting_in r) r.machine e) }
+        → place.new ≡ place_of place.old.pass (step (setting_in r) r.machine e) }
 {
     let jumped = jumps(phase, place.pass, turn);
-    Place {
-        pass: place.pass,
-        cursor: cursor_behind(settings, phase, place, top, request, turn, jumped),
-        mode: if phase == Phase::Trimming {
-            mode_behind(
-                place.mode,
-                !turn.failed(),
-                more,
-                request.pos,
-                request.pos + request.len as u64,
-            )
-        } else {
-            TrimMode::Lead
-        },
-        skip: skip_behind(settings, place.skip, jumped, turn),
-    }
+    place.cursor = cursor_behind(settings, phase, *place, top, request, turn, jumped);
+    place.mode = if phase == Phase::Trimming {
+        mode_behind(
+            place.mode,
+            !turn.failed(),
+            more,
+            request.pos,
+            request.pos + request.len as u64,
+        )
+    } else {
+        TrimMode::Lead
+    };
+    place.skip = skip_behind(settings, place.skip, jumped, turn);
 }
 
 /// The cursor behind a read.

@@ -18,7 +18,7 @@ ghost use Rattle.rescue_core.specs.TurnParts.{Advances};
 ghost use Rattle.rescue_core.specs.Closing.{Closes, MayClose, Saves, drafting_after, last_pieces};
 
 use crate::closing::{Closed, end_saved, last_shown};
-use crate::counts::{counts_at_first, counts_behind};
+use crate::counts::{count_behind, counts_at_first};
 use crate::gather::{Gathered, gather};
 use crate::limit::limit_met;
 use crate::line::{say_last, say_phase};
@@ -28,7 +28,7 @@ use crate::request::{leads_up, next_lead, next_request};
 use crate::save_now::{save_now, save_or_sync};
 use crate::settings::Settings;
 use crate::state::{Place, Tally};
-use crate::tally::{Tallied, shown_at, tally_behind};
+use crate::tally::{Due, shown_at, tally_behind};
 use crate::turn::{Advanced, Turn};
 use crate::wanted::trims_on;
 use block_list::tiles::Tiles;
@@ -311,8 +311,8 @@ impl<T: Tiles> Running<T> {
             domain: &self.domain,
             over: self.tally.over,
         };
-        self.counts = counts_behind(
-            self.counts,
+        count_behind(
+            &mut self.counts,
             live,
             &self.tiles,
             self.phase,
@@ -321,22 +321,17 @@ impl<T: Tiles> Running<T> {
             met,
         );
         let more = trims_on(live, &self.tiles, self.phase, end);
-        self.place = place_behind(
+        place_behind(
             &self.settings,
             self.phase,
-            self.place,
+            &mut self.place,
             self.tiles.end(),
             request,
             turn,
             more,
         );
         let shown = shown_at(self.phase, self.place);
-        let Tallied {
-            tally,
-            speaks,
-            saves,
-        } = tally_behind(self.tally, turn, after, shown, met);
-        self.tally = tally;
+        let Due { speaks, saves } = tally_behind(&mut self.tally, turn, after, shown, met);
         Ok(Advanced {
             turn,
             speaks,

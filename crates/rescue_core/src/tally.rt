@@ -1,5 +1,5 @@
 //! What a run has come to behind a read.
-ghost use Rattle.std.specs.Prelude.{◌≡◌, ℕ, Some, None, ◌+◌, ◌*◌, ◌/◌, ◌<◌, ◌≤◌, ◌^◌, length};
+ghost use Rattle.std.specs.Prelude.{◌≡◌, ℕ, ◌+◌, ◌*◌, ◌/◌, ◌<◌, ◌≤◌, ◌^◌, length};
 ghost use Rattle.faulty_source.specs.Got.{count_of, is_end};
 ghost use Rattle.faulty_source.specs.Journal.{kept as kept_by};
 ghost use Rattle.rescue_rules.specs.Passes.{numbered, current_of};
@@ -52,67 +52,60 @@ pub(crate) fn turn_behind(
     }
 }
 
-/// Whether a save is due behind a read at this time.
-fn is_due(tally: Tally, after: u64) -> bool
-    ensures { (m : Machine) (e : Event) → m.due_at ≡ tally.due_at → e.after ≡ after → result ≡ is_timely m e }
+/// Whether a save is due behind a read at this time, by when the last one was.
+fn is_due(due_at: u64, after: u64) -> bool
+    ensures { (m : Machine) (e : Event) → m.due_at ≡ due_at → e.after ≡ after → result ≡ is_timely m e }
 {
-    after.saturating_sub(tally.due_at) >= SAVE_INTERVAL
+    after.saturating_sub(due_at) >= SAVE_INTERVAL
 }
 
-/// What a run has come to behind a read.
-pub(crate) struct Tallied {
-    pub tally: Tally,
+/// What is due behind a read.
+pub(crate) struct Due {
     /// Whether a line is due, and whether it is time for a save.
     pub speaks: bool,
     pub saves: bool,
 }
 
-/// What a run has come to behind a read at this time, which met the input's end there if it did.
+/// Counts what a run has come to behind a read at this time, which met the input's end there if it did.
+#[inline(always)]
 pub(crate) fn tally_behind(
-    tally: Tally,
+    tally: &mut Tally,
     turn: Turn,
     after: u64,
     shown: MapState,
     end: Option<u64>,
-) -> Tallied
-    ensures tally { (r : RunState) (e : Event) → tally ≡ tally_of r.machine → turn ≡ turn_of r e → e.after ≡ after
-        → shown ≡ (step (setting_in r) r.machine e).shown → end ≡ end_met e.reading
-        → result.tally ≡ tally_of (step (setting_in r) r.machine e) }
-    ensures speaks { result.speaks ≡ line_due tally.said shown.current (after / 1000) }
-    ensures saves { (m : Machine) (e : Event) → m.due_at ≡ tally.due_at → e.after ≡ after
+) -> Due
+    ensures tally { (r : RunState) (e : Event) → tally.old ≡ tally_of r.machine → turn ≡ turn_of r e
+        → e.after ≡ after → shown ≡ (step (setting_in r) r.machine e).shown → end ≡ end_met e.reading
+        → tally.new ≡ tally_of (step (setting_in r) r.machine e) }
+    ensures speaks { result.speaks ≡ line_due tally.old.said shown.current (after / 1000) }
+    ensures saves { (m : Machine) (e : Event) → m.due_at ≡ tally.old.due_at → e.after ≡ after
         → result.saves ≡ is_timely m e }
 {
     let second = after / 1000;
     let speaks = is_line_due(tally.said, shown.current, second);
-    let saves = is_due(tally, after);
-    let tally = Tally {
-        failed: if turn.failed() {
-            tally.failed.saturating_add(1)
-        } else {
-            tally.failed
-        },
-        began: tally.began,
-        now: after,
-        whole_at: if turn.failed() { tally.whole_at } else { after },
-        due_at: if saves { after } else { tally.due_at },
-        shown,
-        over: earlier(tally.over, end),
-        written: tally.written.saturating_add(turn.kept),
-        said: if speaks {
-            Some(Said {
-                current: shown.current,
-                second,
-            })
-        } else {
-            tally.said
-        },
-        first_areas: tally.first_areas,
-    };
-    Tallied {
-        tally,
-        speaks,
-        saves,
+    let saves = is_due(tally.due_at, after);
+    if turn.failed() {
+        tally.failed = tally.failed.saturating_add(1);
+    } else {
+        tally.whole_at = after;
     }
+    tally.now = after;
+    tally.shown = shown;
+    tally.written = tally.written.saturating_add(turn.kept);
+    if saves {
+        tally.due_at = after;
+    }
+    if speaks {
+        tally.said = Some(Said {
+            current: shown.current,
+            second,
+        });
+    }
+    if let Some(end) = end {
+        tally.over = Some(earlier(tally.over, end));
+    }
+    Due { speaks, saves }
 }
 
 /// Whether a line is due behind an event, in this phase and this second.
@@ -125,15 +118,13 @@ fn is_line_due(said: Option<Said>, current: Current, second: u64) -> bool
     }
 }
 
-/// The earlier of two ends, if there are any.
-fn earlier(over: Option<u64>, end: Option<u64>) -> Option<u64>
-    ensures met { (at : ℕ) → end ≡ Some at → result ≡ Some (earlier over at) }
-    ensures none { end ≡ None → result ≡ over }
+/// The earlier of two ends, if there is another.
+fn earlier(over: Option<u64>, end: u64) -> u64
+    ensures { result ≡ earlier over end }
 {
-    match (over, end) {
-        (Some(over), Some(end)) => Some(over.min(end)),
-        (None, end) => end,
-        (over, None) => over,
+    match over {
+        None => end,
+        Some(over) => over.min(end),
     }
 }
 

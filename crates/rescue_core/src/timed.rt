@@ -21,6 +21,7 @@ pub(crate) struct Timed {
 }
 
 /// Reads what is requested, once, to the buffer's front, between two readings of the clock.
+#[inline(always)]
 pub(crate) fn read_timed<S: Source, K: Clock>(
     source: &mut S,
     clock: &mut K,

@@ -64,14 +64,14 @@ overflow_add-end g c =
     let fits = begins_fits _ _ _ _ begins in
     omega (arith, fits.short)
 
-pub place_behind-self-inside-requires-clause-given : goal.place_behind-self-inside-requires-clause-given
-place_behind-self-inside-requires-clause-given g c =
+pub place_behind-requires-clause-given : goal.place_behind-requires-clause-given
+place_behind-requires-clause-given g c =
     let p : Parts = parts_of _ g.T.Tiles.statuses c.self.inside in
     let got = c.in_ok-kept.ensures.gathered in
     omega (arith, ap (λ (turn : Turn). turn.given) (got.turn (run_of p) refl), got.is.few)
 
-pub place_behind-self-inside-requires-clause-within : goal.place_behind-self-inside-requires-clause-within
-place_behind-self-inside-requires-clause-within g c =
+pub place_behind-requires-clause-within : goal.place_behind-requires-clause-within
+place_behind-requires-clause-within g c =
     let p : Parts = parts_of _ g.T.Tiles.statuses c.self.inside in
     let begins = begins_of _ g.T.Tiles.statuses c.self.inside c.args.self.now c.args.request c.self.view_is c.self.invariant.0
     c.requires.places c.requires.request in
@@ -87,7 +87,7 @@ invariant_of-self-2 g c =
     let begins = begins_of _ g.T.Tiles.statuses c.self.inside c.args.self.now c.args.request c.self.view_is c.self.invariant.0
     c.requires.places c.requires.request in
     let does : Does p c.args.request c.in_ok-kept.field-0 (g.T.Tiles.statuses c.mark-met.new.tiles)
-    c.place_behind-self-inside.result c.tally_behind-speaks.result.tally = record {
+    c.place_behind.new.place c.tally_behind-speaks.new.tally = record {
       old = g.T.Tiles.statuses c.reserve.new.self;
       old_is = c.reserve.ensures.statuses;
       marks = c.mark-met.ensures.map;
@@ -97,7 +97,7 @@ invariant_of-self-2 g c =
       more_is = c.trims_on-more.ensures;
       top = c.end.result;
       top_is = c.end.ensures.end;
-      places = c.place_behind-self-inside.ensures;
+      places = c.place_behind.ensures;
       shown = c.shown_at-shown.result;
       shown_is = c.shown_at-shown.ensures;
       tallies = c.tally_behind-speaks.ensures.tally;
@@ -107,11 +107,11 @@ invariant_of-self-2 g c =
     let room = room_same c.self.inside.buf.len c.gather.new.buf _ c.self.inside.buf.items c.deref_mut.ensures.len
     c.deref_mut.ensures.value c.gather.ensures.same in (
       subst (λ n. IsRunning (run_of (parts_behind p (g.T.Tiles.statuses c.mark-met.new.tiles)
-          c.place_behind-self-inside.result c.tally_behind-speaks.result.tally)) n) (sym room) running,
+          c.place_behind.new.place c.tally_behind-speaks.new.tally)) n) (sym room) running,
       c.self.invariant.1,
       does_counted p c.args.self.now _ c.args.request c.in_ok-kept.field-0 _ _ _ c.self.inside.counts
-          c.counts_behind-self-inside.result _ _ _ _ _ _ _ begins c.in_ok-kept.ensures.gathered does c.self.invariant.2
-          refl refl c.counts_behind-self-inside.ensures,
+          c.count_behind.new.counts _ _ _ _ _ _ _ begins c.in_ok-kept.ensures.gathered does c.self.invariant.2
+          refl refl c.count_behind.ensures,
     )
 
 pub returns-clause-advanced : goal.returns-clause-advanced
@@ -120,7 +120,7 @@ returns-clause-advanced g c =
     let begins = begins_of _ g.T.Tiles.statuses c.self.inside c.args.self.now c.args.request c.self.view_is c.self.invariant.0
     c.requires.places c.requires.request in
     let does : Does p c.args.request c.in_ok-kept.field-0 (g.T.Tiles.statuses c.mark-met.new.tiles)
-    c.place_behind-self-inside.result c.tally_behind-speaks.result.tally = record {
+    c.place_behind.new.place c.tally_behind-speaks.new.tally = record {
       old = g.T.Tiles.statuses c.reserve.new.self;
       old_is = c.reserve.ensures.statuses;
       marks = c.mark-met.ensures.map;
@@ -130,7 +130,7 @@ returns-clause-advanced g c =
       more_is = c.trims_on-more.ensures;
       top = c.end.result;
       top_is = c.end.ensures.end;
-      places = c.place_behind-self-inside.ensures;
+      places = c.place_behind.ensures;
       shown = c.shown_at-shown.result;
       shown_is = c.shown_at-shown.ensures;
       tallies = c.tally_behind-speaks.ensures.tally;

@@ -4,7 +4,7 @@ use Rattle.rescue_rules.specs.Step.{is_copying}
 use Rattle.faulty_source.specs.Journal.{is_failed}
 use Rattle.rescue_core.specs.RunState.{setting_in}
 use Rattle.rescue_core.proofs.CountsLemmas.{reads_of, small_counts, comes_at, goes_at}
-use Rattle.rescue_core.proofs.counts.failed_behind.Goals as goal
+use Rattle.rescue_core.proofs.counts.fail_behind.Goals as goal
 
 pub returns-then-failed : goal.returns-then-failed
 returns-then-failed g c = λ r e was is.
