@@ -1,18 +1,22 @@
 -- A first part of calls, of which the last may have failed, and what holds at every stop within it.
 use Rattle.std.specs.Bool.{⊤}
-use Rattle.std.proofs.Common.{◌≡◌, ℕ, zero, suc, ◌+◌, Bool, true, false, cond, List, [], ◌∷◌, ◌++◌, take, map, refl, sym, ap, ◌∙◌, subst, arith, inl, inr}
+use Rattle.std.proofs.Common.{◌≡◌, ◌⊎◌, ℕ, zero, suc, ◌+◌, Bool, true, false, cond, List, [], ◌∷◌, ◌++◌, take, map, refl, sym, ap, ◌∙◌, subst, arith, inl, inr}
 use Rattle.std.specs.List.{count_by, fold}
-use Rattle.crash_site.specs.Calls.{Call, image_open, image_read, image_write, image_sync, map_read, draft_begin, draft_append, draft_sync, draft_publish, map_settle, map_remove, Entry, Done, Failed, Lost}
+use Rattle.crash_site.specs.Calls.{Call, image_open, image_read, image_write, image_sync, map_read, draft_begin, draft_append, draft_sync, draft_publish, map_settle, map_remove, unanswered, Entry, Done, Failed, Lost}
 use Rattle.crash_site.specs.Disk.{Disk, entered, disk_after}
 use Rattle.crash_site.specs.Left.{until}
 use Rattle.rescue_rules.specs.Stops.{is_settle, is_publish, is_write}
+
+-- an entry that failed is of this call, with the answer or without it
+abbrev pub IsOf : Call → Call → Type 0
+IsOf c x = (x ≡ c) ⊎ (x ≡ unanswered c)
 
 -- the record has the first of these calls, and perhaps one more that failed
 abbrev pub Cut : List Call → List Entry → Type 0
 Cut calls [] = ⊤
 Cut [] (e ∷ es) = ⊥
 Cut (c ∷ cs) (Done x ∷ es) = (x ≡ c) × Cut cs es
-Cut (c ∷ cs) (Failed x ∷ es) = (x ≡ c) × (es ≡ [])
+Cut (c ∷ cs) (Failed x ∷ es) = IsOf c x × (es ≡ [])
 
 pub cut_all : (cs : List Call) → Cut cs (map Done cs)
 cut_all [] = tt
@@ -23,7 +27,7 @@ cut_front [] more = tt
 cut_front (c ∷ cs) more = (refl, cut_front cs more)
 
 pub cut_lost : (cs : List Call) (c : Call) (more : List Call) → Cut (cs ++ c ∷ more) (map Done cs ++ Failed c ∷ [])
-cut_lost [] c more = (refl, refl)
+cut_lost [] c more = (inl refl, refl)
 cut_lost (x ∷ cs) c more = (refl, cut_lost cs c more)
 
 pub cut_more : (cs more : List Call) (es : List Entry) → Cut cs es → Cut (cs ++ more) es
@@ -113,6 +117,56 @@ at_failed P r p w d c zero h = h
 at_failed P r p w d c (suc zero) h = h
 at_failed P r p w d c (suc (suc k)) h = h
 
+-- a call that failed does the same whether it is listed with its answer or without
+pub unanswered_disk : (d : Disk) (c : Call) → entered d (Failed (unanswered c)) ≡ entered d (Failed c)
+unanswered_disk d (image_open name make) = refl
+unanswered_disk d (image_read pos asked answer) = refl
+unanswered_disk d (image_write pos piece) = refl
+unanswered_disk d image_sync = refl
+unanswered_disk d (map_read name pos asked answer) = refl
+unanswered_disk d (draft_begin name) = refl
+unanswered_disk d (draft_append piece) = refl
+unanswered_disk d draft_sync = refl
+unanswered_disk d (draft_publish name) = refl
+unanswered_disk d (map_settle name) = refl
+unanswered_disk d (map_remove name) = refl
+
+pub lost_disk : (P : Disk → Type 0) (d : Disk) (c x : Call) → IsOf c x → P (entered d (Failed c)) → P (entered d (Failed x))
+lost_disk P d c x (inl is) h = subst (λ (z : Call). P (entered d (Failed z))) (sym is) h
+lost_disk P d c x (inr is) h =
+    subst (λ (z : Call). P (entered d (Failed z))) (sym is) (subst P (sym (unanswered_disk d c)) h)
+
+unanswered_alike : (P : ℕ → ℕ → ℕ → Disk → Type 0) (r p w : ℕ) (d : Disk) (c : Call)
+    → P r (add (is_publish (Failed c)) p) (add (is_write (Failed c)) w) (entered d (Failed c))
+    → P r (add (is_publish (Failed (unanswered c))) p) (add (is_write (Failed (unanswered c))) w)
+    (entered d (Failed (unanswered c)))
+unanswered_alike P r p w d (image_open name make) h = h
+unanswered_alike P r p w d (image_read pos asked answer) h = h
+unanswered_alike P r p w d (image_write pos piece) h = h
+unanswered_alike P r p w d image_sync h = h
+unanswered_alike P r p w d (map_read name pos asked answer) h = h
+unanswered_alike P r p w d (draft_begin name) h = h
+unanswered_alike P r p w d (draft_append piece) h = h
+unanswered_alike P r p w d draft_sync h = h
+unanswered_alike P r p w d (draft_publish name) h = h
+unanswered_alike P r p w d (map_settle name) h = h
+unanswered_alike P r p w d (map_remove name) h = h
+
+at_lost : (P : ℕ → ℕ → ℕ → Disk → Type 0) (r p w : ℕ) (d : Disk) (c x : Call) (k : ℕ) → IsOf c x
+    → P r (add (is_publish (Failed c)) p) (add (is_write (Failed c)) w) (entered d (Failed c))
+    → P (tally is_settle (take k (Failed x ∷ [])) r) (tally is_publish (take (suc k) (Failed x ∷ [])) p)
+    (tally is_write (take (suc k) (Failed x ∷ [])) w) (disk_after d (until k (Failed x ∷ [])))
+at_lost P r p w d c x k (inl is) h =
+    subst (λ (z : Call). P (tally is_settle (take k (Failed z ∷ [])) r)
+    (tally is_publish (take (suc k) (Failed z ∷ [])) p)
+    (tally is_write (take (suc k) (Failed z ∷ [])) w) (disk_after d (until k (Failed z ∷ [])))) (sym is)
+    (at_failed P r p w d c k h)
+at_lost P r p w d c x k (inr is) h =
+    subst (λ (z : Call). P (tally is_settle (take k (Failed z ∷ [])) r)
+    (tally is_publish (take (suc k) (Failed z ∷ [])) p)
+    (tally is_write (take (suc k) (Failed z ∷ [])) w) (disk_after d (until k (Failed z ∷ [])))) (sym is)
+    (at_failed P r p w d (unanswered c) k (unanswered_alike P r p w d c h))
+
 -- So it holds at every stop.
 pub at_stop : (P : ℕ → ℕ → ℕ → Disk → Type 0) (r p w : ℕ) (d : Disk) (cs : List Call) (es : List Entry) (k : ℕ)
     → Each P r p w d cs → Cut cs es
@@ -145,7 +199,4 @@ at_stop P r p w d (c ∷ cs) (Failed x ∷ es) k h cut =
     subst (λ (l : List Entry). P (tally is_settle (take k (Failed x ∷ l)) r)
     (tally is_publish (take (suc k) (Failed x ∷ l)) p)
     (tally is_write (take (suc k) (Failed x ∷ l)) w) (disk_after d (until k (Failed x ∷ l)))) (sym cut.1)
-    (subst (λ (z : Call). P (tally is_settle (take k (Failed z ∷ [])) r)
-    (tally is_publish (take (suc k) (Failed z ∷ [])) p)
-    (tally is_write (take (suc k) (Failed z ∷ [])) w) (disk_after d (until k (Failed z ∷ [])))) (sym cut.0)
-    (at_failed P r p w d c k h.1))
+    (at_lost P r p w d c x k cut.0 h.1)

@@ -164,7 +164,7 @@ pub record Unfinished (s : Setting) (map : List Status) (y : ℕ) : Type 0 where
   pub at : place s x ≡ y
 
 -- such a file matches another in all but such places
-loose_same : (f : File) (loose : List (ℕ × ℕ)) (g : File) (y : ℕ) → Matches f loose g → (IsLoose loose y → ⊥)
+pub loose_same : (f : File) (loose : List (ℕ × ℕ)) (g : File) (y : ℕ) → Matches f loose g → (IsLoose loose y → ⊥)
     → y < length f.bytes → slice_get g.bytes y ≡ slice_get f.bytes y
 loose_same f loose g y m firm within =
     ⊎_elim (λ (off : IsLoose loose y). absurd (firm off))

@@ -9,9 +9,12 @@ pub mod MapfileLemmas
 pub mod BarrierLemmas
 pub mod GoesLemmas
 pub mod BeforeLemmas
+pub mod SafeLemmas
 pub mod MapReadLemmas
+pub mod StopsByLemmas
 pub mod StopsLemmas
 pub mod OthersLemmas
+pub mod UnwrittenLemmas
 pub mod PromiseLemmas
 pub mod RequestLemmas
 pub mod MoveLemmas
@@ -26,6 +29,9 @@ pub mod HoldLemmas
 pub mod SaveStages
 pub mod FitLemmas
 pub mod MoveStages
+pub mod DeedStages
+pub mod KeepLemmas
+pub mod RunDeedLemmas
 pub mod RunStopLemmas
 pub mod SnapshotLemmas
 pub mod SetLemmas

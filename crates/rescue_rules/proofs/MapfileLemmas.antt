@@ -1,4 +1,4 @@
--- The calls of a rescue with a mapfile.
+-- The calls of a run with a mapfile.
 use Rattle.std.proofs.Common.{◌≡◌, ℕ, Bool, true, List, [], ◌∷◌, Option, None, if◌then◌else◌, ap}
 use Rattle.crash_site.specs.Files.{File}
 use Rattle.crash_site.specs.Calls.{Call, image_open, image_sync}
@@ -12,9 +12,12 @@ use Rattle.rescue_rules.specs.Snapshots.{text_of, last_snapshot}
 use Rattle.rescue_rules.specs.RunCalls.{end_calls}
 use Rattle.rescue_rules.specs.Work.{opening_calls, mapfile_in}
 
--- its opening and its last save
+-- its opening, which makes an output that is absent, or doesn't; a rescue's; and a rescue's last save
+abbrev pub opening_by : Setting → (makes : Bool) → List Call
+opening_by s makes = image_open s.outfile makes ∷ barrier_calls s.names
+
 abbrev pub settling_calls : Setting → List Call
-settling_calls s = image_open s.outfile true ∷ barrier_calls s.names
+settling_calls s = opening_by s true
 
 abbrev pub last_save : Setting → Machine → List Event → List Call
 last_save s m es = save_calls s.names (text_of s.line (last_snapshot s (state_after s m es)))

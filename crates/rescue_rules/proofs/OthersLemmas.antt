@@ -1,11 +1,11 @@
--- A rescue leaves every other file as it could be found before.
+-- A run leaves every other file as it could be found before.
 use Rattle.std.specs.Bool.{⊤}
-use Rattle.std.proofs.Common.{◌≡◌, ◌≢◌, inl, inr, ⊎_elim, ℕ, ◌+◌, Bool, true, false, nat_eq, if◌then◌else◌, List, [], ◌∷◌, ◌++◌, length, map, take, Option, Some, None, refl, sym, ◌∙◌, ap, subst, append_assoc, append-nil}
+use Rattle.std.proofs.Common.{◌≡◌, ◌≢◌, inl, inr, ⊎_elim, ℕ, suc, ◌+◌, Bool, true, false, List, [], ◌∷◌, ◌++◌, length, map, Option, Some, None, refl, sym, ◌∙◌, ap, subst, append_assoc, append-nil}
+use Rattle.std.specs.List.{flat_map}
 use Rattle.std.specs.Str.{bytes_eq}
 use Rattle.std.proofs.lemmas.Bool.{cases_Bool, cond-true, cond-false}
 use Rattle.std.proofs.lemmas.Option.{same_Some}
 use Rattle.mapfile_text.specs.Pieces.{pieces_of}
-use Rattle.faulty_source.specs.Journal.{Reading, kept}
 use Rattle.crash_site.specs.declared.site.MapRead.{MapRead}
 use Rattle.crash_site.specs.Files.{File, put}
 use Rattle.crash_site.specs.Calls.{Call, Entry, Done, Failed, image_open, image_read, image_write, image_sync, map_read, draft_begin, draft_append, draft_sync, draft_publish, map_settle, map_remove}
@@ -16,26 +16,26 @@ use Rattle.crash_site.proofs.DiskLemmas.{same_name}
 use Rattle.crash_site.proofs.LawLemmas.{at_other, some_other, part_other}
 use Rattle.save_resume.specs.Saving.{save_calls}
 use Rattle.save_resume.specs.Loading.{piece_size, piece_reads}
-use Rattle.rescue_rules.specs.Setting.{Setting, place}
-use Rattle.rescue_rules.specs.Machine.{Machine}
-use Rattle.rescue_rules.specs.Step.{Event}
-use Rattle.rescue_rules.specs.Moves.{Move, move_of}
-use Rattle.rescue_rules.specs.Snapshots.{text_of, snapshot_of, last_snapshot, is_due}
-use Rattle.rescue_rules.specs.RunCalls.{write_calls, due_calls, move_calls, run_calls}
-use Rattle.rescue_rules.specs.Moves.{state_after}
+use Rattle.rescue_rules.specs.Setting.{Setting}
+use Rattle.rescue_rules.specs.Snapshots.{Snapshot, text_of}
+use Rattle.rescue_rules.specs.Deeds.{Deed, save_of, deed_calls, image_after, WritesAt, KeepsOn, KeepsUp}
 use Rattle.rescue_rules.specs.Stops.{Behind, is_settle, is_publish, is_write}
 use Rattle.rescue_rules.proofs.CutLemmas.{Cut, Each, at_stop, add}
 use Rattle.rescue_rules.proofs.SaveStages.{put_own, image_apart, image_stays}
-use Rattle.rescue_rules.proofs.BarrierLemmas.{opened_image, at_open, at_settle, at_barrier}
-use Rattle.rescue_rules.proofs.MapfileLemmas.{settling_calls, last_save}
-use Rattle.rescue_rules.proofs.GoesLemmas.{all_calls, reads_of}
+use Rattle.rescue_rules.proofs.BarrierLemmas.{Opens, opens_image, at_open, at_settle, at_barrier}
+use Rattle.rescue_rules.proofs.MapfileLemmas.{opening_by}
+use Rattle.rescue_rules.proofs.DeedStages.{last_calls, all_calls}
 use Rattle.rescue_rules.proofs.BeforeLemmas.{disk_before, sound_before, left_before}
 
--- a name that is none of a rescue's
+-- a name that is none of a run's
 pub record IsOther (s : Setting) (name : List ℕ) : Type 0 where
   pub output : name ≢ s.outfile
   pub map : name ≢ s.names.map
   pub draft : name ≢ s.names.draft
+
+-- a load's reads
+abbrev pub reads_of : Setting → List ℕ → ℕ → Option MapRead → List Call
+reads_of s given at answer = piece_reads s.names.map 0 given ++ map_read s.names.map at piece_size answer ∷ []
 
 -- what is shown there
 abbrev Shows : List ℕ → Showing → ℕ → ℕ → ℕ → Disk → Type 0
@@ -44,7 +44,7 @@ Shows name v r p w d = d.shows name ≡ v
 -- a call that a run behind the barrier makes, where a draft of its own is begun or not
 abbrev pub IsOfRun : Setting → (drafting : Bool) → Call → Type 0
 IsOfRun s b (image_open name make) = ⊥
-IsOfRun s b (image_read pos asked answer) = ⊥
+IsOfRun s b (image_read pos asked answer) = ⊤
 IsOfRun s b (image_write pos piece) = ⊤
 IsOfRun s b image_sync = ⊤
 IsOfRun s b (map_read name pos asked answer) = ⊤
@@ -66,9 +66,9 @@ AreOfRun s b [] = ⊤
 AreOfRun s b (c ∷ cs) = IsOfRun s b c × AreOfRun s (drafts c b) cs
 
 -- the image is the output, and where a draft is begun it has its own name
-record AtRun (s : Setting) (b : Bool) (d : Folder) : Type 0 where
-  image : d.image ≡ Some s.outfile
-  draft : b ≡ true → d.draft ≡ Some s.names.draft
+pub record AtRun (s : Setting) (b : Bool) (d : Folder) : Type 0 where
+  pub image : d.image ≡ Some s.outfile
+  pub draft : b ≡ true → d.draft ≡ Some s.names.draft
 
 draft_is : (s : Setting) (d : Folder) (name : List ℕ) → d.draft ≡ Some s.names.draft → IsOther s name
     → d.draft ≡ Some name → ⊥
@@ -78,7 +78,7 @@ draft_is s d name at other is = other.draft (same_Some name s.names.draft (sym i
 aside : (s : Setting) (b : Bool) (d : Disk) (call : Call) (name : List ℕ) → IsOfRun s b call → AtRun s b d.reads
     → IsOther s name → (entered d (Done call)).shows name ≡ d.shows name
 aside s b d (image_open n make) name of at other = absurd of
-aside s b d (image_read pos asked answer) name of at other = absurd of
+aside s b d (image_read pos asked answer) name of at other = refl
 aside s b d (image_write pos piece) name of at other =
     part_other d (image_write pos piece) name (image_apart d.reads.image s.outfile name at.image (λ e. other.output (sym e)))
 aside s b d image_sync name of at other =
@@ -98,7 +98,7 @@ aside s b d (map_remove n) name of at other = absurd of
 aside_failed : (s : Setting) (b : Bool) (d : Disk) (call : Call) (name : List ℕ) → IsOfRun s b call → AtRun s b d.reads
     → IsOther s name → (entered d (Failed call)).shows name ≡ d.shows name
 aside_failed s b d (image_open n make) name of at other = absurd of
-aside_failed s b d (image_read pos asked answer) name of at other = absurd of
+aside_failed s b d (image_read pos asked answer) name of at other = refl
 aside_failed s b d (image_write pos piece) name of at other = aside s b d (image_write pos piece) name of at other
 aside_failed s b d image_sync name of at other = refl
 aside_failed s b d (map_read n pos asked answer) name of at other = refl
@@ -114,10 +114,10 @@ append_draft d None piece = refl
 append_draft d (Some n) piece = refl
 
 -- the image and the draft behind such a call
-run_image : (s : Setting) (b : Bool) (d : Disk) (call : Call) → IsOfRun s b call → AtRun s b d.reads
+pub run_image : (s : Setting) (b : Bool) (d : Disk) (call : Call) → IsOfRun s b call → AtRun s b d.reads
     → (entered d (Done call)).reads.image ≡ Some s.outfile
 run_image s b d (image_open n make) of at = absurd of
-run_image s b d (image_read pos asked answer) of at = absurd of
+run_image s b d (image_read pos asked answer) of at = at.image
 run_image s b d (image_write pos piece) of at = image_stays d (Done (image_write pos piece)) tt ∙ at.image
 run_image s b d image_sync of at = at.image
 run_image s b d (map_read n pos asked answer) of at = at.image
@@ -132,10 +132,10 @@ write_draft : (d : Folder) (o : Option (List ℕ)) (pos : ℕ) (piece : List ℕ
 write_draft d None pos piece = refl
 write_draft d (Some n) pos piece = refl
 
-run_draft : (s : Setting) (b : Bool) (d : Disk) (call : Call) → IsOfRun s b call → AtRun s b d.reads → drafts call b ≡ true
+pub run_draft : (s : Setting) (b : Bool) (d : Disk) (call : Call) → IsOfRun s b call → AtRun s b d.reads → drafts call b ≡ true
     → (entered d (Done call)).reads.draft ≡ Some s.names.draft
 run_draft s b d (image_open n make) of at on = absurd of
-run_draft s b d (image_read pos asked answer) of at on = absurd of
+run_draft s b d (image_read pos asked answer) of at on = at.draft on
 run_draft s b d (image_write pos piece) of at on = write_draft d.reads d.reads.image pos piece ∙ at.draft on
 run_draft s b d image_sync of at on = at.draft on
 run_draft s b d (map_read n pos asked answer) of at on = at.draft on
@@ -160,7 +160,7 @@ each_aside s b name v r p w d (c ∷ cs) of other at h = (
 )
 
 -- calls that may stand in front of others in a run, whether a draft is begun or not
-abbrev Leads : Setting → List Call → Type 0
+abbrev pub Leads : Setting → List Call → Type 0
 Leads s calls = (b : Bool) (rest : List Call) → ((b' : Bool) → AreOfRun s b' rest) → AreOfRun s b (calls ++ rest)
 
 leads_join : (s : Setting) (xs ys : List Call) → Leads s xs → Leads s ys → Leads s (xs ++ ys)
@@ -190,88 +190,47 @@ save_leads s text b rest go =
 none_lead : (s : Setting) → Leads s []
 none_lead s b rest go = go b
 
-if_leads : (s : Setting) (on : Bool) (calls : List Call) → Leads s calls → Leads s (if on then calls else [])
-if_leads s true calls h = h
-if_leads s false calls h = none_lead s
+save_of_leads : (s : Setting) (save : Option Snapshot) → Leads s (save_of s save)
+save_of_leads s None = none_lead s
+save_of_leads s (Some p) = save_leads s (text_of s.line p)
 
-unless_leads : (s : Setting) (on : Bool) (calls : List Call) → Leads s calls → Leads s (if on then [] else calls)
-unless_leads s true calls h = none_lead s
-unless_leads s false calls h = h
+writes_lead : (s : Setting) (free : ℕ → Type 0) (calls : List Call) → WritesAt free calls → Leads s calls
+writes_lead s free [] at b rest go = go b
+writes_lead s free (image_write pos piece ∷ calls) at b rest go = (tt, writes_lead s free calls at.1 b rest go)
+writes_lead s free (image_read pos asked answer ∷ calls) at b rest go = (tt, writes_lead s free calls at b rest go)
+writes_lead s free (image_open name make ∷ calls) at b rest go = absurd at
+writes_lead s free (image_sync ∷ calls) at b rest go = absurd at
+writes_lead s free (map_read name pos asked answer ∷ calls) at b rest go = absurd at
+writes_lead s free (draft_begin name ∷ calls) at b rest go = absurd at
+writes_lead s free (draft_append piece ∷ calls) at b rest go = absurd at
+writes_lead s free (draft_sync ∷ calls) at b rest go = absurd at
+writes_lead s free (draft_publish name ∷ calls) at b rest go = absurd at
+writes_lead s free (map_settle name ∷ calls) at b rest go = absurd at
+writes_lead s free (map_remove name ∷ calls) at b rest go = absurd at
 
-move_leads : (s : Setting) (v : Move) → Leads s (move_calls s v)
-move_leads s v =
-    let r : Reading = v.event.reading in
-    leads_join s (write_calls s r) (due_calls s v)
-    (unless_leads s (nat_eq (kept s.sector r) 0) (image_write (place s r.pos) (take (kept s.sector r) r.given) ∷ [])
-    (λ b rest go. (tt, go b)))
-    (if_leads s (is_due s v) (save_calls s.names (text_of s.line (snapshot_of v.after)))
-    (save_leads s (text_of s.line (snapshot_of v.after))))
+-- how it goes on behind a save, or none
+kept_on : (promise : ℕ → List ℕ → Type 0) (n : ℕ) (image : List ℕ) (save : Option Snapshot) (next : ℕ → Type 0)
+    → KeepsOn promise n image save next → (m : ℕ) × next m
+kept_on promise n image None next h = (n, h)
+kept_on promise n image (Some p) next h = (suc n, h.1)
 
-run_leads : (s : Setting) (m : Machine) (es : List Event) → Leads s (run_calls s m es)
-run_leads s m [] = none_lead s
-run_leads s m (e ∷ es) =
-    leads_join s (move_calls s (move_of s m e)) (run_calls s (move_of s m e).after es) (move_leads s (move_of s m e))
-    (run_leads s (move_of s m e).after es)
+pub deeds_lead : (s : Setting) (promise : ℕ → List ℕ → Type 0) (free : ℕ → ℕ → Type 0) (deeds : List Deed) (n : ℕ)
+    (image : List ℕ) → KeepsUp promise free n image deeds → Leads s (flat_map (deed_calls s) deeds)
+deeds_lead s promise free [] n image h = none_lead s
+deeds_lead s promise free (d ∷ ds) n image h =
+    let after : List ℕ = image_after image d.calls in
+    let on = kept_on promise n after d.save (λ m. KeepsUp promise free m after ds) h.1 in
+    leads_join s (deed_calls s d) (flat_map (deed_calls s) ds)
+    (leads_join s d.calls (save_of s d.save) (writes_lead s (free n) d.calls h.0) (save_of_leads s d.save))
+    (deeds_lead s promise free ds on.0 after on.1)
 
-all_of_run : (s : Setting) (m : Machine) (es : List Event) (given : List ℕ) (at : ℕ) (answer : Option MapRead)
-    → AreOfRun s false (reads_of s given at answer ++ all_calls s m es)
-all_of_run s m es given at answer =
-    subst (λ (l : List Call). AreOfRun s false (reads_of s given at answer ++ (run_calls s m es ++ l)))
-    (append-nil (last_save s m es))
-    (subst (λ (l : List Call). AreOfRun s false l)
-    (sym (append_assoc (piece_reads s.names.map 0 given) (map_read s.names.map at piece_size answer ∷ [])
-    (run_calls s m es ++ (last_save s m es ++ []))))
-    (pieces_lead s s.names.map 0 given false
-    (map_read s.names.map at piece_size answer ∷ (run_calls s m es ++ (last_save s m es ++ [])))
-    (λ b. (
-      tt,
-      run_leads s m es b (last_save s m es ++ [])
-          (λ b'. save_leads s (text_of s.line (last_snapshot s (state_after s m es))) b' [] (λ b''. tt)),
-    ))))
-
--- over all calls of a rescue
-rescue_aside : (s : Setting) (name : List ℕ) (d : Disk) (m : Machine) (es : List Event) (given : List ℕ) (at : ℕ)
-    (answer : Option MapRead) → IsOther s name
-    → Each (Shows name (d.shows name)) 0 0 0 d (settling_calls s ++ (reads_of s given at answer ++ all_calls s m es))
-rescue_aside s name d m es given at answer other =
-    let v : Showing = d.shows name in
-    let h1 : (at_open s d).shows name ≡ v = at_other d s.outfile name (with_opened true) other.output in
-    let image : (at_settle s d).reads.image ≡ Some s.outfile
-    = opened_image d.reads s.outfile (d.reads.files s.outfile) in
-    let h2 : (at_settle s d).shows name ≡ v
-    = at_other (at_open s d) s.names.map name (λ f v. only f) other.map ∙ h1 in
-    let h3 : (at_barrier s d).shows name ≡ v
-    = some_other (at_settle s d) (at_settle s d).reads.image name (λ f v. only f)
-    (image_apart (at_settle s d).reads.image s.outfile name image (λ e. other.output (sym e))) ∙ h2 in (
-      refl,
-      h1,
-      (
-        h1,
-        h1,
-        (
-          h2,
-          h2,
-          each_aside s false name v 1 0 0 (at_barrier s d) (reads_of s given at answer ++ all_calls s m es)
-              (all_of_run s m es given at answer) other
-              (record { image = image; draft = λ off. absurd (let apart : false ≡ true = off in cc) }) h3,
-        ),
-      ),
-    )
-
--- so what is found there could be found before
-pub others_could : (b : Behind) (s : Setting) (name : List ℕ) (m : Machine) (evs : List Event)
-    (given : List ℕ) (at : ℕ) (answer : Option MapRead) (es : List Entry) (k : ℕ) (files : List ℕ → Option File) → IsOther s name
-    → Cut (settling_calls s ++ (reads_of s given at answer ++ all_calls s m evs)) es
-    → Leaves (disk_after (disk_before b) (until k es)) files
+-- a file that could be found before, with the others as they read
+pub found_could : (b : Behind) (name : List ℕ) (files : List ℕ → Option File)
+    → MayShow ((disk_before b).shows name) (files name)
     → (before : List ℕ → Option File) × MayBeLeft b.start b.earlier (length b.earlier) before ×
     (files name ≡ before name)
-others_could b s name m evs given at answer es k files other cut left =
-    let d : Disk = disk_before b in
-    let same : (disk_after d (until k es)).shows name ≡ d.shows name
-    = at_stop (Shows name (d.shows name)) 0 0 0 d
-    (settling_calls s ++ (reads_of s given at answer ++ all_calls s m evs)) es k
-    (rescue_aside s name d m evs given at answer other) cut in
-    let here : MayShow (d.shows name) (files name) = subst (λ (v : Showing). MayShow v (files name)) same (left name) in (
+found_could b name files here =
+    let d : Disk = disk_before b in (
       put d.reads.files name (files name),
       left_before b (put d.reads.files name (files name))
           (λ n. elim (cases_Bool (bytes_eq n name)) [
@@ -283,3 +242,68 @@ others_could b s name m evs given at answer es k files other cut left =
           ]),
       sym (put_own d.reads.files name (files name)),
     )
+
+module _ (s : Setting) (makes : Bool) (deeds : List Deed) (last : Snapshot) (given : List ℕ) (at : ℕ)
+    (answer : Option MapRead) where
+  pub all_of_run : Leads s (flat_map (deed_calls s) deeds)
+      → AreOfRun s false (reads_of s given at answer ++ all_calls s deeds last)
+  all_of_run lead =
+      let front : List Call = flat_map (deed_calls s) deeds in
+      subst (λ (l : List Call). AreOfRun s false (reads_of s given at answer ++ (front ++ l)))
+      (append-nil (last_calls s last))
+      (subst (λ (l : List Call). AreOfRun s false l)
+      (sym (append_assoc (piece_reads s.names.map 0 given) (map_read s.names.map at piece_size answer ∷ [])
+      (front ++ (last_calls s last ++ []))))
+      (pieces_lead s s.names.map 0 given false
+      (map_read s.names.map at piece_size answer ∷ (front ++ (last_calls s last ++ [])))
+      (λ b. (
+        tt,
+        lead b (last_calls s last ++ [])
+            (λ b'. save_leads s (text_of s.line last) b' [] (λ b''. tt)),
+      ))))
+
+  -- over all calls of a run
+  run_aside : (name : List ℕ) (d : Disk) → IsOther s name → Opens makes (d.reads.files s.outfile)
+      → AreOfRun s false (reads_of s given at answer ++ all_calls s deeds last)
+      → Each (Shows name (d.shows name)) 0 0 0 d
+      (opening_by s makes ++ (reads_of s given at answer ++ all_calls s deeds last))
+  run_aside name d other opens of =
+      let v : Showing = d.shows name in
+      let h1 : (at_open s makes d).shows name ≡ v = at_other d s.outfile name (with_opened makes) other.output in
+      let image : (at_settle s makes d).reads.image ≡ Some s.outfile
+      = opens_image d.reads s.outfile makes (d.reads.files s.outfile) opens in
+      let h2 : (at_settle s makes d).shows name ≡ v
+      = at_other (at_open s makes d) s.names.map name (λ f v. only f) other.map ∙ h1 in
+      let h3 : (at_barrier s makes d).shows name ≡ v
+      = some_other (at_settle s makes d) (at_settle s makes d).reads.image name (λ f v. only f)
+      (image_apart (at_settle s makes d).reads.image s.outfile name image (λ e. other.output (sym e))) ∙ h2 in (
+        refl,
+        h1,
+        (
+          h1,
+          h1,
+          (
+            h2,
+            h2,
+            each_aside s false name v 1 0 0 (at_barrier s makes d) (reads_of s given at answer ++ all_calls s deeds last)
+                of other
+                (record { image = image; draft = λ off. absurd (let apart : false ≡ true = off in cc) }) h3,
+          ),
+        ),
+      )
+
+  -- so what is found there could be found before
+  pub others_could : (b : Behind) (name : List ℕ) (es : List Entry) (k : ℕ) (files : List ℕ → Option File)
+      → IsOther s name → Opens makes ((disk_before b).reads.files s.outfile)
+      → AreOfRun s false (reads_of s given at answer ++ all_calls s deeds last)
+      → Cut (opening_by s makes ++ (reads_of s given at answer ++ all_calls s deeds last)) es
+      → Leaves (disk_after (disk_before b) (until k es)) files
+      → (before : List ℕ → Option File) × MayBeLeft b.start b.earlier (length b.earlier) before ×
+      (files name ≡ before name)
+  others_could b name es k files other opens of cut left =
+      let d : Disk = disk_before b in
+      let same : (disk_after d (until k es)).shows name ≡ d.shows name
+      = at_stop (Shows name (d.shows name)) 0 0 0 d
+      (opening_by s makes ++ (reads_of s given at answer ++ all_calls s deeds last)) es k
+      (run_aside name d other opens of) cut in
+      found_could b name files (subst (λ (v : Showing). MayShow v (files name)) same (left name))

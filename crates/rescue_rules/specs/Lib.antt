@@ -20,6 +20,9 @@ pub mod Work
 pub mod Stops
 pub mod Laws
 pub mod Limiting
+pub mod Deeds
+pub mod RunDeeds
+pub mod StopsBy
 pub mod MachineLaws
 pub mod RunStops
 pub mod Examples

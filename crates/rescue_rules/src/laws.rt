@@ -6,6 +6,8 @@ ghost use Rattle.rescue_rules.specs.RunStops.{RunStopsSafely};
 ghost use Rattle.rescue_rules.specs.Preparation.{PreparesNoFinished};
 ghost use Rattle.rescue_rules.specs.Nameless.{RunNeedsNoNames};
 ghost use Rattle.rescue_rules.specs.Limiting.{LimitsBehindEvents};
+ghost use Rattle.rescue_rules.specs.RunDeeds.{RunIsDeeds};
+ghost use Rattle.rescue_rules.specs.StopsBy.{RescueGoesBy, StopsByIsSafe};
 
 /// A rescue with a mapfile that goes as it should stops safely at every moment.
 pub fn a_rescue_stops_safely()
@@ -83,6 +85,21 @@ pub fn a_run_holds()
 /// stopped.
 pub fn a_run_stops_safely()
     ensures { RunStopsSafely }
+{}
+
+/// A run, move by move, makes its calls and its saves.
+pub fn a_run_is_deeds()
+    ensures { RunIsDeeds }
+{}
+
+/// A rescue with a mapfile that goes as it should keeps what any run has to that saves while it goes.
+pub fn a_rescue_is_one_run_of_many()
+    ensures { RescueGoesBy }
+{}
+
+/// A rescue that keeps what any run has to stops safely.
+pub fn a_rescue_stops_as_any_run()
+    ensures { StopsByIsSafe }
 {}
 
 /// Going on over passes leads to a request, or to the end, where it leads if nothing is left to ask for.

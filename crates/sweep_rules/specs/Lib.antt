@@ -1,0 +1,5 @@
+pub mod Sweep
+pub mod SweepLaws
+pub mod SweepWork
+pub mod SweepStops
+pub mod SweepOpens

@@ -1,0 +1,105 @@
+-- What a sweep does on its files, what it says, and how it ends.
+use Rattle.std.specs.Prelude.{◌≡◌, ℕ, ◌-◌, ◌/◌, Bool, true, List, [], ◌∷◌, ◌++◌, map, Option, Some, None, is_none, if◌then◌else◌}
+use Rattle.std.specs.List.{flat_map}
+use Rattle.block_list.specs.declared.status.Status.{Status}
+use Rattle.mapfile_text.specs.declared.state.MapState.{MapState}
+use Rattle.crash_site.specs.declared.site.SiteCall.{SiteCall}
+use Rattle.crash_site.specs.Calls.{Call, Entry, Done, BrokeAt, call_name, unanswered, image_open}
+use Rattle.save_resume.specs.Resuming.{barrier_calls}
+use Rattle.rescue_rules.specs.declared.stop.Stop.{Stop}
+use Rattle.rescue_rules.specs.declared.stop.Stop.TheVariants.{SourceLost, Site, LimitMet, NoMemory}
+use Rattle.rescue_rules.specs.declared.stop.RunEnd.{RunEnd}
+use Rattle.rescue_rules.specs.declared.stop.RunEnd.TheVariants.{Stopped, SaveFailed}
+use Rattle.rescue_rules.specs.declared.report.Report.{Report}
+use Rattle.rescue_rules.specs.Setting.{Setting}
+use Rattle.rescue_rules.specs.Counts.{counts_of}
+use Rattle.rescue_rules.specs.Said.{is_line_due}
+use Rattle.rescue_rules.specs.Lines.{report_text, phase_front, last_front, is_done}
+use Rattle.rescue_rules.specs.RunCalls.{closing_calls}
+use Rattle.rescue_rules.specs.Events.{began_at}
+use Rattle.rescue_rules.specs.Work.{Gain, end_of}
+use Rattle.rescue_rules.specs.Deeds.{save_of, deed_calls, doing_calls}
+use Rattle.sweep_rules.specs.Sweep.{Sweeper, Sweep, Swept, sweep_over, IsPiece, IsSweep, IsSweptOut, swept, swept_by, due_save, sweep_end, deeds_of}
+
+-- why a sweep ended: no piece is left; or memory ran out in front of one, where it takes any
+abbrev pub SweptBy : Option Stop → Setting → Sweeper → Sweep → Type 0
+SweptBy None s w m = IsSweptOut s w m
+SweptBy (Some SourceLost) s w m = ⊥
+SweptBy (Some (Site call)) s w m = ⊥
+SweptBy (Some (LimitMet limit)) s w m = ⊥
+SweptBy (Some NoMemory) s w m = (w.starves ≡ true) × ((p : ℕ) × (q : ℕ) × IsPiece s w m p q)
+
+-- the calls of a sweep's pieces, and of the saves between them
+abbrev pub sweep_calls : Setting → Sweeper → Sweep → List Swept → List Call
+sweep_calls s w m es = flat_map (deed_calls s) (deeds_of w m es)
+
+-- a piece's call where it failed
+abbrev pub lost_call : Sweeper → (p q : ℕ) → Call
+lost_call w p q = unanswered (w.call (record { pos = p; len = q - p; got = []; after = 0 }))
+
+-- The calls of a sweep by these pieces, by how it ended.
+pub data SweepEnds (s : Setting) (w : Sweeper) (m : Sweep) (es : List Swept) (calls : List Entry) (end : RunEnd)
+    : Type 0 where
+  -- it ended, and its last calls returned
+  IsSaved : (stop : Option Stop) → SweptBy stop s w (swept_by w m es) → end ≡ end_of stop
+      → calls ≡ map Done (doing_calls s (deeds_of w m es) (sweep_end (is_none stop) (swept_by w m es)))
+      → SweepEnds s w m es calls end
+  -- it ended, and one of them failed
+  IsUnsaved : (stop : Option Stop) (call : SiteCall) → SweptBy stop s w (swept_by w m es) → end ≡ SaveFailed call stop
+      → BrokeAt call (closing_calls s (sweep_end (is_none stop) (swept_by w m es)))
+      (map Done (sweep_calls s w m es)) calls
+      → SweepEnds s w m es calls end
+  -- the call of the next piece failed, which isn't one that was done
+  IsCut : (p q : ℕ) → IsPiece s w (swept_by w m es) p q → end ≡ Stopped (Site (call_name (lost_call w p q)))
+      → BrokeAt (call_name (lost_call w p q)) (lost_call w p q ∷ []) (map Done (sweep_calls s w m es)) calls
+      → SweepEnds s w m es calls end
+  -- a call of the save that was due behind the last piece failed
+  IsBroken : (before : List Swept) (last : Swept) (call : SiteCall) → es ≡ before ++ last ∷ []
+      → end ≡ Stopped (Site call)
+      → BrokeAt call (save_of s (due_save w (swept_by w m before) last))
+      (map Done (sweep_calls s w m before ++ w.call last ∷ [])) calls
+      → SweepEnds s w m es calls end
+
+-- what a line tells of a sweep, whose reads of the output don't fail
+abbrev pub sweep_report : Setting → Sweep → Report
+sweep_report s m = record {
+  shown = m.shown;
+  counts = counts_of s.domain m.map;
+  errors = 0;
+  taken = m.now - m.began;
+  written = m.written;
+}
+
+-- the line behind a piece, if one is due
+abbrev pub piece_lines : Setting → Sweeper → Sweep → Swept → List (List ℕ)
+piece_lines s w m e =
+    if is_line_due m.said w.current (e.after / 1000)
+    then report_text (phase_front (swept w m e).shown) (sweep_report s (swept w m e)) ∷ []
+    else []
+
+abbrev pub pieces_lines : Setting → Sweeper → Sweep → List Swept → List (List ℕ)
+pieces_lines s w m [] = []
+pieces_lines s w m (e ∷ es) = piece_lines s w m e ++ pieces_lines s w (swept w m e) es
+
+-- all lines of a sweep: those behind pieces, and the last one
+abbrev pub sweep_lines : Setting → Sweeper → Sweep → List Swept → RunEnd → List (List ℕ)
+sweep_lines s w m es end =
+    pieces_lines s w m es ++ report_text (last_front (is_done end)) (sweep_report s (swept_by w m es)) ∷ []
+
+-- a sweep over a map, by the readings of the clock
+abbrev pub sweep_begins : Sweeper → List Status → Option MapState → Gain → Sweep
+sweep_begins w statuses state g = sweep_over w statuses state (began_at g.times)
+
+-- The whole of it: the clock is read once at its start and once behind each piece, and the input not at all.
+pub record Sweeps (s : Setting) (w : Sweeper) (statuses : List Status) (state : Option MapState) (g : Gain)
+    (end : RunEnd) : Type 0 where
+  pub events : List Swept
+  pub times : g.times ≡ began_at g.times ∷ map (λ e. e.after) events
+  pub reads : g.reads ≡ []
+  pub run : IsSweep s w (sweep_begins w statuses state g) events
+  pub ends : SweepEnds s w (sweep_begins w statuses state g) events g.calls end
+
+-- the calls before the mapfile is read: the output is opened, made or not where it is absent, and the barrier makes
+-- durable what stands
+abbrev pub sweep_opening : Setting → (makes : Bool) → List Call
+sweep_opening s makes = image_open s.outfile makes ∷ (if s.has_mapfile then barrier_calls s.names else [])
