@@ -96,7 +96,7 @@ setting_stands r q stands = ap setting_in stands
 abbrev behind : RunState → List Event → Machine
 behind r events = state_after (setting_in r) r.machine events
 
-behind_over : (r r1 : RunState) (events : List Event) (over : Bool) → r1 ≡ moved_to r r1
+pub behind_over : (r r1 : RunState) (events : List Event) (over : Bool) → r1 ≡ moved_to r r1
     → IsAlike (setting_in r) (behind r events) r1.machine → has_ended (setting_in r1) r1.machine ≡ over
     → has_ended (setting_in r) (behind r events) ≡ over
 behind_over r r1 events over stands alike is =

@@ -25,6 +25,7 @@ pub mod RanLemmas
 pub mod ReadLemmas
 pub mod RefusalLemmas
 pub mod RowLemmas
+pub mod SampledLemmas
 pub mod SaysLemmas
 pub mod SpokenLemmas
 pub mod StoppedLemmas

@@ -26,7 +26,7 @@ use Rattle.rescue_rules.specs.Laws.{AreTimes, AreThreeNames}
 use Rattle.rescue_rules.proofs.StopsLemmas.{goes_safely}
 use Rattle.rescue_core.specs.RunState.{names_in}
 use Rattle.rescue_command.specs.declared.options.Options.{Options}
-use Rattle.rescue_command.specs.Command.{Command, Asks, AreRefused, Unread, Wrong, IsAsked, IsRefusal as IsRefusedFor, AskQuiet, MapOptions, cluster_word, command_by, command_with, empty_operand, is_too_large, maps_in, unless_empty}
+use Rattle.rescue_command.specs.Command.{Command, Task, Rescue, Sample, Asks, AskSample, AreRefused, Unread, Wrong, IsAsked, IsRefusal as IsRefusedFor, AskQuiet, MapOptions, cluster_word, command_with, empty_operand, is_too_large, maps_in, rescue_task, sample_conflict, sample_task, task_from, task_with, unless_empty}
 use Rattle.rescue_command.specs.Options.{options_in}
 use Rattle.ddrescue_cli.specs.declared.ending.Operand.{Operand}
 use Rattle.ddrescue_cli.specs.declared.ending.Operand.TheVariants.{Infile, Outfile, Mapfile, Draft}
@@ -44,7 +44,7 @@ use Rattle.ddrescue_cli.specs.Refusals.{NamesRefused}
 use Rattle.ddrescue_cli.specs.Work.{Rescues, rescue_faults, rescue_rows, worked_rows}
 use Rattle.ddrescue_cli.specs.Answers.{is_of_words, AreAccepted, SaysOfWords, Causes, drafting_left, NameOneFileTwice}
 use Rattle.ddrescue_cli.specs.Steps.{IsOnlyMaps, Worked}
-use Rattle.ddrescue_cli.specs.Ddrescue.{Says, Promise, Ddrescue}
+use Rattle.ddrescue_cli.specs.Ddrescue.{Says, Promise, SamplePromise, Ddrescue}
 use Rattle.work_steps.specs.Work.{Deeds, IsIdle, Works}
 use Rattle.work_steps.specs.Parts.{only_calls}
 use Rattle.copy_passes.specs.Turns.{IsFrom}
@@ -102,7 +102,7 @@ still_works : (c : Command) (found : Found) (end : ℕ) (run : Ending → Deeds 
 still_works c found end run e d idle (inl refused) = inr (inl (refused, idle))
 still_works c found end run e d idle (inr is) = inl (is, idle)
 
-nothing : IsIdle (only_calls [])
+pub nothing : IsIdle (only_calls [])
 nothing = record { opens = refl; gain = record { calls = refl; reads = refl; times = refl } }
 
 still_promised : (words : List (List ℕ)) (e : Ending) (s : SourceState) (d : SiteState) (k : ClockState) (p p' : ConsoleState) (c : Command)
@@ -142,15 +142,28 @@ still_promised words e s d k p p' c refused says =
       says = says;
     }
 
+-- and where they ask for a sample, and memory ran out
+pub still_sampled : (words : List (List ℕ)) (e : Ending) (s : SourceState) (d : SiteState) (k : ClockState) (p p' : ConsoleState)
+    (kib : ℕ) → e ≡ NoMemory → Says [] (told_still words e s d k p p') → SamplePromise kib (told_still words e s d k p p')
+still_sampled words e s d k p p' kib is says = record {
+  untouched = record { input = refl; files = refl; time = refl };
+  lines = [];
+  works = inl (is, nothing);
+  silent = λ starved. refl;
+  says = says;
+}
+
 still_kept : (words : List (List ℕ)) (e : Ending) (s : SourceState) (d : SiteState) (k : ClockState) (p p' : ConsoleState)
-    → IsEarly e → SaysOfWords e words → ((c : Command) → Asks words c → NamesRefused c e ⊎ (e ≡ NoMemory)) → d.is_drafting ≡ false
+    → IsEarly e → SaysOfWords e words → ((c : Command) → Asks words c → NamesRefused c e ⊎ (e ≡ NoMemory))
+    → ((kib : ℕ) (quiet : Bool) → AskSample words kib quiet → e ≡ NoMemory) → d.is_drafting ≡ false
     → Says [] (told_still words e s d k p p') → Ddrescue (told_still words e s d k p p')
-still_kept words e s d k p p' early says_words refused none says = record {
+still_kept words e s d k p p' early says_words refused starved none says = record {
   words = says_words;
   cause = early_causes e s d early;
   asked_for = λ c asks. still_promised words e s d k p p' c (refused c asks) says;
+  sampled = λ kib quiet asks. still_sampled words e s d k p p' kib (starved kib quiet asks) says;
   draft = none ∙ sym (early_drafts e early);
-  says = λ none_asked. says;
+  says = λ unasked unsampled. says;
   source = keeps_self s;
   site = record { tells = refl; start = λ tells. refl; planned = refl; later = omega arith };
   clock = record { planned = refl; plan = refl };
@@ -162,14 +175,14 @@ pub starved_kept : (words : List (List ℕ)) (s : SourceState) (d : SiteState) (
     → Ddrescue (told_still words NoMemory s d k p p')
 starved_kept words s d k p p' heard none says =
     let t : Told = told_still words NoMemory s d k p p' in
-    still_kept words NoMemory s d k p p' tt tt (λ c asks. inr refl) none
+    still_kept words NoMemory s d k p p' tt tt (λ c asks. inr refl) (λ kib quiet asks. refl) none
     (says_heard t true heard [] (record {
       silent = λ off. absurd (cc);
       loud = λ on quiet. (refl, refl, record { input = refl; files = refl; time = refl });
     }) says)
 
 -- whether a call is heard, by whether nothing is to be said
-heard_by : (t : Told) (quiet : Bool) (lines : List (List ℕ)) → AskQuiet t.words ↔ (quiet ≡ true)
+pub heard_by : (t : Told) (quiet : Bool) (lines : List (List ℕ)) → AskQuiet t.words ↔ (quiet ≡ true)
     → MaySay t (not quiet) lines
 heard_by t true lines asks = record { silent = λ off. asks.1 refl; loud = λ on. absurd (cc) }
 heard_by t false lines asks = record {
@@ -180,40 +193,53 @@ heard_by t false lines asks = record {
 -- a fault that isn't one of what was read
 record IsElse (fault : UsageFault) : Type 0 where
   value : (n : ℕ) → BadValue n ≡ fault → ⊥
+  conflict : (n : ℕ) → Conflict n ≡ fault → ⊥
   number : (n : ℕ) → Operands n ≡ fault → ⊥
 
 -- words that were read have none such
-unless_value : (fault : UsageFault) (e : Option ℕ) (c : Command) → IsElse fault → unless_empty e (Ok c) ≡ Err fault → ⊥
-unless_value fault None c other is = absurd (cc)
-unless_value fault (Some n) c other is = other.value n (cc)
+unless_value : (fault : UsageFault) (e : Option ℕ) (t : Task) → IsElse fault → unless_empty e (Ok t) ≡ Err fault → ⊥
+unless_value fault None t other is = absurd (cc)
+unless_value fault (Some n) t other is = other.value n (cc)
 
-unless_else : (fault : UsageFault) (e : Option ℕ) (words : List (List ℕ)) (m : MapOptions) (o : Options) (operands : List ℕ)
-    → IsElse fault → unless_empty e (command_with words m o operands) ≡ Err fault → ⊥
-unless_else fault e words m o [] other is = other.number 0 (cc)
-unless_else fault e words m o (i ∷ []) other is = other.number 1 (cc)
-unless_else fault e words m o (i ∷ out ∷ []) other is =
-    let P : Result Command UsageFault → Type 0 = λ r. unless_empty e r ≡ Err fault → ⊥ in
+unless_rescue : (fault : UsageFault) (e : Option ℕ) (words : List (List ℕ)) (m : MapOptions) (o : Options) (operands : List ℕ)
+    → IsElse fault → unless_empty e (rescue_task (command_with words m o operands)) ≡ Err fault → ⊥
+unless_rescue fault e words m o [] other is = other.number 0 (cc)
+unless_rescue fault e words m o (i ∷ []) other is = other.number 1 (cc)
+unless_rescue fault e words m o (i ∷ out ∷ []) other is =
+    let P : Result Command UsageFault → Type 0 = λ r. unless_empty e (rescue_task r) ≡ Err fault → ⊥ in
     cond_both o.complete_only (Err (Operands 2))
     (Ok (record { infile = word words i; outfile = word words out; mapfile = None; domain_map = m.domain; test_map = m.test; options = o }))
     P (λ on same. other.number 2 (cc)) (λ off same. unless_value fault e _ other same) is
-unless_else fault e words m o (i ∷ out ∷ map ∷ []) other is = unless_value fault e _ other is
-unless_else fault e words m o (i ∷ out ∷ map ∷ n ∷ more) other is = other.number (length (i ∷ out ∷ map ∷ n ∷ more)) (cc)
+unless_rescue fault e words m o (i ∷ out ∷ map ∷ []) other is = unless_value fault e _ other is
+unless_rescue fault e words m o (i ∷ out ∷ map ∷ n ∷ more) other is = other.number (length (i ∷ out ∷ map ∷ n ∷ more)) (cc)
+
+unless_sample : (fault : UsageFault) (e : Option ℕ) (kib : ℕ) (quiet : Bool) (n : Option ℕ) (operands : List ℕ)
+    → IsElse fault → unless_empty e (sample_task kib quiet n operands) ≡ Err fault → ⊥
+unless_sample fault e kib quiet (Some n) operands other is = other.conflict n (cc)
+unless_sample fault e kib quiet None [] other is = unless_value fault e (Sample kib quiet) other is
+unless_sample fault e kib quiet None (n ∷ more) other is = other.number (length (n ∷ more)) (cc)
+
+unless_else : (fault : UsageFault) (e : Option ℕ) (words : List (List ℕ)) (items : List Item) (o : Options) (sample : Option ℕ)
+    (operands : List ℕ) → IsElse fault → unless_empty e (task_with words items o sample operands) ≡ Err fault → ⊥
+unless_else fault e words items o None operands other is = unless_rescue fault e words (maps_in words items) o operands other is
+unless_else fault e words items o (Some kib) operands other is =
+    unless_sample fault e kib o.quiet (sample_conflict items) operands other is
 
 by_else : (fault : UsageFault) (words : List (List ℕ)) (items : List Item) (r : Result Options ℕ) (operands : List ℕ) → IsElse fault
-    → command_by words items r operands ≡ Err fault → ⊥
+    → task_from words items r operands ≡ Err fault → ⊥
 by_else fault words items (Err n) operands other is = other.value n (cc)
 by_else fault words items (Ok o) operands other is =
-    let P : Result Command UsageFault → Type 0 = λ r. r ≡ Err fault → ⊥ in
+    let P : Result Task UsageFault → Type 0 = λ r. r ≡ Err fault → ⊥ in
     cond_both (is_too_large o) (Err (BadValue (cluster_word items)))
-    (unless_empty (empty_operand words operands) (command_with words (maps_in words items) o operands))
+    (unless_empty (empty_operand words operands) (task_with words items o o.sample operands))
     P (λ on same. other.value (cluster_word items) (cc))
-    (λ off same. unless_else fault (empty_operand words operands) words (maps_in words items) o operands other same) is
+    (λ off same. unless_else fault (empty_operand words operands) words items o o.sample operands other same) is
 
 -- no words are refused for a place
 never_place : (words : List (List ℕ)) → AreRefused words PlaceTooLarge → ⊥
 never_place words (Unread rows f options at is) = absurd (cc)
 never_place words (Wrong rows items operands options reading is) =
-    by_else PlaceTooLarge words items (options_in words items) operands (record { value = λ n same. cc; number = λ n same. cc }) is
+    by_else PlaceTooLarge words items (options_in words items) operands (record { value = λ n same. cc; conflict = λ n same. cc; number = λ n same. cc }) is
 
 -- nor for want of memory
 never_starved : (words : List (List ℕ)) (fault : UsageFault) → AreRefused words fault → fault ≢ Word WordNoMemory
@@ -222,7 +248,7 @@ never_starved words fault (Unread rows g options at is) none =
     never_memory rows words (subst (λ (h : WordFault). WordFaultAt rows words h) same at)
 never_starved words fault (Wrong rows items operands options reading is) none =
     by_else (Word WordNoMemory) words items (options_in words items) operands
-    (record { value = λ n same. cc; number = λ n same. cc }) (is ∙ ap (λ (f : UsageFault). Err f) none)
+    (record { value = λ n same. cc; conflict = λ n same. cc; number = λ n same. cc }) (is ∙ ap (λ (f : UsageFault). Err f) none)
 
 -- so a fault of refused words is found in them
 found_in_words : (words : List (List ℕ)) (fault : UsageFault) → AreRefused words fault → is_of_words fault ≡ true
@@ -245,7 +271,8 @@ pub refused_kept : (words : List (List ℕ)) (fault : UsageFault) (quiet : Bool)
 refused_kept words fault quiet s d k p p' heard r none says =
     let t : Told = told_still words (Usage fault) s d k p p' in
     still_kept words (Usage fault) s d k p p' tt (refused_says words fault r.refused)
-    (λ c asks. absurd (r.nothing c asks)) none (says_heard t (not quiet) heard [] (heard_by t quiet [] r.quiet_is) says)
+    (λ c asks. absurd (r.nothing (Rescue c) asks)) (λ kib quiet asks. absurd (r.nothing (Sample kib quiet) asks)) none
+    (says_heard t (not quiet) heard [] (heard_by t quiet [] r.quiet_is) says)
 
 -- and where two files have one name, or memory ran out behind the words
 same_kept : (words : List (List ℕ)) (e : Ending) (s : SourceState) (d : SiteState) (k : ClockState) (p p' : ConsoleState) (c : Command)
@@ -254,7 +281,8 @@ same_kept : (words : List (List ℕ)) (e : Ending) (s : SourceState) (d : SiteSt
 same_kept words e s d k p p' c first second a same is none says =
     still_kept words e s d k p p' (subst IsEarly (sym is) tt)
     (subst (λ (v : Ending). SaysOfWords v words) (sym is) (record { command = c; asks = a.asks; same = same }))
-    (λ other asks. inl (subst (λ (x : Command). NamesRefused x e) (sym (a.alone other asks)) (first, second, same, is))) none says
+    (λ other asks. inl (subst (λ (x : Command). NamesRefused x e) (sym (a.alone other asks)) (first, second, same, is)))
+    (λ kib quiet asks. absurd (a.unsampled kib quiet asks)) none says
 
 plan_says : (words : List (List ℕ)) (e : Ending) (s : SourceState) (d : SiteState) (k : ClockState) (p p' : ConsoleState)
     (c : Command) → IsAsked words c → NamesRefused c e ⊎ (e ≡ NoMemory) → d.is_drafting ≡ false
@@ -263,7 +291,7 @@ plan_says words e s d k p p' c a (inl (first, second, same, is)) none says =
     same_kept words e s d k p p' c first second a same is none says
 plan_says words e s d k p p' c a (inr is) none says =
     still_kept words e s d k p p' (subst IsEarly (sym is) tt) (subst (λ (v : Ending). SaysOfWords v words) (sym is) tt)
-    (λ other asks. inr is) none says
+    (λ other asks. inr is) (λ kib quiet asks. is) none says
 
 pub plan_kept : (words : List (List ℕ)) (e : Ending) (s : SourceState) (d : SiteState) (k : ClockState)
     (p p' : ConsoleState) (c : Command) (heard : Bool) → IsAsked words c → NamesRefused c e ⊎ (e ≡ NoMemory)
@@ -407,7 +435,8 @@ says_kept t c heard heard' between a different r says =
       cause = r.cause;
       asked_for = λ other asks. subst (λ (x : Command). Promise x t) (sym (a.alone other asks)) kept;
       draft = r.draft;
-      says = λ none. absurd (none c a.asks);
+      sampled = λ kib quiet asks. absurd (a.unsampled kib quiet asks);
+      says = λ unasked unsampled. absurd (unasked c a.asks);
       source = r.source;
       site = r.site;
       clock = r.clock;

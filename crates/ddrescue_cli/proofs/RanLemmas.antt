@@ -44,7 +44,7 @@ use Rattle.ddrescue_cli.specs.Steps.{DidRun}
 use Rattle.ddrescue_cli.specs.Running.{settings_by, lines_in, IsReady, IsRunOver, WentToEnd}
 
 -- the setting of such a run is the rescue's, but for the names of its files
-setting_is : (i o : List ℕ) (n : Option MapNames) (l : List ℕ) (opts : Options) (end : ℕ) (maps : Maps)
+pub setting_is : (i o : List ℕ) (n : Option MapNames) (l : List ℕ) (opts : Options) (end : ℕ) (maps : Maps)
     (statuses : List Status) (state : Option MapState) (moment : ℕ) (heard : Bool) (r : RunState)
     → IsRunOver n l opts end maps statuses state moment heard r
     → setting_in r ≡ nameless (setting_asked i o n l opts end maps)

@@ -57,7 +57,7 @@ undone c found end e (Refused refused) done = (refused_plain c found end e refus
 
 -- what an answer behind the names says of words that are accepted
 ends_words : (words : List (List ℕ)) (e : Ending) → EndsRun e → AreAccepted words → SaysOfWords e words
-ends_words words e (Finished, is) ok = rw is ok
+ends_words words e (Finished, is) ok = rw is (inl ok)
 ends_words words e (RunStopped InputLost, is) ok = rw is ok
 ends_words words e (RunStopped (Site call), is) ok = rw is ok
 ends_words words e (RunStopped (Limited limit), is) ok = rw is ok

@@ -8,13 +8,15 @@ use Rattle.rescue_console.specs.ConsoleState.{ConsoleState}
 use Rattle.rescue_console.specs.Speaking.{Speaks, SpeaksOn, out_pieces}
 use Rattle.rescue_rules.specs.Stops.{StopsSafely}
 use Rattle.work_steps.specs.Work.{Works}
-use Rattle.rescue_command.specs.Command.{Command, Asks, AskQuiet}
+use Rattle.work_steps.specs.Parts.{only_calls}
+use Rattle.rescue_command.specs.Command.{Command, Asks, AskSample, AskQuiet}
 use Rattle.ddrescue_cli.specs.declared.ending.Ending.TheVariants.{NoMemory}
 use Rattle.ddrescue_cli.specs.Messages.{message_pieces}
 use Rattle.ddrescue_cli.specs.Maps.{AreAskedFor, AreMapsIn}
 use Rattle.ddrescue_cli.specs.Outside.{Outside, Agrees}
 use Rattle.ddrescue_cli.specs.Told.{Told, across_of, calls_before, asked_of}
 use Rattle.ddrescue_cli.specs.Work.{Rescues, rescue_faults, rescue_rows}
+use Rattle.ddrescue_cli.specs.Sampled.{Samples, sample_rows}
 use Rattle.ddrescue_cli.specs.Answers.{SaysOfWords, Causes, drafting_left, IsUntouched}
 
 -- What is said on the console: nothing where the words ask for that; else the lines of the run, each by one put, and
@@ -48,20 +50,33 @@ pub record Promise (c : Command) (t : Told) : Type 0 where
   -- and what is said on the console is the lines of the run and the message of the answer.
   pub says : Says outside.lines t
 
+-- What `ddrescue` promises of a call whose words ask for a sample of so many KiB
+pub record SamplePromise (kib : ℕ) (t : Told) : Type 0 where
+  -- The objects that were handed in stand, but for the console.
+  pub untouched : IsUntouched t.source t.source' t.site t.site' t.clock t.clock'
+  -- Memory may run out; else the sample is rescued,
+  pub lines : List (List ℕ)
+  pub works : Works rescue_faults sample_rows (Samples kib lines) t.answer (only_calls [])
+  pub silent : t.answer ≡ NoMemory → lines ≡ []
+  -- and what is said on the console is its line, or the message of the answer.
+  pub says : Says lines t
+
 -- What `ddrescue` promises of a call, by all that is told of it
 pub record Ddrescue (t : Told) : Type 0 where
-  -- Words that ask for no rescue, or name two files of one name, are refused, whatever the objects tell; only memory
+  -- Words that ask for nothing, or name two files of one name, are refused, whatever the objects tell; only memory
   -- may run out before.
   pub words : SaysOfWords t.answer t.words
   -- Each answer has its cause: a fault is answered exactly where its count rose, and no other answer hides one.
   pub cause : Causes t.answer t.source t.source' t.site t.site'
   -- What the words ask for is done, as far as the answer says.
   pub asked_for : (c : Command) → Asks t.words c → Promise c t
+  pub sampled : (kib : ℕ) (quiet : Bool) → AskSample t.words kib quiet → SamplePromise kib t
   -- A draft is left begun exactly where an append to it failed, or its sync. (A file of its name may be left behind any
   -- failed call of a save.)
   pub draft : t.site'.is_drafting ≡ drafting_left t.answer
-  -- What is said of words that ask for no rescue is the message of the answer.
-  pub says : ((c : Command) → Asks t.words c → ⊥) → Says [] t
+  -- What is said of words that ask for nothing is the message of the answer.
+  pub says : ((c : Command) → Asks t.words c → ⊥)
+      → ((kib : ℕ) (quiet : Bool) → AskSample t.words kib quiet → ⊥) → Says [] t
   -- What was told before stays.
   pub source : SourceKeeps t.source t.source'
   pub site : SiteKeeps t.site t.site'

@@ -1,6 +1,6 @@
 -- What the definitions mean.
 use Rattle.rescue_command.specs.declared.options.Options.{Options}
-use Rattle.std.specs.Prelude.{◌≡◌, ◌≢◌, ℕ, ◌-◌, ◌^◌, ◌<◌, true, IsTrue, List, length, slice_get, Option, Some, ◌⊎◌, None}
+use Rattle.std.specs.Prelude.{◌≡◌, ◌≢◌, ℕ, ◌-◌, ◌^◌, ◌<◌, Bool, true, IsTrue, List, length, slice_get, Option, Some, ◌⊎◌, None}
 use Rattle.block_list.specs.declared.status.Status.{Status}
 use Rattle.mapfile_text.specs.declared.state.MapState.{MapState}
 use Rattle.crash_site.specs.declared.site.SiteCall.{SiteCall}
@@ -19,7 +19,7 @@ use Rattle.rescue_rules.specs.Work.{Gain, begins, events_in, mapfile_in}
 use Rattle.rescue_rules.specs.Stops.{has_barrier, IsKept}
 use Rattle.work_steps.specs.Work.{Deeds, Works}
 use Rattle.work_steps.specs.Verdicts.{RefuseNothing}
-use Rattle.rescue_command.specs.Command.{Command, Asks}
+use Rattle.rescue_command.specs.Command.{Command, Asks, AskSample}
 use Rattle.rescue_rules.specs.declared.stop.Limit.{Limit}
 use Rattle.ddrescue_cli.specs.declared.ending.Ending.{Ending}
 use Rattle.ddrescue_cli.specs.declared.ending.Ending.TheVariants.{Done, SourceFault, SourceLost, SiteFault, LimitMet, NoMemory}
@@ -133,6 +133,12 @@ IsDoneUnless = (t : Told) (c : Command) (d : Ddrescue t) (asks : Asks t.words c)
 -- There are such maps for any files that were found: those that the files say.
 abbrev pub MapsAreThere : Type 0
 MapsAreThere = (c : Command) (found : Found) → (maps : Maps) × AreMapsIn c found maps
+
+-- Two calls for samples of one size say the same line, whatever else there is.
+abbrev pub SampleIsOneLine : Type 0
+SampleIsOneLine = (t t' : Told) (kib : ℕ) (quiet quiet' : Bool) (d : Ddrescue t) (d' : Ddrescue t')
+    (asks : AskSample t.words kib quiet) (asks' : AskSample t'.words kib quiet') → t.answer ≡ Done → t'.answer ≡ Done
+    → (d.sampled kib quiet asks).lines ≡ (d'.sampled kib quiet' asks').lines
 
 -- an answer that a command, an input's length and the files that were found bring, whatever the calls and memory do
 pub record IsVerdict (e : Ending) : Type 0 where

@@ -1,5 +1,5 @@
 //! What the definitions mean.
-ghost use Rattle.ddrescue_cli.specs.Laws.{DoneIsSaved, FaultsAreOfSteps, FilesAreLeft, GivenIsInput, HasOneVerdict, HoldsAtEnd, IsDoneUnless, MapsAreThere, ReadsAreARun};
+ghost use Rattle.ddrescue_cli.specs.Laws.{DoneIsSaved, FaultsAreOfSteps, FilesAreLeft, GivenIsInput, HasOneVerdict, HoldsAtEnd, IsDoneUnless, MapsAreThere, ReadsAreARun, SampleIsOneLine};
 
 /// What an answer before the first read leaves of the files is known by the answer.
 pub fn files_are_left()
@@ -29,6 +29,11 @@ pub fn done_is_saved()
 /// What the reads of a rescue gave is the input's own.
 pub fn given_is_the_inputs()
     ensures { GivenIsInput }
+{}
+
+/// Two calls for samples of one size say the same line.
+pub fn a_sample_is_one_line()
+    ensures { SampleIsOneLine }
 {}
 
 /// Words and files have one verdict at most.

@@ -61,20 +61,16 @@ pub(crate) fn opening_line(
     Ok(line)
 }
 
-/// Puts that line on standard output, by one put, if there is one and the rescue is heard. Says whether it is heard
-/// behind that.
-pub(crate) fn say_opening<C: Console>(
-    console: &mut C,
-    opening: &Option<Vec<u8>>,
-    heard: bool,
-) -> bool
-    ensures { SpeaksOn (out_pieces (lines_in (option_map (λ l. l.items) opening.now))) heard result
+/// Puts a line on standard output, by one put, if there is one and the rescue is heard. Says whether it is heard behind
+/// that.
+pub(crate) fn say_line<C: Console>(console: &mut C, line: &Option<Vec<u8>>, heard: bool) -> bool
+    ensures { SpeaksOn (out_pieces (lines_in (option_map (λ l. l.items) line.now))) heard result
         (C.state console.old) (C.state console.new) }
 {
     if !heard {
         return false;
     }
-    match opening {
+    match line {
         Some(line) => console.put(Channel::Out, line).is_ok(),
         None => true,
     }

@@ -50,7 +50,7 @@ fn make_heading(alloc: Global, words: &Words) -> Result<Heading, NoMemory>
 }
 
 /// The names of a mapfile and its draft, if there is one.
-fn make_names(alloc: Global, mapfile: Option<&str>) -> Result<Option<Names>, NoMemory>
+pub(crate) fn make_names(alloc: Global, mapfile: Option<&str>) -> Result<Option<Names>, NoMemory>
     ensures { IfOk result (λ n. n ≡ option_map (λ m. names_of m.now) mapfile.entry) }
 {
     match mapfile {

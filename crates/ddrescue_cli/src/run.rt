@@ -27,7 +27,7 @@ use trim_scrape::phases::{run_retrying, run_scraping, run_trimming};
 pub type RunMap = PlainTiles;
 
 /// Makes the phases of a rescue in order: it copies, trims, scrapes and retries.
-fn run_phases<S: Source, D: Site, K: Clock, C: Console>(
+pub(crate) fn run_phases<S: Source, D: Site, K: Clock, C: Console>(
     rescue: Rescue<Copying, RunMap>,
     source: &mut S,
     site: &mut D,

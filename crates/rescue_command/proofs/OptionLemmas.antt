@@ -10,23 +10,31 @@ use Rattle.option_words.specs.Rows.{is_letter}
 use Rattle.option_words.specs.declared.reading.Item.{Item}
 use Rattle.option_values.specs.Values.{OptionRow, default_sector, is_given, is_name, is_of, letter_meant, number_by, options_with, set_by, set_in_turn, size_by, value_of, with_item, with_sector, within_range, word_at}
 use Rattle.option_values.proofs.RowLemmas.{EachRow, letter_given, row_passes}
-use Rattle.option_values.proofs.TurnLemmas.{IsSector, fault_stays, sector_in_turn, turn_parts}
+use Rattle.option_values.proofs.TurnLemmas.{IsSector, sector_in_turn, turn_parts}
 use Rattle.option_values.proofs.ValueLemmas.{in_range, map_part, or_part, size_by_below, then_part}
 use Rattle.rescue_command.specs.declared.options.Options.{Options}
-use Rattle.rescue_command.specs.Options.{area_limit_of, limit_with, no_options, option_meanings, option_rows, options_in, quiet_letter, sector_letter, skips_of}
+use Rattle.rescue_command.specs.Options.{area_limit_of, limit_with, no_options, option_meanings, option_rows, options_in, quiet_letter, sample_of, sector_letter, skips_of}
 use Rattle.rescue_command.proofs.SkipLemmas.{AreSkips, skips_of_are}
 
+-- the KiB of a sample
+pub record IsSampleSize (kib : ℕ) : Type 0 where
+  pub low : 1 ≤ kib
+  pub high : kib ≤ 65536
+
 -- the limits of the values, but for that of a cluster in bytes, which is looked at behind all options
-pub record InRange (bytes : ℕ) (sectors : Option ℕ) (first most from : ℕ) (to : Option ℕ) (passes : ℕ) : Type 0 where
+pub record InRange (bytes : ℕ) (sectors : Option ℕ) (first most from : ℕ) (to : Option ℕ) (passes : ℕ) (kib : Option ℕ)
+    : Type 0 where
   pub sector : IsSector bytes
   pub cluster : IfSome sectors (λ n. 0 < n)
   pub skips : AreSkips bytes first most
   pub input : from < 2 ^ 63
   pub output : IfSome to (λ n. n < 2 ^ 63)
   pub retries : passes ≤ 65535
+  pub sample : IfSome kib IsSampleSize
 
 abbrev pub AreInRange : (sector : ℕ) → Options → Type 0
-AreInRange sector o = InRange sector o.cluster_sectors o.skip o.skip_max o.input_position o.output_position o.retries
+AreInRange sector o =
+    InRange sector o.cluster_sectors o.skip o.skip_max o.input_position o.output_position o.retries o.sample
 
 -- what an option keeps; `quiet` says whether it asks that nothing be said
 pub record Keeps (sector : ℕ) (o : Options) (quiet : Bool) (o' : Options) : Type 0 where
@@ -55,6 +63,7 @@ module _ (sector : ℕ) (o : Options) (h : AreInRange sector o) where
     input = h.input;
     output = h.output;
     retries = h.retries;
+    sample = h.sample;
   }
 
   with_skips : (first most : ℕ) → AreSkips sector first most
@@ -66,6 +75,7 @@ module _ (sector : ℕ) (o : Options) (h : AreInRange sector o) where
     input = h.input;
     output = h.output;
     retries = h.retries;
+    sample = h.sample;
   }
 
   with_input : (n : ℕ) → n < 2 ^ 63 → AreInRange sector (record o { input_position = n })
@@ -76,6 +86,7 @@ module _ (sector : ℕ) (o : Options) (h : AreInRange sector o) where
     input = p;
     output = h.output;
     retries = h.retries;
+    sample = h.sample;
   }
 
   with_output : (n : ℕ) → n < 2 ^ 63 → AreInRange sector (record o { output_position = Some n })
@@ -86,6 +97,7 @@ module _ (sector : ℕ) (o : Options) (h : AreInRange sector o) where
     input = h.input;
     output = p;
     retries = h.retries;
+    sample = h.sample;
   }
 
   with_retries : (n : ℕ) → n ≤ 65535 → AreInRange sector (record o { retries = n })
@@ -96,6 +108,18 @@ module _ (sector : ℕ) (o : Options) (h : AreInRange sector o) where
     input = h.input;
     output = h.output;
     retries = p;
+    sample = h.sample;
+  }
+
+  with_sample : (n : ℕ) → IsSampleSize n → AreInRange sector (record o { sample = Some n })
+  with_sample n p = record {
+    sector = h.sector;
+    cluster = h.cluster;
+    skips = h.skips;
+    input = h.input;
+    output = h.output;
+    retries = h.retries;
+    sample = p;
   }
 
 -- an option of a row keeps this
@@ -167,6 +191,13 @@ retries_keep : (s : ℕ) (o o' : Options) (m : Option ℕ)
 retries_keep s o o' m =
     value_keeps s o o' (λ n. record o { retries = n }) (option_and_then (within_range 0 65535) m) (λ n. refl)
     (λ n p h. with_retries s o h n (in_range 0 65535 m n p).1) (λ n. or_false o.quiet)
+
+sample_keeps : (s : ℕ) (o o' : Options) (v : Option (List ℕ))
+    → option_map (λ n. record o { sample = Some n }) (sample_of v) ≡ Some o' → Keeps s o false o'
+sample_keeps s o o' v =
+    value_keeps s o o' (λ n. record o { sample = Some n }) (sample_of v) (λ n. refl)
+    (λ n p h. with_sample s o h n (let r = in_range 1 65536 (number_by v) n p in record { low = r.0; high = r.1 }))
+    (λ n. or_false o.quiet)
 
 length_keeps : (s : ℕ) (o o' : Options) (m : Option ℕ) → option_map (λ n. record o { size = Some n }) m ≡ Some o'
     → Keeps s o false o'
@@ -248,7 +279,10 @@ rows_keep = (
                                               (λ s o o' v. plain s o o' _ refl (λ h. h) refl),
                                               (
                                                 (λ s o o' v. errors_keep s o o' (number_by v)),
-                                                tt,
+                                                (
+                                                  (λ s o o' v. sample_keeps s o o' v),
+                                                  tt,
+                                                ),
                                               ),
                                             ),
                                           ),
@@ -326,6 +360,7 @@ none_in_range n h = record {
   input = omega arith;
   output = tt;
   retries = omega arith;
+  sample = tt;
 }
 
 -- options that are accepted are in range, and say nothing where one of them asks for it

@@ -1,5 +1,5 @@
 -- The options of a rescue, one a row, and what they ask for. A later option is a row more.
-use Rattle.std.specs.Prelude.{ℕ, ◌+◌, ◌-◌, ◌*◌, ◌/◌, ◌^◌, min, max, Bool, true, false, nat_eq, nat_le, nat_lt, List, [], ◌∷◌, Option, Some, None, Result, option_map, option_and_then, codes, if◌then◌else◌}
+use Rattle.std.specs.Prelude.{ℕ, ◌+◌, ◌-◌, ◌*◌, ◌/◌, ◌^◌, min, max, Bool, true, false, nat_eq, nat_le, nat_lt, List, [], ◌∷◌, ◌++◌, length, Option, Some, None, Result, option_map, option_and_then, codes, if◌then◌else◌}
 use Rattle.std.specs.Result.{result_ok}
 use Rattle.size_suffixes.specs.Number.{number}
 use Rattle.size_suffixes.specs.Interval.{interval}
@@ -116,9 +116,9 @@ domain_letter = 109
 abbrev pub quiet_letter : ℕ
 quiet_letter = 113
 
--- the options, each with what it sets by the size of a sector and the text of its value
-abbrev pub option_rows : List (OptionRow Options)
-option_rows =
+-- the options that have a letter, each with what it sets by the size of a sector and the text of its value
+abbrev pub lettered_rows : List (OptionRow Options)
+lettered_rows =
     valued 97 (codes "min-read-rate") (λ sector o value. option_map (λ n. record o { min_rate = n })
     (option_and_then (within_range 1 (2 ^ 63)) (size_by sector value)))
     ∷ flag 65 (codes "try-again") (λ o. record o { try_again = true })
@@ -157,6 +157,27 @@ option_rows =
     (number_by value))
     ∷ []
 
+-- the size of a sample in KiB that a value gives, if it does
+abbrev pub sample_of : Option (List ℕ) → Option ℕ
+sample_of value = option_and_then (within_range 1 65536) (number_by value)
+
+-- the option that has none: the size of a sample
+abbrev pub sample_row : OptionRow Options
+sample_row = record {
+  letter = None;
+  name = codes "sample";
+  takes = Always;
+  sets = λ sector o value. option_map (λ n. record o { sample = Some n }) (sample_of value);
+}
+
+-- all options, that of a sample behind the others
+abbrev pub option_rows : List (OptionRow Options)
+option_rows = lettered_rows ++ sample_row ∷ []
+
+-- its row, counted from 0
+abbrev pub sample_place : ℕ
+sample_place = length lettered_rows
+
 -- each option's letter, its long name, and whether it takes a value
 abbrev pub option_meanings : List Meaning
 option_meanings = meanings_of option_rows
@@ -188,6 +209,7 @@ no_options sector = record {
   forced = false;
   quiet = false;
   verbose = false;
+  sample = None;
 }
 
 -- what all options ask for, or the word of the first bad value

@@ -3,13 +3,13 @@ ghost use Rattle.std.specs.Prelude.{◌≡◌, All, Ok, Err, IfOk, IfErr, option
 ghost use Rattle.option_words.specs.Spots.{HasSpot};
 ghost use Rattle.option_values.specs.Values.{IsWord};
 ghost use Rattle.rescue_command.specs.Options.{options_in};
-ghost use Rattle.rescue_command.specs.Command.{AreOptions, IsAsked, IsErrorOf, command_read, command_with, maps_in, told_by};
+ghost use Rattle.rescue_command.specs.Command.{AreInLimits, AreOptions, IsErrorOf, IsTask, command_with, goes_with_sample, maps_in, sample_command, sample_conflict, sample_task, task_by, task_read, task_with, told_by};
 
 use crate::options::{
-    CLUSTER_SIZE, DOMAIN_MAPFILE, Options, QUIET, SECTOR_SIZE, TEST_MODE, option_table,
+    CLUSTER_SIZE, DOMAIN_MAPFILE, Options, QUIET, SAMPLE, SECTOR_SIZE, TEST_MODE, option_table,
 };
 use option_values::command_error::{CommandError, unread};
-use option_values::given::{is_given, last_of, last_value};
+use option_values::given::{is_given, last_of, last_value, letter_of};
 use option_values::operands::find_empty;
 use option_values::settings::{read_sector_in, read_settings};
 use option_words::fault::UsageFault;
@@ -30,6 +30,32 @@ pub struct Command<'a> {
     /// The map whose finished positions can be read and no others, if it is named.
     pub test_map: Option<&'a str>,
     pub options: Options,
+}
+
+/// What the words of a command line ask for.
+#[derive(Clone, Copy, Debug)]
+pub enum Task<'a> {
+    Rescue(Command<'a>),
+    /// The rescue of a sample of so many KiB, of which nothing is said if that is asked for.
+    Sample { kib: u64, quiet: bool },
+}
+
+/// What the rescue of a sample asks for: the same as the words `-r 1 in out map`.
+pub fn sample_command() -> Command<'static>
+    ensures told { told_by result ≡ sample_command }
+    ensures limits { AreInLimits (told_by result).options }
+{
+    Command {
+        infile: "in",
+        outfile: "out",
+        mapfile: Some("map"),
+        domain_map: None,
+        test_map: None,
+        options: Options {
+            retries: 1,
+            ..Options::none(512)
+        },
+    }
 }
 
 /// What options ask for, or the word of the first bad value.
@@ -76,17 +102,82 @@ fn name_files<'a>(
     })
 }
 
-/// What a reading of the words asks for.
-fn command_of<'a>(
+/// Whether an option that was given goes with a sample.
+fn goes_with_sample(table: &OptionTable, item: &Item) -> bool
+    requires { AreOptions table.now }
+    ensures { result ≡ goes_with_sample item.now }
+{
+    item.row == SAMPLE || letter_of(table.rows(), item.row) == Some(QUIET)
+}
+
+/// The word of the first option that doesn't.
+fn find_conflict(table: &OptionTable, items: &[Item]) -> Option<usize>
+    requires { AreOptions table.now }
+    ensures { result ≡ sample_conflict items.now }
+{
+    for item in items {
+        if !goes_with_sample(table, item) {
+            return Some(item.word);
+        }
+    }
+    None
+}
+
+/// A sample of so many KiB, unless there are other options or operands.
+fn take_sample<'a>(
+    table: &OptionTable,
+    reading: &Reading,
+    kib: u64,
+    quiet: bool,
+) -> Result<Task<'a>, UsageFault>
+    requires table { AreOptions table.now }
+    ensures asked { IfOk result (λ t. sample_task kib quiet (sample_conflict reading.now.items.items)
+        reading.now.operands.items ≡ Ok (task_by t)) }
+    ensures refused { IfErr result (λ fault. sample_task kib quiet (sample_conflict reading.now.items.items)
+        reading.now.operands.items ≡ Err fault) }
+{
+    if let Some(word) = find_conflict(table, &reading.items) {
+        return Err(UsageFault::Conflict { word });
+    }
+    let given = reading.operands.len();
+    if given > 0 {
+        return Err(UsageFault::Operands { given });
+    }
+    Ok(Task::Sample { kib, quiet })
+}
+
+/// What options ask for.
+fn name_task<'a>(
     table: &OptionTable,
     words: &'a Words,
     reading: &Reading,
-) -> Result<Command<'a>, UsageFault>
+    options: Options,
+) -> Result<Task<'a>, UsageFault>
     requires table { AreOptions table.now }
     requires spots { All (HasSpot words.now) reading.now.items.items }
     requires operands { All (IsWord words.now) reading.now.operands.items }
-    ensures asked { IfOk result (λ c. command_read words.now reading.now ≡ Ok (told_by c)) }
-    ensures refused { IfErr result (λ fault. command_read words.now reading.now ≡ Err fault) }
+    ensures asked { IfOk result (λ t. task_with words.now reading.now.items.items options options.sample
+        reading.now.operands.items ≡ Ok (task_by t)) }
+    ensures refused { IfErr result (λ fault. task_with words.now reading.now.items.items options options.sample
+        reading.now.operands.items ≡ Err fault) }
+{
+    match options.sample {
+        Some(kib) => take_sample(table, reading, kib, options.quiet),
+        None => Ok(Task::Rescue(name_files(table, words, reading, options)?)),
+    }
+}
+
+/// What a reading of the words asks for.
+fn task_of<'a>(
+    table: &OptionTable,
+    words: &'a Words,
+    reading: &Reading,
+) -> Result<Task<'a>, UsageFault>
+    requires table { AreOptions table.now }
+    requires spots { All (HasSpot words.now) reading.now.items.items }
+    requires operands { All (IsWord words.now) reading.now.operands.items }
+    ensures asked { IfOk result (λ t. task_read words.now reading.now ≡ Ok (task_by t)) }
+    ensures refused { IfErr result (λ fault. task_read words.now reading.now ≡ Err fault) }
 {
     let options = match read_options(table, words, &reading.items) {
         Ok(options) => options,
@@ -96,18 +187,19 @@ fn command_of<'a>(
         let word = last_of(table, words, CLUSTER_SIZE, &reading.items).map_or(0, |item| item.word);
         return Err(UsageFault::BadValue { word });
     }
-    let command = name_files(table, words, reading, options)?;
+    let task = name_task(table, words, reading, options)?;
     if let Some(word) = find_empty(words, &reading.operands) {
         return Err(UsageFault::BadValue { word });
     }
-    Ok(command)
+    Ok(task)
 }
 
-/// Reads the words of a command line: `[options] infile outfile [mapfile]`. The words themselves come first, then the
-/// values of the options in the order of the words, those of `-b` before all others, then the size of a cluster in
-/// bytes, then the number of operands and whether one is empty.
-pub fn read_command(alloc: Global, words: &Words) -> Result<Command<'_>, CommandError>
-    ensures asked { IfOk result (λ c. IsAsked words.now (told_by c)) }
+/// Reads the words of a command line: `[options] infile outfile [mapfile]`, or `--sample=KIB`. The words themselves
+/// come first, then the values of the options in the order of the words, those of `-b` before all others, then the size
+/// of a cluster in bytes, then the options that don't go with a sample, then the number of operands and whether one is
+/// empty.
+pub fn read_command(alloc: Global, words: &Words) -> Result<Task<'_>, CommandError>
+    ensures asked { IfOk result (λ t. IsTask words.now t) }
     ensures refused { IfErr result (λ e. IsErrorOf words.now e) }
 {
     let table = option_table();
@@ -115,8 +207,8 @@ pub fn read_command(alloc: Global, words: &Words) -> Result<Command<'_>, Command
         Ok(reading) => reading,
         Err(fault) => return Err(unread(fault)),
     };
-    match command_of(&table, words, &reading) {
-        Ok(command) => Ok(command),
+    match task_of(&table, words, &reading) {
+        Ok(task) => Ok(task),
         Err(fault) => Err(CommandError::Usage {
             fault,
             quiet: is_given(&table, QUIET, &reading.items),

@@ -1,9 +1,9 @@
 //! The options of a rescue, and what they ask for.
-ghost use Rattle.std.specs.Prelude.{◌≡◌, ◌^◌, ◌<◌, ◌≤◌, option_map, option_and_then};
+ghost use Rattle.std.specs.Prelude.{◌≡◌, ◌^◌, ◌<◌, ◌≤◌, Some, option_map, option_and_then};
 ghost use Rattle.std.specs.Result.{result_ok};
 ghost use Rattle.size_suffixes.specs.Interval.{interval};
 ghost use Rattle.option_values.specs.Values.{number_by, row_of, set_by, size_by, within_range};
-ghost use Rattle.rescue_command.specs.Options.{area_limit_of, cluster_of, in_sectors, limit_with, no_options, option_rows, sectors_of, skips_of};
+ghost use Rattle.rescue_command.specs.Options.{area_limit_of, cluster_of, in_sectors, lettered_rows, limit_with, no_options, option_rows, sample_of, sample_row, sectors_of, skips_of};
 ghost use Rattle.rescue_command.specs.Command.{AreInLimits, AreOptions, is_too_large};
 
 use crate::skips::{DEFAULT_SKIP, DEFAULT_SKIP_MAX, in_sectors, read_skips};
@@ -42,8 +42,14 @@ pub(crate) const DOMAIN_MAPFILE: char = 'm';
 /// The letter of the one that asks that nothing be said.
 pub(crate) const QUIET: char = 'q';
 
-/// The options. A later one is a row here and an arm in `with_letter`.
-pub static ROWS: [Row; 24] = [
+/// The row of the option that has no letter, counted from 0: the size of a sample.
+pub(crate) const SAMPLE: usize = 24;
+
+/// The most KiB of a sample.
+const MOST_SAMPLE: u64 = 65_536;
+
+/// The options. A later one is a row here, in front of the last, and an arm in `with_letter`.
+pub static ROWS: [Row; 25] = [
     Row {
         short: Some('a'),
         long: "min-read-rate",
@@ -164,6 +170,11 @@ pub static ROWS: [Row; 24] = [
         long: "max-read-errors",
         takes: Takes::Always,
     },
+    Row {
+        short: None,
+        long: "sample",
+        takes: Takes::Always,
+    },
 ];
 
 /// What the options of a command line ask for.
@@ -220,6 +231,8 @@ pub struct Options {
     pub quiet: bool,
     /// It is said first how much is to be rescued; by default it isn't.
     pub verbose: bool,
+    /// A sample of so many KiB is rescued in place of an infile; none if it isn't given.
+    pub sample: Option<u64>,
 }
 
 impl Options {
@@ -252,6 +265,7 @@ impl Options {
             forced: false,
             quiet: false,
             verbose: false,
+            sample: None,
         }
     }
 
@@ -367,6 +381,24 @@ fn read_timeout(value: &str) -> Option<u64>
     read_interval(value).ok()
 }
 
+/// The KiB of a sample that a value gives, if it does.
+fn read_sample(value: Option<&str>) -> Option<u64>
+    ensures { result ≡ sample_of (option_map (λ v. v.now) value.entry) }
+{
+    within_range(number_by(value)?, 1, MOST_SAMPLE)
+}
+
+/// What the option of a sample sets by its value; nothing where that is a bad one.
+fn with_sample(options: Options, sector: u64, value: Option<&str>) -> Option<Options>
+    ensures { result ≡ set_by (Some sample_row) sector options (option_map (λ v. v.now) value.entry) }
+{
+    let kib = read_sample(value)?;
+    Some(Options {
+        sample: Some(kib),
+        ..options
+    })
+}
+
 /// Writes the arms of a `match` over the letters: each sets one field or two. The size of a sector is set before, and
 /// the names of maps are read apart.
 macro_rules! set_by_letter {
@@ -387,7 +419,7 @@ macro_rules! set_by_letter {
 fn with_letter(options: Options, sector: u64, letter: char, value: Option<&str>) -> Option<Options>
     requires low { 0 < sector }
     requires high { sector ≤ 1048576 }
-    ensures { result ≡ set_by (row_of letter option_rows) sector options (option_map (λ v. v.now) value.entry) }
+    ensures { result ≡ set_by (row_of letter lettered_rows) sector options (option_map (λ v. v.now) value.entry) }
 {
     let size = size_by(sector, value);
     set_by_letter!(options, letter, value;
@@ -419,6 +451,9 @@ impl Settings for Options {
     ghost rows = { option_rows };
 
     fn with_row(self, sector: u64, row: usize, value: Option<&str>) -> Option<Options> {
+        if row == SAMPLE {
+            return with_sample(self, sector, value);
+        }
         match letter_of(&ROWS, row) {
             Some(letter) => with_letter(self, sector, letter, value),
             None => None,

@@ -1,16 +1,22 @@
--- The row at a place is the one that has its letter.
-use Rattle.std.proofs.Common.{◌≡◌, ◌∙◌, sym, ap, refl, slice_get, option_map}
-use Rattle.std.specs.Option.{option_and_then}
-use Rattle.option_values.specs.Values.{row_of, set_by}
-use Rattle.option_values.proofs.RowLemmas.{letter_given, row_by_letter}
-use Rattle.rescue_command.specs.Options.{option_rows}
+-- The row at a place is the one that has its letter, or that of a sample.
+use Rattle.std.proofs.Common.{rules, ◌∙◌, sym, ap, option_map}
+use Rattle.option_values.specs.Values.{set_by}
+use Rattle.rescue_command.proofs.RowLemmas.{place_unlettered, row_lettered, row_of_sample}
 use Rattle.rescue_command.proofs.options.OptionsSettings.with_row.Goals as goal
+
+pub returns-then-row-eq-SAMPLE : goal.returns-then-row-eq-SAMPLE
+returns-then-row-eq-SAMPLE c =
+    c.with_sample.ensures
+    ∙ ap (λ r. set_by r c.args.sector c.args.self (option_map (λ v. v.now) c.args.value))
+    (sym (row_of_sample c.args.row (search rules)))
 
 pub returns-in-Some : goal.returns-in-Some
 returns-in-Some c =
-    let row = c.args.row in
-    let letter = sym (letter_given option_rows row) ∙ sym c.in-Some.ensures in
-    let at : slice_get option_rows row ≡ row_of c.in-Some.letter option_rows =
-    row_by_letter option_rows row refl ∙ ap (option_and_then (λ l. row_of l option_rows)) letter in
     c.with_letter.ensures
-    ∙ ap (λ r. set_by r c.args.sector c.args.self (option_map (λ v. v.now) c.args.value)) (sym at)
+    ∙ ap (λ r. set_by r c.args.sector c.args.self (option_map (λ v. v.now) c.args.value))
+    (sym (row_lettered c.args.row c.in-Some.letter (search rules) (sym c.in-Some.ensures)))
+
+pub returns-in-None : goal.returns-in-None
+returns-in-None c =
+    ap (λ r. set_by r c.args.sector c.args.self (option_map (λ v. v.now) c.args.value))
+    (sym (place_unlettered c.args.row (search rules) (sym c.in-None.ensures)))

@@ -1,0 +1,6 @@
+use Rattle.std.proofs.Common.{refl, inr, ◌∷◌, []}
+use Rattle.ddrescue_cli.proofs.SampledLemmas.{told_done}
+use Rattle.ddrescue_cli.proofs.sample.tell_sample.Goals as goal
+
+pub returns : goal.returns
+returns g c = told_done c.args.kib c.args.heard _ c.in-Ok.line.items _ _ c.in-Ok.ensures c.say_line.ensures

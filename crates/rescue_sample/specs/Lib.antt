@@ -1,0 +1,5 @@
+pub mod Sample
+pub mod SourceState
+pub mod StillState
+pub mod Line
+pub mod Laws
