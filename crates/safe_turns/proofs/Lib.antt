@@ -1,0 +1,4 @@
+pub mod SafeLemmas
+pub mod SiteLemmas
+pub mod TurnLemmas
+pub mod CloseLemmas

@@ -1,0 +1,5 @@
+use Rattle.safe_turns.proofs.TurnLemmas.{phase_stays_safe}
+use Rattle.safe_turns.proofs.laws.a_phase_stays_safe.Goals as goal
+
+pub returns : goal.returns
+returns c = phase_stays_safe
