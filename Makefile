@@ -1,10 +1,10 @@
 # The usual ways into the repository: `make` proves and builds the programs, `make bin/ddrescue`, `make bin/ddrescuelog`
-# `make bin/ddrescuepart` and `make bin/ddrescueverify` one of them, `make scenes` the player of transcripts, and
+# `make bin/ddrescuepart`, `make bin/ddrescueverify` and `make bin/ddrescueplan` one of them, `make scenes` the player of transcripts, and
 # `make check` runs the gate.
 # `make install` puts programs, man pages and completions of bash and zsh in place, and `make uninstall` takes them away.
 PREFIX ?= /usr/local
 SOURCES := crates.txt $(shell find crates -path '*/out' -prune -o -type f -print)
-PROGRAMS := ddrescue ddrescuelog ddrescuepart ddrescueverify
+PROGRAMS := ddrescue ddrescuelog ddrescuepart ddrescueverify ddrescueplan
 SHARE := $(DESTDIR)$(PREFIX)/share
 MANUAL := $(SHARE)/man/man1
 BASH := $(SHARE)/bash-completion/completions
@@ -41,6 +41,13 @@ bin/ddrescueverify: $(SOURCES)
 		cd crates/ddrescueverify && rt run -- /dev/null "$$trial/out" "$$trial/map"
 	mkdir -p bin
 	cp crates/ddrescueverify/out/ddrescueverify bin/ddrescueverify
+
+# Proves and builds the planner, and has it plan one read.
+bin/ddrescueplan: $(SOURCES)
+	trial=$$(mktemp) && trap 'rm -f "$$trial"' EXIT && echo '0 + 1' > "$$trial" && \
+		cd crates/ddrescueplan && rt run -- 1 "$$trial" > /dev/null
+	mkdir -p bin
+	cp crates/ddrescueplan/out/ddrescueplan bin/ddrescueplan
 
 # Proves and builds the player of transcripts, and tries it on an empty one.
 bin/rescue_scenes: $(SOURCES)

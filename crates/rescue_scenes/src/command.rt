@@ -70,6 +70,8 @@ pub(crate) enum Command {
     Part(Words),
     /// A run of ddrescueverify.
     Verify(Words),
+    /// A run of ddrescueplan.
+    Plan(Words),
     /// So many calls of the site were made, and then a stop came.
     Stop {
         calls: usize,
@@ -105,6 +107,7 @@ pub(crate) fn read_command(alloc: Global, line: &[u8]) -> Result<Command, Refusa
         "log" => Ok(Command::Log(take_words(fields)?)),
         "part" => Ok(Command::Part(take_words(fields)?)),
         "verify" => Ok(Command::Verify(take_words(fields)?)),
+        "plan" => Ok(Command::Plan(take_words(fields)?)),
         "stop" => read_stop(fields),
         "stops" => read_stops(fields),
         "left" => Ok(Command::Left(take_texts(fields)?)),

@@ -6,6 +6,7 @@ mod command;
 mod fields;
 mod kinds;
 mod part;
+mod planned;
 mod player;
 mod refusal;
 mod results;

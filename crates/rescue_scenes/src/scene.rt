@@ -6,6 +6,7 @@ use crate::blocks::{append_blocks, append_maps};
 use crate::command::{Object, Stops, View};
 use crate::kinds::{KINDS, Left};
 use crate::part::play_part;
+use crate::planned::plan;
 use crate::refusal::Refusal;
 use crate::results::{append_calls, append_console, append_ending, append_reads};
 use crate::shown::{append_escaped, append_lines, append_shown};
@@ -308,6 +309,17 @@ impl Scene {
         append_ending(out, &ending, ending.code())?;
         self.source = Some(source);
         Ok(())
+    }
+
+    /// Runs ddrescueplan, and adds its results.
+    pub(crate) fn plan(&mut self, words: &Words, out: &mut Vec<u8>) -> Result<(), Refusal> {
+        let mut console = self.make_console()?;
+        let made = self.site.made();
+        let ending = plan(self.alloc, words, &mut self.site, &mut console)?;
+        self.silent.clear();
+        append_calls(out, &self.site, made)?;
+        append_console(out, &console)?;
+        append_ending(out, &ending, ending.code())
     }
 
     /// Puts the site there that a stop leaves.

@@ -1,0 +1,24 @@
+//! ddrescueplan: prints the reads that a rescue would make over a damage that a test map shows.
+#![tactic(auto)]
+
+use crash_site::folder::FolderSite;
+use program_start::status::status_of;
+use program_start::streams::{Closed, fill_streams};
+use program_start::words::collect_words;
+use rescue_console::system::StdConsole;
+use rescue_plan::plan::ddrescueplan;
+use std::io;
+use std::process::ExitCode;
+
+fn run(rt: HostRuntime) -> io::Result<u8> {
+    fill_streams(&rt, Closed::Faulty)?;
+    let words = collect_words(&rt)?;
+    let mut site = FolderSite::new(rt.clone()?);
+    let mut console = StdConsole::new(rt.clone()?);
+    let ending = ddrescueplan(rt.alloc(), &words, &mut site, &mut console);
+    Ok(ending.code())
+}
+
+fn main(rt: HostRuntime) -> ExitCode {
+    ExitCode::from(status_of(run(rt)))
+}

@@ -1,0 +1,18 @@
+-- What a site tells that takes whatever is written, and keeps nothing.
+use Rattle.std.specs.Prelude.{Bool, false, [], None}
+use Rattle.fault_count.specs.Plan.{no_plan}
+use Rattle.crash_site.specs.SiteState.{SiteState}
+
+-- whether an image is open, and whether a draft is begun; no call fails
+abbrev pub blank_state : (opened drafting : Bool) → SiteState
+blank_state opened drafting = record {
+  tells = false;
+  start = record { files = λ name. None; image = None; draft = None };
+  calls = [];
+  is_open = opened;
+  is_drafting = drafting;
+  faults = 0;
+  is_planned = false;
+  plan = no_plan;
+  starved = 0;
+}

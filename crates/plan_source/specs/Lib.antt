@@ -1,0 +1,4 @@
+pub mod Blank
+pub mod Lines
+pub mod Printing
+pub mod Answering

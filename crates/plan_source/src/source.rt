@@ -1,0 +1,239 @@
+//! A source that says each of its reads on a console.
+ghost use Rattle.std.specs.Prelude.{◌≡◌, ◌+◌, ◌<◌, ◌≤◌, ◌^◌, true, IsTrue, [], None, is_none, nat_eq, All};
+ghost use Rattle.rescue_console.specs.declared.console.Channel.TheVariants.{Out};
+ghost use Rattle.rescue_console.specs.ConsoleState.{Answers};
+ghost use Rattle.plan_source.specs.Lines.{line_of_entry};
+ghost use Rattle.plan_source.specs.Printing.{HasPrinted};
+ghost use Rattle.plan_source.specs.Answering.{IsSeenIn, finished_part, got_at};
+
+use crate::line::line_of;
+use crate::loss::{LostRead, PlanLoss};
+use block_list::status::Status;
+use block_list::tiles::Tiles;
+use fault_count::FaultCount;
+use faulty_source::memory::ReadEntry;
+use faulty_source::source::{Got, Source, SourceFault, SourceLost};
+use rescue_console::console::{Channel, Console, ConsoleFault};
+use std::alloc::Global;
+use std::marker::{Brand, PhantomData};
+
+/// What a console told when a source on it was made. Proofs alone know it.
+pub trait Origin {
+    ghost use Rattle.std.specs.Prelude.{Bool};
+    ghost use Rattle.rescue_console.specs.ConsoleState.{ConsoleState};
+
+    ghost is_known: { Bool };
+
+    ghost start: { ConsoleState };
+}
+
+impl Origin for Brand {
+    ghost use Rattle.std.specs.Prelude.{false};
+    ghost use Rattle.plan_source.specs.Printing.{unknown};
+
+    ghost is_known = { false };
+
+    ghost start = { unknown };
+}
+
+/// A source of zeros, of which as much is given as a test map has finished. It says each read on the first channel of a
+/// console before it answers, and keeps a journal of them; what the console got is the lines of the journal, in order.
+/// Its input is open from the start.
+#[derive(Drop)]
+pub struct PlanSource<'a, C: Console, T: Tiles, O: Origin = Brand> {
+    length: u64,
+    tiles: T,
+    console: &'a mut C,
+    entries: Vec<ReadEntry>,
+    lost: Option<LostRead>,
+    name: Vec<u8>,
+    opened: bool,
+    /// No line is being put: what is known of the console is known then.
+    idle: bool,
+    opens: FaultCount,
+    faults: FaultCount,
+    losses: FaultCount,
+    origin: PhantomData<O>,
+    ghost short: { length < 2 ^ 63 },
+    ghost seen: { All (IsSeenIn length (T.statuses tiles)) entries.items },
+    ghost printed: { IsTrue O.is_known → idle ≡ true
+        → HasPrinted O.start (C.state console.now) entries.items lost },
+    ghost counted: { is_none lost ≡ nat_eq losses 0 },
+}
+
+/// How many of so many positions from one on come before the first that isn't finished.
+fn finished_part<T: Tiles>(tiles: &T, pos: u64, count: usize) -> usize
+    requires { pos + count < 2 ^ 63 }
+    ensures { result ≡ finished_part (T.statuses tiles.now) pos count }
+{
+    match tiles.find_forward(pos, Status::Finished) {
+        Some(run) if run.from == pos => count.min((run.to - pos) as usize),
+        _ => 0,
+    }
+}
+
+/// What a read of an input with a length gives.
+fn got_at<T: Tiles>(length: u64, tiles: &T, pos: u64, asked: usize) -> Got
+    requires { pos + asked < 2 ^ 63 }
+    ensures { result ≡ got_at length (T.statuses tiles.now) pos asked }
+{
+    let there = length.saturating_sub(pos).min(asked as u64) as usize;
+    let given = finished_part(tiles, pos, there);
+    if given == there && there < asked {
+        Got::End(given)
+    } else {
+        Got::Read(given)
+    }
+}
+
+/// Puts the line of a read.
+fn say<C: Console>(console: &mut C, entry: &ReadEntry) -> Result<(), ConsoleFault>
+    ensures { Answers Out (line_of_entry entry.now) result (C.state console.old) (C.state console.new) }
+{
+    console.put(Channel::Out, &line_of(entry))
+}
+
+impl<'a, C: Console, T: Tiles> PlanSource<'a, C, T> {
+    ghost use Rattle.plan_source.specs.Answering.{source_state};
+
+    /// A source of so many bytes.
+    pub fn new(alloc: Global, length: u64, tiles: T, console: &'a mut C) -> PlanSource<'a, C, T>
+        requires { length < 2 ^ 63 }
+        ensures reference { result.console.ghost_name ≡ console.entry.ghost_name }
+        ensures state { ⟦<PlanSource<'a, C, T> as Source>⟧.state result
+            ≡ source_state length (T.statuses tiles) console.entry.ghost_name [] [] true 0 0 0 }
+    {
+        PlanSource::since(alloc, length, tiles, console)
+    }
+}
+
+impl<'a, C: Console, T: Tiles, O: Origin> PlanSource<'a, C, T, O> {
+    ghost use Rattle.plan_source.specs.Answering.{source_state};
+    ghost use Rattle.plan_source.specs.Printing.{loss_in};
+
+    /// The same on a console of which it is known what it tells now.
+    pub fn since(
+        alloc: Global,
+        length: u64,
+        tiles: T,
+        console: &'a mut C,
+    ) -> PlanSource<'a, C, T, O>
+        requires short { length < 2 ^ 63 }
+        requires start { IsTrue O.is_known → O.start ≡ C.state console.old }
+        ensures reference { result.console.ghost_name ≡ console.entry.ghost_name }
+        ensures state { ⟦<PlanSource<'a, C, T, O> as Source>⟧.state result
+            ≡ source_state length (T.statuses tiles) console.entry.ghost_name [] [] true 0 0 0 }
+    {
+        PlanSource {
+            length,
+            tiles,
+            console,
+            entries: Vec::new(alloc),
+            lost: None,
+            name: Vec::new(alloc),
+            opened: true,
+            idle: true,
+            opens: FaultCount::new(),
+            faults: FaultCount::new(),
+            losses: FaultCount::new(),
+            origin: PhantomData,
+        }
+    }
+
+    /// Why a read was lost, if one was.
+    pub fn lost(&self) -> Option<PlanLoss>
+        ensures { result ≡ loss_in self.now.lost }
+    {
+        match self.lost {
+            Some(lost) => Some(lost.loss),
+            None => None,
+        }
+    }
+
+    /// The console, at the source's end.
+    pub fn into_console(self) -> &'a mut C
+        ensures reference { result.ghost_name ≡ self.entry.console.ghost_name }
+        ensures now { result.now ≡ self.entry.console.now }
+    {
+        let PlanSource {
+            length: _,
+            tiles: _,
+            console,
+            entries: _,
+            lost: _,
+            name: _,
+            opened: _,
+            idle: _,
+            opens: _,
+            faults: _,
+            losses: _,
+            origin: _,
+        } = self;
+        console
+    }
+
+    /// The reads that were answered, in order.
+    pub fn journal(&self) -> &[ReadEntry]
+        ensures { result.now ≡ self.now.entries.items }
+    {
+        &self.entries
+    }
+}
+
+impl<C: Console, T: Tiles, O: Origin> Source for PlanSource<'_, C, T, O> {
+    ghost use Rattle.std.specs.Prelude.{◌&&◌};
+    ghost use Rattle.plan_source.specs.Answering.{source_state};
+
+    ghost state = { λ s. source_state s.length (T.statuses s.tiles) s.console.ghost_name s.entries.items s.name.items
+        (s.opened && s.idle) s.opens s.faults s.losses };
+
+    /// Every name opens. It faults for want of memory alone, since the name is kept.
+    fn open_input(&mut self, name: &str) -> Result<u64, SourceFault> {
+        self.opens.raise();
+        self.opened = false;
+        self.name.clear();
+        let kept = self.name.extend_from_slice(name.as_bytes());
+        if kept.is_err() || !self.idle {
+            self.faults.raise();
+            return Err(SourceFault);
+        }
+        self.opened = true;
+        Ok(self.length)
+    }
+
+    /// A read is lost where its line couldn't be put, or where there is no memory for its entry, and so is each behind
+    /// one that was lost.
+    fn read_at(&mut self, pos: u64, buf: &mut [u8]) -> Result<Got, SourceLost> {
+        if self.lost.is_some() {
+            self.losses.raise();
+            return Err(SourceLost);
+        }
+        let got = got_at(self.length, &self.tiles, pos, buf.len());
+        let entry = ReadEntry {
+            pos,
+            asked: buf.len(),
+            given: got.count(),
+            ended: got.is_end(),
+        };
+        let Ok(()) = self.entries.reserve(1) else {
+            let loss = PlanLoss::Memory;
+            self.lost = Some(LostRead { loss, entry });
+            self.losses.raise();
+            return Err(SourceLost);
+        };
+        self.idle = false;
+        let Ok(()) = say(self.console, &entry) else {
+            let loss = PlanLoss::Console;
+            self.lost = Some(LostRead { loss, entry });
+            self.losses.raise();
+            self.idle = true;
+            return Err(SourceLost);
+        };
+        let Ok(()) = self.entries.push(entry) else {
+            unreachable!()
+        };
+        self.idle = true;
+        buf.fill(0);
+        Ok(got)
+    }
+}

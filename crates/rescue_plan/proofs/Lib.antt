@@ -1,0 +1,4 @@
+pub mod SimilarLemmas
+pub mod PlanLemmas
+pub mod RunLemmas
+pub mod PromiseLemmas

@@ -1,0 +1,83 @@
+-- What the definitions mean.
+use Rattle.std.specs.Prelude.{◌≡◌, ⊤, ℕ, ◌-◌, ◌^◌, ◌<◌, true, false, List, ◌++◌, map, All, None}
+use Rattle.block_list.specs.declared.status.Status.{Status}
+use Rattle.faulty_source.specs.Journal.{Reading, is_whole}
+use Rattle.rescue_domain.specs.Testing.{seen}
+use Rattle.rescue_rules.specs.Setting.{Setting}
+use Rattle.rescue_rules.specs.Step.{Event}
+use Rattle.rescue_rules.specs.Moves.{state_after, has_ended, IsRun}
+use Rattle.rescue_rules.specs.Beginning.{machine_over}
+use Rattle.rescue_rules.specs.Events.{reads_of}
+use Rattle.rescue_rules.specs.Start.{IsFresh}
+use Rattle.rescue_command.specs.declared.options.Options.{Options}
+use Rattle.rescue_command.specs.Command.{Command as RescueCommand}
+use Rattle.ddrescue_cli.specs.Asked.{setting_of}
+use Rattle.plan_command.specs.Command.{Command, Asks, ArePlain}
+use Rattle.rescue_plan.specs.declared.ending.PlanEnding.{PlanEnding}
+use Rattle.rescue_plan.specs.declared.ending.PlanEnding.TheVariants.{Done, Usage, NoMap, MapRefused, SiteFault, ConsoleFault, NoMemory}
+use Rattle.rescue_plan.specs.Told.{Told}
+use Rattle.rescue_plan.specs.Ddrescueplan.{Ddrescueplan}
+use Rattle.plan_source.specs.Lines.{PlannedRead, planned}
+use Rattle.rescue_plan.specs.Plan.{blank, no_maps, plan_setting, BeginsPlan, IsPlan}
+
+-- reads begin with others
+pub record BeginWith (first reads : List PlannedRead) : Type 0 where
+  pub more : List PlannedRead
+  pub are : first ++ more ≡ reads
+
+-- A plan begins with the first reads of it, however many they are, and so there is one plan at most.
+pub record IsOnePlan (s : Setting) (length : ℕ) (test : List Status) (reads : List PlannedRead) : Type 0 where
+  pub begins : (first : List PlannedRead) → BeginsPlan s length test first → BeginWith first reads
+  pub alone : (other : List PlannedRead) → IsPlan s length test other → other ≡ reads
+
+abbrev pub PlanIsOne : Type 0
+PlanIsOne = (o : Options) (length : ℕ) (test : List Status) (reads : List PlannedRead) → ArePlain o
+    → IsPlan (plan_setting o length) length test reads → IsOnePlan (plan_setting o length) length test reads
+
+-- The reads of a rescue, as they are seen in test mode, where the input gave all that it was asked for: a run over a map
+-- that wasn't tried, at whatever times.
+pub record RescueReads (c : RescueCommand) (line : List ℕ) (length time : ℕ) (test : List Status)
+    (raw : List Reading) (events : List Event) : Type 0 where
+  pub whole : All (λ r. is_whole r ≡ true) raw
+  pub went_on : All (λ r. r.ended ≡ false) raw
+  pub seen_are : map (seen test) raw ≡ reads_of events
+  pub statuses : List Status
+  pub fresh : IsFresh length statuses None
+  pub run : IsRun (setting_of c line length no_maps) (machine_over (setting_of c line length no_maps) statuses None time)
+      events
+
+-- They are the first ones of the plan for the rescue's options, and all of it where no request is left.
+pub record RescueIsPlanned (c : RescueCommand) (line : List ℕ) (length time : ℕ) (test : List Status)
+    (events : List Event) : Type 0 where
+  pub first : BeginsPlan (plan_setting c.options length) length test (map planned (reads_of events))
+  pub all : has_ended (setting_of c line length no_maps)
+      (state_after (setting_of c line length no_maps)
+      (machine_over (setting_of c line length no_maps) (blank length) None time) events) ≡ true
+      → IsPlan (plan_setting c.options length) length test (map planned (reads_of events))
+
+abbrev pub RescuesArePlanned : Type 0
+RescuesArePlanned = (c : RescueCommand) (line : List ℕ) (length time : ℕ) (test : List Status) (raw : List Reading)
+    (events : List Event) → ArePlain c.options → RescueReads c line length time test raw events
+    → RescueIsPlanned c line length time test events
+
+-- no read of the test map and no put on standard output failed, and the counts say so
+pub record NothingFailed (t : Told) : Type 0 where
+  pub calls : t.site'.faults ≡ t.site.faults
+  pub puts : t.console'.out.faults ≡ t.console.out.faults
+  pub calls_count : t.site.faults < 2 ^ 64 - 1
+  pub puts_count : t.console.out.faults < 2 ^ 64 - 1
+
+-- an answer that no failure brings
+abbrev pub IsNoFault : PlanEnding → Type 0
+IsNoFault Done = ⊤
+IsNoFault (Usage fault) = ⊥
+IsNoFault NoMap = ⊤
+IsNoFault (MapRefused error) = ⊤
+IsNoFault (SiteFault call) = ⊥
+IsNoFault ConsoleFault = ⊥
+IsNoFault NoMemory = ⊤
+
+-- Where the words ask for something and nothing failed, the test map is refused, or the whole plan is put unless memory
+-- runs out.
+abbrev pub IsPutUnless : Type 0
+IsPutUnless = (t : Told) (c : Command) → Ddrescueplan t → Asks t.words c → NothingFailed t → IsNoFault t.answer

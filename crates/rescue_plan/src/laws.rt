@@ -1,0 +1,18 @@
+//! What the definitions mean.
+ghost use Rattle.rescue_plan.specs.Laws.{IsPutUnless, PlanIsOne, RescuesArePlanned};
+
+/// A plan begins with the first reads of it, however many they are, and so there is one plan at most.
+pub fn a_plan_is_one()
+    ensures { PlanIsOne }
+{}
+
+/// What a rescue reads in test mode, of an input that gives all that it is asked for, are the first reads of the plan for
+/// the same options, and all of it where no request is left.
+pub fn a_rescue_is_planned()
+    ensures { RescuesArePlanned }
+{}
+
+/// Where nothing failed, the whole plan over a test map is put unless memory runs out.
+pub fn a_plan_is_put()
+    ensures { IsPutUnless }
+{}

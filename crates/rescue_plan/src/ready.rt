@@ -1,0 +1,75 @@
+//! What a plan begins with.
+ghost use Rattle.std.specs.Prelude.{◌≡◌, ◌<◌, ◌^◌, IfOk};
+ghost use Rattle.rescue_command.specs.Command.{AreInLimits as AreOptionsInLimits};
+ghost use Rattle.ddrescue_cli.specs.Running.{settings_by};
+ghost use Rattle.plan_command.specs.Command.{AreInLimits, told_by};
+ghost use Rattle.rescue_plan.specs.Running.{Begins, blank};
+
+use block_list::plain_tiles::PlainTiles;
+use block_list::tiles::{NoMemory, Tiles};
+use ddrescue_cli::run::RunMap;
+use mapfile_text::heading::{Heading, Program};
+use plan_command::command::Command;
+use rescue_command::options::Options;
+use rescue_core::phases::{Copying, Rescue};
+use rescue_core::prepare::prepare;
+use rescue_core::settings::Settings;
+use rescue_domain::domain::Domain;
+use std::alloc::Global;
+
+/// What the rescue is asked to do.
+fn settings_for(options: &Options) -> Settings
+    requires { AreOptionsInLimits options.now }
+    ensures { result ≡ settings_by options.now }
+{
+    Settings {
+        sector: options.sector,
+        cluster: options.cluster(),
+        ipos: options.input_position,
+        opos: options.output_position.unwrap_or(options.input_position),
+        skip: options.first_skip(),
+        skip_max: options.largest_skip(),
+        min_rate: options.min_rate,
+        retries: options.retries,
+        max_errors: options.max_read_errors,
+        max_areas: options.max_bad_areas,
+        new_areas: options.new_areas,
+        timeout: options.timeout,
+        no_trim: options.no_trim,
+        no_scrape: options.no_scrape,
+        reverse: options.reverse,
+        one_way: options.unidirectional,
+    }
+}
+
+/// The map of an input that wasn't tried.
+fn blank_map(alloc: Global, length: u64) -> Result<RunMap, NoMemory>
+    requires { length < 2 ^ 63 }
+    ensures { IfOk result (λ t. t.statuses ≡ blank length) }
+{
+    let mut tiles = PlainTiles::new(alloc);
+    tiles.reserve(1)?;
+    tiles.extend_to(length);
+    Ok(tiles)
+}
+
+/// The rescue that a command asks for, at its start, with all that it wants memory for but its journal. It says nothing,
+/// has no mapfile, and begins at the time 0.
+pub(crate) fn make_rescue(
+    alloc: Global,
+    command: &Command<'_>,
+) -> Result<Rescue<Copying, RunMap>, NoMemory>
+    requires { AreInLimits (told_by command.now) }
+    ensures { IfOk result (λ r. Begins (told_by command.now) r) }
+{
+    let options = command.options.rescue;
+    let heading = Heading::new(alloc, Program::Ddrescue, "")?;
+    let domain = Domain::whole(alloc, options.input_position, options.size, command.length)?;
+    let mut tiles = blank_map(alloc, command.length)?;
+    prepare(&mut tiles, &domain, options.try_again, options.retrim)?;
+    let Ok(buf) = vec![in alloc; 0; options.cluster() as usize] else {
+        return Err(NoMemory);
+    };
+    let settings = settings_for(&options);
+    Ok(Rescue::start(buf, settings, domain, tiles, None, None, heading, 0, false))
+}

@@ -1,0 +1,57 @@
+//! The run of a plan: a rescue whose reads are said, and which writes nothing.
+ghost use Rattle.std.specs.Prelude.{◌≡◌, ◌≤◌, ◌^◌, ◌<◌, IsTrue, option_map};
+ghost use Rattle.plan_command.specs.Command.{Command, AreInLimits};
+ghost use Rattle.rescue_plan.specs.Running.{Begins, IsBegun, PutsPlan, ending_by};
+
+use crate::ending::PlanEnding;
+use block_list::tiles::Tiles;
+use crash_site::site::Site;
+use ddrescue_cli::run::{RunMap, run_rescue};
+use plan_source::blank::BlankSite;
+use plan_source::loss::PlanLoss;
+use plan_source::source::{Origin, PlanSource};
+use rescue_console::console::Console;
+use rescue_console::memory::{MemoryClock, MemoryConsole};
+use rescue_core::phases::{Copying, Rescue};
+use rescue_rules::stop::RunEnd;
+use std::alloc::Global;
+
+/// How a plan ended, by how its run did and why a read was lost, if one was.
+fn ending_of(end: RunEnd, lost: Option<PlanLoss>) -> PlanEnding
+    ensures { result ≡ ending_by end lost }
+{
+    match (end, lost) {
+        (RunEnd::Done, _) => PlanEnding::Done,
+        (_, Some(PlanLoss::Console)) => PlanEnding::ConsoleFault,
+        _ => PlanEnding::NoMemory,
+    }
+}
+
+/// Makes the run of a rescue over an input of a length, of which that much can be read which is finished in a map, and
+/// says each read.
+pub(crate) fn put_plan<C: Console, T: Tiles, O: Origin>(
+    alloc: Global,
+    rescue: Rescue<Copying, RunMap>,
+    length: u64,
+    tiles: T,
+    console: &mut C,
+) -> PlanEnding
+    requires begun { IsBegun length rescue }
+    requires known { IsTrue O.is_known }
+    requires start { O.start ≡ C.state console.old }
+    ensures puts { (c : Command) → AreInLimits c → c.length ≡ length → Begins c rescue
+        → PutsPlan c (T.statuses tiles) result (C.state console.old) (C.state console.new) }
+{
+    let mut source = PlanSource::<C, T, O>::since(alloc, length, tiles, console);
+    let mut site = BlankSite::new();
+    let Ok(_regular) = site.image_open("", true) else {
+        unreachable!()
+    };
+    let mut clock = MemoryClock::new(Vec::new(alloc));
+    let mut quiet = MemoryConsole::new(alloc);
+    let closed = run_rescue(rescue, &mut source, &mut site, &mut clock, &mut quiet);
+    let lost = source.lost();
+    // The console is the caller's again.
+    let _console = source.into_console();
+    ending_of(closed.end, lost)
+}

@@ -1,0 +1,23 @@
+//! Runs of ddrescueplan.
+use crate::refusal::Refusal;
+use crash_site::memory::MemorySite;
+use option_words::words::Words;
+use rescue_console::memory::MemoryConsole;
+use rescue_plan::ending::PlanEnding;
+use rescue_plan::plan::ddrescueplan;
+use std::alloc::Global;
+
+/// Runs ddrescueplan. Where it finds no memory there is no answer: a scene can't ask for that.
+pub(crate) fn plan(
+    alloc: Global,
+    words: &Words,
+    site: &mut MemorySite,
+    console: &mut MemoryConsole,
+) -> Result<PlanEnding, Refusal> {
+    let starved = site.starved();
+    let ending = ddrescueplan(alloc, words, site, console);
+    if matches!(ending, PlanEnding::NoMemory) || site.starved() > starved || console.starved() > 0 {
+        return Err(Refusal::NoMemory);
+    }
+    Ok(ending)
+}
