@@ -1,0 +1,11 @@
+pub mod LoopLemmas
+pub mod TellLemmas
+pub mod PieceLemmas
+pub mod SearchLemmas
+pub mod MarkLemmas
+pub mod ImageLemmas
+pub mod EndLemmas
+pub mod EndPieceLemmas
+pub mod OutcomeLemmas
+pub mod PiecesLemmas
+pub mod LookLemmas

@@ -1,0 +1,118 @@
+-- A piece by its outcome.
+use Rattle.std.proofs.Common.{◌≡◌, ℕ, ◌+◌, Bool, true, false, List, [], ◌∷◌, length, Some, None, Result, Ok, Err, OnOk, IfErr, refl, sym, ap, subst, ◌∙◌}
+use Rattle.std.proofs.lemmas.Bool.{le-leb}
+use Rattle.crash_site.specs.Calls.{image_read}
+use Rattle.crash_site.specs.SiteState.{SiteState, Keeps as SiteKeeps, Stays as SiteStays, Makes}
+use Rattle.save_resume.proofs.FillLemmas.{keeps_more}
+use Rattle.rescue_console.specs.ClockState.{ClockState, Keeps as ClockKeeps}
+use Rattle.rescue_console.specs.ConsoleState.{ConsoleState}
+use Rattle.rescue_rules.specs.declared.stop.Stop.{Stop}
+use Rattle.rescue_rules.specs.Setting.{Setting, place}
+use Rattle.rescue_core.specs.Closing.{MayClose}
+use Rattle.sweep_rules.specs.Sweep.{Sweeper, Sweep, Swept, generator}
+use Rattle.fill_generate.specs.declared.mode.Mode.TheVariants.{Generate}
+use Rattle.fill_generate.specs.declared.sweeping.Piece.{Piece}
+use Rattle.fill_generate.specs.Modes.{IsOf, current_in}
+use Rattle.fill_generate.specs.SweepState.{SweepState, setting_of, standing, moved}
+use Rattle.fill_generate.specs.Sweeping.{Around}
+use Rattle.fill_generate.specs.Steps.{IsFound, EndsPiece, PieceEnds, ObjectsStay, LooksUp, LooksNot, NoRoom, NoRead, Halted, Starved, IsLookedUp, gone_to, heard_as}
+use Rattle.fill_generate.proofs.TellLemmas.{between, clock_self}
+use Rattle.fill_generate.proofs.PieceLemmas.{done_at, marked_with, took, unsaved, uncalled, lost_read, generates_is}
+
+-- behind a piece the same sweep stands elsewhere
+gone_behind : (w : Sweeper) (r r1 r2 : SweepState) (e : Swept) (m : Sweep) (h : Bool) → r1 ≡ marked_with w r e
+    → r2 ≡ heard_as (standing r1 m) h → r2 ≡ gone_to r r2
+gone_behind w r r1 r2 e m h marked is =
+    let there : r2 ≡ heard_as (standing r m) h = is ∙ ap (λ (q : SweepState). heard_as (standing q m) h) marked in
+    there ∙ ap (λ (q : SweepState). gone_to r q) (sym there)
+
+pub goes_behind : {T : Type 0} (result : Result T Stop) (piece : Piece) (written : ℕ) (r r2 : SweepState) (o : Around)
+    → EndsPiece result piece written r r2 o → r2 ≡ gone_to r r2
+goes_behind result piece written r r2 o ends =
+    ends.passes.stands ∙ ap (λ (q : SweepState). gone_to r q) (sym ends.passes.stands)
+
+ok_so : {T : Type 0} (result : Result T Stop) (P : Type 0) → P → OnOk result P
+ok_so (Ok v) P holds = holds
+ok_so (Err stop) P holds = tt
+
+pub passes_behind : {T : Type 0} (result : Result T Stop) (piece : Piece) (written : ℕ) (r r2 : SweepState) (o : Around)
+    → EndsPiece result piece written r r2 o → OnOk result (r2.sweep.cursor ≡ piece.pos + piece.len)
+passes_behind result piece written r r2 o ends =
+    ok_so result (r2.sweep.cursor ≡ piece.pos + piece.len) (ap (λ (q : SweepState). q.sweep.cursor) ends.passes.stands)
+
+-- Its call returned.
+pub piece_ends : {T : Type 0} (G : Swept → Type 0) (w : Sweeper) (r r1 r2 : SweepState) (piece : Piece) (got : List ℕ) (written : ℕ)
+    (result : Result T Stop) (a b c : SiteState) (k l : ClockState) (x y : ConsoleState) → b.tells ≡ a.tells → IsOf r.mode w
+    → IsFound r piece → ((t : ℕ) → w.gives (done_at piece got t) ≡ true) → ((t : ℕ) → G (done_at piece got t))
+    → ((t : ℕ) → r1 ≡ marked_with w r (done_at piece got t)) → ((t : ℕ) → w.writes (done_at piece got t) ≡ written)
+    → ((t : ℕ) → Makes (w.call (done_at piece got t) ∷ []) a b) → EndsPiece result piece written r1 r2 (between b c k l x y)
+    → OnOk result (c.is_drafting ≡ false) → IfErr result (λ stop. MayClose (Some stop) c)
+    → ObjectsStay (between a c k l x y) → PieceEnds G result w piece r r2 (between a c k l x y)
+piece_ends G w r r1 r2 piece got written (Ok v) a b c k l x y tells of found gives given marked writes call ends no_draft closes objects = record {
+  stands = gone_behind w r r1 r2 (done_at piece got ends.after)
+      (moved (current_in r1.mode) r1.sweep piece.pos piece.len written ends.after) r2.heard (marked ends.after)
+      ends.passes.stands;
+  took = took G w r r1 r2 piece got written ends.after a b c k l x y tells of found (gives ends.after) (given ends.after)
+      (marked ends.after) (writes ends.after) (call ends.after) ends.passes ends.made;
+  passed = ap (λ (q : SweepState). q.sweep.cursor) ends.passes.stands;
+  halted = tt;
+  no_draft = no_draft;
+  closes = tt;
+  objects = objects;
+}
+piece_ends G w r r1 r2 piece got written (Err stop) a b c k l x y tells of found gives given marked writes call ends no_draft closes objects = record {
+  stands = gone_behind w r r1 r2 (done_at piece got ends.after)
+      (moved (current_in r1.mode) r1.sweep piece.pos piece.len written ends.after) r2.heard (marked ends.after)
+      ends.passes.stands;
+  took = tt;
+  passed = tt;
+  halted = unsaved G w r r1 r2 piece got written ends.after stop a b c k l x y tells of found (gives ends.after) (given ends.after)
+      (marked ends.after) (writes ends.after) (call ends.after) ends.passes ends.broke;
+  no_draft = tt;
+  closes = closes;
+  objects = objects;
+}
+
+-- It was looked up,
+pub looks : {T : Type 0} (r r1 r2 : SweepState) (piece : Piece) (result : Result T Stop) (a b c : SiteState) (k l : ClockState)
+    (x y : ConsoleState) → r.mode ≡ Generate → IsFound r piece → LooksUp piece r r1 a b → SiteStays a b → SiteKeeps b c
+    → c.is_open ≡ b.is_open → a.is_open ≡ true → ClockKeeps k l → EndsPiece result piece 0 r1 r2 (between b c k l x y)
+    → OnOk result (c.is_drafting ≡ false) → IfErr result (λ stop. MayClose (Some stop) c)
+    → PieceEnds (IsLookedUp (setting_of r) a) result (generator (setting_of r)) piece r r2 (between a c k l x y)
+looks r r1 r2 piece result a b c k l x y mode found looked stays keeps same opened clock ends no_draft closes =
+    let s : Setting = setting_of r in
+    piece_ends (IsLookedUp s a) (generator s) r r1 r2 piece looked.got 0 result a b c k l x y stays.keeps.tells
+    (generates_is r s mode) found (λ t. le-leb (length looked.got) piece.len looked.few) (λ t tells apart. looked.told tells)
+    (λ t. looked.marks) (λ t. refl) (λ t. looked.calls) ends no_draft closes
+    (record { site = keeps_more a b c stays.keeps keeps; image = same ∙ stays.image ∙ opened; clock = clock })
+
+-- or wasn't.
+looks_nowhere : (G : Swept → Type 0) (r r1 : SweepState) (piece : Piece) (stop : Stop) (a c : SiteState) (k : ClockState)
+    (x : ConsoleState) → r.mode ≡ Generate → IsFound r piece → r1 ≡ r → LooksNot stop piece r a c
+    → Halted G (setting_of r) (generator (setting_of r)) r.sweep r1.sweep r.heard r1.heard stop (between a c k k x x)
+looks_nowhere G r r1 piece stop a c k x mode found stands (NoRoom is same) =
+    Starved is refl (ap (λ (q : SweepState). q.sweep) stands) (ap (λ (q : SweepState). q.heard) stands) same refl refl
+looks_nowhere G r r1 piece stop a c k x mode found stands (NoRead is breaks) =
+    let s : Setting = setting_of r in
+    uncalled G (generator s) r r1 piece stop (image_read (place s piece.pos) piece.len None) a c k x (generates_is r s mode)
+    found (lost_read s piece.pos piece.len) is stands breaks
+
+closes_then : (r : SweepState) (piece : Piece) (stop : Stop) (a c : SiteState) → LooksNot stop piece r a c
+    → c.is_drafting ≡ false → MayClose (Some stop) c
+closes_then r piece stop a c (NoRoom is same) no_draft = subst (λ (t : Stop). MayClose (Some t) c) (sym is) no_draft
+closes_then r piece stop a c (NoRead is breaks) no_draft = subst (λ (t : Stop). MayClose (Some t) c) (sym is) tt
+
+pub looks_not : {T : Type 0} (G : Swept → Type 0) (r r1 : SweepState) (piece : Piece) (stop : Stop) (result : Result T Stop)
+    (a c : SiteState) (k : ClockState) (x : ConsoleState) → r.mode ≡ Generate → IsFound r piece → r1 ≡ r
+    → LooksNot stop piece r a c → SiteStays a c → a.is_drafting ≡ false → a.is_open ≡ true → result ≡ Err stop
+    → PieceEnds G result (generator (setting_of r)) piece r r1 (between a c k k x x)
+looks_not {T} G r r1 piece stop result a c k x mode found stands not stays no_draft opened is =
+    subst (λ (t : Result T Stop). PieceEnds G t (generator (setting_of r)) piece r r1 (between a c k k x x)) (sym is) (record {
+      stands = stands ∙ ap (λ (q : SweepState). gone_to r q) (sym stands);
+      took = tt;
+      passed = tt;
+      halted = looks_nowhere G r r1 piece stop a c k x mode found stands not;
+      no_draft = tt;
+      closes = closes_then r piece stop a c not (stays.draft ∙ no_draft);
+      objects = record { site = stays.keeps; image = stays.image ∙ opened; clock = clock_self k };
+    })

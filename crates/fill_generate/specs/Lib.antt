@@ -1,0 +1,5 @@
+pub mod Modes
+pub mod SweepState
+pub mod Sweeping
+pub mod Steps
+pub mod Marking

@@ -1,0 +1,34 @@
+-- The two kinds of sweep, and what each takes.
+use Rattle.std.specs.Prelude.{◌≡◌, ℕ, Bool, true, List}
+use Rattle.block_list.specs.declared.status.Status.{Status}
+use Rattle.block_list.specs.declared.status.Status.TheVariants.{NonTried}
+use Rattle.block_list.specs.Status.{same}
+use Rattle.block_list.specs.Types.{has_type}
+use Rattle.mapfile_text.specs.declared.state.Current.{Current}
+use Rattle.mapfile_text.specs.declared.state.Current.TheVariants.{Filling, Generating}
+use Rattle.rescue_rules.specs.Counts.{passing}
+use Rattle.sweep_rules.specs.Sweep.{Sweeper}
+use Rattle.fill_generate.specs.declared.mode.Mode.{Mode}
+use Rattle.fill_generate.specs.declared.mode.Mode.TheVariants.{Fill, Generate}
+
+-- the statuses that are taken
+abbrev pub takes_in : Mode → Status → Bool
+takes_in (Fill types) status = has_type types status
+takes_in Generate status = same NonTried status
+
+-- what a mapfile shows meanwhile
+abbrev pub current_in : Mode → Current
+current_in (Fill types) = Filling
+current_in Generate = Generating
+
+-- the positions of a domain that are taken
+abbrev pub is_taken : Mode → (domain : ℕ → Bool) → List Status → ℕ → Bool
+is_taken mode domain map x = passing (takes_in mode) domain map x
+
+abbrev pub IsTakenIn : Mode → (domain : ℕ → Bool) → List Status → ℕ → Type 0
+IsTakenIn mode domain map x = is_taken mode domain map x ≡ true
+
+-- a sweeper of a mode
+pub record IsOf (mode : Mode) (w : Sweeper) : Type 0 where
+  pub takes : (status : Status) → w.takes status ≡ takes_in mode status
+  pub current : w.current ≡ current_in mode

@@ -1,0 +1,231 @@
+-- The pieces of a sweep one after another, and one at which it stops.
+use Rattle.std.specs.Prelude.{◌≡◌, ℕ, ◌+◌, ◌/◌, ◌<◌, ◌≤◌, ◌^◌, nat_le, Bool, true, false, IsTrue, List, take, drop, [], ◌∷◌, ◌++◌, length, All, Option, Some, None, is_none, if◌then◌else◌, Result, OnOk, IfErr}
+use Rattle.crash_site.specs.declared.site.SiteCall.{SiteCall}
+use Rattle.crash_site.specs.declared.site.SiteCall.TheVariants.{ImageRead}
+use Rattle.crash_site.specs.Files.{bytes_of}
+use Rattle.crash_site.specs.Calls.{Call, call_name, image_read}
+use Rattle.crash_site.specs.SiteState.{SiteState, Keeps as SiteKeeps, Makes, Breaks, image_in}
+use Rattle.rescue_console.specs.ClockState.{Keeps as ClockKeeps, Reads as ReadsClock}
+use Rattle.rescue_console.specs.Speaking.{SpeaksOn, out_pieces}
+use Rattle.rescue_rules.specs.declared.stop.Stop.{Stop}
+use Rattle.rescue_rules.specs.declared.stop.Stop.TheVariants.{SourceLost, Site, LimitMet, NoMemory}
+use Rattle.rescue_rules.specs.declared.stop.RunEnd.{RunEnd}
+use Rattle.rescue_rules.specs.declared.stop.RunEnd.TheVariants.{Stopped, SaveFailed}
+use Rattle.rescue_rules.specs.Setting.{Setting, place}
+use Rattle.rescue_rules.specs.RunCalls.{closing_calls}
+use Rattle.rescue_rules.specs.Said.{is_line_due}
+use Rattle.rescue_rules.specs.Step.{save_interval}
+use Rattle.rescue_rules.specs.Snapshots.{text_of}
+use Rattle.rescue_rules.specs.Lines.{phase_front, report_text}
+use Rattle.save_resume.specs.Saving.{save_calls}
+use Rattle.rescue_rules.specs.Laws.{AreTimes}
+use Rattle.rescue_rules.specs.Work.{end_of}
+use Rattle.rescue_rules.specs.Deeds.{Deed, save_of, deed_calls}
+use Rattle.sweep_rules.specs.Sweep.{Sweeper, Sweep, Swept, IsPiece, IsSweep, IsSweptOut, is_generated, swept, swept_by, due_save, sweep_snapshot, sweep_end}
+use Rattle.sweep_rules.specs.SweepWork.{sweep_report, sweep_calls, piece_lines, pieces_lines, lost_call}
+use Rattle.fill_generate.specs.declared.sweeping.Piece.{Piece}
+use Rattle.fill_generate.specs.SweepState.{SweepState, setting_of, standing, moved}
+use Rattle.fill_generate.specs.Modes.{IsOf, current_in}
+use Rattle.fill_generate.specs.Sweeping.{Around, BreaksBehind, times_behind, IsApart}
+use Rattle.fill_generate.specs.Marking.{finished_at, piece_at}
+use Rattle.rescue_core.specs.Closing.{MayClose}
+
+-- what a piece does on the files
+abbrev pub deed_of : Sweeper → Sweep → Swept → Deed
+deed_of w m e = record { calls = w.call e ∷ []; save = due_save w m e }
+
+-- A piece as it is found: the next one of each sweeper of its kind. It lies at the input position or behind it, isn't
+-- empty, and has places in the output.
+pub record IsFound (r : SweepState) (p : Piece) : Type 0 where
+  pub next : (w : Sweeper) → IsOf r.mode w → IsPiece (setting_of r) w r.sweep p.pos (p.pos + p.len)
+  pub from : r.settings.ipos ≤ p.pos
+  pub some : 0 < p.len
+  pub few : p.len ≤ r.settings.cluster
+  pub within : p.pos + p.len ≤ length r.sweep.map
+  pub short : p.pos + p.len < 2 ^ 63
+  pub placed : place (setting_of r) p.pos + p.len < 2 ^ 63
+
+-- the same sweep, heard or not
+abbrev pub heard_as : SweepState → Bool → SweepState
+heard_as r heard = record r { heard = heard }
+
+-- the line behind a piece, if one is due at this time, and the save
+abbrev pub line_behind : (r r' : SweepState) → (after : ℕ) → List (List ℕ)
+line_behind r r' after =
+    if is_line_due r.sweep.said (current_in r.mode) (after / 1000)
+    then report_text (phase_front r'.sweep.shown) (sweep_report (setting_of r) r'.sweep) ∷ []
+    else []
+
+abbrev pub save_behind : (r r' : SweepState) → (after : ℕ) → List Call
+save_behind r r' after =
+    if nat_le (r.sweep.due_at + save_interval) after
+    then save_calls r.names (text_of r.line (sweep_snapshot r'.sweep)) else []
+
+-- a stop at one of these calls, which failed
+pub record BreaksSave (stop : Stop) (calls : List Call) (site site' : SiteState) : Type 0 where
+  pub call : SiteCall
+  pub is : stop ≡ Site call
+  pub breaks : Breaks call calls site site'
+
+-- a piece for which the output gave these bytes
+abbrev pub got_at : Piece → List ℕ → Swept
+got_at piece got = piece_at piece.pos piece.len got
+
+-- A piece was done: what holds of its event besides, the state behind it, the reading of the clock, and its line.
+pub record Takes (G : Swept → Type 0) (s : Setting) (w : Sweeper) (m m' : Sweep) (heard heard' : Bool) (e : Swept)
+    (o : Around) : Type 0 where
+  pub asks : IsPiece s w m e.pos (e.pos + e.len)
+  pub gives : w.gives e ≡ true
+  pub given : G e
+  pub steps : m' ≡ swept w m e
+  pub timed : ReadsClock (e.after ∷ []) o.clock o.clock'
+  pub fit : e.after < 2 ^ 64
+  pub says : SpeaksOn (out_pieces (piece_lines s w m e)) heard heard' o.console o.console'
+
+-- and with its call, and the save that was due
+pub record Took (G : Swept → Type 0) (s : Setting) (w : Sweeper) (m m' : Sweep) (heard heard' : Bool) (o : Around)
+    : Type 0 where
+  pub event : Swept
+  pub takes : Takes G s w m m' heard heard' event o
+  pub calls : Makes (deed_calls s (deed_of w m event)) o.site o.site'
+
+-- A sweep stopped at a piece:
+pub data Halted (G : Swept → Type 0) (s : Setting) (w : Sweeper) (m m' : Sweep) (heard heard' : Bool) (stop : Stop)
+    (o : Around) : Type 0 where
+  -- for want of memory, before its call
+  Starved : stop ≡ NoMemory → w.starves ≡ true → m' ≡ m → heard' ≡ heard → o.site' ≡ o.site → o.clock' ≡ o.clock
+      → o.console' ≡ o.console → Halted G s w m m' heard heard' stop o
+  -- at its call
+  Uncalled : (p q : ℕ) → IsPiece s w m p q → stop ≡ Site (call_name (lost_call w p q)) → m' ≡ m → heard' ≡ heard
+      → Breaks (call_name (lost_call w p q)) (lost_call w p q ∷ []) o.site o.site' → o.clock' ≡ o.clock
+      → o.console' ≡ o.console → Halted G s w m m' heard heard' stop o
+  -- at the save that was due behind it
+  Unsaved : (event : Swept) → Takes G s w m m' heard heard' event o → (call : SiteCall) → stop ≡ Site call
+      → BreaksBehind call (w.call event ∷ []) (save_of s (due_save w m event)) o.site o.site'
+      → Halted G s w m m' heard heard' stop o
+
+-- Pieces one after another, but for their calls.
+pub record Went (G : Swept → Type 0) (s : Setting) (w : Sweeper) (m m' : Sweep) (heard heard' : Bool) (es : List Swept)
+    (o : Around) : Type 0 where
+  pub run : IsSweep s w m es
+  pub given : All G es
+  pub state : m' ≡ swept_by w m es
+  pub timed : ReadsClock (times_behind es) o.clock o.clock'
+  pub fit : AreTimes (times_behind es)
+  pub says : SpeaksOn (out_pieces (pieces_lines s w m es)) heard heard' o.console o.console'
+
+-- whole ones
+pub record WentOn (G : Swept → Type 0) (s : Setting) (w : Sweeper) (m m' : Sweep) (heard heard' : Bool) (o : Around)
+    : Type 0 where
+  pub events : List Swept
+  pub went : Went G s w m m' heard heard' events o
+  pub made : Makes (sweep_calls s w m events) o.site o.site'
+
+-- The calls of pieces behind which a sweep stopped, for want of memory, at the call of the next one, or at the save that
+-- was due behind the last one.
+pub data Stops (s : Setting) (w : Sweeper) (m : Sweep) (es : List Swept) (stop : Stop) (site site' : SiteState)
+    : Type 0 where
+  IsStarved : stop ≡ NoMemory → w.starves ≡ true → (p q : ℕ) → IsPiece s w (swept_by w m es) p q
+      → Makes (sweep_calls s w m es) site site' → Stops s w m es stop site site'
+  IsCut : (p q : ℕ) → IsPiece s w (swept_by w m es) p q → stop ≡ Site (call_name (lost_call w p q))
+      → BreaksBehind (call_name (lost_call w p q)) (sweep_calls s w m es) (lost_call w p q ∷ []) site site'
+      → Stops s w m es stop site site'
+  IsBroken : (before : List Swept) (last : Swept) (call : SiteCall) → es ≡ before ++ last ∷ [] → stop ≡ Site call
+      → BreaksBehind call (sweep_calls s w m before ++ w.call last ∷ [])
+      (save_of s (due_save w (swept_by w m before) last)) site site'
+      → Stops s w m es stop site site'
+
+-- pieces up to such a stop
+pub record WentUpTo (G : Swept → Type 0) (s : Setting) (w : Sweeper) (m m' : Sweep) (heard heard' : Bool) (stop : Stop)
+    (o : Around) : Type 0 where
+  pub events : List Swept
+  pub went : Went G s w m m' heard heard' events o
+  pub stops : Stops s w m events stop o.site o.site'
+
+-- what stays of the objects; the output stays open
+pub record ObjectsStay (o : Around) : Type 0 where
+  pub site : SiteKeeps o.site o.site'
+  pub image : o.site'.is_open ≡ true
+  pub clock : ClockKeeps o.clock o.clock'
+
+-- the last calls of a sweep that came here returned, or one of them failed
+pub data SavesLast (s : Setting) (m : Sweep) (stop : Option Stop) (end : RunEnd) (site site' : SiteState)
+    : Type 0 where
+  LastSaved : end ≡ end_of stop → Makes (closing_calls s (sweep_end (is_none stop) m)) site site'
+      → SavesLast s m stop end site site'
+  LastFailed : (call : SiteCall) → end ≡ SaveFailed call stop
+      → Breaks call (closing_calls s (sweep_end (is_none stop) m)) site site' → SavesLast s m stop end site site'
+
+-- behind a call on the files that failed no further one is made
+abbrev pub ClosesFiles : Setting → Sweep → Option Stop → RunEnd → (site site' : SiteState) → Type 0
+ClosesFiles s m None end site site' = SavesLast s m None end site site'
+ClosesFiles s m (Some SourceLost) end site site' = SavesLast s m (Some SourceLost) end site site'
+ClosesFiles s m (Some (Site call)) end site site' = (end ≡ Stopped (Site call)) × (site' ≡ site)
+ClosesFiles s m (Some (LimitMet limit)) end site site' = SavesLast s m (Some (LimitMet limit)) end site site'
+ClosesFiles s m (Some NoMemory) end site site' = SavesLast s m (Some NoMemory) end site site'
+
+-- Behind a piece of which so many bytes were written, at this time: the reading of the clock, the state, and the line.
+pub record Passes (piece : Piece) (written after : ℕ) (r r' : SweepState) (o : Around) : Type 0 where
+  pub timed : ReadsClock (after ∷ []) o.clock o.clock'
+  pub fit : after < 2 ^ 64
+  pub stands : r' ≡ heard_as (standing r
+      (moved (current_in r.mode) r.sweep piece.pos piece.len written after)) r'.heard
+  pub says : SpeaksOn (out_pieces (line_behind r r' after)) r.heard r'.heard o.console o.console'
+
+-- the same with its save, if one is due, or with one that broke off
+pub record EndsPiece {T : Type 0} (result : Result T Stop) (piece : Piece) (written : ℕ) (r r' : SweepState) (o : Around)
+    : Type 0 where
+  pub after : ℕ
+  pub passes : Passes piece written after r r' o
+  pub made : OnOk result (Makes (save_behind r r' after) o.site o.site')
+  pub broke : IfErr result (λ stop. BreaksSave stop (save_behind r r' after) o.site o.site')
+
+-- A piece was looked up in the output, and what it gave was marked. Where the site tells, that is what the output held.
+pub record LooksUp (piece : Piece) (r r' : SweepState) (site site' : SiteState) : Type 0 where
+  pub got : List ℕ
+  pub few : length got ≤ piece.len
+  pub marks : r' ≡ standing r (record r.sweep {
+    map = finished_at (is_generated (setting_of r) (got_at piece got)) r.sweep.map;
+  })
+  pub calls : Makes (image_read (place (setting_of r) piece.pos) piece.len (Some (length got)) ∷ []) site site'
+  pub told : IsTrue site.tells
+      → got ≡ take piece.len (drop (place (setting_of r) piece.pos) (bytes_of (image_in site)))
+
+-- memory ran out in front of it, or its read failed
+pub data LooksNot (stop : Stop) (piece : Piece) (r : SweepState) (site site' : SiteState) : Type 0 where
+  NoRoom : stop ≡ NoMemory → site' ≡ site → LooksNot stop piece r site site'
+  NoRead : stop ≡ Site ImageRead
+      → Breaks ImageRead (image_read (place (setting_of r) piece.pos) piece.len None ∷ []) site site'
+      → LooksNot stop piece r site site'
+
+-- what a piece gave that was looked up is what the output holds: where the site tells, and the output isn't overwritten
+-- by saves
+abbrev pub IsLookedUp : Setting → SiteState → Swept → Type 0
+IsLookedUp s site e =
+    IsTrue site.tells → IsApart s.names site → e.got ≡ take e.len (drop (place s e.pos) (bytes_of (image_in site)))
+
+-- the same sweep that stands elsewhere, heard or not
+abbrev pub gone_to : (r r' : SweepState) → SweepState
+gone_to r r' = record r { sweep = r'.sweep; heard = r'.heard }
+
+-- a piece, by its outcome
+pub record PieceEnds {T : Type 0} (G : Swept → Type 0) (result : Result T Stop) (w : Sweeper) (piece : Piece)
+    (r r' : SweepState) (o : Around) : Type 0 where
+  pub stands : r' ≡ gone_to r r'
+  pub took : OnOk result (Took G (setting_of r) w r.sweep r'.sweep r.heard r'.heard o)
+  pub passed : OnOk result (r'.sweep.cursor ≡ piece.pos + piece.len)
+  pub halted : IfErr result (λ stop. Halted G (setting_of r) w r.sweep r'.sweep r.heard r'.heard stop o)
+  pub no_draft : OnOk result (o.site'.is_drafting ≡ false)
+  pub closes : IfErr result (λ stop. MayClose (Some stop) o.site')
+  pub objects : ObjectsStay o
+
+-- all pieces that are left
+pub record PiecesEnd {T : Type 0} (G : Swept → Type 0) (result : Result T Stop) (w : Sweeper) (r r' : SweepState)
+    (o : Around) : Type 0 where
+  pub stands : r' ≡ gone_to r r'
+  pub went : OnOk result (WentOn G (setting_of r) w r.sweep r'.sweep r.heard r'.heard o)
+  pub out : OnOk result (IsSweptOut (setting_of r) w r'.sweep)
+  pub halted : IfErr result (λ stop. WentUpTo G (setting_of r) w r.sweep r'.sweep r.heard r'.heard stop o)
+  pub no_draft : OnOk result (o.site'.is_drafting ≡ false)
+  pub closes : IfErr result (λ stop. MayClose (Some stop) o.site')
+  pub objects : ObjectsStay o

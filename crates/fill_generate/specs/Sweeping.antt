@@ -1,0 +1,91 @@
+-- What a sweep does, by what its objects tell.
+use Rattle.std.specs.Prelude.{◌≡◌, ◌≢◌, ℕ, Bool, IsTrue, List, [], ◌∷◌, ◌++◌, map, Option, Some, is_none}
+use Rattle.fault_count.specs.Counts.{Rose}
+use Rattle.crash_site.specs.declared.site.SiteCall.{SiteCall}
+use Rattle.crash_site.specs.Files.{bytes_of}
+use Rattle.crash_site.specs.Calls.{Call, Entry, Done, BrokeAt, call_name}
+use Rattle.crash_site.specs.Folder.{after}
+use Rattle.crash_site.specs.SiteState.{SiteState, Makes, image_in}
+use Rattle.save_resume.specs.MapNames.{MapNames}
+use Rattle.rescue_console.specs.ClockState.{ClockState, Reads as ReadsClock}
+use Rattle.rescue_console.specs.ConsoleState.{ConsoleState}
+use Rattle.rescue_console.specs.Speaking.{SpeaksOn, out_pieces}
+use Rattle.rescue_rules.specs.declared.stop.Stop.{Stop}
+use Rattle.rescue_rules.specs.declared.stop.Stop.TheVariants.{Site}
+use Rattle.rescue_rules.specs.declared.stop.RunEnd.{RunEnd}
+use Rattle.rescue_rules.specs.declared.stop.RunEnd.TheVariants.{Stopped, SaveFailed}
+use Rattle.rescue_rules.specs.Setting.{Setting}
+use Rattle.rescue_rules.specs.RunCalls.{closing_calls}
+use Rattle.rescue_rules.specs.Laws.{AreTimes}
+use Rattle.rescue_rules.specs.Work.{end_of}
+use Rattle.rescue_rules.specs.Deeds.{save_of, doing_calls}
+use Rattle.sweep_rules.specs.Sweep.{Sweeper, Sweep, Swept, IsPiece, IsSweep, swept_by, due_save, sweep_end, deeds_of}
+use Rattle.sweep_rules.specs.SweepLaws.{AreGiven}
+use Rattle.sweep_rules.specs.SweepWork.{SweptBy, SweepEnds, sweep_calls, sweep_lines, lost_call}
+
+-- what the objects of a sweep tell before something was done, and behind it
+pub record Around : Type 0 where
+  pub site : SiteState
+  pub site' : SiteState
+  pub clock : ClockState
+  pub clock' : ClockState
+  pub console : ConsoleState
+  pub console' : ConsoleState
+
+-- behind these calls, which all returned, one of others failed, which has this name
+pub record BreaksBehind (at : SiteCall) (made calls : List Call) (old new : SiteState) : Type 0 where
+  pub broke : IsTrue old.tells → BrokeAt at calls (old.calls ++ map Done made) new.calls
+  pub rose : Rose old.faults new.faults
+
+-- The end of a sweep by these pieces, by its calls:
+pub data Ends (s : Setting) (w : Sweeper) (m : Sweep) (es : List Swept) (end : RunEnd) (site site' : SiteState)
+    : Type 0 where
+  -- it ended, and its last calls returned
+  Saved : (stop : Option Stop) → SweptBy stop s w (swept_by w m es) → end ≡ end_of stop
+      → Makes (doing_calls s (deeds_of w m es) (sweep_end (is_none stop) (swept_by w m es))) site site'
+      → Ends s w m es end site site'
+  -- it ended, and one of them failed
+  Unsaved : (stop : Option Stop) (call : SiteCall) → SweptBy stop s w (swept_by w m es) → end ≡ SaveFailed call stop
+      → BreaksBehind call (sweep_calls s w m es) (closing_calls s (sweep_end (is_none stop) (swept_by w m es))) site site'
+      → Ends s w m es end site site'
+  -- the call of the next piece failed, which isn't one that was done
+  Cut : (p q : ℕ) → IsPiece s w (swept_by w m es) p q → end ≡ Stopped (Site (call_name (lost_call w p q)))
+      → BreaksBehind (call_name (lost_call w p q)) (sweep_calls s w m es) (lost_call w p q ∷ []) site site'
+      → Ends s w m es end site site'
+  -- a call of the save that was due behind the last piece failed
+  Broken : (before : List Swept) (last : Swept) (call : SiteCall) → es ≡ before ++ last ∷ [] → end ≡ Stopped (Site call)
+      → BreaksBehind call (sweep_calls s w m before ++ w.call last ∷ [])
+      (save_of s (due_save w (swept_by w m before) last)) site site'
+      → Ends s w m es end site site'
+
+-- law: where the site tells, its record goes on with the calls of such a sweep
+abbrev pub EndsAreTold : Type 0
+EndsAreTold = (s : Setting) (w : Sweeper) (m : Sweep) (es : List Swept) (end : RunEnd) (site site' : SiteState)
+    → Ends s w m es end site site' → IsTrue site.tells
+    → (calls : List Entry) × (site'.calls ≡ site.calls ++ calls) × SweepEnds s w m es calls end
+
+-- the readings of the clock behind pieces
+abbrev pub times_behind : List Swept → List ℕ
+times_behind es = map (λ e. e.after) es
+
+-- A sweep from a state, by its pieces: the clock is read behind each, and its lines are said.
+pub record SweepTold (s : Setting) (w : Sweeper) (m : Sweep) (heard heard' : Bool) (end : RunEnd) (o : Around)
+    : Type 0 where
+  pub events : List Swept
+  pub run : IsSweep s w m events
+  pub timed : ReadsClock (times_behind events) o.clock o.clock'
+  pub fit : AreTimes (times_behind events)
+  pub ends : Ends s w m events end o.site o.site'
+  pub says : SpeaksOn (out_pieces (sweep_lines s w m events end)) heard heard' o.console o.console'
+
+-- the open output is neither the mapfile nor its draft
+abbrev pub IsApart : MapNames → SiteState → Type 0
+IsApart names site = (name : List ℕ) → (after site.start site.calls).image ≡ Some name
+    → (name ≢ names.map) × (name ≢ names.draft)
+
+-- A sweep that looks up pieces in the output, which gave what it held when the sweep began: where the site tells, and
+-- the output isn't overwritten by the saves.
+pub record LookupTold (s : Setting) (w : Sweeper) (m : Sweep) (heard heard' : Bool) (end : RunEnd) (o : Around)
+    : Type 0 where
+  pub sweeps : SweepTold s w m heard heard' end o
+  pub given : IsTrue o.site.tells → IsApart s.names o.site → AreGiven s (bytes_of (image_in o.site)) sweeps.events

@@ -1,0 +1,120 @@
+//! Generate mode: what the output holds of what wasn't tried is marked as finished.
+ghost use Rattle.std.specs.Prelude.{◌≡◌, ℕ, ◌+◌, ◌/◌, ◌*◌, ◌-◌, ◌≤◌, true, false, take, length, IfOk, IfErr, OnOk};
+ghost use Rattle.crash_site.specs.SiteState.{Keeps as SiteKeeps};
+ghost use Rattle.rescue_console.specs.ClockState.{Keeps as ClockKeeps};
+ghost use Rattle.mapfile_text.specs.declared.heading.Program.TheVariants.{Ddrescue};
+ghost use Rattle.rescue_domain.specs.Parts.{covers};
+ghost use Rattle.rescue_core.specs.Closing.{MayClose};
+ghost use Rattle.rescue_core.specs.RunState.{IsSound, Suits, HasPlaces};
+ghost use Rattle.sweep_rules.specs.Sweep.{generator, sweep_over};
+ghost use Rattle.fill_generate.specs.declared.mode.Mode.TheVariants.{Generate};
+ghost use Rattle.fill_generate.specs.SweepState.{setting_for, setting_of};
+ghost use Rattle.fill_generate.specs.Steps.{IsFound, PieceEnds, PiecesEnd, IsLookedUp};
+ghost use Rattle.fill_generate.specs.Sweeping.{LookupTold};
+
+use crate::job::Job;
+use crate::mode::Mode;
+use crate::sweeping::{Piece, Sweeping};
+use block_list::tiles::Tiles;
+use crash_site::site::Site;
+use rescue_console::clock::Clock;
+use rescue_console::console::Console;
+use rescue_core::closing::Closed;
+use rescue_rules::stop::Stop;
+
+/// Reads each piece of the positions that weren't tried from the output, from the lowest up, and marks as finished what
+/// the output holds of it. The buffer is a cluster long; what stands in it behind the call is any bytes. The map is saved
+/// meanwhile when it is due, and at the end. It stops where a call on the output or the mapfile fails; and for want of
+/// memory, in front of a piece whose marks the map has no room for.
+pub fn run_generate<D: Site, K: Clock, C: Console, T: Tiles>(
+    job: Job<T>,
+    buffer: &mut [u8],
+    site: &mut D,
+    clock: &mut K,
+    console: &mut C,
+) -> Closed
+    requires room { length buffer.old ≡ job.settings.cluster }
+    requires sound { IsSound job.settings }
+    requires suits { Suits job.settings (covers job.domain) (length (T.statuses job.tiles)) }
+    requires places { HasPlaces job.settings (covers job.domain) }
+    requires program { job.heading.program ≡ Ddrescue }
+    requires image { (D.state site.old).is_open ≡ true }
+    requires no_draft { (D.state site.old).is_drafting ≡ false }
+    ensures sweeps { let s = setting_for job.settings job.domain job.names job.heading.line in
+        let w = generator s in
+        LookupTold s w (sweep_over w (T.statuses job.tiles) job.loaded job.moment) job.heard result.heard result.end
+        (record {
+          site = D.state site.old;
+          site' = D.state site.new;
+          clock = K.state clock.old;
+          clock' = K.state clock.new;
+          console = C.state console.old;
+          console' = C.state console.new;
+        }) }
+    ensures site { SiteKeeps (D.state site.old) (D.state site.new) }
+    ensures image { (D.state site.new).is_open ≡ true }
+    ensures clock { ClockKeeps (K.state clock.old) (K.state clock.new) }
+{
+    let mut sweeping = Sweeping::begin(job, Mode::Generate);
+    match generate_pieces(&mut sweeping, buffer, site, clock, console) {
+        Ok(()) => sweeping.close(None, site, console),
+        Err(stop) => sweeping.close(Some(stop), site, console),
+    }
+}
+
+/// Looks up piece by piece, until none is left.
+fn generate_pieces<D: Site, K: Clock, C: Console, T: Tiles>(
+    sweeping: &mut Sweeping<T>,
+    buffer: &mut [u8],
+    site: &mut D,
+    clock: &mut K,
+    console: &mut C,
+) -> Result<(), Stop>
+    requires generates { sweeping.old.mode ≡ Generate }
+    requires room { length buffer.old ≡ sweeping.old.settings.cluster }
+    requires image { (D.state site.old).is_open ≡ true }
+    requires no_draft { (D.state site.old).is_drafting ≡ false }
+    ensures { PiecesEnd (IsLookedUp (setting_of sweeping.old) (D.state site.old)) result
+        (generator (setting_of sweeping.old)) sweeping.old sweeping.new (record {
+          site = D.state site.old;
+          site' = D.state site.new;
+          clock = K.state clock.old;
+          clock' = K.state clock.new;
+          console = C.state console.old;
+          console' = C.state console.new;
+        }) }
+{
+    'pieces: while let Some(piece) = sweeping.next_piece() {
+        generate_piece(sweeping, piece, buffer, site, clock, console)?;
+    }
+    Ok(())
+}
+
+/// Looks up a piece, behind taking memory for its marks.
+fn generate_piece<D: Site, K: Clock, C: Console, T: Tiles>(
+    sweeping: &mut Sweeping<T>,
+    piece: Piece,
+    buffer: &mut [u8],
+    site: &mut D,
+    clock: &mut K,
+    console: &mut C,
+) -> Result<(), Stop>
+    requires found { IsFound sweeping.old piece }
+    requires generates { sweeping.old.mode ≡ Generate }
+    requires room { length buffer.old ≡ sweeping.old.settings.cluster }
+    requires image { (D.state site.old).is_open ≡ true }
+    requires no_draft { (D.state site.old).is_drafting ≡ false }
+    ensures ends { PieceEnds (IsLookedUp (setting_of sweeping.old) (D.state site.old)) result
+        (generator (setting_of sweeping.old)) piece sweeping.old sweeping.new (record {
+          site = D.state site.old;
+          site' = D.state site.new;
+          clock = K.state clock.old;
+          clock' = K.state clock.new;
+          console = C.state console.old;
+          console' = C.state console.new;
+        }) }
+    ensures room { length buffer.new ≡ length buffer.old }
+{
+    sweeping.look_up(piece, buffer, site)?;
+    sweeping.end_piece(piece, 0, site, clock, console)
+}
