@@ -30,6 +30,8 @@ pub struct SystemClock {
     rt: HostRuntime,
     start: Option<Start>,
     last: u64,
+    /// The last reading stands until the clock that isn't set back comes to this, the end of its millisecond.
+    until: Duration,
 }
 
 impl SystemClock {
@@ -43,6 +45,7 @@ impl SystemClock {
             rt,
             start: None,
             last: 0,
+            until: Duration::ZERO,
         }
     }
 
@@ -55,11 +58,25 @@ impl SystemClock {
         let Ok(now) = self.rt.monotonic() else {
             return self.last;
         };
-        let now = whole_milliseconds(now);
+        if now < self.until {
+            self.last
+        } else {
+            self.read_later(whole_milliseconds(now))
+        }
+    }
+
+    /// The first reading in a millisecond of the other clock.
+    #[inline(never)]
+    fn read_later(&mut self, now: u64) -> u64
+        ensures later { self.old.last ≤ result }
+        ensures last { self.new.last ≡ result }
+        ensures start { IsSome self.old.start → self.new.start ≡ self.old.start }
+    {
         let Some(start) = self.start else {
             return self.begin(now);
         };
         self.last = reading_at(start, now, self.last);
+        self.until = Duration::from_millis(now.saturating_add(1));
         self.last
     }
 

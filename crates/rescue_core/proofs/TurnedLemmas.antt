@@ -3,72 +3,37 @@ use Rattle.std.proofs.Common.{◌≡◌, ℕ, ◌+◌, ◌/◌, Bool, ◌&&◌, 
 use Rattle.std.specs.List.{slice_get}
 use Rattle.block_list.specs.declared.block.Run.{Run}
 use Rattle.block_list.specs.declared.status.Status.{Status}
-use Rattle.mapfile_text.specs.declared.state.Current.{Current}
-use Rattle.mapfile_text.specs.declared.state.MapState.{MapState}
-use Rattle.faulty_source.specs.Ends.{is_before}
-use Rattle.faulty_source.specs.Journal.{Reading}
 use Rattle.faulty_source.specs.SourceState.{SourceState}
 use Rattle.crash_site.specs.SiteState.{SiteState}
 use Rattle.save_resume.specs.MapNames.{MapNames}
 use Rattle.rescue_console.specs.ClockState.{ClockState}
-use Rattle.rescue_domain.specs.declared.live.Live.{Live}
 use Rattle.rescue_domain.specs.Parts.{covers}
 use Rattle.transfer_token.specs.declared.token.Request.{Request}
-use Rattle.transfer_token.specs.Tokens.{IsCut}
 use Rattle.rescue_rules.specs.declared.phase.Phase.{Phase}
 use Rattle.rescue_rules.specs.declared.phase.Phase.TheVariants.{Trimming}
 use Rattle.rescue_rules.specs.declared.stop.Stop.{Stop}
 use Rattle.rescue_rules.specs.Setting.{Setting}
 use Rattle.rescue_rules.specs.Passes.{Pass, numbered, current_of}
 use Rattle.rescue_rules.specs.Machine.{Machine, pass_of, has_taken, is_live, is_wanted, IsRequest}
-use Rattle.rescue_rules.specs.Step.{Event, is_timely, map_after, step}
+use Rattle.rescue_rules.specs.Step.{Event, step}
 use Rattle.rescue_rules.specs.declared.report.Counts.{Counts}
 use Rattle.rescue_rules.specs.Said.{is_line_due}
 use Rattle.rescue_rules.specs.MachineLaws.{StepsBy}
 use Rattle.rescue_rules.proofs.StepLemmas.{move_steps}
 use Rattle.rescue_core.specs.declared.gather.Gathered.{Gathered}
-use Rattle.rescue_core.specs.declared.landing.Kept.{Kept}
 use Rattle.rescue_core.specs.declared.running.Running.TheInside.{Inside}
 use Rattle.rescue_core.specs.declared.settings.Settings.{Settings}
 use Rattle.rescue_core.specs.declared.state.Place.{Place}
 use Rattle.rescue_core.specs.declared.state.Tally.{Tally}
 use Rattle.rescue_core.specs.declared.turn.Turn.{Turn}
+use Rattle.rescue_core.specs.declared.turn.Advanced.{Advanced}
 use Rattle.rescue_core.specs.Across.{Across}
-use Rattle.rescue_core.specs.Counting.{IsMarkedRead}
 use Rattle.rescue_core.specs.RunState.{RunState, setting_in, run_at, HasPlaces, IsRunning, Counted}
 use Rattle.rescue_core.specs.Turning.{turn_of, stepped, Halted}
-use Rattle.rescue_core.specs.TurnParts.{place_of, tally_of, RunsAt, IsReadOf, fetched_of, end_met, Gathers, Advances}
+use Rattle.rescue_core.specs.TurnParts.{place_of, tally_of, RunsAt, IsReadOf, Gathers, Advances}
+use Rattle.rescue_core.specs.Behind.{Marks, GoesOn}
 use Rattle.rescue_core.proofs.TurnLemmas.{sensible_in, Fits, request_fits, wanted_in, run_steps}
 use Rattle.rescue_core.proofs.RunningLemmas.{running_steps}
-
--- what the marks, the place and the tally say
-abbrev pub Marks : Settings → Phase → Place → Request → Kept → List Status → List Status → Type 0
-Marks settings phase place request kept map map' =
-    (r : RunState) (reading : Reading) → RunsAt settings phase place r → r.machine.map ≡ map
-    → reading.pos ≡ request.pos → IsCut settings.sector reading (fetched_of kept)
-    → map' ≡ map_after (setting_in r) r.machine reading
-
-abbrev pub Meets : Settings → Kept → Option ℕ → Type 0
-Meets settings kept end = (reading : Reading) → IsCut settings.sector reading (fetched_of kept) → end ≡ end_met reading
-
-abbrev pub Places : Settings → Phase → Place → Request → Turn → (top : ℕ) → (more : Bool) → Place → Type 0
-Places settings phase place request turn top more place' =
-    (r : RunState) (e : Event) → RunsAt settings phase place r → IsReadOf request turn.given turn.ended e.reading
-    → turn ≡ turn_of r e → length r.machine.map ≡ top
-    → (phase ≡ Trimming → more ≡ is_wanted (setting_in r)
-    (record r.machine { map = map_after (setting_in r) r.machine e.reading }) (request.pos + request.len))
-    → place' ≡ place_of place.pass (step (setting_in r) r.machine e)
-
-abbrev pub Tallies : Tally → Turn → (after : ℕ) → MapState → (end : Option ℕ) → Tally → Type 0
-Tallies tally turn after shown end tally' =
-    (r : RunState) (e : Event) → tally ≡ tally_of r.machine → turn ≡ turn_of r e → e.after ≡ after
-    → shown ≡ (step (setting_in r) r.machine e).shown → end ≡ end_met e.reading
-    → tally' ≡ tally_of (step (setting_in r) r.machine e)
-
-abbrev pub Recounts : Counts → Live → List Status → Phase → Request → Turn → (end : Option ℕ) → Counts → Type 0
-Recounts counts live map' phase request turn end counts' =
-    (r : RunState) (e : Event) (heard : Bool) → Counted r counts → IsMarkedRead r e phase request turn live map'
-    → end ≡ end_met e.reading → Counted (stepped r e heard) counts'
 
 -- the parts of a run before a turn, and behind it
 pub record Parts : Type 0 where
@@ -109,24 +74,12 @@ pub record Begins (p : Parts) (r : RunState) (room : ℕ) (request : Request) : 
   pub places : HasPlaces r.settings (covers r.domain)
   pub asks : IsRequest (setting_in r) r.machine request.pos (request.pos + request.len)
 
--- what the parts of a turn say of the parts of the run
+-- a turn that found room, and goes on behind its read
 pub record Does (p : Parts) (request : Request) (got : Gathered) (map' : List Status) (place' : Place) (tally' : Tally)
-    : Type 0 where
+    (counts counts' : Counts) (advanced : Advanced) : Type 0 where
   pub old : List Status
   pub old_is : old ≡ p.map
-  pub marks : Marks p.settings p.phase p.place request got.kept old map'
-  pub end : Option ℕ
-  pub meets : Meets p.settings got.kept end
-  pub more : Bool
-  pub more_is : p.phase ≡ Trimming → more
-      ≡ ((covers p.domain (request.pos + request.len) && is_before p.tally.over (request.pos + request.len))
-      && has_taken (numbered p.phase 1 ∷ []) (slice_get map' (request.pos + request.len)))
-  pub top : ℕ
-  pub top_is : top ≡ length map'
-  pub places : Places p.settings p.phase p.place request got.turn top more place'
-  pub shown : MapState
-  pub shown_is : shown ≡ record { pos = place'.cursor; current = current_of p.phase; pass = place'.pass }
-  pub tallies : Tallies p.tally got.turn got.after shown end tally'
+  pub goes : GoesOn p.settings p.domain p.phase request got old map' p.place place' p.tally tally' counts counts' advanced
 
 pub begins_of : (T : Type 0) (statuses : T → List Status) (was : Inside T) (r : RunState) (request : Request)
     → run_of (parts_of T statuses was) ≡ r → IsRunning (run_of (parts_of T statuses was)) (length was.buf.items)
@@ -206,11 +159,12 @@ read_of p request got source source' site site' clock clock' g =
 
 -- the run behind the marks of a turn is the one behind its event
 pub does_step : (p : Parts) (r : RunState) (room : ℕ) (request : Request) (got : Gathered) (map' : List Status)
-    (place' : Place) (tally' : Tally) (source source' : SourceState) (site site' : SiteState) (clock clock' : ClockState)
-    → Begins p r room request → (g : Gathers request p.settings got source source' site site' clock clock')
-    → Does p request got map' place' tally'
+    (place' : Place) (tally' : Tally) (counts counts' : Counts) (advanced : Advanced) (source source' : SourceState)
+    (site site' : SiteState) (clock clock' : ClockState) → Begins p r room request
+    → (g : Gathers request p.settings got source source' site site' clock clock')
+    → Does p request got map' place' tally' counts counts' advanced
     → run_of (parts_behind p map' place' tally') ≡ stepped (run_of p) g.event p.heard
-does_step p r room request got map' place' tally' source source' site site' clock clock' b g d =
+does_step p r room request got map' place' tally' counts counts' advanced source source' site site' clock clock' b g d =
     let before : RunState = run_of p in
     let e : Event = g.event in
     let s : Setting = setting_in before in
@@ -221,35 +175,34 @@ does_step p r room request got map' place' tally' source source' site site' cloc
     let read : IsReadOf request got.turn.given got.turn.ended e.reading
     = read_of p request got source source' site site' clock clock' g in
     let map_is : map' ≡ n.map
-    = marks_map p r room request got d.old map' source source' site site' clock clock' b g d.old_is d.marks in
+    = marks_map p r room request got d.old map' source source' site site' clock clock' b g d.old_is d.goes.marks in
     let x : ℕ = request.pos + request.len in
-    let more : p.phase ≡ Trimming → d.more ≡ is_wanted s (record m { map = n.map }) x
-    = λ trims. d.more_is trims
+    let more : p.phase ≡ Trimming → d.goes.more ≡ is_wanted s (record m { map = n.map }) x
+    = λ trims. d.goes.more_is trims
     ∙ ap (λ (l : List Status). is_live s m x && has_taken (numbered p.phase 1 ∷ []) (slice_get l x)) map_is
     ∙ wanted_in s m n.map p.phase p.place.pass 1 request.pos x (begins_fits p r room request b).wanted b.running.pass in
-    let size : length m.map ≡ d.top
-    = sym (marks_size p r room request got d.old map' source source' site site' clock clock' b g d.old_is d.marks)
-    ∙ sym d.top_is in
-    let place_is : place' ≡ place_of p.place.pass n = d.places before e at read turn size more in
-    let shown : d.shown ≡ n.shown
-    = d.shown_is
+    let size : length m.map ≡ length d.old = ap (λ (l : List Status). length l) (sym d.old_is) in
+    let place_is : place' ≡ place_of p.place.pass n = d.goes.places before e at read turn size more in
+    let shown : d.goes.shown ≡ n.shown
+    = d.goes.shown_is
     ∙ ap (λ (q : Place). record { pos = q.cursor; current = current_of p.phase; pass = q.pass }) place_is
     ∙ ap (λ (q : Pass). record { pos = n.cursor; current = current_of q.phase; pass = q.number }) (sym b.running.pass) in
     let tally_is : tally' ≡ tally_of n
-    = d.tallies before e refl turn g.after shown (d.meets e.reading g.cut) in
+    = d.goes.tallies before e refl turn g.after shown (d.goes.meets e.reading g.cut) in
     run_steps p.settings p.domain p.names p.line p.map map' p.phase p.place place' p.tally tally' p.heard e map_is
     place_is tally_is
 
 -- it stands as between any turns
 pub does_running : (p : Parts) (r : RunState) (room : ℕ) (request : Request) (got : Gathered) (map' : List Status)
-    (place' : Place) (tally' : Tally) (source source' : SourceState) (site site' : SiteState) (clock clock' : ClockState)
-    → Begins p r room request → Gathers request p.settings got source source' site site' clock clock'
-    → Does p request got map' place' tally' → IsRunning (run_of (parts_behind p map' place' tally')) room
-does_running p r room request got map' place' tally' source source' site site' clock clock' b g d =
+    (place' : Place) (tally' : Tally) (counts counts' : Counts) (advanced : Advanced) (source source' : SourceState)
+    (site site' : SiteState) (clock clock' : ClockState) → Begins p r room request
+    → Gathers request p.settings got source source' site site' clock clock'
+    → Does p request got map' place' tally' counts counts' advanced → IsRunning (run_of (parts_behind p map' place' tally')) room
+does_running p r room request got map' place' tally' counts counts' advanced source source' site site' clock clock' b g d =
     let before : RunState = run_of p in
     let e : Event = g.event in
     subst (λ (x : RunState). IsRunning x room)
-    (sym (does_step p r room request got map' place' tally' source source' site site' clock clock' b g d))
+    (sym (does_step p r room request got map' place' tally' counts counts' advanced source source' site site' clock clock' b g d))
     (running_steps before room e p.heard b.running
     (event_asks (setting_in before) before.machine e request.pos request.len g.is.pos g.is.asked
     (begins_asks p r room request b))
@@ -257,16 +210,15 @@ does_running p r room request got map' place' tally' source source' site site' c
 
 -- and its counts are those of its map
 pub does_counted : (p : Parts) (r : RunState) (room : ℕ) (request : Request) (got : Gathered) (map' : List Status)
-    (place' : Place) (tally' : Tally) (counts counts' : Counts) (live : Live) (source source' : SourceState)
+    (place' : Place) (tally' : Tally) (counts counts' : Counts) (advanced : Advanced) (source source' : SourceState)
     (site site' : SiteState) (clock clock' : ClockState) → Begins p r room request
-    → Gathers request p.settings got source source' site site' clock clock' → (d : Does p request got map' place' tally')
-    → Counted (run_of p) counts → live.domain.now ≡ p.domain → live.over ≡ p.tally.over
-    → Recounts counts live map' p.phase request got.turn d.end counts'
+    → Gathers request p.settings got source source' site site' clock clock'
+    → Does p request got map' place' tally' counts counts' advanced → Counted (run_of p) counts
     → Counted (run_of (parts_behind p map' place' tally')) counts'
-does_counted p r room request got map' place' tally' counts counts' live source source' site site' clock clock' b g d were domain over recounts =
+does_counted p r room request got map' place' tally' counts counts' advanced source source' site site' clock clock' b g d were =
     subst (λ (x : RunState). Counted x counts')
-    (sym (does_step p r room request got map' place' tally' source source' site site' clock clock' b g d))
-    (recounts (run_of p) g.event p.heard were (record {
+    (sym (does_step p r room request got map' place' tally' counts counts' advanced source source' site site' clock clock' b g d))
+    (d.goes.recounts (run_of p) g.event p.heard were (record {
       room = room;
       running = b.running;
       phase_is = refl;
@@ -274,37 +226,32 @@ does_counted p r room request got map' place' tally' counts counts' live source 
       read = read_of p request got source source' site site' clock clock' g;
       few = g.is.few;
       answers = g.turn (run_of p) refl;
-      domain_is = domain;
-      over_is = over;
-      map_is = marks_map p r room request got d.old map' source source' site site' clock clock' b g d.old_is d.marks;
-    }) (d.meets g.event.reading g.cut))
+      domain_is = d.goes.domain_is;
+      over_is = d.goes.over_is;
+      map_is = marks_map p r room request got d.old map' source source' site site' clock clock' b g d.old_is d.goes.marks;
+    }) (d.goes.meets g.event.reading g.cut))
 
 -- a turn up to its marks
 pub does_advance : (p : Parts) (r : RunState) (room : ℕ) (request : Request) (got : Gathered) (map' : List Status)
-    (place' : Place) (tally' : Tally) (speaks saves : Bool) (source source' : SourceState) (site site' : SiteState)
-    (clock clock' : ClockState) → Begins p r room request
-    → (g : Gathers request p.settings got source source' site site' clock clock') → (d : Does p request got map' place' tally')
-    → speaks ≡ is_line_due p.tally.said d.shown.current (got.after / 1000)
-    → ((m : Machine) (e : Event) → m.due_at ≡ p.tally.due_at → e.after ≡ got.after → saves ≡ is_timely m e)
-    → Advances request (record { turn = got.turn; speaks = speaks; saves = saves }) r
-    (run_of (parts_behind p map' place' tally')) source source' site site' clock clock'
-does_advance p r room request got map' place' tally' speaks saves source source' site site' clock clock' b g d line due =
+    (place' : Place) (tally' : Tally) (counts counts' : Counts) (advanced : Advanced) (source source' : SourceState)
+    (site site' : SiteState) (clock clock' : ClockState) → Begins p r room request
+    → Gathers request p.settings got source source' site site' clock clock'
+    → Does p request got map' place' tally' counts counts' advanced
+    → Advances request advanced r (run_of (parts_behind p map' place' tally')) source source' site site' clock clock'
+does_advance p r room request got map' place' tally' counts counts' advanced source source' site site' clock clock' b g d =
     let behind : RunState = run_of (parts_behind p map' place' tally') in
     let is : behind ≡ stepped (run_of p) g.event p.heard
-    = does_step p r room request got map' place' tally' source source' site site' clock clock' b g d in
-    subst (λ (x : RunState). Advances request (record { turn = got.turn; speaks = speaks; saves = saves }) x behind source
-    source' site site' clock clock') b.is (record {
+    = does_step p r room request got map' place' tally' counts counts' advanced source source' site site' clock clock' b g d in
+    subst (λ (x : RunState). Advances request advanced x behind source source' site site' clock clock') b.is (record {
       event = g.event;
       is = g.is;
-      answers = g.turn (run_of p) refl;
+      answers = d.goes.answers ∙ g.turn (run_of p) refl;
       steps = is;
       writes = g.writes (run_of p) refl;
-      speaks = line
-          ∙ ap (λ (current : Current). is_line_due p.tally.said current (got.after / 1000))
-          (ap (λ (shown : MapState). shown.current) d.shown_is
-          ∙ ap (λ (q : Pass). current_of q.phase) (sym b.running.pass))
+      speaks = d.goes.speaks
+          ∙ ap (λ (q : Pass). is_line_due p.tally.said (current_of q.phase) (got.after / 1000)) (sym b.running.pass)
           ∙ ap (λ (n : ℕ). is_line_due p.tally.said (current_of (pass_of (run_of p).machine).phase) (n / 1000)) (sym g.after);
-      saves = due (run_of p).machine g.event refl g.after;
+      saves = d.goes.saves (run_of p).machine g.event refl g.after;
     })
 
 -- a turn that stopped before its marks leaves the run

@@ -1,6 +1,7 @@
 //! The run of a rescue: its state, its turns, its end. A turn is one step of the rules.
 #![tactic(auto)]
 
+mod behind;
 pub mod closing;
 pub mod counts;
 mod gather;

@@ -1,5 +1,6 @@
 //! The limits that are set to a run.
-ghost use Rattle.std.specs.Prelude.{◌≡◌, option_map};
+ghost use Rattle.std.specs.Prelude.{◌≡◌, ◌-◌, Some, None, option_map, if◌then◌else◌};
+ghost use Rattle.rescue_rules.specs.declared.stop.Limit.TheVariants.{TimedOut};
 ghost use Rattle.rescue_rules.specs.Step.{areas_allowed, is_beyond, limit_met, time_allowed};
 ghost use Rattle.rescue_core.specs.RunState.{RunState, Counted, setting_in};
 ghost use Rattle.rescue_core.specs.TurnParts.{tally_of};
@@ -31,13 +32,18 @@ fn has_too_many(settings: &Settings, tally: Tally, areas: u64) -> bool
     }
 }
 
-/// Whether there was no read but failed ones for longer than may be.
-fn is_late(settings: &Settings, idle: u64) -> bool
-    ensures { (r : RunState) → r.settings ≡ settings.now → result ≡ is_beyond (time_allowed (setting_in r)) idle }
+/// The limit of a run that had no read but failed ones for longer than may be.
+fn late(settings: &Settings, tally: Tally) -> Option<Limit>
+    ensures { (r : RunState) → r.settings ≡ settings.now → tally ≡ tally_of r.machine
+        → result ≡ (if is_beyond (time_allowed (setting_in r)) (r.machine.now - r.machine.whole_at)
+        then Some (TimedOut (r.machine.now - r.machine.whole_at)) else None) }
 {
-    match settings.timeout {
-        None => false,
-        Some(seconds) => seconds.saturating_mul(1000) < idle,
+    let seconds = settings.timeout?;
+    let idle = tally.now.saturating_sub(tally.whole_at);
+    if seconds.saturating_mul(1000) < idle {
+        Some(Limit::TimedOut(idle))
+    } else {
+        None
     }
 }
 
@@ -46,16 +52,13 @@ pub(crate) fn limit_met(settings: &Settings, tally: Tally, counts: Counts) -> Op
     ensures { (r : RunState) → r.settings ≡ settings.now → tally ≡ tally_of r.machine → Counted r counts
         → result ≡ limit_met (setting_in r) r.machine }
 {
-    let idle = tally.now.saturating_sub(tally.whole_at);
     if tally.said.is_none() {
         None
     } else if is_beyond(settings.max_errors, tally.failed) {
         Some(Limit::TooManyErrors(tally.failed))
     } else if has_too_many(settings, tally, counts.failed.areas) {
         Some(Limit::TooManyAreas(counts.failed.areas))
-    } else if is_late(settings, idle) {
-        Some(Limit::TimedOut(idle))
     } else {
-        None
+        late(settings, tally)
     }
 }

@@ -20,6 +20,7 @@ use transfer_token::book::{book, book_missed};
 use transfer_token::token::{Missed, Request};
 
 /// Marks what was kept of a request, and what was missed; answers where the input ended, if the read met its end.
+#[inline(always)]
 pub(crate) fn mark<T: Tiles>(
     tiles: &mut T,
     kept: Kept,

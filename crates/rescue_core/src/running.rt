@@ -17,20 +17,17 @@ ghost use Rattle.rescue_core.specs.Turning.{Turned, Halted};
 ghost use Rattle.rescue_core.specs.TurnParts.{Advances};
 ghost use Rattle.rescue_core.specs.Closing.{Closes, MayClose, Saves, drafting_after, last_pieces};
 
+use crate::behind::go_on_by_kind;
 use crate::closing::{Closed, end_saved, last_shown};
-use crate::counts::{count_behind, counts_at_first};
-use crate::gather::{Gathered, gather};
+use crate::counts::counts_at_first;
+use crate::gather::gather;
 use crate::limit::limit_met;
 use crate::line::{say_last, say_phase};
-use crate::mark::mark;
-use crate::place::place_behind;
 use crate::request::{leads_up, next_lead, next_request};
 use crate::save_now::{save_now, save_or_sync};
 use crate::settings::Settings;
 use crate::state::{Place, Tally};
-use crate::tally::{Due, shown_at, tally_behind};
 use crate::turn::{Advanced, Turn};
-use crate::wanted::trims_on;
 use block_list::tiles::Tiles;
 use crash_site::site::Site;
 use faulty_source::source::Source;
@@ -290,53 +287,18 @@ impl<T: Tiles> Running<T> {
         if self.tiles.reserve(MOST_NEW_BLOCKS).is_err() {
             return Err(Stop::NoMemory);
         }
-        let Gathered { kept, turn, after } = gather(
-            request,
+        let gathered = gather(request, &self.settings, &mut self.buf, source, site, clock)?;
+        Ok(go_on_by_kind(
             &self.settings,
-            &mut self.buf,
-            source,
-            site,
-            clock,
-        )?;
-        let met = mark(
+            &self.domain,
             &mut self.tiles,
-            kept,
-            request,
-            &self.settings,
-            self.phase,
-            self.place,
-        );
-        let end = request.pos + request.len as u64;
-        let live = Live {
-            domain: &self.domain,
-            over: self.tally.over,
-        };
-        count_behind(
-            &mut self.counts,
-            live,
-            &self.tiles,
-            self.phase,
-            request,
-            turn,
-            met,
-        );
-        let more = trims_on(live, &self.tiles, self.phase, end);
-        place_behind(
-            &self.settings,
-            self.phase,
             &mut self.place,
-            self.tiles.end(),
+            &mut self.tally,
+            &mut self.counts,
+            self.phase,
             request,
-            turn,
-            more,
-        );
-        let shown = shown_at(self.phase, self.place);
-        let Due { speaks, saves } = tally_behind(&mut self.tally, turn, after, shown, met);
-        Ok(Advanced {
-            turn,
-            speaks,
-            saves,
-        })
+            gathered,
+        ))
     }
 
     /// Saves the map if it is time for that and there is a mapfile.

@@ -10,6 +10,7 @@ use block_list::tiles::Tiles;
 use rescue_domain::live::Live;
 
 /// The first run, at or after a position, of positions left of a domain that have a status.
+#[inline(always)]
 pub fn find_up<T: Tiles>(live: Live<'_>, tiles: &T, from: u64, status: Status) -> Option<Run>
     ensures first { IfSome result (λ run.
         IsFirst (IsMarked (lives live.entry) (T.statuses tiles.now) status) from run.from) }
@@ -33,6 +34,7 @@ pub fn find_up<T: Tiles>(live: Live<'_>, tiles: &T, from: u64, status: Status) -
 }
 
 /// The last run that ends at or before a position, of positions left of a domain that have a status.
+#[inline(always)]
 pub fn find_down<T: Tiles>(live: Live<'_>, tiles: &T, before: u64, status: Status) -> Option<Run>
     ensures last { IfSome result (λ run.
         IsLast (IsMarked (lives live.entry) (T.statuses tiles.now) status) before run.to) }

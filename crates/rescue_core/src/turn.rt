@@ -1,4 +1,4 @@
-ghost use Rattle.std.specs.Prelude.{◌≡◌, not, ◌||◌};
+ghost use Rattle.std.specs.Prelude.{◌≡◌, true, false, not, ◌||◌};
 
 /// What a turn did.
 #[derive(Clone, Copy, Debug, PartialEq, Eq)]
@@ -28,5 +28,14 @@ impl Turn {
         ensures { result ≡ not (self.now.whole || self.now.ended) }
     {
         !self.whole && !self.ended
+    }
+
+    /// Whether it was whole, and not slow.
+    pub(crate) fn is_plain(&self) -> bool
+        ensures whole { result ≡ true → self.now.whole ≡ true }
+        ensures slow { result ≡ true → self.now.slow ≡ false }
+        ensures ended { result ≡ true → self.now.ended ≡ false }
+    {
+        self.whole && !self.slow && !self.ended
     }
 }
