@@ -4,7 +4,6 @@ use Rattle.std.proofs.lemmas.Bool.Decides.{nat_tests}
 use Rattle.std.proofs.lemmas.List.{map-append, take-replicate, drop-replicate}
 use Rattle.std.proofs.lemmas.List.Elements.{All-append, All-cons, All-nil, All-same}
 use Rattle.std.specs.List.{slice_range}
-use Rattle.fault_count.specs.Counts.{raised}
 use Rattle.block_list.specs.declared.status.Status.{Status}
 use Rattle.faulty_source.specs.declared.memory.ReadEntry.{ReadEntry}
 use Rattle.faulty_source.specs.declared.source.Got.{Got}
@@ -151,7 +150,3 @@ read_answers_by {E} len test reference es es' es'' name was is opens faults loss
     (source_state len test reference xs name was opens faults losses))
     (sym (more ∙ ap (λ (xs : List ReadEntry). xs ++ e ∷ []) same))
     (read_answers len test reference es name was opens faults losses pos asked buf' got e got_is entry zeros))
-
--- a count that rose isn't 0
-pub rose_some : (n m : ℕ) → m ≡ raised n → false ≡ nat_eq m 0
-rose_some n m e = let some : 1 ≤ m = omega (arith, e) in grind (arith, nat_tests, some)

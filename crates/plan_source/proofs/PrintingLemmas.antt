@@ -1,43 +1,49 @@
 -- What a console got of a journal's lines, line by line.
-use Rattle.std.proofs.Common.{◌≡◌, ℕ, zero, suc, ◌+◌, ◌-◌, ◌≤◌, Bool, true, false, IsTrue, List, [], ◌∷◌, ◌++◌, length, take, drop, Option, Some, None, is_some, Result, Ok, Err, refl, sym, ap, subst, ◌∙◌, arith, append_assoc, length-append}
+use Rattle.std.proofs.Common.{◌≡◌, ℕ, ◌+◌, ◌-◌, ◌<◌, Bool, false, IsTrue, List, [], ◌∷◌, ◌++◌, length, take, drop, Option, Some, None, is_some, refl, sym, ap, subst, ◌∙◌, arith, append_assoc, length-append}
 use Rattle.std.proofs.lemmas.List.{append-nil, drop_at, take_at, take-append-drop}
 use Rattle.std.proofs.lemmas.Grind.{flat_map-append}
 use Rattle.fault_count.specs.Counts.{raised}
 use Rattle.faulty_source.specs.declared.memory.ReadEntry.{ReadEntry}
 use Rattle.rescue_console.specs.declared.console.Channel.TheVariants.{Out}
-use Rattle.rescue_console.specs.ConsoleState.{Answers, ConsoleState, Keeps, GoesOn, StaysBeside, Puts, PutsPart}
+use Rattle.rescue_console.specs.ConsoleState.{ConsoleState, GoesOn, StaysBeside, Puts, PutsPart}
+use Rattle.plan_source.specs.declared.loss.PlanLoss.{PlanLoss}
 use Rattle.plan_source.specs.declared.loss.PlanLoss.TheVariants.{Memory, Console}
-use Rattle.plan_source.specs.declared.loss.LostRead.{LostRead}
 use Rattle.plan_source.specs.Lines.{line_of_entry, lines_of_entries}
-use Rattle.plan_source.specs.Printing.{BeginsBehind, HasPrinted, PutsBehind, broken_line, is_broken, is_put_loss, line_if, faults_if}
+use Rattle.plan_source.specs.Printing.{BeginsBehind, BreaksLast, HasPrinted, PutsBehind, but_last, last_of, AreCounted}
 
--- what nothing changes, one after another
-keeps_self : (s : ConsoleState) → Keeps s s
-keeps_self s = record { tells = refl; planned = refl; out = omega arith; err = omega arith }
+-- ---- the last entry of a journal
 
-stays_self : (s : ConsoleState) → StaysBeside Out s s
-stays_self s = record { keeps = keeps_self s; other = refl }
+last_place : (before : List ReadEntry) (last : ReadEntry) → length (before ++ last ∷ []) - 1 ≡ length before
+last_place before last = omega (arith, length-append before (last ∷ []))
 
-stays_more : (a b c : ConsoleState) → StaysBeside Out a b → StaysBeside Out b c → StaysBeside Out a c
-stays_more a b c f g = record {
-  keeps = record {
-    tells = g.keeps.tells ∙ f.keeps.tells;
-    planned = g.keeps.planned ∙ f.keeps.planned;
-    out = omega (arith, f.keeps.out, g.keeps.out);
-    err = omega (arith, f.keeps.err, g.keeps.err);
-  };
-  other = g.other ∙ f.other;
-}
+but_last_is : (before : List ReadEntry) (last : ReadEntry) → but_last (before ++ last ∷ []) ≡ before
+but_last_is before last =
+    ap (λ (n : ℕ). take n (before ++ last ∷ [])) (last_place before last) ∙ take_at before (last ∷ []) (length before) refl
 
-take_nothing : (n : ℕ) → take {A = ℕ} n [] ≡ []
-take_nothing zero = refl
-take_nothing (suc n) = refl
+last_is : (before : List ReadEntry) (last : ReadEntry) → last_of (before ++ last ∷ []) ≡ last ∷ []
+last_is before last =
+    ap (λ (n : ℕ). drop n (before ++ last ∷ [])) (last_place before last) ∙ drop_at before (last ∷ []) (length before) refl
 
--- a text with nothing behind another is that one
-same_text : (before now : List ℕ) → BeginsBehind [] before now → now ≡ before
-same_text before now b =
-    let none : drop (length before) now ≡ [] = sym b.part ∙ take_nothing (length now - length before) in
-    b.is ∙ ap (λ (t : List ℕ). before ++ t) none ∙ append-nil before
+-- a journal that has one
+pub record EndsWith (entries : List ReadEntry) : Type 0 where
+  pub before : List ReadEntry
+  pub last : ReadEntry
+  pub are : entries ≡ before ++ last ∷ []
+
+pub ends_with : (entries : List ReadEntry) → 0 < length entries → EndsWith entries
+ends_with [] some = absurd (omega (arith, some))
+ends_with (e ∷ []) some = record { before = []; last = e; are = refl }
+ends_with (e ∷ f ∷ more) some =
+    let rest = ends_with (f ∷ more) (omega arith) in
+    record { before = e ∷ rest.before; last = rest.last; are = ap (λ (xs : List ReadEntry). e ∷ xs) rest.are }
+
+one_line : (e : ReadEntry) → lines_of_entries (e ∷ []) ≡ line_of_entry e
+one_line e = append-nil (line_of_entry e)
+
+lines_more : (es : List ReadEntry) (e : ReadEntry) → lines_of_entries (es ++ e ∷ []) ≡ lines_of_entries es ++ lines_of_entries (e ∷ [])
+lines_more es e = flat_map-append line_of_entry es (e ∷ [])
+
+-- ---- texts that go on
 
 begins_part : (before part left piece now : List ℕ) → part ++ left ≡ piece → now ≡ before ++ part
     → BeginsBehind piece before now
@@ -52,10 +58,6 @@ begins_part before part left piece now split is =
           ∙ take_at part left (length part) refl ∙ sym rest;
     }
 
-begins_same : (before now : List ℕ) → now ≡ before → BeginsBehind [] before now
-begins_same before now is = begins_part before [] [] [] now refl (is ∙ sym (append-nil before))
-
--- such a text goes on with a beginning of the piece
 goes_on : (piece before now : List ℕ) → BeginsBehind piece before now → GoesOn piece before now
 goes_on piece before now b =
     let n : ℕ = length now - length before in
@@ -66,115 +68,175 @@ goes_on piece before now b =
       is = b.is;
     }
 
+begins_as : (piece piece' before before' now : List ℕ) → piece ≡ piece' → before ≡ before' → BeginsBehind piece before now
+    → BeginsBehind piece' before' now
+begins_as piece piece' before before' now same behind b =
+    subst (λ (p : List ℕ). BeginsBehind p before' now) same (subst (λ (t : List ℕ). BeginsBehind piece t now) behind b)
+
+-- ---- what nothing changes, one after another
+
+stays_self : (s : ConsoleState) → StaysBeside Out s s
+stays_self s = record {
+  keeps = record { tells = refl; planned = refl; out = omega arith; err = omega arith };
+  other = refl;
+}
+
+stays_more : (a b c : ConsoleState) → StaysBeside Out a b → StaysBeside Out b c → StaysBeside Out a c
+stays_more a b c f g = record {
+  keeps = record {
+    tells = g.keeps.tells ∙ f.keeps.tells;
+    planned = g.keeps.planned ∙ f.keeps.planned;
+    out = omega (arith, f.keeps.out, g.keeps.out);
+    err = omega (arith, f.keeps.err, g.keeps.err);
+  };
+  other = g.other ∙ f.other;
+}
+
+still : (a b : Bool) → b ≡ a → IsTrue a → IsTrue b
+still a b same on = subst IsTrue (sym same) on
+
+-- ---- the lines of a journal
+
 -- Nothing was put yet.
 pub printed_nothing : (s : ConsoleState) → HasPrinted s s [] None
 printed_nothing s = record {
-  stays = stays_self s;
-  text = λ tells. begins_same (s.out.text ++ []) s.out.text (sym (append-nil s.out.text));
-  unput = λ planned tells. sym (append-nil s.out.text);
-  faults = refl;
-  fed = λ planned whole. refl;
+  whole = λ whole. record {
+    stays = stays_self s;
+    whole = λ tells. sym (append-nil s.out.text);
+    kept = refl;
+    fed = λ planned. refl;
+  };
+  broken = λ broken. absurd (cc broken);
 }
 
-lines_more : (es : List ReadEntry) (e : ReadEntry) → lines_of_entries (es ++ e ∷ []) ≡ lines_of_entries es ++ line_of_entry e
-lines_more es e =
-    flat_map-append line_of_entry es (e ∷ [])
-    ∙ ap (λ (t : List ℕ). lines_of_entries es ++ t) (append-nil (line_of_entry e))
+-- One line was put,
+pub printed_one : (s s' : ConsoleState) (e : ReadEntry) → Puts Out (line_of_entry e) s s' → HasPrinted s s' (e ∷ []) None
+printed_one s s' e p = record {
+  whole = λ whole. subst (λ (t : List ℕ). Puts Out t s s') (sym (one_line e)) p;
+  broken = λ broken. absurd (cc broken);
+}
 
-module _ (start now now' : ConsoleState) (es : List ReadEntry) (e : ReadEntry) (h : HasPrinted start now es None) where
+-- or its put failed;
+pub printed_part : (s s' : ConsoleState) (e : ReadEntry) → PutsPart Out (line_of_entry e) s s'
+    → (IsTrue s.is_planned → s'.out.text ≡ s.out.text) → HasPrinted s s' (e ∷ []) (Some Console)
+printed_part s s' e p unput =
+    let behind : s.out.text ++ lines_of_entries (but_last (e ∷ [])) ≡ s.out.text =
+    ap (λ (es : List ReadEntry). s.out.text ++ lines_of_entries es) (but_last_is [] e) ∙ append-nil s.out.text in
+    let piece : lines_of_entries (last_of (e ∷ [])) ≡ line_of_entry e = ap lines_of_entries (last_is [] e) ∙ one_line e in
+    record {
+      whole = λ whole. absurd (cc whole);
+      broken = λ broken. record {
+        some = omega arith;
+        stays = p.stays;
+        text = λ tells.
+            let g = p.part tells in
+            begins_as (line_of_entry e) (lines_of_entries (last_of (e ∷ []))) s.out.text
+            (s.out.text ++ lines_of_entries (but_last (e ∷ []))) s'.out.text (sym piece) (sym behind)
+            (begins_part s.out.text g.part g.left (line_of_entry e) s'.out.text g.split g.is);
+        unput = λ planned tells. unput planned ∙ sym behind;
+        rose = p.rose;
+      };
+    }
+
+-- and so it is behind the lines of a journal,
+module _ (start now now' : ConsoleState) (es : List ReadEntry) (e : ReadEntry) (lost : Option PlanLoss)
+    (h : HasPrinted start now es None) (one : HasPrinted now now' (e ∷ []) lost) where
   tells_now : IsTrue start.tells → IsTrue now.tells
-  tells_now tells = subst (λ (b : Bool). IsTrue b) (sym h.stays.keeps.tells) tells
+  tells_now = still start.tells now.tells (h.whole refl).stays.keeps.tells
 
-  text_now : IsTrue start.tells → now.out.text ≡ start.out.text ++ lines_of_entries es
-  text_now tells = same_text (start.out.text ++ lines_of_entries es) now.out.text (h.text tells)
+  planned_now : IsTrue start.is_planned → IsTrue now.is_planned
+  planned_now = still start.is_planned now.is_planned (h.whole refl).stays.keeps.planned
 
-  text_more : Puts Out (line_of_entry e) now now' → IsTrue start.tells
-      → now'.out.text ≡ start.out.text ++ lines_of_entries (es ++ e ∷ [])
-  text_more p tells =
-      p.whole (tells_now tells) ∙ ap (λ (t : List ℕ). t ++ line_of_entry e) (text_now tells)
-      ∙ append_assoc start.out.text (lines_of_entries es) (line_of_entry e)
-      ∙ ap (λ (t : List ℕ). start.out.text ++ t) (sym (lines_more es e))
+  all_more : Puts Out (lines_of_entries (e ∷ [])) now now' → Puts Out (lines_of_entries (es ++ e ∷ [])) start now'
+  all_more p =
+      let w : Puts Out (lines_of_entries es) start now = h.whole refl in
+      record {
+        stays = stays_more start now now' w.stays p.stays;
+        whole = λ tells.
+            p.whole (tells_now tells) ∙ ap (λ (t : List ℕ). t ++ lines_of_entries (e ∷ [])) (w.whole tells)
+            ∙ append_assoc start.out.text (lines_of_entries es) (lines_of_entries (e ∷ []))
+            ∙ ap (λ (t : List ℕ). start.out.text ++ t) (sym (lines_more es e));
+        kept = p.kept ∙ w.kept;
+        fed = λ planned. p.fed (planned_now planned) ∙ w.fed planned;
+      }
 
-  -- one more line was put,
-  pub printed_more : Puts Out (line_of_entry e) now now' → HasPrinted start now' (es ++ e ∷ []) None
-  printed_more p = record {
-    stays = stays_more start now now' h.stays p.stays;
-    text = λ tells. begins_same (start.out.text ++ lines_of_entries (es ++ e ∷ [])) now'.out.text (text_more p tells);
-    unput = λ planned tells. text_more p tells;
-    faults = p.kept ∙ h.faults;
-    fed = λ planned whole.
-        p.fed (subst (λ (b : Bool). IsTrue b) (sym h.stays.keeps.planned) planned) ∙ h.fed planned refl;
+  behind_all : IsTrue start.tells → now.out.text ++ lines_of_entries (but_last (e ∷ []))
+      ≡ start.out.text ++ lines_of_entries (but_last (es ++ e ∷ []))
+  behind_all tells =
+      ap (λ (xs : List ReadEntry). now.out.text ++ lines_of_entries xs) (but_last_is [] e) ∙ append-nil now.out.text
+      ∙ (h.whole refl).whole tells
+      ∙ ap (λ (xs : List ReadEntry). start.out.text ++ lines_of_entries xs) (sym (but_last_is es e))
+
+  last_more : BreaksLast (e ∷ []) now now' → BreaksLast (es ++ e ∷ []) start now'
+  last_more b =
+      let w : Puts Out (lines_of_entries es) start now = h.whole refl in
+      record {
+        some = omega (arith, length-append es (e ∷ []));
+        stays = stays_more start now now' w.stays b.stays;
+        text = λ tells.
+            begins_as (lines_of_entries (last_of (e ∷ []))) (lines_of_entries (last_of (es ++ e ∷ [])))
+            (now.out.text ++ lines_of_entries (but_last (e ∷ []))) (start.out.text ++ lines_of_entries (but_last (es ++ e ∷ [])))
+            now'.out.text (ap lines_of_entries (last_is [] e ∙ sym (last_is es e))) (behind_all tells)
+            (b.text (tells_now tells));
+        unput = λ planned tells. b.unput (planned_now planned) (tells_now tells) ∙ behind_all tells;
+        rose = b.rose ∙ ap raised w.kept;
+      }
+
+  pub printed_more : HasPrinted start now' (es ++ e ∷ []) lost
+  printed_more = record {
+    whole = λ whole. all_more (one.whole whole);
+    broken = λ broken. last_more (one.broken broken);
   }
 
-  -- or its put failed,
-  pub printed_broken : PutsPart Out (line_of_entry e) now now' → (IsTrue now.is_planned → now'.out.text ≡ now.out.text)
-      → HasPrinted start now' es (Some (record { loss = Console; entry = e }))
-  printed_broken p unput = record {
-    stays = stays_more start now now' h.stays p.stays;
-    text = λ tells.
-        let g = p.part (tells_now tells) in
-        begins_part (start.out.text ++ lines_of_entries es) g.part g.left (line_of_entry e) now'.out.text g.split
-        (g.is ∙ ap (λ (t : List ℕ). t ++ g.part) (text_now tells));
-    unput = λ planned tells.
-        unput (subst (λ (b : Bool). IsTrue b) (sym h.stays.keeps.planned) planned) ∙ text_now tells;
-    faults = p.rose ∙ ap raised h.faults;
-    fed = λ planned whole. absurd (cc whole);
-  }
+-- or there was no memory for it.
+pub printed_starved : (start now : ConsoleState) (es : List ReadEntry) → HasPrinted start now es None
+    → HasPrinted start now es (Some Memory)
+printed_starved start now es h = record { whole = λ whole. h.whole refl; broken = λ broken. absurd (cc broken) }
 
-  -- or there was no memory for it
-  pub printed_starved : HasPrinted start now es (Some (record { loss = Memory; entry = e }))
-  printed_starved = record { stays = h.stays; text = h.text; unput = h.unput; faults = h.faults; fed = h.fed }
+-- What was printed by a journal whose last line's put failed is the lines before it, and a beginning of that one.
+pub puts_broken : (start now : ConsoleState) (es before : List ReadEntry) (last : ReadEntry) → es ≡ before ++ last ∷ []
+    → BreaksLast es start now → PutsBehind (lines_of_entries before) (line_of_entry last) start now
+puts_broken start now es before last are b =
+    let first : but_last es ≡ before = ap but_last are ∙ but_last_is before last in
+    let behind : start.out.text ++ lines_of_entries (but_last es) ≡ start.out.text ++ lines_of_entries before =
+    ap (λ (xs : List ReadEntry). start.out.text ++ lines_of_entries xs) first in
+    let piece : lines_of_entries (last_of es) ≡ line_of_entry last =
+    ap lines_of_entries (ap last_of are ∙ last_is before last) ∙ one_line last in
+    record {
+      stays = b.stays;
+      part = λ tells.
+          goes_on (line_of_entry last) (start.out.text ++ lines_of_entries before) now.out.text
+          (begins_as (lines_of_entries (last_of es)) (line_of_entry last) (start.out.text ++ lines_of_entries (but_last es))
+          (start.out.text ++ lines_of_entries before) now.out.text piece behind (b.text tells));
+      unput = λ planned tells. b.unput planned tells ∙ behind;
+      rose = b.rose;
+    }
 
--- What was printed by a journal whose console didn't fail is its lines,
-whole_line : (lost : Option LostRead) → is_broken lost ≡ false → broken_line lost ≡ []
-whole_line None whole = refl
-whole_line (Some lost) whole = ap (λ (b : Bool). line_if b (line_of_entry lost.entry)) whole
+-- ---- the same by what is told of a journal
 
-pub puts_all : (start now : ConsoleState) (es : List ReadEntry) (lost : Option LostRead) → is_broken lost ≡ false
-    → HasPrinted start now es lost → Puts Out (lines_of_entries es) start now
-puts_all start now es lost whole h = record {
-  stays = h.stays;
-  whole = λ tells. same_text (start.out.text ++ lines_of_entries es) now.out.text
-      (subst (λ (piece : List ℕ). BeginsBehind piece (start.out.text ++ lines_of_entries es) now.out.text)
-      (whole_line lost whole) (h.text tells));
-  kept = h.faults ∙ ap (λ (b : Bool). faults_if b start.out.faults) whole;
-  fed = λ planned. h.fed planned whole;
-}
-
--- and of one whose console failed its lines, and a beginning of one more
-pub puts_broken : (start now : ConsoleState) (es : List ReadEntry) (lost : LostRead) → is_put_loss lost.loss ≡ true
-    → HasPrinted start now es (Some lost) → PutsBehind (lines_of_entries es) (line_of_entry lost.entry) start now
-puts_broken start now es lost broken h = record {
-  stays = h.stays;
-  part = λ tells. goes_on (line_of_entry lost.entry) (start.out.text ++ lines_of_entries es) now.out.text
-      (subst (λ (piece : List ℕ). BeginsBehind piece (start.out.text ++ lines_of_entries es) now.out.text)
-      (ap (λ (b : Bool). line_if b (line_of_entry lost.entry)) broken) (h.text tells));
-  unput = h.unput;
-  rose = h.faults ∙ ap (λ (b : Bool). faults_if b start.out.faults) broken;
-}
-
--- ---- the same by what a put answered
-
-none_lost : (lost : Option LostRead) → is_some lost ≡ false → lost ≡ None
+none_lost : (lost : Option PlanLoss) → is_some lost ≡ false → lost ≡ None
 none_lost None none = refl
 none_lost (Some l) none = absurd (cc)
 
-module _ (start now now' : ConsoleState) (es es' : List ReadEntry) (lost : Option LostRead) (e : ReadEntry)
-    (none : is_some lost ≡ false) (same : es' ≡ es) (h : HasPrinted start now es lost) where
+-- no read was lost, and none is by a put
+pub counted_by : (lost lost' : Option PlanLoss) (losses : ℕ) → is_some lost ≡ false → AreCounted lost losses
+    → AreCounted lost' 0 → AreCounted lost' losses
+counted_by lost lost' losses none counted put = record {
+  none = λ is. counted.none (none_lost lost none);
+  some = λ is. absurd (omega (arith, put.some is));
+}
+
+module _ (start now : ConsoleState) (es es' : List ReadEntry) (lost : Option PlanLoss) (none : is_some lost ≡ false)
+    (same : es' ≡ es) (h : HasPrinted start now es lost) where
   unlost : HasPrinted start now es' None
   unlost = subst (λ (xs : List ReadEntry). HasPrinted start now xs None) (sym same)
-      (subst (λ (l : Option LostRead). HasPrinted start now es l) (none_lost lost none) h)
+      (subst (λ (l : Option PlanLoss). HasPrinted start now es l) (none_lost lost none) h)
 
-  pub more_by : {T E : Type 0} (x : T) (es'' : List ReadEntry) → es'' ≡ es' ++ e ∷ []
-      → Answers {T = T} {E = E} Out (line_of_entry e) (Ok x) now now' → HasPrinted start now' es'' lost
-  more_by x es'' more put =
-      subst (λ (l : Option LostRead). HasPrinted start now' es'' l) (sym (none_lost lost none))
-      (subst (λ (xs : List ReadEntry). HasPrinted start now' xs None) (sym more)
-      (printed_more start now now' es' e unlost put.puts))
+  pub more_by : (now' : ConsoleState) (e : ReadEntry) (es'' : List ReadEntry) (lost' : Option PlanLoss)
+      → es'' ≡ es' ++ e ∷ [] → HasPrinted now now' (e ∷ []) lost' → HasPrinted start now' es'' lost'
+  more_by now' e es'' lost' more one =
+      subst (λ (xs : List ReadEntry). HasPrinted start now' xs lost') (sym more)
+      (printed_more start now now' es' e lost' unlost one)
 
-  pub broken_by : {T E : Type 0} (x : E) → Answers {T = T} {E = E} Out (line_of_entry e) (Err x) now now'
-      → HasPrinted start now' es' (Some (record { loss = Console; entry = e }))
-  broken_by x put = printed_broken start now now' es' e unlost put.fails (λ planned. (put.plan planned).unput)
-
-  pub starved_by : HasPrinted start now es' (Some (record { loss = Memory; entry = e }))
-  starved_by = printed_starved start now now es' e unlost
+  pub starved_by : HasPrinted start now es' (Some Memory)
+  starved_by = printed_starved start now es' unlost

@@ -9,17 +9,13 @@ use Rattle.faulty_source.specs.Journal.{Reading}
 use Rattle.faulty_source.specs.SourceState.{SourceState}
 use Rattle.rescue_domain.specs.Testing.{finished_front}
 
--- how many of so many positions from one on come before the first that isn't finished
-abbrev pub finished_part : List Status → (pos n : ℕ) → ℕ
-finished_part statuses pos n = finished_front statuses pos n
-
 -- how many bytes there are of those that a read asks for
 abbrev pub there : (length pos asked : ℕ) → ℕ
 there length pos asked = min (length - pos) asked
 
 -- how many of them it gives: those before the first that isn't finished
 abbrev pub given_at : (length : ℕ) → List Status → (pos asked : ℕ) → ℕ
-given_at length statuses pos asked = finished_part statuses pos (there length pos asked)
+given_at length statuses pos asked = finished_front statuses pos (there length pos asked)
 
 -- it meets the end where all that there is is given, and is less than was asked for
 abbrev pub ends_at : (length : ℕ) → List Status → (pos asked : ℕ) → Bool

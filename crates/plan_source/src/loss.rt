@@ -1,17 +1,8 @@
-use faulty_source::memory::ReadEntry;
-
-/// Why a read was lost.
+/// Why reads are lost.
 #[derive(Clone, Copy, Debug, PartialEq, Eq)]
 pub enum PlanLoss {
-    /// There was no memory for its entry in the journal. Its line wasn't put.
+    /// There was no memory for the entry of one in the journal. Its line wasn't put.
     Memory,
-    /// Its line couldn't be put, or not all of it.
+    /// The line of one couldn't be put, or not all of it. It was answered, and those behind it are lost.
     Console,
-}
-
-/// The first read that was lost, and why.
-#[derive(Clone, Copy, Debug, PartialEq, Eq)]
-pub struct LostRead {
-    pub loss: PlanLoss,
-    pub entry: ReadEntry,
 }

@@ -1,13 +1,11 @@
 //! A source that says each of its reads on a console.
-ghost use Rattle.std.specs.Prelude.{◌≡◌, ◌+◌, ◌<◌, ◌≤◌, ◌^◌, true, IsTrue, [], None, is_none, nat_eq, All};
-ghost use Rattle.rescue_console.specs.declared.console.Channel.TheVariants.{Out};
-ghost use Rattle.rescue_console.specs.ConsoleState.{Answers};
-ghost use Rattle.plan_source.specs.Lines.{line_of_entry};
-ghost use Rattle.plan_source.specs.Printing.{HasPrinted};
-ghost use Rattle.plan_source.specs.Answering.{IsSeenIn, finished_part, got_at};
+ghost use Rattle.std.specs.Prelude.{◌≡◌, ◌+◌, ◌<◌, ◌≤◌, ◌^◌, true, IsTrue, [], ◌∷◌, All};
+ghost use Rattle.rescue_domain.specs.Testing.{finished_front};
+ghost use Rattle.plan_source.specs.Printing.{HasPrinted, AreCounted};
+ghost use Rattle.plan_source.specs.Answering.{IsSeenIn, got_at};
 
 use crate::line::line_of;
-use crate::loss::{LostRead, PlanLoss};
+use crate::loss::PlanLoss;
 use block_list::status::Status;
 use block_list::tiles::Tiles;
 use fault_count::FaultCount;
@@ -38,14 +36,15 @@ impl Origin for Brand {
 
 /// A source of zeros, of which as much is given as a test map has finished. It says each read on the first channel of a
 /// console before it answers, and keeps a journal of them; what the console got is the lines of the journal, in order.
-/// Its input is open from the start.
+/// Behind a read whose line couldn't be put, which is the journal's last one, all reads are lost: so what may stand of
+/// the line is told of a read that was answered. Its input is open from the start.
 #[derive(Drop)]
 pub struct PlanSource<'a, C: Console, T: Tiles, O: Origin = Brand> {
     length: u64,
     tiles: T,
     console: &'a mut C,
     entries: Vec<ReadEntry>,
-    lost: Option<LostRead>,
+    lost: Option<PlanLoss>,
     name: Vec<u8>,
     opened: bool,
     /// No line is being put: what is known of the console is known then.
@@ -58,13 +57,13 @@ pub struct PlanSource<'a, C: Console, T: Tiles, O: Origin = Brand> {
     ghost seen: { All (IsSeenIn length (T.statuses tiles)) entries.items },
     ghost printed: { IsTrue O.is_known → idle ≡ true
         → HasPrinted O.start (C.state console.now) entries.items lost },
-    ghost counted: { is_none lost ≡ nat_eq losses 0 },
+    ghost counted: { AreCounted lost losses },
 }
 
 /// How many of so many positions from one on come before the first that isn't finished.
-fn finished_part<T: Tiles>(tiles: &T, pos: u64, count: usize) -> usize
+fn count_finished<T: Tiles>(tiles: &T, pos: u64, count: usize) -> usize
     requires { pos + count < 2 ^ 63 }
-    ensures { result ≡ finished_part (T.statuses tiles.now) pos count }
+    ensures { result ≡ finished_front (T.statuses tiles.now) pos count }
 {
     match tiles.find_forward(pos, Status::Finished) {
         Some(run) if run.from == pos => count.min((run.to - pos) as usize),
@@ -78,7 +77,7 @@ fn got_at<T: Tiles>(length: u64, tiles: &T, pos: u64, asked: usize) -> Got
     ensures { result ≡ got_at length (T.statuses tiles.now) pos asked }
 {
     let there = length.saturating_sub(pos).min(asked as u64) as usize;
-    let given = finished_part(tiles, pos, there);
+    let given = count_finished(tiles, pos, there);
     if given == there && there < asked {
         Got::End(given)
     } else {
@@ -86,11 +85,15 @@ fn got_at<T: Tiles>(length: u64, tiles: &T, pos: u64, asked: usize) -> Got
     }
 }
 
-/// Puts the line of a read.
-fn say<C: Console>(console: &mut C, entry: &ReadEntry) -> Result<(), ConsoleFault>
-    ensures { Answers Out (line_of_entry entry.now) result (C.state console.old) (C.state console.new) }
+/// Puts the line of a read. Says why those behind it are lost, if they are.
+fn say<C: Console>(console: &mut C, entry: &ReadEntry) -> Option<PlanLoss>
+    ensures printed { HasPrinted (C.state console.old) (C.state console.new) (entry.now ∷ []) result }
+    ensures counted { AreCounted result 0 }
 {
-    console.put(Channel::Out, &line_of(entry))
+    match console.put(Channel::Out, &line_of(entry)) {
+        Ok(()) => None,
+        Err(ConsoleFault) => Some(PlanLoss::Console),
+    }
 }
 
 impl<'a, C: Console, T: Tiles> PlanSource<'a, C, T> {
@@ -109,7 +112,6 @@ impl<'a, C: Console, T: Tiles> PlanSource<'a, C, T> {
 
 impl<'a, C: Console, T: Tiles, O: Origin> PlanSource<'a, C, T, O> {
     ghost use Rattle.plan_source.specs.Answering.{source_state};
-    ghost use Rattle.plan_source.specs.Printing.{loss_in};
 
     /// The same on a console of which it is known what it tells now.
     pub fn since(
@@ -140,14 +142,11 @@ impl<'a, C: Console, T: Tiles, O: Origin> PlanSource<'a, C, T, O> {
         }
     }
 
-    /// Why a read was lost, if one was.
+    /// Why each read from now on is lost, if it is.
     pub fn lost(&self) -> Option<PlanLoss>
-        ensures { result ≡ loss_in self.now.lost }
+        ensures { result ≡ self.now.lost }
     {
-        match self.lost {
-            Some(lost) => Some(lost.loss),
-            None => None,
-        }
+        self.lost
     }
 
     /// The console, at the source's end.
@@ -201,8 +200,8 @@ impl<C: Console, T: Tiles, O: Origin> Source for PlanSource<'_, C, T, O> {
         Ok(self.length)
     }
 
-    /// A read is lost where its line couldn't be put, or where there is no memory for its entry, and so is each behind
-    /// one that was lost.
+    /// A read is lost where there is no memory for its entry, and so is each behind it, and each behind one whose line
+    /// couldn't be put.
     fn read_at(&mut self, pos: u64, buf: &mut [u8]) -> Result<Got, SourceLost> {
         if self.lost.is_some() {
             self.losses.raise();
@@ -216,19 +215,12 @@ impl<C: Console, T: Tiles, O: Origin> Source for PlanSource<'_, C, T, O> {
             ended: got.is_end(),
         };
         let Ok(()) = self.entries.reserve(1) else {
-            let loss = PlanLoss::Memory;
-            self.lost = Some(LostRead { loss, entry });
+            self.lost = Some(PlanLoss::Memory);
             self.losses.raise();
             return Err(SourceLost);
         };
         self.idle = false;
-        let Ok(()) = say(self.console, &entry) else {
-            let loss = PlanLoss::Console;
-            self.lost = Some(LostRead { loss, entry });
-            self.losses.raise();
-            self.idle = true;
-            return Err(SourceLost);
-        };
+        self.lost = say(self.console, &entry);
         let Ok(()) = self.entries.push(entry) else {
             unreachable!()
         };

@@ -19,10 +19,11 @@ use Rattle.rescue_rules.proofs.MoveLemmas.{run_first, run_rest}
 use Rattle.rescue_rules.proofs.RequestLemmas.{one_request}
 use Rattle.rescue_rules.proofs.SearchLemmas.{wanted_found, request_seen}
 use Rattle.rescue_command.specs.declared.options.Options.{Options}
+use Rattle.rescue_sample.specs.Line.{IsStill}
 use Rattle.ddrescue_cli.specs.Asked.{setting_of}
 use Rattle.plan_command.specs.Command.{ArePlain}
 use Rattle.plan_source.specs.Lines.{PlannedRead, planned}
-use Rattle.rescue_plan.specs.Plan.{IsPlannedIn, IsStill, BeginsPlan, IsPlan, blank, plan_setting, plan_start}
+use Rattle.rescue_plan.specs.Plan.{IsPlannedIn, BeginsPlan, IsPlan, blank, plan_setting, plan_start}
 use Rattle.rescue_plan.specs.Laws.{BeginWith, PlanIsOne, RescuesArePlanned}
 use Rattle.rescue_plan.proofs.SimilarLemmas.{IsUnlimited, SameShape, SameShapes, plain, quiet, ready_alike, request_alike, after_alike, run_alike, state_alike, ended_alike}
 

@@ -12,7 +12,8 @@ use Rattle.rescue_console.specs.ConsoleState.{ConsoleState}
 use Rattle.plan_command.specs.Command.{Command}
 use Rattle.rescue_plan.specs.Told.{Told}
 use Rattle.rescue_plan.specs.Messages.{message}
-use Rattle.rescue_plan.specs.Plan.{IsPlannedIn, IsStill, plan_setting}
+use Rattle.rescue_sample.specs.Line.{IsStill}
+use Rattle.rescue_plan.specs.Plan.{IsPlannedIn, plan_setting}
 use Rattle.mapfile_text.specs.declared.read.MapError.{MapError}
 use Rattle.mapfile_text.specs.declared.read.Mode.TheVariants.{Tight}
 use Rattle.crash_site.specs.Files.{File}

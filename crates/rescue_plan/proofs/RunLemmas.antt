@@ -1,11 +1,10 @@
 -- What the run of a plan puts.
-use Rattle.std.proofs.Common.{rules, ◌≡◌, ℕ, ◌+◌, ◌-◌, ◌<◌, ◌≤◌, min, Bool, true, false, cond, ◌&&◌, nat_eq, nat_lt, is_none, is_some, IsTrue, List, [], ◌∷◌, ◌++◌, length, map, replicate, All, Option, Some, None, option_map, refl, sym, ap, subst, ◌∙◌, arith}
+use Rattle.std.proofs.Common.{rules, ◌≡◌, ℕ, ◌+◌, ◌-◌, ◌<◌, ◌≤◌, min, Bool, true, false, cond, ◌&&◌, nat_eq, nat_lt, is_some, IsTrue, List, [], ◌∷◌, ◌++◌, length, map, replicate, All, Option, Some, None, refl, sym, ap, subst, ◌∙◌, arith}
 use Rattle.std.proofs.Math.Path.{fun_ext}
 use Rattle.std.proofs.lemmas.Bool.{and_parts}
 use Rattle.std.proofs.lemmas.Bool.Decides.{nat_tests}
-use Rattle.std.proofs.lemmas.List.{length-replicate}
+use Rattle.std.proofs.lemmas.List.{length-replicate, map-append}
 use Rattle.std.proofs.lemmas.List.Elements.{All-nil, All-cons, All-head, All-tail}
-use Rattle.std.specs.List.{flat_map}
 use Rattle.block_list.specs.declared.status.Status.{Status}
 use Rattle.block_list.specs.declared.status.Status.TheVariants.{NonTried}
 use Rattle.save_resume.specs.MapNames.{MapNames}
@@ -13,7 +12,6 @@ use Rattle.crash_site.specs.Calls.{Entry}
 use Rattle.faulty_source.specs.declared.memory.ReadEntry.{ReadEntry}
 use Rattle.faulty_source.specs.Journal.{Reading}
 use Rattle.faulty_source.specs.SourceState.{SourceState, Below, Stays}
-use Rattle.crash_site.specs.SiteState.{SiteState}
 use Rattle.rescue_console.specs.declared.console.Channel.TheVariants.{Out}
 use Rattle.rescue_console.specs.ConsoleState.{ConsoleState, Puts}
 use Rattle.rescue_domain.specs.Testing.{finished_front}
@@ -29,7 +27,7 @@ use Rattle.rescue_rules.specs.Beginning.{goes_on_from, shown_at_first, machine_o
 use Rattle.rescue_rules.specs.Step.{Event}
 use Rattle.rescue_rules.specs.Moves.{ready, move_of, state_after, IsMove, IsRun, has_ended}
 use Rattle.rescue_rules.specs.Events.{reads_of}
-use Rattle.rescue_rules.specs.Work.{Ends, EndsBy, IsSaved, IsUnsaved, IsBroken}
+use Rattle.rescue_rules.specs.Work.{Ends, IsSaved, IsUnsaved, IsBroken}
 use Rattle.rescue_rules.proofs.NamelessLemmas.{run_named}
 use Rattle.rescue_rules.proofs.MoveLemmas.{run_first, run_rest}
 use Rattle.rescue_rules.proofs.ReadyLemmas.{order_over, order_ready, stays_ready}
@@ -39,19 +37,17 @@ use Rattle.rescue_core.specs.declared.settings.Settings.{Settings}
 use Rattle.rescue_core.specs.RunState.{RunState, names_in, setting_with, setting_in}
 use Rattle.rescue_command.specs.declared.options.Options.{Options}
 use Rattle.ddrescue_cli.specs.Asked.{domain_asked}
-use Rattle.ddrescue_cli.specs.Work.{answer_of}
-use Rattle.ddrescue_cli.specs.Answers.{Causes}
 use Rattle.ddrescue_cli.specs.Running.{settings_by}
+use Rattle.ddrescue_cli.specs.Sampled.{no_maps}
 use Rattle.plan_command.specs.Command.{Command, AreInLimits}
 use Rattle.plan_source.specs.declared.loss.PlanLoss.{PlanLoss}
 use Rattle.plan_source.specs.declared.loss.PlanLoss.TheVariants.{Memory, Console}
-use Rattle.plan_source.specs.declared.loss.LostRead.{LostRead}
 use Rattle.plan_source.specs.Lines.{PlannedRead, planned, planned_entry, line_of, lines_of, line_of_entry, lines_of_entries}
-use Rattle.plan_source.specs.Printing.{HasPrinted, PutsBehind, is_broken, is_put_loss, loss_in}
+use Rattle.plan_source.specs.Printing.{BreaksLast, HasPrinted, PutsBehind}
 use Rattle.plan_source.specs.Answering.{IsSeenIn, there, given_at, ends_at, reading_of, source_state}
-use Rattle.rescue_plan.specs.Plan.{IsPlannedIn, BeginsPlan, IsPlan, blank, no_maps, plan_setting, plan_start}
-use Rattle.rescue_plan.specs.Running.{Begins, PutsPlan, PutsWhole, PutsFirst, PutsBroken, ending_by, stopped_by}
-use Rattle.plan_source.proofs.PrintingLemmas.{puts_all, puts_broken}
+use Rattle.rescue_plan.specs.Plan.{IsPlannedIn, BeginsPlan, IsPlan, blank, plan_setting, plan_start}
+use Rattle.rescue_plan.specs.Running.{Begins, PutsPlan, PutsWhole, PutsFirst, PutsBroken, ending_by}
+use Rattle.plan_source.proofs.PrintingLemmas.{ends_with, puts_broken}
 use Rattle.rescue_plan.proofs.PlanLemmas.{begins_by, plan_by, unlimited}
 
 -- the setting of a plan's run is the plan's, but for names
@@ -161,6 +157,14 @@ lines_are (e ∷ entries) =
     ap (λ (r : PlannedRead). line_of r ++ lines_of (map planned (map reading_of entries))) (planned_is e)
     ∙ ap (λ (t : List ℕ). line_of_entry e ++ t) (lines_are entries)
 
+-- those of entries with one more
+planned_last : (before : List ReadEntry) (last : ReadEntry)
+    → map planned (map reading_of (before ++ last ∷ [])) ≡ map planned (map reading_of before) ++ planned_entry last ∷ []
+planned_last before last =
+    ap (map planned) (map-append reading_of before (last ∷ []))
+    ∙ map-append planned (map reading_of before) (reading_of last ∷ [])
+    ∙ ap (λ (r : PlannedRead). map planned (map reading_of before) ++ r ∷ []) (planned_is last)
+
 -- ---- how it ended
 
 done_over : (s : Setting) (m : Machine) (es : List Event) (spare : ℕ) (calls : List Entry) → Ends s m es spare calls RunDone
@@ -194,53 +198,50 @@ module _ (c : Command) (limits : AreInLimits c) (r : RunState) (is : Begins c r)
   lines_same : lines_of_entries entries ≡ lines_of (map planned (reads_of es))
   lines_same = sym (lines_are entries) ∙ ap (λ (rs : List Reading). lines_of (map planned rs)) journal
 
-  pub put_whole : (lost : Option LostRead) → is_broken lost ≡ false → HasPrinted start now entries lost
+  reads_begin : BeginsPlan s c.length test (map planned (reads_of es))
+  reads_begin = begins_by s (unlimited c.options.rescue c.length limits.plain) c.length 0 test es (run_is c r es is run)
+      planned_all
+
+  put_whole : Puts Out (lines_of_entries entries) start now
       → has_ended (setting_in r) (state_after (setting_in r) r.machine es) ≡ true → PutsWhole c test start now
-  put_whole lost whole h over = record {
+  put_whole puts over = record {
     reads = map planned (reads_of es);
     plan = plan_by s (unlimited c.options.rescue c.length limits.plain) c.length 0 test es (run_is c r es is run) planned_all
         (ended_is c r es is over);
-    puts = subst (λ (t : List ℕ). Puts Out t start now) lines_same (puts_all start now entries lost whole h);
+    puts = subst (λ (t : List ℕ). Puts Out t start now) lines_same puts;
   }
 
-  put_first : (lost : Option LostRead) → is_broken lost ≡ false → HasPrinted start now entries lost
-      → PutsFirst c test start now
-  put_first lost whole h = record {
+  put_first : Puts Out (lines_of_entries entries) start now → PutsFirst c test start now
+  put_first puts = record {
     reads = map planned (reads_of es);
-    first = begins_by s (unlimited c.options.rescue c.length limits.plain) c.length 0 test es (run_is c r es is run)
-        planned_all;
-    puts = subst (λ (t : List ℕ). Puts Out t start now) lines_same (puts_all start now entries lost whole h);
+    first = reads_begin;
+    puts = subst (λ (t : List ℕ). Puts Out t start now) lines_same puts;
   }
 
-  put_broken : (lost : LostRead) → is_put_loss lost.loss ≡ true → HasPrinted start now entries (Some lost)
-      → PutsBroken c test start now
-  put_broken lost broken h = record {
-    reads = map planned (reads_of es);
-    first = begins_by s (unlimited c.options.rescue c.length limits.plain) c.length 0 test es (run_is c r es is run)
-        planned_all;
-    next = planned_entry lost.entry;
-    puts = subst (λ (t : List ℕ). PutsBehind t (line_of_entry lost.entry) start now) lines_same
-        (puts_broken start now entries lost broken h);
-  }
+  put_broken : BreaksLast entries start now → PutsBroken c test start now
+  put_broken b =
+      let end = ends_with entries b.some in
+      let reads : List PlannedRead = map planned (map reading_of end.before) in
+      let are : map planned (reads_of es) ≡ reads ++ planned_entry end.last ∷ [] =
+      ap (map planned) (sym journal ∙ ap (map reading_of) end.are) ∙ planned_last end.before end.last in
+      record {
+        reads = reads;
+        next = planned_entry end.last;
+        first = subst (λ (rs : List PlannedRead). BeginsPlan s c.length test rs) are reads_begin;
+        puts = subst (λ (t : List ℕ). PutsBehind t (line_of_entry end.last) start now) (sym (lines_are end.before))
+            (puts_broken start now entries end.before end.last end.are b);
+      }
 
-  put_lost : (loss : PlanLoss) (e : ReadEntry) → HasPrinted start now entries (Some (record { loss = loss; entry = e }))
-      → PutsPlan c test (stopped_by (Some loss)) start now
-  put_lost Memory e h = put_first (Some (record { loss = Memory; entry = e })) refl h
-  put_lost Console e h = put_broken (record { loss = Console; entry = e }) refl h
-
-  put_stopped : (lost : Option LostRead) → HasPrinted start now entries lost
-      → PutsPlan c test (stopped_by (loss_in lost)) start now
-  put_stopped None h = put_first None refl h
-  put_stopped (Some lost) h = put_lost lost.loss lost.entry h
-
-  pub plan_put : (end : RunEnd) (spare : ℕ) (calls : List Entry) (lost : Option LostRead)
-      → Ends (setting_in r) r.machine es spare calls end → (end ≡ RunDone → is_none lost ≡ true)
-      → HasPrinted start now entries lost → PutsPlan c test (ending_by end (loss_in lost)) start now
-  plan_put RunDone spare calls None ends unlost h =
-      put_whole None refl h (done_over (setting_in r) r.machine es spare calls ends)
-  plan_put RunDone spare calls (Some lost) ends unlost h = absurd (cc (unlost refl))
-  plan_put (Stopped stop) spare calls lost ends unlost h = put_stopped lost h
-  plan_put (SaveFailed call earlier) spare calls lost ends unlost h = put_stopped lost h
+  -- by why reads behind it are lost, and how the run ended
+  pub plan_put : (lost : Option PlanLoss) (end : RunEnd) (spare : ℕ) (calls : List Entry)
+      → Ends (setting_in r) r.machine es spare calls end → HasPrinted start now entries lost
+      → PutsPlan c test (ending_by lost end) start now
+  plan_put None RunDone spare calls ends h =
+      put_whole (h.whole refl) (done_over (setting_in r) r.machine es spare calls ends)
+  plan_put None (Stopped stop) spare calls ends h = put_first (h.whole refl)
+  plan_put None (SaveFailed call earlier) spare calls ends h = put_first (h.whole refl)
+  plan_put (Some Memory) end spare calls ends h = put_first (h.whole refl)
+  plan_put (Some Console) end spare calls ends h = put_broken (h.broken refl)
 
 -- ---- what the source tells behind the run
 
@@ -273,38 +274,24 @@ is_behind len len' test test' reference reference' entries name opened opens fau
       journal = journal (search rules);
     }
 
--- no read was lost where the run went on to its end
-done_unlost : (end : RunEnd) (s s' : SourceState) (t t' : SiteState) → end ≡ RunDone → Causes (answer_of end) s s' t t'
-    → s'.losses ≡ s.losses
-done_unlost end s s' t t' is causes =
-    (subst (λ (e : RunEnd). Causes (answer_of e) s s' t t') is causes).losses_
-
-same_zero : (n : ℕ) → n ≡ 0 → nat_eq n 0 ≡ true
-same_zero n is = rw is refl
-
 -- What the run of a plan put, by all that is told of it.
 pub run_puts : (c : Command) (limits : AreInLimits c) (r : RunState) (is : Begins c r) (end : RunEnd) (es : List Event)
     (run : IsRun (setting_in r) r.machine es) (spare : ℕ) (calls : List Entry)
     → Ends (setting_in r) r.machine es spare calls end
     → (len len' : ℕ) → c.length ≡ len → (test test' : List Status) (reference reference' : ℕ) (entries : List ReadEntry)
-    (name : List ℕ) (opened idle : Bool) (opens faults losses : ℕ) (lost : Option LostRead) (old : SourceState)
+    (name : List ℕ) (opened idle : Bool) (opens faults losses : ℕ) (lost : Option PlanLoss) (old : SourceState)
     → old ≡ source_state len test reference [] [] true 0 0 0
     → Stays old (source_state len' test' reference' entries name (opened && idle) opens faults losses)
     → (IsTrue old.tells → map reading_of entries ≡ old.journal ++ reads_of es)
     → All (IsSeenIn len' test') entries → (start now : ConsoleState) → (idle ≡ true → HasPrinted start now entries lost)
-    → is_none lost ≡ nat_eq losses 0 → (t t' : SiteState)
-    → Causes (answer_of end) old (source_state len' test' reference' entries name (opened && idle) opens faults losses) t t'
-    → PutsPlan c test (ending_by end (loss_in lost)) start now
+    → PutsPlan c test (ending_by lost end) start now
 run_puts c limits r is end es run spare calls ends len len' size test test' reference reference' entries name opened idle
-    opens faults losses lost old was stays read seen start now printed counted t t' causes =
+    opens faults losses lost old was stays read seen start now printed =
     let b : IsBehind len len' test test' (opened && idle) entries (reads_of es) =
     is_behind len len' test test' reference reference' entries name (opened && idle) opens faults losses old (reads_of es)
     was stays read in
     let seen_all : All (IsSeenIn c.length test) entries =
     subst (λ (n : ℕ). All (IsSeenIn n test) entries) (b.length_is ∙ sym size)
     (subst (λ (f : List Status). All (IsSeenIn len' f) entries) b.test_is seen) in
-    plan_put c limits r is es run test entries seen_all b.journal start now end spare calls lost ends
-    (λ done. counted ∙ same_zero losses (done_unlost end old
-    (source_state len' test' reference' entries name (opened && idle) opens faults losses) t t' done causes
-    ∙ ap (λ (s : SourceState). s.losses) was))
+    plan_put c limits r is es run test entries seen_all b.journal start now lost end spare calls ends
     (printed (and_parts opened idle b.on).1)

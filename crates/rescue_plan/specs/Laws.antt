@@ -1,5 +1,5 @@
 -- What the definitions mean.
-use Rattle.std.specs.Prelude.{◌≡◌, ⊤, ℕ, ◌-◌, ◌^◌, ◌<◌, true, false, List, ◌++◌, map, All, None}
+use Rattle.std.specs.Prelude.{◌≡◌, ⊤, ℕ, ◌-◌, ◌^◌, ◌<◌, true, false, IsTrue, List, ◌++◌, map, All, None}
 use Rattle.block_list.specs.declared.status.Status.{Status}
 use Rattle.faulty_source.specs.Journal.{Reading, is_whole}
 use Rattle.rescue_domain.specs.Testing.{seen}
@@ -9,16 +9,19 @@ use Rattle.rescue_rules.specs.Moves.{state_after, has_ended, IsRun}
 use Rattle.rescue_rules.specs.Beginning.{machine_over}
 use Rattle.rescue_rules.specs.Events.{reads_of}
 use Rattle.rescue_rules.specs.Start.{IsFresh}
+use Rattle.rescue_console.specs.ConsoleState.{ConsoleState, GoesOn}
 use Rattle.rescue_command.specs.declared.options.Options.{Options}
 use Rattle.rescue_command.specs.Command.{Command as RescueCommand}
 use Rattle.ddrescue_cli.specs.Asked.{setting_of}
+use Rattle.ddrescue_cli.specs.Sampled.{no_maps}
 use Rattle.plan_command.specs.Command.{Command, Asks, ArePlain}
 use Rattle.rescue_plan.specs.declared.ending.PlanEnding.{PlanEnding}
 use Rattle.rescue_plan.specs.declared.ending.PlanEnding.TheVariants.{Done, Usage, NoMap, MapRefused, SiteFault, ConsoleFault, NoMemory}
 use Rattle.rescue_plan.specs.Told.{Told}
 use Rattle.rescue_plan.specs.Ddrescueplan.{Ddrescueplan}
-use Rattle.plan_source.specs.Lines.{PlannedRead, planned}
-use Rattle.rescue_plan.specs.Plan.{blank, no_maps, plan_setting, BeginsPlan, IsPlan}
+use Rattle.rescue_plan.specs.Running.{PutsPlan}
+use Rattle.plan_source.specs.Lines.{PlannedRead, planned, lines_of}
+use Rattle.rescue_plan.specs.Plan.{blank, plan_setting, BeginsPlan, IsPlan}
 
 -- reads begin with others
 pub record BeginWith (first reads : List PlannedRead) : Type 0 where
@@ -33,6 +36,13 @@ pub record IsOnePlan (s : Setting) (length : ℕ) (test : List Status) (reads : 
 abbrev pub PlanIsOne : Type 0
 PlanIsOne = (o : Options) (length : ℕ) (test : List Status) (reads : List PlannedRead) → ArePlain o
     → IsPlan (plan_setting o length) length test reads → IsOnePlan (plan_setting o length) length test reads
+
+-- Where there is a plan, what its run put on standard output is a beginning of its lines, whatever the answer.
+abbrev pub PlanIsBegun : Type 0
+PlanIsBegun = (c : Command) (test : List Status) (e : PlanEnding) (old new : ConsoleState) (reads : List PlannedRead)
+    → ArePlain c.options.rescue → PutsPlan c test e old new
+    → IsPlan (plan_setting c.options.rescue c.length) c.length test reads → IsTrue old.tells
+    → GoesOn (lines_of reads) old.out.text new.out.text
 
 -- The reads of a rescue, as they are seen in test mode, where the input gave all that it was asked for: a run over a map
 -- that wasn't tried, at whatever times.

@@ -12,16 +12,14 @@ use Rattle.rescue_rules.specs.Moves.{state_after, has_ended, IsRun}
 use Rattle.rescue_rules.specs.Beginning.{machine_over}
 use Rattle.rescue_rules.specs.Events.{reads_of}
 use Rattle.rescue_command.specs.declared.options.Options.{Options}
-use Rattle.ddrescue_cli.specs.Asked.{Maps, setting_asked}
+use Rattle.rescue_sample.specs.Line.{IsStill}
+use Rattle.ddrescue_cli.specs.Asked.{setting_asked}
+use Rattle.ddrescue_cli.specs.Sampled.{no_maps}
 use Rattle.plan_source.specs.Lines.{PlannedRead, planned}
 
 -- the map of an input that wasn't tried
 abbrev pub blank : (length : ℕ) → List Status
 blank length = replicate length NonTried
-
--- no map says what is to be rescued
-abbrev pub no_maps : Maps
-no_maps = record { domain = None; test = None; listed = None }
 
 -- what options ask for of an input with a length, where no file has a name and nothing is saved
 abbrev pub plan_setting : Options → (length : ℕ) → Setting
@@ -35,11 +33,6 @@ plan_start s length = machine_over s (blank length) None 0
 pub record IsPlannedIn (test : List Status) (r : Reading) : Type 0 where
   pub given : length r.given ≡ finished_front test r.pos r.asked
   pub ended : r.ended ≡ false
-
--- no time goes by
-pub record IsStill (e : Event) : Type 0 where
-  pub before : e.before ≡ 0
-  pub after : e.after ≡ 0
 
 -- Reads are the first ones of a plan: those of a run from the start, in which no time goes by.
 pub record BeginsPlan (s : Setting) (length : ℕ) (test : List Status) (reads : List PlannedRead) : Type 0 where

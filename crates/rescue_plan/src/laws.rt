@@ -1,9 +1,14 @@
 //! What the definitions mean.
-ghost use Rattle.rescue_plan.specs.Laws.{IsPutUnless, PlanIsOne, RescuesArePlanned};
+ghost use Rattle.rescue_plan.specs.Laws.{IsPutUnless, PlanIsBegun, PlanIsOne, RescuesArePlanned};
 
 /// A plan begins with the first reads of it, however many they are, and so there is one plan at most.
 pub fn a_plan_is_one()
     ensures { PlanIsOne }
+{}
+
+/// What the run of a plan put is a beginning of the plan's lines, whatever its answer.
+pub fn a_plan_is_begun()
+    ensures { PlanIsBegun }
 {}
 
 /// What a rescue reads in test mode, of an input that gives all that it is asked for, are the first reads of the plan for

@@ -16,13 +16,13 @@ use rescue_core::phases::{Copying, Rescue};
 use rescue_rules::stop::RunEnd;
 use std::alloc::Global;
 
-/// How a plan ended, by how its run did and why a read was lost, if one was.
-fn ending_of(end: RunEnd, lost: Option<PlanLoss>) -> PlanEnding
-    ensures { result ≡ ending_by end lost }
+/// How a plan ended, by why reads behind its run are lost, if they are, and by how that ended.
+fn ending_of(lost: Option<PlanLoss>, end: RunEnd) -> PlanEnding
+    ensures { result ≡ ending_by lost end }
 {
-    match (end, lost) {
-        (RunEnd::Done, _) => PlanEnding::Done,
-        (_, Some(PlanLoss::Console)) => PlanEnding::ConsoleFault,
+    match (lost, end) {
+        (Some(PlanLoss::Console), _) => PlanEnding::ConsoleFault,
+        (None, RunEnd::Done) => PlanEnding::Done,
         _ => PlanEnding::NoMemory,
     }
 }
@@ -53,5 +53,5 @@ pub(crate) fn put_plan<C: Console, T: Tiles, O: Origin>(
     let lost = source.lost();
     // The console is the caller's again.
     let _console = source.into_console();
-    ending_of(closed.end, lost)
+    ending_of(lost, closed.end)
 }

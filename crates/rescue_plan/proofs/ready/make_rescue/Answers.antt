@@ -10,9 +10,10 @@ use Rattle.rescue_rules.specs.Preparation.{prepared}
 use Rattle.rescue_core.specs.RunState.{RunState, started}
 use Rattle.rescue_command.specs.declared.options.Options.{Options}
 use Rattle.ddrescue_cli.specs.Asked.{ArePlacedBy}
+use Rattle.ddrescue_cli.specs.Sampled.{no_maps}
 use Rattle.ddrescue_cli.proofs.BeginLemmas.{begun_over, shows_nothing, short_made, sound_settings, suits_made, whole_from}
 use Rattle.plan_command.specs.Command.{length_limit}
-use Rattle.rescue_plan.specs.Plan.{blank, no_maps}
+use Rattle.rescue_plan.specs.Plan.{blank}
 use Rattle.rescue_plan.proofs.ready.make_rescue.Goals as goal
 
 below_end : (pos : ℕ) (size : Option ℕ) (n x : ℕ) → whole_domain pos size n x ≡ true → x < n

@@ -1,7 +1,8 @@
 -- The source's own facts say what was put, and its state that they are of this run.
-use Rattle.std.proofs.Common.{◌≡◌, rules, ap, sym, ◌∙◌, subst, length}
+use Rattle.std.proofs.Common.{◌≡◌, rules, ap, sym, ◌∙◌, subst, length, Option}
 use Rattle.rescue_rules.specs.Events.{reads_of}
 use Rattle.rescue_console.specs.ConsoleState.{ConsoleState}
+use Rattle.plan_source.specs.declared.loss.PlanLoss.{PlanLoss}
 use Rattle.plan_source.specs.Printing.{HasPrinted}
 use Rattle.rescue_plan.specs.declared.ending.PlanEnding.{PlanEnding}
 use Rattle.rescue_plan.specs.Running.{PutsPlan, ending_by}
@@ -16,7 +17,7 @@ returns g c = record {
       let statuses = g.T.Tiles.statuses in
       let went = c.run_rescue-closed.ensures.went in
       let end = c.run_rescue-closed.result.end in
-      let ending : c.ending_of.result ≡ ending_by end _ = c.ending_of.ensures ∙ ap (ending_by end) c.lost-lost.ensures in
+      let ending : c.ending_of.result ≡ ending_by s.lost end = c.ending_of.ensures ∙ ap (λ (lost : Option PlanLoss). ending_by lost end) c.lost-lost.ensures in
       subst (λ (x : g.row.C.Denot). PutsPlan k (statuses c.args.tiles) c.ending_of.result (state c.args.console.now) (state x))
       {x = s.console.now}
       (search rules)
@@ -26,6 +27,5 @@ returns g c = record {
       s.opens s.faults s.losses s.lost _ c.since-source.ensures.state c.run_rescue-closed.ensures.source went.read s.seen
       (state c.args.console.now) (state s.console.now)
       (λ on. subst (λ (x : ConsoleState). HasPrinted x (state s.console.now) s.entries.items s.lost) c.requires.start
-      (s.printed c.requires.known on))
-      s.counted _ _ c.run_rescue-closed.ensures.cause));
+      (s.printed c.requires.known on))));
 }

@@ -1,31 +1,12 @@
--- A read that was said, and one whose line couldn't be put.
-use Rattle.std.proofs.Common.{◌≡◌, ℕ, ◌≤◌, Bool, true, false, ◌&&◌, List, ◌∷◌, [], ◌++◌, length, rules, refl, sym, ap, subst, ◌∙◌}
-use Rattle.std.specs.Option.{is_some}
+-- A read that is said.
+use Rattle.std.proofs.Common.{◌≡◌, ℕ, ◌≤◌, Bool, true, false, ◌&&◌, length, is_some, rules, refl, sym, ap, subst, ◌∙◌}
 use Rattle.std.proofs.lemmas.Bool.{and_parts}
-use Rattle.std.proofs.lemmas.List.Elements.{All-same}
 use Rattle.faulty_source.specs.declared.memory.ReadEntry.{ReadEntry}
 use Rattle.faulty_source.specs.declared.source.Got.{Got}
 use Rattle.faulty_source.specs.Got.{count_of, is_end}
-use Rattle.plan_source.specs.Answering.{IsSeenIn}
-use Rattle.plan_source.proofs.AnswerLemmas.{count_few, entry_seen, read_answers_by, rose_some, seen_more}
-use Rattle.plan_source.proofs.PrintingLemmas.{more_by, broken_by}
+use Rattle.plan_source.proofs.AnswerLemmas.{count_few, entry_seen, read_answers_by, seen_more}
+use Rattle.plan_source.proofs.PrintingLemmas.{counted_by, more_by}
 use Rattle.plan_source.proofs.source.PlanSourceSource.read_at.Goals as goal
-
-pub invariant_of-self-in_default-say : goal.invariant_of-self-in_default-say
-invariant_of-self-in_default-say g c =
-    let self = c.args.self.now in
-    let test = g.T.Tiles.statuses self.tiles in
-    let idle : self.idle ≡ true = (and_parts self.opened self.idle c.requires.opened).1 in
-    let none : is_some self.lost ≡ false = search rules in
-    record {
-      short = self.short;
-      seen = All-same (IsSeenIn self.length test) c.reserve.new.self.items self.entries.items c.reserve.ensures.items self.seen;
-      printed = λ known on.
-          broken_by g.O.Origin.start (g.C.Console.state self.console.now) (g.C.Console.state c.say.new.console)
-          self.entries.items c.reserve.new.self.items self.lost _ none c.reserve.ensures.items (self.printed known idle)
-          c.in_default-say.field-0 c.in_default-say.ensures;
-      counted = rose_some self.losses c.raise-in_default-say.new.self c.raise-in_default-say.ensures.raised;
-    }
 
 pub invariant_of-self-2 : goal.invariant_of-self-2
 invariant_of-self-2 g c =
@@ -40,10 +21,10 @@ invariant_of-self-2 g c =
           (entry_seen self.length test c.args.pos (length c.args.buf.now) c.count.result c.is_end.result c.got_at-got.result
           c.got_at-got.ensures c.count.ensures c.is_end.ensures);
       printed = λ known on.
-          more_by g.O.Origin.start (g.C.Console.state self.console.now) (g.C.Console.state c.say.new.console)
-          self.entries.items c.reserve.new.self.items self.lost _ none c.reserve.ensures.items (self.printed known idle)
-          c.in-Ok-say.field-0 c.push.new.self.items c.in-Ok-push.ensures.items c.in-Ok-say.ensures;
-      counted = self.counted;
+          more_by g.O.Origin.start (g.C.Console.state self.console.now) self.entries.items c.reserve.new.self.items
+          self.lost none c.reserve.ensures.items (self.printed known idle) (g.C.Console.state c.say-self.new.console) _
+          c.push.new.self.items c.say-self.result c.in-Ok-push.ensures.items c.say-self.ensures.printed;
+      counted = counted_by self.lost c.say-self.result self.losses none self.counted c.say-self.ensures.counted;
     }
 
 pub returns-clause-count : goal.returns-clause-count

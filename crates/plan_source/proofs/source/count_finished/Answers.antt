@@ -1,7 +1,7 @@
 use Rattle.std.proofs.Common.{◌≡◌, ◌-◌, ◌∙◌, min, rules, ap}
 use Rattle.rescue_domain.specs.Testing.{finished_front}
 use Rattle.rescue_domain.proofs.TestingLemmas.{front_of_run}
-use Rattle.plan_source.proofs.source.finished_part.Goals as goal
+use Rattle.plan_source.proofs.source.count_finished.Goals as goal
 
 pub returns-in-Some : goal.returns-in-Some
 returns-in-Some g c =
