@@ -17,13 +17,13 @@ use Rattle.rescue_rules.specs.Machine.{Machine}
 use Rattle.rescue_rules.specs.Step.{Event}
 use Rattle.rescue_rules.specs.Moves.{Move, move_of, moves, state_after, IsMove, IsRun}
 use Rattle.rescue_rules.specs.Events.{reads_of}
-use Rattle.rescue_rules.specs.Snapshots.{Snapshot}
-use Rattle.rescue_rules.specs.RunCalls.{move_calls, run_calls, end_calls}
+use Rattle.rescue_rules.specs.Snapshots.{Snapshot, snapshot_of}
+use Rattle.rescue_rules.specs.RunCalls.{move_calls, run_calls, closing_calls}
 use Rattle.rescue_rules.specs.RunStops.{ComesTo}
 use Rattle.rescue_rules.specs.Stops.{IsSave}
 use Rattle.rescue_rules.proofs.MoveLemmas.{run_rest}
-use Rattle.rescue_rules.proofs.RunStopLemmas.{run_stops_safely}
 use Rattle.safe_turns.specs.Safe.{HasMap, Read, Saved, IsHeldIn, IsSafe}
+use Rattle.safe_turns.proofs.LastLemmas.{Holds, last_holds}
 use Rattle.safe_turns.specs.Laws.{RestIsSafe, SafeIsHeld, RunStaysSafe, RunIsHeld}
 
 pub comes_all : (cs : List Call) → ComesTo cs (map Done cs)
@@ -52,20 +52,21 @@ has_map_of s old found began state saves (suc n) statuses stands is = Saved is.0
 
 pub rest_is_safe : RestIsSafe
 rest_is_safe s began state m d ok on three order alike rests stands = record {
-  each = λ es calls k files run comes leaves.
-      let keeps = run_stops_safely s began m es d calls k files ok on three order alike run rests comes leaves in
+  each = λ es last calls k files run same comes leaves.
+      let holds : Holds s began m es last d files
+      = last_holds s began m es last d calls k files ok on three order alike run same rests comes leaves in
       record {
-        map = keeps.statuses;
-        has = has_map_of s (d.reads.files s.names.map) (files s.names.map) began state _ keeps.number keeps.statuses
-            stands keeps.is_save;
-        held = keeps.held;
+        map = holds.statuses;
+        has = has_map_of s (d.reads.files s.names.map) (files s.names.map) began state _ holds.number holds.statuses
+            stands holds.is_save;
+        held = holds.held;
       };
 }
 
 pub safe_is_held : SafeIsHeld
 safe_is_held s start reads m d files safe leaves =
     subst (λ (rs : List Reading). IsHeldIn s start rs files) (append-nil reads)
-    (safe.each [] [] 0 files (record { each = All-nil (IsMove s) }) tt leaves)
+    (safe.each [] (snapshot_of m) [] 0 files (record { each = All-nil (IsMove s) }) refl tt leaves)
 
 -- a move of a run leaves it safe
 move_stays_safe : (s : Setting) (start : List ℕ) (reads : List Reading) (m : Machine) (d : Disk) (e : Event)
@@ -77,19 +78,19 @@ move_stays_safe s start reads m d e safe move =
     let now : List Call = move_calls s v in
     let made : List Entry = map Done now in
     record {
-      each = λ es calls k files run comes leaves.
+      each = λ es last calls k files run same comes leaves.
           let run' : IsRun s m (e ∷ es) = record { each = All-cons (IsMove s) v (moves s v.after es) move run.each } in
-          let comes' : ComesTo (run_calls s m (e ∷ es) ++ end_calls s m (e ∷ es)) (made ++ calls)
+          let comes' : ComesTo (run_calls s m (e ∷ es) ++ closing_calls s last) (made ++ calls)
           = subst (λ (l : List Call). ComesTo l (made ++ calls))
-          (sym (append_assoc now (run_calls s v.after es) (end_calls s v.after es)))
-          (comes_past now (run_calls s v.after es ++ end_calls s v.after es) calls comes) in
+          (sym (append_assoc now (run_calls s v.after es) (closing_calls s last)))
+          (comes_past now (run_calls s v.after es ++ closing_calls s last) calls comes) in
           let leaves' : Leaves (disk_after d (until (length made + k) (made ++ calls))) files
           = subst (λ (l : Disk). Leaves l files)
           (sym (ap (disk_after d) (until_past made calls k (length made + k) refl) ∙ run-append d made (until k calls)))
           leaves in
           subst (λ (rs : List Reading). IsHeldIn s start rs files)
           (sym (append_assoc reads (e.reading ∷ []) (reads_of es)))
-          (safe.each (e ∷ es) (made ++ calls) (length made + k) files run' comes' leaves');
+          (safe.each (e ∷ es) last (made ++ calls) (length made + k) files run' same comes' leaves');
     }
 
 pub run_stays_safe : RunStaysSafe
@@ -111,4 +112,5 @@ run_stays_safe s start reads m d (e ∷ es) safe run =
     (sym (run-append d (map Done now) (map Done more)) ∙ ap (disk_after d) (sym (map-append Done now more))) rest)
 
 pub run_is_held : RunIsHeld
-run_is_held s start reads m d es calls k files safe run comes leaves = safe.each es calls k files run comes leaves
+run_is_held s start reads m d es last calls k files safe run same comes leaves =
+    safe.each es last calls k files run same comes leaves

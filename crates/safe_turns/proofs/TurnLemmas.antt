@@ -1,5 +1,6 @@
 -- A turn of a safe run.
-use Rattle.std.proofs.Common.{◌≡◌, ℕ, ◌+◌, ◌-◌, Bool, true, IsTrue, if◌then◌else◌, List, [], ◌∷◌, ◌++◌, length, map, Option, sym, ap, subst, ◌∙◌, arith, append_assoc, append-nil}
+use Rattle.std.proofs.Common.{◌≡◌, ℕ, ◌+◌, ◌-◌, Bool, true, false, ◌&&◌, IsTrue, if◌then◌else◌, List, [], ◌∷◌, ◌++◌, length, map, Option, Some, is_none, refl, sym, ap, subst, ◌∙◌, arith, append_assoc, append-nil}
+use Rattle.std.proofs.Math.Bool.{and-false}
 use Rattle.std.proofs.lemmas.List.Elements.{All-nil, All-cons}
 use Rattle.faulty_source.specs.Journal.{Reading}
 use Rattle.crash_site.specs.declared.site.SiteCall.TheVariants.{ImageWrite}
@@ -10,13 +11,14 @@ use Rattle.crash_site.specs.SiteState.{SiteState, Keeps}
 use Rattle.save_resume.specs.SaveStops.{disk_of}
 use Rattle.save_resume.specs.Saving.{save_calls}
 use Rattle.transfer_token.specs.declared.token.Request.{Request}
+use Rattle.rescue_rules.specs.declared.stop.Stop.{Stop}
+use Rattle.rescue_rules.specs.declared.stop.Limit.{Limit}
 use Rattle.rescue_rules.specs.Setting.{Setting}
 use Rattle.rescue_rules.specs.Machine.{Machine, IsRequest}
-use Rattle.rescue_rules.specs.Step.{Event, step}
+use Rattle.rescue_rules.specs.Step.{Event, is_timely, limit_met, step}
 use Rattle.rescue_rules.specs.Moves.{Move, ready, move_of, state_after, IsMove, IsRun}
-use Rattle.rescue_rules.specs.Events.{reads_of}
-use Rattle.rescue_rules.specs.Snapshots.{text_of, snapshot_of, is_due}
-use Rattle.rescue_rules.specs.RunCalls.{write_calls, due_calls, move_calls, run_calls, end_calls}
+use Rattle.rescue_rules.specs.Snapshots.{Snapshot, text_of, snapshot_of, is_due}
+use Rattle.rescue_rules.specs.RunCalls.{write_calls, due_calls, move_calls, run_calls, closing_calls}
 use Rattle.rescue_rules.specs.RunStops.{ComesTo}
 use Rattle.rescue_rules.specs.Nameless.{nameless, RunsAlike}
 use Rattle.rescue_rules.proofs.NamelessLemmas.{run_named, runs_alike}
@@ -24,9 +26,10 @@ use Rattle.rescue_rules.proofs.ReadyLemmas.{ready_here}
 use Rattle.rescue_rules.proofs.SearchLemmas.{request_seen}
 use Rattle.rescue_core.specs.Across.{Across}
 use Rattle.rescue_core.specs.RunState.{RunState, names_in, setting_in}
-use Rattle.rescue_core.specs.Turning.{IsEvent, move_by, Starved, Lost, Unwritten, Limited, Unsaved}
+use Rattle.rescue_core.specs.Turning.{IsEvent, move_by, Halted, Starved, Lost, Unwritten, Limited, Unsaved}
 use Rattle.safe_turns.specs.Safe.{IsHeldIn, IsSafe}
-use Rattle.safe_turns.specs.Laws.{IsLeftWithin, IsTurnOf, TurnStaysSafe, TurnIsHeld, HaltedTurnIsHeld, PhaseStaysSafe}
+use Rattle.safe_turns.specs.Laws.{IsLeftWithin, IsTurnOf, reads_by, TurnStaysSafe, TurnIsHeld, HaltedTurnIsHeld}
+use Rattle.safe_turns.specs.PhaseLaws.{is_at_call, HaltedTurnStaysSafe}
 use Rattle.safe_turns.proofs.SafeLemmas.{comes_all, comes_past, comes_more, run_stays_safe}
 use Rattle.safe_turns.proofs.SiteLemmas.{Grew, broke_grew, grown_disk, left_within}
 
@@ -65,18 +68,27 @@ turn_run s request r o e h is =
           ∙ ap (λ (v : Move). v.after) same;
     }
 
-pub turn_stays_safe : TurnStaysSafe
-turn_stays_safe s start reads request turn r r' o h t safe =
-    let e : Event = t.event in
-    let run : TurnRun s r e = turn_run s request r o e h t.is in
-    let after : r'.machine ≡ step (setting_in r) r.machine e = ap (λ (x : RunState). x.machine) t.steps in
+-- an event with all its calls leaves the run safe
+event_stays_safe : (s : Setting) (start : List ℕ) (reads : List Reading) (request : Request) (r : RunState) (o : Across)
+    (e : Event) → IsTurnOf s request r o → IsEvent request e o.source o.source' o.clock o.clock'
+    → o.site'.calls ≡ o.site.calls ++ map Done (move_calls (setting_in r) (move_by r e))
+    → IsSafe s start reads r.machine (disk_of o.site)
+    → IsSafe s start (reads ++ e.reading ∷ []) (step (setting_in r) r.machine e) (disk_of o.site')
+event_stays_safe s start reads request r o e h is calls safe =
+    let run : TurnRun s r e = turn_run s request r o e h is in
     let made : List Call = move_calls (setting_in r) (move_by r e) in
     let disk : disk_of o.site' ≡ disk_after (disk_of o.site) (map Done made)
-    = grown_disk o.site o.site' (map Done made) h.tells h.keeps (t.calls.made h.tells) in
-    subst (λ (m : Machine). IsSafe s start (reads ++ e.reading ∷ []) m (disk_of o.site')) (run.state ∙ sym after)
+    = grown_disk o.site o.site' (map Done made) h.tells h.keeps calls in
+    subst (λ (m : Machine). IsSafe s start (reads ++ e.reading ∷ []) m (disk_of o.site')) run.state
     (subst (λ (d : Disk). IsSafe s start (reads ++ e.reading ∷ []) (state_after s r.machine (e ∷ [])) d)
     (ap (λ (cs : List Call). disk_after (disk_of o.site) (map Done cs)) run.calls ∙ sym disk)
     (run_stays_safe s start reads r.machine (disk_of o.site) (e ∷ []) safe run.run))
+
+pub turn_stays_safe : TurnStaysSafe
+turn_stays_safe s start reads request turn r r' o h t safe =
+    subst (λ (m : Machine). IsSafe s start (reads ++ t.event.reading ∷ []) m (disk_of o.site'))
+    (sym (ap (λ (x : RunState). x.machine) t.steps))
+    (event_stays_safe s start reads request r o t.event h t.is (t.calls.made h.tells) safe)
 
 -- where a turn's calls come to a part of them
 part_is_held : (s : Setting) (start : List ℕ) (reads : List Reading) (request : Request) (r : RunState) (o : Across)
@@ -89,8 +101,9 @@ part_is_held s start reads request r o e files h is g safe l =
     let run : TurnRun s r e = turn_run s request r o e h is in
     let comes : ComesTo (run_calls s r.machine (e ∷ [])) g.more
     = subst (λ (cs : List Call). ComesTo cs g.more) (sym run.calls) g.comes in
-    safe.each (e ∷ []) g.more (l.moment - length o.site.calls) files run.run
-    (comes_more (run_calls s r.machine (e ∷ [])) (end_calls s r.machine (e ∷ [])) g.more comes)
+    let last : Snapshot = snapshot_of (state_after s r.machine (e ∷ [])) in
+    safe.each (e ∷ []) last g.more (l.moment - length o.site.calls) files run.run refl
+    (comes_more (run_calls s r.machine (e ∷ [])) (closing_calls s last) g.more comes)
     (left_within o.site o.site' g.more files h.tells h.keeps g.is l)
 
 pub turn_is_held : TurnIsHeld
@@ -104,7 +117,7 @@ pub still_is_held : (s : Setting) (start : List ℕ) (reads : List Reading) (m :
     (files : List ℕ → Option File) → IsTrue site.tells → Keeps site site' → site' ≡ site
     → IsSafe s start reads m (disk_of site) → IsLeftWithin site site' files → IsHeldIn s start (reads ++ []) files
 still_is_held s start reads m site site' files tells keeps same safe l =
-    safe.each [] [] (l.moment - length site.calls) files (record { each = All-nil (IsMove s) }) tt
+    safe.each [] (snapshot_of m) [] (l.moment - length site.calls) files (record { each = All-nil (IsMove s) }) refl tt
     (left_within site site' [] files tells keeps (ap (λ (x : SiteState). x.calls) same ∙ sym (append-nil site.calls)) l)
 
 -- the save that is due behind a turn's write
@@ -127,44 +140,105 @@ due_grew r r' e old new steps due g =
           (subst (λ (cs : List Call). ComesTo cs g.more) (sym is_save) comes);
     }
 
-pub halted_turn_is_held : HaltedTurnIsHeld
-halted_turn_is_held s start reads request stop r r' o files h (Starved is same source site clock console) safe l =
-    still_is_held s start reads r.machine o.site o.site' files h.tells h.keeps site safe l
-halted_turn_is_held s start reads request stop r r' o files h (Lost is same loses site before small read console) safe l =
-    still_is_held s start reads r.machine o.site o.site' files h.tells h.keeps site safe l
-halted_turn_is_held s start reads request stop r r' o files h (Unwritten is same event read names breaks console) safe l =
+-- where a limit is met no save is due behind the write
+limited_calls : (r r' : RunState) (e : Event) (limit : Limit) → r'.machine ≡ step (setting_in r) r.machine e
+    → limit_met (setting_in r) r'.machine ≡ Some limit
+    → move_calls (setting_in r) (move_by r e) ≡ write_calls (setting_in r) e.reading
+limited_calls r r' e limit steps is =
+    let n : Setting = setting_in r in
+    let v : Move = move_by r e in
+    let met : limit_met n v.after ≡ Some limit = ap (limit_met n) (sym steps) ∙ is in
+    let timely : Bool = n.has_mapfile && is_timely v.before v.event in
+    let none : is_due n v ≡ false
+    = ap (λ (l : Option Limit). timely && is_none l) met ∙ and-false timely in
+    let save : List Call = save_calls n.names (text_of n.line (snapshot_of v.after)) in
+    ap (λ (b : Bool). write_calls n e.reading ++ (if b then save else [])) none ∙ append-nil (write_calls n e.reading)
+
+-- What a turn that stopped did: it read nothing, or an event of its request, with calls that come to a part of its own.
+pub data DidHalted (request : Request) (r : RunState) (o : Across) (reads : List Reading) : Type 0 where
+  Unread : reads ≡ [] → o.site' ≡ o.site → DidHalted request r o reads
+  ReadOne : (e : Event) → reads ≡ e.reading ∷ [] → IsEvent request e o.source o.source' o.clock o.clock'
+      → Grew (move_calls (setting_in r) (move_by r e)) o.site.calls o.site'.calls → DidHalted request r o reads
+
+pub did_halted : (request : Request) (stop : Stop) (r r' : RunState) (o : Across) (h : Halted request stop r r' o)
+    → IsTrue o.site.tells → DidHalted request r o (reads_by h)
+did_halted request stop r r' o (Starved is same source site clock console) tells = Unread refl site
+did_halted request stop r r' o (Lost is same loses site before small read console) tells = Unread refl site
+did_halted request stop r r' o (Unwritten is same event read names breaks console) tells =
     let writes : List Call = write_calls (setting_in r) event.reading in
     let g : Grew writes o.site.calls o.site'.calls
-    = broke_grew ImageWrite writes o.site.calls o.site'.calls (breaks.broke h.tells) in
-    part_is_held s start reads request r o event files h read (record {
+    = broke_grew ImageWrite writes o.site.calls o.site'.calls (breaks.broke tells) in
+    ReadOne event refl read (record {
       more = g.more;
       is = g.is;
       comes = comes_more writes (due_calls (setting_in r) (move_by r event)) g.more g.comes;
-    }) safe l
-halted_turn_is_held s start reads request stop r r' o files h (Limited limit is event read steps met makes says) safe l =
+    })
+did_halted request stop r r' o (Limited limit is event read steps met makes says) tells =
     let writes : List Call = write_calls (setting_in r) event.reading in
-    part_is_held s start reads request r o event files h read (record {
+    ReadOne event refl read (record {
       more = map Done writes;
-      is = makes.made h.tells;
+      is = makes.made tells;
       comes = comes_more writes (due_calls (setting_in r) (move_by r event)) (map Done writes) (comes_all writes);
-    }) safe l
-halted_turn_is_held s start reads request stop r r' o files h (Unsaved call is event read steps due names broke rose says) safe l =
+    })
+did_halted request stop r r' o (Unsaved call is event read steps due names broke rose says) tells =
     let n : Setting = setting_in r in
     let saves : List Call = save_calls (names_in r.names) (text_of r.line (snapshot_of r'.machine)) in
-    part_is_held s start reads request r o event files h read
+    ReadOne event refl read
     (due_grew r r' event o.site.calls o.site'.calls (ap (λ (x : RunState). x.machine) steps) due
-    (broke_grew call saves (o.site.calls ++ map Done (write_calls n event.reading)) o.site'.calls (broke h.tells)))
-    safe l
+    (broke_grew call saves (o.site.calls ++ map Done (write_calls n event.reading)) o.site'.calls (broke tells)))
 
-pub phase_stays_safe : PhaseStaysSafe
-phase_stays_safe s start reads r r' o setting tells keeps w safe =
-    let n : Setting = setting_in r in
-    let run : IsRun s r.machine w.events
-    = run_named s r.machine w.events (subst (λ (x : Setting). IsRun x r.machine w.events) setting w.run) in
-    let made : List Call = run_calls n r.machine w.events in
-    let disk : disk_of o.site' ≡ disk_after (disk_of o.site) (map Done made)
-    = grown_disk o.site o.site' (map Done made) tells keeps (w.made.made tells) in
-    subst (λ (d : Disk). IsSafe s start (reads ++ reads_of w.events) (state_after s r.machine w.events) d)
-    (ap (λ (cs : List Call). disk_after (disk_of o.site) (map Done cs)) (sym (calls_named s n r.machine w.events setting))
-    ∙ sym disk)
-    (run_stays_safe s start reads r.machine (disk_of o.site) w.events safe run)
+did_is_held : (s : Setting) (start : List ℕ) (reads : List Reading) (request : Request) (r : RunState) (o : Across)
+    (files : List ℕ → Option File) (own : List Reading) → IsTurnOf s request r o
+    → IsSafe s start reads r.machine (disk_of o.site) → IsLeftWithin o.site o.site' files → DidHalted request r o own
+    → IsHeldIn s start (reads ++ own) files
+did_is_held s start reads request r o files own h safe l (Unread none site) =
+    subst (λ (rs : List Reading). IsHeldIn s start (reads ++ rs) files) (sym none)
+    (still_is_held s start reads r.machine o.site o.site' files h.tells h.keeps site safe l)
+did_is_held s start reads request r o files own h safe l (ReadOne e one is grew) =
+    subst (λ (rs : List Reading). IsHeldIn s start (reads ++ rs) files) (sym one)
+    (part_is_held s start reads request r o e files h is grew safe l)
+
+pub halted_turn_is_held : HaltedTurnIsHeld
+halted_turn_is_held s start reads request stop r r' o files h halted safe l =
+    did_is_held s start reads request r o files (reads_by halted) h safe l
+    (did_halted request stop r r' o halted h.tells)
+
+-- What a turn that stopped came to, unless it stopped at a call on the files: it stood, or made one whole event.
+pub data CameHalted (request : Request) (r r' : RunState) (o : Across) (reads : List Reading) : Type 0 where
+  Stood : reads ≡ [] → r' ≡ r → o.site' ≡ o.site → CameHalted request r r' o reads
+  Stepped : (e : Event) → reads ≡ e.reading ∷ [] → IsEvent request e o.source o.source' o.clock o.clock'
+      → r'.machine ≡ step (setting_in r) r.machine e
+      → o.site'.calls ≡ o.site.calls ++ map Done (move_calls (setting_in r) (move_by r e))
+      → CameHalted request r r' o reads
+
+pub came_halted : (request : Request) (stop : Stop) (r r' : RunState) (o : Across) (h : Halted request stop r r' o)
+    → IsTrue o.site.tells → is_at_call stop ≡ false → CameHalted request r r' o (reads_by h)
+came_halted request stop r r' o (Starved is same source site clock console) tells off = Stood refl same site
+came_halted request stop r r' o (Lost is same loses site before small read console) tells off = Stood refl same site
+came_halted request stop r r' o (Unwritten is same event read names breaks console) tells off =
+    absurd (let no : true ≡ false = sym (ap is_at_call is) ∙ off in cc)
+came_halted request stop r r' o (Limited limit is event read steps met makes says) tells off =
+    let steps' : r'.machine ≡ step (setting_in r) r.machine event = ap (λ (x : RunState). x.machine) steps in
+    Stepped event refl read steps'
+    (makes.made tells
+    ∙ ap (λ (cs : List Call). o.site.calls ++ map Done cs) (sym (limited_calls r r' event limit steps' met)))
+came_halted request stop r r' o (Unsaved call is event read steps due names broke rose says) tells off =
+    absurd (let no : true ≡ false = sym (ap is_at_call is) ∙ off in cc)
+
+came_stays_safe : (s : Setting) (start : List ℕ) (reads : List Reading) (request : Request) (r r' : RunState)
+    (o : Across) (own : List Reading) → IsTurnOf s request r o → IsSafe s start reads r.machine (disk_of o.site)
+    → CameHalted request r r' o own → IsSafe s start (reads ++ own) r'.machine (disk_of o.site')
+came_stays_safe s start reads request r r' o own h safe (Stood none same site) =
+    subst (λ (rs : List Reading). IsSafe s start rs r'.machine (disk_of o.site'))
+    (sym (append-nil reads) ∙ ap (λ (rs : List Reading). reads ++ rs) (sym none))
+    (subst (λ (x : SiteState). IsSafe s start reads r'.machine (disk_of x)) (sym site)
+    (subst (λ (x : RunState). IsSafe s start reads x.machine (disk_of o.site)) (sym same) safe))
+came_stays_safe s start reads request r r' o own h safe (Stepped e one is steps calls) =
+    subst (λ (rs : List Reading). IsSafe s start (reads ++ rs) r'.machine (disk_of o.site')) (sym one)
+    (subst (λ (m : Machine). IsSafe s start (reads ++ e.reading ∷ []) m (disk_of o.site')) (sym steps)
+    (event_stays_safe s start reads request r o e h is calls safe))
+
+pub halted_turn_stays_safe : HaltedTurnStaysSafe
+halted_turn_stays_safe s start reads request stop r r' o h halted off safe =
+    came_stays_safe s start reads request r r' o (reads_by halted) h safe
+    (came_halted request stop r r' o halted h.tells off)

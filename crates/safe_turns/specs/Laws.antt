@@ -18,8 +18,8 @@ use Rattle.rescue_rules.specs.Machine.{Machine, IsRequest}
 use Rattle.rescue_rules.specs.Step.{Event, limit_met}
 use Rattle.rescue_rules.specs.Moves.{state_after, IsRun}
 use Rattle.rescue_rules.specs.Events.{reads_of}
-use Rattle.rescue_rules.specs.Snapshots.{last_snapshot}
-use Rattle.rescue_rules.specs.RunCalls.{run_calls, end_calls}
+use Rattle.rescue_rules.specs.Snapshots.{Snapshot}
+use Rattle.rescue_rules.specs.RunCalls.{run_calls, closing_calls}
 use Rattle.rescue_rules.specs.Preparation.{AreFinishedAlike}
 use Rattle.rescue_rules.specs.Laws.{AreThreeNames}
 use Rattle.rescue_rules.specs.MachineLaws.{IsInOrder}
@@ -29,8 +29,7 @@ use Rattle.rescue_core.specs.declared.turn.Turn.{Turn}
 use Rattle.rescue_core.specs.Across.{Across}
 use Rattle.rescue_core.specs.RunState.{RunState, setting_in}
 use Rattle.rescue_core.specs.Turning.{Turned, Halted, Starved, Lost, Unwritten, Limited, Unsaved}
-use Rattle.rescue_core.specs.Closing.{closing_snapshot, Closes}
-use Rattle.copy_passes.specs.Turns.{Went}
+use Rattle.rescue_core.specs.Closing.{Closes}
 use Rattle.safe_turns.specs.Safe.{IsHeldIn, IsSafe}
 
 -- A run is safe where it begins on an open output and a mapfile that are durable, and stands for a map that finishes
@@ -52,12 +51,12 @@ RunStaysSafe = (s : Setting) (start : List ℕ) (reads : List Reading) (m : Mach
     → IsSafe s start reads m d → IsRun s m es
     → IsSafe s start (reads ++ reads_of es) (state_after s m es) (disk_after d (map Done (run_calls s m es)))
 
--- At each stop of these calls, and of those of the run's end, what may be found is held.
+-- At each stop of these calls, and of those of a last save of the map that it has come to, what may be found is held.
 abbrev pub RunIsHeld : Type 0
 RunIsHeld = (s : Setting) (start : List ℕ) (reads : List Reading) (m : Machine) (d : Disk) (es : List Event)
-    (calls : List Entry) (k : ℕ) (files : List ℕ → Option File) → IsSafe s start reads m d → IsRun s m es
-    → ComesTo (run_calls s m es ++ end_calls s m es) calls → Leaves (disk_after d (until k calls)) files
-    → IsHeldIn s start (reads ++ reads_of es) files
+    (last : Snapshot) (calls : List Entry) (k : ℕ) (files : List ℕ → Option File) → IsSafe s start reads m d
+    → IsRun s m es → last.map ≡ (state_after s m es).map → ComesTo (run_calls s m es ++ closing_calls s last) calls
+    → Leaves (disk_after d (until k calls)) files → IsHeldIn s start (reads ++ reads_of es) files
 
 -- a stop within the calls that a site gained may leave these files
 pub record IsLeftWithin (site site' : SiteState) (files : List ℕ → Option File) : Type 0 where
@@ -105,16 +104,9 @@ HaltedTurnIsHeld = (s : Setting) (start : List ℕ) (reads : List Reading) (requ
     → (h : Halted request stop r r' o) → IsSafe s start reads r.machine (disk_of o.site)
     → IsLeftWithin o.site o.site' files → IsHeldIn s start (reads ++ reads_by h) files
 
--- Whole turns, as each phase makes them, leave the run safe behind their events, with their reads.
-abbrev pub PhaseStaysSafe : Type 0
-PhaseStaysSafe = (s : Setting) (start : List ℕ) (reads : List Reading) (r r' : RunState) (o : Across)
-    → setting_in r ≡ nameless s → IsTrue o.site.tells → Keeps o.site o.site' → (w : Went r r' o)
-    → IsSafe s start reads r.machine (disk_of o.site)
-    → IsSafe s start (reads ++ reads_of w.events) (state_after s r.machine w.events) (disk_of o.site')
-
--- Within the close of a safe run, which saves what the run came to, what may be found is held at each stop.
+-- Within the close of a safe run, however that ended, what may be found is held at each stop.
 abbrev pub CloseIsHeld : Type 0
 CloseIsHeld = (s : Setting) (start : List ℕ) (reads : List Reading) (stop : Option Stop) (r : RunState) (end : RunEnd)
     (site site' : SiteState) (files : List ℕ → Option File) → setting_in r ≡ nameless s → IsTrue site.tells
-    → Keeps site site' → closing_snapshot stop r ≡ last_snapshot (setting_in r) r.machine → Closes stop r end site site'
-    → IsSafe s start reads r.machine (disk_of site) → IsLeftWithin site site' files → IsHeldIn s start reads files
+    → Keeps site site' → Closes stop r end site site' → IsSafe s start reads r.machine (disk_of site)
+    → IsLeftWithin site site' files → IsHeldIn s start reads files

@@ -12,10 +12,10 @@ use Rattle.rescue_rules.specs.Start.{Stands}
 use Rattle.rescue_rules.specs.Held.{Held}
 use Rattle.rescue_rules.specs.Machine.{Machine}
 use Rattle.rescue_rules.specs.Step.{Event}
-use Rattle.rescue_rules.specs.Moves.{IsRun}
+use Rattle.rescue_rules.specs.Moves.{state_after, IsRun}
 use Rattle.rescue_rules.specs.Events.{reads_of}
 use Rattle.rescue_rules.specs.Snapshots.{Snapshot, text_of}
-use Rattle.rescue_rules.specs.RunCalls.{run_calls, end_calls}
+use Rattle.rescue_rules.specs.RunCalls.{run_calls, closing_calls}
 use Rattle.rescue_rules.specs.RunStops.{ComesTo}
 
 -- a mapfile has a map: it stands for it, or a run saved it
@@ -32,8 +32,9 @@ pub record IsHeldIn (s : Setting) (start : List ℕ) (reads : List Reading) (fil
   pub has : HasMap s (files s.names.map) map
   pub held : Held s reads start map (bytes_of (files s.outfile))
 
--- However a run goes on from a state over a disk, and at whatever moment it is stopped then: what is found is held.
+-- However a run goes on from a state over a disk, whatever its last save shows of the map that it has come to, and at
+-- whatever moment it is stopped then: what is found is held.
 pub record IsSafe (s : Setting) (start : List ℕ) (reads : List Reading) (m : Machine) (d : Disk) : Type 0 where
-  pub each : (es : List Event) (calls : List Entry) (k : ℕ) (files : List ℕ → Option File) → IsRun s m es
-      → ComesTo (run_calls s m es ++ end_calls s m es) calls → Leaves (disk_after d (until k calls)) files
-      → IsHeldIn s start (reads ++ reads_of es) files
+  pub each : (es : List Event) (last : Snapshot) (calls : List Entry) (k : ℕ) (files : List ℕ → Option File)
+      → IsRun s m es → last.map ≡ (state_after s m es).map → ComesTo (run_calls s m es ++ closing_calls s last) calls
+      → Leaves (disk_after d (until k calls)) files → IsHeldIn s start (reads ++ reads_of es) files

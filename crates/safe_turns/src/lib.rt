@@ -1,4 +1,4 @@
-//! What stays from turn to turn of a rescue, wherever it began: definitions and laws.
+//! What stays from turn to turn of a rescue, wherever it began, and what it leaves at its end: definitions and laws.
 #![tactic(auto)]
 
 pub mod laws;
