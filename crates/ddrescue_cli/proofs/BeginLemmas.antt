@@ -91,6 +91,13 @@ asked_suits settings domain o end maps top is asked long =
           whole_below o.input_position o.size end top x long (asked_whole o end maps domain x asked inside);
     })
 
+-- and each of its positions has a place in the output
+pub asked_placed : (settings : Settings) (domain : List Run) (o : Options) (end : ℕ) (maps : Maps)
+    → settings ≡ settings_by o → ArePlacedBy o end → IsAsked o end maps domain → HasPlaces settings (covers domain)
+asked_placed settings domain o end maps is placed asked =
+    subst (λ (t : Settings). HasPlaces t (covers domain)) (sym is)
+    (record { low = λ x inside. placed x (asked_whole o end maps domain x asked inside) })
+
 -- the map that is made of one
 abbrev made_of_map : List Run → Options → List Status → List Status
 made_of_map domain o statuses = prepared (covers domain) o.try_again o.retrim statuses
@@ -185,8 +192,7 @@ begun_over settings domain names line o end maps statuses state moment heard r l
     (record {
       copying = begun_copies settings domain names line o statuses state moment heard (sound_settings settings o is limits)
           (asked_suits settings domain o end maps (length (made_of_map domain o statuses)) is asked long);
-      places = subst (λ (t : Settings). HasPlaces t (covers q.domain)) (sym (parts.settings_are ∙ is))
-          (record { low = λ x inside. placed x (asked_in_whole o end maps x (sym (positions x) ∙ inside)) });
+      places = asked_placed q.settings q.domain o end maps (parts.settings_are ∙ is) placed positions;
       settings_are = parts.settings_are ∙ is;
       names_are = parts.names_are;
       line_is = parts.line_is;

@@ -14,14 +14,14 @@ use Rattle.rescue_rules.specs.Setting.{Setting}
 use Rattle.rescue_rules.specs.Machine.{Machine}
 use Rattle.rescue_rules.specs.Step.{Event, limit_met}
 use Rattle.rescue_rules.specs.Moves.{state_after}
-use Rattle.rescue_rules.specs.Work.{Gain, EndsBy, Ends, end_of, IsSaved, IsUnsaved, IsBroken}
+use Rattle.rescue_rules.specs.Work.{Gain, Ends, IsSaved, IsUnsaved, IsBroken}
 use Rattle.work_steps.specs.Work.{Deeds}
 use Rattle.work_steps.specs.Verdicts.{AreVerdicts}
 use Rattle.work_steps.proofs.VerdictLemmas.{goes_to_run}
 use Rattle.rescue_command.specs.declared.options.Options.{Options}
-use Rattle.rescue_command.specs.Command.{Command}
+use Rattle.rescue_command.specs.Command.{Command, Rescue}
 use Rattle.ddrescue_cli.specs.declared.ending.Ending.{Ending}
-use Rattle.ddrescue_cli.specs.declared.ending.Ending.TheVariants.{Done, SourceFault, SourceLost, SiteFault, LimitMet, NoMemory}
+use Rattle.ddrescue_cli.specs.declared.ending.Ending.TheVariants.{SourceFault, SourceLost, SiteFault, NoMemory}
 use Rattle.ddrescue_cli.specs.Answers.{Causes}
 use Rattle.ddrescue_cli.specs.Outside.{Outside}
 use Rattle.ddrescue_cli.specs.Told.{Told, asked_of}
@@ -30,13 +30,13 @@ use Rattle.ddrescue_cli.specs.Ddrescue.{Promise}
 use Rattle.ddrescue_cli.specs.Laws.{AreUnlimited, IsDoneOrLimited, NothingFailed, NothingIsRefused, IsDoneUnless}
 
 -- no answer of a failure, nor of want of memory
-record IsNoFault (e : Ending) : Type 0 where
-  opened : e ≢ SourceFault
-  kept : e ≢ SourceLost
-  room : e ≢ NoMemory
-  call : (call : SiteCall) (earlier : Option Stop) → e ≢ SiteFault call earlier
+pub record IsNoFault (e : Ending) : Type 0 where
+  pub opened : e ≢ SourceFault
+  pub kept : e ≢ SourceLost
+  pub room : e ≢ NoMemory
+  pub call : (call : SiteCall) (earlier : Option Stop) → e ≢ SiteFault call earlier
 
-no_faults : AreVerdicts rescue_faults IsNoFault
+pub no_faults : AreVerdicts rescue_faults IsNoFault
 no_faults = record { memory = λ v. v.room refl; input = λ v. v.opened refl; call = λ call v. v.call call None refl }
 
 -- a setting that has none of the limits
@@ -117,25 +117,26 @@ passed_itself t c p pass v =
     (λ set. record { errors = set.errors; areas = set.areas; time = set.time }) ran.1.1.3 v
 
 -- what is left for an answer
-left_itself : (o : Options) (t : Told) (e : Ending) → NothingFailed t → (IsNoFault e → IsDoneOrLimited o e)
-    → Causes e t.source t.source' t.site t.site' → e ≢ NoMemory → IsDoneOrLimited o e
-left_itself o t SourceFault f itself cause room =
+pub left_itself : (P : Ending → Type 0) (t : Told) (e : Ending) → NothingFailed t → (IsNoFault e → P e)
+    → Causes e t.source t.source' t.site t.site' → e ≢ NoMemory → P e
+left_itself P t SourceFault f itself cause room =
     absurd (not_risen t.source.faults t.source'.faults f.opens_count f.opens cause.faults)
-left_itself o t SourceLost f itself cause room =
+left_itself P t SourceLost f itself cause room =
     absurd (not_risen t.source.losses t.source'.losses f.reads_count f.reads cause.losses_)
-left_itself o t (SiteFault call None) f itself cause room =
+left_itself P t (SiteFault call None) f itself cause room =
     absurd (not_risen t.site.faults t.site'.faults f.calls_count f.calls cause.site_faults)
-left_itself o t (SiteFault call (Some InputLost)) f itself cause room =
+left_itself P t (SiteFault call (Some InputLost)) f itself cause room =
     absurd (not_risen t.site.faults t.site'.faults f.calls_count f.calls cause.site_faults)
-left_itself o t (SiteFault call (Some (Site before))) f itself cause room = absurd cause
-left_itself o t (SiteFault call (Some (Limited limit))) f itself cause room =
+left_itself P t (SiteFault call (Some (Site before))) f itself cause room = absurd cause
+left_itself P t (SiteFault call (Some (Limited limit))) f itself cause room =
     absurd (not_risen t.site.faults t.site'.faults f.calls_count f.calls cause.site_faults)
-left_itself o t (SiteFault call (Some NoRoom)) f itself cause room =
+left_itself P t (SiteFault call (Some NoRoom)) f itself cause room =
     absurd (not_risen t.site.faults t.site'.faults f.calls_count f.calls cause.site_faults)
-left_itself o t NoMemory f itself cause room = absurd (room refl)
-left_itself o t e f itself cause room =
+left_itself P t NoMemory f itself cause room = absurd (room refl)
+left_itself P t e f itself cause room =
     itself (record { opened = λ is. cc; kept = λ is. cc; room = λ is. cc; call = λ call earlier is. cc })
 
 pub is_done_unless : IsDoneUnless
 is_done_unless t c d asks failed pass room =
-    left_itself c.options t t.answer failed (passed_itself t c (d.asked_for c asks) pass) d.cause room
+    left_itself (λ (e : Ending). IsDoneOrLimited c.options e) t t.answer failed
+    (passed_itself t c (d.asked_for (Rescue c) asks) pass) d.cause room

@@ -23,24 +23,24 @@ use Rattle.rescue_rules.proofs.MapfileLemmas.{end_is}
 use Rattle.ddrescue_cli.proofs.GoesLemmas.{settled}
 
 -- none of these calls counts
-abbrev Quiet : (Entry → Bool) → List Call → Type 0
+abbrev pub Quiet : (Entry → Bool) → List Call → Type 0
 Quiet f [] = ⊤
 Quiet f (c ∷ cs) = (f (Returned c) ≡ false) × Quiet f cs
 
-quiet_append : (f : Entry → Bool) (xs ys : List Call) → Quiet f xs → Quiet f ys → Quiet f (xs ++ ys)
+pub quiet_append : (f : Entry → Bool) (xs ys : List Call) → Quiet f xs → Quiet f ys → Quiet f (xs ++ ys)
 quiet_append f [] ys p q = q
 quiet_append f (c ∷ cs) ys p q = (p.0, quiet_append f cs ys p.1 q)
 
 -- these calls count for so much
-abbrev Adds : (Entry → Bool) → List Call → ℕ → Type 0
+abbrev pub Adds : (Entry → Bool) → List Call → ℕ → Type 0
 Adds f calls k = (more : List Entry) (n : ℕ) → tally f (map Returned calls ++ more) n ≡ tally f more (n + k)
 
-adds_quiet : (f : Entry → Bool) (cs : List Call) → Quiet f cs → Adds f cs 0
+pub adds_quiet : (f : Entry → Bool) (cs : List Call) → Quiet f cs → Adds f cs 0
 adds_quiet f [] q more n = ap (tally f more) (let e : n ≡ n + 0 = omega arith in e)
 adds_quiet f (c ∷ cs) q more n =
     ap (λ (b : Bool). tally f (map Returned cs ++ more) (add b n)) q.0 ∙ adds_quiet f cs q.1 more n
 
-adds_append : (f : Entry → Bool) (xs ys : List Call) (j k l : ℕ) → Adds f xs j → Adds f ys k → j + k ≡ l → Adds f (xs ++ ys) l
+pub adds_append : (f : Entry → Bool) (xs ys : List Call) (j k l : ℕ) → Adds f xs j → Adds f ys k → j + k ≡ l → Adds f (xs ++ ys) l
 adds_append f xs ys j k l p q sum more n =
     ap (λ (r : List Entry). tally f (r ++ more) n) (map-append Returned xs ys)
     ∙ ap (λ (r : List Entry). tally f r n) (append_assoc (map Returned xs) (map Returned ys) more)
@@ -48,16 +48,16 @@ adds_append f xs ys j k l p q sum more n =
     ∙ ap (tally f more) (let e : n + j + k ≡ n + l = omega (arith, sum) in e)
 
 -- the kinds of calls that come in any number don't count
-record Ignores (f : Entry → Bool) : Type 0 where
-  read : (name : List ℕ) (pos asked : ℕ) (answer : Option MapRead) → f (Returned (map_read name pos asked answer)) ≡ false
-  write : (pos : ℕ) (piece : List ℕ) → f (Returned (image_write pos piece)) ≡ false
-  append : (piece : List ℕ) → f (Returned (draft_append piece)) ≡ false
+pub record Ignores (f : Entry → Bool) : Type 0 where
+  pub read : (name : List ℕ) (pos asked : ℕ) (answer : Option MapRead) → f (Returned (map_read name pos asked answer)) ≡ false
+  pub write : (pos : ℕ) (piece : List ℕ) → f (Returned (image_write pos piece)) ≡ false
+  pub append : (piece : List ℕ) → f (Returned (draft_append piece)) ≡ false
 
 quiet_pieces : (f : Entry → Bool) (name : List ℕ) (pos : ℕ) (given : List ℕ) → Ignores f → Quiet f (piece_reads name pos given)
 quiet_pieces f name pos [] i = tt
 quiet_pieces f name pos (n ∷ ns) i = (i.read name pos piece_size _, quiet_pieces f name (pos + n) ns i)
 
-quiet_load : (f : Entry → Bool) (name : List ℕ) (file : Option File) (load : List Call) → Ignores f
+pub quiet_load : (f : Entry → Bool) (name : List ℕ) (file : Option File) (load : List Call) → Ignores f
     → BeginsLoad name file load → Quiet f load
 quiet_load f name file load i b =
     let P : List Call → Type 0 = λ l. Quiet f l in
@@ -69,12 +69,12 @@ quiet_appends f [] i = tt
 quiet_appends f (p ∷ ps) i = (i.append p, quiet_appends f ps i)
 
 -- and a save counts once
-record CountsSaves (f : Entry → Bool) : Type 0 where
-  ignores : Ignores f
-  begins : (names : MapNames) → Quiet f (begin_calls names)
-  ends : (names : MapNames) → Adds f (draft_sync ∷ publish_calls names) 1
+pub record CountsSaves (f : Entry → Bool) : Type 0 where
+  pub ignores : Ignores f
+  pub begins : (names : MapNames) → Quiet f (begin_calls names)
+  pub ends : (names : MapNames) → Adds f (draft_sync ∷ publish_calls names) 1
 
-adds_save : (f : Entry → Bool) (names : MapNames) (text : List ℕ) → CountsSaves f → Adds f (save_calls names text) 1
+pub adds_save : (f : Entry → Bool) (names : MapNames) (text : List ℕ) → CountsSaves f → Adds f (save_calls names text) 1
 adds_save f names text c =
     adds_append f (begin_calls names) (fill_calls text ++ draft_sync ∷ publish_calls names) 0 1 1
     (adds_quiet f (begin_calls names) (c.begins names))
@@ -134,14 +134,14 @@ tally_run f s file load m events n on c b =
     ∙ ap (λ (r : List Entry). tally f r (n + 0)) (sym (append-nil (map Returned run)))
     ∙ all [] (n + 0) ∙ (let e : n + 0 + (k + 1) ≡ n + (k + 1) = omega arith in e)
 
-settles : CountsSaves is_settle
+pub settles : CountsSaves is_settle
 settles = record {
   ignores = record { read = λ name pos asked answer. refl; write = λ pos piece. refl; append = λ piece. refl };
   begins = λ names. (refl, (refl, tt));
   ends = λ names more n. ap (tally is_settle more) (let e : suc n ≡ n + 1 = omega arith in e);
 }
 
-publishes : CountsSaves is_publish
+pub publishes : CountsSaves is_publish
 publishes = record {
   ignores = record { read = λ name pos asked answer. refl; write = λ pos piece. refl; append = λ piece. refl };
   begins = λ names. (refl, (refl, tt));

@@ -40,10 +40,11 @@ use Rattle.rescue_rules.specs.declared.stop.Stop.{Stop}
 use Rattle.rescue_rules.specs.declared.stop.Stop.TheVariants.{SourceLost as InputLost, Site, LimitMet as Limited, NoMemory as NoRoom}
 use Rattle.rescue_rules.specs.declared.stop.RunEnd.{RunEnd}
 use Rattle.rescue_rules.specs.Work.{Gain, begins, events_in, opening_calls, mapfile_in, IsLoadOf, AreMapReads, EndsBy, end_of, Ends, IsSaved as RunSaved, IsUnsaved, IsBroken}
+use Rattle.rescue_rules.specs.StopsBy.{LeftBy}
 use Rattle.rescue_rules.specs.Stops.{LeftAt, has_barrier, is_settle, is_publish, returned, published, files_before, IsSave, IsKept}
 use Rattle.ddrescue_cli.specs.declared.ending.Ending.{Ending}
 use Rattle.ddrescue_cli.specs.declared.ending.Ending.TheVariants.{Done, SameName, SourceLost, SiteFault, NoMemory, LimitMet}
-use Rattle.rescue_command.specs.Command.{Command, Asks}
+use Rattle.rescue_command.specs.Command.{Command, Asks, Rescue}
 use Rattle.option_words.specs.Words.{command_line}
 use Rattle.ddrescue_cli.specs.Names.{program_name}
 use Rattle.ddrescue_cli.specs.Asked.{Maps, setting_of}
@@ -69,21 +70,24 @@ left_all start calls k all =
     let P : List Entry → Type 0 = λ r. MayBeLeft start calls k (after start r).files in
     subst P (ap (λ n. take n calls) all ∙ take-length calls) (reads_until start calls k)
 
-left_at_end : (c : Command) (t : Told) (d : Ddrescue t) (p : Promise c t) → IsTrue t.site.tells
-    → LeftAt (calls_before t) p.outside.did.gain (length p.outside.did.gain.calls) (files_in t.site')
-left_at_end c t d p tells =
-    let gained : List Entry = p.outside.did.gain.calls in
+-- behind all calls that a record gained
+pub left_behind : (t : Told) (gained : List Entry) → t.site'.start ≡ t.site.start
+    → t.site'.calls ≡ t.site.calls ++ gained → LeftBy (calls_before t) gained (length gained) (files_in t.site')
+left_behind t gained started grew =
     let calls : List Entry = t.site.calls ++ gained in
     let k : ℕ = length t.site.calls + length gained in
     let P : Folder → Type 0 = λ start. MayBeLeft t.site.start calls k (after start t.site'.calls).files in
     let Q : List Entry → Type 0 = λ r. MayBeLeft t.site.start calls k (after t.site.start r).files in
-    subst P (sym (d.site.start tells))
-    (subst Q (sym (p.agrees.calls tells))
-    (left_all t.site.start calls k (sym (length-append t.site.calls gained))))
+    subst P (sym started)
+    (subst Q (sym grew) (left_all t.site.start calls k (sym (length-append t.site.calls gained))))
+
+left_at_end : (c : Command) (t : Told) (d : Ddrescue t) (p : Promise c t) → IsTrue t.site.tells
+    → LeftAt (calls_before t) p.outside.did.gain (length p.outside.did.gain.calls) (files_in t.site')
+left_at_end c t d p tells = left_behind t p.outside.did.gain.calls (d.site.start tells) (p.agrees.calls tells)
 
 pub holds_at_end : HoldsAtEnd
 holds_at_end t c began state d asks tells on is stands =
-    let p : Promise c t = d.asked_for c asks in
+    let p : Promise c t = d.asked_for (Rescue c) asks in
     let calls : List Entry = p.outside.did.gain.calls in
     let whole : take (length calls) calls ≡ calls = take-length calls in
     (p.stops tells on).kept (length calls) (files_in t.site') began state (omega arith)
@@ -95,7 +99,7 @@ pub record SavedRun (s : Setting) (m : Machine) (events : List Event) (calls : L
   pub all : calls ≡ map Returned (run_calls s m events ++ end_calls s m events)
 
 -- only a run that is over is done
-answer_done : (end : RunEnd) (stop : Option Stop) → Done ≡ answer_of end → end ≡ end_of stop → stop ≡ None
+pub answer_done : (end : RunEnd) (stop : Option Stop) → Done ≡ answer_of end → end ≡ end_of stop → stop ≡ None
 answer_done end None is same = refl
 answer_done end (Some InputLost) is same = absurd (let no : Done ≡ SourceLost = is ∙ ap answer_of same in cc)
 answer_done end (Some (Site call)) is same = absurd (let no : Done ≡ SiteFault call None = is ∙ ap answer_of same in cc)
@@ -213,7 +217,7 @@ record DoneWork (s : Setting) (files : List ℕ → Option File) (g : Gain) : Ty
   grew : g.calls ≡ map Returned maps ++ rest
   run : DoneRun s files (record g { calls = rest })
 
-if_reads : (name : Option (List ℕ)) (file : Option File) (load : List Call) → IsLoadIf name file load → AreMapReads load
+pub if_reads : (name : Option (List ℕ)) (file : Option File) (load : List Call) → IsLoadIf name file load → AreMapReads load
 if_reads None file load is = subst (λ (l : List Call). AreMapReads l) (sym is) (All-nil IsMapRead)
 if_reads (Some name) file load is = load_reads name file load is.begins
 
@@ -253,7 +257,7 @@ done_works c line end maps files lines e d is (inr (inr (passes, w))) =
     (passed rescue_faults (worked_rows c found end) run e d (λ stops. undone c found end e stops (sym is)) w)
 
 -- the last of several saves
-save_last : (old : Option File) (began : List Status) (line : List ℕ) (saves : List Snapshot) (last : Snapshot)
+pub save_last : (old : Option File) (began : List Status) (line : List ℕ) (saves : List Snapshot) (last : Snapshot)
     (number : ℕ) (found : Option File) (statuses : List Status)
     → number ≡ length saves + 1 → IsSave old began line (saves ++ last ∷ []) number found statuses
     → (statuses ≡ last.map) × (found ≡ Some (record { bytes = text_of line last; regular = true }))
@@ -270,7 +274,7 @@ save_last old began line saves last (suc n) found statuses is (p, at, map_is, fo
     (map_is ∙ ap (λ (q : Snapshot). q.map) same, found_is ∙ ap F same)
 
 -- behind all calls of a rescue that is done, its last save is the one that is found
-number_last : (calls : List Entry) (number k : ℕ) → count_by is_settle calls ≡ 1 + k → count_by is_publish calls ≡ k
+pub number_last : (calls : List Entry) (number k : ℕ) → count_by is_settle calls ≡ 1 + k → count_by is_publish calls ≡ k
     → returned (take (length calls) calls) ≤ number → number ≤ published (take (length calls + 1) calls) → number ≡ k
 number_last calls number k settled published_ older newer =
     let whole : take (length calls) calls ≡ calls = take-length calls in
@@ -383,7 +387,7 @@ held_without : (t : Told) (c : Command) (d : Ddrescue t) (asks : Asks t.words c)
     → Held (setting d asks) (done_by d asks).reads (bytes_of (files_of t c.outfile))
     (comes_to (setting d asks) (done_by d asks) w.run.statuses w.run.state).map (bytes_of (files_in t.site' c.outfile))
 held_without t c d asks tells w off =
-    let p : Promise c t = d.asked_for c asks in
+    let p : Promise c t = d.asked_for (Rescue c) asks in
     let s : Setting = setting d asks in
     let g : Gain = done_by d asks in
     let m : Machine = begins s w.run.statuses w.run.state g in
@@ -429,7 +433,7 @@ finished_by t c d asks tells w =
 
 pub done_is_saved : DoneIsSaved
 done_is_saved t c d asks tells is =
-    let p : Promise c t = d.asked_for c asks in
+    let p : Promise c t = d.asked_for (Rescue c) asks in
     let o : Outside = p.outside in
     finished_by t c d asks tells
     (done_works c (command_line program_name t.words) o.end o.maps (files_of t) o.lines t.answer o.did (sym is)

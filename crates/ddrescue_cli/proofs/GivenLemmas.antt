@@ -10,6 +10,7 @@ use Rattle.rescue_rules.specs.Given.{given, last_of_both}
 use Rattle.rescue_rules.proofs.GivenLemmas.{given_covered, given_uncovered}
 use Rattle.rescue_rules.proofs.MarkLemmas.{slice_get-take, slice_get-drop}
 use Rattle.copy_passes.specs.Turns.{IsFrom}
+use Rattle.rescue_command.specs.Command.{Rescue}
 use Rattle.ddrescue_cli.specs.Ddrescue.{Promise}
 use Rattle.ddrescue_cli.specs.Laws.{GivenIsInput}
 
@@ -61,5 +62,5 @@ from_input bytes b (r ∷ rs) x v all is =
 
 pub given_is_input : GivenIsInput
 given_is_input t c x b d asks tells is =
-    let p : Promise c t = d.asked_for c asks in
+    let p : Promise c t = d.asked_for (Rescue c) asks in
     from_input t.source.bytes c.options.sector p.outside.did.gain.reads x b (p.agrees.reads tells).right is

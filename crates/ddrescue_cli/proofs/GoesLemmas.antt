@@ -1,5 +1,5 @@
 -- The work of a rescue goes as it should.
-use Rattle.std.proofs.Common.{◌≡◌, ℕ, ◌+◌, ◌≤◌, true, false, ◌⊎◌, List, [], ◌∷◌, ◌++◌, map, length, take, Option, Some, None, option_map, refl, sym, ap, ◌∙◌, inl, inr, subst, arith, append-nil}
+use Rattle.std.proofs.Common.{◌≡◌, ℕ, ◌+◌, ◌≤◌, Bool, true, false, ◌⊎◌, List, [], ◌∷◌, ◌++◌, map, length, take, Option, Some, None, option_map, refl, sym, ap, ◌∙◌, inl, inr, subst, arith, append-nil}
 use Rattle.std.proofs.lemmas.List.Elements.{All-nil, All-append}
 use Rattle.block_list.specs.declared.status.Status.{Status}
 use Rattle.mapfile_text.specs.declared.state.MapState.{MapState}
@@ -15,6 +15,8 @@ use Rattle.rescue_rules.specs.declared.stop.RunEnd.{RunEnd}
 use Rattle.rescue_rules.specs.Setting.{Setting}
 use Rattle.rescue_rules.specs.Start.{Stands}
 use Rattle.rescue_rules.specs.Work.{Gain, IsNothing, Runs, mapfile_in, GoesOn, InOpening, InLoad, InRun, AreMapReads, Goes, InMaps, BehindMaps}
+use Rattle.rescue_rules.specs.Snapshots.{Snapshot}
+use Rattle.rescue_rules.specs.StopsBy.{StopsBy}
 use Rattle.rescue_rules.specs.Stops.{Behind, LeftAt, has_barrier, StopsSafely}
 use Rattle.ddrescue_cli.specs.declared.ending.Ending.{Ending}
 use Rattle.ddrescue_cli.specs.declared.ending.Which.{Which}
@@ -230,7 +232,7 @@ work_goes c line end maps files lines e d on works =
     works
 
 -- where nothing was done but that maps were read, a stop is safe, whatever the input's length
-maps_cut : (maps : List Call) (calls : List Entry) → (calls ≡ map Returned maps) ⊎ BrokeAt MapRead maps [] calls → Cut maps calls
+pub maps_cut : (maps : List Call) (calls : List Entry) → (calls ≡ map Returned maps) ⊎ BrokeAt MapRead maps [] calls → Cut maps calls
 maps_cut maps calls (inl all) = subst (Cut maps) (sym all) (cut_all maps)
 maps_cut maps calls (inr broke) = broke_cut MapRead [] maps calls broke
 
@@ -266,5 +268,24 @@ nothing_stops b s g none = record {
   there = λ k files le left is. absurd (no_barrier g k none le is);
   mapfile = λ k files le left is still. absurd (no_barrier g k none le is);
   kept = λ k files began state le left is stands. absurd (no_barrier g k none le is);
+  others = λ k files name le left output mapfile draft. (files, nothing_left b g k files none le left, refl);
+}
+
+-- the same of any run that saves while it goes
+pub nothing_stops_by : (saves : List Status → Option MapState → List Snapshot)
+    (promise : List Status → Option MapState → ℕ → List Status → List ℕ → Type 0) (makes : Bool) (b : Behind)
+    (s : Setting) (g : Gain) → IsNothing g → StopsBy saves promise makes b s g.calls
+nothing_stops_by saves promise makes b s g none = record {
+  before = λ k files le left is. record {
+    before = files;
+    left = nothing_left b g k files none le left;
+    others = λ name other. refl;
+    output = inl refl;
+  };
+  output = λ k files le left is still. absurd (no_barrier g k none le is);
+  there = λ k files le left is. absurd (no_barrier g k none le is);
+  mapfile = λ k files le left is still. absurd (no_barrier g k none le is);
+  kept = λ k files began state le left is stands. absurd (no_barrier g k none le is);
+  unwritten = λ k files y le left is off low. absurd (no_barrier g k none le is);
   others = λ k files name le left output mapfile draft. (files, nothing_left b g k files none le left, refl);
 }

@@ -33,7 +33,7 @@ use Rattle.trim_scrape.proofs.EndingLemmas.{run_ends_well}
 use Rattle.copy_passes.specs.Turns.{IsFrom}
 use Rattle.save_resume.specs.MapNames.{names_of}
 use Rattle.option_words.specs.Words.{command_line}
-use Rattle.rescue_command.specs.Command.{Command}
+use Rattle.rescue_command.specs.Command.{Command, Rescue}
 use Rattle.ddrescue_cli.specs.declared.ending.Ending.{Ending}
 use Rattle.ddrescue_cli.specs.declared.ending.Ending.TheVariants.{Done, SameName, SiteFault, NoMemory}
 use Rattle.ddrescue_cli.specs.Maps.{Found, seen_through}
@@ -205,7 +205,7 @@ has_map (Some name) = refl
 
 pub reads_are_a_run : ReadsAreARun
 reads_are_a_run t c d asks tells =
-    let p : Promise c t = d.asked_for c asks in
+    let p : Promise c t = d.asked_for (Rescue c) asks in
     let o : Outside = p.outside in
     let s : Setting = asked_of c t o in
     works_so c o.found o.end s o.maps.test t.source t.source' t.answer o.lines o.did

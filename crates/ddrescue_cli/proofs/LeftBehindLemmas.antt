@@ -17,7 +17,7 @@ use Rattle.rescue_rules.specs.declared.stop.Stop.TheVariants.{SourceLost as Inpu
 use Rattle.option_words.specs.declared.fault.UsageFault.TheVariants.{PlaceTooLarge}
 use Rattle.rescue_rules.specs.declared.stop.RunEnd.{RunEnd}
 use Rattle.rescue_rules.specs.declared.stop.RunEnd.TheVariants.{Done as Finished, Stopped, SaveFailed}
-use Rattle.rescue_command.specs.Command.{Command}
+use Rattle.rescue_command.specs.Command.{Command, Rescue}
 use Rattle.ddrescue_cli.specs.declared.ending.Ending.{Ending}
 use Rattle.ddrescue_cli.specs.declared.ending.Ending.TheVariants.{Done, Usage, SameName, NoMap, SourceFault, NotRegular, MapRefused, SourceLost, SiteFault, NoMemory, LimitMet}
 use Rattle.ddrescue_cli.specs.declared.ending.Which.{Which}
@@ -54,7 +54,7 @@ all_stand files files' same = λ name. ap (λ f. f name) same
 put_here : (files : List ℕ → Option File) (name : List ℕ) (v : Option File) → put files name v name ≡ v
 put_here files name v = let same : bytes_eq name name ≡ true = (bytes_eq-Decides name name).1 refl in rw same refl
 
-made_there : (d : Folder) (out : List ℕ) (f : Option File) → d.files out ≡ f → OutputMade out d.files (opened d out true f).files
+pub made_there : (d : Folder) (out : List ℕ) (f : Option File) → d.files out ≡ f → OutputMade out d.files (opened d out true f).files
 made_there d out None is = record {
   output = put_here d.files out (Some empty_file) ∙ ap made_of (sym is);
   others = λ name apart. put_other d.files out name (Some empty_file) apart;
@@ -311,7 +311,7 @@ leaves_steps c here end run ends late =
 
 pub files_are_left : FilesAreLeft
 files_are_left t c d asks tells =
-    let p : Promise c t = d.asked_for c asks in
+    let p : Promise c t = d.asked_for (Rescue c) asks in
     let o : Outside = p.outside in
     let here : Folder = after t.site.start t.site.calls in
     let found : Found = found_in c (files_of t) in

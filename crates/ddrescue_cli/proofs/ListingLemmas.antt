@@ -119,12 +119,12 @@ pub own_listing : (c : Command) (file : Option File) (first end : ℕ) → Lists
 own_listing c file first end own = is_listing c file first end (λ a b lists. lists_agree file a b first end lists own)
 
 -- each mapfile has at most one
-record OneListing (file : Option File) : Type 0 where
-  first : ℕ
-  end : ℕ
-  only : (a b : ℕ) → Lists file a b → IsAt a b first end
+pub record OneListing (file : Option File) : Type 0 where
+  pub first : ℕ
+  pub end : ℕ
+  pub only : (a b : ℕ) → Lists file a b → IsAt a b first end
 
-one_listing : (file : Option File) → OneListing file
+pub one_listing : (file : Option File) → OneListing file
 one_listing file =
     elim (has_answer file Tight) [
       | inl none ↦ record {

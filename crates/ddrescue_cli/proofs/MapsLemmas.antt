@@ -14,6 +14,7 @@ use Rattle.rescue_command.specs.Command.{Command}
 use Rattle.ddrescue_cli.specs.Asked.{Maps}
 use Rattle.save_resume.specs.Named.{IsMapOf, map_mode}
 use Rattle.ddrescue_cli.specs.Maps.{Found, AreAskedFor, AreMapsIn, IsNamedMap}
+use Rattle.ddrescue_cli.specs.Modes.{AreMapsOfSweep}
 use Rattle.ddrescue_cli.specs.Laws.{MapsAreThere}
 use Rattle.ddrescue_cli.proofs.ListingLemmas.{Listing, some_listing}
 
@@ -107,6 +108,21 @@ maps_for c found =
       maps = record { domain = domain.statuses; test = test.statuses; listed = list.0 };
       asked = record { domain = domain.asked; test = test.asked; whole = list.1.whole };
       are = record { domain = domain.is; test = test.is; listed = list.1.are };
+    }
+
+-- and those of a sweep
+pub record MapsOfSweep (c : Command) (found : Found) : Type 0 where
+  pub maps : Maps
+  pub asked : AreAskedFor c maps
+  pub are : AreMapsOfSweep c found maps
+
+pub sweep_maps_for : (c : Command) (found : Found) → MapsOfSweep c found
+sweep_maps_for c found =
+    let m : MapsOf c found = maps_for c found in
+    record {
+      maps = record { domain = m.maps.domain; test = None; listed = m.maps.listed };
+      asked = record { domain = m.asked.domain; test = λ none. refl; whole = m.asked.whole };
+      are = record { domain = m.are.domain; listed = m.are.listed; untested = refl };
     }
 
 pub maps_are_there : MapsAreThere

@@ -111,7 +111,7 @@ input_fails c l domain test heard s0 s1 d k x same opens =
 -- the output was refused, or couldn't be opened
 pub output_fails : (c : Command) (l : List ℕ) (domain test : Option (List Status)) (heard : Bool) (end : ℕ) (e : Ending)
     (s0 s1 : SourceState) (d0 d1 : SiteState) (k : ClockState) (x : ConsoleState) → HasInput c.infile end s0 s1
-    → OpensOutput {T = Unit {0}} c.options.forced c.outfile (Err e) d0 d1
+    → OpensOutput {T = Unit {0}} true c.options.forced c.outfile (Err e) d0 d1
     → Opened c l domain test heard heard e (across s0 s1 d0 d1 k k x x)
 output_fails c l domain test heard end e s0 s1 d0 d1 k x input o =
     let found : Found = record (found_in c (files_in d0)) { output = o.file } in
@@ -134,7 +134,7 @@ output_fails c l domain test heard end e s0 s1 d0 d1 k x input o =
       works = inr (
         [],
         refl,
-        stopped_more rescue_faults (output_rows c.options.forced c.outfile o.file)
+        stopped_more rescue_faults (output_rows true c.options.forced c.outfile o.file)
             (load_rows c.mapfile found.mapfile ++ Look (PlacesRefused c.options end) ∷ [])
             (Rescues (setting_of c l end (maps_of domain test some.0)) found.mapfile []) e (only_calls o.calls) o.did,
       );
@@ -149,26 +149,27 @@ bytes_eq-flip xs ys e = false_from_ne_true (bytes_eq ys xs) (λ t.
     let same : ys ≡ xs = (bytes_eq-Decides ys xs).0 t in
     let h : bytes_eq xs ys ≡ true = (bytes_eq-Decides xs ys).1 (sym same) in cc)
 
-opened_apart : (d : Folder) (out name : List ℕ) → bytes_eq out name ≡ false → (file : Option File)
-    → (opened d out true file).files name ≡ d.files name
-opened_apart d out name apart None = let e : bytes_eq name out ≡ false = bytes_eq-flip out name apart in rw e refl
-opened_apart d out name apart (Some f) = refl
+opened_apart : (makes : Bool) (d : Folder) (out name : List ℕ) → bytes_eq out name ≡ false → (file : Option File)
+    → (opened d out makes file).files name ≡ d.files name
+opened_apart true d out name apart None = let e : bytes_eq name out ≡ false = bytes_eq-flip out name apart in rw e refl
+opened_apart false d out name apart None = refl
+opened_apart makes d out name apart (Some f) = refl
 
 -- the mapfile as it reads isn't touched when another file is opened
-open_apart : (start start' : Folder) (out name : List ℕ) (old new : List Entry) → start' ≡ start
-    → bytes_eq out name ≡ false → Made (image_open out true ∷ []) old new
+open_apart : (makes : Bool) (start start' : Folder) (out name : List ℕ) (old new : List Entry) → start' ≡ start
+    → bytes_eq out name ≡ false → Made (image_open out makes ∷ []) old new
     → (after start' new).files name ≡ (after start old).files name
-open_apart start start' out name old new same apart made =
+open_apart makes start start' out name old new same apart made =
     ap (λ s. (after s new).files name) same ∙ ap (λ r. (after start r).files name) made
-    ∙ ap (λ (d : Folder). d.files name) (after-append start old (Returned (image_open out true) ∷ []))
-    ∙ opened_apart (after start old) out name apart ((after start old).files out)
+    ∙ ap (λ (d : Folder). d.files name) (after-append start old (Returned (image_open out makes) ∷ []))
+    ∙ opened_apart makes (after start old) out name apart ((after start old).files out)
 
--- The output is open, and the mapfile was loaded with this outcome, if there is one.
-pub record HasLoaded (c : Command) (n : Option MapNames) (end : ℕ) (r : Result Start Ending) (d0 d1 d2 : SiteState)
-    : Type 0 where
+-- The output is open, made or not where it was absent, and the mapfile was loaded with this outcome, if there is one.
+pub record HasLoaded (makes : Bool) (c : Command) (n : Option MapNames) (end : ℕ) (r : Result Start Ending)
+    (d0 d1 d2 : SiteState) : Type 0 where
   pub names : n ≡ names_by c
   pub apart : AreNamedApart c.outfile n
-  pub output : OpensOutput {T = Unit {0}} c.options.forced c.outfile (Ok tt) d0 d1
+  pub output : OpensOutput {T = Unit {0}} makes c.options.forced c.outfile (Ok tt) d0 d1
   pub keeps : Keeps d0 d1
   pub loads : Loads (mapfile_by n) end r d1 d2
 
@@ -176,53 +177,55 @@ by_names : (mapfile : Option (List ℕ)) → mapfile_by (option_map names_of map
 by_names None = refl
 by_names (Some name) = refl
 
-own_loads : (c : Command) (n : Option MapNames) (end : ℕ) (r : Result Start Ending) (d0 d1 d2 : SiteState)
-    → HasLoaded c n end r d0 d1 d2 → Loads c.mapfile end r d1 d2
-own_loads c n end r d0 d1 d2 h =
+pub own_loads : (makes : Bool) (c : Command) (n : Option MapNames) (end : ℕ) (r : Result Start Ending) (d0 d1 d2 : SiteState)
+    → HasLoaded makes c n end r d0 d1 d2 → Loads c.mapfile end r d1 d2
+own_loads makes c n end r d0 d1 d2 h =
     subst (λ (m : Option (List ℕ)). Loads m end r d1 d2) (ap mapfile_by h.names ∙ by_names c.mapfile) h.loads
 
-mapfile_stands : (out : List ℕ) (mapfile : Option (List ℕ)) (d0 d1 : SiteState)
+mapfile_stands : (makes : Bool) (out : List ℕ) (mapfile : Option (List ℕ)) (d0 d1 : SiteState)
     → AreNamedApart out (option_map names_of mapfile) → d1.start ≡ d0.start
-    → Made (image_open out true ∷ []) d0.calls d1.calls → file_of mapfile (files_in d1) ≡ file_of mapfile (files_in d0)
-mapfile_stands out None d0 d1 apart same made = refl
-mapfile_stands out (Some name) d0 d1 apart same made =
-    open_apart d0.start d1.start out name d0.calls d1.calls same apart.0 made
+    → Made (image_open out makes ∷ []) d0.calls d1.calls → file_of mapfile (files_in d1) ≡ file_of mapfile (files_in d0)
+mapfile_stands makes out None d0 d1 apart same made = refl
+mapfile_stands makes out (Some name) d0 d1 apart same made =
+    open_apart makes d0.start d1.start out name d0.calls d1.calls same apart.0 made
 
 -- the calls of an open that went well
-only_open : (forced : Bool) (out : List ℕ) (file : Option File) (calls : List Entry)
-    → WentThrough (output_rows forced out file) calls → calls ≡ Returned (image_open out true) ∷ []
-only_open forced out file calls t =
+pub only_open : (makes forced : Bool) (out : List ℕ) (file : Option File) (calls : List Entry)
+    → WentThrough (output_rows makes forced out file) calls → calls ≡ Returned (image_open out makes) ∷ []
+only_open true forced out file calls t =
     t.1 ∙ ap (λ (r : List Entry). Returned (image_open out true) ∷ r) t.2.1
+only_open false forced out file calls t =
+    t.1 ∙ ap (λ (r : List Entry). Returned (image_open out false) ∷ r) t.2.1.1
 
 -- the mapfile that was loaded is the one that stood there before
-own_mapfile : (c : Command) (n : Option MapNames) (end : ℕ) (r : Result Start Ending) (d0 d1 d2 : SiteState)
-    → (h : HasLoaded c n end r d0 d1 d2) → (file : Option File) → (IsTrue d1.tells → file ≡ file_of c.mapfile (files_in d1))
-    → IsTrue d0.tells → file ≡ mapfile_of c (files_in d0)
-own_mapfile c n end r d0 d1 d2 h file own td =
+pub own_mapfile : (makes : Bool) (c : Command) (n : Option MapNames) (end : ℕ) (r : Result Start Ending)
+    (d0 d1 d2 : SiteState) → (h : HasLoaded makes c n end r d0 d1 d2) → (file : Option File)
+    → (IsTrue d1.tells → file ≡ file_of c.mapfile (files_in d1)) → IsTrue d0.tells → file ≡ mapfile_of c (files_in d0)
+own_mapfile makes c n end r d0 d1 d2 h file own td =
     own (rw h.keeps.tells td)
-    ∙ mapfile_stands c.outfile c.mapfile d0 d1 (subst (AreNamedApart c.outfile) h.names h.apart) (h.keeps.start td)
+    ∙ mapfile_stands makes c.outfile c.mapfile d0 d1 (subst (AreNamedApart c.outfile) h.names h.apart) (h.keeps.start td)
     (h.output.gained td ∙ ap (λ (r : List Entry). d0.calls ++ r)
-    (only_open c.options.forced c.outfile h.output.file h.output.calls h.output.did.1))
+    (only_open makes c.options.forced c.outfile h.output.file h.output.calls h.output.did.1))
 
 -- calls one behind another, and then others
-grew_both : (d0 d1 d2 more : List Entry) (o l : List Entry) → d1 ≡ d0 ++ o → d2 ≡ d1 ++ l → d2 ++ more ≡ d0 ++ (o ++ (l ++ more))
+pub grew_both : (d0 d1 d2 more : List Entry) (o l : List Entry) → d1 ≡ d0 ++ o → d2 ≡ d1 ++ l → d2 ++ more ≡ d0 ++ (o ++ (l ++ more))
 grew_both d0 d1 d2 more o l first second =
     ap (λ r. r ++ more) second ∙ append_assoc d1 l more ∙ ap (λ r. r ++ (l ++ more)) first ∙ append_assoc d0 o (l ++ more)
 
 -- the load of the mapfile stopped
 pub load_fails : (c : Command) (l : List ℕ) (domain test : Option (List Status)) (heard : Bool) (n : Option MapNames)
     (end : ℕ) (e : Ending) (s0 s1 : SourceState) (d0 d1 d2 : SiteState) (k : ClockState) (x : ConsoleState)
-    → HasInput c.infile end s0 s1 → HasLoaded c n end (Err e) d0 d1 d2
+    → HasInput c.infile end s0 s1 → HasLoaded true c n end (Err e) d0 d1 d2
     → Opened c l domain test heard heard e (across s0 s1 d0 d2 k k x x)
 load_fails c l domain test heard n end e s0 s1 d0 d1 d2 k x input h =
-    let o : OpensOutput {T = Unit {0}} c.options.forced c.outfile (Ok tt) d0 d1 = h.output in
-    let p : Loads c.mapfile end (Err e) d1 d2 = own_loads c n end (Err e) d0 d1 d2 h in
+    let o : OpensOutput {T = Unit {0}} true c.options.forced c.outfile (Ok tt) d0 d1 = h.output in
+    let p : Loads c.mapfile end (Err e) d1 d2 = own_loads true c n end (Err e) d0 d1 d2 h in
     let found : Found = record (found_in c (files_in d0)) { output = o.file; mapfile = p.file } in
     let some : (listed : Option (ℕ × ℕ)) × Listing c p.file listed = some_listing c p.file in
     record {
       found = found;
       output = o.is_own;
-      mapfile = own_mapfile c n end (Err e) d0 d1 d2 h p.file p.is_own;
+      mapfile = own_mapfile true c n end (Err e) d0 d1 d2 h p.file p.is_own;
       end = end;
       own_end = input.all;
       listed = some.0;
@@ -239,7 +242,7 @@ load_fails c l domain test heard n end e s0 s1 d0 d1 d2 k x input h =
       works = inr (
         [],
         refl,
-        through_then rescue_faults (output_rows c.options.forced c.outfile o.file)
+        through_then rescue_faults (output_rows true c.options.forced c.outfile o.file)
             (load_rows c.mapfile p.file ++ Look (PlacesRefused c.options end) ∷ [])
             (Rescues (setting_of c l end (maps_of domain test some.0)) p.file []) e o.calls (only_calls p.calls) o.did.1
             (stopped_more rescue_faults (load_rows c.mapfile p.file) (Look (PlacesRefused c.options end) ∷ [])
@@ -250,7 +253,7 @@ load_fails c l domain test heard n end e s0 s1 d0 d1 d2 k x input h =
 
 -- what is done behind a load that went on to its end
 loaded_goes : (c : Command) (found : Found) (end : ℕ) (run : Ending → Deeds → Type 0) (e : Ending)
-    (output load : List Entry) (d : Deeds) → WentThrough (output_rows c.options.forced c.outfile found.output) output
+    (output load : List Entry) (d : Deeds) → WentThrough (output_rows true c.options.forced c.outfile found.output) output
     → WentThrough (load_rows c.mapfile found.mapfile) load
     → Works rescue_faults (Look (PlacesRefused c.options end) ∷ []) run e d
     → Works rescue_faults (opened_rows c found end) run e
@@ -259,7 +262,7 @@ loaded_goes c found end run e output load d t u w =
     inr (
       d.opens,
       refl,
-      through_then rescue_faults (output_rows c.options.forced c.outfile found.output)
+      through_then rescue_faults (output_rows true c.options.forced c.outfile found.output)
           (load_rows c.mapfile found.mapfile ++ Look (PlacesRefused c.options end) ∷ []) run e output
           (behind_entries load d) t
           (through_then rescue_faults (load_rows c.mapfile found.mapfile) (Look (PlacesRefused c.options end) ∷ []) run e
@@ -269,11 +272,11 @@ loaded_goes c found end run e output load d t u w =
 -- a position has no place in the output
 pub place_fails : (c : Command) (l : List ℕ) (domain test : Option (List Status)) (heard : Bool) (n : Option MapNames)
     (end : ℕ) (start : Start) (s0 s1 : SourceState) (d0 d1 d2 : SiteState) (k : ClockState) (x : ConsoleState)
-    → HasInput c.infile end s0 s1 → HasLoaded c n end (Ok start) d0 d1 d2 → IsBeyond c.options end
+    → HasInput c.infile end s0 s1 → HasLoaded true c n end (Ok start) d0 d1 d2 → IsBeyond c.options end
     → Opened c l domain test heard heard (Usage PlaceTooLarge) (across s0 s1 d0 d2 k k x x)
 place_fails c l domain test heard n end start s0 s1 d0 d1 d2 k x input h far =
-    let o : OpensOutput {T = Unit {0}} c.options.forced c.outfile (Ok tt) d0 d1 = h.output in
-    let p : Loads c.mapfile end (Ok start) d1 d2 = own_loads c n end (Ok start) d0 d1 d2 h in
+    let o : OpensOutput {T = Unit {0}} true c.options.forced c.outfile (Ok tt) d0 d1 = h.output in
+    let p : Loads c.mapfile end (Ok start) d1 d2 = own_loads true c n end (Ok start) d0 d1 d2 h in
     let found : Found = record (found_in c (files_in d0)) { output = o.file; mapfile = p.file } in
     let listing : Listing c p.file (listed_if c.options.complete_only start.first start.listed_end) =
     own_listing c p.file start.first start.listed_end p.did.0.lists in
@@ -281,7 +284,7 @@ place_fails c l domain test heard n end start s0 s1 d0 d1 d2 k x input h far =
     record {
       found = found;
       output = o.is_own;
-      mapfile = own_mapfile c n end (Ok start) d0 d1 d2 h p.file p.is_own;
+      mapfile = own_mapfile true c n end (Ok start) d0 d1 d2 h p.file p.is_own;
       end = end;
       own_end = input.all;
       listed = listed;
@@ -302,7 +305,7 @@ place_fails c l domain test heard n end start s0 s1 d0 d1 d2 k x input h far =
     }
 
 -- each has one
-placed_passes : (o : Options) (end : ℕ) → ArePlacedBy o end → (e : Ending) → PlacesRefused o end e → ⊥
+pub placed_passes : (o : Options) (end : ℕ) → ArePlacedBy o end → (e : Ending) → PlacesRefused o end e → ⊥
 placed_passes o end placed e refused =
     let x : ℕ = refused.0.0 in
     let near : place_by o x < 2 ^ 63 - 1 = placed x refused.0.1 in
@@ -312,15 +315,15 @@ placed_passes o end placed e refused =
 -- a run came behind it, which may not have begun
 pub run_goes : (c : Command) (l : List ℕ) (domain test : Option (List Status)) (heard heard' : Bool) (n : Option MapNames)
     (end : ℕ) (start : Start) (e : Ending) (s0 s1 s2 : SourceState) (d0 d1 d2 d3 : SiteState) (k k' : ClockState)
-    (x x' : ConsoleState) → HasInput c.infile end s0 s1 → HasLoaded c n end (Ok start) d0 d1 d2 → d2.tells ≡ d0.tells
+    (x x' : ConsoleState) → HasInput c.infile end s0 s1 → HasLoaded true c n end (Ok start) d0 d1 d2 → d2.tells ≡ d0.tells
     → ArePlacedBy c.options end → SourceStays s1 s2
     → DidRun (setting_of c l end
     (maps_of domain test (listed_if c.options.complete_only start.first start.listed_end))) test start.tiles.statuses
     start.state heard heard' e (across s1 s2 d2 d3 k k' x x')
     → Opened c l domain test heard heard' e (across s0 s2 d0 d3 k k' x x')
 run_goes c l domain test heard heard' n end start e s0 s1 s2 d0 d1 d2 d3 k k' x x' input h told placed stays ran =
-    let o : OpensOutput {T = Unit {0}} c.options.forced c.outfile (Ok tt) d0 d1 = h.output in
-    let p : Loads c.mapfile end (Ok start) d1 d2 = own_loads c n end (Ok start) d0 d1 d2 h in
+    let o : OpensOutput {T = Unit {0}} true c.options.forced c.outfile (Ok tt) d0 d1 = h.output in
+    let p : Loads c.mapfile end (Ok start) d1 d2 = own_loads true c n end (Ok start) d0 d1 d2 h in
     let found : Found = record (found_in c (files_in d0)) { output = o.file; mapfile = p.file } in
     let listing : Listing c p.file (listed_if c.options.complete_only start.first start.listed_end) =
     own_listing c p.file start.first start.listed_end p.did.0.lists in
@@ -328,7 +331,7 @@ run_goes c l domain test heard heard' n end start e s0 s1 s2 d0 d1 d2 d3 k k' x 
     record {
       found = found;
       output = o.is_own;
-      mapfile = own_mapfile c n end (Ok start) d0 d1 d2 h p.file p.is_own;
+      mapfile = own_mapfile true c n end (Ok start) d0 d1 d2 h p.file p.is_own;
       end = end;
       own_end = input.all;
       listed = listed;

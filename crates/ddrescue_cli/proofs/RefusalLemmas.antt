@@ -9,7 +9,7 @@ use Rattle.rescue_rules.specs.declared.stop.Stop.TheVariants.{SourceLost as Inpu
 use Rattle.rescue_rules.specs.declared.stop.RunEnd.TheVariants.{Done as Finished, Stopped as RunStopped, SaveFailed}
 use Rattle.work_steps.specs.Work.{Deeds, Works}
 use Rattle.work_steps.proofs.AnswerLemmas.{Stops, IsCalled, IsRefused, Starved, Unopened, Broken, Refused, Came, Stopped, Went, came}
-use Rattle.rescue_command.specs.Command.{Command}
+use Rattle.rescue_command.specs.Command.{Command, Rescue}
 use Rattle.ddrescue_cli.specs.declared.ending.Ending.{Ending}
 use Rattle.ddrescue_cli.specs.declared.ending.Ending.TheVariants.{Done, SameName, SourceFault, SiteFault, NoMemory}
 use Rattle.ddrescue_cli.specs.declared.ending.Which.{Which}
@@ -31,7 +31,7 @@ pub record IsPlain (e : Ending) : Type 1 where
   pub call : (call : SiteCall) (earlier : Option Stop) → e ≡ SiteFault call earlier → ⊥
   pub words : (words : List (List ℕ)) → AreAccepted words → SaysOfWords e words
 
-named_plain : (which : Which) (mode : Mode) (file : Option File) (e : Ending) → NamedMapRefused which mode file e → IsPlain e
+pub named_plain : (which : Which) (mode : Mode) (file : Option File) (e : Ending) → NamedMapRefused which mode file e → IsPlain e
 named_plain which mode file e (inl (none, is)) =
     subst IsPlain (sym is) (record { done = λ x. cc; call = λ call earlier x. cc; words = λ words ok. ok })
 named_plain which mode file e (inr (error, why, is)) =
@@ -56,7 +56,7 @@ undone c found end e (Broken call is called) done = let no : SiteFault call None
 undone c found end e (Refused refused) done = (refused_plain c found end e refused).done done
 
 -- what an answer behind the names says of words that are accepted
-ends_words : (words : List (List ℕ)) (e : Ending) → EndsRun e → AreAccepted words → SaysOfWords e words
+pub ends_words : (words : List (List ℕ)) (e : Ending) → EndsRun e → AreAccepted words → SaysOfWords e words
 ends_words words e (Finished, is) ok = rw is (inl ok)
 ends_words words e (RunStopped InputLost, is) ok = rw is ok
 ends_words words e (RunStopped (Site call), is) ok = rw is ok
@@ -128,9 +128,8 @@ works_own c found end run e d call earlier late is (inr (inr (passed, w))) =
     came_own c found end run e d call earlier late is (came rescue_faults (worked_rows c found end) run e d w)
 
 pub faults_are_of_steps : FaultsAreOfSteps
-faults_are_of_steps t d call earlier is =
-    let ok : AreAccepted t.words = subst (λ (e : Ending). SaysOfWords e t.words) is d.words in
-    let p : Promise ok.command t = d.asked_for ok.command ok.asks in
+faults_are_of_steps t c d call earlier asks is =
+    let p : Promise c t = d.asked_for (Rescue c) asks in
     let o : Outside = p.outside in
-    works_own ok.command o.found o.end (Rescues (asked_of ok.command t o) o.found.mapfile o.lines) t.answer o.did call
-    earlier (rescue_late (asked_of ok.command t o) o.found.mapfile o.lines) is p.works
+    works_own c o.found o.end (Rescues (asked_of c t o) o.found.mapfile o.lines) t.answer o.did call earlier
+    (rescue_late (asked_of c t o) o.found.mapfile o.lines) is p.works

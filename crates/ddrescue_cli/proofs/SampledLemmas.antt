@@ -1,5 +1,5 @@
 -- The rescue of a sample, by what it did.
-use Rattle.std.proofs.Common.{◌≡◌, ◌⊎◌, ℕ, ◌*◌, ◌^◌, ◌<◌, Bool, true, false, not, IsTrue, List, [], ◌∷◌, ◌++◌, length, map, replicate, All, Bor, Option, Some, None, Result, Ok, Err, option_map, inl, inr, refl, sym, ap, ◌∙◌, subst, arith}
+use Rattle.std.proofs.Common.{◌≡◌, ◌⊎◌, ℕ, ◌^◌, ◌<◌, Bool, true, false, not, IsTrue, List, [], ◌∷◌, ◌++◌, length, replicate, All, Bor, Option, Some, None, Result, Ok, Err, option_map, inl, inr, refl, sym, ap, ◌∙◌, subst, arith}
 use Rattle.std.specs.Prelude.{codes, count_by, IfOk}
 use Rattle.std.proofs.Math.Path.{fun_ext}
 use Rattle.std.proofs.lemmas.List.{length-map}
@@ -41,14 +41,11 @@ use Rattle.rescue_sample.specs.Sample.{sample_bytes, sample_size, AreSampleReads
 use Rattle.rescue_sample.specs.Line.{sample_text, IsStill, IsSampleRun}
 use Rattle.rescue_sample.proofs.SampleLemmas.{size_of}
 use Rattle.rescue_sample.proofs.RunLemmas.{one_line}
-use Rattle.rescue_command.specs.declared.command.Command.{Command as CommandCode}
-use Rattle.rescue_command.specs.declared.command.Task.{Task as TaskCode}
-use Rattle.rescue_command.specs.declared.command.Task.TheVariants.{Rescue as RescueCode, Sample as SampleCode}
-use Rattle.rescue_command.specs.Command.{Command, IsAsked, IsSampleAsked, IsTask, sample_command, told_by}
+use Rattle.rescue_command.specs.Command.{Command, IsAsked, sample_command, Task, Sample}
 use Rattle.ddrescue_cli.specs.declared.ending.Ending.{Ending}
 use Rattle.ddrescue_cli.specs.declared.ending.Ending.TheVariants.{Done, NoMemory}
 use Rattle.ddrescue_cli.specs.declared.load.Start.{Start}
-use Rattle.ddrescue_cli.specs.Asked.{ArePlacedBy, Maps, domain_asked, names_by}
+use Rattle.ddrescue_cli.specs.Asked.{ArePlacedBy, names_by}
 use Rattle.ddrescue_cli.specs.Steps.{maps_read}
 use Rattle.ddrescue_cli.specs.Work.{rescue_faults}
 use Rattle.ddrescue_cli.specs.Messages.{message_pieces}
@@ -56,13 +53,13 @@ use Rattle.ddrescue_cli.specs.Answers.{SaysOfWords, Causes, drafting_left}
 use Rattle.ddrescue_cli.specs.Told.{Told}
 use Rattle.ddrescue_cli.specs.Running.{IsRunOver}
 use Rattle.ddrescue_cli.specs.Sampled.{no_maps, sample_rows, sample_setting, sample_start, IsLineOf, RanSample, RanToEnd, Samples, TellsSample}
-use Rattle.ddrescue_cli.specs.Ddrescue.{Says, SamplePromise, Ddrescue}
+use Rattle.ddrescue_cli.specs.Ddrescue.{Says, SamplePromise, Ddrescue, PromiseOf}
 use Rattle.ddrescue_cli.specs.Laws.{SampleIsOneLine}
 use Rattle.ddrescue_cli.proofs.LastLemmas.{behind_all}
 use Rattle.ddrescue_cli.proofs.EndLemmas.{behind_over}
 use Rattle.ddrescue_cli.proofs.RanLemmas.{setting_is}
 use Rattle.ddrescue_cli.proofs.SaysLemmas.{says_both}
-use Rattle.ddrescue_cli.proofs.PromiseLemmas.{heard_by, nothing, told_still}
+use Rattle.ddrescue_cli.proofs.StillLemmas.{heard_by, told_still}
 
 -- whole turns up to the end of the last phase
 pub ran_to_end : (r r1 : RunState) (o : Across) (counts : Counts) → GoesOn r r1 o → IsBehind Retrying r1
@@ -277,11 +274,11 @@ ends_sample : (kib : ℕ) (lines : List (List ℕ)) (e : Ending) → Works' kib 
 ends_sample kib lines e (inl starved) = inl starved.0
 ends_sample kib lines e (inr done) = inr done.0
 
-sample_says : (words : List (List ℕ)) (kib : ℕ) (quiet : Bool) (e : Ending) → IsSampleAsked words kib quiet
+sample_says : (words : List (List ℕ)) (kib : ℕ) (quiet : Bool) (e : Ending) → IsAsked words (Sample kib quiet)
     → (e ≡ NoMemory) ⊎ (e ≡ Done) → SaysOfWords e words
 sample_says words kib quiet e a (inl is) = subst (λ (v : Ending). SaysOfWords v words) (sym is) tt
 sample_says words kib quiet e a (inr is) =
-    subst (λ (v : Ending). SaysOfWords v words) (sym is) (inr (record { kib = kib; quiet = quiet; asks = a.asks }))
+    subst (λ (v : Ending). SaysOfWords v words) (sym is) (inr (record { kib = kib; quiet = quiet; asks = a.only.asks }))
 
 sample_causes : (e : Ending) (s : SourceState) (d : SiteState) → (e ≡ NoMemory) ⊎ (e ≡ Done) → Causes e s s d d
 sample_causes e s d (inl is) =
@@ -295,14 +292,14 @@ sample_drafts e (inr is) = ap drafting_left is
 
 -- the promise where the words ask for a sample
 pub sample_kept : (words : List (List ℕ)) (e : Ending) (s : SourceState) (d : SiteState) (k : ClockState)
-    (p between p' : ConsoleState) (kib : ℕ) (quiet heard heard' : Bool) → IsSampleAsked words kib quiet
+    (p between p' : ConsoleState) (kib : ℕ) (quiet heard heard' : Bool) → IsAsked words (Sample kib quiet)
     → TellsSample kib (not quiet) heard e p between → d.is_drafting ≡ false
     → SpeaksOn (message_pieces e) heard heard' between p' → Ddrescue (told_still words e s d k p p')
 sample_kept words e s d k p between p' kib quiet heard heard' a told none says =
     let t : Told = told_still words e s d k p p' in
     let ends = ends_sample kib told.lines e told.works in
     let said : Says told.lines t =
-    says_both t (not quiet) heard heard' told.lines between (heard_by t quiet told.lines a.quiet_is) told.says says in
+    says_both t (not quiet) heard heard' told.lines between (heard_by t quiet told.lines a.only.quiet_is) told.says says in
     let kept : SamplePromise kib t = record {
       untouched = record { input = refl; files = refl; time = refl };
       lines = told.lines;
@@ -313,24 +310,13 @@ sample_kept words e s d k p between p' kib quiet heard heard' a told none says =
     record {
       words = sample_says words kib quiet e a ends;
       cause = sample_causes e s d ends;
-      asked_for = λ c asks. absurd (a.unrescued c asks);
-      sampled = λ other silent asks.
-          subst (λ (n : ℕ). SamplePromise n t) (sym (a.alone other silent asks)) kept;
+      asked_for = λ other asks. subst (λ (x : Task). PromiseOf x t) (sym (a.only.alone other asks)) kept;
       draft = none ∙ sym (sample_drafts e ends);
-      says = λ unasked unsampled. absurd (unsampled kib quiet a.asks);
+      says = λ unasked. absurd (unasked (Sample kib quiet) a.only.asks);
       source = keeps_self s;
       site = record { tells = refl; start = λ tells. refl; planned = refl; later = omega arith };
       clock = record { planned = refl; plan = refl };
     }
-
--- what the words ask for, by the code's own task
-pub asked_rescue : (words : List (List ℕ)) (t : TaskCode) (c : CommandCode) → t ≡ RescueCode c → IsTask words t
-    → IsAsked words (told_by c)
-asked_rescue words t c is asked = subst (IsTask words) is asked
-
-pub asked_sample : (words : List (List ℕ)) (t : TaskCode) (kib : ℕ) (quiet : Bool) → t ≡ SampleCode kib quiet
-    → IsTask words t → IsSampleAsked words kib quiet
-asked_sample words t kib quiet is asked = subst (IsTask words) is asked
 
 -- its line is one
 record LineTold (kib : ℕ) (lines : List (List ℕ)) : Type 0 where
@@ -344,8 +330,8 @@ line_told kib lines e (inr told) done = record { line = told.1; is = told.2; are
 
 pub sample_is_one_line : SampleIsOneLine
 sample_is_one_line t t' kib quiet quiet' d d' asks asks' done done' =
-    let p : SamplePromise kib t = d.sampled kib quiet asks in
-    let q : SamplePromise kib t' = d'.sampled kib quiet' asks' in
+    let p : SamplePromise kib t = d.asked_for (Sample kib quiet) asks in
+    let q : SamplePromise kib t' = d'.asked_for (Sample kib quiet') asks' in
     let a = line_told kib p.lines t.answer p.works done in
     let b = line_told kib q.lines t'.answer q.works done' in
     let size : ℕ = sample_size kib in

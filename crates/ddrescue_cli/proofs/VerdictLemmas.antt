@@ -29,7 +29,7 @@ use Rattle.ddrescue_cli.specs.Work.{IfNamed, Rescues, RunsOver, answer_of, rescu
 use Rattle.ddrescue_cli.specs.Laws.{IsVerdict, HasOneVerdict}
 
 -- a run that was done
-done_only : (e : Ending) (end : RunEnd) → e ≡ answer_of end → IsVerdict e → e ≡ Done
+pub done_only : (e : Ending) (end : RunEnd) → e ≡ answer_of end → IsVerdict e → e ≡ Done
 done_only e Finished is verdict = is
 done_only e (Stopped InputLost) is verdict = absurd (verdict.kept is)
 done_only e (Stopped (Site call)) is verdict = absurd (verdict.call call None is)
@@ -53,29 +53,29 @@ run_once s mapfile e e' d d' (lines, run) (lines', run') v v' =
     done_over s run.1.0 run.1.1 lines e d.gain run.1.3 v
     ∙ sym (done_over s run'.1.0 run'.1.1 lines' e' d'.gain run'.1.3 v')
 
-one_names : (c : Command) → IsOnce (NamesRefused c)
+pub one_names : (c : Command) → IsOnce (NamesRefused c)
 one_names c e e' a b =
     let both : Some (a.0, a.1) ≡ Some (b.0, b.1) = sym a.2 ∙ b.2 in
     let pair : (a.0, a.1) ≡ (b.0, b.1) = cc in
     a.3 ∙ ap (λ (p : Operand × Operand). SameName p.0 p.1) pair ∙ sym b.3
 
-one_named : (which : Which) (mode : Mode) (file : Option File) → IsOnce (NamedMapRefused which mode file)
+pub one_named : (which : Which) (mode : Mode) (file : Option File) → IsOnce (NamedMapRefused which mode file)
 one_named which mode file e e' (inl a) (inl b) = a.1 ∙ sym b.1
 one_named which mode file e e' (inl a) (inr b) = let none : None ≡ Some b.1.there = sym a.0 ∙ b.1.is in absurd (cc)
 one_named which mode file e e' (inr a) (inl b) = let none : None ≡ Some a.1.there = sym b.0 ∙ a.1.is in absurd (cc)
 one_named which mode file e e' (inr a) (inr b) =
     a.2 ∙ ap (MapRefused which) (refused_for_one file mode a.0 b.0 a.1 b.1) ∙ sym b.2
 
-one_output : (forced : Bool) (output : Option File) → IsOnce (OutputRefused forced output)
+pub one_output : (forced : Bool) (output : Option File) → IsOnce (OutputRefused forced output)
 one_output forced output e e' a b = a.2 ∙ sym b.2
 
-one_mapfile : (mapfile : Option File) → IsOnce (MapfileRefused mapfile)
+pub one_mapfile : (mapfile : Option File) → IsOnce (MapfileRefused mapfile)
 one_mapfile mapfile e e' a b = a.3 ∙ ap (MapRefused RunMap) (refused_for_one mapfile Tight a.0 b.0 a.1 b.1) ∙ sym b.3
 
-one_places : (o : Options) (end : ℕ) → IsOnce (PlacesRefused o end)
+pub one_places : (o : Options) (end : ℕ) → IsOnce (PlacesRefused o end)
 one_places o end e e' a b = a.1 ∙ sym b.1
 
-one_if : (name : Option (List ℕ)) (refuses : Ending → Type 0) → IsOnce refuses → IsOnce (IfNamed name refuses)
+pub one_if : (name : Option (List ℕ)) (refuses : Ending → Type 0) → IsOnce refuses → IsOnce (IfNamed name refuses)
 one_if name refuses once e e' a b = once e e' a.1 b.1
 
 rows_once : (c : Command) (found : Found) (end : ℕ) → RefuseOnce (rescue_rows c found end)

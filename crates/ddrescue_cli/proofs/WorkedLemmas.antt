@@ -38,21 +38,21 @@ use Rattle.work_steps.proofs.FrontLemmas.{IsMapRead, load_reads, reads_stand, br
 -- ---- reads of maps alone
 
 -- calls that read maps, the last of which may have failed
-abbrev EndsReads : List Call → List Entry → Type 0
+abbrev pub EndsReads : List Call → List Entry → Type 0
 EndsReads maps calls = (calls ≡ map Returned maps) ⊎ BrokeAt MapRead maps [] calls
 
-record AreReads (calls : List Entry) : Type 0 where
-  maps : List Call
-  are : AreMapReads maps
-  ends : EndsReads maps calls
+pub record AreReads (calls : List Entry) : Type 0 where
+  pub maps : List Call
+  pub are : AreMapReads maps
+  pub ends : EndsReads maps calls
 
 -- the same of such as all returned
-record AllReads (calls : List Entry) : Type 0 where
-  maps : List Call
-  are : AreMapReads maps
-  all : calls ≡ map Returned maps
+pub record AllReads (calls : List Entry) : Type 0 where
+  pub maps : List Call
+  pub are : AreMapReads maps
+  pub all : calls ≡ map Returned maps
 
-reads_through : (which : Which) (mode : Mode) (name : Option (List ℕ)) (file : Option File) (calls : List Entry)
+pub reads_through : (which : Which) (mode : Mode) (name : Option (List ℕ)) (file : Option File) (calls : List Entry)
     → WentThrough (map_rows which mode name file) calls → AllReads calls
 reads_through which mode None file calls t = record { maps = []; are = All-nil IsMapRead; all = t.1.1 }
 reads_through which mode (Some name) file calls t = record {
@@ -61,7 +61,7 @@ reads_through which mode (Some name) file calls t = record {
   all = t.3 ∙ ap (λ r. map Returned t.0 ++ r) t.4.1 ∙ append-nil (map Returned t.0);
 }
 
-reads_stopped : (which : Which) (mode : Mode) (name : Option (List ℕ)) (file : Option File) (e : Ending) (calls : List Entry)
+pub reads_stopped : (which : Which) (mode : Mode) (name : Option (List ℕ)) (file : Option File) (e : Ending) (calls : List Entry)
     → StoppedIn rescue_faults (map_rows which mode name file) e calls → AreReads calls
 reads_stopped which mode None file e calls (inl (is, idle)) =
     record { maps = []; are = All-nil IsMapRead; ends = inl idle.gain.calls }
@@ -90,7 +90,7 @@ ends_behind front maps calls (inr broke) =
     (subst (λ (r : List Entry). BrokeAt MapRead maps r (map Returned front ++ calls)) (append-nil (map Returned front))
     (broke_behind MapRead maps (map Returned front) [] calls broke)))
 
-reads_behind : (front calls : List Entry) → AllReads front → AreReads calls → AreReads (front ++ calls)
+pub reads_behind : (front calls : List Entry) → AllReads front → AreReads calls → AreReads (front ++ calls)
 reads_behind front calls f r = record {
   maps = f.maps ++ r.maps;
   are = All-append IsMapRead f.maps r.maps f.are r.are;
@@ -98,7 +98,7 @@ reads_behind front calls f r = record {
       (ends_behind f.maps r.maps calls r.ends);
 }
 
-only_maps : (g : Gain) → AreReads g.calls → g.reads ≡ [] → g.times ≡ [] → IsOnlyMaps g
+pub only_maps : (g : Gain) → AreReads g.calls → g.reads ≡ [] → g.times ≡ [] → IsOnlyMaps g
 only_maps g r reads times = record { maps = r.maps; are = r.are; calls = r.ends; reads = reads; times = times }
 
 -- such as returned leave the files as they read
@@ -113,7 +113,7 @@ files_stand calls old new r same grew =
 -- ---- the work
 
 -- the read of a map stood in this mode
-abbrev mode_by : Command → Mode
+abbrev pub mode_by : Command → Mode
 mode_by c = map_mode c.options.loose
 
 -- nothing but calls was gained, of which all read maps
@@ -173,7 +173,7 @@ grew_both : (d0 d1 d2 o l : List Entry) → d1 ≡ d0 ++ o → d2 ≡ d1 ++ l �
 grew_both d0 d1 d2 o l first second = second ∙ ap (λ r. r ++ l) first ∙ append_assoc d0 o l
 
 -- behind a read that went well the files stand
-stands_behind : (which : Which) (mode : Mode) (name : Option (List ℕ)) (tiles : Option Tiled) (old new : SiteState)
+pub stands_behind : (which : Which) (mode : Mode) (name : Option (List ℕ)) (tiles : Option Tiled) (old new : SiteState)
     → (f : ReadsMap which mode name (Ok tiles) old new) → Stays old new → IsTrue old.tells → files_in new ≡ files_in old
 stands_behind which mode name tiles old new f stays t =
     files_stand f.calls old new (reads_through which mode name f.file f.calls f.did.1) (stays.keeps.start t) (f.gained t)
@@ -201,19 +201,19 @@ worked_test c line domain heard e source old mid new clock x f stays r =
     (opened_rows c found (length source.bytes)) run e (only_calls r.calls) r.did))
 
 -- or it went on behind both.
-named_map : (name : Option (List ℕ)) (mode : Mode) (tiles : Option Tiled) (file : Option File) → HasTiles name mode tiles file
+pub named_map : (name : Option (List ℕ)) (mode : Mode) (tiles : Option Tiled) (file : Option File) → HasTiles name mode tiles file
     → IsNamedMap name mode file (statuses_in tiles)
 named_map None mode tiles file has = λ statuses named is. absurd (cc)
 named_map (Some name) mode None file has = absurd has
 named_map (Some name) mode (Some tiles) file has =
     λ statuses named is. ap (λ (s : List Status). Some s) (map_is_one file mode tiles.statuses statuses has is)
 
-unasked : (name : Option (List ℕ)) (mode : Mode) (tiles : Option Tiled) (file : Option File) → HasTiles name mode tiles file
+pub unasked : (name : Option (List ℕ)) (mode : Mode) (tiles : Option Tiled) (file : Option File) → HasTiles name mode tiles file
     → name ≡ None → statuses_in tiles ≡ None
 unasked None mode tiles file has none = has
 unasked (Some name) mode tiles file has none = absurd (cc)
 
-found_is : (f g : Found) → f.domain ≡ g.domain → f.test ≡ g.test → f.output ≡ g.output → f.mapfile ≡ g.mapfile → f ≡ g
+pub found_is : (f g : Found) → f.domain ≡ g.domain → f.test ≡ g.test → f.output ≡ g.output → f.mapfile ≡ g.mapfile → f ≡ g
 found_is f g domain test output mapfile =
     ap (λ (x : Option File). record f { domain = x }) domain
     ∙ ap (λ (x : Option File). record f { domain = g.domain; test = x }) test
@@ -230,8 +230,9 @@ short_behind g end first second f h (inl none) =
 short_behind g end first second f h (inr short) = inr short
 
 pub worked_behind : (c : Command) (line : List ℕ) (domain test : Option Tiled) (heard heard' : Bool) (e : Ending)
-    (s0 s1 : SourceState) (old mid new last : SiteState) (k k' : ClockState) (x x' : ConsoleState) → ReadsMap DomainMap (mode_by c) c.domain_map (Ok domain) old mid
-    → Stays old mid → ReadsMap TestMap (mode_by c) c.test_map (Ok test) mid new → Stays mid new
+    (s0 s1 : SourceState) (old mid new last : SiteState) (k k' : ClockState) (x x' : ConsoleState)
+    → ReadsMap DomainMap (mode_by c) c.domain_map (Ok domain) old mid → Stays old mid
+    → ReadsMap TestMap (mode_by c) c.test_map (Ok test) mid new → Stays mid new
     → Opened c line (statuses_in domain) (statuses_in test) heard heard' e (across s0 s1 new last k k' x x')
     → Worked c line heard heard' e (across s0 s1 old last k k' x x')
 worked_behind c line domain test heard heard' e s0 s1 old mid new last k k' x x' f stays h stays' o =

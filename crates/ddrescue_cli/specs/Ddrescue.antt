@@ -1,22 +1,30 @@
 -- The promise of `ddrescue`, field by field. What an object tells is its own: the forms in memory tell all, those for
 -- real files their counts and what is open.
 use Rattle.std.specs.Prelude.{◌≡◌, ℕ, Bool, true, IsTrue, List, [], ◌++◌}
+use Rattle.block_list.specs.declared.types.TypeSet.{TypeSet}
+use Rattle.crash_site.specs.Files.{bytes_of}
+use Rattle.option_words.specs.Words.{command_line}
 use Rattle.faulty_source.specs.SourceState.{Keeps as SourceKeeps}
 use Rattle.crash_site.specs.SiteState.{Keeps as SiteKeeps}
 use Rattle.rescue_console.specs.ClockState.{Keeps as ClockKeeps}
 use Rattle.rescue_console.specs.ConsoleState.{ConsoleState}
 use Rattle.rescue_console.specs.Speaking.{Speaks, SpeaksOn, out_pieces}
+use Rattle.rescue_rules.specs.declared.stop.RunEnd.{RunEnd}
 use Rattle.rescue_rules.specs.Stops.{StopsSafely}
+use Rattle.sweep_rules.specs.Sweep.{Swept}
+use Rattle.sweep_rules.specs.SweepLaws.{AreGiven}
 use Rattle.work_steps.specs.Work.{Works}
 use Rattle.work_steps.specs.Parts.{only_calls}
-use Rattle.rescue_command.specs.Command.{Command, Asks, AskSample, AskQuiet}
+use Rattle.rescue_command.specs.Command.{Command, Task, Rescue, Fill, Generate, Sample, AskTask, AskQuiet}
 use Rattle.ddrescue_cli.specs.declared.ending.Ending.TheVariants.{NoMemory}
 use Rattle.ddrescue_cli.specs.Messages.{message_pieces}
 use Rattle.ddrescue_cli.specs.Maps.{AreAskedFor, AreMapsIn}
 use Rattle.ddrescue_cli.specs.Outside.{Outside, Agrees}
 use Rattle.ddrescue_cli.specs.Told.{Told, across_of, calls_before, asked_of}
 use Rattle.ddrescue_cli.specs.Work.{Rescues, rescue_faults, rescue_rows}
+use Rattle.ddrescue_cli.specs.Names.{program_name}
 use Rattle.ddrescue_cli.specs.Sampled.{Samples, sample_rows}
+use Rattle.ddrescue_cli.specs.Modes.{AreMapsOfSweep, IsMapEnd, Fills, FillStops, Generates, GenerateStops, fill_setting}
 use Rattle.ddrescue_cli.specs.Answers.{SaysOfWords, Causes, drafting_left, IsUntouched}
 
 -- What is said on the console: nothing where the words ask for that; else the lines of the run, each by one put, and
@@ -28,7 +36,7 @@ pub data Says (lines : List (List ℕ)) (t : Told) : Type 0 where
       × IsUntouched t.source t.source' t.site t.site' t.clock t.clock')
       → Speaks (out_pieces lines ++ message_pieces t.answer) t.console t.console' → Says lines t
 
--- What `ddrescue` promises of a call whose words ask for this
+-- What `ddrescue` promises of a call whose words ask for this rescue
 pub record Promise (c : Command) (t : Told) : Type 0 where
   -- There is an outside that agrees with all that is told of it,
   pub outside : Outside
@@ -50,6 +58,51 @@ pub record Promise (c : Command) (t : Told) : Type 0 where
   -- and what is said on the console is the lines of the run and the message of the answer.
   pub says : Says outside.lines t
 
+-- What `ddrescue` promises of a call whose words ask for a filling where the mapfile has one of these statuses
+pub record FillModePromise (types : TypeSet) (c : Command) (t : Told) : Type 0 where
+  -- There is an outside as above, with maps;
+  pub outside : Outside
+  pub agrees : Agrees c (across_of t) outside
+  pub asked_maps : AreAskedFor c outside.maps
+  pub are_maps : AreMapsOfSweep c outside.found outside.maps
+  -- and the end of the map that the mapfile stands for, the buffer that the pattern fills, and the pieces and the end
+  -- of the sweep,
+  pub top : ℕ
+  pub tops : IsMapEnd outside.found.mapfile top
+  pub buffer : List ℕ
+  pub pieces : List Swept
+  pub end : RunEnd
+  -- by which the answer is the first refusal of the work, or how its sweep ended, and what was done is the work up to
+  -- there.
+  pub works : Fills types c outside.found outside.end top
+      (fill_setting c (command_line program_name t.words) top outside.maps) buffer pieces end outside.lines
+      t.answer outside.did
+  -- Where the files tell: at whatever moment it is stopped, from the barrier on the mapfile found is the one it began
+  -- with or one that it saved, its map stands, and what came before that save is filled.
+  pub stops : IsTrue t.site.tells → FillStops (calls_before t)
+      (fill_setting c (command_line program_name t.words) top outside.maps) types buffer pieces end outside.did.gain
+  -- Before its sweep it says no line and does no piece;
+  pub silent : outside.did.gain.times ≡ [] → (outside.lines ≡ []) × (pieces ≡ [])
+  -- and what is said on the console is the lines of the sweep and the message of the answer.
+  pub says : Says outside.lines t
+
+-- What it promises of a call whose words ask that the mapfile be made of what the output holds
+pub record GenerateModePromise (c : Command) (t : Told) : Type 0 where
+  pub outside : Outside
+  pub agrees : Agrees c (across_of t) outside
+  pub asked_maps : AreAskedFor c outside.maps
+  pub are_maps : AreMapsOfSweep c outside.found outside.maps
+  pub pieces : List Swept
+  pub end : RunEnd
+  pub works : Generates c outside.found outside.end (asked_of c t outside) pieces end outside.lines t.answer outside.did
+  -- Where the files tell, each piece gave what the output held when the call began;
+  pub given : IsTrue t.site.tells → AreGiven (asked_of c t outside) (bytes_of outside.found.output) pieces
+  -- and at whatever moment it is stopped, from the barrier on what the mapfile found calls finished was so when it
+  -- began or has a byte in the output, whose bytes stand.
+  pub stops : IsTrue t.site.tells → GenerateStops (calls_before t) (asked_of c t outside) pieces end outside.did.gain
+  pub silent : outside.did.gain.times ≡ [] → (outside.lines ≡ []) × (pieces ≡ [])
+  pub says : Says outside.lines t
+
 -- What `ddrescue` promises of a call whose words ask for a sample of so many KiB
 pub record SamplePromise (kib : ℕ) (t : Told) : Type 0 where
   -- The objects that were handed in stand, but for the console.
@@ -61,6 +114,13 @@ pub record SamplePromise (kib : ℕ) (t : Told) : Type 0 where
   -- and what is said on the console is its line, or the message of the answer.
   pub says : Says lines t
 
+-- What it promises of a call whose words ask for a task
+abbrev pub PromiseOf : Task → Told → Type 0
+PromiseOf (Rescue c) t = Promise c t
+PromiseOf (Fill types c) t = FillModePromise types c t
+PromiseOf (Generate c) t = GenerateModePromise c t
+PromiseOf (Sample kib quiet) t = SamplePromise kib t
+
 -- What `ddrescue` promises of a call, by all that is told of it
 pub record Ddrescue (t : Told) : Type 0 where
   -- Words that ask for nothing, or name two files of one name, are refused, whatever the objects tell; only memory
@@ -69,14 +129,12 @@ pub record Ddrescue (t : Told) : Type 0 where
   -- Each answer has its cause: a fault is answered exactly where its count rose, and no other answer hides one.
   pub cause : Causes t.answer t.source t.source' t.site t.site'
   -- What the words ask for is done, as far as the answer says.
-  pub asked_for : (c : Command) → Asks t.words c → Promise c t
-  pub sampled : (kib : ℕ) (quiet : Bool) → AskSample t.words kib quiet → SamplePromise kib t
+  pub asked_for : (task : Task) → AskTask t.words task → PromiseOf task t
   -- A draft is left begun exactly where an append to it failed, or its sync. (A file of its name may be left behind any
   -- failed call of a save.)
   pub draft : t.site'.is_drafting ≡ drafting_left t.answer
   -- What is said of words that ask for nothing is the message of the answer.
-  pub says : ((c : Command) → Asks t.words c → ⊥)
-      → ((kib : ℕ) (quiet : Bool) → AskSample t.words kib quiet → ⊥) → Says [] t
+  pub says : ((task : Task) → AskTask t.words task → ⊥) → Says [] t
   -- What was told before stays.
   pub source : SourceKeeps t.source t.source'
   pub site : SiteKeeps t.site t.site'

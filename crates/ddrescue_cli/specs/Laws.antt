@@ -19,7 +19,7 @@ use Rattle.rescue_rules.specs.Work.{Gain, begins, events_in, mapfile_in}
 use Rattle.rescue_rules.specs.Stops.{has_barrier, IsKept}
 use Rattle.work_steps.specs.Work.{Deeds, Works}
 use Rattle.work_steps.specs.Verdicts.{RefuseNothing}
-use Rattle.rescue_command.specs.Command.{Command, Asks, AskSample}
+use Rattle.rescue_command.specs.Command.{Command, Rescue, Sample, Asks, AskSample}
 use Rattle.rescue_rules.specs.declared.stop.Limit.{Limit}
 use Rattle.ddrescue_cli.specs.declared.ending.Ending.{Ending}
 use Rattle.ddrescue_cli.specs.declared.ending.Ending.TheVariants.{Done, SourceFault, SourceLost, SiteFault, LimitMet, NoMemory}
@@ -35,7 +35,7 @@ use Rattle.ddrescue_cli.specs.Ddrescue.{Ddrescue}
 
 -- the outside of a promise, the setting by it, and what was done there
 abbrev pub outside_by : {t : Told} {c : Command} → Ddrescue t → Asks t.words c → Outside
-outside_by {t} {c} d asks = (d.asked_for c asks).outside
+outside_by {t} {c} d asks = (d.asked_for (Rescue c) asks).outside
 
 abbrev pub setting : {t : Told} {c : Command} → Ddrescue t → Asks t.words c → Setting
 setting {t} {c} d asks = asked_of c t (outside_by d asks)
@@ -53,10 +53,10 @@ abbrev pub ReadsAreARun : Type 0
 ReadsAreARun = (t : Told) (c : Command) (d : Ddrescue t) (asks : Asks t.words c) → IsTrue t.source.tells
     → HasRead (setting d asks) (outside_by d asks).maps.test t.answer t.source t.source'
 
--- An answer that names a failed call names one that a step makes.
+-- An answer of a rescue that names a failed call names one that a step makes.
 abbrev pub FaultsAreOfSteps : Type 0
-FaultsAreOfSteps = (t : Told) (d : Ddrescue t) (call : SiteCall) (earlier : Option Stop)
-    → t.answer ≡ SiteFault call earlier → IsRescueCall call
+FaultsAreOfSteps = (t : Told) (c : Command) (d : Ddrescue t) (call : SiteCall) (earlier : Option Stop)
+    → Asks t.words c → t.answer ≡ SiteFault call earlier → IsRescueCall call
 
 -- Behind each answer that comes after the barrier, the files as they read keep the promise.
 abbrev pub HoldsAtEnd : Type 0
@@ -138,7 +138,7 @@ MapsAreThere = (c : Command) (found : Found) → (maps : Maps) × AreMapsIn c fo
 abbrev pub SampleIsOneLine : Type 0
 SampleIsOneLine = (t t' : Told) (kib : ℕ) (quiet quiet' : Bool) (d : Ddrescue t) (d' : Ddrescue t')
     (asks : AskSample t.words kib quiet) (asks' : AskSample t'.words kib quiet') → t.answer ≡ Done → t'.answer ≡ Done
-    → (d.sampled kib quiet asks).lines ≡ (d'.sampled kib quiet' asks').lines
+    → (d.asked_for (Sample kib quiet) asks).lines ≡ (d'.asked_for (Sample kib quiet') asks').lines
 
 -- an answer that a command, an input's length and the files that were found bring, whatever the calls and memory do
 pub record IsVerdict (e : Ending) : Type 0 where

@@ -11,7 +11,7 @@ use Rattle.fault_texts.specs.Texts.{numbered_text, usage_text, error_text, fault
 use Rattle.ddrescue_cli.specs.declared.ending.Which.{Which}
 use Rattle.ddrescue_cli.specs.declared.ending.Which.TheVariants.{DomainMap, TestMap, RunMap}
 use Rattle.ddrescue_cli.specs.declared.ending.Ending.{Ending}
-use Rattle.ddrescue_cli.specs.declared.ending.Ending.TheVariants.{Done, Usage, SameName, NoMap, SourceFault, NotRegular, MapRefused, SourceLost, SiteFault, LimitMet, NoMemory}
+use Rattle.ddrescue_cli.specs.declared.ending.Ending.TheVariants.{Done, Usage, SameName, NoMap, SourceFault, NotRegular, MapRefused, SourceLost, EmptyPattern, PatternUnread, NoOutput, SiteFault, LimitMet, NoMemory}
 use Rattle.ddrescue_cli.specs.Names.{program_name}
 
 -- which map it is
@@ -52,6 +52,9 @@ text_of_ending SourceFault = codes "cannot open input"
 text_of_ending NotRegular = codes "output is not a regular file, use --force"
 text_of_ending (MapRefused which error) = map_error_text which error
 text_of_ending SourceLost = codes "input lost"
+text_of_ending EmptyPattern = codes "input is empty"
+text_of_ending PatternUnread = codes "input cannot be read"
+text_of_ending NoOutput = codes "output does not exist"
 text_of_ending (SiteFault call earlier) = fault_text call ++ behind_text earlier
 text_of_ending (LimitMet limit) = limit_text limit
 text_of_ending NoMemory = codes "out of memory"
@@ -60,7 +63,7 @@ text_of_ending NoMemory = codes "out of memory"
 abbrev pub message : Ending → List ℕ
 message e = message_of program_name (text_of_ending e)
 
--- what is said of an answer on the console: nothing of a finished rescue, else its message, on standard error
+-- what is said of an answer on the console: nothing of what is finished, else its message, on standard error
 abbrev pub message_pieces : Ending → List Piece
 message_pieces Done = []
 message_pieces e = record { channel = Err; text = message e } ∷ []

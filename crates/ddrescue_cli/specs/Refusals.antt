@@ -11,7 +11,7 @@ use Rattle.ddrescue_cli.specs.declared.ending.Operand.{Operand}
 use Rattle.ddrescue_cli.specs.declared.ending.Which.{Which}
 use Rattle.ddrescue_cli.specs.declared.ending.Which.TheVariants.{RunMap}
 use Rattle.ddrescue_cli.specs.declared.ending.Ending.{Ending}
-use Rattle.ddrescue_cli.specs.declared.ending.Ending.TheVariants.{Usage, SameName, NoMap, NotRegular, MapRefused}
+use Rattle.ddrescue_cli.specs.declared.ending.Ending.TheVariants.{Usage, SameName, NoMap, NotRegular, MapRefused, EmptyPattern, NoOutput}
 use Rattle.rescue_command.specs.declared.options.Options.{Options}
 use Rattle.rescue_command.specs.Command.{Command}
 use Rattle.ddrescue_cli.specs.Names.{first_same}
@@ -28,6 +28,14 @@ abbrev pub NamedMapRefused : Which → Mode → (file : Option File) → Ending 
 NamedMapRefused which mode file e =
     ((file ≡ None) × (e ≡ NoMap which))
     ⊎ ((error : MapError) × IsRefusedFor file mode error × (e ≡ MapRefused which error))
+
+-- the pattern to fill with is empty
+abbrev pub PatternEmpty : (end : ℕ) → Ending → Type 0
+PatternEmpty end e = (end ≡ 0) × (e ≡ EmptyPattern)
+
+-- the outfile isn't there, where it isn't made
+abbrev pub OutputMissing : (output : Option File) → Ending → Type 0
+OutputMissing output e = (output ≡ None) × (e ≡ NoOutput)
 
 -- something stands there that is no regular file
 abbrev pub is_other : Option File → Bool

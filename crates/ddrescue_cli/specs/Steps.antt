@@ -34,8 +34,8 @@ use Rattle.ddrescue_cli.specs.declared.ending.Which.{Which}
 use Rattle.ddrescue_cli.specs.declared.ending.Which.TheVariants.{RunMap}
 use Rattle.ddrescue_cli.specs.declared.ending.Ended.{Ended}
 use Rattle.ddrescue_cli.specs.declared.ending.Ending.{Ending}
-use Rattle.ddrescue_cli.specs.declared.ending.Ending.TheVariants.{NoMap, NotRegular, MapRefused, SiteFault, NoMemory}
-use Rattle.ddrescue_cli.specs.Names.{AreNamedApart}
+use Rattle.ddrescue_cli.specs.declared.ending.Ending.TheVariants.{NoMap, NotRegular, MapRefused, NoOutput, SiteFault, NoMemory}
+use Rattle.ddrescue_cli.specs.Names.{AreNamedApart, first_same}
 use Rattle.ddrescue_cli.specs.Asked.{Maps, names_by, setting_of}
 use Rattle.ddrescue_cli.specs.Maps.{Found, AreAskedFor, AreMapsIn, IsListing, Lists, file_of, mapfile_of}
 use Rattle.ddrescue_cli.specs.Outside.{Outside, AreOpens, HasGainedReads, Agrees}
@@ -51,11 +51,13 @@ abbrev pub heard_behind : (heard : Bool) → Result Ended Ending → Bool
 heard_behind heard (Ok ended) = ended.heard
 heard_behind heard (Err e) = heard
 
--- what a rescue needs before it opens a file: the names of its mapfile and its draft, apart from the outfile's, the
--- heading of a map that wasn't saved yet, and options within their limits
+-- what a rescue needs before it opens a file: the names of its mapfile and its draft, apart from the outfile's, files of
+-- different names, the heading of a map that wasn't saved yet, and options within their limits
 pub record IsPlanned (plan : Plan) : Type 0 where
   pub names : plan.names ≡ names_by (told_by plan.command)
   pub apart : AreNamedApart (told_by plan.command).outfile plan.names
+  pub different : first_same (told_by plan.command).infile (told_by plan.command).outfile
+      (names_by (told_by plan.command)) ≡ None
   pub heading : plan.heading ≡ heading_at plan.heading.line 0 0
   pub limits : AreInLimits plan.command.options
 
@@ -69,7 +71,8 @@ pub record Fits (end : ℕ) (map : List Status) (state : Option MapState) : Type
 -- why the output wasn't opened, by the count of failed calls
 abbrev pub OutputCause : Ending → (faults faults' : ℕ) → Type 0
 OutputCause e faults faults' =
-    ((e ≡ NotRegular) × (faults' ≡ faults)) ⊎ ((e ≡ SiteFault ImageOpen None) × Rose faults faults')
+    ((e ≡ NotRegular) × (faults' ≡ faults)) ⊎ ((e ≡ NoOutput) × (faults' ≡ faults))
+    ⊎ ((e ≡ SiteFault ImageOpen None) × Rose faults faults')
 
 -- why a load stopped, by the count of failed calls
 abbrev pub LoadCause : Ending → (faults faults' : ℕ) → Type 0
@@ -125,10 +128,10 @@ ReadsMap which mode name result old new =
     DidPart rescue_faults (map_rows which mode name) (file_of name (files_in old)) (HasTiles name mode) result old new
 
 -- what the open of the output did
-abbrev pub OpensOutput : {T : Type 0} → (forced : Bool) → (outfile : List ℕ) → Result T Ending → (old new : SiteState)
-    → Type 0
-OpensOutput forced outfile result old new =
-    DidPart rescue_faults (output_rows forced outfile) (files_in old outfile) (λ x file. ⊤) result old new
+abbrev pub OpensOutput : {T : Type 0} → (makes forced : Bool) → (outfile : List ℕ) → Result T Ending
+    → (old new : SiteState) → Type 0
+OpensOutput makes forced outfile result old new =
+    DidPart rescue_faults (output_rows makes forced outfile) (files_in old outfile) (λ x file. ⊤) result old new
 
 -- what a rescue begins with is what its mapfile stands for, for an input with this length
 pub record StartsAs (end : ℕ) (start : Start) (file : Option File) : Type 0 where

@@ -1,5 +1,5 @@
 -- The work of a rescue: its steps in order, each a row, and the run behind them.
-use Rattle.std.specs.Prelude.{◌≡◌, ◌⊎◌, ℕ, Bool, true, List, [], ◌∷◌, ◌++◌, length, Option, Some, None, is_some}
+use Rattle.std.specs.Prelude.{◌≡◌, ◌⊎◌, ℕ, Bool, true, false, List, [], ◌∷◌, ◌++◌, length, Option, Some, None, is_some}
 use Rattle.block_list.specs.declared.status.Status.{Status}
 use Rattle.mapfile_text.specs.declared.read.Mode.{Mode}
 use Rattle.mapfile_text.specs.declared.state.MapState.{MapState}
@@ -21,7 +21,7 @@ use Rattle.ddrescue_cli.specs.declared.ending.Ending.{Ending}
 use Rattle.ddrescue_cli.specs.declared.ending.Ending.TheVariants.{Done, SourceFault, SourceLost, SiteFault, LimitMet, NoMemory}
 use Rattle.ddrescue_cli.specs.declared.ending.Which.{Which}
 use Rattle.ddrescue_cli.specs.declared.ending.Which.TheVariants.{DomainMap, TestMap}
-use Rattle.ddrescue_cli.specs.Refusals.{NamesRefused, NamedMapRefused, OutputRefused, MapfileRefused, PlacesRefused}
+use Rattle.ddrescue_cli.specs.Refusals.{NamesRefused, NamedMapRefused, OutputMissing, OutputRefused, MapfileRefused, PlacesRefused}
 use Rattle.ddrescue_cli.specs.Maps.{Found}
 
 -- how a rescue answers faults
@@ -36,9 +36,15 @@ IfNamed name refuses e = (is_some name ≡ true) × refuses e
 abbrev pub map_rows : Which → Mode → (name : Option (List ℕ)) → (file : Option File) → List (Step Ending)
 map_rows which mode name file = Read name file ∷ Look (IfNamed name (NamedMapRefused which mode file)) ∷ []
 
+-- An output that is absent is made, or it is refused.
+abbrev pub missing_rows : (makes : Bool) → (file : Option File) → List (Step Ending)
+missing_rows true file = []
+missing_rows false file = Look (OutputMissing file) ∷ []
+
 -- The output is opened, and may be refused.
-abbrev pub output_rows : (forced : Bool) → (outfile : List ℕ) → (file : Option File) → List (Step Ending)
-output_rows forced outfile file = Make (image_open outfile true ∷ []) ∷ Look (OutputRefused forced file) ∷ []
+abbrev pub output_rows : (makes forced : Bool) → (outfile : List ℕ) → (file : Option File) → List (Step Ending)
+output_rows makes forced outfile file =
+    Make (image_open outfile makes ∷ []) ∷ (missing_rows makes file ++ Look (OutputRefused forced file) ∷ [])
 
 -- the barrier before a mapfile is read, if there is one
 abbrev pub barrier_of : (mapfile : Option (List ℕ)) → List Call
@@ -49,13 +55,16 @@ barrier_of (Some name) = barrier_calls (names_of name)
 abbrev pub load_rows : (mapfile : Option (List ℕ)) → (file : Option File) → List (Step Ending)
 load_rows mapfile file = Make (barrier_of mapfile) ∷ Read mapfile file ∷ Look (MapfileRefused file) ∷ []
 
--- what follows the maps that options name: the input is opened, and behind the mapfile each position that is asked for
--- wants a place in the output
+-- what follows the input: the output is opened and the mapfile loaded, and each position that is asked for below a
+-- limit wants a place in the output
+abbrev pub files_rows : (makes : Bool) → Command → Found → (limit : ℕ) → List (Step Ending)
+files_rows makes c found limit =
+    output_rows makes c.options.forced c.outfile found.output ++ load_rows c.mapfile found.mapfile
+    ++ Look (PlacesRefused c.options limit) ∷ []
+
+-- what follows the maps that options name: the input is opened, and then the files
 abbrev pub opened_rows : Command → Found → (end : ℕ) → List (Step Ending)
-opened_rows c found end =
-    Open c.infile
-    ∷ (output_rows c.options.forced c.outfile found.output ++ load_rows c.mapfile found.mapfile
-    ++ Look (PlacesRefused c.options end) ∷ [])
+opened_rows c found end = Open c.infile ∷ files_rows true c found end
 
 -- what follows the names
 abbrev pub worked_rows : Command → Found → (end : ℕ) → List (Step Ending)

@@ -31,7 +31,7 @@ pub enum Which {
 /// How a call of `ddrescue` ended.
 #[derive(Clone, Copy, Debug, PartialEq, Eq)]
 pub enum Ending {
-    /// Everything was tried as often as was asked, and the map was saved,
+    /// Everything was tried as often as was asked, or filled or looked up, and the map was saved,
     /// or the outfile made durable where there is no mapfile.
     Done,
     /// The words ask for nothing that can be done.
@@ -54,6 +54,12 @@ pub enum Ending {
     },
     /// The infile was lost during a read.
     SourceLost,
+    /// The pattern to fill with is empty.
+    EmptyPattern,
+    /// The pattern to fill with couldn't be read whole.
+    PatternUnread,
+    /// The outfile isn't there, and so nothing of what wasn't tried is in it.
+    NoOutput,
     /// A call on the outfile, on the mapfile or on its folder failed. A mapfile that is no regular file fails to be
     /// read. Where it was a call of the save at the end of a run that had stopped before, this says why the run had
     /// stopped; never by a failed call, behind which there is no save.
@@ -68,7 +74,7 @@ pub enum Ending {
 }
 
 impl Ending {
-    /// The exit status: 0 for a finished rescue, 2 for a mapfile that is refused, 4 for want of memory, 1 for any
+    /// The exit status: 0 for what is finished, 2 for a mapfile that is refused, 4 for want of memory, 1 for any
     /// other refusal.
     pub fn code(&self) -> u8
         ensures { result ≡ status_of_ending self.now }
@@ -82,7 +88,7 @@ impl Ending {
     }
 }
 
-/// How a rescue ended, and whether it is still heard: whether something is to be said, and each line was put.
+/// How a call ended, and whether it is still heard: whether something is to be said, and each line was put.
 #[derive(Clone, Copy, Debug)]
 pub(crate) struct Ended {
     pub ending: Ending,

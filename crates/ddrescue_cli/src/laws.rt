@@ -1,5 +1,6 @@
 //! What the definitions mean.
 ghost use Rattle.ddrescue_cli.specs.Laws.{DoneIsSaved, FaultsAreOfSteps, FilesAreLeft, GivenIsInput, HasOneVerdict, HoldsAtEnd, IsDoneUnless, MapsAreThere, ReadsAreARun, SampleIsOneLine};
+ghost use Rattle.ddrescue_cli.specs.ModeLaws.{DoneIsFilled, DoneIsGenerated, FillFaultsAreOfSteps, FillHasOneVerdict, FillIsDoneUnless, GenerateFaultsAreOfSteps, GenerateHasOneVerdict, GenerateIsDoneUnless, UnbegunFillLeaves, UnbegunGenerateLeaves};
 
 /// What an answer before the first read leaves of the files is known by the answer.
 pub fn files_are_left()
@@ -49,4 +50,54 @@ pub fn maps_are_there()
 /// Where nothing failed, nothing is refused and memory doesn't run out, the rescue is done.
 pub fn nothing_else_ends_a_rescue()
     ensures { IsDoneUnless }
+{}
+
+/// Where nothing fails and nothing is refused, the pattern comes whole and memory doesn't run out, a filling is done.
+pub fn a_filling_is_done_unless()
+    ensures { FillIsDoneUnless }
+{}
+
+/// Where nothing fails and nothing is refused, and memory doesn't run out, a generating is done.
+pub fn a_generating_is_done_unless()
+    ensures { GenerateIsDoneUnless }
+{}
+
+/// An answer of a filling that names a failed call names one that a step makes.
+pub fn faults_are_of_a_filling()
+    ensures { FillFaultsAreOfSteps }
+{}
+
+/// So does an answer of a generating, which writes nothing into the outfile.
+pub fn faults_are_of_a_generating()
+    ensures { GenerateFaultsAreOfSteps }
+{}
+
+/// A filling that came to no sweep leaves every file, but that an absent output may be made, empty.
+pub fn a_filling_leaves_files_before_it_begins()
+    ensures { UnbegunFillLeaves }
+{}
+
+/// A generating that came to no sweep leaves every file.
+pub fn a_generating_leaves_files_before_it_begins()
+    ensures { UnbegunGenerateLeaves }
+{}
+
+/// A command, a pattern's length and files have one verdict at most of a filling whose pattern comes whole.
+pub fn a_filling_has_one_verdict()
+    ensures { FillHasOneVerdict }
+{}
+
+/// A command, an input's length and files have one verdict at most of a generating.
+pub fn a_generating_has_one_verdict()
+    ensures { GenerateHasOneVerdict }
+{}
+
+/// A filling that is done left its map, and the pattern in each piece.
+pub fn what_is_done_is_filled()
+    ensures { DoneIsFilled }
+{}
+
+/// A generating that is done left a map of what the output held, and the output.
+pub fn what_is_done_is_generated()
+    ensures { DoneIsGenerated }
 {}

@@ -81,6 +81,9 @@ fn add_ending(message: &mut Message, ending: Ending)
         Ending::NotRegular => add(message, "output is not a regular file, use --force"),
         Ending::MapRefused { which, error } => add_refusal(message, which, error),
         Ending::SourceLost => add(message, "input lost"),
+        Ending::EmptyPattern => add(message, "input is empty"),
+        Ending::PatternUnread => add(message, "input cannot be read"),
+        Ending::NoOutput => add(message, "output does not exist"),
         Ending::SiteFault { call, earlier } => {
             add_site_fault(message, call);
             add_behind(message, earlier);

@@ -31,7 +31,7 @@ use save_resume::names::Names;
 use std::alloc::Global;
 
 /// What the rescue is asked to do.
-fn settings_for(options: &Options) -> Settings
+pub(crate) fn settings_for(options: &Options) -> Settings
     requires { AreInLimits options.now }
     ensures { result ≡ settings_by options.now }
 {
@@ -81,7 +81,7 @@ pub(crate) struct Ready {
 }
 
 /// The line that says how much is asked for, if options ask for that.
-fn make_opening(
+pub(crate) fn make_opening(
     alloc: Global,
     command: Command<'_>,
     domain: &Domain,

@@ -74,12 +74,12 @@ ends_are_told s w m es end site site' (Broken before last call split is breaks) 
 ends_last : (s : Setting) (w : Sweeper) (m : Sweep) (es : List Swept) (stop : Option Stop) (end : RunEnd) (d e f : SiteState)
     → e.tells ≡ d.tells → Makes (sweep_calls s w m es) d e → SweptBy stop s w (swept_by w m es)
     → SavesLast s (swept_by w m es) stop end e f → Ends s w m es end d f
-ends_last s w m es stop end d e f tells made by (LastSaved is makes) =
+ends_last s w m es stop end d e f tells made by (LastSaved is makes draft) =
     Saved stop by is (makes_more (sweep_calls s w m es) (closing_calls s (sweep_end (is_none stop) (swept_by w m es))) d e f tells
     made makes)
-ends_last s w m es stop end d e f tells made by (LastFailed call is breaks) =
+ends_last s w m es stop end d e f tells made by (LastFailed call is named breaks draft) =
     Unsaved stop call by is (breaks_behind call (sweep_calls s w m es)
-    (closing_calls s (sweep_end (is_none stop) (swept_by w m es))) d e f tells made breaks)
+    (closing_calls s (sweep_end (is_none stop) (swept_by w m es))) d e f tells made named breaks)
 
 -- A sweep as the objects tell it, and what holds of its pieces besides.
 pub record ToldWith (G : Swept → Type 0) (s : Setting) (w : Sweeper) (m : Sweep) (h h' : Bool) (end : RunEnd) (o : Around)

@@ -5,7 +5,7 @@ use Rattle.mapfile_text.specs.declared.state.Current.TheVariants.{Finished}
 use Rattle.crash_site.specs.Calls.{Call}
 use Rattle.crash_site.specs.SiteState.{SiteState, Makes, Breaks}
 use Rattle.save_resume.specs.declared.draft.SaveFault.{SaveFault}
-use Rattle.save_resume.specs.Saving.{save_calls, Saves}
+use Rattle.save_resume.specs.Saving.{save_calls, IsNameIn, drafting_after_fault, Saves}
 use Rattle.crash_site.specs.declared.site.SiteCall.{SiteCall}
 use Rattle.rescue_console.specs.ClockState.{ClockState, Reads as ReadsClock}
 use Rattle.rescue_console.specs.ConsoleState.{ConsoleState}
@@ -111,14 +111,16 @@ pub saves_whole : {T : Type 0} (stop : Option Stop) (r : SweepState) (last : Map
     → SavesLast (setting_of r) r.sweep stop end a c
 saves_whole stop r last end saved a c shows is s =
     LastSaved (is ∙ end_is stop)
-    (subst (λ (p : Snapshot). Makes (closing_calls (setting_of r) p) a c) (last_is stop r.sweep last shows) s.made)
+    (subst (λ (p : Snapshot). Makes (closing_calls (setting_of r) p) a c) (last_is stop r.sweep last shows) s.made) s.draft
 
 pub saves_broken : {T : Type 0} (stop : Option Stop) (r : SweepState) (last : MapState) (fault : SaveFault) (a c : SiteState)
-    → ShowsLast stop r.sweep.shown last → Saves {T = T} (calls_showing r last) false (Err fault) a c
+    → a.is_drafting ≡ false → ShowsLast stop r.sweep.shown last → Saves {T = T} (calls_showing r last) false (Err fault) a c
     → SavesLast (setting_of r) r.sweep stop (SaveFailed fault.call stop) a c
-saves_broken stop r last fault a c shows s =
+saves_broken stop r last fault a c no_draft shows s =
     LastFailed fault.call refl
+    (subst (λ (p : Snapshot). IsNameIn fault.call (closing_calls (setting_of r) p)) (last_is stop r.sweep last shows) s.named)
     (subst (λ (p : Snapshot). Breaks fault.call (closing_calls (setting_of r) p) a c) (last_is stop r.sweep last shows) s.broke)
+    (s.draft_left ∙ ap (drafting_after_fault fault.call) no_draft)
 
 pub saves_as : {T : Type 0} (q r : SweepState) (shown : MapState) (result : Result T SaveFault) (a c : SiteState) → q ≡ r
     → Saves (calls_showing q shown) false result a c → Saves (calls_showing r shown) false result a c
@@ -149,11 +151,14 @@ pub ends_broken : {T : Type 0} (call : SiteCall) (piece : Piece) (written after 
     → r1 ≡ standing r (moved (current_in r.mode) r.sweep piece.pos piece.len written after)
     → line ≡ is_line_due r.sweep.said (current_in r.mode) (after / 1000)
     → save ≡ nat_le (r.sweep.due_at + save_interval) after → r2 ≡ heard_as r1 r2.heard
-    → SpeaksOn (out_pieces (line_if r1 line)) r1.heard r2.heard x y → r3 ≡ r2 → Breaks call (save_if r2 save) a c
+    → SpeaksOn (out_pieces (line_if r1 line)) r1.heard r2.heard x y → r3 ≡ r2 → IsNameIn call (save_if r2 save)
+    → Breaks call (save_if r2 save) a c
     → EndsPiece {T = T} (Err (Site call)) piece written r r3 (between a c k l x y)
-ends_broken call piece written after line save r r1 r2 r3 a c k l x y timed fit moves due is hears says stays breaks =
+ends_broken call piece written after line save r r1 r2 r3 a c k l x y timed fit moves due is hears says stays named breaks =
     let b : Behind piece written after line r r1 r2 r3 (between a c k l x y) =
     record { timed = timed; fit = fit; moves = moves; due = due; hears = hears; says = says; stays = stays } in
+    let saves : save_if r2 save ≡ save_behind r r3 after =
+    due_is piece written after line save r r1 r2 r3 (between a c k l x y) b is in
     record {
       after = after;
       passes = passes piece written after line r r1 r2 r3 (between a c k l x y) b;
@@ -161,7 +166,7 @@ ends_broken call piece written after line save r r1 r2 r3 a c k l x y timed fit 
       broke = record {
         call = call;
         is = refl;
-        breaks = subst (λ (cs : List Call). Breaks call cs a c)
-            (due_is piece written after line save r r1 r2 r3 (between a c k l x y) b is) breaks;
+        named = subst (λ (cs : List Call). IsNameIn call cs) saves named;
+        breaks = subst (λ (cs : List Call). Breaks call cs a c) saves breaks;
       };
     }

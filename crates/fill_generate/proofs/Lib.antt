@@ -4,6 +4,7 @@ pub mod PieceLemmas
 pub mod SearchLemmas
 pub mod MarkLemmas
 pub mod ImageLemmas
+pub mod DraftLemmas
 pub mod EndLemmas
 pub mod EndPieceLemmas
 pub mod OutcomeLemmas

@@ -1,5 +1,5 @@
 -- Pieces of a sweep, one after another.
-use Rattle.std.proofs.Common.{◌≡◌, ℕ, ◌+◌, ◌<◌, ◌^◌, Bool, true, List, [], ◌∷◌, ◌++◌, refl, sym, ap, subst, ◌∙◌, append_assoc, append-nil}
+use Rattle.std.proofs.Common.{◌≡◌, ℕ, ◌+◌, ◌<◌, ◌^◌, Bool, true, List, [], ◌∷◌, ◌++◌, refl, sym, ap, subst, ◌∙◌, append_assoc, append-nil, inl}
 use Rattle.std.specs.List.{flat_map}
 use Rattle.std.proofs.lemmas.List.{map-append}
 use Rattle.std.proofs.lemmas.List.Elements.{All-nil, All-cons, All-append}
@@ -131,7 +131,8 @@ halts G s w m m1 m2 h h1 h2 stop p q d e f k l n x y z tells piece g
       events = g.events;
       went = went_still G s w m m1 m2 h h1 h2 g.events d e f k l n x y z g.went state heard clock console;
       stops = IsCut a b (subst (λ (v : Sweep). IsPiece s w v a b) g.went.state asks) is
-          (breaks_behind (call_name (lost_call w a b)) (sweep_calls s w m g.events) (lost_call w a b ∷ []) d e f tells g.made breaks);
+          (breaks_behind (call_name (lost_call w a b)) (sweep_calls s w m g.events) (lost_call w a b ∷ []) d e f tells g.made
+          (inl refl) breaks);
     }
 halts G s w m m1 m2 h h1 h2 stop p q d e f k l n x y z tells piece g (Unsaved event takes call is broke) = record {
   events = g.events ++ event ∷ [];

@@ -8,7 +8,7 @@ use Rattle.rescue_console.specs.ClockState.{ClockState, Keeps as ClockKeeps}
 use Rattle.rescue_console.specs.ConsoleState.{ConsoleState}
 use Rattle.rescue_rules.specs.declared.stop.Stop.{Stop}
 use Rattle.rescue_rules.specs.Setting.{Setting, place}
-use Rattle.rescue_core.specs.Closing.{MayClose}
+use Rattle.rescue_core.specs.Closing.{drafting_after}
 use Rattle.sweep_rules.specs.Sweep.{Sweeper, Sweep, Swept, generator}
 use Rattle.fill_generate.specs.declared.mode.Mode.TheVariants.{Generate}
 use Rattle.fill_generate.specs.declared.sweeping.Piece.{Piece}
@@ -46,9 +46,9 @@ pub piece_ends : {T : Type 0} (G : Swept → Type 0) (w : Sweeper) (r r1 r2 : Sw
     → IsFound r piece → ((t : ℕ) → w.gives (done_at piece got t) ≡ true) → ((t : ℕ) → G (done_at piece got t))
     → ((t : ℕ) → r1 ≡ marked_with w r (done_at piece got t)) → ((t : ℕ) → w.writes (done_at piece got t) ≡ written)
     → ((t : ℕ) → Makes (w.call (done_at piece got t) ∷ []) a b) → EndsPiece result piece written r1 r2 (between b c k l x y)
-    → OnOk result (c.is_drafting ≡ false) → IfErr result (λ stop. MayClose (Some stop) c)
+    → OnOk result (c.is_drafting ≡ false) → IfErr result (λ stop. c.is_drafting ≡ drafting_after stop)
     → ObjectsStay (between a c k l x y) → PieceEnds G result w piece r r2 (between a c k l x y)
-piece_ends G w r r1 r2 piece got written (Ok v) a b c k l x y tells of found gives given marked writes call ends no_draft closes objects = record {
+piece_ends G w r r1 r2 piece got written (Ok v) a b c k l x y tells of found gives given marked writes call ends no_draft left objects = record {
   stands = gone_behind w r r1 r2 (done_at piece got ends.after)
       (moved (current_in r1.mode) r1.sweep piece.pos piece.len written ends.after) r2.heard (marked ends.after)
       ends.passes.stands;
@@ -57,10 +57,10 @@ piece_ends G w r r1 r2 piece got written (Ok v) a b c k l x y tells of found giv
   passed = ap (λ (q : SweepState). q.sweep.cursor) ends.passes.stands;
   halted = tt;
   no_draft = no_draft;
-  closes = tt;
+  draft_left = tt;
   objects = objects;
 }
-piece_ends G w r r1 r2 piece got written (Err stop) a b c k l x y tells of found gives given marked writes call ends no_draft closes objects = record {
+piece_ends G w r r1 r2 piece got written (Err stop) a b c k l x y tells of found gives given marked writes call ends no_draft left objects = record {
   stands = gone_behind w r r1 r2 (done_at piece got ends.after)
       (moved (current_in r1.mode) r1.sweep piece.pos piece.len written ends.after) r2.heard (marked ends.after)
       ends.passes.stands;
@@ -69,7 +69,7 @@ piece_ends G w r r1 r2 piece got written (Err stop) a b c k l x y tells of found
   halted = unsaved G w r r1 r2 piece got written ends.after stop a b c k l x y tells of found (gives ends.after) (given ends.after)
       (marked ends.after) (writes ends.after) (call ends.after) ends.passes ends.broke;
   no_draft = tt;
-  closes = closes;
+  draft_left = left;
   objects = objects;
 }
 
@@ -77,13 +77,13 @@ piece_ends G w r r1 r2 piece got written (Err stop) a b c k l x y tells of found
 pub looks : {T : Type 0} (r r1 r2 : SweepState) (piece : Piece) (result : Result T Stop) (a b c : SiteState) (k l : ClockState)
     (x y : ConsoleState) → r.mode ≡ Generate → IsFound r piece → LooksUp piece r r1 a b → SiteStays a b → SiteKeeps b c
     → c.is_open ≡ b.is_open → a.is_open ≡ true → ClockKeeps k l → EndsPiece result piece 0 r1 r2 (between b c k l x y)
-    → OnOk result (c.is_drafting ≡ false) → IfErr result (λ stop. MayClose (Some stop) c)
+    → OnOk result (c.is_drafting ≡ false) → IfErr result (λ stop. c.is_drafting ≡ drafting_after stop)
     → PieceEnds (IsLookedUp (setting_of r) a) result (generator (setting_of r)) piece r r2 (between a c k l x y)
-looks r r1 r2 piece result a b c k l x y mode found looked stays keeps same opened clock ends no_draft closes =
+looks r r1 r2 piece result a b c k l x y mode found looked stays keeps same opened clock ends no_draft left =
     let s : Setting = setting_of r in
     piece_ends (IsLookedUp s a) (generator s) r r1 r2 piece looked.got 0 result a b c k l x y stays.keeps.tells
     (generates_is r s mode) found (λ t. le-leb (length looked.got) piece.len looked.few) (λ t tells apart. looked.told tells)
-    (λ t. looked.marks) (λ t. refl) (λ t. looked.calls) ends no_draft closes
+    (λ t. looked.marks) (λ t. refl) (λ t. looked.calls) ends no_draft left
     (record { site = keeps_more a b c stays.keeps keeps; image = same ∙ stays.image ∙ opened; clock = clock })
 
 -- or wasn't.
@@ -97,10 +97,10 @@ looks_nowhere G r r1 piece stop a c k x mode found stands (NoRead is breaks) =
     uncalled G (generator s) r r1 piece stop (image_read (place s piece.pos) piece.len None) a c k x (generates_is r s mode)
     found (lost_read s piece.pos piece.len) is stands breaks
 
-closes_then : (r : SweepState) (piece : Piece) (stop : Stop) (a c : SiteState) → LooksNot stop piece r a c
-    → c.is_drafting ≡ false → MayClose (Some stop) c
-closes_then r piece stop a c (NoRoom is same) no_draft = subst (λ (t : Stop). MayClose (Some t) c) (sym is) no_draft
-closes_then r piece stop a c (NoRead is breaks) no_draft = subst (λ (t : Stop). MayClose (Some t) c) (sym is) tt
+left_then : (r : SweepState) (piece : Piece) (stop : Stop) (a c : SiteState) → LooksNot stop piece r a c
+    → c.is_drafting ≡ false → c.is_drafting ≡ drafting_after stop
+left_then r piece stop a c (NoRoom is same) no_draft = no_draft ∙ ap drafting_after (sym is)
+left_then r piece stop a c (NoRead is breaks) no_draft = no_draft ∙ ap drafting_after (sym is)
 
 pub looks_not : {T : Type 0} (G : Swept → Type 0) (r r1 : SweepState) (piece : Piece) (stop : Stop) (result : Result T Stop)
     (a c : SiteState) (k : ClockState) (x : ConsoleState) → r.mode ≡ Generate → IsFound r piece → r1 ≡ r
@@ -113,6 +113,6 @@ looks_not {T} G r r1 piece stop result a c k x mode found stands not stays no_dr
       passed = tt;
       halted = looks_nowhere G r r1 piece stop a c k x mode found stands not;
       no_draft = tt;
-      closes = closes_then r piece stop a c not (stays.draft ∙ no_draft);
+      draft_left = left_then r piece stop a c not (stays.draft ∙ no_draft);
       objects = record { site = stays.keeps; image = stays.image ∙ opened; clock = clock_self k };
     })

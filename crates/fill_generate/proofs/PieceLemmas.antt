@@ -4,7 +4,7 @@ use Rattle.crash_site.specs.Calls.{Call, Done, Lost, call_name, image_write, ima
 use Rattle.crash_site.specs.SiteState.{SiteState, Makes, Breaks}
 use Rattle.fault_count.specs.Counts.{Rose}
 use Rattle.mapfile_text.specs.declared.state.Current.{Current}
-use Rattle.save_resume.specs.Saving.{save_calls}
+use Rattle.save_resume.specs.Saving.{save_calls, IsNameIn}
 use Rattle.rescue_console.specs.ClockState.{ClockState}
 use Rattle.rescue_console.specs.ConsoleState.{ConsoleState}
 use Rattle.rescue_console.specs.Speaking.{SpeaksOn, out_pieces}
@@ -130,12 +130,14 @@ unsaved G w r r1 r2 piece got written after stop a b c k l x y tells of found gi
     let s : Setting = setting_of r in
     let t : Takes G s w r.sweep r2.sweep r.heard r2.heard e (between b c k l x y) =
     takes G w r r1 r2 piece got written after (between b c k l x y) of found gives given marked writes p in
+    let saves : save_behind r1 r2 after ≡ save_of s (due_save w r.sweep e) =
+    save_is w r r1 r2 piece got written after (between b c k l x y) of marked writes p in
     Unsaved e
     (record { asks = t.asks; gives = t.gives; given = t.given; steps = t.steps; timed = t.timed; fit = t.fit; says = t.says })
     broke.call broke.is
     (breaks_behind broke.call (w.call e ∷ []) (save_of s (due_save w r.sweep e)) a b c tells call
-    (subst (λ (cs : List Call). Breaks broke.call cs b c)
-    (save_is w r r1 r2 piece got written after (between b c k l x y) of marked writes p) broke.breaks))
+    (subst (λ (cs : List Call). IsNameIn broke.call cs) saves broke.named)
+    (subst (λ (cs : List Call). Breaks broke.call cs b c) saves broke.breaks))
 
 -- or its call failed
 pub size_back : (p n : ℕ) → (p + n) - p ≡ n

@@ -68,7 +68,7 @@ pieces_halt {T} G w r r1 r2 piece stop result d e f k l n x y z stands objects w
       halted = halts G (setting_of r) w r.sweep r1.sweep r2.sweep r.heard r1.heard r2.heard stop piece.pos (piece.pos + piece.len)
           d e f k l n x y z objects.site.tells (found.next w of) went ends.halted;
       no_draft = tt;
-      closes = ends.closes;
+      draft_left = ends.draft_left;
       objects = objects_stay d e f k l n x y z objects ends.objects;
     })
 
@@ -85,7 +85,7 @@ pieces_out G w r r1 v d e k l x y stands of none went no_draft objects = record 
       (none w (subst (λ (q : SweepState). IsOf q.mode w) (sym stands) of));
   halted = tt;
   no_draft = no_draft;
-  closes = tt;
+  draft_left = tt;
   objects = objects;
 }
 
@@ -122,7 +122,7 @@ piece_weaker G H (Ok v) w piece r r' o weaker p = record {
   passed = p.passed;
   halted = tt;
   no_draft = p.no_draft;
-  closes = tt;
+  draft_left = tt;
   objects = p.objects;
 }
 piece_weaker G H (Err stop) w piece r r' o weaker p = record {
@@ -131,7 +131,7 @@ piece_weaker G H (Err stop) w piece r r' o weaker p = record {
   passed = tt;
   halted = halted_weaker G H (setting_of r) w r.sweep r'.sweep r.heard r'.heard stop o weaker p.halted;
   no_draft = tt;
-  closes = p.closes;
+  draft_left = p.draft_left;
   objects = p.objects;
 }
 

@@ -4,6 +4,7 @@ use Rattle.std.proofs.lemmas.List.{map-append}
 use Rattle.crash_site.specs.declared.site.SiteCall.{SiteCall}
 use Rattle.crash_site.specs.Calls.{Call, Entry, Done, BrokeAt}
 use Rattle.crash_site.specs.SiteState.{SiteState, Makes, Breaks}
+use Rattle.save_resume.specs.Saving.{IsNameIn}
 use Rattle.save_resume.proofs.CallLemmas.{made_more}
 use Rattle.save_resume.proofs.FillLemmas.{keeps_self, keeps_more}
 use Rattle.rescue_console.specs.declared.console.Channel.TheVariants.{Out}
@@ -43,9 +44,10 @@ makes_more xs ys a b c same f g = record {
 }
 
 -- calls that broke off behind ones that were made
-pub breaks_behind : (at : SiteCall) (xs ys : List Call) (a b c : SiteState) → b.tells ≡ a.tells → Makes xs a b → Breaks at ys b c
-    → BreaksBehind at xs ys a c
-breaks_behind at xs ys a b c same f g = record {
+pub breaks_behind : (at : SiteCall) (xs ys : List Call) (a b c : SiteState) → b.tells ≡ a.tells → Makes xs a b → IsNameIn at ys
+    → Breaks at ys b c → BreaksBehind at xs ys a c
+breaks_behind at xs ys a b c same f named g = record {
+  named = named;
   broke = λ tells. subst (λ (es : List Entry). BrokeAt at ys es c.calls) (f.made tells) (g.broke (rw same tells));
   rose = rw (← f.faults) g.rose;
 }
@@ -53,6 +55,7 @@ breaks_behind at xs ys a b c same f g = record {
 pub breaks_more : (at : SiteCall) (xs ys zs : List Call) (a b c : SiteState) → b.tells ≡ a.tells → Makes xs a b
     → BreaksBehind at ys zs b c → BreaksBehind at (xs ++ ys) zs a c
 breaks_more at xs ys zs a b c same f g = record {
+  named = g.named;
   broke = λ tells. subst (λ (es : List Entry). BrokeAt at zs es c.calls)
       (ap (λ (es : List Entry). es ++ map Done ys) (f.made tells) ∙ append_assoc a.calls (map Done xs) (map Done ys)
       ∙ ap (λ (es : List Entry). a.calls ++ es) (sym (map-append Done xs ys))) (g.broke (rw same tells));

@@ -17,7 +17,7 @@ use Rattle.rescue_rules.specs.Said.{is_line_due}
 use Rattle.rescue_rules.specs.Step.{save_interval}
 use Rattle.rescue_rules.specs.Snapshots.{text_of}
 use Rattle.rescue_rules.specs.Lines.{phase_front, report_text}
-use Rattle.save_resume.specs.Saving.{save_calls}
+use Rattle.save_resume.specs.Saving.{save_calls, IsNameIn, drafting_after_fault}
 use Rattle.rescue_rules.specs.Laws.{AreTimes}
 use Rattle.rescue_rules.specs.Work.{end_of}
 use Rattle.rescue_rules.specs.Deeds.{Deed, save_of, deed_calls}
@@ -28,7 +28,7 @@ use Rattle.fill_generate.specs.SweepState.{SweepState, setting_of, standing, mov
 use Rattle.fill_generate.specs.Modes.{IsOf, current_in}
 use Rattle.fill_generate.specs.Sweeping.{Around, BreaksBehind, times_behind, IsApart}
 use Rattle.fill_generate.specs.Marking.{finished_at, piece_at}
-use Rattle.rescue_core.specs.Closing.{MayClose}
+use Rattle.rescue_core.specs.Closing.{drafting_after}
 
 -- what a piece does on the files
 abbrev pub deed_of : Sweeper → Sweep → Swept → Deed
@@ -65,6 +65,7 @@ save_behind r r' after =
 pub record BreaksSave (stop : Stop) (calls : List Call) (site site' : SiteState) : Type 0 where
   pub call : SiteCall
   pub is : stop ≡ Site call
+  pub named : IsNameIn call calls
   pub breaks : Breaks call calls site site'
 
 -- a piece for which the output gave these bytes
@@ -152,9 +153,11 @@ pub record ObjectsStay (o : Around) : Type 0 where
 pub data SavesLast (s : Setting) (m : Sweep) (stop : Option Stop) (end : RunEnd) (site site' : SiteState)
     : Type 0 where
   LastSaved : end ≡ end_of stop → Makes (closing_calls s (sweep_end (is_none stop) m)) site site'
-      → SavesLast s m stop end site site'
+      → site'.is_drafting ≡ false → SavesLast s m stop end site site'
   LastFailed : (call : SiteCall) → end ≡ SaveFailed call stop
-      → Breaks call (closing_calls s (sweep_end (is_none stop) m)) site site' → SavesLast s m stop end site site'
+      → IsNameIn call (closing_calls s (sweep_end (is_none stop) m))
+      → Breaks call (closing_calls s (sweep_end (is_none stop) m)) site site'
+      → site'.is_drafting ≡ drafting_after_fault call false → SavesLast s m stop end site site'
 
 -- behind a call on the files that failed no further one is made
 abbrev pub ClosesFiles : Setting → Sweep → Option Stop → RunEnd → (site site' : SiteState) → Type 0
@@ -216,7 +219,7 @@ pub record PieceEnds {T : Type 0} (G : Swept → Type 0) (result : Result T Stop
   pub passed : OnOk result (r'.sweep.cursor ≡ piece.pos + piece.len)
   pub halted : IfErr result (λ stop. Halted G (setting_of r) w r.sweep r'.sweep r.heard r'.heard stop o)
   pub no_draft : OnOk result (o.site'.is_drafting ≡ false)
-  pub closes : IfErr result (λ stop. MayClose (Some stop) o.site')
+  pub draft_left : IfErr result (λ stop. o.site'.is_drafting ≡ drafting_after stop)
   pub objects : ObjectsStay o
 
 -- all pieces that are left
@@ -227,5 +230,5 @@ pub record PiecesEnd {T : Type 0} (G : Swept → Type 0) (result : Result T Stop
   pub out : OnOk result (IsSweptOut (setting_of r) w r'.sweep)
   pub halted : IfErr result (λ stop. WentUpTo G (setting_of r) w r.sweep r'.sweep r.heard r'.heard stop o)
   pub no_draft : OnOk result (o.site'.is_drafting ≡ false)
-  pub closes : IfErr result (λ stop. MayClose (Some stop) o.site')
+  pub draft_left : IfErr result (λ stop. o.site'.is_drafting ≡ drafting_after stop)
   pub objects : ObjectsStay o

@@ -1,5 +1,5 @@
 -- What a sweep does, by what its objects tell.
-use Rattle.std.specs.Prelude.{◌≡◌, ◌≢◌, ℕ, Bool, IsTrue, List, [], ◌∷◌, ◌++◌, map, Option, Some, is_none}
+use Rattle.std.specs.Prelude.{◌≡◌, ◌≢◌, ℕ, Bool, false, IsTrue, List, [], ◌∷◌, ◌++◌, map, Option, Some, is_none}
 use Rattle.fault_count.specs.Counts.{Rose}
 use Rattle.crash_site.specs.declared.site.SiteCall.{SiteCall}
 use Rattle.crash_site.specs.Files.{bytes_of}
@@ -7,18 +7,20 @@ use Rattle.crash_site.specs.Calls.{Call, Entry, Done, BrokeAt, call_name}
 use Rattle.crash_site.specs.Folder.{after}
 use Rattle.crash_site.specs.SiteState.{SiteState, Makes, image_in}
 use Rattle.save_resume.specs.MapNames.{MapNames}
+use Rattle.save_resume.specs.Saving.{IsNameIn, drafting_after_fault}
 use Rattle.rescue_console.specs.ClockState.{ClockState, Reads as ReadsClock}
 use Rattle.rescue_console.specs.ConsoleState.{ConsoleState}
 use Rattle.rescue_console.specs.Speaking.{SpeaksOn, out_pieces}
 use Rattle.rescue_rules.specs.declared.stop.Stop.{Stop}
 use Rattle.rescue_rules.specs.declared.stop.Stop.TheVariants.{Site}
 use Rattle.rescue_rules.specs.declared.stop.RunEnd.{RunEnd}
-use Rattle.rescue_rules.specs.declared.stop.RunEnd.TheVariants.{Stopped, SaveFailed}
+use Rattle.rescue_rules.specs.declared.stop.RunEnd.TheVariants.{Done as Finished, Stopped, SaveFailed}
 use Rattle.rescue_rules.specs.Setting.{Setting}
 use Rattle.rescue_rules.specs.RunCalls.{closing_calls}
 use Rattle.rescue_rules.specs.Laws.{AreTimes}
 use Rattle.rescue_rules.specs.Work.{end_of}
 use Rattle.rescue_rules.specs.Deeds.{save_of, doing_calls}
+use Rattle.rescue_core.specs.Closing.{drafting_after}
 use Rattle.sweep_rules.specs.Sweep.{Sweeper, Sweep, Swept, IsPiece, IsSweep, swept_by, due_save, sweep_end, deeds_of}
 use Rattle.sweep_rules.specs.SweepLaws.{AreGiven}
 use Rattle.sweep_rules.specs.SweepWork.{SweptBy, SweepEnds, sweep_calls, sweep_lines, lost_call}
@@ -34,6 +36,7 @@ pub record Around : Type 0 where
 
 -- behind these calls, which all returned, one of others failed, which has this name
 pub record BreaksBehind (at : SiteCall) (made calls : List Call) (old new : SiteState) : Type 0 where
+  pub named : IsNameIn at calls
   pub broke : IsTrue old.tells → BrokeAt at calls (old.calls ++ map Done made) new.calls
   pub rose : Rose old.faults new.faults
 
@@ -57,6 +60,12 @@ pub data Ends (s : Setting) (w : Sweeper) (m : Sweep) (es : List Swept) (end : R
       → BreaksBehind call (sweep_calls s w m before ++ w.call last ∷ [])
       (save_of s (due_save w (swept_by w m before) last)) site site'
       → Ends s w m es end site site'
+
+-- whether a draft is left begun behind a sweep that ended so
+abbrev pub drafting_behind : RunEnd → Bool
+drafting_behind Finished = false
+drafting_behind (Stopped stop) = drafting_after stop
+drafting_behind (SaveFailed call earlier) = drafting_after_fault call false
 
 -- law: where the site tells, its record goes on with the calls of such a sweep
 abbrev pub EndsAreTold : Type 0

@@ -4,13 +4,12 @@ ghost use Rattle.crash_site.specs.SiteState.{Keeps as SiteKeeps};
 ghost use Rattle.rescue_console.specs.ClockState.{Keeps as ClockKeeps};
 ghost use Rattle.mapfile_text.specs.declared.heading.Program.TheVariants.{Ddrescue};
 ghost use Rattle.rescue_domain.specs.Parts.{covers};
-ghost use Rattle.rescue_core.specs.Closing.{MayClose};
 ghost use Rattle.rescue_core.specs.RunState.{IsSound, Suits, HasPlaces};
 ghost use Rattle.sweep_rules.specs.Sweep.{filler, sweep_over};
 ghost use Rattle.fill_generate.specs.declared.mode.Mode.TheVariants.{Fill};
 ghost use Rattle.fill_generate.specs.SweepState.{setting_for, setting_of};
 ghost use Rattle.fill_generate.specs.Steps.{IsFound, PieceEnds, PiecesEnd, ObjectsStay, gone_to};
-ghost use Rattle.fill_generate.specs.Sweeping.{SweepTold};
+ghost use Rattle.fill_generate.specs.Sweeping.{SweepTold, drafting_behind};
 
 use crate::job::Job;
 use crate::mode::Mode;
@@ -55,6 +54,7 @@ pub fn run_fill<D: Site, K: Clock, C: Console, T: Tiles>(
         }) }
     ensures site { SiteKeeps (D.state site.old) (D.state site.new) }
     ensures image { (D.state site.new).is_open ≡ true }
+    ensures draft { (D.state site.new).is_drafting ≡ drafting_behind result.end }
     ensures clock { ClockKeeps (K.state clock.old) (K.state clock.new) }
 {
     let mut sweeping = Sweeping::begin(job, Mode::Fill(types));

@@ -4,13 +4,12 @@ ghost use Rattle.crash_site.specs.SiteState.{Keeps as SiteKeeps};
 ghost use Rattle.rescue_console.specs.ClockState.{Keeps as ClockKeeps};
 ghost use Rattle.mapfile_text.specs.declared.heading.Program.TheVariants.{Ddrescue};
 ghost use Rattle.rescue_domain.specs.Parts.{covers};
-ghost use Rattle.rescue_core.specs.Closing.{MayClose};
 ghost use Rattle.rescue_core.specs.RunState.{IsSound, Suits, HasPlaces};
 ghost use Rattle.sweep_rules.specs.Sweep.{generator, sweep_over};
 ghost use Rattle.fill_generate.specs.declared.mode.Mode.TheVariants.{Generate};
 ghost use Rattle.fill_generate.specs.SweepState.{setting_for, setting_of};
 ghost use Rattle.fill_generate.specs.Steps.{IsFound, PieceEnds, PiecesEnd, IsLookedUp};
-ghost use Rattle.fill_generate.specs.Sweeping.{LookupTold};
+ghost use Rattle.fill_generate.specs.Sweeping.{LookupTold, drafting_behind};
 
 use crate::job::Job;
 use crate::mode::Mode;
@@ -53,6 +52,7 @@ pub fn run_generate<D: Site, K: Clock, C: Console, T: Tiles>(
         }) }
     ensures site { SiteKeeps (D.state site.old) (D.state site.new) }
     ensures image { (D.state site.new).is_open ≡ true }
+    ensures draft { (D.state site.new).is_drafting ≡ drafting_behind result.end }
     ensures clock { ClockKeeps (K.state clock.old) (K.state clock.new) }
 {
     let mut sweeping = Sweeping::begin(job, Mode::Generate);

@@ -57,9 +57,16 @@ fn mark_run<T: Tiles>(tiles: &mut T, from: u64, to: u64)
     }
 }
 
-/// Whether one of some bytes is other than zero.
+/// Whether one of some bytes is other than zero. Mostly the first one tells; else all are looked at, many at a time.
 fn has_byte(bytes: &[u8]) -> bool
     ensures { result ≡ list_any is_byte bytes.now }
 {
-    bytes.iter().any(|b| *b != 0)
+    if matches!(bytes, [first, ..] if *first != 0) {
+        return true;
+    }
+    let mut found = false;
+    for byte in bytes {
+        found |= *byte != 0;
+    }
+    found
 }

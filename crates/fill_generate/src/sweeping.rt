@@ -11,7 +11,7 @@ ghost use Rattle.rescue_rules.specs.Said.{is_line_due};
 ghost use Rattle.rescue_rules.specs.Step.{save_interval};
 ghost use Rattle.rescue_rules.specs.Snapshots.{text_of};
 ghost use Rattle.rescue_rules.specs.Lines.{phase_front, last_front, report_text, is_done};
-ghost use Rattle.rescue_core.specs.Closing.{MayClose};
+ghost use Rattle.rescue_core.specs.Closing.{MayClose, drafting_after};
 ghost use Rattle.rescue_core.specs.RunState.{IsSound, Suits, HasPlaces};
 ghost use Rattle.sweep_rules.specs.Sweep.{Sweeper, sweep_over, sweep_from, sweep_snapshot, sweep_end, IsSweptOut};
 ghost use Rattle.sweep_rules.specs.SweepWork.{sweep_report};
@@ -381,7 +381,7 @@ impl<T: Tiles> Sweeping<T> {
           console' = C.state console.new;
         }) }
         ensures draft { OnOk result ((D.state site.new).is_drafting ≡ false) }
-        ensures closes { IfErr result (λ stop. MayClose (Some stop) (D.state site.new)) }
+        ensures draft_left { IfErr result (λ stop. (D.state site.new).is_drafting ≡ drafting_after stop) }
         ensures site { SiteKeeps (D.state site.old) (D.state site.new) }
         ensures image { (D.state site.new).is_open ≡ (D.state site.old).is_open }
         ensures clock { ClockKeeps (K.state clock.old) (K.state clock.new) }

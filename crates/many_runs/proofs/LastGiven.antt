@@ -27,13 +27,13 @@ last_behind (a ∷ cs) bs x =
     ∙ last_joins (last_given bs x) (last_given cs x) (if nat_eq a.0 x then Some a.1 else None)
 
 -- bytes from a position on
-placed_below : (xs : List ℕ) (p x : ℕ) → x < p → last_given (enumerate_from p xs) x ≡ None
+pub placed_below : (xs : List ℕ) (p x : ℕ) → x < p → last_given (enumerate_from p xs) x ≡ None
 placed_below [] p x lt = refl
 placed_below (y ∷ ys) p x lt =
     ap (λ (o : Option ℕ). last_of_both o (if nat_eq p x then Some y else None)) (placed_below ys (p + 1) x (omega (arith, lt)))
     ∙ cond-false (nat_eq p x) (Some y) None (ne_eqb p x (λ e. omega (arith, lt, e)))
 
-placed_above : (xs : List ℕ) (p x : ℕ) → p ≤ x → last_given (enumerate_from p xs) x ≡ slice_get xs (x - p)
+pub placed_above : (xs : List ℕ) (p x : ℕ) → p ≤ x → last_given (enumerate_from p xs) x ≡ slice_get xs (x - p)
 placed_above [] p x le = refl
 placed_above (y ∷ ys) p x le =
     ⊎_elim

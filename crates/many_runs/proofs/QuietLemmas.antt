@@ -11,36 +11,36 @@ use Rattle.rescue_rules.specs.Work.{Gain, opening_calls, GoesOn, InOpening, InLo
 use Rattle.rescue_rules.specs.Stops.{is_publish, published}
 use Rattle.rescue_rules.proofs.CutLemmas.{Cut, cut_all, cut_front, cut_past, lost_cut, add, tally, tally_is}
 use Rattle.rescue_rules.proofs.GoesLemmas.{broke_cut}
-use Rattle.rescue_rules.proofs.MapfileLemmas.{settling_calls, opening_is, mapfile_is}
+use Rattle.rescue_rules.proofs.MapfileLemmas.{opening_by, opening_is, mapfile_is}
 use Rattle.work_steps.proofs.FrontLemmas.{load_reads}
 use Rattle.many_runs.proofs.AlikeLemmas.{StandsAt, At}
 
 -- a call that publishes nothing, whether it returned or failed
-record IsQuiet (c : Call) : Type 0 where
-  returned : is_publish (Done c) ≡ false
-  failed : is_publish (Failed c) ≡ false
+pub record IsQuiet (c : Call) : Type 0 where
+  pub returned : is_publish (Done c) ≡ false
+  pub failed : is_publish (Failed c) ≡ false
 
-abbrev Unpublished : Entry → Type 0
+abbrev pub Unpublished : Entry → Type 0
 Unpublished e = is_publish e ≡ false
 
 read_quiet : (c : Call) → is_map_read c ≡ true → IsQuiet c
 read_quiet (map_read name at size answer) is = record { returned = refl; failed = refl }
 read_quiet c is = absurd (cc)
 
-reads_quiet : (calls : List Call) → AreMapReads calls → All IsQuiet calls
+pub reads_quiet : (calls : List Call) → AreMapReads calls → All IsQuiet calls
 reads_quiet [] reads = All-nil IsQuiet
 reads_quiet (c ∷ calls) reads =
     All-cons IsQuiet c calls (read_quiet c (All-head (λ c. is_map_read c ≡ true) c calls reads))
     (reads_quiet calls (All-tail (λ c. is_map_read c ≡ true) c calls reads))
 
-settling_quiet : (s : Setting) → All IsQuiet (settling_calls s)
-settling_quiet s =
-    All-cons IsQuiet (image_open s.outfile true) (barrier_calls s.names) (record { returned = refl; failed = refl })
+pub opening_quiet_by : (s : Setting) (makes : Bool) → All IsQuiet (opening_by s makes)
+opening_quiet_by s makes =
+    All-cons IsQuiet (image_open s.outfile makes) (barrier_calls s.names) (record { returned = refl; failed = refl })
     (All-cons IsQuiet (map_settle s.names.map) (image_sync ∷ []) (record { returned = refl; failed = refl })
     (All-cons IsQuiet image_sync [] (record { returned = refl; failed = refl }) (All-nil IsQuiet)))
 
 opening_quiet : (s : Setting) → s.has_mapfile ≡ true → All IsQuiet (opening_calls s)
-opening_quiet s on = subst (All IsQuiet) (sym (opening_is s on)) (settling_quiet s)
+opening_quiet s on = subst (All IsQuiet) (sym (opening_is s on)) (opening_quiet_by s true)
 
 -- a call without its answer is a publish where it is one
 unanswered_published : (c : Call) → is_publish (Failed (unanswered c)) ≡ is_publish (Failed c)
@@ -56,7 +56,7 @@ unanswered_published (draft_publish name) = refl
 unanswered_published (map_settle name) = refl
 unanswered_published (map_remove name) = refl
 
-cut_quiet : (cs : List Call) (es : List Entry) → All IsQuiet cs → Cut cs es → All Unpublished es
+pub cut_quiet : (cs : List Call) (es : List Entry) → All IsQuiet cs → Cut cs es → All Unpublished es
 cut_quiet cs [] quiet cut = All-nil Unpublished
 cut_quiet [] (e ∷ es) quiet cut = absurd cut
 cut_quiet (c ∷ cs) (Done x ∷ es) quiet cut =
@@ -78,7 +78,7 @@ none_tallied (e ∷ es) (suc n) all =
     ap (λ (b : Bool). tally is_publish (take n es) (add b 0)) (All-head Unpublished e es all)
     ∙ none_tallied es n (All-tail Unpublished e es all)
 
-none_published : (es : List Entry) (n : ℕ) → All Unpublished es → published (take n es) ≡ 0
+pub none_published : (es : List Entry) (n : ℕ) → All Unpublished es → published (take n es) ≡ 0
 none_published es n all = tally_is is_publish (take n es) ∙ none_tallied es n all
 
 -- The calls are a cut of quiet ones, or a run over the map that the mapfile stands for had begun.

@@ -18,7 +18,7 @@ use Rattle.rescue_rules.specs.Work.{Gain, opening_calls, InOpening, is_map_read,
 use Rattle.rescue_rules.specs.Stops.{Behind, files_before, LeftAt, has_barrier, published, IsKept, CouldBefore, StopsSafely}
 use Rattle.rescue_rules.proofs.BeforeLemmas.{left_before, left_here, disk_before}
 use Rattle.rescue_core.specs.RunState.{names_in}
-use Rattle.rescue_command.specs.Command.{Command}
+use Rattle.rescue_command.specs.Command.{Command, Rescue}
 use Rattle.ddrescue_cli.specs.Maps.{found_in}
 use Rattle.ddrescue_cli.specs.Names.{program_name}
 use Rattle.ddrescue_cli.specs.Outside.{Outside}
@@ -79,7 +79,7 @@ ended_left b g k files left =
     (progress_leaves (disk_after (disk_before b) (take k g.calls)) (drop k g.calls) files here))
 
 -- so where it is owed at each stop, it is owed where the next run begins
-next_owed : (t : Target) (gave : List (ℕ × ℕ)) (old : ℕ → Bool) (b : Behind) (g : Gain) (k : ℕ) (next : Behind)
+pub next_owed : (t : Target) (gave : List (ℕ × ℕ)) (old : ℕ → Bool) (b : Behind) (g : Gain) (k : ℕ) (next : Behind)
     → ((files : List ℕ → Option File) → LeftAt b g k files → IsOwedIn t gave old files)
     → GoesOnFrom b g k next → IsOwedAt t gave old next
 next_owed t gave old b g k next owed (Stopped files left is) =
@@ -89,11 +89,21 @@ next_owed t gave old b g k next owed (Ended is) =
     (record { each = λ files left. owed files (ended_left b g k files left) })
 
 -- the files as they read may be found
-reads_left : (b : Behind) → MayBeLeft b.start b.earlier (length b.earlier) (files_before b)
+pub reads_left : (b : Behind) → MayBeLeft b.start b.earlier (length b.earlier) (files_before b)
 reads_left b = left_before b (files_before b) (reads_rest b.start b.earlier)
 
+-- what was found before a run's barrier could be found before it
+pub owed_before : (t : Target) (b : Behind) (gave : List (ℕ × ℕ)) (old : ℕ → Bool) (files : List ℕ → Option File)
+    → t.outfile ≢ t.mapfile → IsOwedAt t gave old b → CouldBefore b t.outfile files → IsOwedIn t gave old files
+owed_before t b gave old files apart owed could =
+    owed_alike t gave old could.before files (could.others t.mapfile (λ is. apart (sym is)))
+    (⊎_elim
+    (λ (same : files t.outfile ≡ could.before t.outfile). ap bytes_of same)
+    (λ made. ap bytes_of made.1 ∙ sym (ap bytes_of made.0)) could.output)
+    (owed.each could.before could.left)
+
 -- The target by the setting of a run, whose names it has.
-abbrev by_names : Setting → Target → Target
+abbrev pub by_names : Setting → Target → Target
 by_names s t = record { outfile = s.outfile; mapfile = s.names.map; from = t.from; to = t.to }
 
 module _ (t : Target) (b : Behind) (s : Setting) (g : Gain) (ok : IsSensible s) (on : s.has_mapfile ≡ true)
@@ -106,12 +116,7 @@ module _ (t : Target) (b : Behind) (s : Setting) (g : Gain) (ok : IsSensible s) 
   owed_early : (gave : List (ℕ × ℕ)) (old : ℕ → Bool) (k : ℕ) (files : List ℕ → Option File) → IsOwedAt u gave old b
       → k ≤ length g.calls → LeftAt b g k files → has_barrier (take k g.calls) ≡ false → IsOwedIn u gave old files
   owed_early gave old k files owed le left off =
-      let could : CouldBefore b s.outfile files = safe.before k files le left off in
-      owed_alike u gave old could.before files (could.others s.names.map (λ is. apart (sym is)))
-      (⊎_elim
-      (λ (same : files s.outfile ≡ could.before s.outfile). ap bytes_of same)
-      (λ made. ap bytes_of made.1 ∙ sym (ap bytes_of made.0)) could.output)
-      (owed.each could.before could.left)
+      owed_before u b gave old files apart owed (safe.before k files le left off)
 
   -- the mapfile that a run began with stood for a map, if the one that is found does
   began_of : (k : ℕ) (files : List ℕ → Option File) (end : ℕ) (map : List Status) (state : Option MapState)
@@ -164,7 +169,7 @@ module _ (t : Target) (b : Behind) (s : Setting) (g : Gain) (ok : IsSensible s) 
       (cases_Bool (has_barrier (take k g.calls)))
 
 -- a target with the names of a setting is the target by them
-same_target : (s : Setting) (t : Target) → s.outfile ≡ t.outfile → s.names.map ≡ t.mapfile → by_names s t ≡ t
+pub same_target : (s : Setting) (t : Target) → s.outfile ≡ t.outfile → s.names.map ≡ t.mapfile → by_names s t ≡ t
 same_target s t outfile mapfile i =
     record { outfile = outfile i; mapfile = mapfile i; from = t.from; to = t.to }
 
@@ -197,7 +202,7 @@ rescue_owes_on t l gave old apart r owed =
     let s : Setting = setting r.promised r.asks in
     let g : Gain = done_by r.promised r.asks in
     let b : Behind = calls_before r.told in
-    let p : Promise r.command r.told = r.promised.asked_for r.command r.asks in
+    let p : Promise r.command r.told = r.promised.asked_for (Rescue r.command) r.asks in
     let on : s.has_mapfile ≡ true = ap (λ (m : Option (List ℕ)). is_some (option_map names_of m)) r.mapfile in
     let map_is : s.names.map ≡ t.mapfile
     = ap (λ (m : Option (List ℕ)). (names_in (option_map names_of m)).map) r.mapfile in

@@ -1,15 +1,17 @@
 -- Runs on one output and one mapfile, each of which goes on from what the one before it left.
-use Rattle.std.specs.Prelude.{◌≡◌, ◌≢◌, ℕ, ◌+◌, ◌≤◌, Bool, false, IsTrue, List, [], ◌∷◌, ◌++◌, length, take, All, Option, Some, None, if◌then◌else◌}
-use Rattle.std.specs.List.{flat_map, list_any}
+use Rattle.std.specs.Prelude.{◌≡◌, ◌≢◌, ℕ, ◌+◌, ◌≤◌, IsTrue, List, [], ◌∷◌, ◌++◌, length, take, All, Option, Some, None, if◌then◌else◌}
+use Rattle.std.specs.List.{flat_map, enumerate_from}
 use Rattle.crash_site.specs.Files.{File}
 use Rattle.rescue_rules.specs.Setting.{Setting}
 use Rattle.rescue_rules.specs.Work.{Gain}
 use Rattle.rescue_rules.specs.Stops.{Behind, LeftAt, has_barrier}
-use Rattle.rescue_command.specs.Command.{Command, Asks}
+use Rattle.sweep_rules.specs.Sweep.{Swept}
+use Rattle.rescue_command.specs.Command.{Command, Generate, Asks, AskTask}
 use Rattle.ddrescue_cli.specs.Asked.{output_from}
 use Rattle.ddrescue_cli.specs.Told.{Told, calls_before}
 use Rattle.ddrescue_cli.specs.Ddrescue.{Ddrescue}
 use Rattle.ddrescue_cli.specs.Laws.{setting, done_by}
+use Rattle.ddrescue_cli.specs.ModeLaws.{generating}
 use Rattle.many_runs.specs.Owed.{Target, pairs_of}
 
 -- these files, all durable, on which no call was made yet
@@ -28,13 +30,18 @@ pub data GoesOnFrom (b : Behind) (g : Gain) (k : ℕ) (next : Behind) : Type 0 w
 abbrev pub gave_by : Setting → Gain → (k : ℕ) → List (ℕ × ℕ)
 gave_by s g k = if has_barrier (take k g.calls) then pairs_of s.sector g.reads else []
 
--- One run of a chain, of whatever kind: where it began and where the next one begins, what it gave, and which positions
--- it called finished without a read.
+-- What a generating gave that came so far: what the output held in its pieces, once its barrier has returned.
+abbrev pub looked_at : List Swept → List (ℕ × ℕ)
+looked_at pieces = flat_map (λ e. enumerate_from e.pos e.got) pieces
+
+abbrev pub found_by : Gain → List Swept → (k : ℕ) → List (ℕ × ℕ)
+found_by g pieces k = if has_barrier (take k g.calls) then looked_at pieces else []
+
+-- One run of a chain, of whatever kind: where it began and where the next one begins, and what it gave.
 pub record Link : Type 0 where
   pub before : Behind
   pub next : Behind
   pub gave : List (ℕ × ℕ)
-  pub marked : ℕ → Bool
 
 -- a rescue on the target, by its promise, up to a moment
 pub record IsRescue (t : Target) (l : Link) : Type 0 where
@@ -53,11 +60,27 @@ pub record IsRescue (t : Target) (l : Link) : Type 0 where
   pub before : l.before ≡ calls_before told
   pub next : GoesOnFrom (calls_before told) (done_by promised asks) moment l.next
   pub gave : l.gave ≡ gave_by (setting promised asks) (done_by promised asks) moment
-  pub marked : (x : ℕ) → l.marked x ≡ false
+
+-- the same of a generating, which marks what the output holds
+pub record IsGenerating (t : Target) (l : Link) : Type 0 where
+  pub told : Told
+  pub promised : Ddrescue told
+  pub command : Command
+  pub asks : AskTask told.words (Generate command)
+  pub tells : IsTrue told.site.tells
+  pub outfile : command.outfile ≡ t.outfile
+  pub mapfile : command.mapfile ≡ Some t.mapfile
+  pub places : command.options.input_position + t.to ≡ t.from + output_from command.options
+  pub moment : ℕ
+  pub within : moment ≤ length (generating promised asks).outside.did.gain.calls
+  pub before : l.before ≡ calls_before told
+  pub next : GoesOnFrom (calls_before told) (generating promised asks).outside.did.gain moment l.next
+  pub gave : l.gave ≡ found_by (generating promised asks).outside.did.gain (generating promised asks).pieces moment
 
 -- the kinds of runs that a chain may have
 pub data IsLink (t : Target) (l : Link) : Type 0 where
   OfRescue : IsRescue t l → IsLink t l
+  OfGenerating : IsGenerating t l → IsLink t l
 
 -- each link begins where the one before it leads, the first at one moment, and the last leads to another
 abbrev pub AreJoined : (from : Behind) → List Link → (to : Behind) → Type 0
@@ -69,9 +92,6 @@ pub record IsChain (t : Target) (from : Behind) (links : List Link) (to : Behind
   pub each : All (IsLink t) links
   pub joined : AreJoined from links to
 
--- what all its runs gave, in order, and what any of them marked
+-- what all its runs gave, in order
 abbrev pub all_given : List Link → List (ℕ × ℕ)
 all_given links = flat_map (λ l. l.gave) links
-
-abbrev pub is_marked : List Link → ℕ → Bool
-is_marked links x = list_any (λ l. l.marked x) links

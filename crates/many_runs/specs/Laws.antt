@@ -1,5 +1,5 @@
 -- What the definitions mean.
-use Rattle.std.specs.Prelude.{◌≡◌, ◌≢◌, ◌⊎◌, ℕ, ◌+◌, ◌||◌, Bool, true, false, List, [], ◌∷◌, ◌++◌, length, Option}
+use Rattle.std.specs.Prelude.{◌≡◌, ◌≢◌, ◌⊎◌, ℕ, ◌+◌, Bool, true, false, List, [], ◌∷◌, ◌++◌, length, Option}
 use Rattle.block_list.specs.declared.status.Status.{Status}
 use Rattle.block_list.specs.declared.status.Status.TheVariants.{Finished}
 use Rattle.block_list.specs.Map.{Has}
@@ -14,7 +14,7 @@ use Rattle.rescue_rules.specs.Start.{Stands}
 use Rattle.rescue_rules.specs.Given.{given}
 use Rattle.rescue_rules.specs.Stops.{Behind}
 use Rattle.many_runs.specs.Owed.{Target, last_given, pairs_of, HoldsLast, IsOwedIn, IsOwedAt}
-use Rattle.many_runs.specs.Chain.{resting, Link, IsRescue, IsChain, all_given, is_marked}
+use Rattle.many_runs.specs.Chain.{resting, Link, IsRescue, IsGenerating, IsChain, all_given}
 
 -- What reads gave a position is what the last of their pairs gives it.
 abbrev pub GivenIsLast : Type 0
@@ -32,14 +32,18 @@ abbrev pub RescueOwesOn : Type 0
 RescueOwesOn = (t : Target) (l : Link) (gave : List (ℕ × ℕ)) (old : ℕ → Bool) → t.outfile ≢ t.mapfile → IsRescue t l
     → IsOwedAt t gave old l.before → IsOwedAt t (gave ++ l.gave) old l.next
 
--- So it is with a chain of runs, of whatever kinds: what they marked counts as old.
+-- So it is where a generating begins: what it marks is what the output holds.
+abbrev pub GeneratingOwesOn : Type 0
+GeneratingOwesOn = (t : Target) (l : Link) (gave : List (ℕ × ℕ)) (old : ℕ → Bool) → t.outfile ≢ t.mapfile
+    → IsGenerating t l → IsOwedAt t gave old l.before → IsOwedAt t (gave ++ l.gave) old l.next
+
+-- And so it is with a chain of runs, of whatever kinds.
 abbrev pub ChainOwes : Type 0
 ChainOwes = (t : Target) (from to : Behind) (links : List Link) (gave : List (ℕ × ℕ)) (old : ℕ → Bool)
-    → IsChain t from links to → IsOwedAt t gave old from
-    → IsOwedAt t (gave ++ all_given links) (λ x. old x || is_marked links x) to
+    → IsChain t from links to → IsOwedAt t gave old from → IsOwedAt t (gave ++ all_given links) old to
 
--- So what the mapfile found behind a chain of runs calls finished was given by one of them, and the output found holds
--- what it was given last; or it was finished in the first mapfile.
+-- So what the mapfile found behind a chain of runs calls finished was given by one of them, which read it or found it in
+-- the output, and the output found holds what it was given last; or it was finished in the first mapfile.
 abbrev pub ManyRunsHold : Type 0
 ManyRunsHold = (t : Target) (files found : List ℕ → Option File) (links : List Link) (to : Behind) (end end' : ℕ)
     (first last : List Status) (state state' : Option MapState) (x : ℕ)

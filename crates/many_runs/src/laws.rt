@@ -1,5 +1,5 @@
 //! What the definitions mean.
-ghost use Rattle.many_runs.specs.Laws.{ChainOwes, EarlyMapIsNotOwed, FinishesAlike, GivenIsLast, ManyRunsHold, RescueOwesOn};
+ghost use Rattle.many_runs.specs.Laws.{ChainOwes, EarlyMapIsNotOwed, FinishesAlike, GeneratingOwesOn, GivenIsLast, ManyRunsHold, RescueOwesOn};
 
 /// What the reads of a run gave a position is what the last of their pairs gives it.
 pub fn given_is_the_last_pair()
@@ -15,6 +15,11 @@ pub fn a_mapfile_finishes_alike()
 /// stopped.
 pub fn a_rescue_owes_on()
     ensures { RescueOwesOn }
+{}
+
+/// So does a generating, which marks what the output holds.
+pub fn a_generating_owes_on()
+    ensures { GeneratingOwesOn }
 {}
 
 /// So does a chain of runs, each of which goes on from what the one before it left.

@@ -110,15 +110,15 @@ pub row_sets : (row place sector : ℕ) (o : PlanOptions) (v : Option (List ℕ)
     ≡ set_by (slice_get option_rows row) sector o v
 row_sets zero place sector o v e = placed 2 98 place sector o v e refl
 row_sets (suc zero) place sector o v e = placed 3 99 place sector o v e refl
-row_sets (suc (suc zero)) place sector o v e = placed 8 105 place sector o v e refl
-row_sets (suc (suc (suc zero))) place sector o v e = placed 9 75 place sector o v e refl
-row_sets (suc (suc (suc (suc zero)))) place sector o v e = placed 13 110 place sector o v e refl
-row_sets (suc (suc (suc (suc (suc zero))))) place sector o v e = placed 14 78 place sector o v e refl
-row_sets (suc (suc (suc (suc (suc (suc zero)))))) place sector o v e = placed 16 113 place sector o v e refl
-row_sets (suc (suc (suc (suc (suc (suc (suc zero))))))) place sector o v e = placed 17 114 place sector o v e refl
-row_sets (suc (suc (suc (suc (suc (suc (suc (suc zero)))))))) place sector o v e = placed 18 82 place sector o v e refl
-row_sets (suc (suc (suc (suc (suc (suc (suc (suc (suc zero))))))))) place sector o v e = placed 19 115 place sector o v e refl
-row_sets (suc (suc (suc (suc (suc (suc (suc (suc (suc (suc zero)))))))))) place sector o v e = placed 21 117 place sector o v e refl
+row_sets (suc (suc zero)) place sector o v e = placed 10 105 place sector o v e refl
+row_sets (suc (suc (suc zero))) place sector o v e = placed 11 75 place sector o v e refl
+row_sets (suc (suc (suc (suc zero)))) place sector o v e = placed 15 110 place sector o v e refl
+row_sets (suc (suc (suc (suc (suc zero))))) place sector o v e = placed 16 78 place sector o v e refl
+row_sets (suc (suc (suc (suc (suc (suc zero)))))) place sector o v e = placed 18 113 place sector o v e refl
+row_sets (suc (suc (suc (suc (suc (suc (suc zero))))))) place sector o v e = placed 19 114 place sector o v e refl
+row_sets (suc (suc (suc (suc (suc (suc (suc (suc zero)))))))) place sector o v e = placed 20 82 place sector o v e refl
+row_sets (suc (suc (suc (suc (suc (suc (suc (suc (suc zero))))))))) place sector o v e = placed 21 115 place sector o v e refl
+row_sets (suc (suc (suc (suc (suc (suc (suc (suc (suc (suc zero)))))))))) place sector o v e = placed 23 117 place sector o v e refl
 row_sets (suc (suc (suc (suc (suc (suc (suc (suc (suc (suc (suc n))))))))))) place sector o v e = absurd (cc)
 
 pub no_row_sets : (row sector : ℕ) (o : PlanOptions) (v : Option (List ℕ)) → None ≡ slice_get rescue_places row

@@ -48,7 +48,7 @@ option_letters = codes "bciKnNqrRsu"
 
 -- and where a rescue's options have them, counted from 0
 abbrev pub rescue_places : List ℕ
-rescue_places = 2 ∷ 3 ∷ 8 ∷ 9 ∷ 13 ∷ 14 ∷ 16 ∷ 17 ∷ 18 ∷ 19 ∷ 21 ∷ []
+rescue_places = 2 ∷ 3 ∷ 10 ∷ 11 ∷ 15 ∷ 16 ∷ 18 ∷ 19 ∷ 20 ∷ 21 ∷ 23 ∷ []
 
 abbrev pub option_rows : List (OptionRow PlanOptions)
 option_rows = map option_row option_letters

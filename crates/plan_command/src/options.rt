@@ -18,7 +18,7 @@ pub(crate) const CLUSTER_SIZE: char = 'c';
 pub(crate) const QUIET: char = 'q';
 
 /// Which row of a rescue's options each row is, counted from 0.
-const RESCUE_PLACES: [usize; 11] = [2, 3, 8, 9, 13, 14, 16, 17, 18, 19, 21];
+const RESCUE_PLACES: [usize; 11] = [2, 3, 10, 11, 15, 16, 18, 19, 20, 21, 23];
 
 /// The options. A later one is a row here and its place above.
 pub static ROWS: [Row; 11] = [
@@ -113,6 +113,8 @@ impl PlanOptions {
                 reverse: false,
                 unidirectional: false,
                 complete_only: false,
+                fill: None,
+                generate: false,
                 loose: false,
                 forced: false,
                 quiet: false,

@@ -6,6 +6,7 @@ use Rattle.std.proofs.lemmas.Option.{same_Some}
 use Rattle.std.specs.Option.{option_map, option_and_then}
 use Rattle.std.specs.Result.{result_ok}
 use Rattle.size_suffixes.specs.Interval.{interval}
+use Rattle.block_list.specs.Types.{types_of}
 use Rattle.option_words.specs.Rows.{is_letter}
 use Rattle.option_words.specs.declared.reading.Item.{Item}
 use Rattle.option_values.specs.Values.{OptionRow, default_sector, is_given, is_name, is_of, letter_meant, number_by, options_with, set_by, set_in_turn, size_by, value_of, with_item, with_sector, within_range, word_at}
@@ -13,13 +14,9 @@ use Rattle.option_values.proofs.RowLemmas.{EachRow, letter_given, row_passes}
 use Rattle.option_values.proofs.TurnLemmas.{IsSector, sector_in_turn, turn_parts}
 use Rattle.option_values.proofs.ValueLemmas.{in_range, map_part, or_part, size_by_below, then_part}
 use Rattle.rescue_command.specs.declared.options.Options.{Options}
+use Rattle.rescue_command.specs.Command.{IsSampleSize}
 use Rattle.rescue_command.specs.Options.{area_limit_of, limit_with, no_options, option_meanings, option_rows, options_in, quiet_letter, sample_of, sector_letter, skips_of}
 use Rattle.rescue_command.proofs.SkipLemmas.{AreSkips, skips_of_are}
-
--- the KiB of a sample
-pub record IsSampleSize (kib : ℕ) : Type 0 where
-  pub low : 1 ≤ kib
-  pub high : kib ≤ 65536
 
 -- the limits of the values, but for that of a cluster in bytes, which is looked at behind all options
 pub record InRange (bytes : ℕ) (sectors : Option ℕ) (first most from : ℕ) (to : Option ℕ) (passes : ℕ) (kib : Option ℕ)
@@ -230,6 +227,12 @@ errors_keep : (s : ℕ) (o o' : Options) (m : Option ℕ) → option_map (λ n. 
 errors_keep s o o' m =
     value_keeps s o o' (λ n. record o { max_read_errors = Some n }) m (λ n. refl) (λ n p h. h) (λ n. or_false o.quiet)
 
+types_keep : (s : ℕ) (o o' : Options) (v : Option (List ℕ))
+    → option_map (λ t. record o { fill = Some t }) (option_and_then types_of v) ≡ Some o' → Keeps s o false o'
+types_keep s o o' v =
+    value_keeps s o o' (λ t. record o { fill = Some t }) (option_and_then types_of v) (λ t. refl) (λ t p h. h)
+    (λ t. or_false o.quiet)
+
 rows_keep : EachRow RowKeeps option_rows
 rows_keep = (
   (λ s o o' v. min_rate_keeps s o o' _),
@@ -246,42 +249,48 @@ rows_keep = (
             (
               (λ s o o' v. plain s o o' _ refl (λ h. h) refl),
               (
-                (λ s o o' v. name_keeps s o o' (is_name v)),
+                (λ s o o' v. types_keep s o o' v),
                 (
-                  (λ s o o' v. input_keeps s o o' v),
+                  (λ s o o' v. plain s o o' _ refl (λ h. h) refl),
                   (
-                    (λ s o o' v. skips_keep s o o' v),
+                    (λ s o o' v. name_keeps s o o' (is_name v)),
                     (
-                      (λ s o o' v. plain s o o' _ refl (λ h. h) refl),
+                      (λ s o o' v. input_keeps s o o' v),
                       (
-                        (λ s o o' v. name_keeps s o o' (is_name v)),
+                        (λ s o o' v. skips_keep s o o' v),
                         (
                           (λ s o o' v. plain s o o' _ refl (λ h. h) refl),
                           (
-                            (λ s o o' v. plain s o o' _ refl (λ h. h) refl),
+                            (λ s o o' v. name_keeps s o o' (is_name v)),
                             (
                               (λ s o o' v. plain s o o' _ refl (λ h. h) refl),
                               (
-                                (λ s o o' v. output_keeps s o o' v),
+                                (λ s o o' v. plain s o o' _ refl (λ h. h) refl),
                                 (
-                                  (λ s o o' v. flag_keeps s o o' true _ refl (λ h. h) (or_true o.quiet)),
+                                  (λ s o o' v. plain s o o' _ refl (λ h. h) refl),
                                   (
-                                    (λ s o o' v. retries_keep s o o' (number_by v)),
+                                    (λ s o o' v. output_keeps s o o' v),
                                     (
-                                      (λ s o o' v. plain s o o' _ refl (λ h. h) refl),
+                                      (λ s o o' v. flag_keeps s o o' true _ refl (λ h. h) (or_true o.quiet)),
                                       (
-                                        (λ s o o' v. length_keeps s o o' (size_by s v)),
+                                        (λ s o o' v. retries_keep s o o' (number_by v)),
                                         (
-                                          (λ s o o' v. time_keeps s o o' v),
+                                          (λ s o o' v. plain s o o' _ refl (λ h. h) refl),
                                           (
-                                            (λ s o o' v. plain s o o' _ refl (λ h. h) refl),
+                                            (λ s o o' v. length_keeps s o o' (size_by s v)),
                                             (
-                                              (λ s o o' v. plain s o o' _ refl (λ h. h) refl),
+                                              (λ s o o' v. time_keeps s o o' v),
                                               (
-                                                (λ s o o' v. errors_keep s o o' (number_by v)),
+                                                (λ s o o' v. plain s o o' _ refl (λ h. h) refl),
                                                 (
-                                                  (λ s o o' v. sample_keeps s o o' v),
-                                                  tt,
+                                                  (λ s o o' v. plain s o o' _ refl (λ h. h) refl),
+                                                  (
+                                                    (λ s o o' v. errors_keep s o o' (number_by v)),
+                                                    (
+                                                      (λ s o o' v. sample_keeps s o o' v),
+                                                      tt,
+                                                    ),
+                                                  ),
                                                 ),
                                               ),
                                             ),

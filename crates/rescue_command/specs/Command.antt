@@ -1,5 +1,6 @@
 -- What the words of a rescue ask for, or why they are refused.
-use Rattle.std.specs.Prelude.{◌≡◌, ◌↔◌, ℕ, ◌^◌, ◌<◌, ◌≤◌, Bool, true, not, ◌||◌, find, List, [], ◌∷◌, length, nat_eq, nat_lt, Option, Some, None, Result, Ok, Err, IfSome, option_map, codes, if◌then◌else◌}
+use Rattle.std.specs.Prelude.{◌≡◌, ◌↔◌, ℕ, ◌^◌, ◌<◌, ◌≤◌, Bool, true, not, ◌||◌, find, List, [], ◌∷◌, length, nat_eq, nat_lt, Option, Some, None, Result, Ok, Err, IfSome, option_map, codes, if◌then◌else◌, max, false, is_some}
+use Rattle.block_list.specs.declared.types.TypeSet.{TypeSet}
 use Rattle.option_words.specs.Words.{word}
 use Rattle.option_words.specs.declared.row.Row.{Row}
 use Rattle.option_words.specs.declared.reading.Item.{Item}
@@ -7,15 +8,15 @@ use Rattle.option_words.specs.declared.reading.Reading.{Reading}
 use Rattle.option_words.specs.declared.fault.UsageFault.{UsageFault}
 use Rattle.option_words.specs.declared.fault.UsageFault.TheVariants.{BadValue, Conflict, Operands}
 use Rattle.option_values.specs.declared.command_error.CommandError.{CommandError}
-use Rattle.option_values.specs.Values.{is_of, last_of, last_value, word_in}
+use Rattle.option_values.specs.Values.{is_given, is_of, last_of, last_value, word_in}
 pub use Rattle.option_values.specs.Values.{IsWord, empty_operand}
-use Rattle.option_values.specs.Grammar.{Grammar, AreOptionsOf, AskFor, AreRefusedBy, AskSilence, IsRefusalBy, IsErrorBy}
+use Rattle.option_values.specs.Grammar.{Grammar, AreOptionsOf, AskFor, AskForOnly, AreRefusedBy, AskSilence, IsRefusalBy, IsErrorBy}
 pub use Rattle.option_values.specs.Grammar.{Unread, Wrong, unless_empty, unread_error}
 use Rattle.rescue_command.specs.declared.options.Options.{Options}
 use Rattle.rescue_command.specs.declared.command.Command.{Command as CommandCode}
 use Rattle.rescue_command.specs.declared.command.Task.{Task as TaskCode}
-use Rattle.rescue_command.specs.declared.command.Task.TheVariants.{Rescue as RescueCode, Sample as SampleCode}
-use Rattle.rescue_command.specs.Options.{cluster_letter, cluster_limit, cluster_of, domain_letter, in_sectors, no_options, option_meanings, options_in, quiet_letter, sample_place, sectors_of, test_letter}
+use Rattle.rescue_command.specs.declared.command.Task.TheVariants.{Rescue as RescueCode, Fill as FillCode, Generate as GenerateCode, Sample as SampleCode}
+use Rattle.rescue_command.specs.Options.{cluster_letter, cluster_limit, cluster_of, domain_letter, fill_letter, generate_letter, in_sectors, no_options, option_meanings, options_in, quiet_letter, sample_place, sectors_of, test_letter}
 
 -- the names of the infile, the outfile and, if there is one, the mapfile; of the map of what is to be rescued and of
 -- the map of what may be read, if they are named; and what the options say
@@ -27,9 +28,15 @@ pub record Command : Type 0 where
   pub test_map : Option (List ℕ)
   pub options : Options
 
--- what words ask for: a rescue, or the rescue of a sample of so many KiB, of which nothing is said if `quiet`
+-- what words ask for
 pub data Task : Type 0 where
+  -- a rescue
   Rescue : Command → Task
+  -- that a pattern be written over what has one of these statuses in the mapfile
+  Fill : (types : TypeSet) → Command → Task
+  -- that the mapfile be made from what the outfile holds
+  Generate : Command → Task
+  -- the rescue of a sample of so many KiB, of which nothing is said if `quiet`
   Sample : (kib : ℕ) → (quiet : Bool) → Task
 
 -- the same of what the code hands on
@@ -45,6 +52,8 @@ told_by c = record {
 
 abbrev pub task_by : TaskCode → Task
 task_by (RescueCode c) = Rescue (told_by c)
+task_by (FillCode types c) = Fill types (told_by c)
+task_by (GenerateCode c) = Generate (told_by c)
 task_by (SampleCode kib quiet) = Sample kib quiet
 
 -- What the rescue of a sample is: that of the words `-r 1 in out map`.
@@ -69,13 +78,61 @@ maps_in words items = record {
   test = last_value option_meanings words test_letter items;
 }
 
--- The files of two operands or three; another number is refused, and so are two where the mapfile says what is to be
--- rescued.
+-- ---- options that don't go together
+
+-- the word of the first option of a letter, if it is given
+abbrev pub first_word : (letter : ℕ) → List Item → Option ℕ
+first_word letter items = option_map (λ i. i.word) (find (is_of option_meanings letter) items)
+
+-- the later one of two words, if there are two
+abbrev pub later_word : Option ℕ → Option ℕ → Option ℕ
+later_word None other = None
+later_word (Some n) None = None
+later_word (Some n) (Some k) = Some (max n k)
+
+-- One mode goes with no other: the word of the one that comes later for the first time.
+abbrev pub modes_conflict : List Item → Option ℕ
+modes_conflict items = later_word (first_word fill_letter items) (first_word generate_letter items)
+
+-- a mode is given
+abbrev pub is_mode_given : List Item → Bool
+is_mode_given items = is_given option_meanings fill_letter items || is_given option_meanings generate_letter items
+
+-- A test map goes with neither: the word of the first one.
+abbrev pub test_conflict : List Item → Option ℕ
+test_conflict items = if is_mode_given items then first_word test_letter items else None
+
+-- the options that go with a sample: that of a sample, and the one that asks that nothing be said
+abbrev pub goes_with_sample : Item → Bool
+goes_with_sample i = nat_eq i.row sample_place || is_of option_meanings quiet_letter i
+
+-- the word of the first option that doesn't
+abbrev pub sample_conflict : List Item → Option ℕ
+sample_conflict items = option_map (λ i. i.word) (find (λ i. not (goes_with_sample i)) items)
+
+-- the first of two words that there is
+abbrev pub first_found : Option ℕ → Option ℕ → Option ℕ
+first_found (Some n) other = Some n
+first_found None other = other
+
+-- the word of an option that doesn't go with others, if there is one: modes come first, then a test map, then a sample
+abbrev pub conflict_in : (sampled : Bool) → List Item → Option ℕ
+conflict_in sampled items =
+    first_found (modes_conflict items)
+    (first_found (test_conflict items) (if sampled then sample_conflict items else None))
+
+-- ---- operands, and what is asked for
+
+-- A mapfile is wanted where it says what is to be rescued, filled or generated.
+abbrev pub wants_mapfile : Options → Bool
+wants_mapfile o = (o.complete_only || is_some o.fill) || o.generate
+
+-- The files of two operands or three; another number is refused, and so are two where a mapfile is wanted.
 abbrev pub command_with : List (List ℕ) → MapOptions → Options → (operands : List ℕ) → Result Command UsageFault
 command_with words m o [] = Err (Operands 0)
 command_with words m o (i ∷ []) = Err (Operands 1)
 command_with words m o (i ∷ out ∷ []) =
-    if o.complete_only then Err (Operands 2)
+    if wants_mapfile o then Err (Operands 2)
     else Ok (record {
       infile = word words i;
       outfile = word words out;
@@ -95,30 +152,31 @@ command_with words m o (i ∷ out ∷ map ∷ []) =
     })
 command_with words m o (i ∷ out ∷ map ∷ n ∷ more) = Err (Operands (length (i ∷ out ∷ map ∷ n ∷ more)))
 
-abbrev pub rescue_task : Result Command UsageFault → Result Task UsageFault
-rescue_task (Ok c) = Ok (Rescue c)
-rescue_task (Err fault) = Err fault
+-- what files are for, by the mode that options give, if they give one
+abbrev pub mode_task : (fill : Option TypeSet) → (generates : Bool) → Command → Task
+mode_task (Some types) generates c = Fill types c
+mode_task None true c = Generate c
+mode_task None false c = Rescue c
 
--- the options that go with a sample: that of a sample, and the one that asks that nothing be said
-abbrev pub goes_with_sample : Item → Bool
-goes_with_sample i = nat_eq i.row sample_place || is_of option_meanings quiet_letter i
+abbrev pub files_task : Options → Result Command UsageFault → Result Task UsageFault
+files_task o (Ok c) = Ok (mode_task o.fill o.generate c)
+files_task o (Err fault) = Err fault
 
--- the word of the first option that doesn't
-abbrev pub sample_conflict : List Item → Option ℕ
-sample_conflict items = option_map (λ i. i.word) (find (λ i. not (goes_with_sample i)) items)
-
--- A sample goes with no other options and with no operand.
-abbrev pub sample_task : (kib : ℕ) → (quiet : Bool) → (conflict : Option ℕ) → (operands : List ℕ)
-    → Result Task UsageFault
-sample_task kib quiet (Some n) operands = Err (Conflict n)
-sample_task kib quiet None [] = Ok (Sample kib quiet)
-sample_task kib quiet None (n ∷ more) = Err (Operands (length (n ∷ more)))
+-- A sample goes with no operand.
+abbrev pub sample_task : (kib : ℕ) → (quiet : Bool) → (operands : List ℕ) → Result Task UsageFault
+sample_task kib quiet [] = Ok (Sample kib quiet)
+sample_task kib quiet (n ∷ more) = Err (Operands (length (n ∷ more)))
 
 -- what options ask for, by the sample that they give, if they give one
 abbrev pub task_with : List (List ℕ) → List Item → Options → (sample : Option ℕ) → (operands : List ℕ)
     → Result Task UsageFault
-task_with words items o None operands = rescue_task (command_with words (maps_in words items) o operands)
-task_with words items o (Some kib) operands = sample_task kib o.quiet (sample_conflict items) operands
+task_with words items o None operands = files_task o (command_with words (maps_in words items) o operands)
+task_with words items o (Some kib) operands = sample_task kib o.quiet operands
+
+-- unless an option doesn't go with others
+abbrev pub unless_conflict : Option ℕ → Result Task UsageFault → Result Task UsageFault
+unless_conflict (Some n) r = Err (Conflict n)
+unless_conflict None r = r
 
 -- options that give a cluster that is too large
 abbrev pub is_too_large : Options → Bool
@@ -129,12 +187,13 @@ abbrev pub cluster_word : List Item → ℕ
 cluster_word items = word_in (last_of option_meanings cluster_letter items)
 
 -- What a reading of the words asks for, or its first fault: a bad value, then a cluster that is too large, then an
--- option that doesn't go with a sample, then the operands.
+-- option that doesn't go with others, then the operands.
 abbrev pub task_from : List (List ℕ) → List Item → Result Options ℕ → (operands : List ℕ) → Result Task UsageFault
 task_from words items (Err n) operands = Err (BadValue n)
 task_from words items (Ok o) operands =
     if is_too_large o then Err (BadValue (cluster_word items))
-    else unless_empty (empty_operand words operands) (task_with words items o o.sample operands)
+    else unless_empty (empty_operand words operands)
+    (unless_conflict (conflict_in (is_some o.sample) items) (task_with words items o o.sample operands))
 
 abbrev pub task_in : List (List ℕ) → List Item → (operands : List ℕ) → Result Task UsageFault
 task_in words items operands = task_from words items (options_in words items) operands
@@ -151,13 +210,17 @@ rescue_grammar = record { options = option_meanings; quiet = quiet_letter; asked
 abbrev pub AreOptions : List Row → Type 0
 AreOptions rows = AreOptionsOf rescue_grammar rows
 
--- the words ask for this rescue
-abbrev pub Asks : List (List ℕ) → Command → Type 0
-Asks words c = AskFor rescue_grammar words (Rescue c)
+-- the words ask for this
+abbrev pub AskTask : List (List ℕ) → Task → Type 0
+AskTask words task = AskFor rescue_grammar words task
 
--- they ask for the rescue of a sample of so many KiB
+-- for this rescue
+abbrev pub Asks : List (List ℕ) → Command → Type 0
+Asks words c = AskTask words (Rescue c)
+
+-- for the rescue of a sample of so many KiB
 abbrev pub AskSample : List (List ℕ) → (kib : ℕ) → (quiet : Bool) → Type 0
-AskSample words kib quiet = AskFor rescue_grammar words (Sample kib quiet)
+AskSample words kib quiet = AskTask words (Sample kib quiet)
 
 -- they are refused for this fault
 abbrev pub AreRefused : List (List ℕ) → UsageFault → Type 0
@@ -179,29 +242,38 @@ pub record AreInLimits (o : Options) : Type 0 where
   pub output_position : IfSome o.output_position (λ n. n < 2 ^ 63)
   pub retries : o.retries ≤ 65535
 
--- this is what the words ask for, and nothing else; with options within their limits
-pub record IsAsked (words : List (List ℕ)) (c : Command) : Type 0 where
-  pub asks : Asks words c
-  pub alone : (other : Command) → Asks words other → other ≡ c
-  pub unsampled : (kib : ℕ) (quiet : Bool) → AskSample words kib quiet → ⊥
-  pub accepted : (fault : UsageFault) → AreRefused words fault → ⊥
-  pub limits : AreInLimits c.options
-  pub quiet : AskQuiet words ↔ (c.options.quiet ≡ true)
+-- a task asks that nothing be said
+abbrev pub is_quiet : Task → Bool
+is_quiet (Rescue c) = c.options.quiet
+is_quiet (Fill types c) = c.options.quiet
+is_quiet (Generate c) = c.options.quiet
+is_quiet (Sample kib quiet) = quiet
 
--- such a sample is what they ask for, and nothing else
-pub record IsSampleAsked (words : List (List ℕ)) (kib : ℕ) (quiet : Bool) : Type 0 where
-  pub asks : AskSample words kib quiet
-  pub alone : (other : ℕ) (silent : Bool) → AskSample words other silent → other ≡ kib
-  pub unrescued : (c : Command) → Asks words c → ⊥
-  pub accepted : (fault : UsageFault) → AreRefused words fault → ⊥
+-- options within their limits, with a mapfile
+pub record HasMapfile (c : Command) : Type 0 where
+  pub limits : AreInLimits c.options
+  pub named : is_some c.mapfile ≡ true
+
+-- the size of a sample in KiB
+pub record IsSampleSize (kib : ℕ) : Type 0 where
   pub low : 1 ≤ kib
   pub high : kib ≤ 65536
-  pub quiet_is : AskQuiet words ↔ (quiet ≡ true)
 
--- this is what they ask for, as the code hands it on
+-- a task within its limits, with a mapfile where one is wanted
+abbrev pub IsInLimits : Task → Type 0
+IsInLimits (Rescue c) = AreInLimits c.options
+IsInLimits (Fill types c) = HasMapfile c
+IsInLimits (Generate c) = HasMapfile c
+IsInLimits (Sample kib quiet) = IsSampleSize kib
+
+-- this is what the words ask for, and nothing else
+pub record IsAsked (words : List (List ℕ)) (task : Task) : Type 0 where
+  pub only : AskForOnly rescue_grammar words task (is_quiet task)
+  pub limits : IsInLimits task
+
+-- the same of what the code hands on
 abbrev pub IsTask : List (List ℕ) → TaskCode → Type 0
-IsTask words (RescueCode c) = IsAsked words (told_by c)
-IsTask words (SampleCode kib quiet) = IsSampleAsked words kib quiet
+IsTask words task = IsAsked words (task_by task)
 
 -- they are refused for this fault, and ask for nothing; `quiet` says whether they ask that nothing be said
 abbrev pub IsRefusal : List (List ℕ) → UsageFault → (quiet : Bool) → Type 0

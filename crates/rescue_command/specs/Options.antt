@@ -3,6 +3,7 @@ use Rattle.std.specs.Prelude.{ℕ, ◌+◌, ◌-◌, ◌*◌, ◌/◌, ◌^◌, 
 use Rattle.std.specs.Result.{result_ok}
 use Rattle.size_suffixes.specs.Number.{number}
 use Rattle.size_suffixes.specs.Interval.{interval}
+use Rattle.block_list.specs.Types.{types_of}
 use Rattle.option_words.specs.declared.row.Takes.TheVariants.{Never, Always}
 use Rattle.option_words.specs.declared.reading.Item.{Item}
 use Rattle.option_values.specs.Values.{Meaning, OptionRow, is_empty_text, is_name, meanings_of, number_by, size_by, within_range}
@@ -100,12 +101,19 @@ abbrev pub valued : (letter : ℕ) → List ℕ → (ℕ → Options → Option 
 valued letter name sets = record { letter = Some letter; name = name; takes = Always; sets = sets }
 
 -- The letters of options that are looked at by themselves. The size of a sector (`-b`) is set before all others, the
--- size of a cluster (`-c`) is looked at again behind all, `-H` and `-m` name maps, and `-q` asks that nothing be said.
+-- size of a cluster (`-c`) is looked at again behind all, `-F` and `-G` are modes, which don't go together and not with
+-- `-H`; `-H` and `-m` name maps, and `-q` asks that nothing be said.
 abbrev pub sector_letter : ℕ
 sector_letter = 98
 
 abbrev pub cluster_letter : ℕ
 cluster_letter = 99
+
+abbrev pub fill_letter : ℕ
+fill_letter = 70
+
+abbrev pub generate_letter : ℕ
+generate_letter = 71
 
 abbrev pub test_letter : ℕ
 test_letter = 72
@@ -131,6 +139,9 @@ lettered_rows =
     (λ sector o value. option_map (λ (k : Bool × Option ℕ). record o { new_areas = k.0; max_bad_areas = k.1 })
     (option_and_then area_limit_of value))
     ∷ flag 102 (codes "force") (λ o. record o { forced = true })
+    ∷ valued fill_letter (codes "fill-mode") (λ sector o value. option_map (λ t. record o { fill = Some t })
+    (option_and_then types_of value))
+    ∷ flag generate_letter (codes "generate-mode") (λ o. record o { generate = true })
     ∷ valued test_letter (codes "test-mode") (λ sector o value. if is_name value then Some o else None)
     ∷ valued 105 (codes "input-position") (λ sector o value. option_map (λ n. record o { input_position = n })
     (size_by sector value))
@@ -205,6 +216,8 @@ no_options sector = record {
   reverse = false;
   unidirectional = false;
   complete_only = false;
+  fill = None;
+  generate = false;
   loose = false;
   forced = false;
   quiet = false;

@@ -4,9 +4,10 @@ ghost use Rattle.std.specs.Result.{result_ok};
 ghost use Rattle.size_suffixes.specs.Interval.{interval};
 ghost use Rattle.option_values.specs.Values.{number_by, row_of, set_by, size_by, within_range};
 ghost use Rattle.rescue_command.specs.Options.{area_limit_of, cluster_of, in_sectors, lettered_rows, limit_with, no_options, option_rows, sample_of, sample_row, sectors_of, skips_of};
-ghost use Rattle.rescue_command.specs.Command.{AreInLimits, AreOptions, is_too_large};
+ghost use Rattle.rescue_command.specs.Command.{AreInLimits, AreOptions, is_too_large, wants_mapfile};
 
 use crate::skips::{DEFAULT_SKIP, DEFAULT_SKIP_MAX, in_sectors, read_skips};
+use block_list::types::TypeSet;
 use option_values::given::letter_of;
 use option_values::settings::Settings;
 use option_values::values::{is_name, number_by, size_by, within_range};
@@ -33,6 +34,12 @@ pub(crate) const SECTOR_SIZE: char = 'b';
 /// The letter of the one that gives the size of a cluster.
 pub(crate) const CLUSTER_SIZE: char = 'c';
 
+/// The letter of the one that gives the statuses that are filled.
+pub(crate) const FILL_MODE: char = 'F';
+
+/// The letter of the one that asks for generate mode.
+pub(crate) const GENERATE_MODE: char = 'G';
+
 /// The letter of the one that names the map of what can be read.
 pub(crate) const TEST_MODE: char = 'H';
 
@@ -43,13 +50,13 @@ pub(crate) const DOMAIN_MAPFILE: char = 'm';
 pub(crate) const QUIET: char = 'q';
 
 /// The row of the option that has no letter, counted from 0: the size of a sample.
-pub(crate) const SAMPLE: usize = 24;
+pub(crate) const SAMPLE: usize = 26;
 
 /// The most KiB of a sample.
 const MOST_SAMPLE: u64 = 65_536;
 
 /// The options. A later one is a row here, in front of the last, and an arm in `with_letter`.
-pub static ROWS: [Row; 25] = [
+pub static ROWS: [Row; 27] = [
     Row {
         short: Some('a'),
         long: "min-read-rate",
@@ -83,6 +90,16 @@ pub static ROWS: [Row; 25] = [
     Row {
         short: Some('f'),
         long: "force",
+        takes: Takes::Never,
+    },
+    Row {
+        short: Some('F'),
+        long: "fill-mode",
+        takes: Takes::Always,
+    },
+    Row {
+        short: Some('G'),
+        long: "generate-mode",
         takes: Takes::Never,
     },
     Row {
@@ -223,6 +240,10 @@ pub struct Options {
     pub unidirectional: bool,
     /// Only what the mapfile lists is rescued; by default what it leaves out is too.
     pub complete_only: bool,
+    /// A pattern is written over what has one of these statuses in the mapfile; nothing is if it isn't given.
+    pub fill: Option<TypeSet>,
+    /// The mapfile is made from what the outfile holds; by default it isn't.
+    pub generate: bool,
     /// The map of what is to be rescued may have gaps; by default it may not.
     pub loose: bool,
     /// The outfile may be something else than a regular file; by default it may not.
@@ -261,6 +282,8 @@ impl Options {
             reverse: false,
             unidirectional: false,
             complete_only: false,
+            fill: None,
+            generate: false,
             loose: false,
             forced: false,
             quiet: false,
@@ -286,6 +309,13 @@ impl Options {
         ensures { result ≡ is_too_large self.now }
     {
         self.sectors().saturating_mul(self.sector) > MOST_CLUSTER
+    }
+
+    /// Whether a mapfile is wanted: it says what is to be rescued, filled or generated.
+    pub(crate) fn wants_mapfile(&self) -> bool
+        ensures { result ≡ wants_mapfile self.now }
+    {
+        self.complete_only || self.fill.is_some() || self.generate
     }
 
     /// The size of a cluster in bytes.
@@ -429,6 +459,8 @@ fn with_letter(options: Options, sector: u64, letter: char, value: Option<&str>)
         'C' => complete_only = true;
         'e' => new_areas, max_bad_areas = read_area_limit(value?)?;
         'f' => forced = true;
+        'F' => fill = Some(TypeSet::read(value?)?);
+        'G' => generate = true;
         'i' => input_position = size?;
         'K' => skip, skip_max = read_skips(sector, value?)?;
         'L' => loose = true;

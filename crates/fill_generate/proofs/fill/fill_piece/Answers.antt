@@ -25,7 +25,7 @@ returns-in-Err-clause-ends g c types is =
           (lost_write s types buffer p.pos p.len ∙ ap (λ place. image_write place (take p.len buffer)) (rw c.place_of-place.ensures refl))
           refl refl (breaks_one _ _ _ c.in-Err.ensures.lost c.in-Err.ensures.rose);
       no_draft = tt;
-      closes = tt;
+      draft_left = c.image_write.ensures.draft ∙ c.requires.no_draft;
       objects = record {
         site = c.image_write.ensures.keeps;
         image = c.image_write.ensures.image ∙ c.requires.image;
@@ -46,7 +46,7 @@ returns-in-Ok-clause-ends g c types is =
     (λ t. refl)
     (λ t. subst (λ place. Makes (image_write place (take p.len buffer) ∷ []) before written) c.place_of-place.ensures
     (makes_one _ before written c.in-Ok.ensures.done c.in-Ok.ensures.kept))
-    c.end_piece.ensures.ends c.end_piece.ensures.draft c.end_piece.ensures.closes (record {
+    c.end_piece.ensures.ends c.end_piece.ensures.draft c.end_piece.ensures.draft_left (record {
       site = keeps_more _ _ _ c.image_write.ensures.keeps c.end_piece.ensures.site;
       image = c.end_piece.ensures.image ∙ c.image_write.ensures.image ∙ c.requires.image;
       clock = c.end_piece.ensures.clock;

@@ -2,6 +2,7 @@ use Rattle.std.proofs.Common.{refl, sym, ap, ◌∙◌}
 use Rattle.save_resume.proofs.FillLemmas.{keeps_more}
 use Rattle.sweep_rules.specs.Sweep.{filler}
 use Rattle.fill_generate.specs.SweepState.{SweepState, setting_for}
+use Rattle.fill_generate.proofs.DraftLemmas.{may_close, left_whole, left_stopped}
 use Rattle.fill_generate.proofs.EndLemmas.{fill_whole, fill_stopped}
 use Rattle.fill_generate.proofs.fill.run_fill.Goals as goal
 
@@ -75,7 +76,7 @@ close-requires-in-Err g c =
     let begun = c.begin-sweeping.ensures (filler s c.args.types c.args.buffer.now) (record { takes = λ status. refl; current = refl }) in
     let p = c.in-Err.ensures c.args.types
     (ap (λ (q : SweepState). q.mode) begun) in
-    record { no_draft = p.closes }
+    record { no_draft = may_close c.in-Err.stop _ p.draft_left }
 
 pub returns-in-Err-clause-site : goal.returns-in-Err-clause-site
 returns-in-Err-clause-site g c =
@@ -103,3 +104,15 @@ returns-in-Err-clause-clock g c =
     let p = c.in-Err.ensures c.args.types
     (ap (λ (q : SweepState). q.mode) begun) in
     p.objects.clock
+
+pub returns-in-Ok-clause-draft : goal.returns-in-Ok-clause-draft
+returns-in-Ok-clause-draft g c = left_whole _ _ _ _ _ c.close.ensures.closes
+
+pub returns-in-Err-clause-draft : goal.returns-in-Err-clause-draft
+returns-in-Err-clause-draft g c =
+    let job = c.args.job in
+    let s = setting_for job.settings job.domain job.names job.heading.line in
+    let begun = c.begin-sweeping.ensures (filler s c.args.types c.args.buffer.now) (record { takes = λ status. refl; current = refl }) in
+    let p = c.in-Err.ensures c.args.types
+    (ap (λ (q : SweepState). q.mode) begun) in
+    left_stopped _ _ c.in-Err.stop _ _ _ p.draft_left c.close-in-Err.ensures.closes

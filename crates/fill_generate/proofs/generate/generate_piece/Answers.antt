@@ -10,7 +10,7 @@ returns-clause-ends g c =
     looks c.args.sweeping.now c.look_up.new.self c.end_piece.new.self c.args.piece c.end_piece.result _ _ _ _ _ _ _
     c.requires.generates c.requires.found c.in_ok-look_up.ensures.looked c.in_ok-look_up.ensures.site c.end_piece.ensures.site
     c.end_piece.ensures.image c.requires.image c.end_piece.ensures.clock c.end_piece.ensures.ends c.end_piece.ensures.draft
-    c.end_piece.ensures.closes
+    c.end_piece.ensures.draft_left
 
 pub returns-in_err-look_up-clause-ends : goal.returns-in_err-look_up-clause-ends
 returns-in_err-look_up-clause-ends g c =

@@ -2,6 +2,7 @@ use Rattle.std.proofs.Common.{refl, sym, ap, ◌∙◌}
 use Rattle.save_resume.proofs.FillLemmas.{keeps_more}
 use Rattle.sweep_rules.specs.Sweep.{generator}
 use Rattle.fill_generate.specs.SweepState.{SweepState, setting_for}
+use Rattle.fill_generate.proofs.DraftLemmas.{may_close, left_whole, left_stopped}
 use Rattle.fill_generate.proofs.EndLemmas.{looked_whole, looked_stopped}
 use Rattle.fill_generate.proofs.generate.run_generate.Goals as goal
 
@@ -58,7 +59,7 @@ returns-in-Err-clause-sweeps g c =
 pub close-requires-in-Err : goal.close-requires-in-Err
 close-requires-in-Err g c =
     let p = c.in-Err.ensures in
-    record { no_draft = p.closes }
+    record { no_draft = may_close c.in-Err.stop _ p.draft_left }
 
 pub returns-in-Err-clause-site : goal.returns-in-Err-clause-site
 returns-in-Err-clause-site g c =
@@ -74,3 +75,10 @@ pub returns-in-Err-clause-clock : goal.returns-in-Err-clause-clock
 returns-in-Err-clause-clock g c =
     let p = c.in-Err.ensures in
     p.objects.clock
+
+pub returns-in-Ok-clause-draft : goal.returns-in-Ok-clause-draft
+returns-in-Ok-clause-draft g c = left_whole _ _ _ _ _ c.close.ensures.closes
+
+pub returns-in-Err-clause-draft : goal.returns-in-Err-clause-draft
+returns-in-Err-clause-draft g c =
+    left_stopped _ _ c.in-Err.stop _ _ _ c.in-Err.ensures.draft_left c.close-in-Err.ensures.closes

@@ -14,4 +14,5 @@ returns-in-Err-clause-ends g c =
     ends_broken c.in-Err.fault.call c.args.piece c.args.written c.now_ms-after.result c.pass-due.result.line
     c.pass-due.result.save c.args.self.now c.pass-due.new.self c.say_due.new.self c.save_due.new.self _ _ _ _ _ _
     c.now_ms-after.ensures.told (omega arith) c.pass-due.ensures.moved c.pass-due.ensures.line c.pass-due.ensures.save
-    c.say_due.ensures.stands c.say_due.ensures.says c.in-Err.ensures.stands c.in-Err.ensures.call.broke
+    c.say_due.ensures.stands c.say_due.ensures.says c.in-Err.ensures.stands c.in-Err.ensures.call.named
+    c.in-Err.ensures.call.broke

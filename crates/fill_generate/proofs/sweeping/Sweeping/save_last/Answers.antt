@@ -9,4 +9,4 @@ returns-in-Ok-clause-saves g c =
 pub returns-clause-saves : goal.returns-clause-saves
 returns-clause-saves g c =
     saves_broken c.args.stop c.args.self c.last_shown-shown.result c.in-Err.fault _ _
-    (shows_as c.args.stop _ _ _ c.last.view_is c.last_shown-shown.ensures) c.in-Err.ensures.call
+    c.requires.no_draft (shows_as c.args.stop _ _ _ c.last.view_is c.last_shown-shown.ensures) c.in-Err.ensures.call

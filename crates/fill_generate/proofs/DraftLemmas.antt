@@ -1,0 +1,40 @@
+-- Whether a draft is left begun behind a sweep.
+use Rattle.std.proofs.Common.{◌≡◌, false, Option, Some, None, refl, sym, ap, ◌∙◌}
+use Rattle.crash_site.specs.SiteState.{SiteState}
+use Rattle.rescue_rules.specs.declared.stop.Stop.{Stop}
+use Rattle.rescue_rules.specs.declared.stop.Stop.TheVariants.{SourceLost, Site, LimitMet, NoMemory}
+use Rattle.rescue_rules.specs.declared.stop.RunEnd.{RunEnd}
+use Rattle.rescue_rules.specs.Setting.{Setting}
+use Rattle.rescue_rules.specs.Work.{end_of}
+use Rattle.rescue_core.specs.Closing.{MayClose, drafting_after}
+use Rattle.sweep_rules.specs.Sweep.{Sweep}
+use Rattle.fill_generate.specs.Sweeping.{drafting_behind}
+use Rattle.fill_generate.specs.Steps.{SavesLast, LastSaved, LastFailed, ClosesFiles}
+
+-- behind a stop the last calls may be made
+pub may_close : (stop : Stop) (site : SiteState) → site.is_drafting ≡ drafting_after stop → MayClose (Some stop) site
+may_close SourceLost site left = left
+may_close (Site call) site left = tt
+may_close (LimitMet limit) site left = left
+may_close NoMemory site left = left
+
+left_last : (s : Setting) (m : Sweep) (stop : Option Stop) (end : RunEnd) (site site' : SiteState)
+    → drafting_behind (end_of stop) ≡ false → SavesLast s m stop end site site' → site'.is_drafting ≡ drafting_behind end
+left_last s m stop end site site' none (LastSaved is makes draft) = draft ∙ sym none ∙ ap drafting_behind (sym is)
+left_last s m stop end site site' none (LastFailed call is named breaks left) = left ∙ ap drafting_behind (sym is)
+
+-- no piece was left
+pub left_whole : (s : Setting) (m : Sweep) (end : RunEnd) (site site' : SiteState) → ClosesFiles s m None end site site'
+    → site'.is_drafting ≡ drafting_behind end
+left_whole s m end site site' closes = left_last s m None end site site' refl closes
+
+-- it stopped
+pub left_stopped : (s : Setting) (m : Sweep) (stop : Stop) (end : RunEnd) (site site' : SiteState)
+    → site.is_drafting ≡ drafting_after stop → ClosesFiles s m (Some stop) end site site'
+    → site'.is_drafting ≡ drafting_behind end
+left_stopped s m SourceLost end site site' left closes = left_last s m (Some SourceLost) end site site' refl closes
+left_stopped s m (Site call) end site site' left (is, same) =
+    ap (λ (d : SiteState). d.is_drafting) same ∙ left ∙ ap drafting_behind (sym is)
+left_stopped s m (LimitMet limit) end site site' left closes =
+    left_last s m (Some (LimitMet limit)) end site site' refl closes
+left_stopped s m NoMemory end site site' left closes = left_last s m (Some NoMemory) end site site' refl closes
