@@ -4,6 +4,7 @@ use Rattle.std.specs.Prelude.{count_by}
 use Rattle.std.specs.List.{range_with_len}
 use Rattle.std.proofs.lemmas.Bool.{cases_lt, cases_Bool, le-leb, lt-ltb, le-ltb, lt-leb, and_from, and_left, and_right, or_from, or_left, false_from_ne_true}
 use Rattle.std.proofs.lemmas.List.Sums.{sum_by-cons}
+use Rattle.std.proofs.Math.Bool.{and-true}
 use Rattle.block_list.specs.Areas.{begins_area, AreApart, holds_one, AreasAreIntervals, AreasChangeWithin}
 
 -- runs of a set from a place on, the place below which isn't of the set
@@ -34,12 +35,8 @@ begins_next set a =
     let s : suc a ≡ a + 1 = omega arith in
     subst (λ (y : ℕ). begins_area set y ≡ (set y && not (set a))) s refl
 
-and_true : (b : Bool) → (b && true) ≡ b
-and_true true = refl
-and_true false = refl
-
 next_out : (set : ℕ → Bool) (a : ℕ) → set a ≡ false → begins_area set (a + 1) ≡ set (a + 1)
-next_out set a f = begins_next set a ∙ ap (λ b. set (a + 1) && not b) f ∙ and_true (set (a + 1))
+next_out set a f = begins_next set a ∙ ap (λ b. set (a + 1) && not b) f ∙ and-true (set (a + 1))
 
 next_in : (set : ℕ → Bool) (a : ℕ) → set a ≡ true → begins_area set (a + 1) ≡ false
 next_in set a t = begins_next set a ∙ ap (λ b. set (a + 1) && not b) t ∙ and_right (set (a + 1)) false refl
@@ -157,7 +154,7 @@ areas_are_intervals set end bound =
     (o.runs, o.are, (λ x. o.above x (omega arith)), o.count)
 
 -- counts over ranges
-count_same : (f g : ℕ → Bool) (n a : ℕ) → ((x : ℕ) → a ≤ x → x < a + n → f x ≡ g x)
+pub count_same : (f g : ℕ → Bool) (n a : ℕ) → ((x : ℕ) → a ≤ x → x < a + n → f x ≡ g x)
     → count_by f (range_with_len a n) ≡ count_by g (range_with_len a n)
 count_same f g zero a same = refl
 count_same f g (suc n) a same =
@@ -165,7 +162,7 @@ count_same f g (suc n) a same =
     let here : weight (f a) ≡ weight (g a) = ap weight (same a (omega arith) (omega arith)) in
     omega (arith, count_at f a n, count_at g a n, rest, here)
 
-count_split : (f : ℕ → Bool) (m a n k b : ℕ) → k ≡ m + n → b ≡ a + m
+pub count_split : (f : ℕ → Bool) (m a n k b : ℕ) → k ≡ m + n → b ≡ a + m
     → count_by f (range_with_len a k) ≡ count_by f (range_with_len a m) + count_by f (range_with_len b n)
 count_split f zero a n k b all at =
     let e : k ≡ n = omega (arith, all) in let d : b ≡ a = omega (arith, at) in rw (e, d) (omega arith)

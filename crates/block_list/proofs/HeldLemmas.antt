@@ -13,7 +13,7 @@ use Rattle.block_list.specs.Tiling.{AreTiles}
 use Rattle.block_list.proofs.ApartLemmas.{IsOther}
 use Rattle.block_list.proofs.StretchLemmas.{first_stretch, stretches_tiles, are_stretches}
 
-slice_get-drop : {A : Type 0} (n : ℕ) (xs : List A) (k : ℕ) → slice_get (drop n xs) k ≡ slice_get xs (n + k)
+pub slice_get-drop : {A : Type 0} (n : ℕ) (xs : List A) (k : ℕ) → slice_get (drop n xs) k ≡ slice_get xs (n + k)
 slice_get-drop zero xs k = ap (λ i. slice_get xs i) (sym (zero-add k))
 slice_get-drop (suc n) [] k = refl
 slice_get-drop (suc n) (x ∷ xs) k =

@@ -7,12 +7,12 @@ use Rattle.block_list.specs.declared.status.Status.TheVariants.{NonTried}
 use Rattle.block_list.specs.Map.{Has}
 use Rattle.faulty_source.specs.Ends.{is_before}
 use Rattle.rescue_rules.specs.declared.phase.Phase.{Phase}
-use Rattle.rescue_rules.specs.declared.phase.Phase.TheVariants.{Copying, Trimming, Scraping, Retrying}
+use Rattle.rescue_rules.specs.declared.phase.Phase.TheVariants.{Copying}
 use Rattle.rescue_rules.specs.declared.stop.TrimMode.TheVariants.{Lead}
 use Rattle.rescue_rules.specs.Setting.{Setting, IsSensible}
 use Rattle.rescue_rules.specs.Passes.{taken}
 use Rattle.rescue_rules.specs.Machine.{Machine, pass_of}
-use Rattle.rescue_rules.specs.Step.{Event, copies, trims, is_copying}
+use Rattle.rescue_rules.specs.Step.{Event, trims, is_copying}
 use Rattle.rescue_rules.specs.Moves.{Move, move_of, moves, ready, IsMove, IsRun}
 use Rattle.rescue_rules.specs.MachineLaws.{IsInOrder, StepsBy, AsksFor}
 use Rattle.rescue_rules.proofs.MoveLemmas.{run_first, run_rest}
@@ -20,14 +20,9 @@ use Rattle.rescue_rules.proofs.OverLemmas.{before_was, wanted_before}
 use Rattle.rescue_rules.proofs.ReadyLemmas.{order_ready, stays_ready}
 use Rattle.rescue_rules.proofs.StatusLemmas.{non_tried_stood, wanted_taken}
 use Rattle.rescue_rules.proofs.StepLemmas.{move_steps}
+use Rattle.rescue_core.proofs.StageLemmas.{copies_is}
 use Rattle.copy_passes.specs.Laws.{CopyingAsksOnce}
 use Rattle.copy_passes.proofs.TriedLemmas.{untried}
-
-copies_is : (phase : Phase) → copies phase ≡ true → phase ≡ Copying
-copies_is Copying is = refl
-copies_is Trimming is = absurd (cc)
-copies_is Scraping is = absurd (cc)
-copies_is Retrying is = absurd (cc)
 
 -- what an event of a run does, from the state that is ready for it
 steps : (s : Setting) (m : Machine) (e : Event) → IsSensible s → IsInOrder s m → IsMove s (move_of s m e)

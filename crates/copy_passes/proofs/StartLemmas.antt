@@ -1,5 +1,5 @@
 -- A run at its start may go on with copying.
-use Rattle.std.proofs.Common.{◌≡◌, ℕ, ◌≤◌, min, nat_eq, List, length, Option, Some, None, refl, sym, ap, ◌∙◌, arith}
+use Rattle.std.proofs.Common.{◌≡◌, ℕ, min, nat_eq, List, length, Option, Some, None, refl, sym, ap, ◌∙◌, arith}
 use Rattle.std.proofs.lemmas.Bool.{cond-true, eq-eqb}
 use Rattle.block_list.specs.declared.status.Status.{Status}
 use Rattle.mapfile_text.specs.declared.state.MapState.{MapState}
@@ -8,14 +8,11 @@ use Rattle.rescue_rules.specs.Setting.{Setting}
 use Rattle.rescue_rules.specs.Passes.{numbered, copying_passes}
 use Rattle.rescue_rules.specs.Machine.{start_of}
 use Rattle.rescue_rules.specs.Beginning.{first_pass, first_cursor}
+use Rattle.rescue_rules.proofs.FitLemmas.{first_few}
 use Rattle.rescue_core.specs.RunState.{RunState, setting_with, started}
 use Rattle.rescue_core.proofs.PassLemmas.{copying_leads}
 use Rattle.copy_passes.specs.Laws.{StartMayCopy, ShownMayCopy}
 use Rattle.copy_passes.proofs.CopyingLemmas.{leaves_at_start}
-
-few_passes : (loaded : Option MapState) → first_pass loaded ≤ copying_passes
-few_passes None = omega arith
-few_passes (Some state) = omega arith
 
 -- the last pass begins at its own start
 last_cursor : (s : Setting) (loaded : Option MapState) (map : List Status) → first_pass loaded ≡ copying_passes
@@ -41,10 +38,10 @@ start_may_copy settings domain names line map loaded moment heard sound suits =
       };
       within = refl;
       phase = refl;
-      few = few_passes loaded;
+      few = first_few loaded;
       passes = refl;
       lead = refl;
-      last = λ last. leaves_at_start s r.machine (first_pass loaded) (copying_leads s (first_pass loaded) (few_passes loaded))
+      last = λ last. leaves_at_start s r.machine (first_pass loaded) (copying_leads s (first_pass loaded) (first_few loaded))
           (last_cursor s loaded map last);
     }
 

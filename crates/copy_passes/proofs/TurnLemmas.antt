@@ -38,7 +38,7 @@ use Rattle.rescue_core.specs.RunState.{RunState, setting_in, passed, HasPlaces}
 use Rattle.rescue_core.specs.Turning.{IsEvent, move_by, Turned, Halted, stepped, move_pieces}
 use Rattle.rescue_core.specs.Closing.{drafting_after}
 use Rattle.rescue_core.proofs.TurnEndLemmas.{says_none}
-use Rattle.copy_passes.specs.Turns.{IsFrom, IsAlike, moved_to, Went, WentUpTo, ObjectsStay, GoesOn}
+use Rattle.copy_passes.specs.Turns.{IsFrom, IsAlike, moved_to, Went, WentUpTo, ObjectsStay, WentByTurns}
 use Rattle.copy_passes.specs.Copying.{IsCopying}
 use Rattle.copy_passes.proofs.AlikeLemmas.{alike_by, alike_on, next_pass_is_alike, RunMore, run_more}
 use Rattle.copy_passes.proofs.CopyingLemmas.{ahead_of, CopyStep, copy_steps, two_of, copying_passed}
@@ -55,10 +55,6 @@ between a b d e k l x y = record {
   console = x;
   console' = y;
 }
-
--- What the objects tell, across two things done one after the other.
-pub source_stays : (a b c : SourceState) → SourceStays a b → SourceStays b c → SourceStays a c
-source_stays = stays_more
 
 clock_self : (a : ClockState) → ClockKeeps a a
 clock_self a = record { planned = refl; plan = refl }
@@ -229,7 +225,7 @@ went_up_to_on stop r r1 r2 a b c d e f k l n x y z w stays tells_site u = record
   console_between = u.console_between;
   went = went_on r r1 u.between a b u.source_between d e u.site_between k l u.clock_between x y u.console_between w stays
       tells_site u.went;
-  source = source_stays a b u.source_between stays u.source;
+  source = stays_more a b u.source_between stays u.source;
   site_tells = u.site_tells ∙ tells_site;
   within = u.within;
   request = u.request;
@@ -241,7 +237,7 @@ went_up_to_on stop r r1 r2 a b c d e f k l n x y z w stays tells_site u = record
 pub objects_stay : (a b c : SourceState) (d e f : SiteState) (k l n : ClockState) (x y z : ConsoleState)
     → ObjectsStay (between a b d e k l x y) → ObjectsStay (between b c e f l n y z) → ObjectsStay (between a c d f k n x z)
 objects_stay a b c d e f k l n x y z i j = record {
-  source = source_stays a b c i.source j.source;
+  source = stays_more a b c i.source j.source;
   site = keeps_more d e f i.site j.site;
   image = j.image;
   clock = clock_keeps k l n i.clock j.clock;
@@ -250,7 +246,7 @@ objects_stay a b c d e f k l n x y z i j = record {
 -- A run begins,
 pub begins : (r : RunState) (a : SourceState) (d : SiteState) (k : ClockState) (x : ConsoleState)
     → HasPlaces r.settings (covers r.domain) → a.is_open ≡ true → d.is_open ≡ true → d.is_drafting ≡ false
-    → GoesOn r r (between a a d d k k x x)
+    → WentByTurns r r (between a a d d k k x x)
 begins r a d k x places input image no_draft = record {
   places = places;
   went = went_none r a d k x;
@@ -261,7 +257,7 @@ begins r a d k x places input image no_draft = record {
 
 -- goes on by what goes on from there,
 pub goes_on : (r r1 r2 : RunState) (a b c : SourceState) (d e f : SiteState) (k l n : ClockState) (x y z : ConsoleState)
-    → GoesOn r r1 (between a b d e k l x y) → GoesOn r1 r2 (between b c e f l n y z) → GoesOn r r2 (between a c d f k n x z)
+    → WentByTurns r r1 (between a b d e k l x y) → WentByTurns r1 r2 (between b c e f l n y z) → WentByTurns r r2 (between a c d f k n x z)
 goes_on r r1 r2 a b c d e f k l n x y z i j = record {
   places = j.places;
   went = went_on r r1 r2 a b c d e f k l n x y z i.went i.objects.source i.objects.site.tells j.went;
@@ -272,11 +268,11 @@ goes_on r r1 r2 a b c d e f k l n x y z i j = record {
 
 -- by a turn,
 pub goes_on_by_turn : (r r1 r2 : RunState) (request : Request) (turn : Turn) (a b c : SourceState) (d e f : SiteState)
-    (k l n : ClockState) (x y z : ConsoleState) → GoesOn r r1 (between a b d e k l x y)
+    (k l n : ClockState) (x y z : ConsoleState) → WentByTurns r r1 (between a b d e k l x y)
     → limit_met (setting_in r1) r1.machine ≡ None
     → IsRequest (setting_in r1) r1.machine request.pos (request.pos + request.len)
     → Turned request turn r1 r2 (between b c e f l n y z) → f.is_drafting ≡ false → ObjectsStay (between b c e f l n y z)
-    → GoesOn r r2 (between a c d f k n x z)
+    → WentByTurns r r2 (between a c d f k n x z)
 goes_on_by_turn r r1 r2 request turn a b c d e f k l n x y z i within asks t no_draft objects =
     goes_on r r1 r2 a b c d e f k l n x y z i (record {
       places = subst (λ (q : RunState). HasPlaces q.settings (covers q.domain)) (sym t.steps) i.places;
@@ -287,17 +283,17 @@ goes_on_by_turn r r1 r2 request turn a b c d e f k l n x y z i within asks t no_
     })
 
 -- or by the start of its next pass.
-pub goes_on_by_pass : (r r1 r2 : RunState) (o : Across) (phase : Phase) (number : ℕ) (first : Pass) → GoesOn r r1 o
+pub goes_on_by_pass : (r r1 r2 : RunState) (o : Across) (phase : Phase) (number : ℕ) (first : Pass) → WentByTurns r r1 o
     → has_request (setting_in r1) r1.machine ≡ false
     → r1.machine.passes ≡ first ∷ numbered phase number ∷ drop 2 r1.machine.passes → r2 ≡ passed r1 phase number
-    → GoesOn r r2 o
+    → WentByTurns r r2 o
 goes_on_by_pass r r1 r2 o phase number first i spent are is =
     let s : Setting = setting_in r1 in
     let n : RunState = passed r1 phase number in
     let next : IsAlike (setting_in r) r1.machine n.machine =
     subst (λ (t : Setting). IsAlike t r1.machine n.machine) (setting_stands r r1 i.went.stands)
     (next_pass_is_alike s r1.machine first (numbered phase number) (drop 2 r1.machine.passes) spent are) in
-    subst (λ (q : RunState). GoesOn r q o) (sym is) (record {
+    subst (λ (q : RunState). WentByTurns r q o) (sym is) (record {
       places = i.places;
       went = record {
         events = i.went.events;
@@ -319,7 +315,7 @@ goes_on_by_pass r r1 r2 o phase number first i spent are is =
 
 -- A turn stops.
 pub halts : (stop : Stop) (r r1 r2 : RunState) (request : Request) (a b c : SourceState) (d e f : SiteState)
-    (k l n : ClockState) (x y z : ConsoleState) → GoesOn r r1 (between a b d e k l x y)
+    (k l n : ClockState) (x y z : ConsoleState) → WentByTurns r r1 (between a b d e k l x y)
     → limit_met (setting_in r1) r1.machine ≡ None
     → IsRequest (setting_in r1) r1.machine request.pos (request.pos + request.len)
     → Halted request stop r1 r2 (between b c e f l n y z) → f.is_drafting ≡ drafting_after stop
@@ -364,9 +360,9 @@ copies_on r r2 request turn o copying asks t =
     subst IsCopying (sym t.steps) (turn_step r r2 request turn o copying asks t).copying
 
 -- So may it behind the start of its next pass.
-pub goes_on_by_next : (r r1 r2 : RunState) (o : Across) (pass : ℕ) → GoesOn r r1 o → IsCopying r1
+pub goes_on_by_next : (r r1 r2 : RunState) (o : Across) (pass : ℕ) → WentByTurns r r1 o → IsCopying r1
     → has_request (setting_in r1) r1.machine ≡ false → r1.pass < copying_passes → pass ≡ r1.pass
-    → r2 ≡ passed r1 Copying (pass + 1) → GoesOn r r2 o × IsCopying r2
+    → r2 ≡ passed r1 Copying (pass + 1) → WentByTurns r r2 o × IsCopying r2
 goes_on_by_next r r1 r2 o pass i copying spent few same is =
     let c : Pass = numbered Copying r1.pass in
     let p : Pass = numbered Copying (r1.pass + 1) in

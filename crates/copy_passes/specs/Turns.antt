@@ -95,7 +95,7 @@ pub record ObjectsStay (o : Across) : Type 0 where
   pub clock : ClockKeeps o.clock o.clock'
 
 -- a run has gone on by whole turns, and may take more of them
-pub record GoesOn (r r' : RunState) (o : Across) : Type 0 where
+pub record WentByTurns (r r' : RunState) (o : Across) : Type 0 where
   pub places : HasPlaces r'.settings (covers r'.domain)
   pub went : Went r r' o
   pub input : o.source'.is_open ≡ true
@@ -104,12 +104,12 @@ pub record GoesOn (r r' : RunState) (o : Across) : Type 0 where
 
 -- turns, by their outcome: whole ones, or up to one that stopped
 pub record TurnsEnd {T : Type 0} (result : Result T Stop) (r r' : RunState) (o : Across) : Type 0 where
-  pub goes : OnOk result (GoesOn r r' o)
+  pub goes : OnOk result (WentByTurns r r' o)
   pub halted : IfErr result (λ stop. WentUpTo stop r r' o)
   pub objects : ObjectsStay o
 
 -- those of a phase, which answers where the run has come to
 pub record PhaseEnds (r : RunState) (result : Result RunState StoppedState) (o : Across) : Type 0 where
-  pub goes : IfOk result (λ r'. GoesOn r r' o)
+  pub goes : IfOk result (λ r'. WentByTurns r r' o)
   pub halted : IfErr result (λ s. WentUpTo s.stop r s.run o)
   pub objects : ObjectsStay o

@@ -5,7 +5,7 @@ use Rattle.crash_site.specs.Calls.{Call, Entry, Done, Failed, Made, BrokeAt}
 use Rattle.crash_site.specs.Folder.{Folder}
 use Rattle.crash_site.specs.Disk.{Disk, at_rest, entered, disk_after}
 use Rattle.crash_site.specs.Left.{until}
-use Rattle.crash_site.specs.Along.{Along, AlongCalls, Goes}
+use Rattle.crash_site.specs.Along.{Along, AlongCalls, GoesAlong}
 use Rattle.crash_site.proofs.DiskLemmas.{run-append}
 use Rattle.crash_site.proofs.LawLemmas.{until_past}
 
@@ -25,7 +25,7 @@ along_failed : (P : Disk → Type 0) (d : Disk) (call : Call) (es : List Entry) 
 along_failed P d call [] none h = (h, h)
 along_failed P d call (e ∷ es) none h = absurd (cc)
 
-pub along_calls : (P : Disk → Type 0) (d : Disk) (calls : List Call) (es : List Entry) → AlongCalls P d calls → Goes calls es → Along P d es
+pub along_calls : (P : Disk → Type 0) (d : Disk) (calls : List Call) (es : List Entry) → AlongCalls P d calls → GoesAlong calls es → Along P d es
 along_calls P d calls [] h goes = at_first P d calls h
 along_calls P d [] (e ∷ es) h goes = absurd goes
 along_calls P d (call ∷ calls) (Done c ∷ es) h goes =
@@ -37,16 +37,16 @@ along_calls P d (call ∷ calls) (Failed c ∷ es) h goes =
 pub record WentOn (calls : List Call) (old new : List Entry) : Type 0 where
   pub since : List Entry
   pub is : new ≡ old ++ since
-  pub goes : Goes calls since
+  pub goes : GoesAlong calls since
 
-pub all_go : (calls : List Call) → Goes calls (map Done calls)
+pub all_go : (calls : List Call) → GoesAlong calls (map Done calls)
 all_go [] = tt
 all_go (call ∷ calls) = (refl, all_go calls)
 
 pub made_goes : (calls : List Call) (old new : List Entry) → Made calls old new → WentOn calls old new
 made_goes calls old new m = record { since = map Done calls; is = m; goes = all_go calls }
 
-none_goes : (calls : List Call) → Goes calls []
+none_goes : (calls : List Call) → GoesAlong calls []
 none_goes [] = tt
 none_goes (call ∷ calls) = tt
 

@@ -3,7 +3,7 @@ use Rattle.std.proofs.Common.{◌≡◌, ℕ, suc, Bool, true, false, List, [], 
 use Rattle.crash_site.specs.declared.memory.stop.Left.TheVariants.{Newest}
 use Rattle.crash_site.specs.Files.{File, bytes_of, put, written_file}
 use Rattle.crash_site.specs.Calls.{Call, Entry, Done, Failed, IsDone, AllDone, image_open, image_read, image_write, image_sync, map_read, draft_begin, draft_append, draft_sync, draft_publish, map_settle, map_remove}
-use Rattle.crash_site.specs.Folder.{Folder, opened, with_piece, appended, published, after_done, after_entry, after}
+use Rattle.crash_site.specs.Folder.{Folder, opened, with_piece, appended, published, after_done, after}
 use Rattle.crash_site.specs.Disk.{Disk, at_rest, entered, disk_after}
 use Rattle.crash_site.specs.Left.{in_progress}
 use Rattle.crash_site.specs.FilesLeft.{opened_over, written_on, with_some, moved_to, made_part, left_entry, left_along, files_left}
@@ -11,6 +11,7 @@ use Rattle.crash_site.specs.LeftLaws.{completed}
 use Rattle.crash_site.proofs.PlaceLemmas.{put-same}
 use Rattle.crash_site.proofs.DiskLemmas.{run_reads}
 use Rattle.crash_site.proofs.StopLemmas.{along-append}
+use Rattle.crash_site.proofs.LawLemmas.{after-append}
 
 -- each call, where the files are left as they read
 
@@ -97,10 +98,6 @@ begun_reads d [] = refl
 begun_reads d (Done call ∷ es) = part_reads d.reads call d.firm
 begun_reads d (Failed call ∷ es) = part_reads d.reads call d.firm
 
-after_append : (d : Folder) (xs ys : List Entry) → after d (xs ++ ys) ≡ after (after d xs) ys
-after_append d [] ys = refl
-after_append d (x ∷ xs) ys = after_append (after_entry d x) xs ys
-
 pub newest_left : (start : Folder) (calls : List Entry) (k : ℕ) (n : List ℕ) → AllDone (take k calls)
     → files_left Newest start calls k n ≡ (after start (take k calls ++ completed (drop k calls))).files n
 newest_left start calls k n all =
@@ -111,4 +108,4 @@ newest_left start calls k n all =
     (along_reads (at_rest start) start.files (take k calls) all refl)
     ∙ begun_reads d (drop k calls)
     ∙ ap (λ (r : Folder). (after r (completed (drop k calls))).files) (run_reads (at_rest start) (take k calls))
-    ∙ sym (ap (λ (r : Folder). r.files) (after_append start (take k calls) (completed (drop k calls)))))
+    ∙ sym (ap (λ (r : Folder). r.files) (after-append start (take k calls) (completed (drop k calls)))))

@@ -15,8 +15,8 @@ AlongCalls P d [] = P d
 AlongCalls P d (call ∷ calls) = P d × P (entered d (Failed call)) × AlongCalls P (entered d (Done call)) calls
 
 -- these entries are those of the calls in order: all of them done, or the first ones and then one that failed
-abbrev pub Goes : List Call → List Entry → Type 0
-Goes calls [] = ⊤
-Goes [] (e ∷ es) = ⊥
-Goes (call ∷ calls) (Done c ∷ es) = (c ≡ call) × Goes calls es
-Goes (call ∷ calls) (Failed c ∷ es) = (c ≡ call) × (es ≡ [])
+abbrev pub GoesAlong : List Call → List Entry → Type 0
+GoesAlong calls [] = ⊤
+GoesAlong [] (e ∷ es) = ⊥
+GoesAlong (call ∷ calls) (Done c ∷ es) = (c ≡ call) × GoesAlong calls es
+GoesAlong (call ∷ calls) (Failed c ∷ es) = (c ≡ call) × (es ≡ [])

@@ -14,12 +14,12 @@ use Rattle.ddrescue_cli.specs.Asked.{Maps}
 
 -- The positions that a mapfile lists, from the first block's beginning up to the last one's end. A mapfile without
 -- blocks, one of comments and blank lines alone, and an absent one list no position.
-pub data Lists (mapfile : Option File) (first end : ℕ) : Type 0 where
-  NoFile : mapfile ≡ None → first ≡ 0 → end ≡ 0 → Lists mapfile first end
-  NoText : (there : File) → mapfile ≡ Some there → Blank there.bytes → first ≡ 0 → end ≡ 0 → Lists mapfile first end
+pub data MapfileLists (mapfile : Option File) (first end : ℕ) : Type 0 where
+  NoFile : mapfile ≡ None → first ≡ 0 → end ≡ 0 → MapfileLists mapfile first end
+  NoText : (there : File) → mapfile ≡ Some there → Blank there.bytes → first ≡ 0 → end ≡ 0 → MapfileLists mapfile first end
   Blocks : (there : File) → mapfile ≡ Some there → length there.bytes ≤ text_limit
       → (shown : MapState) → (listed : Bool) → (statuses : List Status)
-      → IsMapText there.bytes Tight shown first listed statuses → end ≡ length statuses → Lists mapfile first end
+      → IsMapText there.bytes Tight shown first listed statuses → end ≡ length statuses → MapfileLists mapfile first end
 
 -- a file by its name, if it has one
 abbrev pub file_of : Option (List ℕ) → (List ℕ → Option File) → Option File
@@ -60,7 +60,7 @@ IsNamedMap name mode file statuses =
 -- what the mapfile lists, where that is asked for
 abbrev pub IsListing : Command → (mapfile : Option File) → (listed : Option (ℕ × ℕ)) → Type 0
 IsListing c mapfile listed =
-    (first end : ℕ) → c.options.complete_only ≡ true → Lists mapfile first end → listed ≡ Some (first, end)
+    (first end : ℕ) → c.options.complete_only ≡ true → MapfileLists mapfile first end → listed ≡ Some (first, end)
 
 -- The maps are what the files are that were found.
 -- Where a file isn't there or is no map, nothing is said here: then the rescue is refused.

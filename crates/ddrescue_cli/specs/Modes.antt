@@ -23,7 +23,7 @@ use Rattle.ddrescue_cli.specs.declared.aim.Aim.TheVariants.{Rescue as ToRescue, 
 use Rattle.ddrescue_cli.specs.declared.ending.Ending.{Ending}
 use Rattle.ddrescue_cli.specs.declared.ending.Which.TheVariants.{DomainMap}
 use Rattle.ddrescue_cli.specs.Asked.{Maps, setting_of}
-use Rattle.ddrescue_cli.specs.Maps.{Found, IsListing, IsNamedMap, Lists}
+use Rattle.ddrescue_cli.specs.Maps.{Found, IsListing, IsNamedMap, MapfileLists}
 use Rattle.ddrescue_cli.specs.Refusals.{NamesRefused, PatternEmpty}
 use Rattle.ddrescue_cli.specs.Pattern.{ThenPattern}
 use Rattle.ddrescue_cli.specs.Work.{IsUnbegun, answer_of, files_rows, map_rows, rescue_faults}
@@ -44,7 +44,7 @@ IsNamedFor ToGenerate c = is_some c.mapfile ≡ true
 
 -- how far the map reaches that a mapfile stands for, where it is a map
 abbrev pub IsMapEnd : (mapfile : Option File) → (top : ℕ) → Type 0
-IsMapEnd mapfile top = (first end : ℕ) → Lists mapfile first end → end ≡ top
+IsMapEnd mapfile top = (first end : ℕ) → MapfileLists mapfile first end → end ≡ top
 
 -- The maps of a sweep are what the files are that were found. No test map goes with one.
 pub record AreMapsOfSweep (c : Command) (found : Found) (maps : Maps) : Type 0 where

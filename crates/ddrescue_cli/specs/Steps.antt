@@ -37,7 +37,7 @@ use Rattle.ddrescue_cli.specs.declared.ending.Ending.{Ending}
 use Rattle.ddrescue_cli.specs.declared.ending.Ending.TheVariants.{NoMap, NotRegular, MapRefused, NoOutput, SiteFault, NoMemory}
 use Rattle.ddrescue_cli.specs.Names.{AreNamedApart, first_same}
 use Rattle.ddrescue_cli.specs.Asked.{Maps, names_by, setting_of}
-use Rattle.ddrescue_cli.specs.Maps.{Found, AreAskedFor, AreMapsIn, IsListing, Lists, file_of, mapfile_of}
+use Rattle.ddrescue_cli.specs.Maps.{Found, AreAskedFor, AreMapsIn, IsListing, MapfileLists, file_of, mapfile_of}
 use Rattle.ddrescue_cli.specs.Outside.{Outside, AreOpens, HasGainedReads, Agrees}
 use Rattle.ddrescue_cli.specs.Work.{RunsOver, Rescues, rescue_faults, map_rows, output_rows, load_rows, opened_rows, worked_rows}
 
@@ -136,7 +136,7 @@ OpensOutput makes forced outfile result old new =
 -- what a rescue begins with is what its mapfile stands for, for an input with this length
 pub record StartsAs (end : ℕ) (start : Start) (file : Option File) : Type 0 where
   pub stands : Stands file end start.tiles.statuses start.state
-  pub lists : Lists file start.first start.listed_end
+  pub lists : MapfileLists file start.first start.listed_end
 
 -- what the load of a mapfile did, if there is one
 abbrev pub Loads : (mapfile : Option (List ℕ)) → (end : ℕ) → Result Start Ending → (old new : SiteState) → Type 0

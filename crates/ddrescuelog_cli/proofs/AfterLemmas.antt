@@ -2,7 +2,7 @@
 use Rattle.std.proofs.Common.{◌≡◌, ℕ, Bool, true, false, IsTrue, List, [], ◌∷◌, refl, sym, ap, ◌∙◌, inl, inr, subst, arith, append-nil}
 use Rattle.std.specs.Prelude.{⊤}
 use Rattle.std.proofs.lemmas.Bool.{both_ways}
-use Rattle.crash_site.specs.SiteState.{SiteState, Keeps as SiteKeeps, Stays}
+use Rattle.crash_site.specs.SiteState.{SiteState, Stays}
 use Rattle.rescue_console.specs.FeedState.{FeedState, Keeps as FeedKeeps}
 use Rattle.rescue_console.specs.ConsoleState.{ChannelState, ConsoleState, Puts}
 use Rattle.rescue_console.specs.declared.console.Channel.TheVariants.{Out}
@@ -28,9 +28,6 @@ use Rattle.ddrescuelog_cli.specs.Worked.{FeedAfter}
 use Rattle.ddrescuelog_cli.proofs.FoundLemmas.{answers_have}
 
 -- ---- nothing happened to an object
-
-pub site_keeps : (s : SiteState) → SiteKeeps s s
-site_keeps s = record { tells = refl; start = λ tells. refl; planned = refl; later = omega arith }
 
 pub feed_keeps : (f : FeedState) → FeedKeeps f f
 feed_keeps f = record { tells = refl; planned = refl; later = omega arith }

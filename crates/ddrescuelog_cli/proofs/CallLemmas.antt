@@ -1,21 +1,9 @@
 -- Records of calls, taken apart where they grew.
-use Rattle.std.proofs.Common.{◌≡◌, List, [], ◌∷◌, ◌++◌, refl, sym, ap, ◌∙◌, inl, inr, subst, append_assoc, append-nil}
+use Rattle.std.proofs.Common.{◌≡◌, List, [], ◌∷◌, ◌++◌, refl, sym, ◌∙◌, inl, inr, append_assoc, append-nil}
 use Rattle.crash_site.specs.declared.site.SiteCall.{SiteCall}
-use Rattle.crash_site.specs.Calls.{Call, Entry, Done, Failed, Lost, BrokeAt}
+use Rattle.crash_site.specs.Calls.{Call, Entry, Done, Failed, BrokeAt}
 use Rattle.save_resume.specs.Saving.{IsNameIn}
-
--- a record that grew, behind other calls
-lost_behind : (c : Call) (front old new : List Entry) → Lost c old new → Lost c (front ++ old) (front ++ new)
-lost_behind c front old new (inl e) = inl (ap (λ r. front ++ r) e ∙ sym (append_assoc front old (Failed c ∷ [])))
-lost_behind c front old new (inr e) = inr (ap (λ r. front ++ r) e)
-
-pub broke_behind : (at : SiteCall) (calls : List Call) (front old new : List Entry) → BrokeAt at calls old new
-    → BrokeAt at calls (front ++ old) (front ++ new)
-broke_behind at [] front old new b = absurd b
-broke_behind at (c ∷ cs) front old new (inl l) = inl (l.0, lost_behind c front old new l.1)
-broke_behind at (c ∷ cs) front old new (inr b) =
-    let P : List Entry → Type 0 = λ r. BrokeAt at cs r (front ++ new) in
-    inr (subst P (sym (append_assoc front old (Done c ∷ []))) (broke_behind at cs front (old ++ Done c ∷ []) new b))
+use Rattle.work_steps.proofs.GainLemmas.{broke_behind}
 
 -- what a record gained with a call that failed
 pub record GainsBroken (at : SiteCall) (calls : List Call) (old new : List Entry) : Type 0 where
@@ -49,9 +37,3 @@ broken_at at (c ∷ cs) old (inl is) = record { new = old; broke = inl (is, inr 
 broken_at at (c ∷ cs) old (inr h) =
     let b : Broken at cs (old ++ Done c ∷ []) = broken_at at cs (old ++ Done c ∷ []) h in
     record { new = b.new; broke = inr b.broke }
-
-pub name_of_broken : (at : SiteCall) (calls : List Call) (old new : List Entry) → BrokeAt at calls old new
-    → IsNameIn at calls
-name_of_broken at [] old new b = absurd b
-name_of_broken at (c ∷ cs) old new (inl b) = inl b.0
-name_of_broken at (c ∷ cs) old new (inr b) = inr (name_of_broken at cs (old ++ Done c ∷ []) new b)

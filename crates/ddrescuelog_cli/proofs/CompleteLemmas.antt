@@ -1,7 +1,7 @@
 -- Nothing else is answered than what a mode finds, a refusal, a failure or want of memory.
-use Rattle.std.proofs.Common.{◌≡◌, ◌≢◌, ℕ, ◌-◌, ◌<◌, ◌^◌, Bool, true, false, List, [], ◌∷◌, Option, refl, sym, inl, inr, subst, arith}
+use Rattle.std.proofs.Common.{◌≡◌, ◌≢◌, ℕ, Bool, true, false, List, [], ◌∷◌, Option, refl, sym, inl, inr, subst}
 use Rattle.std.specs.Prelude.{⊤}
-use Rattle.fault_count.specs.Counts.{raised}
+use Rattle.fault_count.proofs.CountLemmas.{not_risen}
 use Rattle.block_list.specs.declared.status.Status.{Status}
 use Rattle.crash_site.specs.Files.{File}
 use Rattle.work_steps.specs.Work.{Deeds, with_calls, Take, Look, Works}
@@ -135,10 +135,6 @@ works_of true c is line list found m e d maps pass w v =
     ran.1 v
 
 -- ---- no fault
-
--- a count that stands hasn't risen
-not_risen : (n now : ℕ) → n < 2 ^ 64 - 1 → now ≡ n → now ≡ raised n → ⊥
-not_risen n now below same rose = omega (arith, below, same, rose)
 
 -- what is left for an answer
 no_fault : (t : Told) (e : LogEnding) → NothingFailed t → Causes e t → e ≢ NoMemory → IsVerdict e

@@ -24,6 +24,9 @@ use Rattle.work_steps.specs.Work.{Deeds, Works, Make}
 use Rattle.log_command.specs.declared.mode.LogMode.TheVariants.{Create}
 use Rattle.log_command.specs.Modes.{creates, has_other}
 use Rattle.log_command.specs.Command.{Command, AreInLimits}
+use Rattle.save_resume.proofs.NamedLemmas.{map_is_one}
+use Rattle.work_steps.proofs.LoadLemmas.{by_tells}
+use Rattle.work_steps.proofs.GainLemmas.{broke_named}
 use Rattle.ddrescuelog_cli.specs.declared.ending.LogEnding.{LogEnding}
 use Rattle.ddrescuelog_cli.specs.declared.ending.LogEnding.TheVariants.{Done, SiteFault, FeedFault, NoMemory}
 use Rattle.ddrescuelog_cli.specs.Maps.{Found, Maps, AreMapsOf, AreAskedFor, found_in, shape_of}
@@ -31,14 +34,12 @@ use Rattle.ddrescuelog_cli.specs.Modes.{looks_at_places}
 use Rattle.ddrescuelog_cli.specs.Refusals.{ListRefused}
 use Rattle.ddrescuelog_cli.specs.Results.{IsCreated, map_text}
 use Rattle.ddrescuelog_cli.specs.Told.{only_calls}
-use Rattle.ddrescuelog_cli.specs.Work.{log_faults, Ends, EndsCreated, EndsAs, WorksOver}
+use Rattle.ddrescuelog_cli.specs.Work.{log_faults, OnlyAnswers, EndsCreated, EndsAs, WorksOver}
 use Rattle.ddrescuelog_cli.specs.Steps.{HasStatuses, statuses_in}
 use Rattle.ddrescuelog_cli.specs.Answers.{TakenBefore, AllTaken}
 use Rattle.ddrescuelog_cli.specs.Behind.{FeedBehind}
 use Rattle.ddrescuelog_cli.specs.Creating.{Looks, Makes, AreOfList, SavesText, Creates}
-use Rattle.ddrescuelog_cli.proofs.CallLemmas.{GainsBroken, broke_gains, Broken, broken_at, name_of_broken}
-use Rattle.ddrescuelog_cli.proofs.LoadLemmas.{by_tells}
-use Rattle.ddrescuelog_cli.proofs.MapLemmas.{map_is_one}
+use Rattle.ddrescuelog_cli.proofs.CallLemmas.{GainsBroken, broke_gains, Broken, broken_at}
 
 -- ---- the save
 
@@ -87,7 +88,7 @@ save_behind call names text (inr (inl is)) = subst ComesBehind (sym is) (λ old 
 save_behind call names text (inr (inr h)) = pieces_behind call names (pieces_of text) h
 
 feed_saved : (names : MapNames) (text : List ℕ) (e : LogEnding) (d : Deeds) (old new : FeedState)
-    → Works log_faults (Make (save_calls names text) ∷ []) (Ends Done) e d → FeedBehind Done old new
+    → Works log_faults (Make (save_calls names text) ∷ []) (OnlyAnswers Done) e d → FeedBehind Done old new
     → FeedBehind e old new
 feed_saved names text e d old new (inl (call, is, broke, only)) b =
     subst (λ v. FeedBehind v old new) (sym is)
@@ -95,7 +96,7 @@ feed_saved names text e d old new (inl (call, is, broke, only)) b =
       keeps = b.keeps;
       counts = b.counts;
       takes = save_behind call names text
-          (name_of_broken call (save_calls names text) [] d.gain.calls broke) old new b.takes;
+          (broke_named call (save_calls names text) [] d.gain.calls broke) old new b.takes;
     })
 feed_saved names text e d old new (inr (rest, all, (is, idle))) b =
     subst (λ v. FeedBehind v old new) (sym is) b
@@ -269,7 +270,7 @@ created c line h names listed rest tiles made e old mid new feed feed' mode alon
                 text,
                 w.did.0.read,
                 is_created c line h listed rest tiles w.list text made.statuses heading refl w.did.0,
-                subst (λ n. Works log_faults (Make (save_calls n text) ∷ []) (Ends Done) e (only_calls s.calls)) named
+                subst (λ n. Works log_faults (Make (save_calls n text) ∷ []) (OnlyAnswers Done) e (only_calls s.calls)) named
                     s.did,
               ),
             )))),

@@ -1,5 +1,5 @@
 -- What a mode that reads finds and prints, as its work.
-use Rattle.std.proofs.Common.{◌≡◌, ◌≢◌, ◌⊎◌, ℕ, ◌+◌, ◌-◌, ◌^◌, ◌<◌, ◌≤◌, Bool, false, List, [], length, flat_map, Result, Ok, Err, OnOk, OnErr, IfOk, refl, sym, ap, ◌∙◌, inl, inr, subst, arith}
+use Rattle.std.proofs.Common.{◌≡◌, ◌≢◌, ◌⊎◌, ℕ, Bool, false, List, [], length, flat_map, Result, Ok, Err, OnOk, OnErr, IfOk, refl, sym, ap, ◌∙◌, inl, inr, subst}
 use Rattle.std.proofs.Math.Path.{fun_ext}
 use Rattle.std.proofs.lemmas.Bool.{both_ways}
 use Rattle.block_list.specs.declared.status.Status.{Status}
@@ -15,6 +15,7 @@ use Rattle.rescue_console.specs.declared.console.Channel.TheVariants.{Out}
 use Rattle.rescue_domain.specs.Domain.{whole_domain}
 use Rattle.rescue_domain.specs.Parts.{covers}
 use Rattle.rescue_domain.specs.Places.{AreAllPlaced, IsAnyBeyond}
+use Rattle.rescue_domain.proofs.PlaceLemmas.{never_beyond}
 use Rattle.map_algebra.specs.declared.change.TypeChange.{TypeChange}
 use Rattle.map_algebra.specs.declared.combine.Op.{Op}
 use Rattle.map_algebra.specs.Change.{changed_map}
@@ -214,17 +215,11 @@ IsPlaceRefused e = e ≡ Usage PlaceTooLarge
 abbrev whole_of : Command → List Status → ℕ → Bool
 whole_of c statuses = whole_domain c.options.input_position c.options.size (length statuses)
 
-below_and_beyond : (p : ℕ) → p < 2 ^ 63 - 1 → 2 ^ 63 ≤ p + 1 → ⊥
-below_and_beyond p below beyond = omega arith
-
-all_placed : (domain : ℕ → Bool) (from to : ℕ) → AreAllPlaced domain from to → IsAnyBeyond domain from to → ⊥
-all_placed domain from to placed beyond = below_and_beyond _ (placed beyond.0 beyond.1) beyond.2
-
 places_pass : (c : Command) (m : Maps)
     → AreAllPlaced (whole_of c m.statuses) c.options.input_position (output_from c.options)
     → (e : LogEnding) → PlacesRefused c m e → ⊥
 places_pass c m placed e refused =
-    all_placed (whole_of c m.statuses) c.options.input_position (output_from c.options) placed refused.beyond
+    never_beyond (whole_of c m.statuses) c.options.input_position (output_from c.options) placed refused.beyond
 
 -- what is listed of what was loaded
 abbrev pub listed_in : Command → TypeSet → Loaded → List ℕ

@@ -26,7 +26,7 @@ use Rattle.ddrescuelog_cli.specs.Modes.{compares, prints, removes_map, tests}
 use Rattle.ddrescuelog_cli.specs.Maps.{Found, Maps, mapfile_mode}
 use Rattle.ddrescuelog_cli.specs.Refusals.{MapIsRefused, PlacesRefused, ListRefused}
 use Rattle.ddrescuelog_cli.specs.Answers.{IsRead, MayCall, FitsCommand}
-use Rattle.ddrescuelog_cli.specs.Work.{log_faults, named_rows, read_rows, Ends, EndsPrinted, EndsCreated, EndsAs, removal_calls, WorksOver, UnlessThere, WorksAs}
+use Rattle.ddrescuelog_cli.specs.Work.{log_faults, named_rows, read_rows, OnlyAnswers, EndsPrinted, EndsCreated, EndsAs, removal_calls, WorksOver, UnlessThere, WorksAs}
 use Rattle.ddrescuelog_cli.specs.Laws.{AnswersFit}
 use Rattle.ddrescuelog_cli.proofs.FoundLemmas.{RowsGive, answers_have}
 use Rattle.ddrescuelog_cli.proofs.VerdictLemmas.{Saves}
@@ -100,7 +100,7 @@ created_fits listed rest c line list m e d new (inl a) = fits_as c e FeedFault a
 created_fits listed rest c line list m e d new (inr w) =
     answers_have (Fits c) (Look (ListRefused c.options list) ∷ []) (Saves listed rest c line list m)
     ((λ x r. list_fits c list x new r), tt)
-    (λ x f s. answers_have (Fits c) (Make (save_calls (names_of c.mapfile) s.1) ∷ []) (Ends Done) (
+    (λ x f s. answers_have (Fits c) (Make (save_calls (names_of c.mapfile) s.1) ∷ []) (OnlyAnswers Done) (
       (λ call made b. broke_fits c (save_calls (names_of c.mapfile) s.1) (may_save c (names_of c.mapfile) s.1 new)
           call []
           made b),

@@ -23,7 +23,7 @@ use Rattle.save_resume.specs.Saving.{save_calls}
 use Rattle.ddrescuelog_cli.specs.Maps.{domain_of}
 use Rattle.ddrescuelog_cli.specs.Refusals.{IfNamed, MapIsRefused, PlacesRefused, ListRefused}
 use Rattle.ddrescuelog_cli.specs.Results.{Finds}
-use Rattle.ddrescuelog_cli.specs.Work.{log_faults, named_rows, read_rows, Ends, EndsPrinted, EndsCreated, EndsAs, IsNotDone, WorksOver, UnlessThere, WorksAs}
+use Rattle.ddrescuelog_cli.specs.Work.{log_faults, named_rows, read_rows, OnlyAnswers, EndsPrinted, EndsCreated, EndsAs, IsNotDone, WorksOver, UnlessThere, WorksAs}
 use Rattle.ddrescuelog_cli.specs.Laws.{IsFound, AnswersAreFound}
 use Rattle.ddrescuelog_cli.proofs.VerdictLemmas.{Saves}
 
@@ -86,7 +86,7 @@ created_found F listed rest c line list m e d is (inl a) = subst (λ x. IsFound 
 created_found F listed rest c line list m e d is (inr w) =
     answers_have (λ x. IsFound x F) (Look (ListRefused c.options list) ∷ []) (Saves listed rest c line list m)
     (list_found F c list, tt)
-    (λ x f s. answers_have (λ y. IsFound y F) (Make (save_calls (names_of c.mapfile) s.1) ∷ []) (Ends Done)
+    (λ x f s. answers_have (λ y. IsFound y F) (Make (save_calls (names_of c.mapfile) s.1) ∷ []) (OnlyAnswers Done)
     ((λ call made b. tt), tt) (λ y g h. subst (λ z. IsFound z F) (sym h.0) is) x f s.4)
     e d w
 

@@ -1,27 +1,25 @@
-pub mod AfterLemmas
-pub mod BehindLemmas
-pub mod CallLemmas
-pub mod CompleteLemmas
-pub mod CreateLemmas
-pub mod CreatedLemmas
-pub mod FindLemmas
-pub mod FitLemmas
-pub mod FoundLemmas
-pub mod LineLemmas
-pub mod LoadLemmas
-pub mod LoadedLemmas
-pub mod LookLemmas
-pub mod MapLemmas
-pub mod MapsLemmas
-pub mod NumberLemmas
-pub mod OtherLemmas
-pub mod PromiseLemmas
-pub mod PutLemmas
-pub mod ReadLemmas
-pub mod RemoveLemmas
-pub mod RowLemmas
-pub mod StandLemmas
-pub mod StopsLemmas
-pub mod TakeLemmas
-pub mod VerdictLemmas
-pub mod WorkedLemmas
+mod AfterLemmas
+mod BehindLemmas
+mod CallLemmas
+mod CompleteLemmas
+mod CreateLemmas
+mod CreatedLemmas
+mod FindLemmas
+mod FitLemmas
+mod FoundLemmas
+mod LineLemmas
+mod LoadLemmas
+mod LoadedLemmas
+mod LookLemmas
+mod MapsLemmas
+mod NumberLemmas
+mod OtherLemmas
+mod PromiseLemmas
+mod ReadLemmas
+mod RemoveLemmas
+mod RowLemmas
+mod StandLemmas
+mod StopsLemmas
+mod TakeLemmas
+mod VerdictLemmas
+mod WorkedLemmas

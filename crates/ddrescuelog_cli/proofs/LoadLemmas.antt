@@ -1,8 +1,7 @@
 -- What the read of a map did, whether the files tell or not.
-use Rattle.std.proofs.Common.{◌≡◌, ℕ, ◌*◌, ◌<◌, ◌≤◌, Bool, true, false, IsTrue, List, [], map, length, sum, replicate, Option, Some, None, Ok, Err, refl, sym, ◌∙◌, inl, inr, append-nil, arith}
-use Rattle.std.proofs.lemmas.Bool.{both_ways, cases_lt}
+use Rattle.std.proofs.Common.{◌≡◌, ℕ, ◌<◌, ◌≤◌, IsTrue, List, [], map, length, sum, replicate, Option, Some, None, Ok, Err, refl, sym, ◌∙◌, inl, inr, append-nil, arith}
+use Rattle.std.proofs.lemmas.Bool.{cases_lt}
 use Rattle.std.proofs.lemmas.List.Elements.{All-nil, All-replicate}
-use Rattle.std.proofs.lemmas.List.Folds.{sum_by-replicate}
 use Rattle.mapfile_text.specs.declared.read.Mode.{Mode}
 use Rattle.mapfile_text.specs.declared.read.ReadMap.{ReadMap}
 use Rattle.mapfile_text.specs.MapText.{text_limit}
@@ -13,8 +12,9 @@ use Rattle.crash_site.specs.Files.{File}
 use Rattle.crash_site.specs.Calls.{Call, Entry, Done as Returned, BrokeAt}
 use Rattle.crash_site.specs.SiteState.{SiteState, files_in}
 use Rattle.save_resume.specs.Loading.{load_reads, IsPiece, BeginsLoad, IsLoad}
-use Rattle.save_resume.specs.Resuming.{IsReadAs, IsOfFile, LoadEnded, Starved, BrokeInLoad}
+use Rattle.save_resume.specs.Resuming.{IsReadAs, IsOfFile, LoadEnded, StarvedInLoad, BrokeInLoad}
 use Rattle.save_resume.proofs.AnswerLemmas.{read_is_not_refused}
+use Rattle.work_steps.proofs.LoadLemmas.{ones_sum, one_is_piece, by_tells}
 use Rattle.ddrescuelog_cli.specs.declared.ending.Which.{Which}
 use Rattle.ddrescuelog_cli.specs.declared.ending.LogEnding.{LogEnding}
 use Rattle.ddrescuelog_cli.specs.declared.ending.LogEnding.TheVariants.{SiteFault, NoMemory}
@@ -24,12 +24,6 @@ use Rattle.ddrescuelog_cli.specs.Steps.{Stopped, Through, ReadsMap, ReadsNamed}
 use Rattle.ddrescuelog_cli.proofs.CallLemmas.{GainsBroken, broke_gains}
 
 -- ---- there is a load of each file
-
-ones_sum : (n : ℕ) → sum (replicate n 1) ≡ n
-ones_sum n = let e : sum (replicate n 1) ≡ n * 1 = sum_by-replicate (λ (x : ℕ). x) n 1 in omega (arith, e)
-
-one_is_piece : IsPiece 1
-one_is_piece = (omega arith, omega arith)
 
 -- the first reads of a file that gave so many bytes, one by one, and the read behind them
 begins_by_ones : (name : List ℕ) (f : File) (n : ℕ) (answer : Option MapRead) → n ≤ length f.bytes → n ≤ text_limit
@@ -151,10 +145,6 @@ stopped_starved which mode name file load begins =
 
 -- ---- the read
 
-pub by_tells : (b : Bool) (X : Type 0) → (IsTrue b → X) → ((IsTrue b → ⊥) → X) → X
-by_tells true X told untold = told refl
-by_tells false X told untold = untold (λ t. both_ways false refl t)
-
 pub read_ok : (which : Which) (mode : Mode) (name : List ℕ) (m : ReadMap) (old new : SiteState)
     → (IsTrue old.tells → IsReadAs (files_in old name) mode m
     × LoadEnded [] name (files_in old name) old.calls new.calls)
@@ -230,7 +220,7 @@ read_broke which mode name old new told =
     })
 
 pub read_starved : (which : Which) (mode : Mode) (name : List ℕ) (old new : SiteState)
-    → (IsTrue old.tells → Starved [] name (files_in old name) old.calls new.calls)
+    → (IsTrue old.tells → StarvedInLoad [] name (files_in old name) old.calls new.calls)
     → ReadsMap which mode name (Err NoMemory) old new
 read_starved which mode name old new told =
     by_tells old.tells (ReadsMap which mode name (Err NoMemory) old new)

@@ -16,6 +16,7 @@ use Rattle.save_resume.specs.Loading.{piece_size}
 use Rattle.save_resume.specs.Named.{map_mode}
 use Rattle.work_steps.specs.Work.{Deeds, Works}
 use Rattle.log_command.specs.Command.{Command}
+use Rattle.work_steps.proofs.LoadLemmas.{by_tells}
 use Rattle.ddrescuelog_cli.specs.declared.ending.Which.{Which}
 use Rattle.ddrescuelog_cli.specs.declared.ending.Which.TheVariants.{DomainMap, OtherMap}
 use Rattle.ddrescuelog_cli.specs.declared.ending.LogEnding.{LogEnding}
@@ -26,7 +27,6 @@ use Rattle.ddrescuelog_cli.specs.Told.{only_calls}
 use Rattle.ddrescuelog_cli.specs.Work.{log_faults, map_rows, named_rows, SaysIfThere, UnlessThere, WorksOver, WorksAs}
 use Rattle.ddrescuelog_cli.specs.Steps.{Stopped, Through, ReadsNamed}
 use Rattle.ddrescuelog_cli.specs.Creating.{IsFree, AsksIfThere, Looks}
-use Rattle.ddrescuelog_cli.proofs.LoadLemmas.{by_tells}
 use Rattle.ddrescuelog_cli.proofs.RowLemmas.{stopped_more, through_then}
 
 -- ---- the question

@@ -15,13 +15,11 @@ use Rattle.crash_site.specs.Files.{File}
 use Rattle.save_resume.specs.Named.{IsMapOf, map_mode}
 use Rattle.log_command.specs.Modes.{creates}
 use Rattle.log_command.specs.Command.{Command}
+use Rattle.save_resume.proofs.NamedLemmas.{map_is_one}
+use Rattle.save_resume.proofs.AnswerLemmas.{not_there}
 use Rattle.ddrescuelog_cli.specs.Maps.{Found, Maps, IsShownBy, mapfile_mode, AreMapsOf, AreAskedFor}
 use Rattle.ddrescuelog_cli.specs.Laws.{MapsAreThere}
 use Rattle.ddrescuelog_cli.specs.Steps.{HasStatuses}
-
--- no file, or one
-none_there : (file : Option File) (f : File) → file ≡ None → file ≡ Some f → ⊥
-none_there file f none some = cc
 
 one_there : (file : Option File) (f g : File) → file ≡ Some f → file ≡ Some g → g ≡ f
 one_there file f g is is' = let e : Some f ≡ Some g = sym is ∙ is' in cc
@@ -48,14 +46,6 @@ shows file mode statuses m = record {
   listed = m.listed;
   reads = m.reads;
 }
-
-pub map_is_one : (file : Option File) (mode : Mode) (statuses statuses' : List Status) → IsMapOf file mode statuses
-    → IsMapOf file mode statuses' → statuses ≡ statuses'
-map_is_one file mode statuses statuses' m m' =
-    let one : (m.shown ≡ m'.shown) × (statuses ≡ statuses') =
-    shown_is_one file mode m.shown m'.shown statuses statuses' (shows file mode statuses m)
-    (shows file mode statuses' m') in
-    one.1
 
 -- ---- a file is a map, or it is none
 
@@ -87,7 +77,7 @@ too_long f mode long shown statuses s =
     omega (arith, long, short)
 
 map_or_none : (file : Option File) (mode : Mode) → HasMap file mode ⊎ HasNoMap file mode
-map_or_none None mode = inr (λ shown statuses s. none_there None s.there refl s.is)
+map_or_none None mode = inr (λ shown statuses s. not_there None s.there refl s.is)
 map_or_none (Some f) mode =
     elim (cases_lt text_limit (length f.bytes)) [
       | inl long ↦ inr (too_long f mode long)

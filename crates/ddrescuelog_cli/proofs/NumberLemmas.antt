@@ -18,7 +18,7 @@ use Rattle.ddrescuelog_cli.specs.Maps.{output_from, shape_of}
 use Rattle.ddrescuelog_cli.specs.Ddrescuelog.{PutsAs}
 use Rattle.ddrescuelog_cli.specs.Steps.{printed_as}
 use Rattle.ddrescuelog_cli.specs.Results.{number_line}
-use Rattle.ddrescuelog_cli.proofs.PutLemmas.{puts_none, puts_both, puts_then_part, part_of_longer}
+use Rattle.rescue_console.proofs.PutLemmas.{puts_none, puts_both, puts_then_part, part_of_longer}
 
 -- the lines of some numbers
 abbrev pub lines_of : List ℕ → List ℕ

@@ -1,11 +1,11 @@
 -- Files that the work leaves as they read.
-use Rattle.std.proofs.Common.{◌≡◌, ◌≢◌, ℕ, true, false, List, [], ◌∷◌, ◌++◌, map, Option, Some, None, refl, sym, ap, ◌∙◌, inl, inr, subst}
+use Rattle.std.proofs.Common.{◌≡◌, ◌≢◌, ℕ, true, false, List, [], ◌∷◌, ◌++◌, map, Option, Some, refl, sym, ap, ◌∙◌, inl, inr, subst}
 use Rattle.std.specs.Prelude.{⊤}
 use Rattle.crash_site.specs.Files.{File}
 use Rattle.crash_site.specs.Calls.{Call, Entry, Done as Returned, Failed, draft_append, draft_begin, draft_sync}
 use Rattle.crash_site.specs.Changes.{Changes}
 use Rattle.crash_site.specs.Folder.{Folder, appended, after, after_done, after_failed}
-use Rattle.crash_site.specs.Along.{Goes}
+use Rattle.crash_site.specs.Along.{GoesAlong}
 use Rattle.crash_site.specs.SiteState.{SiteState, files_in}
 use Rattle.crash_site.proofs.DiskLemmas.{failed_files}
 use Rattle.crash_site.proofs.LawLemmas.{after-append, done_other}
@@ -17,6 +17,7 @@ use Rattle.log_command.specs.declared.mode.LogMode.{LogMode}
 use Rattle.log_command.specs.declared.mode.LogMode.TheVariants.{Change, Combine, Complete, ListBlocks, Create, Test, Compare, Summarize}
 use Rattle.log_command.specs.Modes.{creates}
 use Rattle.log_command.specs.Command.{Command}
+use Rattle.save_resume.proofs.StageLemmas.{appended_draft}
 use Rattle.ddrescuelog_cli.specs.declared.ending.LogEnding.{LogEnding}
 use Rattle.ddrescuelog_cli.specs.Told.{only_calls}
 use Rattle.ddrescuelog_cli.specs.Maps.{Found, Maps}
@@ -33,7 +34,7 @@ AllSpare n d [] = ⊤
 AllSpare n d (call ∷ calls) = (Changes d call n → ⊥) × AllSpare n (after_done d call) calls
 
 -- so it reads as it did, however far they came
-spared : (n : List ℕ) (d : Folder) (calls : List Call) (es : List Entry) → AllSpare n d calls → Goes calls es
+spared : (n : List ℕ) (d : Folder) (calls : List Call) (es : List Entry) → AllSpare n d calls → GoesAlong calls es
     → (after d es).files n ≡ d.files n
 spared n d calls [] spare goes = refl
 spared n d [] (e ∷ es) spare goes = absurd goes
@@ -44,10 +45,6 @@ spared n d (call ∷ calls) (Returned c ∷ es) spare goes =
 spared n d (call ∷ calls) (Failed c ∷ es) spare goes =
     ap (λ (r : List Entry). (after (after_failed d c) r).files n) goes.1
     ∙ ap (λ (f : List ℕ → Option File). f n) (failed_files d c)
-
-appended_draft : (d : Folder) (o : Option (List ℕ)) (piece : List ℕ) → (appended d o piece).draft ≡ d.draft
-appended_draft d None piece = refl
-appended_draft d (Some draft) piece = refl
 
 -- another name than the draft's
 not_draft : (n draft : List ℕ) (o : Option (List ℕ)) → o ≡ Some draft → n ≢ draft → o ≡ Some n → ⊥

@@ -14,11 +14,13 @@ use Rattle.option_words.specs.Reading.{WordFaultAt}
 use Rattle.option_words.proofs.MemoryLemmas.{never_memory}
 use Rattle.option_values.specs.Grammar.{IsRefusalBy, Unread, Wrong, unless_empty}
 use Rattle.option_values.specs.Values.{empty_operand}
+use Rattle.rescue_console.proofs.AnswerLemmas.{puts_or}
 use Rattle.log_command.specs.declared.mode.LogMode.{LogMode}
 use Rattle.log_command.specs.declared.options.LogOptions.{LogOptions}
 use Rattle.log_command.specs.Modes.{creates}
 use Rattle.log_command.specs.Options.{options_in}
 use Rattle.log_command.specs.Command.{Command, AskQuiet, AreRefused, IsAsked, is_too_long, log_grammar, modes_given, command_by, size_word, unless_too_long, with_mode, with_operand}
+use Rattle.save_resume.proofs.FillLemmas.{keeps_self}
 use Rattle.ddrescuelog_cli.specs.declared.ending.LogEnding.{LogEnding}
 use Rattle.ddrescuelog_cli.specs.declared.ending.LogEnding.TheVariants.{Done, NotDone, Differ, Usage, Exists, NoMap, MapRefused, BadNumber, ListTooLong, SiteFault, FeedFault, ConsoleFault, NoMemory}
 use Rattle.ddrescuelog_cli.specs.Told.{Told, files_of, line_of, only_calls}
@@ -34,7 +36,7 @@ use Rattle.ddrescuelog_cli.proofs.StandLemmas.{leave_all}
 use Rattle.ddrescuelog_cli.proofs.StopsLemmas.{stops_safely, works_read}
 use Rattle.ddrescuelog_cli.proofs.OtherLemmas.{others_stand}
 use Rattle.ddrescuelog_cli.proofs.FitLemmas.{answers_fit}
-use Rattle.ddrescuelog_cli.proofs.AfterLemmas.{causes_by, feed_keeps, site_keeps}
+use Rattle.ddrescuelog_cli.proofs.AfterLemmas.{causes_by, feed_keeps}
 use Rattle.ddrescuelog_cli.proofs.WorkedLemmas.{starved_worked}
 
 -- ---- of what the words ask for
@@ -154,11 +156,11 @@ starved_kept words s f p p' none says =
       cause = causes_by NoMemory [] t p refl refl refl (said_beside t p says);
       between = p;
       asked_for = λ c asks.
-          promised c p t (site_keeps s) (starved_worked c (line_of t) s f p) (starved_takes (creates c.mode) f);
+          promised c p t (keeps_self s) (starved_worked c (line_of t) s f p) (starved_takes (creates c.mode) f);
       nothing_out = λ nothing. refl;
       says = says;
       draft = none;
-      site = site_keeps s;
+      site = keeps_self s;
       feed = feed_keeps f;
     }
 
@@ -250,7 +252,7 @@ refused_kept words fault quiet s f p p' r none says =
       nothing_out = λ nothing. refl;
       says = says;
       draft = none;
-      site = site_keeps s;
+      site = keeps_self s;
       feed = feed_keeps f;
     }
 
@@ -275,13 +277,6 @@ may_starve words s f p p' = record {
   silent = λ on. absurd (both_ways false refl on);
   loud = λ off silence. (refl, untouched_still words NoMemory s f p p');
 }
-
--- a put, whole or not
-puts_or : {T E : Type 0} (piece : List ℕ) (result : Result T E) (old new : ConsoleState)
-    → ConsoleAnswers ErrorChannel piece result old new
-    → Puts ErrorChannel piece old new ⊎ PutsPart ErrorChannel piece old new
-puts_or piece (Ok x) old new a = inl a.puts
-puts_or piece (Err e) old new a = inr a.fails
 
 pub says_message : {T E : Type 0} (t : Told) (quiet : Bool) (piece : List ℕ) (result : Result T E)
     (between : ConsoleState) → MaySay t.words t.answer quiet (IsUntouched t between) → quiet ≡ false

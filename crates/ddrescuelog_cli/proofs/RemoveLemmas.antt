@@ -13,6 +13,7 @@ use Rattle.save_resume.specs.Saving.{IsNameIn}
 use Rattle.work_steps.specs.Work.{Deeds}
 use Rattle.log_command.specs.declared.mode.LogMode.TheVariants.{Test}
 use Rattle.log_command.specs.Command.{Command}
+use Rattle.work_steps.proofs.LoadLemmas.{by_tells}
 use Rattle.ddrescuelog_cli.specs.declared.ending.LogEnding.{LogEnding}
 use Rattle.ddrescuelog_cli.specs.declared.ending.LogEnding.TheVariants.{Done, SiteFault}
 use Rattle.ddrescuelog_cli.specs.declared.load.Loaded.{Loaded}
@@ -23,7 +24,6 @@ use Rattle.ddrescuelog_cli.specs.Work.{EndsAs, IsNotDone, WorksOver, removal_cal
 use Rattle.ddrescuelog_cli.specs.Steps.{IsLoadedAs}
 use Rattle.ddrescuelog_cli.specs.Removing.{RemovesDone}
 use Rattle.ddrescuelog_cli.proofs.CallLemmas.{GainsBroken, broke_gains, Broken, broken_at}
-use Rattle.ddrescuelog_cli.proofs.LoadLemmas.{by_tells}
 
 over_remove : (c : Command) (line list : List ℕ) (m : Maps) (e : LogEnding) (d : Deeds) → c.mode ≡ Test true
     → EndsAs (Test true) c line list m e d → WorksOver c line list m e d

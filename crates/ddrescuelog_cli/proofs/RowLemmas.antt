@@ -1,7 +1,8 @@
 -- Work that stopped in some rows, or went through them, in front of others.
-use Rattle.std.proofs.Common.{◌≡◌, List, [], ◌∷◌, ◌++◌, map, Some, None, sym, ap, ◌∙◌, inl, inr, subst, append_assoc}
+use Rattle.std.proofs.Common.{List, [], ◌∷◌, ◌++◌, map, Some, None, sym, inl, inr, subst}
 use Rattle.crash_site.specs.Calls.{Entry, Done as Returned}
 use Rattle.work_steps.specs.Work.{Deeds, Step, Take, Look, Open, Make, Read, Works}
+use Rattle.work_steps.proofs.PartLemmas.{grown}
 use Rattle.ddrescuelog_cli.specs.declared.ending.LogEnding.{LogEnding}
 use Rattle.ddrescuelog_cli.specs.Told.{only_calls}
 use Rattle.ddrescuelog_cli.specs.Work.{log_faults}
@@ -25,10 +26,6 @@ stopped_more (Read (Some name) file ∷ rows) more run e d (inl h) = inl h
 stopped_more (Read (Some name) file ∷ rows) more run e d (inr (inl h)) = inr (inl h)
 stopped_more (Read (Some name) file ∷ rows) more run e d (inr (inr h)) =
     inr (inr (h.0, h.1, h.2, h.3, stopped_more rows more run e _ h.4))
-
--- calls behind which others come
-grown : (calls rest later front : List Entry) → calls ≡ front ++ rest → calls ++ later ≡ front ++ (rest ++ later)
-grown calls rest later front is = ap (λ c. c ++ later) is ∙ append_assoc front rest later
 
 -- what is done behind rows that the work went through is done by all of it
 pub through_then : (rows more : List (Step LogEnding)) (run : LogEnding → Deeds → Type 0) (e : LogEnding)

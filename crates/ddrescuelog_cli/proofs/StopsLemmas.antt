@@ -1,6 +1,5 @@
 -- What a stop of the work finds, by the calls that it made.
-use Rattle.std.proofs.Common.{◌≡◌, ◌≢◌, ◌⊎◌, ℕ, ◌+◌, ◌-◌, ◌≤◌, Bool, true, false, cond, List, [], ◌∷◌, ◌++◌, map, length, Option, Some, None, Result, Ok, Err, refl, sym, ap, ◌∙◌, inl, inr, subst, arith, append_assoc, append-nil, length-append}
-use Rattle.std.specs.Prelude.{codes}
+use Rattle.std.proofs.Common.{◌≡◌, ◌≢◌, ◌⊎◌, ℕ, ◌+◌, ◌-◌, ◌≤◌, Bool, true, false, cond, List, [], ◌++◌, map, length, Option, Some, None, Result, Ok, Err, refl, sym, ap, ◌∙◌, inl, inr, subst, arith, append_assoc, append-nil, length-append}
 use Rattle.std.specs.Str.{bytes_eq}
 use Rattle.std.proofs.lemmas.Bool.{cases_lt, cond_both}
 use Rattle.std.proofs.lemmas.List.Elements.{All-same}
@@ -20,7 +19,7 @@ use Rattle.crash_site.proofs.LawLemmas.{found_only, own_name, until_past, until_
 use Rattle.crash_site.proofs.AlongLemmas.{WentOn, along_until, along_calls, made_goes, broke_goes}
 use Rattle.save_resume.specs.declared.draft.SaveFault.{SaveFault}
 use Rattle.save_resume.specs.MapNames.{MapNames, names_of}
-use Rattle.save_resume.specs.Saving.{save_calls, drafting_after_fault, IsNameIn, Saves}
+use Rattle.save_resume.specs.Saving.{save_calls, drafting_after_fault, Saves}
 use Rattle.save_resume.specs.SaveStops.{disk_of, text_file, IsOldOrNew, Old, New, IsSaved}
 use Rattle.save_resume.proofs.StopLemmas.{stops_in_save, saved_where_ok}
 use Rattle.rescue_rules.proofs.BeforeLemmas.{or_found}
@@ -31,6 +30,8 @@ use Rattle.log_command.specs.Modes.{creates}
 use Rattle.log_command.specs.Command.{Command}
 use Rattle.map_algebra.specs.Compare.{IsDoneIn}
 use Rattle.map_algebra.specs.Numbers.{numbers_in}
+use Rattle.save_resume.proofs.NameLemmas.{apart_draft}
+use Rattle.work_steps.proofs.GainLemmas.{broke_behind, broke_named}
 use Rattle.ddrescuelog_cli.specs.declared.ending.LogEnding.{LogEnding}
 use Rattle.ddrescuelog_cli.specs.declared.ending.LogEnding.TheVariants.{Done, NotDone, ListTooLong}
 use Rattle.ddrescuelog_cli.specs.Told.{only_calls}
@@ -39,7 +40,6 @@ use Rattle.ddrescuelog_cli.specs.Refusals.{ListRefused}
 use Rattle.ddrescuelog_cli.specs.Results.{IsCreated}
 use Rattle.ddrescuelog_cli.specs.Work.{EndsSaved, EndsCreated, EndsAs, removal_calls, LogWorks}
 use Rattle.ddrescuelog_cli.specs.Stops.{LeftAt, CouldBefore, Replaces, IsChanging, StopsSafely, OnlyReads, LeavesFiles}
-use Rattle.ddrescuelog_cli.proofs.CallLemmas.{broke_behind}
 use Rattle.ddrescuelog_cli.proofs.FoundLemmas.{done_of}
 use Rattle.ddrescuelog_cli.proofs.ReadLemmas.{IsRead, AreReads}
 use Rattle.ddrescuelog_cli.proofs.StandLemmas.{reads_keep, reads_until, leave_all}
@@ -224,11 +224,6 @@ site_at start calls drafting faults = record {
   starved = 0;
 }
 
-named_in : (at : SiteCall) (calls : List Call) (old new : List Entry) → BrokeAt at calls old new → IsNameIn at calls
-named_in at [] old new broke = absurd broke
-named_in at (call ∷ calls) old new (inl lost) = inl lost.0
-named_in at (call ∷ calls) old new (inr broke) = inr (named_in at calls (old ++ Returned call ∷ []) new broke)
-
 -- what a save did, by a result without a value
 abbrev SavesBy : MapNames → List ℕ → Result (Unit {0}) SaveFault → (old new : SiteState) → Type 0
 SavesBy names text result old new = Saves (save_calls names text) false result old new
@@ -254,7 +249,7 @@ broke_saves names text start at old new broke = record {
   keeps = record { tells = refl; start = λ t. refl; planned = refl; later = omega arith };
   made = tt;
   broke = record { broke = λ t. broke; rose = refl };
-  named = named_in at (save_calls names text) old new broke;
+  named = broke_named at (save_calls names text) old new broke;
   image = refl;
   draft = tt;
   draft_left = refl;
@@ -284,14 +279,6 @@ saved_by : (names : MapNames) (text : List ℕ) (start : Folder) (old new : List
 saved_by names text start old new grew =
     saved_where_ok names text (Ok tt) (site_at start old false 0) (site_at start new false 0)
     (made_saves names text start old new grew) refl
-
--- a draft has another name than its mapfile
-apart_draft : (name : List ℕ) → name ≢ (names_of name).draft
-apart_draft name same =
-    let lengths : length name ≡ length name + length (codes ".tmp") =
-    ap length same ∙ length-append name (codes ".tmp") in
-    let four : length (codes ".tmp") ≡ 4 = refl in
-    omega (arith, lengths, four)
 
 -- the calls of a save behind others
 save_behind : (names : MapNames) (text : List ℕ) (before rest : List Entry) → HasSaved names text [] rest

@@ -23,7 +23,7 @@ use Rattle.ddrescuelog_cli.specs.declared.ending.LogEnding.TheVariants.{Done, Ma
 use Rattle.ddrescuelog_cli.specs.Maps.{Found, Maps, mapfile_mode, shape_of}
 use Rattle.ddrescuelog_cli.specs.Refusals.{IfNamed, MapIsRefused, PlacesRefused, ListRefused}
 use Rattle.ddrescuelog_cli.specs.Results.{Finds, IsCreated}
-use Rattle.ddrescuelog_cli.specs.Work.{log_faults, named_rows, read_rows, Ends, EndsPrinted, EndsSaved, EndsCreated, EndsAs, IsNotDone, removal_calls, WorksOver, UnlessThere, WorksAs}
+use Rattle.ddrescuelog_cli.specs.Work.{log_faults, named_rows, read_rows, OnlyAnswers, EndsPrinted, EndsSaved, EndsCreated, EndsAs, IsNotDone, removal_calls, WorksOver, UnlessThere, WorksAs}
 use Rattle.ddrescuelog_cli.specs.Laws.{IsVerdict, HasOneVerdict}
 
 -- some work has one verdict
@@ -72,7 +72,7 @@ printed_once e e' d d' (inl a) b v v' = absurd (subst IsVerdict a.0 v)
 printed_once e e' d d' (inr a) (inl b) v v' = absurd (subst IsVerdict b.0 v')
 printed_once e e' d d' (inr a) (inr b) v v' = a.0 ∙ sym b.0
 
-ends_once : Once (Ends Done)
+ends_once : Once (OnlyAnswers Done)
 ends_once e e' d d' a b v v' = a.0 ∙ sym b.0
 
 found_once : (mode : LogMode) (c : Command) (m : Maps) → IsOnce (Finds mode c m)
@@ -139,7 +139,7 @@ ends_as_once (ListBlocks types) c line list m = printed_once
 ends_as_once (Create listed rest) c line list m = created_once listed rest c line list m
 ends_as_once (Test true) c line list m =
     one_verdict LogEnding log_faults IsVerdict verdicts
-    (Look (IsNotDone c m) ∷ Make (removal_calls c.mapfile) ∷ []) (Ends Done) (one_not_done c m, tt) ends_once
+    (Look (IsNotDone c m) ∷ Make (removal_calls c.mapfile) ∷ []) (OnlyAnswers Done) (one_not_done c m, tt) ends_once
 ends_as_once (Test false) c line list m = λ e e' d d' a b v v'. found_once (Test false) c m e e' a.0 b.0
 ends_as_once (Compare finished) c line list m =
     λ e e' d d' a b v v'. found_once (Compare finished) c m e e' a.0 b.0

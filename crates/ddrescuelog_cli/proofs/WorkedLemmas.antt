@@ -9,6 +9,7 @@ use Rattle.mapfile_text.specs.HeadingLines.{HeadingLines}
 use Rattle.work_steps.specs.Work.{Take}
 use Rattle.log_command.specs.Modes.{creates}
 use Rattle.log_command.specs.Command.{Command}
+use Rattle.save_resume.proofs.FillLemmas.{keeps_self}
 use Rattle.ddrescuelog_cli.specs.declared.load.Loaded.{Loaded}
 use Rattle.ddrescuelog_cli.specs.declared.ending.LogEnding.{LogEnding}
 use Rattle.ddrescuelog_cli.specs.declared.ending.LogEnding.TheVariants.{NoMemory}
@@ -26,7 +27,7 @@ use Rattle.ddrescuelog_cli.specs.Worked.{FeedAfter, Worked}
 use Rattle.ddrescuelog_cli.proofs.RowLemmas.{stopped_more, through_then}
 use Rattle.ddrescuelog_cli.proofs.MapsLemmas.{MapsOf, maps_of}
 use Rattle.ddrescuelog_cli.proofs.FitLemmas.{answers_fit}
-use Rattle.ddrescuelog_cli.proofs.AfterLemmas.{text_none, feed_untaken, over_plain, plain_behind, puts_nothing, read_puts, site_keeps}
+use Rattle.ddrescuelog_cli.proofs.AfterLemmas.{text_none, feed_untaken, over_plain, plain_behind, puts_nothing, read_puts}
 
 -- the heading of a map with this command line
 abbrev pub heading_of : List ℕ → HeadingLines
@@ -59,7 +60,7 @@ starved_worked c line site feed console =
     }
 
 pub starved_behind : (s : SiteState) → SiteBehind NoMemory s s
-starved_behind s = record { keeps = site_keeps s; counts = refl; draft = λ none. none }
+starved_behind s = record { keeps = keeps_self s; counts = refl; draft = λ none. none }
 
 -- ---- the maps were read, or the work stopped at one of them
 

@@ -23,7 +23,7 @@ use Rattle.ddrescuelog_cli.specs.Maps.{Found, Maps, found_in, AreMapsOf, AreAske
 use Rattle.ddrescuelog_cli.specs.Refusals.{MapIsThere, ListRefused}
 use Rattle.ddrescuelog_cli.specs.Results.{EndsAt}
 use Rattle.ddrescuelog_cli.specs.Told.{only_calls}
-use Rattle.ddrescuelog_cli.specs.Work.{log_faults, Ends, SaysIfThere, UnlessThere, WorksOver, WorksAs}
+use Rattle.ddrescuelog_cli.specs.Work.{log_faults, OnlyAnswers, SaysIfThere, UnlessThere, WorksOver, WorksAs}
 use Rattle.ddrescuelog_cli.specs.Steps.{HasStatuses, ReadCause, statuses_in}
 use Rattle.ddrescuelog_cli.specs.Behind.{FeedBehind}
 
@@ -151,7 +151,7 @@ pub record Makes (o : LogOptions) (listed rest : Status) (domain : Option (List 
 pub record SavesText (names : MapNames) (text : List ℕ) (e : LogEnding) (old new : SiteState) : Type 0 where
   pub calls : List Entry
   pub gained : IsTrue old.tells → new.calls ≡ old.calls ++ calls
-  pub did : Works log_faults (Make (save_calls names text) ∷ []) (Ends Done) e (only_calls calls)
+  pub did : Works log_faults (Make (save_calls names text) ∷ []) (OnlyAnswers Done) e (only_calls calls)
 
 -- ---- all of it
 

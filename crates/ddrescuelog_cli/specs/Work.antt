@@ -52,12 +52,12 @@ read_rows c found = map_rows RunMap (mapfile_mode c.mode) (Some c.mapfile) found
 -- ---- what a mode does
 
 -- nothing more is done than to answer this
-abbrev pub Ends : LogEnding → LogEnding → Deeds → Type 0
-Ends v e d = (e ≡ v) × IsIdle d
+abbrev pub OnlyAnswers : LogEnding → LogEnding → Deeds → Type 0
+OnlyAnswers v e d = (e ≡ v) × IsIdle d
 
 -- a text was printed, or the console failed at it
 abbrev pub EndsPrinted : LogEnding → Deeds → Type 0
-EndsPrinted e d = Ends ConsoleFault e d ⊎ Ends Done e d
+EndsPrinted e d = OnlyAnswers ConsoleFault e d ⊎ OnlyAnswers Done e d
 
 -- what is found is answered
 abbrev pub EndsFound : LogMode → Command → Maps → LogEnding → Deeds → Type 0
@@ -65,12 +65,12 @@ EndsFound mode c m e d = Finds mode c m e × IsIdle d
 
 -- the map is saved
 abbrev pub EndsSaved : Command → (text : List ℕ) → LogEnding → Deeds → Type 0
-EndsSaved c text = Works log_faults (Make (save_calls (names_of c.mapfile) text) ∷ []) (Ends Done)
+EndsSaved c text = Works log_faults (Make (save_calls (names_of c.mapfile) text) ∷ []) (OnlyAnswers Done)
 
 -- The list is taken from the feed, which may fail, and may be refused. Then the map of its blocks is saved.
 abbrev pub EndsCreated : (listed rest : Status) → Command → (line list : List ℕ) → Maps → LogEnding → Deeds → Type 0
 EndsCreated listed rest c line list m e d =
-    Ends FeedFault e d
+    OnlyAnswers FeedFault e d
     ⊎ Works log_faults (Look (ListRefused c.options list) ∷ [])
     (λ e d. (numbers text : List ℕ) × (numbers_in (shape_of c.options) list ≡ Ok numbers)
     × IsCreated c listed rest line m numbers text × EndsSaved c text e d) e d
@@ -91,7 +91,7 @@ EndsAs (Complete status) c line list m = EndsPrinted
 EndsAs (ListBlocks types) c line list m = EndsPrinted
 EndsAs (Create listed rest) c line list m = EndsCreated listed rest c line list m
 EndsAs (Test true) c line list m =
-    Works log_faults (Look (IsNotDone c m) ∷ Make (removal_calls c.mapfile) ∷ []) (Ends Done)
+    Works log_faults (Look (IsNotDone c m) ∷ Make (removal_calls c.mapfile) ∷ []) (OnlyAnswers Done)
 EndsAs (Test false) c line list m = EndsFound (Test false) c m
 EndsAs (Compare finished) c line list m = EndsFound (Compare finished) c m
 EndsAs Summarize c line list m = EndsPrinted

@@ -11,8 +11,9 @@ use Rattle.crash_site.specs.SiteState.{SiteState}
 use Rattle.rescue_verify.specs.declared.halt.Halt.{Halt}
 use Rattle.rescue_verify.specs.declared.halt.Halt.TheVariants.{NoMemory as NoRoom, SourceLost as InputLost, ImageFault}
 use Rattle.rescue_verify.specs.declared.tally.Tally.{Tally}
-use Rattle.rescue_verify.specs.Comparing.{Plan, Compares, Counts as CountsCompared}
+use Rattle.rescue_verify.specs.Comparing.{ComparisonPlan, Compares, Counts as CountsCompared}
 use Rattle.verify_command.specs.declared.options.VerifyOptions.{VerifyOptions}
+use Rattle.rescue_domain.proofs.PlaceLemmas.{whole_from, never_beyond}
 use Rattle.ddrescueverify_cli.specs.Asked.{IsBeyond, domain_asked, output_from, plan_of}
 use Rattle.ddrescueverify_cli.specs.Counting.{StopCause}
 use Rattle.ddrescueverify_cli.specs.Work.{answer_of_halt}
@@ -23,13 +24,6 @@ first_of false b both = let no : false ≡ true = both in absurd (cc)
 
 below_end : (pos : ℕ) (size : Option ℕ) (end x : ℕ) → whole_domain pos size end x ≡ true → x < end
 below_end pos size end x h = grind (arith, nat_tests, h)
-
-from_start : (pos : ℕ) (size : Option ℕ) (end x : ℕ) → whole_domain pos size end x ≡ true → pos ≤ x
-from_start pos size end x h = grind (arith, nat_tests, h)
-
--- where each position has a place, none ends too far behind
-pub never_beyond : (domain : ℕ → Bool) (from to : ℕ) → AreAllPlaced domain from to → IsAnyBeyond domain from to → ⊥
-never_beyond domain from to placed (x, is, far) = let near = placed x is in omega (arith, near, far)
 
 pub near_by : (o : VerifyOptions) (end to : ℕ) → to ≡ output_from o
     → AreAllPlaced (domain_asked o end) o.input_position to → IsBeyond o end → ⊥
@@ -58,7 +52,7 @@ module _ (o : VerifyOptions) (end : ℕ) (statuses : List Status) (covered : ℕ
       omega (arith, below, short)
 
   pub is_behind : (x : ℕ) → IsIn covered x → o.input_position ≤ x
-  is_behind x held = from_start o.input_position o.size end x (is_asked x held)
+  is_behind x held = whole_from o.input_position o.size end x (is_asked x held)
 
   pub are_placed : (to : ℕ) → AreAllPlaced (domain_asked o end) o.input_position to
       → AreAllPlaced covered o.input_position to
@@ -81,7 +75,7 @@ module _ (o : VerifyOptions) (end : ℕ) (statuses : List Status) (covered : ℕ
       source source' site site'
       → Compares (plan_of o end statuses) statuses now result source source' site site'
   compares_as to at now result source source' site site' compares =
-      subst (λ (p : Plan). Compares p statuses now result source source' site site') (plan_is to at) compares
+      subst (λ (p : ComparisonPlan). Compares p statuses now result source source' site site') (plan_is to at) compares
 
 -- a comparison that stopped is answered by what was counted
 pub halt_cause : (halt : Halt) (source source' : SourceState) (site site' : SiteState)

@@ -1,7 +1,7 @@
 -- Nothing else is answered than whether something differs, a refusal, a failure or want of memory.
-use Rattle.std.proofs.Common.{◌≡◌, ◌≢◌, ℕ, ◌-◌, ◌<◌, ◌^◌, Bool, true, false, if◌then◌else◌, nat_eq, List, [], ◌∷◌, inl, inr, refl, subst, sym, arith}
+use Rattle.std.proofs.Common.{◌≢◌, ℕ, Bool, true, false, if◌then◌else◌, nat_eq, List, [], ◌∷◌, inl, inr, refl, subst, sym}
 use Rattle.std.specs.Prelude.{⊤}
-use Rattle.fault_count.specs.Counts.{raised}
+use Rattle.fault_count.proofs.CountLemmas.{not_risen}
 use Rattle.save_resume.specs.MapNames.{names_of}
 use Rattle.save_resume.specs.Saving.{save_calls}
 use Rattle.work_steps.specs.Work.{Deeds, Make}
@@ -65,10 +65,6 @@ compared_of c line found end looks e d w v =
             | inr failed ↦ absurd (subst IsVerdict failed.1 v)
           ]
     ]
-
--- a count that stands hasn't risen
-not_risen : (n now : ℕ) → n < 2 ^ 64 - 1 → now ≡ n → now ≡ raised n → ⊥
-not_risen n now below same rose = omega (arith, below, same, rose)
 
 -- what is left for an answer
 no_fault : (t : Told) (e : VerifyEnding) → NothingFailed t → Causes e t → e ≢ NoMemory → IsVerdict e

@@ -1,13 +1,13 @@
-pub mod OutputLemmas
-pub mod LoadLemmas
-pub mod SaveLemmas
-pub mod OpenedLemmas
-pub mod SaysLemmas
-pub mod ShapeLemmas
-pub mod StopsLemmas
-pub mod OtherLemmas
-pub mod PromiseLemmas
-pub mod JudgeLemmas
-pub mod CompleteLemmas
-pub mod SavedLemmas
-pub mod ComparingLemmas
+mod OutputLemmas
+mod LoadLemmas
+mod SaveLemmas
+mod OpenedLemmas
+mod SaysLemmas
+mod ShapeLemmas
+mod StopsLemmas
+mod OtherLemmas
+mod PromiseLemmas
+mod JudgeLemmas
+mod CompleteLemmas
+mod SavedLemmas
+mod ComparingLemmas

@@ -1,22 +1,23 @@
 -- What a load of a mapfile did, whether the site tells or not.
-use Rattle.std.proofs.Common.{◌≡◌, ◌≢◌, ℕ, IsTrue, List, ◌++◌, map, Option, Some, Result, Ok, Err, IfOk, IfErr, inl, inr, refl, sym, ap, subst}
+use Rattle.std.proofs.Common.{◌≡◌, ◌≢◌, ℕ, IsTrue, ◌++◌, map, Option, Some, Result, Ok, Err, IfOk, IfErr, inl, inr, refl, sym, ap, subst}
 use Rattle.block_list.specs.Map.{extended}
 use Rattle.mapfile_text.specs.declared.read.Mode.TheVariants.{Tight}
 use Rattle.mapfile_text.specs.declared.read.ReadMap.{ReadMap}
 use Rattle.mapfile_text.specs.declared.read.MapError.{MapError}
 use Rattle.mapfile_text.specs.declared.read.MapError.TheVariants.{NoStatusLine}
 use Rattle.crash_site.specs.declared.site.SiteCall.{SiteCall}
-use Rattle.crash_site.specs.declared.site.SiteCall.TheVariants.{ImageSync, MapSettle, MapRead}
+use Rattle.crash_site.specs.declared.site.SiteCall.TheVariants.{MapRead}
 use Rattle.crash_site.specs.Files.{File}
-use Rattle.crash_site.specs.Calls.{Entry, Done as Returned, BrokeAt}
+use Rattle.crash_site.specs.Calls.{Done as Returned}
 use Rattle.crash_site.specs.SiteState.{SiteState, files_in}
 use Rattle.save_resume.specs.MapNames.{MapNames}
 use Rattle.save_resume.specs.Saving.{IsNameIn}
-use Rattle.save_resume.specs.Resuming.{barrier_calls, LoadEnded, Starved, BrokeInLoad, BrokeAsResumed, IsReadAs, IsRefusedFor, IsLikeNone, IsResumeCall, IsOfFile}
+use Rattle.save_resume.specs.Resuming.{barrier_calls, LoadEnded, StarvedInLoad, BrokeAsResumed, IsReadAs, IsRefusedFor, IsLikeNone, IsResumeCall, IsOfFile}
 use Rattle.save_resume.proofs.AnswerLemmas.{read_is_not_refused, none_is_not_read}
 use Rattle.rescue_rules.specs.Start.{StandsFor, AsMap}
-use Rattle.work_steps.proofs.GainLemmas.{MayGain, may_gain, broke_named}
+use Rattle.work_steps.proofs.GainLemmas.{MayGain, may_gain}
 use Rattle.work_steps.proofs.LoadLemmas.{Ended, ended, RanOut, ran_out, BrokeOff, broke_off, read_through, read_refused, read_broke, read_starved}
+use Rattle.work_steps.proofs.BarrierLemmas.{in_load, in_barrier, no_read}
 use Rattle.ddrescueverify_cli.specs.declared.ending.VerifyEnding.{VerifyEnding}
 use Rattle.ddrescueverify_cli.specs.declared.ending.VerifyEnding.TheVariants.{NoMap, MapRefused, SiteFault, NoMemory}
 use Rattle.ddrescueverify_cli.specs.declared.ending.Which.TheVariants.{RunMap}
@@ -147,7 +148,7 @@ refused_loads names end error old new told of =
 
 -- memory ran out as it was read
 pub starved_loads : (names : MapNames) (end : ℕ) (old new : SiteState)
-    → (IsTrue old.tells → Starved (barrier_calls names) names.map (files_in old names.map) old.calls new.calls)
+    → (IsTrue old.tells → StarvedInLoad (barrier_calls names) names.map (files_in old names.map) old.calls new.calls)
     → Loads names.map end (Err NoMemory) old new
 starved_loads names end old new told =
     let l : RanOut (barrier_calls names) names.map old new = ran_out (barrier_calls names) names.map old new told in
@@ -162,24 +163,6 @@ starved_loads names end old new told =
         read_starved verify_faults (MapfileRefused l.file) names.map l.file l.load l.begins,
       );
     }
-
--- no call of the barrier reads a map
-no_read : (names : MapNames) → IsNameIn MapRead (barrier_calls names) → ⊥
-no_read names (inl is) = let e : MapRead ≡ MapSettle = is in cc
-no_read names (inr (inl is)) = let e : MapRead ≡ ImageSync = is in cc
-no_read names (inr (inr h)) = h
-
-in_load : (names : MapNames) (file : Option File) (calls calls' : List Entry) → BrokeAsResumed names file MapRead calls calls'
-    → BrokeInLoad (barrier_calls names) names.map file calls calls'
-in_load names file calls calls' (inl broke) = absurd (no_read names (broke_named MapRead (barrier_calls names) calls calls' broke))
-in_load names file calls calls' (inr broke) = broke.1
-
-in_barrier : (names : MapNames) (file : Option File) (call : SiteCall) (calls calls' : List Entry)
-    → IsNameIn call (barrier_calls names) → BrokeAsResumed names file call calls calls'
-    → BrokeAt call (barrier_calls names) calls calls'
-in_barrier names file call calls calls' named (inl broke) = broke
-in_barrier names file call calls calls' named (inr broke) =
-    absurd (no_read names (subst (λ (c : SiteCall). IsNameIn c (barrier_calls names)) broke.0 named))
 
 barrier_broke : (names : MapNames) (end : ℕ) (call : SiteCall) (old new : SiteState) → IsNameIn call (barrier_calls names)
     → (IsTrue old.tells → BrokeAsResumed names (files_in old names.map) call old.calls new.calls)

@@ -20,11 +20,11 @@ use Rattle.work_steps.specs.Work.{Opened as IsOpened, Unopened, Deeds, Step, Tak
 use Rattle.work_steps.specs.Parts.{only_calls, WentThrough}
 use Rattle.work_steps.specs.Holds.{behind_entries, behind_open}
 use Rattle.work_steps.proofs.FrontLemmas.{load_reads, reads_stand}
-use Rattle.work_steps.proofs.PartLemmas.{stopped_more, through_then}
+use Rattle.work_steps.proofs.PartLemmas.{stopped_more, through_then, grew_both}
 use Rattle.rescue_verify.specs.declared.tally.Tally.{Tally}
 use Rattle.rescue_verify.specs.Looks.{Look, reads_of, seen_in, look_calls}
 use Rattle.rescue_verify.specs.Verified.{judged_by}
-use Rattle.rescue_verify.specs.Comparing.{Plan, tally_of, Compares}
+use Rattle.rescue_verify.specs.Comparing.{ComparisonPlan, tally_of, Compares}
 use Rattle.verify_command.specs.declared.options.VerifyOptions.{VerifyOptions}
 use Rattle.verify_command.specs.Command.{Command}
 use Rattle.ddrescueverify_cli.specs.declared.ending.VerifyEnding.{VerifyEnding}
@@ -100,7 +100,7 @@ output_fails c l end e s0 s1 d0 d1 input o =
 -- ---- the load of the mapfile
 
 -- an open that doesn't make the file changes none
-open_stands : (d : Folder) (out : List ℕ) (file : Option File) → (opened d out false file).files ≡ d.files
+pub open_stands : (d : Folder) (out : List ℕ) (file : Option File) → (opened d out false file).files ≡ d.files
 open_stands d out None = refl
 open_stands d out (Some f) = refl
 
@@ -199,12 +199,6 @@ loaded_goes c found end run e output load d t u w =
           (through_then verify_faults (load_rows c.mapfile found.mapfile)
           (LookAt (PlacesRefused c.options end) ∷ Take ∷ []) run e load d u w),
     )
-
--- calls one behind another, and then others
-grew_both : (d0 d1 d2 more : List Entry) (o l : List Entry) → d1 ≡ d0 ++ o → d2 ≡ d1 ++ l
-    → d2 ++ more ≡ d0 ++ (o ++ (l ++ more))
-grew_both d0 d1 d2 more o l first second =
-    ap (λ r. r ++ more) second ∙ append_assoc d1 l more ∙ ap (λ r. r ++ (l ++ more)) first ∙ append_assoc d0 o (l ++ more)
 
 -- Something was done behind the load, by looks and deeds behind them.
 record GoesOn (c : Command) (l : List ℕ) (end : ℕ) (result : Result Tally VerifyEnding) (looks : List Look)
@@ -412,7 +406,7 @@ tally_or tally (Ok x) = Ok tally
 tally_or tally (Err e) = Err e
 
 -- how it ended, by the save
-save_ends : (c : Command) (p : Plan) (text : List ℕ) (looks : List Look) (tally : Tally) (e : VerifyEnding)
+save_ends : (c : Command) (p : ComparisonPlan) (text : List ℕ) (looks : List Look) (tally : Tally) (e : VerifyEnding)
     (calls rest : List Entry) → calls ≡ map Returned (save_calls (names_of c.mapfile) text) ++ rest → rest ≡ []
     → tally ≡ tally_of looks → IsAnswer c.options.quiet tally e
     → Works verify_faults (Make (save_calls (names_of c.mapfile) text) ∷ []) (EndsSaved c.options.quiet (tally_of looks)) e

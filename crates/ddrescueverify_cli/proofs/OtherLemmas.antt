@@ -1,11 +1,11 @@
 -- Files that a call leaves as they read.
-use Rattle.std.proofs.Common.{◌≡◌, ◌≢◌, Bool, false, ℕ, IsTrue, List, [], ◌∷◌, ◌++◌, map, Option, Some, None, refl, sym, ap, ◌∙◌, inl, inr, subst}
+use Rattle.std.proofs.Common.{◌≡◌, ◌≢◌, Bool, ℕ, IsTrue, List, [], ◌∷◌, ◌++◌, map, Option, Some, refl, sym, ap, ◌∙◌, inl, inr, subst}
 use Rattle.std.specs.Prelude.{⊤}
 use Rattle.crash_site.specs.Files.{File}
 use Rattle.crash_site.specs.Calls.{Call, Entry, Done as Returned, Failed, draft_append, draft_begin, draft_sync, image_read, map_read}
 use Rattle.crash_site.specs.Changes.{Changes}
-use Rattle.crash_site.specs.Folder.{Folder, after, after_done, after_entry, after_failed, appended, opened}
-use Rattle.crash_site.specs.Along.{Goes}
+use Rattle.crash_site.specs.Folder.{Folder, after, after_done, after_entry, after_failed, appended}
+use Rattle.crash_site.specs.Along.{GoesAlong}
 use Rattle.crash_site.specs.SiteState.{Keeps as SiteKeeps, files_in}
 use Rattle.crash_site.proofs.DiskLemmas.{failed_files}
 use Rattle.crash_site.proofs.LawLemmas.{after-append, done_other}
@@ -15,10 +15,12 @@ use Rattle.save_resume.specs.MapNames.{MapNames, names_of}
 use Rattle.save_resume.specs.Saving.{publish_calls, save_calls}
 use Rattle.work_steps.specs.Work.{Works}
 use Rattle.verify_command.specs.Command.{Command}
+use Rattle.save_resume.proofs.StageLemmas.{appended_draft}
 use Rattle.ddrescueverify_cli.specs.Told.{Agrees, Outside, Told, files_of, line_of}
 use Rattle.ddrescueverify_cli.specs.Work.{Verifies, verify_faults, verify_rows}
 use Rattle.ddrescueverify_cli.proofs.ShapeLemmas.{AreReads, Early, HasSaved, IsRead, Reads, Saving, Shape, opening, opening_calls}
 use Rattle.ddrescueverify_cli.proofs.StopsLemmas.{own_shape}
+use Rattle.ddrescueverify_cli.proofs.OpenedLemmas.{open_stands}
 
 -- ---- calls that leave every file
 
@@ -27,7 +29,7 @@ abbrev AllLeave : Folder → List Call → Type 0
 AllLeave d [] = ⊤
 AllLeave d (call ∷ calls) = ((after_done d call).files ≡ d.files) × AllLeave (after_done d call) calls
 
-all_left : (d : Folder) (calls : List Call) (es : List Entry) → AllLeave d calls → Goes calls es
+all_left : (d : Folder) (calls : List Call) (es : List Entry) → AllLeave d calls → GoesAlong calls es
     → (after d es).files ≡ d.files
 all_left d calls [] leave goes = refl
 all_left d [] (e ∷ es) leave goes = absurd goes
@@ -38,12 +40,8 @@ all_left d (call ∷ calls) (Returned c ∷ es) leave goes =
 all_left d (call ∷ calls) (Failed c ∷ es) leave goes =
     ap (λ (r : List Entry). (after (after_failed d c) r).files) goes.1 ∙ failed_files d c
 
-open_leaves : (d : Folder) (name : List ℕ) (file : Option File) → (opened d name false file).files ≡ d.files
-open_leaves d name None = refl
-open_leaves d name (Some f) = refl
-
 opening_leaves : (c : Command) (d : Folder) → AllLeave d (opening_calls c)
-opening_leaves c d = (open_leaves d c.outfile (d.files c.outfile), (refl, (refl, tt)))
+opening_leaves c d = (open_stands d c.outfile (d.files c.outfile), (refl, (refl, tt)))
 
 read_leaves : (d : Folder) (e : Entry) → IsRead e → after_entry d e ≡ d
 read_leaves d (Returned (map_read name at size answer)) is = refl
@@ -66,7 +64,7 @@ AllSpare n d [] = ⊤
 AllSpare n d (call ∷ calls) = (Changes d call n → ⊥) × AllSpare n (after_done d call) calls
 
 -- so it reads as it did, however far they came
-spared : (n : List ℕ) (d : Folder) (calls : List Call) (es : List Entry) → AllSpare n d calls → Goes calls es
+spared : (n : List ℕ) (d : Folder) (calls : List Call) (es : List Entry) → AllSpare n d calls → GoesAlong calls es
     → (after d es).files n ≡ d.files n
 spared n d calls [] spare goes = refl
 spared n d [] (e ∷ es) spare goes = absurd goes
@@ -77,10 +75,6 @@ spared n d (call ∷ calls) (Returned c ∷ es) spare goes =
 spared n d (call ∷ calls) (Failed c ∷ es) spare goes =
     ap (λ (r : List Entry). (after (after_failed d c) r).files n) goes.1
     ∙ ap (λ (f : List ℕ → Option File). f n) (failed_files d c)
-
-appended_draft : (d : Folder) (o : Option (List ℕ)) (piece : List ℕ) → (appended d o piece).draft ≡ d.draft
-appended_draft d None piece = refl
-appended_draft d (Some draft) piece = refl
 
 -- another name than the draft's
 not_draft : (n draft : List ℕ) (o : Option (List ℕ)) → o ≡ Some draft → n ≢ draft → o ≡ Some n → ⊥

@@ -1,8 +1,7 @@
 -- The promise of a call, by what its command did.
-use Rattle.std.proofs.Common.{◌≡◌, ◌≢◌, ◌⊎◌, ℕ, Bool, true, false, List, [], ◌∷◌, length, Option, Some, None, Result, Ok, Err, refl, sym, ap, ◌∙◌, inl, inr, subst, append-nil}
+use Rattle.std.proofs.Common.{◌≡◌, ◌≢◌, ◌⊎◌, ℕ, Bool, false, List, [], ◌∷◌, length, Option, Some, None, Result, Ok, Err, refl, sym, ap, ◌∙◌, inl, inr, subst, append-nil}
 use Rattle.std.specs.Str.{bytes_eq}
 use Rattle.std.proofs.lemmas.Bool.{cond_both}
-use Rattle.std.proofs.lemmas.Slice.Eq.{bytes_eq-Decides}
 use Rattle.crash_site.specs.SiteState.{SiteState, Keeps as SiteKeeps, files_in}
 use Rattle.faulty_source.specs.SourceState.{SourceState, Keeps as SourceKeeps}
 use Rattle.faulty_source.proofs.Keeping.{keeps_self}
@@ -23,6 +22,7 @@ use Rattle.rescue_verify.specs.Comparing.{tally_of}
 use Rattle.verify_command.specs.declared.options.VerifyOptions.{VerifyOptions}
 use Rattle.verify_command.specs.Options.{options_in}
 use Rattle.verify_command.specs.Command.{Command, Asks, AreRefused, IsAsked, command_by, command_with, verify_grammar}
+use Rattle.save_resume.proofs.NameLemmas.{ne_of}
 use Rattle.ddrescueverify_cli.specs.declared.ending.Operand.{Operand}
 use Rattle.ddrescueverify_cli.specs.declared.ending.Operand.TheVariants.{Infile, Outfile, Mapfile, Draft}
 use Rattle.ddrescueverify_cli.specs.declared.ending.VerifyEnding.{VerifyEnding}
@@ -56,9 +56,6 @@ named_apart words c a different first second twice =
     let P : Command → Type 0 = λ x. first_same x.infile x.outfile (names_of x.mapfile) ≡ Some (first, second) in
     names_pass c different (SameName first second)
     (first, second, subst P (a.alone twice.command twice.asks) twice.same, refl)
-
-ne_of : (xs ys : List ℕ) → bytes_eq xs ys ≡ false → xs ≢ ys
-ne_of xs ys apart same = let both : true ≡ false = sym ((bytes_eq-Decides xs ys).1 same) ∙ apart in cc
 
 -- the output has another name than the mapfile and its draft
 pub record AreApart (outfile : List ℕ) (names : MapNames) : Type 0 where

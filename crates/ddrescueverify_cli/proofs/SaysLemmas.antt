@@ -4,6 +4,7 @@ use Rattle.fault_count.specs.Counts.{raised}
 use Rattle.rescue_console.specs.ConsoleState.{ChannelState, ConsoleState, Puts, PutsPart, Answers as ConsoleAnswers}
 use Rattle.rescue_console.specs.declared.console.Channel.TheVariants.{Err as ErrorChannel}
 use Rattle.option_words.specs.declared.fault.UsageFault.TheVariants.{Word, BadValue, Conflict, Modes, Operands, PlaceTooLarge}
+use Rattle.rescue_console.proofs.AnswerLemmas.{puts_or}
 use Rattle.rescue_verify.specs.declared.tally.Tally.{Tally}
 use Rattle.ddrescueverify_cli.specs.declared.ending.VerifyEnding.{VerifyEnding}
 use Rattle.ddrescueverify_cli.specs.declared.ending.VerifyEnding.TheVariants.{Done, Differs, Usage, SameName, NoMap, NoOutput, MapRefused, SourceFault, SourceLost, SiteFault, ConsoleFault, NoMemory}
@@ -22,13 +23,6 @@ pub said_beside : (t : Told) (between : ConsoleState) → Says t between → t.c
 said_beside t between (Nothing silent same) = ap (λ (c : ConsoleState). c.out) same
 said_beside t between (Message loud untouched (inl put) plan) = put.stays.other
 said_beside t between (Message loud untouched (inr part) plan) = part.stays.other
-
--- a put, whole or not
-puts_or : {T E : Type 0} (piece : List ℕ) (result : Result T E) (old new : ConsoleState)
-    → ConsoleAnswers ErrorChannel piece result old new
-    → Puts ErrorChannel piece old new ⊎ PutsPart ErrorChannel piece old new
-puts_or piece (Ok x) old new a = inl a.puts
-puts_or piece (Err e) old new a = inr a.fails
 
 pub says_message : {T E : Type 0} (t : Told) (quiet : Bool) (piece : List ℕ) (result : Result T E)
     (between : ConsoleState) → MaySay t.words t.answer quiet (IsUntouched t between) → quiet ≡ false

@@ -12,7 +12,7 @@ use Rattle.crash_site.specs.declared.site.SiteCall.TheVariants.{MapRead as MapRe
 use Rattle.crash_site.specs.Files.{File}
 use Rattle.crash_site.specs.Calls.{Call, Entry, Done as Returned, Failed, BrokeAt, image_open, image_read, image_sync, map_read, map_settle}
 use Rattle.crash_site.specs.Folder.{opened}
-use Rattle.crash_site.specs.Along.{Goes}
+use Rattle.crash_site.specs.Along.{GoesAlong}
 use Rattle.crash_site.specs.Disk.{Disk, only, entered, disk_after}
 use Rattle.crash_site.specs.Left.{in_part, until}
 use Rattle.save_resume.specs.MapNames.{MapNames, names_of}
@@ -29,7 +29,7 @@ use Rattle.rescue_verify.specs.declared.halt.Halt.TheVariants.{NoMemory as NoRoo
 use Rattle.rescue_verify.specs.declared.tally.Tally.{Tally}
 use Rattle.rescue_verify.specs.Pieces.{NoneFrom, end_of_reads}
 use Rattle.rescue_verify.specs.Looks.{Look, reads_of, look_call, look_calls}
-use Rattle.rescue_verify.specs.Comparing.{Plan, place_in, tally_of, HaltsAt}
+use Rattle.rescue_verify.specs.Comparing.{ComparisonPlan, place_in, tally_of, HaltsAt}
 use Rattle.verify_command.specs.Command.{Command}
 use Rattle.ddrescueverify_cli.specs.declared.ending.VerifyEnding.{VerifyEnding}
 use Rattle.ddrescueverify_cli.specs.declared.ending.VerifyEnding.TheVariants.{NoOutput}
@@ -155,7 +155,7 @@ HasSaved names text old new =
 -- The calls of a whole call: the barrier didn't return; or it did, the output is there, and only reads came behind it, and
 -- then perhaps a save.
 pub data Shape (c : Command) (there : Type 0) (saved : Bool) (IsText : List ℕ → Type 0) (calls : List Entry) : Type 0 where
-  Early : saved ≡ false → list_any is_sync calls ≡ false → Goes (opening_calls c) calls → Shape c there saved IsText calls
+  Early : saved ≡ false → list_any is_sync calls ≡ false → GoesAlong (opening_calls c) calls → Shape c there saved IsText calls
   Reads : (reads : List Entry) → there → saved ≡ false → AreReads reads → calls ≡ opening c ++ reads
       → Shape c there saved IsText calls
   Saving : (reads rest : List Entry) (text : List ℕ) → there → AreReads reads → IsText text
@@ -163,8 +163,8 @@ pub data Shape (c : Command) (there : Type 0) (saved : Bool) (IsText : List ℕ 
       → (saved ≡ true → rest ≡ map Returned (save_calls (names_of c.mapfile) text))
       → calls ≡ opening c ++ (reads ++ rest) → Shape c there saved IsText calls
 
-none_goes : (c : Command) (calls : List Entry) → calls ≡ [] → Goes (opening_calls c) calls
-none_goes c calls none = subst (Goes (opening_calls c)) (sym none) tt
+none_goes : (c : Command) (calls : List Entry) → calls ≡ [] → GoesAlong (opening_calls c) calls
+none_goes c calls none = subst (GoesAlong (opening_calls c)) (sym none) tt
 
 module _ (c : Command) (there : Type 0) (IsText : List ℕ → Type 0) where
   -- nothing was called
@@ -175,7 +175,7 @@ module _ (c : Command) (there : Type 0) (IsText : List ℕ → Type 0) where
   open_broke : (call : SiteCall) (saved : Bool) (calls : List Entry) → saved ≡ false
       → BrokeAt call (image_open c.outfile false ∷ []) [] calls → Shape c there saved IsText calls
   open_broke call saved calls short (inl (named, inl grew)) =
-      Early short (ap (list_any is_sync) grew) (subst (Goes (opening_calls c)) (sym grew) (refl, refl))
+      Early short (ap (list_any is_sync) grew) (subst (GoesAlong (opening_calls c)) (sym grew) (refl, refl))
   open_broke call saved calls short (inl (named, inr same)) = nothing saved calls short same
   open_broke call saved calls short (inr broke) = absurd broke
 
@@ -184,7 +184,7 @@ module _ (c : Command) (there : Type 0) (IsText : List ℕ → Type 0) where
   only_opened saved calls rest short grew none =
       let is : calls ≡ Returned (image_open c.outfile false) ∷ [] =
       grew ∙ ap (λ (r : List Entry). Returned (image_open c.outfile false) ∷ r) none in
-      Early short (ap (list_any is_sync) is) (subst (Goes (opening_calls c)) (sym is) (refl, tt))
+      Early short (ap (list_any is_sync) is) (subst (GoesAlong (opening_calls c)) (sym is) (refl, tt))
 
   barrier_broke : (call : SiteCall) (saved : Bool) (calls rest : List Entry) → saved ≡ false
       → calls ≡ Returned (image_open c.outfile false) ∷ rest
@@ -192,17 +192,17 @@ module _ (c : Command) (there : Type 0) (IsText : List ℕ → Type 0) where
   barrier_broke call saved calls rest short grew (inl (named, inl settle)) =
       let is : calls ≡ Returned (image_open c.outfile false) ∷ Failed (map_settle c.mapfile) ∷ [] =
       grew ∙ ap (λ (r : List Entry). Returned (image_open c.outfile false) ∷ r) settle in
-      Early short (ap (list_any is_sync) is) (subst (Goes (opening_calls c)) (sym is) (refl, (refl, refl)))
+      Early short (ap (list_any is_sync) is) (subst (GoesAlong (opening_calls c)) (sym is) (refl, (refl, refl)))
   barrier_broke call saved calls rest short grew (inl (named, inr same)) = only_opened saved calls rest short grew same
   barrier_broke call saved calls rest short grew (inr (inl (named, inl sync))) =
       let is : calls
       ≡ Returned (image_open c.outfile false) ∷ Returned (map_settle c.mapfile) ∷ Failed image_sync ∷ [] =
       grew ∙ ap (λ (r : List Entry). Returned (image_open c.outfile false) ∷ r) sync in
-      Early short (ap (list_any is_sync) is) (subst (Goes (opening_calls c)) (sym is) (refl, (refl, (refl, refl))))
+      Early short (ap (list_any is_sync) is) (subst (GoesAlong (opening_calls c)) (sym is) (refl, (refl, (refl, refl))))
   barrier_broke call saved calls rest short grew (inr (inl (named, inr same))) =
       let is : calls ≡ Returned (image_open c.outfile false) ∷ Returned (map_settle c.mapfile) ∷ [] =
       grew ∙ ap (λ (r : List Entry). Returned (image_open c.outfile false) ∷ r) same in
-      Early short (ap (list_any is_sync) is) (subst (Goes (opening_calls c)) (sym is) (refl, (refl, tt)))
+      Early short (ap (list_any is_sync) is) (subst (GoesAlong (opening_calls c)) (sym is) (refl, (refl, tt)))
   barrier_broke call saved calls rest short grew (inr (inr broke)) = absurd broke
 
 -- the text of the new mapfile
@@ -220,7 +220,7 @@ unsaved_halt InputLost = refl
 unsaved_halt ImageFault = refl
 
 -- what a comparison that halted called behind its looks
-halted_reads : (halt : Halt) (p : Plan) (from : ℕ) (reads : List Reading) (calls : List Entry)
+halted_reads : (halt : Halt) (p : ComparisonPlan) (from : ℕ) (reads : List Reading) (calls : List Entry)
     → HaltsAt halt p from reads calls → AreReads calls
 halted_reads NoRoom p from reads calls h = same_reads calls [] h.1 tt
 halted_reads InputLost p from reads calls h = same_reads calls [] h.4 tt

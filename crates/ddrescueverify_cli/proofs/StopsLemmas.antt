@@ -1,6 +1,5 @@
 -- What a stop of the work finds, by the calls that it made.
 use Rattle.std.proofs.Common.{◌≡◌, ◌≢◌, ◌⊎◌, ℕ, zero, suc, ◌+◌, ◌-◌, ◌<◌, ◌≤◌, Bool, true, false, cond, ◌||◌, IsTrue, List, [], ◌∷◌, ◌++◌, map, length, take, Option, Some, None, Result, Ok, Err, refl, sym, ap, ◌∙◌, inl, inr, subst, arith, append_assoc, append-nil, length-append}
-use Rattle.std.specs.Prelude.{codes}
 use Rattle.std.specs.Str.{bytes_eq}
 use Rattle.std.specs.List.{list_any}
 use Rattle.std.proofs.lemmas.Bool.{cases_lt, cond_both}
@@ -10,7 +9,7 @@ use Rattle.crash_site.specs.declared.site.SiteCall.{SiteCall}
 use Rattle.crash_site.specs.Files.{File, bytes_of}
 use Rattle.crash_site.specs.Calls.{Entry, Done as Returned, BrokeAt, image_open, image_sync, map_settle}
 use Rattle.crash_site.specs.Folder.{Folder, opened}
-use Rattle.crash_site.specs.Along.{Along, AlongCalls, Goes}
+use Rattle.crash_site.specs.Along.{Along, AlongCalls, GoesAlong}
 use Rattle.crash_site.specs.Disk.{Showing, Disk, only, with_opened, under_some, at_rest, entered, disk_after}
 use Rattle.crash_site.specs.Left.{MayShow, Leaves, until, MayBeLeft}
 use Rattle.crash_site.specs.SiteState.{SiteState, files_in}
@@ -29,6 +28,8 @@ use Rattle.work_steps.proofs.GainLemmas.{broke_behind, broke_named}
 use Rattle.rescue_verify.specs.Looks.{Look, reads_of, seen_in}
 use Rattle.rescue_verify.specs.Verified.{judged_by}
 use Rattle.verify_command.specs.Command.{Command}
+use Rattle.save_resume.proofs.NameLemmas.{apart_draft}
+use Rattle.rescue_rules.proofs.SearchLemmas.{never_both}
 use Rattle.ddrescueverify_cli.specs.Answers.{is_saved}
 use Rattle.ddrescueverify_cli.specs.Asked.{heading_of, shown_by}
 use Rattle.ddrescueverify_cli.specs.Stops.{CouldBefore, IsVerifiedMap, LeftAt, StopsSafely}
@@ -109,14 +110,6 @@ save_behind names text before rest (inl made) = inl (ap (λ (r : List Entry). be
 save_behind names text before rest (inr (at, broke)) =
     let P : List Entry → Type 0 = λ r. BrokeAt at (save_calls names text) r (before ++ rest) in
     inr (at, subst P (append-nil before) (broke_behind at (save_calls names text) before [] rest broke))
-
--- a draft has another name than its mapfile
-apart_draft : (name : List ℕ) → name ≢ (names_of name).draft
-apart_draft name same =
-    let lengths : length name ≡ length name + length (codes ".tmp") =
-    ap length same ∙ length-append name (codes ".tmp") in
-    let four : length (codes ".tmp") ≡ 4 = refl in
-    omega (arith, lengths, four)
 
 -- ---- what a stop may show up to the barrier, and behind it
 
@@ -227,9 +220,6 @@ there_by : (file : Option File) → (file ≡ None → ⊥) → (f : File) × (f
 there_by None there = absurd (there refl)
 there_by (Some f) there = (f, refl)
 
-both_ways_at : (b : Bool) → b ≡ true → b ≡ false → ⊥
-both_ways_at b on off = let no : true ≡ false = sym on ∙ off in absurd (cc)
-
 -- what a stop found: all that could be found before, or the output as it was and the mapfile as it was or new
 data AtStop (c : Command) (IsNew : Option File → Type 0) (site : SiteState) (calls : List Entry) (k : ℕ)
     (files : List ℕ → Option File) : Type 0 where
@@ -277,7 +267,7 @@ module _ (c : Command) (site : SiteState) (apart : c.outfile ≢ c.mapfile)
     up_to more (suc (suc (suc k))) files less left = absurd (omega arith)
 
     early_stop : (calls : List Entry) (k : ℕ) (files : List ℕ → Option File) → list_any is_sync calls ≡ false
-        → Goes (opening_calls c) calls → LeftAt site calls k files → AtStop c IsNew site calls k files
+        → GoesAlong (opening_calls c) calls → LeftAt site calls k files → AtStop c IsNew site calls k files
     early_stop calls k files none goes left =
         Before (no_sync calls k none)
         (λ name. along_until (Narrower before) before calls k
@@ -454,14 +444,14 @@ module _ (c : Command) (t : Told) (o : Outside) (agrees : Agrees c t o) (apart :
   stops_safely = record {
     before = λ k files name le left early. elim (stop_at k le files left) [
       | Before none could ↦ could name
-      | Behind behind output map others ↦ absurd (both_ways_at _ behind early)
+      | Behind behind output map others ↦ absurd (never_both _ behind early)
     ];
     output = λ k files le left late. elim (stop_at k le files left) [
-      | Before none could ↦ absurd (both_ways_at _ late none)
+      | Before none could ↦ absurd (never_both _ late none)
       | Behind behind output map others ↦ output
     ];
     mapfile = λ k files le left late. elim (stop_at k le files left) [
-      | Before none could ↦ absurd (both_ways_at _ late none)
+      | Before none could ↦ absurd (never_both _ late none)
       | Behind behind output map others ↦ map
     ];
     kept = λ files saved left.
@@ -486,8 +476,8 @@ nothing_stops c t o none short =
     λ k. no_sync o.did.gain.calls k (ap (list_any is_sync) none) in
     record {
       before = λ k files name le left before. could k files name left;
-      output = λ k files le left late. absurd (both_ways_at _ late (early k));
-      mapfile = λ k files le left late. absurd (both_ways_at _ late (early k));
-      kept = λ files saved left. absurd (both_ways_at _ saved short);
+      output = λ k files le left late. absurd (never_both _ late (early k));
+      mapfile = λ k files le left late. absurd (never_both _ late (early k));
+      kept = λ files saved left. absurd (never_both _ saved short);
       others = λ k files name le left output map other. could k files name left;
     }

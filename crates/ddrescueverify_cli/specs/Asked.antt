@@ -11,7 +11,7 @@ use Rattle.rescue_domain.specs.Places.{IsAnyBeyond}
 use Rattle.rescue_verify.specs.Pieces.{compared_in}
 use Rattle.rescue_verify.specs.Looks.{Look, differing_bytes}
 use Rattle.rescue_verify.specs.Verified.{judged_by}
-use Rattle.rescue_verify.specs.Comparing.{Plan}
+use Rattle.rescue_verify.specs.Comparing.{ComparisonPlan}
 use Rattle.verify_command.specs.declared.options.VerifyOptions.{VerifyOptions}
 
 -- where the comparison begins in the output
@@ -28,7 +28,7 @@ abbrev pub IsBeyond : VerifyOptions → (end : ℕ) → Type 0
 IsBeyond o end = IsAnyBeyond (domain_asked o end) o.input_position (output_from o)
 
 -- what is compared, where the mapfile stands for this map: what it calls finished of these positions
-abbrev pub plan_of : VerifyOptions → (end : ℕ) → List Status → Plan
+abbrev pub plan_of : VerifyOptions → (end : ℕ) → List Status → ComparisonPlan
 plan_of o end statuses = record {
   compared = compared_in (domain_asked o end) statuses;
   sector = o.sector;

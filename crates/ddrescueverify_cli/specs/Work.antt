@@ -16,7 +16,7 @@ use Rattle.rescue_verify.specs.declared.halt.Halt.TheVariants.{NoMemory as NoRoo
 use Rattle.rescue_verify.specs.declared.tally.Tally.{Tally}
 use Rattle.rescue_verify.specs.Pieces.{NoneFrom, AskForPieces, end_of_reads}
 use Rattle.rescue_verify.specs.Looks.{Look, reads_of, look_calls}
-use Rattle.rescue_verify.specs.Comparing.{Plan, place_in, tally_of, HaltsAt}
+use Rattle.rescue_verify.specs.Comparing.{ComparisonPlan, place_in, tally_of, HaltsAt}
 use Rattle.verify_command.specs.Command.{Command}
 use Rattle.ddrescueverify_cli.specs.declared.ending.VerifyEnding.{VerifyEnding}
 use Rattle.ddrescueverify_cli.specs.declared.ending.VerifyEnding.TheVariants.{Done, Differs, SourceFault, SourceLost, SiteFault, ConsoleFault, NoMemory}
@@ -68,7 +68,7 @@ EndsSaved quiet t e d = IsAnswer quiet t e × IsIdle d
 
 -- The end of a comparison behind looks at its first pieces. It stopped before its last one, and saves nothing; or it came
 -- to the last, and made one save, and said how much it compared, unless it was asked to say nothing.
-pub data EndsBehind (c : Command) (p : Plan) (text : List ℕ) (looks : List Look) (e : VerifyEnding) (d : Deeds)
+pub data EndsBehind (c : Command) (p : ComparisonPlan) (text : List ℕ) (looks : List Look) (e : VerifyEnding) (d : Deeds)
     : Type 0 where
   Halts : (halt : Halt) → e ≡ answer_of_halt halt → d.opens ≡ [] → d.gain.times ≡ []
       → HaltsAt halt p (end_of_reads 0 (reads_of looks)) d.gain.reads d.gain.calls → EndsBehind c p text looks e d

@@ -1,13 +1,13 @@
 -- What stays so from a state to itself, and across two things done one after the other.
 use Rattle.std.proofs.Common.{◌≡◌, List, [], ◌∷◌, ◌++◌, refl, ap, sym, ◌∙◌, arith, append_assoc}
 use Rattle.std.proofs.lemmas.List.{append-nil}
-use Rattle.faulty_source.specs.Journal.{Reading, Gains, AllGain}
+use Rattle.faulty_source.specs.Journal.{Reading, JournalGains, AllGain}
 use Rattle.faulty_source.specs.SourceState.{SourceState, Keeps, Stays, Reads}
 
-pub gains_none : (journal : List Reading) → Gains journal journal
+pub gains_none : (journal : List Reading) → JournalGains journal journal
 gains_none journal = record { reads = []; told = sym (append-nil journal) }
 
-pub gains_more : (a b c : List Reading) → Gains a b → Gains b c → Gains a c
+pub gains_more : (a b c : List Reading) → JournalGains a b → JournalGains b c → JournalGains a c
 gains_more a b c f g = record {
   reads = f.reads ++ g.reads;
   told = g.told ∙ ap (λ (r : List Reading). r ++ g.reads) f.told ∙ append_assoc a f.reads g.reads;

@@ -1,3 +1,5 @@
-pub mod Entries
+-- Other crates cite these.
 pub mod Keeping
-pub mod Meets
+-- These are the crate's own.
+mod Entries
+mod Meets

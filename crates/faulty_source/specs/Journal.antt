@@ -32,7 +32,7 @@ abbrev pub covers : ℕ → Reading → ℕ → Bool
 covers sector r x = nat_le r.pos x && nat_lt x (r.pos + kept sector r)
 
 -- a journal gained these reads at its end
-pub record Gains (old new : List Reading) : Type 0 where
+pub record JournalGains (old new : List Reading) : Type 0 where
   pub reads : List Reading
   pub told : new ≡ old ++ reads
 
@@ -41,4 +41,4 @@ abbrev pub AllGain : List (List Reading) → List (List Reading) → Type 0
 AllGain [] [] = Unit {0}
 AllGain [] (new ∷ news) = ⊥
 AllGain (old ∷ olds) [] = ⊥
-AllGain (old ∷ olds) (new ∷ news) = Gains old new × AllGain olds news
+AllGain (old ∷ olds) (new ∷ news) = JournalGains old new × AllGain olds news

@@ -1,12 +1,14 @@
-pub mod LoopLemmas
+-- Other crates cite these.
 pub mod TellLemmas
-pub mod PieceLemmas
-pub mod SearchLemmas
-pub mod MarkLemmas
-pub mod ImageLemmas
-pub mod DraftLemmas
-pub mod EndLemmas
-pub mod EndPieceLemmas
-pub mod OutcomeLemmas
-pub mod PiecesLemmas
-pub mod LookLemmas
+-- These are the crate's own.
+mod LoopLemmas
+mod PieceLemmas
+mod SearchLemmas
+mod MarkLemmas
+mod ImageLemmas
+mod DraftLemmas
+mod EndLemmas
+mod EndPieceLemmas
+mod OutcomeLemmas
+mod PiecesLemmas
+mod LookLemmas

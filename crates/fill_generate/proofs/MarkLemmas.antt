@@ -10,10 +10,11 @@ use Rattle.block_list.specs.declared.status.Status.{Status}
 use Rattle.block_list.specs.declared.status.Status.TheVariants.{Finished}
 use Rattle.block_list.specs.Map.{marked}
 use Rattle.block_list.proofs.Places.{length-marked}
+use Rattle.block_list.proofs.HeldLemmas.{slice_get-drop}
 use Rattle.faulty_source.specs.Journal.{floor}
 use Rattle.rescue_rules.specs.Setting.{Setting}
 use Rattle.rescue_rules.specs.Preparation.{if_asked, changed_from}
-use Rattle.rescue_rules.proofs.MarkLemmas.{marked_inside, marked_outside, slice_get-take, slice_get-drop}
+use Rattle.rescue_rules.proofs.MarkLemmas.{marked_inside, marked_outside, slice_get-take}
 use Rattle.rescue_rules.proofs.PreparationLemmas.{length_changed}
 use Rattle.rescue_core.proofs.PrepareLemmas.{changed_is}
 use Rattle.sweep_rules.specs.Sweep.{Swept, is_not_zero, is_there, part_of, is_generated}

@@ -1,9 +1,10 @@
 -- What options set, one after the other, is within limits, and says what is done.
 use Rattle.std.proofs.Common.{◌≡◌, ℕ, zero, suc, ◌^◌, ◌<◌, Bool, true, false, cond, not, ◌&&◌, ◌||◌, List, [], ◌∷◌, nat_eq, slice_get, count_by, Option, Some, None, Result, Ok, Err, IfSome, refl, sym, ◌∙◌, ap, subst, arith}
-use Rattle.std.proofs.lemmas.Bool.Decides.{nat_tests}
 use Rattle.std.proofs.lemmas.Option.{same_Some}
 use Rattle.std.specs.Option.{option_map, option_and_then}
 use Rattle.std.specs.List.{list_all}
+use Rattle.std.proofs.lemmas.Bool.{and_parts, not-true}
+use Rattle.std.proofs.Math.Bool.{or_assoc}
 use Rattle.block_list.specs.declared.status.Status.{Status}
 use Rattle.block_list.specs.Status.{status_of_symbol}
 use Rattle.block_list.specs.Types.{types_of}
@@ -11,9 +12,10 @@ use Rattle.option_words.specs.Rows.{is_letter}
 use Rattle.option_words.specs.declared.reading.Item.{Item}
 use Rattle.option_values.specs.Values.{OptionRow, default_sector, is_given, is_name, is_of, last_of, last_value, later, letter_meant, options_with, set_by, set_in_turn, size_by, value_of, with_item, with_sector, word_at}
 use Rattle.option_values.proofs.LastLemmas.{none_counts}
-use Rattle.option_values.proofs.RowLemmas.{EachRow, letter_given, row_passes}
-use Rattle.option_values.proofs.TurnLemmas.{IsSector, sector_in_turn, turn_parts}
+use Rattle.option_values.proofs.RowLemmas.{EachRow, letter_given, row_passes, equal_letter}
+use Rattle.option_values.proofs.TurnLemmas.{IsSector, sector_in_turn, turn_parts, default_is}
 use Rattle.option_values.proofs.ValueLemmas.{map_part, or_part, size_by_below}
+use Rattle.option_values.proofs.QuietLemmas.{or_false, or_true}
 use Rattle.map_algebra.specs.declared.combine.Op.TheVariants.{And, Or, Xor}
 use Rattle.map_algebra.specs.Change.{change_of}
 use Rattle.log_command.specs.declared.mode.LogMode.{LogMode}
@@ -46,14 +48,6 @@ pub data Named (words : List (List ℕ)) (items : List Item) (o o' : LogOptions)
       → ((l : ℕ) → other_letter m ≡ Some l → is_name (last_value option_meanings words l items) ≡ true)
       → Named words items o o'
 
-both_parts : (a b : Bool) → (a && b) ≡ true → (a ≡ true) × (b ≡ true)
-both_parts true b e = (refl, e)
-both_parts false b e = absurd (cc)
-
-not_part : (a : Bool) → not a ≡ true → a ≡ false
-not_part true e = absurd (cc)
-not_part false e = refl
-
 both_off : (a b more : Bool) → not a ≡ true → not b ≡ true → more ≡ true → (not (a || b) && more) ≡ true
 both_off true b more p q r = absurd (cc)
 both_off false true more p q r = absurd (cc)
@@ -64,9 +58,9 @@ module _ (i : Item) (items : List Item) where
       → none_given items letters ≡ true → none_given (i ∷ items) letters ≡ true
   one_more [] p q = refl
   one_more (c ∷ cs) p q =
-      let off = both_parts (not (is_of option_meanings c i))
+      let off = and_parts (not (is_of option_meanings c i))
       (none_of (letter_meant (slice_get option_meanings i.row)) cs) p in
-      let none = both_parts (not (is_given option_meanings c items)) (none_given items cs) q in
+      let none = and_parts (not (is_given option_meanings c items)) (none_given items cs) q in
       both_off (is_of option_meanings c i) (is_given option_meanings c items) (none_given (i ∷ items) cs) off.0 none.0
       (one_more cs off.1 none.1)
 
@@ -75,11 +69,11 @@ none_at : (items : List Item) (letters : List ℕ) (k c : ℕ) → none_given it
     → slice_get letters k ≡ Some c → is_given option_meanings c items ≡ false
 none_at items [] k c h e = absurd (cc)
 none_at items (d ∷ ds) zero c h e =
-    let p = both_parts (not (is_given option_meanings d items)) (none_given items ds) h in
+    let p = and_parts (not (is_given option_meanings d items)) (none_given items ds) h in
     let same : d ≡ c = cc in
-    subst (λ x. is_given option_meanings x items ≡ false) same (not_part (is_given option_meanings d items) p.0)
+    subst (λ x. is_given option_meanings x items ≡ false) same (not-true (is_given option_meanings d items) p.0)
 none_at items (d ∷ ds) (suc k) c h e =
-    let p = both_parts (not (is_given option_meanings d items)) (none_given items ds) h in
+    let p = and_parts (not (is_given option_meanings d items)) (none_given items ds) h in
     none_at items ds k c p.1 e
 
 -- nor counted
@@ -87,8 +81,8 @@ pub none_counted : (items : List Item) (letters : List ℕ) → none_given items
     → count_by (λ c. is_given option_meanings c items) letters ≡ 0
 none_counted items [] h = refl
 none_counted items (c ∷ cs) h =
-    let p = both_parts (not (is_given option_meanings c items)) (none_given items cs) h in
-    rw (not_part (is_given option_meanings c items) p.0) (none_counted items cs p.1)
+    let p = and_parts (not (is_given option_meanings c items)) (none_given items cs) h in
+    rw (not-true (is_given option_meanings c items) p.0) (none_counted items cs p.1)
 
 -- the letter that names another map is that of a mode
 other_at : (m : LogMode) (l : ℕ) → other_letter m ≡ Some l → (k : ℕ) × (slice_get mode_letters k ≡ Some l)
@@ -126,14 +120,6 @@ record Keeps (block : ℕ) (o : LogOptions) (letter : Option ℕ) (value : Optio
   range : AreInRange block o → AreInRange block o'
   quiet_is : o'.quiet ≡ (o.quiet || is_letter quiet_letter letter)
   tells : Tells letter value o o'
-
-or_false : (b : Bool) → b ≡ (b || false)
-or_false true = refl
-or_false false = refl
-
-or_true : (b : Bool) → true ≡ (b || true)
-or_true true = refl
-or_true false = refl
 
 -- an option of a row keeps this
 abbrev RowKeeps : OptionRow LogOptions → Type 0
@@ -349,9 +335,6 @@ item_keeps block words o o' i e =
     let at = slice_get option_rows i.row in
     row_keeps block o o' i.row at value refl (or_part (set_by at block o value) (word_at i.value) o' e)
 
-equal_letter : (c : ℕ) → nat_eq c c ≡ true
-equal_letter c = grind (arith, nat_tests)
-
 -- a later name counts
 name_stays : (words : List (List ℕ)) (x y : Option Item)
     → is_name (option_and_then (λ i. value_of words i.value) x) ≡ true
@@ -391,10 +374,6 @@ module _ (words : List (List ℕ)) (i : Item) (items : List Item) (o p o' : LogO
     | Set m e f ↦ Set m e (λ l h. name_stays words (last_of option_meanings l items) _ (f l h))
   ]
 
-or_assoc : (a b c : Bool) → ((a || b) || c) ≡ (a || (b || c))
-or_assoc true b c = refl
-or_assoc false b c = refl
-
 nothing_given : (letters : List ℕ) → none_given [] letters ≡ true
 nothing_given [] = refl
 nothing_given (c ∷ cs) = nothing_given cs
@@ -431,9 +410,6 @@ pub record AreKept (words : List (List ℕ)) (items : List Item) (o : LogOptions
   pub range : AreInRange o.block o
   pub quiet_is : o.quiet ≡ is_given option_meanings quiet_letter items
   pub named : (block : ℕ) × Named words items (no_options block) o
-
-default_is : IsSector default_sector
-default_is = record { low = omega arith; high = omega arith }
 
 kept_by : (words : List (List ℕ)) (items : List Item) (block : Result ℕ ℕ) (o : LogOptions)
     → set_in_turn (with_sector option_meanings block_letter words) (Ok default_sector) items ≡ block

@@ -37,10 +37,10 @@ use Rattle.ddrescue_cli.specs.Told.{calls_before, files_of, asked_of}
 use Rattle.ddrescue_cli.specs.Modes.{Generates, GenerateStops}
 use Rattle.ddrescue_cli.specs.Ddrescue.{GenerateModePromise}
 use Rattle.ddrescue_cli.specs.ModeLaws.{generating}
-use Rattle.ddrescue_cli.proofs.AskedLemmas.{sensible_in}
-use Rattle.ddrescue_cli.proofs.EarlyCut.{EarlyCut, early_cut}
-use Rattle.ddrescue_cli.proofs.SweepGoes.{Unbegun, Begun}
-use Rattle.ddrescue_cli.proofs.SweepWay.{SweepWay, InMaps, BehindMaps, generate_way}
+use Rattle.ddrescue_cli.proofs.words.AskedLemmas.{sensible_in}
+use Rattle.ddrescue_cli.proofs.runs.EarlyCut.{EarlyCut, early_cut}
+use Rattle.ddrescue_cli.proofs.sweeps.SweepGoes.{Unbegun, Begun}
+use Rattle.ddrescue_cli.proofs.sweeps.SweepWay.{SweepWay, InMaps, BehindMaps, generate_way}
 use Rattle.many_runs.specs.Owed.{Target, last_given, HoldsLast, Owed, IsOwedIn, IsOwedAt}
 use Rattle.many_runs.specs.Chain.{looked_at, found_by}
 use Rattle.many_runs.specs.Laws.{GeneratingOwesOn}

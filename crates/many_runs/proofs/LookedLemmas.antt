@@ -8,13 +8,14 @@ use Rattle.std.proofs.lemmas.Option.{slice_get-get_or, slice_get_within}
 use Rattle.block_list.specs.declared.status.Status.{Status}
 use Rattle.block_list.specs.declared.status.Status.TheVariants.{Finished}
 use Rattle.block_list.specs.Map.{Has}
+use Rattle.block_list.proofs.HeldLemmas.{slice_get-drop}
 use Rattle.crash_site.specs.Files.{File}
 use Rattle.rescue_rules.specs.Setting.{Setting, place}
 use Rattle.rescue_rules.specs.Snapshots.{Snapshot}
 use Rattle.rescue_rules.specs.Given.{last_of_both}
 use Rattle.rescue_rules.specs.Deeds.{Deed, some_save, saves_in}
 use Rattle.rescue_rules.specs.Stops.{IsSave}
-use Rattle.rescue_rules.proofs.MarkLemmas.{slice_get-take, slice_get-drop}
+use Rattle.rescue_rules.proofs.MarkLemmas.{slice_get-take}
 use Rattle.rescue_rules.proofs.SnapshotLemmas.{one_of}
 use Rattle.sweep_rules.specs.Sweep.{Sweep, Swept, generator, is_generated, is_there, part_of, swept, swept_by, is_save_due, sweep_snapshot, sweep_end, due_save, deeds_of}
 use Rattle.sweep_rules.specs.SweepLaws.{AreGiven}

@@ -26,8 +26,8 @@ use Rattle.ddrescue_cli.specs.Told.{Told, calls_before, files_of, asked_of}
 use Rattle.ddrescue_cli.specs.Ddrescue.{Promise}
 use Rattle.ddrescue_cli.specs.Work.{Rescues, rescue_faults, rescue_rows}
 use Rattle.ddrescue_cli.specs.Laws.{setting, done_by}
-use Rattle.ddrescue_cli.proofs.AskedLemmas.{sensible_to}
-use Rattle.ddrescue_cli.proofs.GoesLemmas.{work_goes}
+use Rattle.ddrescue_cli.proofs.words.AskedLemmas.{sensible_to}
+use Rattle.ddrescue_cli.proofs.promise.GoesLemmas.{work_goes}
 use Rattle.option_words.specs.Words.{command_line}
 use Rattle.work_steps.specs.Work.{Works}
 use Rattle.many_runs.specs.Owed.{Target, pairs_of, Owed, IsOwedIn, IsOwedAt}

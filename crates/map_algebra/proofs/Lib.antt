@@ -1,12 +1,14 @@
-pub mod WalkLemmas
+-- Other crates cite these.
 pub mod MapLemmas
-pub mod AreaLemmas
-pub mod CountLemmas
-pub mod SummaryLemmas
-pub mod ChangeLemmas
-pub mod BlockLemmas
-pub mod CreatedLemmas
 pub mod ListedLemmas
 pub mod ListingLemmas
-pub mod MarkLemmas
-pub mod NumberLemmas
+-- These are the crate's own.
+mod WalkLemmas
+mod AreaLemmas
+mod CountLemmas
+mod SummaryLemmas
+mod ChangeLemmas
+mod BlockLemmas
+mod CreatedLemmas
+mod MarkLemmas
+mod NumberLemmas

@@ -1,17 +1,14 @@
 -- Numbers of lines, one after another.
-use Rattle.std.proofs.Common.{◌≡◌, ℕ, suc, ◌+◌, ◌≤◌, Bool, not, eqb, List, [], ◌∷◌, ◌++◌, length, append_assoc, Option, Some, None, Result, Ok, Err, refl, sym, ap, ◌∙◌, arith}
+use Rattle.std.proofs.Common.{◌≡◌, ℕ, ◌+◌, ◌≤◌, Bool, not, eqb, List, [], ◌∷◌, ◌++◌, length, append_assoc, Option, Some, None, Result, Ok, Err, refl, sym, ap, ◌∙◌, arith}
 use Rattle.std.proofs.lemmas.List.Sums.{length-filter, count_by-le-length}
 use Rattle.std.proofs.lemmas.List.Splits.{length-slice_split}
 use Rattle.mapfile_text.specs.Lines.{Line, lines, numbered, filled}
 use Rattle.mapfile_text.specs.Cursor.{OpenLine, line_of}
+use Rattle.mapfile_text.proofs.LineLemmas.{length-numbered}
 use Rattle.map_algebra.specs.declared.shape.Shape.{Shape}
 use Rattle.map_algebra.specs.declared.numbers.NumberError.{NumberError}
 use Rattle.map_algebra.specs.declared.numbers.NumberError.TheVariants.{BadNumber}
 use Rattle.map_algebra.specs.Numbers.{number_in, in_front_of, numbers_of, checked}
-
-length-numbered : (n : ℕ) (ls : List (List ℕ)) → length (numbered n ls) ≡ length ls
-length-numbered n [] = refl
-length-numbered n (l ∷ ls) = ap suc (length-numbered (n + 1) ls)
 
 -- a text has at most as many lines that aren't blank as newlines, and one
 pub few_filled : (text : List ℕ) → length (filled text) ≤ length text + 1

@@ -1,12 +1,12 @@
 -- The stretches of a map, as a walk meets them.
 use Rattle.std.proofs.Common.{◌≡◌, ℕ, ◌+◌, ◌-◌, ◌<◌, ◌≤◌, List, length, Some, arith}
 use Rattle.std.specs.List.{slice_get}
-use Rattle.std.proofs.lemmas.Option.{slice_get_within, get_or_from_slice_get}
+use Rattle.std.proofs.lemmas.Option.{get_or_from_slice_get}
 use Rattle.std.proofs.lemmas.List.{get_or_past}
 use Rattle.block_list.specs.declared.block.Block.{Block}
 use Rattle.block_list.specs.declared.status.Status.{Status}
 use Rattle.block_list.specs.declared.status.Status.TheVariants.{NonTried}
-use Rattle.block_list.specs.Stretches.{IsStretch, IsStretchAt, stretches}
+use Rattle.block_list.specs.Stretches.{IsStretchAt, stretches}
 use Rattle.block_list.proofs.StretchLemmas.{are_stretches}
 use Rattle.rescue_domain.specs.Stretch.{IsConstant}
 use Rattle.map_algebra.specs.At.{status_at}
@@ -19,12 +19,6 @@ numbered_holds map i x b e begun inside = record {
   begun = begun;
   holds = omega (arith, begun, inside);
 }
-
--- a stretch ends at the map's end or in front of it
-pub stretch_ends : (map : List Status) (b : Block) → IsStretch map b → b.pos + b.size ≤ length map
-stretch_ends map b k =
-    let last = k.has (b.pos + b.size - 1) (omega (arith, k.some)) (omega (arith, k.some)) in
-    omega (arith, slice_get_within map (b.pos + b.size - 1) b.status last, k.some)
 
 -- from a position on a map keeps its status up to the end of the stretch that holds it
 pub constant_in : (map : List Status) (x to : ℕ) (b : Block) → IsStretchAt map x b → x < to → to ≤ b.pos + b.size

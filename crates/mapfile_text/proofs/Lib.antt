@@ -1,19 +1,21 @@
-pub mod DigitLemmas
-pub mod TakenOff
-pub mod PartLemmas
+-- Other crates cite these.
 pub mod PieceLemmas
-pub mod Appended
 pub mod OneReading
 pub mod OneFault
 pub mod MapOrFault
-pub mod PrintedBytes
-pub mod ReadNumbers
-pub mod ReadLines
 pub mod ReadPrinted
-pub mod FieldLemmas
-pub mod LastDigits
 pub mod LineLemmas
-pub mod EntryLemmas
-pub mod Progress
-pub mod DigitsRead
-pub mod FirstLine
+-- These are the crate's own.
+mod DigitLemmas
+mod TakenOff
+mod PartLemmas
+mod Appended
+mod PrintedBytes
+mod ReadNumbers
+mod ReadLines
+mod FieldLemmas
+mod LastDigits
+mod EntryLemmas
+mod Progress
+mod DigitsRead
+mod FirstLine

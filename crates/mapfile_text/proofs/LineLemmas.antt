@@ -64,7 +64,7 @@ pub says-none : (n : ℕ) (fs : List (List ℕ)) (ls : List Line) → is_comment
     → no_comments (record { number = n; fields = fs } ∷ ls) ≡ no_comments ls
 says-none n fs ls e = ap (λ b. cond (not b) (record { number = n; fields = fs } ∷ no_comments ls) (no_comments ls)) e
 
-length-numbered : (n : ℕ) (ls : List (List ℕ)) → length (numbered n ls) ≡ length ls
+pub length-numbered : (n : ℕ) (ls : List (List ℕ)) → length (numbered n ls) ≡ length ls
 length-numbered n [] = refl
 length-numbered n (l ∷ ls) = ap suc (length-numbered (n + 1) ls)
 

@@ -1,5 +1,5 @@
 -- No byte of a printed word is white space, and none of a printed line is a newline.
-use Rattle.std.proofs.Common.{◌≡◌, ℕ, ◌-◌, ◌<◌, ◌≤◌, ◌^◌, Bool, true, false, ◌&&◌, List, [], ◌∷◌, length, get_or, map, replicate, codes, nat_le, nat_eq, refl, arith}
+use Rattle.std.proofs.Common.{◌≡◌, ℕ, ◌-◌, ◌<◌, ◌≤◌, ◌^◌, true, false, List, [], ◌∷◌, length, get_or, map, replicate, codes, nat_le, nat_eq, refl, arith}
 use Rattle.std.specs.List.{All, list_all}
 use Rattle.std.specs.Char.{digit_value}
 use Rattle.std.specs.Str.Parse.{AllDigits}
@@ -7,16 +7,13 @@ use Rattle.std.specs.Fmt.{decimal, digits}
 use Rattle.std.proofs.lemmas.Bool.Decides.{nat_tests}
 use Rattle.std.proofs.lemmas.Fmt.{digits_is_IsNumeral, decimal_is_IsNumeral}
 use Rattle.std.proofs.lemmas.List.Elements.{All-nil, All-cons, All-append, All-replicate, All-map, All-weaker}
+use Rattle.std.proofs.lemmas.Bool.{and_parts}
 use Rattle.mapfile_text.specs.Lines.{is_blank}
 use Rattle.mapfile_text.specs.Printed.{at_least_eight, hexadecimal, shown_byte}
 
 -- each byte is at least low
 abbrev pub AllFrom : ℕ → List ℕ → Type 0
 AllFrom low bs = All (λ b. low ≤ b) bs
-
-both_true : (a b : Bool) → (a && b) ≡ true → (a ≡ true) × (b ≡ true)
-both_true true b h = (refl, h)
-both_true false b h = cc
 
 from_le : (low b : ℕ) → nat_le low b ≡ true → low ≤ b
 from_le low b h = grind (arith, nat_tests)
@@ -25,7 +22,7 @@ from_le low b h = grind (arith, nat_tests)
 pub from_test : (low : ℕ) (bs : List ℕ) → list_all (nat_le low) bs ≡ true → AllFrom low bs
 from_test low [] h = All-nil (λ b. low ≤ b)
 from_test low (b ∷ bs) h =
-    let two = both_true (nat_le low b) (list_all (nat_le low) bs) h in
+    let two = and_parts (nat_le low b) (list_all (nat_le low) bs) h in
     All-cons (λ b. low ≤ b) b bs (from_le low b two.0) (from_test low bs two.1)
 
 pub from_lower : (low high : ℕ) (bs : List ℕ) → low ≤ high → AllFrom high bs → AllFrom low bs

@@ -10,7 +10,7 @@ use Rattle.size_suffixes.specs.Number.{base_of, digits_of_text}
 use Rattle.size_suffixes.proofs.Digits.{number_of_digits, decimal_number}
 use Rattle.block_list.specs.declared.status.Status.{Status}
 use Rattle.block_list.specs.declared.status.Status.TheVariants.{NonTried, NonTrimmed, NonScraped, BadSector, Finished}
-use Rattle.block_list.specs.Status.{symbol, status_of_symbol}
+use Rattle.block_list.specs.Status.{symbol}
 use Rattle.mapfile_text.specs.declared.state.Current.{Current}
 use Rattle.mapfile_text.specs.declared.state.Current.TheVariants.{Copying, Trimming, Scraping, Retrying, Filling, Generating, Finished as Done}
 use Rattle.mapfile_text.specs.Fields.{numeral, numeral_by, current_of_symbol, begins_with_digit, above_zero, pass_of}
@@ -56,13 +56,6 @@ pass_is_read n some small =
     let not_zero : nat_eq n 0 ≡ false = ne_eqb n 0 (λ e. omega arith) in
     ap (λ v. cond v (above_zero (numeral f)) (Some 1)) (begins_with f (decimal_is_IsNumeral n (omega arith)).0)
     ∙ ap above_zero (decimal_is_read n some small) ∙ ap (λ v. cond v None (Some n)) not_zero
-
-pub status_is_read : (s : Status) → status_of_symbol (symbol s) ≡ Some s
-status_is_read NonTried = refl
-status_is_read NonTrimmed = refl
-status_is_read NonScraped = refl
-status_is_read BadSector = refl
-status_is_read Finished = refl
 
 pub current_is_read : (c : Current) → current_of_symbol (current_symbol c) ≡ Some c
 current_is_read Copying = refl

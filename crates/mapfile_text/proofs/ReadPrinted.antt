@@ -12,6 +12,7 @@ use Rattle.block_list.specs.Stretches.{covered, stretches}
 use Rattle.block_list.specs.Tiling.{AreTiles}
 use Rattle.block_list.proofs.TileLemmas.{tiles_end}
 use Rattle.block_list.proofs.StretchLemmas.{stretches_tiles, stretches_covered}
+use Rattle.block_list.proofs.TypeLemmas.{symbol_is_read}
 use Rattle.mapfile_text.specs.declared.heading.Program.{Program}
 use Rattle.mapfile_text.specs.declared.heading.Program.TheVariants.{Ddrescue, Ddrescuelog}
 use Rattle.mapfile_text.specs.declared.state.MapState.{MapState}
@@ -24,7 +25,7 @@ use Rattle.mapfile_text.specs.MapText.{IsStateLine, IsBlockLine, IsGap, Continue
 use Rattle.mapfile_text.specs.Printed.{printed, ended, hexadecimal, shown_byte, program_line, command_line, time_lines, heading_text, current_symbol, state_line, block_line}
 use Rattle.mapfile_text.specs.Laws.{PrintedIsRead}
 use Rattle.mapfile_text.proofs.PrintedBytes.{AllFrom, from_test, from_lower, decimal_from, hexadecimal_from, shown_line_from}
-use Rattle.mapfile_text.proofs.ReadNumbers.{hexadecimal_is_read, pass_is_read, status_is_read, current_is_read, symbol_from, current_symbol_from}
+use Rattle.mapfile_text.proofs.ReadNumbers.{hexadecimal_is_read, pass_is_read, current_is_read, symbol_from, current_symbol_from}
 use Rattle.mapfile_text.proofs.ReadLines.{said_from, said_is, said_line, IsComment, no_comment, comment, comments_join, state_fields, block_fields}
 
 byte_from : (c : ℕ) → 33 ≤ c → AllFrom 11 (c ∷ [])
@@ -133,7 +134,7 @@ block_is_read : (b : Block) (n : ℕ) → b.pos + b.size < 2 ^ 63 → IsBlockLin
 block_is_read b n h =
     let pos = hexadecimal_is_read b.pos (omega arith) in
     let size = hexadecimal_is_read b.size (omega arith) in
-    let status = status_is_read b.status in
+    let status = symbol_is_read b.status in
     record { spells = λ i. block_by (pos i) (size i) (status i); end = h }
 
 text_of_blocks : (b : Block) (bs : List Block) (n : ℕ) → b.pos + b.size < 2 ^ 63

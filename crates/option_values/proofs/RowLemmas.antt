@@ -3,6 +3,7 @@ use Rattle.std.proofs.Common.{◌≡◌, ℕ, zero, suc, Bool, true, false, not,
 use Rattle.std.proofs.lemmas.Bool.Decides.{nat_tests}
 use Rattle.std.proofs.lemmas.Option.{slice_get-map}
 use Rattle.std.specs.Option.{option_map, option_and_then}
+use Rattle.std.proofs.lemmas.Bool.{and_parts, not-true}
 use Rattle.option_words.specs.Rows.{is_letter}
 use Rattle.option_values.specs.Values.{OptionRow, letter_at, letter_meant, meanings_of, row_of}
 
@@ -29,15 +30,7 @@ abbrev pub have_own_letters : {O : Type 0} → List (OptionRow O) → Bool
 have_own_letters [] = true
 have_own_letters (r ∷ rows) = lack_letter r.letter rows && have_own_letters rows
 
-both_parts : (a b : Bool) → (a && b) ≡ true → (a ≡ true) × (b ≡ true)
-both_parts true b e = (refl, e)
-both_parts false b e = absurd (cc)
-
-not_part : (a : Bool) → not a ≡ true → a ≡ false
-not_part true e = absurd (cc)
-not_part false e = refl
-
-equal_letter : (c : ℕ) → nat_eq c c ≡ true
+pub equal_letter : (c : ℕ) → nat_eq c c ≡ true
 equal_letter c = grind (arith, nat_tests)
 
 same_letter : (c d : ℕ) → nat_eq d c ≡ true → d ≡ c
@@ -48,12 +41,12 @@ none_found : {O : Type 0} (c : ℕ) (rows : List (OptionRow O)) (k : ℕ) → la
     → letter_at rows k ≡ Some c → ⊥
 none_found c [] k h e = absurd (cc)
 none_found c (r ∷ rows) zero h e =
-    let p = both_parts (not (is_letter c r.letter)) (lack_letter (Some c) rows) h in
-    let off = not_part (is_letter c r.letter) p.0 in
+    let p = and_parts (not (is_letter c r.letter)) (lack_letter (Some c) rows) h in
+    let off = not-true (is_letter c r.letter) p.0 in
     let on : is_letter c r.letter ≡ true = ap (is_letter c) e ∙ equal_letter c in
     absurd (cc)
 none_found c (r ∷ rows) (suc k) h e =
-    let p = both_parts (not (is_letter c r.letter)) (lack_letter (Some c) rows) h in
+    let p = and_parts (not (is_letter c r.letter)) (lack_letter (Some c) rows) h in
     none_found c rows k p.1 e
 
 -- another row's letter is another
@@ -81,10 +74,10 @@ pub row_by_letter : {O : Type 0} (rows : List (OptionRow O)) (k : ℕ) → have_
     → slice_get rows k ≡ option_and_then (λ c. row_of c rows) (letter_at rows k)
 row_by_letter [] k h = refl
 row_by_letter (r ∷ rows) zero h =
-    let p = both_parts (lack_letter r.letter rows) (have_own_letters rows) h in
+    let p = and_parts (lack_letter r.letter rows) (have_own_letters rows) h in
     found_by r rows r.letter refl p.0
 row_by_letter (r ∷ rows) (suc k) h =
-    let p = both_parts (lack_letter r.letter rows) (have_own_letters rows) h in
+    let p = and_parts (lack_letter r.letter rows) (have_own_letters rows) h in
     row_by_letter rows k p.1 ∙ further r rows k (letter_at rows k) p.0 refl
 
 letter_in : {O : Type 0} (r : Option (OptionRow O))

@@ -64,3 +64,7 @@ sector_in_turn options letter words [] sector n h e = let same : sector ≡ n = 
 sector_in_turn options letter words (i ∷ is) sector n h e =
     let p = turn_parts (with_sector options letter words) (with_sector options letter words sector i) is n e in
     sector_in_turn options letter words is p.0 n (sector_step options letter words sector p.0 i h p.1) p.2
+
+-- so is the sector's size that is taken where none is given
+pub default_is : IsSector default_sector
+default_is = record { low = omega arith; high = omega arith }

@@ -1,9 +1,11 @@
+-- Other crates cite these.
 pub mod LawLemmas
 pub mod MeantLemmas
 pub mod MemoryLemmas
 pub mod OperandLemmas
-pub mod ReadLemmas
-pub mod ResultLemmas
-pub mod SpotLemmas
-pub mod TableLemmas
-pub mod TakeLemmas
+-- These are the crate's own.
+mod ReadLemmas
+mod ResultLemmas
+mod SpotLemmas
+mod TableLemmas
+mod TakeLemmas

@@ -1,16 +1,16 @@
-pub mod SearchLemmas
-pub mod ListedLemmas
-pub mod PagingLemmas
-pub mod CountLemmas
-pub mod RowLemmas
-pub mod FindLemmas
-pub mod FillLemmas
-pub mod FilingLemmas
-pub mod KeptLemmas
-pub mod MarkLemmas
-pub mod RegionLemmas
-pub mod RewriteLemmas
-pub mod HalvingLemmas
-pub mod StepLemmas
-pub mod GainLemmas
-pub mod FewLemmas
+mod SearchLemmas
+mod ListedLemmas
+mod PagingLemmas
+mod CountLemmas
+mod RowLemmas
+mod FindLemmas
+mod FillLemmas
+mod FilingLemmas
+mod KeptLemmas
+mod MarkLemmas
+mod RegionLemmas
+mod RewriteLemmas
+mod HalvingLemmas
+mod StepLemmas
+mod GainLemmas
+mod FewLemmas

@@ -1,6 +1,6 @@
 -- Nothing else is answered than what the records bring, a refusal, a failure or want of memory.
-use Rattle.std.proofs.Common.{◌≡◌, ◌≢◌, ℕ, ◌-◌, ◌<◌, ◌^◌, List, [], refl, inl, inr, subst, arith}
-use Rattle.fault_count.specs.Counts.{raised}
+use Rattle.std.proofs.Common.{◌≢◌, ℕ, List, [], refl, inl, inr, subst}
+use Rattle.fault_count.proofs.CountLemmas.{not_risen}
 use Rattle.option_words.specs.declared.fault.UsageFault.{UsageFault}
 use Rattle.option_words.specs.declared.fault.UsageFault.TheVariants.{Word, BadValue, Conflict, Modes, Operands, PlaceTooLarge}
 use Rattle.option_values.proofs.MeaningLemmas.{asked_or_refused}
@@ -23,10 +23,6 @@ pub brings : (c : Command) (e : PartEnding) (d : Deeds) → PartWorks c e d → 
 brings c e d (inl w) v = absurd (subst IsVerdict w.0 v)
 brings c e d (inr (inl w)) v = absurd (subst IsVerdict w.0 v)
 brings c e d (inr (inr w)) v = record { next = w.2.next; answer = w.2.answer }
-
--- a count that stands hasn't risen
-not_risen : (n now : ℕ) → n < 2 ^ 64 - 1 → now ≡ n → now ≡ raised n → ⊥
-not_risen n now below same rose = omega (arith, below, same, rose)
 
 usage_refused : (fault : UsageFault) (words : List (List ℕ)) → SaysOfUsage fault words → AreRefused words fault
 usage_refused (Word f) words says = says.0

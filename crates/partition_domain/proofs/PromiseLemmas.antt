@@ -1,5 +1,5 @@
 -- The promise of a call, by what its command did.
-use Rattle.std.proofs.Common.{◌≡◌, ◌≢◌, ◌⊎◌, ◌↔◌, ℕ, Bool, true, false, List, [], ◌∷◌, length, Option, Some, None, Result, Ok, Err, refl, sym, ap, ◌∙◌, inl, inr, subst}
+use Rattle.std.proofs.Common.{◌≡◌, ◌≢◌, ◌⊎◌, ◌↔◌, ℕ, Bool, true, false, List, [], ◌∷◌, length, Option, Some, None, Result, Err, refl, sym, ap, ◌∙◌, inl, inr, subst}
 use Rattle.std.proofs.lemmas.Bool.{both_ways, cond_both}
 use Rattle.faulty_source.specs.SourceState.{SourceState, Keeps}
 use Rattle.faulty_source.proofs.Keeping.{keeps_self}
@@ -14,6 +14,7 @@ use Rattle.option_words.specs.Reading.{WordFaultAt}
 use Rattle.option_words.proofs.MemoryLemmas.{never_memory}
 use Rattle.option_values.specs.Grammar.{IsRefusalBy, Unread as UnreadWords, Wrong}
 use Rattle.option_values.specs.Values.{is_empty_text, is_given}
+use Rattle.rescue_console.proofs.AnswerLemmas.{puts_or}
 use Rattle.partition_domain.specs.declared.ending.PartEnding.{PartEnding}
 use Rattle.partition_domain.specs.declared.ending.PartEnding.TheVariants.{Done, Usage, SourceFault, SourceLost, Unread, NoSignature, Protective, NoPartition, ChainTooLong, ConsoleFault, NoMemory}
 use Rattle.partition_domain.specs.Command.{Command, AskQuiet, AreRefused, IsAsked, option_meanings, part_grammar, partition_by, quiet_letter, with_operands, with_partition}
@@ -234,13 +235,6 @@ may_starve words s p p' = record {
   silent = λ on. absurd (both_ways false refl on);
   loud = λ off silence. (refl, record { input = refl; out = refl });
 }
-
--- a put, whole or not
-puts_or : {T E : Type 0} (piece : List ℕ) (result : Result T E) (old new : ConsoleState)
-    → ConsoleAnswers ErrorChannel piece result old new
-    → Puts ErrorChannel piece old new ⊎ PutsPart ErrorChannel piece old new
-puts_or piece (Ok x) old new a = inl a.puts
-puts_or piece (Err e) old new a = inr a.fails
 
 pub says_message : {T E : Type 0} (t : Told) (quiet : Bool) (piece : List ℕ) (result : Result T E)
     (between : ConsoleState) → MaySay t.words t.answer quiet (IsUntouched t between) → quiet ≡ false

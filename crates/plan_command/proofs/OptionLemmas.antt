@@ -7,8 +7,9 @@ use Rattle.option_words.specs.Rows.{is_letter}
 use Rattle.option_words.specs.declared.reading.Item.{Item}
 use Rattle.option_values.specs.Values.{OptionRow, default_sector, is_given, is_of, letter_meant, number_by, options_with, row_of, set_by, set_in_turn, size_by, value_of, with_item, with_sector, within_range, word_at}
 use Rattle.option_values.proofs.RowLemmas.{EachRow, letter_given, row_passes}
-use Rattle.option_values.proofs.TurnLemmas.{IsSector, sector_in_turn, turn_parts}
+use Rattle.option_values.proofs.TurnLemmas.{IsSector, sector_in_turn, turn_parts, default_is}
 use Rattle.option_values.proofs.ValueLemmas.{in_range, map_part, or_part, size_by_below, then_part}
+use Rattle.option_values.proofs.QuietLemmas.{or_false, or_true}
 use Rattle.rescue_command.specs.declared.options.Options.{Options}
 use Rattle.rescue_command.specs.Options.{skips_of, option_rows as rescue_rows, no_options as no_rescue_options}
 use Rattle.rescue_command.proofs.SkipLemmas.{AreSkips, skips_of_are}
@@ -23,14 +24,6 @@ pub record Keeps (sector : ℕ) (o : Options) (quiet : Bool) (o' : Options) : Ty
   pub range : AreInRange sector o → AreInRange sector o'
   pub quiet_is : o'.quiet ≡ (o.quiet || quiet)
   pub plain : ArePlain o → ArePlain o'
-
-or_false : (b : Bool) → b ≡ (b || false)
-or_false true = refl
-or_false false = refl
-
-or_true : (b : Bool) → true ≡ (b || true)
-or_true true = refl
-or_true false = refl
 
 within_count : (m : Option ℕ) (n : ℕ) → option_and_then (within_range 1 65536) m ≡ Some n → 0 < n
 within_count m n e = let p = in_range 1 65536 m n e in omega arith
@@ -325,9 +318,6 @@ pub record AreKept (o : Options) (quiet : Bool) : Type 0 where
   pub range : AreInRange o.sector o
   pub quiet_is : o.quiet ≡ quiet
   pub plain : ArePlain o
-
-default_is : IsSector default_sector
-default_is = record { low = omega arith; high = omega arith }
 
 kept_by : (words : List (List ℕ)) (items : List Item) (sector : Result ℕ ℕ) (o : PlanOptions)
     → set_in_turn (with_sector option_meanings sector_letter words) (Ok default_sector) items ≡ sector

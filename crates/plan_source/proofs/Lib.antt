@@ -1,2 +1,4 @@
+-- Other crates cite these.
 pub mod PrintingLemmas
-pub mod AnswerLemmas
+-- These are the crate's own.
+mod AnswerLemmas

@@ -5,7 +5,7 @@ use Rattle.std.proofs.lemmas.Grind.{flat_map-append}
 use Rattle.fault_count.specs.Counts.{raised}
 use Rattle.faulty_source.specs.declared.memory.ReadEntry.{ReadEntry}
 use Rattle.rescue_console.specs.declared.console.Channel.TheVariants.{Out}
-use Rattle.rescue_console.specs.ConsoleState.{ConsoleState, GoesOn, StaysBeside, Puts, PutsPart}
+use Rattle.rescue_console.specs.ConsoleState.{ConsoleState, TextGoesOn, StaysBeside, Puts, PutsPart}
 use Rattle.plan_source.specs.declared.loss.PlanLoss.{PlanLoss}
 use Rattle.plan_source.specs.declared.loss.PlanLoss.TheVariants.{Memory, Console}
 use Rattle.plan_source.specs.Lines.{line_of_entry, lines_of_entries}
@@ -58,7 +58,7 @@ begins_part before part left piece now split is =
           ∙ take_at part left (length part) refl ∙ sym rest;
     }
 
-goes_on : (piece before now : List ℕ) → BeginsBehind piece before now → GoesOn piece before now
+goes_on : (piece before now : List ℕ) → BeginsBehind piece before now → TextGoesOn piece before now
 goes_on piece before now b =
     let n : ℕ = length now - length before in
     record {

@@ -4,7 +4,7 @@ use Rattle.fault_count.specs.Counts.{Rose}
 use Rattle.fault_count.specs.Plan.{no_plan}
 use Rattle.faulty_source.specs.declared.memory.ReadEntry.{ReadEntry}
 use Rattle.rescue_console.specs.declared.console.Channel.TheVariants.{Out}
-use Rattle.rescue_console.specs.ConsoleState.{ConsoleState, GoesOn, Puts, StaysBeside}
+use Rattle.rescue_console.specs.ConsoleState.{ConsoleState, TextGoesOn, Puts, StaysBeside}
 use Rattle.plan_source.specs.declared.loss.PlanLoss.{PlanLoss}
 use Rattle.plan_source.specs.declared.loss.PlanLoss.TheVariants.{Memory, Console}
 use Rattle.plan_source.specs.Lines.{lines_of_entries}
@@ -64,6 +64,6 @@ pub record HasPrinted (start now : ConsoleState) (entries : List ReadEntry) (los
 -- where it failed by a plan
 pub record PutsBehind (text piece : List ℕ) (old new : ConsoleState) : Type 0 where
   pub stays : StaysBeside Out old new
-  pub part : IsTrue old.tells → GoesOn piece (old.out.text ++ text) new.out.text
+  pub part : IsTrue old.tells → TextGoesOn piece (old.out.text ++ text) new.out.text
   pub unput : IsTrue old.is_planned → IsTrue old.tells → new.out.text ≡ old.out.text ++ text
   pub rose : Rose old.out.faults new.out.faults

@@ -1,4 +1,6 @@
+-- Other crates cite these.
 pub mod CommandLemmas
 pub mod OptionLemmas
-pub mod RowLemmas
 pub mod SkipLemmas
+-- These are the crate's own.
+mod RowLemmas

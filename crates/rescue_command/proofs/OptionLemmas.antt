@@ -5,14 +5,16 @@ use Rattle.std.proofs.lemmas.Bool.Decides.{nat_tests}
 use Rattle.std.proofs.lemmas.Option.{same_Some}
 use Rattle.std.specs.Option.{option_map, option_and_then}
 use Rattle.std.specs.Result.{result_ok}
+use Rattle.std.proofs.Math.Bool.{or_assoc}
 use Rattle.size_suffixes.specs.Interval.{interval}
 use Rattle.block_list.specs.Types.{types_of}
 use Rattle.option_words.specs.Rows.{is_letter}
 use Rattle.option_words.specs.declared.reading.Item.{Item}
 use Rattle.option_values.specs.Values.{OptionRow, default_sector, is_given, is_name, is_of, letter_meant, number_by, options_with, set_by, set_in_turn, size_by, value_of, with_item, with_sector, within_range, word_at}
 use Rattle.option_values.proofs.RowLemmas.{EachRow, letter_given, row_passes}
-use Rattle.option_values.proofs.TurnLemmas.{IsSector, sector_in_turn, turn_parts}
+use Rattle.option_values.proofs.TurnLemmas.{IsSector, sector_in_turn, turn_parts, default_is}
 use Rattle.option_values.proofs.ValueLemmas.{in_range, map_part, or_part, size_by_below, then_part}
+use Rattle.option_values.proofs.QuietLemmas.{or_false, or_true}
 use Rattle.rescue_command.specs.declared.options.Options.{Options}
 use Rattle.rescue_command.specs.Command.{IsSampleSize}
 use Rattle.rescue_command.specs.Options.{area_limit_of, limit_with, no_options, option_meanings, option_rows, options_in, quiet_letter, sample_of, sector_letter, skips_of}
@@ -38,14 +40,6 @@ pub record Keeps (sector : ℕ) (o : Options) (quiet : Bool) (o' : Options) : Ty
   pub same : o'.sector ≡ o.sector
   pub range : AreInRange sector o → AreInRange sector o'
   pub quiet_is : o'.quiet ≡ (o.quiet || quiet)
-
-or_false : (b : Bool) → b ≡ (b || false)
-or_false true = refl
-or_false false = refl
-
-or_true : (b : Bool) → true ≡ (b || true)
-or_true true = refl
-or_true false = refl
 
 -- what a value that was read is
 within_count : (m : Option ℕ) (n : ℕ) → option_and_then (within_range 1 65536) m ≡ Some n → 0 < n
@@ -336,10 +330,6 @@ item_keeps sector words o o' i e =
     let at = slice_get option_rows i.row in
     row_keeps sector o o' i.row at value refl (or_part (set_by at sector o value) (word_at i.value) o' e)
 
-or_assoc : (a b c : Bool) → ((a || b) || c) ≡ (a || (b || c))
-or_assoc true b c = refl
-or_assoc false b c = refl
-
 items_keep : (sector : ℕ) (words : List (List ℕ)) (items : List Item) (o o' : Options)
     → set_in_turn (with_item option_rows sector words) (Ok o) items ≡ Ok o'
     → Keeps sector o (is_given option_meanings quiet_letter items) o'
@@ -376,9 +366,6 @@ none_in_range n h = record {
 pub record AreKept (o : Options) (quiet : Bool) : Type 0 where
   pub range : AreInRange o.sector o
   pub quiet_is : o.quiet ≡ quiet
-
-default_is : IsSector default_sector
-default_is = record { low = omega arith; high = omega arith }
 
 kept_by : (words : List (List ℕ)) (items : List Item) (sector : Result ℕ ℕ) (o : Options)
     → set_in_turn (with_sector option_meanings sector_letter words) (Ok default_sector) items ≡ sector

@@ -36,7 +36,7 @@ pub record Keeps (old new : ConsoleState) : Type 0 where
   pub err : old.err.faults ≤ new.err.faults
 
 -- a text goes on with a beginning of a piece
-pub record GoesOn (piece before now : List ℕ) : Type 0 where
+pub record TextGoesOn (piece before now : List ℕ) : Type 0 where
   pub part : List ℕ
   pub left : List ℕ
   pub split : part ++ left ≡ piece
@@ -57,7 +57,7 @@ pub record Puts (channel : Channel) (text : List ℕ) (old new : ConsoleState) :
 -- a beginning of a text was put on a channel, and then a put failed
 pub record PutsPart (channel : Channel) (text : List ℕ) (old new : ConsoleState) : Type 0 where
   pub stays : StaysBeside channel old new
-  pub part : IsTrue old.tells → GoesOn text (channel_of channel old).text (channel_of channel new).text
+  pub part : IsTrue old.tells → TextGoesOn text (channel_of channel old).text (channel_of channel new).text
   pub rose : Rose (channel_of channel old).faults (channel_of channel new).faults
 
 -- by its plan a put fails where its number is one of those that fail, or where it finds no memory, which is counted; of

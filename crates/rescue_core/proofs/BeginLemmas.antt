@@ -1,9 +1,9 @@
 -- A run at its start, and at the start of its next pass.
-use Rattle.std.proofs.Common.{◌≡◌, ℕ, ◌<◌, ◌≤◌, min, Bool, true, false, ◌&&◌, not, nat_eq, List, ◌∷◌, ◌^◌, length, drop, Option, Some, None, refl, sym, ap, ◌∙◌, arith, ⊎_elim}
+use Rattle.std.proofs.Common.{◌≡◌, ℕ, ◌<◌, min, Bool, true, false, ◌&&◌, not, nat_eq, List, ◌∷◌, ◌^◌, length, drop, Option, Some, None, refl, sym, ap, ◌∙◌, arith, ⊎_elim}
 use Rattle.std.specs.List.{slice_get}
 use Rattle.std.proofs.Math.Bool.{and-true}
 use Rattle.std.proofs.Math.Path.{fun_ext}
-use Rattle.std.proofs.lemmas.Bool.{cond_both, cond-true, not-true, eq-eqb}
+use Rattle.std.proofs.lemmas.Bool.{cond-true, not-true, eq-eqb}
 use Rattle.block_list.specs.declared.block.Run.{Run}
 use Rattle.block_list.specs.declared.status.Status.{Status}
 use Rattle.mapfile_text.specs.declared.state.MapState.{MapState}
@@ -14,9 +14,8 @@ use Rattle.rescue_rules.specs.declared.phase.Phase.TheVariants.{Copying, Trimmin
 use Rattle.rescue_rules.specs.declared.stop.TrimMode.{TrimMode}
 use Rattle.rescue_rules.specs.declared.stop.TrimMode.TheVariants.{Lead}
 use Rattle.rescue_rules.specs.Setting.{Setting}
-use Rattle.rescue_rules.specs.Passes.{Pass, is_up, numbered, passes_from}
+use Rattle.rescue_rules.specs.Passes.{Pass, numbered, passes_from}
 use Rattle.rescue_rules.specs.Machine.{Machine, start_of, is_live}
-use Rattle.rescue_rules.specs.MachineLaws.{IsInOrder}
 use Rattle.rescue_rules.specs.Beginning.{first_pass, first_cursor}
 use Rattle.rescue_domain.specs.Parts.{covers}
 use Rattle.rescue_core.specs.declared.settings.Settings.{Settings}
@@ -24,16 +23,11 @@ use Rattle.rescue_core.specs.declared.state.Place.{Place}
 use Rattle.rescue_core.specs.declared.state.Tally.{Tally}
 use Rattle.rescue_rules.specs.declared.report.Counts.{Counts}
 use Rattle.rescue_rules.specs.Counts.{counts_of}
+use Rattle.rescue_rules.proofs.FitLemmas.{first_few, first_there, start_there}
+use Rattle.rescue_rules.proofs.ReadyLemmas.{order_lead}
 use Rattle.rescue_core.specs.RunState.{RunState, setting_with, setting_in, IsSound, Suits, run_at, IsRunning, Counted, passed}
 use Rattle.rescue_core.proofs.RequestLemmas.{start_up}
 use Rattle.rescue_core.proofs.PassLemmas.{next_passes, IsOn, next_on, copying_leads}
-
--- a pass begins within the map
-start_there : (s : Setting) (p : Pass) (map : List Status) → start_of s p map ≤ length map
-start_there s p map = cond_both (is_up s p) 0 (length map) (λ (x : ℕ). x ≤ length map) (λ up. omega arith) (λ down. omega arith)
-
-lead_order : (s : Setting) (m : Machine) → m.mode ≡ Lead → IsInOrder s m
-lead_order s m lead = record { tail = λ low is. absurd (cc); lead = λ _. lead }
 
 -- the phase of the next pass isn't off
 trims_on : (r : RunState) (room : ℕ) (p : Pass) → IsRunning r room → IsOn (setting_in r) r.phase p → p.phase ≡ Trimming
@@ -60,7 +54,7 @@ running_passed r room phase pass passes running next =
       short = running.short;
       cursor = start_there (setting_in r) (numbered phase pass) r.machine.map;
       skip = running.sound.skip;
-      order = lead_order (setting_in r) (passed r phase pass).machine refl;
+      order = order_lead (setting_in r) (passed r phase pass).machine refl;
       pass = refl;
       trims = trims_on r room (numbered phase pass) running on;
       scrapes = scrapes_on r room (numbered phase pass) running on;
@@ -111,16 +105,6 @@ first_last s loaded state map pass cursor is least last begins =
     (eq-eqb (min state.pass 5) 5 (sym least ∙ last)))
     ∙ ap (λ (o : Option MapState). first_cursor s o map) (sym is)
 
-first_there : (s : Setting) (loaded : Option MapState) (map : List Status) → first_cursor s loaded map ≤ length map
-first_there s None map = start_there s (numbered Copying 1) map
-first_there s (Some state) map =
-    cond_both (nat_eq (min state.pass 5) 5) (start_of s (numbered Copying 5) map) (min state.pos (length map))
-    (λ (x : ℕ). x ≤ length map) (λ last. start_there s (numbered Copying 5) map) (λ other. omega arith)
-
-few_passes : (loaded : Option MapState) → first_pass loaded ≤ 5
-few_passes None = omega arith
-few_passes (Some state) = omega arith
-
 pub running_started : (settings : Settings) (domain : List Run) (names : Option MapNames) (line : List ℕ) (map : List Status)
     (loaded : Option MapState) (place : Place) (tally : Tally) (heard : Bool) (room : ℕ) → IsSound settings
     → Suits settings (covers domain) (length map) → length map < 2 ^ 63 → place.pass ≡ first_pass loaded
@@ -136,8 +120,8 @@ running_started settings domain names line map loaded place tally heard room sou
       short = short;
       cursor = omega (arith, cursor, first_there s loaded map);
       skip = omega (arith, skip, sound.skip);
-      order = lead_order s m lead;
-      pass = copying_leads s place.pass (omega (arith, pass, few_passes loaded));
+      order = order_lead s m lead;
+      pass = copying_leads s place.pass (omega (arith, pass, first_few loaded));
       trims = λ is. absurd (cc);
       scrapes = λ is. absurd (cc);
       led = λ is. absurd (cc);

@@ -1,9 +1,9 @@
 -- What an event does to a position.
-use Rattle.std.proofs.Common.{◌≡◌, ◌⊎◌, ℕ, ◌+◌, ◌-◌, ◌<◌, ◌≤◌, true, false, ◌&&◌, nat_lt, List, length, refl, sym, ap, subst, ◌∙◌, arith, inl, inr, ⊎_elim}
+use Rattle.std.proofs.Common.{◌≡◌, ◌⊎◌, ℕ, ◌+◌, ◌-◌, ◌<◌, ◌≤◌, true, false, List, length, refl, ap, subst, ◌∙◌, arith, inl, inr, ⊎_elim}
 use Rattle.std.specs.List.{slice_get}
-use Rattle.std.proofs.lemmas.Bool.{cases_lt, cond_both, cond-true, and_parts, true_from_ne_false}
+use Rattle.std.proofs.lemmas.Bool.{cases_lt, cond_both, cond-true}
 use Rattle.block_list.specs.declared.status.Status.{Status}
-use Rattle.block_list.specs.declared.status.Status.TheVariants.{NonTrimmed, NonScraped, BadSector, Finished}
+use Rattle.block_list.specs.declared.status.Status.TheVariants.{NonTrimmed, NonScraped, Finished}
 use Rattle.block_list.specs.Map.{Has, marked}
 use Rattle.block_list.proofs.Places.{length-marked}
 use Rattle.faulty_source.specs.Ends.{is_before}
@@ -11,35 +11,15 @@ use Rattle.faulty_source.specs.Journal.{Reading, is_failed, kept}
 use Rattle.rescue_rules.specs.declared.stop.TrimMode.{TrimMode}
 use Rattle.rescue_rules.specs.declared.stop.TrimMode.TheVariants.{Lead, Tail}
 use Rattle.rescue_rules.specs.declared.phase.Phase.{Phase}
-use Rattle.rescue_rules.specs.declared.phase.Phase.TheVariants.{Copying, Trimming, Scraping, Retrying}
 use Rattle.rescue_rules.specs.Setting.{Setting, IsSensible}
 use Rattle.rescue_rules.specs.Passes.{taken}
 use Rattle.rescue_rules.specs.Machine.{Machine, pass_of, IsRequest}
-use Rattle.rescue_rules.specs.Step.{Event, trims, is_copying, is_trimming, rest_status, scraped, over_after, step}
+use Rattle.rescue_rules.specs.Step.{Event, trims, is_trimming, rest_status, scraped, over_after, step}
 use Rattle.rescue_rules.specs.MachineLaws.{IsInOrder, StepsBy, AsksFor}
 use Rattle.rescue_rules.proofs.MarkLemmas.{marked_inside, marked_outside}
 use Rattle.rescue_rules.proofs.OverLemmas.{good_reaches}
 use Rattle.rescue_rules.proofs.StatusLemmas.{wanted_taken}
-use Rattle.rescue_rules.proofs.StepLemmas.{asks_back}
-
-pub trims_is : (phase : Phase) → trims phase ≡ true → phase ≡ Trimming
-trims_is Copying is = absurd (cc)
-trims_is Trimming is = refl
-trims_is Scraping is = absurd (cc)
-trims_is Retrying is = absurd (cc)
-
--- what isn't kept is bad, unless copying asked for it
-pub rest_is : (s : Setting) (m : Machine) (size : ℕ)
-    → ((rest_status s m size ≡ NonTrimmed) × (is_copying m ≡ true)) ⊎ (rest_status s m size ≡ BadSector)
-rest_is s m size =
-    cond_both (is_copying m && nat_lt s.sector size) NonTrimmed BadSector
-    (λ (t : Status). ((t ≡ NonTrimmed) × (is_copying m ≡ true)) ⊎ (t ≡ BadSector))
-    (λ on. inl (refl, (and_parts (is_copying m) (nat_lt s.sector size) on).0)) (λ off. inr refl)
-
--- only trimming is at a run's back
-tail_trims : (s : Setting) (m : Machine) (low : ℕ) → IsInOrder s m → m.mode ≡ Tail low → is_trimming m ≡ true
-tail_trims s m low order is =
-    true_from_ne_false (is_trimming m) (λ off. let e : Tail low ≡ Lead = sym is ∙ order.lead off in absurd (cc))
+use Rattle.rescue_rules.proofs.StepLemmas.{asks_back, tail_trims, trims_is}
 
 -- A position that was asked for is finished, or was missed by a read that failed, or stands and isn't left of the domain
 -- any more. One that wasn't asked for lies between the front and the back of a run that is trimmed, and is left for
@@ -54,7 +34,7 @@ pub data Change (s : Setting) (m : Machine) (r : Reading) (map : List Status) (x
   Stands : (AsksFor r x → ⊥) → slice_get map x ≡ slice_get m.map x → Change s m r map x
 
 -- what is marked for scraping at a run's back lies before the read,
-scraped_behind : (mode : TrimMode) (p : ℕ) (map : List Status) (x : ℕ) → p ≤ length map
+pub scraped_behind : (mode : TrimMode) (p : ℕ) (map : List Status) (x : ℕ) → p ≤ length map
     → ((low : ℕ) → mode ≡ Tail low → low ≤ p) → p ≤ x → slice_get (scraped mode p map) x ≡ slice_get map x
 scraped_behind Lead p map x there back from = refl
 scraped_behind (Tail low) p map x there back from =

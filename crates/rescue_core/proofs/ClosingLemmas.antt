@@ -10,7 +10,7 @@ use Rattle.rescue_rules.specs.declared.stop.RunEnd.TheVariants.{SaveFailed}
 use Rattle.rescue_rules.specs.Snapshots.{Snapshot}
 use Rattle.rescue_rules.specs.RunCalls.{closing_calls}
 use Rattle.rescue_core.specs.RunState.{RunState, setting_in}
-use Rattle.rescue_core.specs.Closing.{closing_snapshot, end_of, Saves, Saved, Unsaved}
+use Rattle.rescue_core.specs.Closing.{closing_snapshot, end_of, LastSave, Saved, Unsaved}
 
 -- what a save says of a run that shows this
 abbrev pub with_shown : RunState → MapState → Snapshot
@@ -28,7 +28,7 @@ closing_is (Some stop) r last is = ap (with_shown r) is
 pub saves_whole : {T : Type 0} (stop : Option Stop) (r : RunState) (last : MapState) (saved : T) (site site' : SiteState)
     → ShowsLast stop r.machine.shown last
     → SavesMap (closing_calls (setting_in r) (with_shown r last)) false (Ok saved) site site'
-    → Saves stop r (end_of stop) site site'
+    → LastSave stop r (end_of stop) site site'
 saves_whole stop r last saved site site' is s =
     Saved refl
     (subst (λ (p : Snapshot). Makes (closing_calls (setting_in r) p) site site') (closing_is stop r last is) s.made)
@@ -37,7 +37,7 @@ saves_whole stop r last saved site site' is s =
 pub saves_broken : {T : Type 0} (stop : Option Stop) (r : RunState) (last : MapState) (fault : SaveFault) (site site' : SiteState)
     → ShowsLast stop r.machine.shown last → site.is_drafting ≡ false
     → SavesMap {T = T} (closing_calls (setting_in r) (with_shown r last)) false (Err fault) site site'
-    → Saves stop r (SaveFailed fault.call stop) site site'
+    → LastSave stop r (SaveFailed fault.call stop) site site'
 saves_broken stop r last fault site site' is none s =
     let closing = closing_is stop r last is in
     Unsaved fault.call refl

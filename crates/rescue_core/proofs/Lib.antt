@@ -1,19 +1,21 @@
-pub mod BeginLemmas
+-- Other crates cite these.
 pub mod ChangeLemmas
-pub mod ClosingLemmas
 pub mod CountsLemmas
-pub mod LineLemmas
 pub mod PassLemmas
-pub mod PlaceLemmas
 pub mod PrepareLemmas
-pub mod RequestLemmas
-pub mod RoomLemmas
-pub mod RunningLemmas
 pub mod SaveLemmas
 pub mod StageLemmas
-pub mod TurnCallLemmas
 pub mod TurnEndLemmas
-pub mod TurnLemmas
-pub mod TurnMarkLemmas
-pub mod TurnedLemmas
-pub mod WantedLemmas
+-- These are the crate's own.
+mod BeginLemmas
+mod ClosingLemmas
+mod LineLemmas
+mod PlaceLemmas
+mod RequestLemmas
+mod RoomLemmas
+mod RunningLemmas
+mod TurnCallLemmas
+mod TurnLemmas
+mod TurnMarkLemmas
+mod TurnedLemmas
+mod WantedLemmas

@@ -18,11 +18,13 @@ use Rattle.rescue_rules.specs.Step.{Event, copies, trims, is_copying, is_trimmin
 use Rattle.rescue_rules.specs.MachineLaws.{StepsBy, AsksFor}
 use Rattle.rescue_rules.proofs.OverLemmas.{live_was}
 use Rattle.rescue_rules.proofs.StepLemmas.{move_steps}
+use Rattle.rescue_rules.proofs.StatusLemmas.{rest_is}
 use Rattle.rescue_core.specs.RunState.{RunState, setting_in, led_from, IsLed, IsRunning}
 use Rattle.rescue_core.specs.Turning.{stepped}
 use Rattle.rescue_core.proofs.RequestLemmas.{start_up}
-use Rattle.rescue_core.proofs.ChangeLemmas.{Kept, Missed, CutOff, Between, Stands, rest_is, changes, change_between}
-use Rattle.rescue_core.proofs.TurnLemmas.{sensible_in, wanted_in}
+use Rattle.rescue_core.proofs.ChangeLemmas.{Kept, Missed, CutOff, Between, Stands, changes, change_between}
+use Rattle.rescue_core.proofs.TurnLemmas.{wanted_in}
+use Rattle.rescue_core.proofs.StageLemmas.{running_sensible}
 
 -- the cursor behind an event lies within the map
 cursor_within : (s : Setting) (m : Machine) (e : Event) → e.reading.pos + e.reading.asked ≤ length m.map
@@ -90,7 +92,7 @@ untrimmed : (r : RunState) (room : ℕ) (e : Event) (x : ℕ) → Trims r room e
 untrimmed r room e x t live has =
     let s : Setting = setting_in r in
     let m : Machine = r.machine in
-    elim (changes s m e x (sensible_in r room t.running) t.running.order t.request t.by) [
+    elim (changes s m e x (running_sensible r room t.running) t.running.order t.request t.by) [
       | Kept asks is ↦ absurd (let no : Finished ≡ NonTrimmed = same_Some Finished NonTrimmed (sym is ∙ has) in cc)
       | Missed asks part size is ↦
           let found : rest_status s m size ≡ NonTrimmed = same_Some (rest_status s m size) NonTrimmed (sym is ∙ has) in
@@ -166,7 +168,7 @@ led_tail r room e low x t tail live has left far =
     ⊎_elim early
     (λ (from : low ≤ x).
     let is : Has (step s m e).map NonScraped x
-    = change_between s m e low x (sensible_in r room t.running) t.running.order t.request t.by
+    = change_between s m e low x (running_sensible r room t.running) t.running.order t.request t.by
     (not-false (is_failed e.reading) part.0) tail from part.1 in
     let no : NonScraped ≡ NonTrimmed = same_Some NonScraped NonTrimmed (sym is ∙ has) in cc)
     (cases_lt x low))
@@ -212,7 +214,7 @@ pub running_steps : (r : RunState) (room : ℕ) (e : Event) (heard : Bool) → I
 running_steps r room e heard i request few =
     let s : Setting = setting_in r in
     let m : Machine = r.machine in
-    let by : StepsBy s m e = move_steps s m e (sensible_in r room i) i.order request few in
+    let by : StepsBy s m e = move_steps s m e (running_sensible r room i) i.order request few in
     record {
       sound = i.sound;
       suits = record {

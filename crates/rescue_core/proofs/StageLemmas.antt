@@ -19,7 +19,7 @@ use Rattle.rescue_rules.specs.Step.{Event, copies, trims, is_copying, is_trimmin
 use Rattle.rescue_rules.specs.Moves.{ready, no_pass_left}
 use Rattle.rescue_rules.proofs.SearchLemmas.{request_seen}
 use Rattle.rescue_rules.proofs.OverLemmas.{live_was, wanted_live}
-use Rattle.rescue_rules.proofs.StepLemmas.{Asks, request_asks}
+use Rattle.rescue_rules.proofs.StepLemmas.{Asks, request_asks, trims_is}
 use Rattle.rescue_rules.proofs.StatusLemmas.{non_tried_stood, non_trimmed_stood, non_scraped_stood, wanted_taken}
 use Rattle.rescue_rules.proofs.ReadyLemmas.{ready_here, ready_on, ready_end, spent_request}
 use Rattle.rescue_core.specs.RunState.{RunState, setting_in, passed, IsRunning, IsGone}
@@ -58,17 +58,11 @@ never_asked r room e t gone =
     gone e.reading.pos (wanted_live (setting_in r) r.machine e.reading.pos t.wanted)
     (wanted_taken (setting_in r) r.machine e.reading.pos t.wanted)
 
-copies_is : (phase : Phase) → copies phase ≡ true → phase ≡ Copying
+pub copies_is : (phase : Phase) → copies phase ≡ true → phase ≡ Copying
 copies_is Copying is = refl
 copies_is Trimming is = absurd (cc)
 copies_is Scraping is = absurd (cc)
 copies_is Retrying is = absurd (cc)
-
-trims_is : (phase : Phase) → trims phase ≡ true → phase ≡ Trimming
-trims_is Copying is = absurd (cc)
-trims_is Trimming is = refl
-trims_is Scraping is = absurd (cc)
-trims_is Retrying is = absurd (cc)
 
 never_copies : (r : RunState) (room : ℕ) (e : Event) → IsTurn r room e → IsGone NonTried r → is_copying r.machine ≡ true → ⊥
 never_copies r room e t gone on =

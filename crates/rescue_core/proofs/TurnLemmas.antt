@@ -25,6 +25,7 @@ use Rattle.rescue_core.specs.declared.state.Tally.{Tally}
 use Rattle.rescue_core.specs.RunState.{RunState, setting_in, HasPlaces, IsRunning, run_at}
 use Rattle.rescue_core.specs.Turning.{stepped}
 use Rattle.rescue_core.specs.TurnParts.{place_of, tally_of, IsBackOf}
+use Rattle.rescue_core.proofs.StageLemmas.{running_sensible}
 
 -- no search asks for more than a cluster
 size_most : (s : Setting) (ok : IsSensible s) (m : Machine) (phase : Phase) (mode : TrimMode) → s.sector ≤ s.cluster
@@ -52,17 +53,6 @@ request_few s ok m p q r =
     = cut_few f.front s.sector f.size r.start r.end ok.sector in
     omega (arith, few, size_most s ok m (pass_of m).phase m.mode (sector_in s ok), r.starts, r.ends)
 
--- a run's setting is a sensible one
-pub sensible_in : (r : RunState) (room : ℕ) → IsRunning r room → IsSensible (setting_in r)
-sensible_in r room i = record {
-  sector = i.sound.sector;
-  sectors = i.sound.sectors;
-  some = i.sound.some;
-  cluster = i.sound.cluster;
-  from = i.suits.from;
-  retries = i.sound.retries;
-}
-
 -- what a turn needs of its request: it fits the buffer, the map and the output
 pub record Fits (r : RunState) (room pos len : ℕ) : Type 0 where
   pub some : 0 < len
@@ -82,7 +72,7 @@ pub request_fits : (r : RunState) (room pos len : ℕ) → IsRunning r room → 
     → IsRequest (setting_in r) r.machine pos (pos + len) → Fits r room pos len
 request_fits r room pos len i places request =
     let s : Setting = setting_in r in
-    let ok : IsSensible s = sensible_in r room i in
+    let ok : IsSensible s = running_sensible r room i in
     let asks : Asks s r.machine pos (pos + len) = request_asks s ok r.machine pos (pos + len) request in
     let some : 0 < len = omega (arith, asks.some) in
     let first : covers r.domain pos ≡ true

@@ -32,8 +32,9 @@ use Rattle.rescue_core.specs.RunState.{RunState, setting_in, run_at, HasPlaces, 
 use Rattle.rescue_core.specs.Turning.{turn_of, stepped, Halted}
 use Rattle.rescue_core.specs.TurnParts.{place_of, tally_of, RunsAt, IsReadOf, Gathers, Advances}
 use Rattle.rescue_core.specs.Behind.{Marks, GoesOn}
-use Rattle.rescue_core.proofs.TurnLemmas.{sensible_in, Fits, request_fits, wanted_in, run_steps}
+use Rattle.rescue_core.proofs.TurnLemmas.{Fits, request_fits, wanted_in, run_steps}
 use Rattle.rescue_core.proofs.RunningLemmas.{running_steps}
+use Rattle.rescue_core.proofs.StageLemmas.{running_sensible}
 
 -- the parts of a run before a turn, and behind it
 pub record Parts : Type 0 where
@@ -118,7 +119,7 @@ event_steps : (p : Parts) (r : RunState) (room : ℕ) (request : Request) (got :
     → StepsBy (setting_in (run_of p)) (run_of p).machine g.event
 event_steps p r room request got source source' site site' clock clock' b g =
     let before : RunState = run_of p in
-    move_steps (setting_in before) before.machine g.event (sensible_in before room b.running) b.running.order
+    move_steps (setting_in before) before.machine g.event (running_sensible before room b.running) b.running.order
     (event_asks (setting_in before) before.machine g.event request.pos request.len g.is.pos g.is.asked
     (begins_asks p r room request b))
     (omega (arith, g.is.few, g.is.asked))

@@ -31,22 +31,22 @@ end_of None = Done
 end_of (Some stop) = Stopped stop
 
 -- its last calls returned, a save or without a mapfile an image sync, or one of them failed
-pub data Saves (stop : Option Stop) (r : RunState) (end : RunEnd) (site site' : SiteState) : Type 0 where
+pub data LastSave (stop : Option Stop) (r : RunState) (end : RunEnd) (site site' : SiteState) : Type 0 where
   Saved : end ≡ end_of stop → Makes (closing_calls (setting_in r) (closing_snapshot stop r)) site site'
-      → site'.is_drafting ≡ false → Saves stop r end site site'
+      → site'.is_drafting ≡ false → LastSave stop r end site site'
   Unsaved : (call : SiteCall) → end ≡ SaveFailed call stop
       → IsNameIn call (closing_calls (setting_in r) (closing_snapshot stop r))
       → Breaks call (closing_calls (setting_in r) (closing_snapshot stop r)) site site'
-      → site'.is_drafting ≡ drafting_after_fault call false → Saves stop r end site site'
+      → site'.is_drafting ≡ drafting_after_fault call false → LastSave stop r end site site'
 
 -- The end of a run saves its map, or without a mapfile syncs its output; but behind a call on its files that failed it
 -- makes no further call.
 abbrev pub Closes : Option Stop → RunState → RunEnd → (site site' : SiteState) → Type 0
-Closes None r end site site' = Saves None r end site site'
-Closes (Some SourceLost) r end site site' = Saves (Some SourceLost) r end site site'
+Closes None r end site site' = LastSave None r end site site'
+Closes (Some SourceLost) r end site site' = LastSave (Some SourceLost) r end site site'
 Closes (Some (Site call)) r end site site' = (end ≡ Stopped (Site call)) × (site' ≡ site)
-Closes (Some (LimitMet limit)) r end site site' = Saves (Some (LimitMet limit)) r end site site'
-Closes (Some NoMemory) r end site site' = Saves (Some NoMemory) r end site site'
+Closes (Some (LimitMet limit)) r end site site' = LastSave (Some (LimitMet limit)) r end site site'
+Closes (Some NoMemory) r end site site' = LastSave (Some NoMemory) r end site site'
 
 -- a run that stopped, and why
 pub record StoppedState : Type 0 where

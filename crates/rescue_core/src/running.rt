@@ -15,7 +15,7 @@ ghost use Rattle.rescue_rules.specs.Lines.{phase_front, report_of, report_text};
 ghost use Rattle.rescue_core.specs.RunState.{names_in, setting_in, IsRunning, IsSound, Suits, HasPlaces, started, passed, showing};
 ghost use Rattle.rescue_core.specs.Turning.{Turned, Halted};
 ghost use Rattle.rescue_core.specs.TurnParts.{Advances};
-ghost use Rattle.rescue_core.specs.Closing.{Closes, MayClose, Saves, drafting_after, last_pieces};
+ghost use Rattle.rescue_core.specs.Closing.{Closes, MayClose, LastSave, drafting_after, last_pieces};
 
 use crate::behind::go_on_by_kind;
 use crate::closing::{Closed, end_saved, last_shown};
@@ -404,7 +404,7 @@ impl<T: Tiles> Running<T> {
     /// Does so behind whatever else has stopped it, or at its end.
     fn save_last<D: Site>(self, stop: Option<Stop>, site: &mut D) -> RunEnd
         requires no_draft { (D.state site.old).is_drafting ≡ false }
-        ensures saves { Saves stop self result (D.state site.old) (D.state site.new) }
+        ensures saves { LastSave stop self result (D.state site.old) (D.state site.new) }
         ensures site { SiteKeeps (D.state site.old) (D.state site.new) }
     {
         let Running {

@@ -1,8 +1,10 @@
-pub mod FinishedLemmas
-pub mod MadeLemmas
-pub mod PartsLemmas
-pub mod SearchLemmas
-pub mod StretchLemmas
+-- Other crates cite these.
 pub mod PlaceLemmas
-pub mod SizeLemmas
 pub mod TestingLemmas
+-- These are the crate's own.
+mod FinishedLemmas
+mod MadeLemmas
+mod PartsLemmas
+mod SearchLemmas
+mod StretchLemmas
+mod SizeLemmas

@@ -10,7 +10,7 @@ use Rattle.block_list.specs.Places.{IsRunUp}
 use Rattle.faulty_source.specs.declared.source.Got.{Got}
 use Rattle.faulty_source.specs.declared.source.Got.TheVariants.{Read}
 use Rattle.faulty_source.specs.Got.{count_of, is_end}
-use Rattle.faulty_source.specs.Journal.{Reading, Gains}
+use Rattle.faulty_source.specs.Journal.{Reading, JournalGains}
 use Rattle.faulty_source.specs.SourceState.{SourceState, Below, Keeps, Stays, Reads, AnswersRead}
 use Rattle.rescue_domain.specs.Finished.{is_finished, is_finished_at}
 use Rattle.rescue_domain.specs.Testing.{finished_front, IsFront, seen, state_seen, GainsSeen}
@@ -76,7 +76,7 @@ front_of_run statuses pos end n u = fronts_agree statuses pos n _ _ (record {
 
 -- What no call changes is so in test mode too, where the journal gained.
 keeps_seen : (reference : ℕ) (statuses : List Status) (old new : SourceState) → Keeps old new
-    → (IsTrue old.tells → Gains old.journal new.journal)
+    → (IsTrue old.tells → JournalGains old.journal new.journal)
     → Keeps (state_seen reference statuses old) (state_seen reference statuses new)
 keeps_seen reference statuses old new keeps gains = record {
   tells = keeps.tells;
@@ -223,7 +223,7 @@ module _ (reference reference' : ℕ) (statuses statuses' : List Status) (old ne
   pub gains_below : (reads : List Reading) → Reads reads test (state_seen reference' statuses' new) → IsTrue old.tells
       → GainsSeen statuses reads old.journal new.journal
   gains_below reads read tells =
-      let gains : Gains old.journal new.journal = (keeps.journals_below tells).0 in
+      let gains : JournalGains old.journal new.journal = (keeps.journals_below tells).0 in
       let told : map (seen statuses) new.journal ≡ map (seen statuses) old.journal ++ reads =
       (said_below (λ a b. Reads reads a b) read).told tells in
       let same : map (seen statuses) old.journal ++ map (seen statuses) gains.reads ≡ map (seen statuses) old.journal ++ reads =

@@ -1,7 +1,7 @@
 -- What a source gives of its reads in test mode: what a test map says is finished.
 use Rattle.std.specs.Prelude.{◌≡◌, ℕ, zero, suc, ◌+◌, ◌<◌, ◌≤◌, true, false, nat_lt, List, ◌∷◌, length, map, take, if◌then◌else◌}
 use Rattle.block_list.specs.declared.status.Status.{Status}
-use Rattle.faulty_source.specs.Journal.{Reading, Gains}
+use Rattle.faulty_source.specs.Journal.{Reading, JournalGains}
 use Rattle.faulty_source.specs.SourceState.{SourceState}
 use Rattle.rescue_domain.specs.Finished.{is_finished_at}
 
@@ -26,7 +26,7 @@ seen statuses r =
 
 -- a journal gained reads, which are seen as these
 pub record GainsSeen (statuses : List Status) (reads old new : List Reading) : Type 0 where
-  pub gains : Gains old new
+  pub gains : JournalGains old new
   pub seen : map (seen statuses) gains.reads ≡ reads
 
 -- What a source tells in test mode: what the one that it reads does, but its journal has the reads as they are seen.

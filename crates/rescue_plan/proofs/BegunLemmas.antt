@@ -3,7 +3,7 @@ use Rattle.std.proofs.Common.{◌≡◌, ℕ, IsTrue, List, [], ◌∷◌, ◌++
 use Rattle.std.proofs.lemmas.List.{append-nil}
 use Rattle.std.proofs.lemmas.Grind.{flat_map-append}
 use Rattle.block_list.specs.declared.status.Status.{Status}
-use Rattle.rescue_console.specs.ConsoleState.{ConsoleState, GoesOn}
+use Rattle.rescue_console.specs.ConsoleState.{ConsoleState, TextGoesOn}
 use Rattle.plan_command.specs.Command.{Command, ArePlain}
 use Rattle.plan_source.specs.Lines.{PlannedRead, line_of, lines_of}
 use Rattle.rescue_plan.specs.declared.ending.PlanEnding.{PlanEnding}
@@ -20,7 +20,7 @@ module _ (c : Command) (test : List Status) (old new : ConsoleState) (reads : Li
     (plain : ArePlain c.options.rescue) (plan : IsPlan (plan_setting c.options.rescue c.length) c.length test reads)
     (tells : IsTrue old.tells) where
   abbrev Begun : Type 0
-  Begun = GoesOn (lines_of reads) old.out.text new.out.text
+  Begun = TextGoesOn (lines_of reads) old.out.text new.out.text
 
   first_begun : PutsFirst c test old new → Begun
   first_begun p =

@@ -1,5 +1,5 @@
-pub mod SimilarLemmas
-pub mod PlanLemmas
-pub mod BegunLemmas
-pub mod RunLemmas
-pub mod PromiseLemmas
+mod SimilarLemmas
+mod PlanLemmas
+mod BegunLemmas
+mod RunLemmas
+mod PromiseLemmas

@@ -9,7 +9,7 @@ use Rattle.rescue_rules.specs.Moves.{state_after, has_ended, IsRun}
 use Rattle.rescue_rules.specs.Beginning.{machine_over}
 use Rattle.rescue_rules.specs.Events.{reads_of}
 use Rattle.rescue_rules.specs.Start.{IsFresh}
-use Rattle.rescue_console.specs.ConsoleState.{ConsoleState, GoesOn}
+use Rattle.rescue_console.specs.ConsoleState.{ConsoleState, TextGoesOn}
 use Rattle.rescue_command.specs.declared.options.Options.{Options}
 use Rattle.rescue_command.specs.Command.{Command as RescueCommand}
 use Rattle.ddrescue_cli.specs.Asked.{setting_of}
@@ -42,7 +42,7 @@ abbrev pub PlanIsBegun : Type 0
 PlanIsBegun = (c : Command) (test : List Status) (e : PlanEnding) (old new : ConsoleState) (reads : List PlannedRead)
     → ArePlain c.options.rescue → PutsPlan c test e old new
     → IsPlan (plan_setting c.options.rescue c.length) c.length test reads → IsTrue old.tells
-    → GoesOn (lines_of reads) old.out.text new.out.text
+    → TextGoesOn (lines_of reads) old.out.text new.out.text
 
 -- The reads of a rescue, as they are seen in test mode, where the input gave all that it was asked for: a run over a map
 -- that wasn't tried, at whatever times.

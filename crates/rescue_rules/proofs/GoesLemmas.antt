@@ -157,7 +157,7 @@ load_cut s makes load more calls h =
     (broke_cut MapReadName [] (opening_by s makes ++ load) calls broke)) h)
 
 -- reads whose times are told are those of the events
-timed : (reads : List Reading) (times : List ℕ) → 2 * length reads ≤ length times
+pub timed : (reads : List Reading) (times : List ℕ) → 2 * length reads ≤ length times
     → reads_of_events (with_times reads times) ≡ reads
 timed [] times enough = refl
 timed (r ∷ rs) [] enough = absurd (omega (arith, enough))

@@ -1,3 +1,4 @@
+-- Other crates cite these.
 pub mod MarkLemmas
 pub mod PreparationLemmas
 pub mod RoundLemmas
@@ -9,13 +10,10 @@ pub mod MapfileLemmas
 pub mod BarrierLemmas
 pub mod GoesLemmas
 pub mod BeforeLemmas
-pub mod SafeLemmas
 pub mod MapReadLemmas
 pub mod StopsByLemmas
 pub mod StopsLemmas
 pub mod OthersLemmas
-pub mod UnwrittenLemmas
-pub mod PromiseLemmas
 pub mod RequestLemmas
 pub mod MoveLemmas
 pub mod NamelessLemmas
@@ -32,8 +30,12 @@ pub mod MoveStages
 pub mod DeedStages
 pub mod KeepLemmas
 pub mod RunDeedLemmas
-pub mod RunStopLemmas
 pub mod SnapshotLemmas
 pub mod SetLemmas
 pub mod CountLemmas
-pub mod LimitLemmas
+-- These are the crate's own.
+mod SafeLemmas
+mod UnwrittenLemmas
+mod PromiseLemmas
+mod RunStopLemmas
+mod LimitLemmas

@@ -5,6 +5,7 @@ use Rattle.std.proofs.lemmas.List.{length-take-le, length-replicate}
 use Rattle.block_list.specs.declared.status.Status.{Status}
 use Rattle.block_list.specs.Map.{Has, marked}
 use Rattle.block_list.proofs.Places.{slice_get-append_left, slice_get-append_right, slice_get-replicate}
+use Rattle.block_list.proofs.HeldLemmas.{slice_get-drop}
 
 -- the front of a list has its elements
 pub slice_get-take : {A : Type 0} (n : ℕ) (xs : List A) (k : ℕ) → k < n → slice_get (take n xs) k ≡ slice_get xs k
@@ -12,12 +13,6 @@ slice_get-take zero xs k h = absurd (omega (arith, h))
 slice_get-take (suc n) [] k h = refl
 slice_get-take (suc n) (x ∷ xs) zero h = refl
 slice_get-take (suc n) (x ∷ xs) (suc k) h = slice_get-take n xs k (omega (arith, h))
-
--- and the rest has those behind
-pub slice_get-drop : {A : Type 0} (n : ℕ) (xs : List A) (k : ℕ) → slice_get (drop n xs) k ≡ slice_get xs (n + k)
-slice_get-drop zero xs k = grind arith
-slice_get-drop (suc n) [] k = refl
-slice_get-drop (suc n) (x ∷ xs) k = let e = slice_get-drop n xs k in grind (arith, e)
 
 length-marked_front : (map : List Status) (pos size : ℕ) (t : Status) → pos + size ≤ length map
     → length (take pos map ++ replicate size t) ≡ pos + size

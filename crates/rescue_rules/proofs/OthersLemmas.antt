@@ -9,13 +9,14 @@ use Rattle.mapfile_text.specs.Pieces.{pieces_of}
 use Rattle.crash_site.specs.declared.site.MapRead.{MapRead}
 use Rattle.crash_site.specs.Files.{File, put}
 use Rattle.crash_site.specs.Calls.{Call, Entry, Done, Failed, image_open, image_read, image_write, image_sync, map_read, draft_begin, draft_append, draft_sync, draft_publish, map_settle, map_remove}
-use Rattle.crash_site.specs.Folder.{Folder, appended, with_piece}
+use Rattle.crash_site.specs.Folder.{Folder, with_piece}
 use Rattle.crash_site.specs.Disk.{Showing, Disk, only, with_opened, entered, disk_after}
 use Rattle.crash_site.specs.Left.{MayShow, Leaves, until, MayBeLeft}
 use Rattle.crash_site.proofs.DiskLemmas.{same_name}
 use Rattle.crash_site.proofs.LawLemmas.{at_other, some_other, part_other}
 use Rattle.save_resume.specs.Saving.{save_calls}
 use Rattle.save_resume.specs.Loading.{piece_size, piece_reads}
+use Rattle.save_resume.proofs.StageLemmas.{appended_draft}
 use Rattle.rescue_rules.specs.Setting.{Setting}
 use Rattle.rescue_rules.specs.Snapshots.{Snapshot, text_of}
 use Rattle.rescue_rules.specs.Deeds.{Deed, save_of, deed_calls, image_after, WritesAt, KeepsOn, KeepsUp}
@@ -109,10 +110,6 @@ aside_failed s b d (draft_publish n) name of at other = aside s b d (draft_publi
 aside_failed s b d (map_settle n) name of at other = refl
 aside_failed s b d (map_remove n) name of at other = absurd of
 
-append_draft : (d : Folder) (o : Option (List ℕ)) (piece : List ℕ) → (appended d o piece).draft ≡ d.draft
-append_draft d None piece = refl
-append_draft d (Some n) piece = refl
-
 -- the image and the draft behind such a call
 pub run_image : (s : Setting) (b : Bool) (d : Disk) (call : Call) → IsOfRun s b call → AtRun s b d.reads
     → (entered d (Done call)).reads.image ≡ Some s.outfile
@@ -140,7 +137,7 @@ run_draft s b d (image_write pos piece) of at on = write_draft d.reads d.reads.i
 run_draft s b d image_sync of at on = at.draft on
 run_draft s b d (map_read n pos asked answer) of at on = at.draft on
 run_draft s b d (draft_begin n) of at on = ap (λ (m : List ℕ). Some m) of
-run_draft s b d (draft_append piece) of at on = append_draft d.reads d.reads.draft piece ∙ at.draft on
+run_draft s b d (draft_append piece) of at on = appended_draft d.reads d.reads.draft piece ∙ at.draft on
 run_draft s b d draft_sync of at on = at.draft on
 run_draft s b d (draft_publish n) of at on = absurd (cc)
 run_draft s b d (map_settle n) of at on = at.draft on

@@ -15,6 +15,8 @@ use Rattle.crash_site.specs.Left.{IsLoose, Matches, MayShow, Leaves}
 use Rattle.crash_site.specs.Changes.{Changes, call_in}
 use Rattle.crash_site.proofs.DiskLemmas.{reads_step}
 use Rattle.crash_site.proofs.LawLemmas.{Sure, own_name, at_other, sure_step, same_held, sure_synced, moved_own}
+use Rattle.save_resume.proofs.StageLemmas.{appended_draft, appended_image}
+use Rattle.save_resume.proofs.StopLemmas.{moved_image}
 use Rattle.rescue_rules.specs.Setting.{Setting}
 use Rattle.rescue_rules.specs.Snapshots.{Snapshot}
 use Rattle.rescue_rules.specs.Deeds.{Outlasts}
@@ -93,14 +95,6 @@ abbrev pub OpensNone : Call → Type 0
 OpensNone (image_open name make) = ⊥
 OpensNone call = ⊤
 
-appended_image : (d : Folder) (o : Option (List ℕ)) (piece : List ℕ) → (appended d o piece).image ≡ d.image
-appended_image d None piece = refl
-appended_image d (Some n) piece = refl
-
-published_image : (d : Folder) (o : Option (List ℕ)) (name : List ℕ) → (published d o name).image ≡ d.image
-published_image d None name = refl
-published_image d (Some n) name = refl
-
 done_image : (d : Folder) (call : Call) → OpensNone call → (after_done d call).image ≡ d.image
 done_image d (image_open name make) off = absurd off
 done_image d (image_read pos asked answer) off = refl
@@ -110,7 +104,7 @@ done_image d (map_read name pos asked answer) off = refl
 done_image d (draft_begin name) off = refl
 done_image d (draft_append piece) off = appended_image d d.draft piece
 done_image d draft_sync off = refl
-done_image d (draft_publish name) off = published_image d d.draft name
+done_image d (draft_publish name) off = moved_image d d.draft name
 done_image d (map_settle name) off = refl
 done_image d (map_remove name) off = refl
 
@@ -140,10 +134,6 @@ appended_own d (Some n) name piece is =
     cond-true (bytes_eq name n) (Some (text_file (bytes_of (d.files n) ++ piece))) (d.files name)
     (ap (λ (m : List ℕ). bytes_eq name m) same ∙ own_name name)
     ∙ ap (λ (m : List ℕ). Some (text_file (bytes_of (d.files m) ++ piece))) same
-
-pub appended_draft : (d : Folder) (o : Option (List ℕ)) (piece : List ℕ) → (appended d o piece).draft ≡ d.draft
-appended_draft d None piece = refl
-appended_draft d (Some n) piece = refl
 
 publishing_own : (d : Disk) (o : Option (List ℕ)) (draft name : List ℕ) → o ≡ Some draft → draft ≢ name
     → (publishing o name d).shows name ≡ with_text (d.reads.files draft) d.firm (d.reads.files name) (d.shows name)

@@ -5,8 +5,9 @@ use Rattle.std.specs.List.{range_with_len}
 use Rattle.std.proofs.lemmas.Bool.{cases_lt, lt-ltb, le-ltb, and_right}
 use Rattle.std.proofs.lemmas.List.FromFn.{length-range_with_len}
 use Rattle.std.proofs.lemmas.List.Sums.{sum_by-cons, count_by-le-length}
+use Rattle.std.proofs.Math.Bool.{and-true}
 use Rattle.block_list.specs.Areas.{begins_area, count_below, count_of, AgreeOutside}
-use Rattle.block_list.proofs.AreaLemmas.{areas_change_within}
+use Rattle.block_list.proofs.AreaLemmas.{areas_change_within, count_split, count_same}
 use Rattle.rescue_rules.specs.Recounts.{count_within, is_in_front}
 
 -- positions from one up to another are all in a set, or none is
@@ -22,23 +23,6 @@ size_if b n = if b then n else 0
 count_first : (set : ℕ → Bool) (from n : ℕ)
     → count_by set (range_with_len from (suc n)) ≡ weight (set from) + count_by set (range_with_len (from + 1) n)
 count_first set from n = sum_by-cons (λ (x : ℕ). if set x then 1 else 0) from (range_with_len (from + 1) n)
-
-count_alike : (f g : ℕ → Bool) (n a : ℕ) → ((x : ℕ) → a ≤ x → x < a + n → f x ≡ g x)
-    → count_by f (range_with_len a n) ≡ count_by g (range_with_len a n)
-count_alike f g zero a same = refl
-count_alike f g (suc n) a same =
-    let rest = count_alike f g n (a + 1) (λ x from to. same x (omega (arith, from)) (omega (arith, to))) in
-    let here : weight (f a) ≡ weight (g a) = ap weight (same a (omega arith) (omega arith)) in
-    omega (arith, count_first f a n, count_first g a n, rest, here)
-
-count_cut : (f : ℕ → Bool) (m a n k b : ℕ) → k ≡ m + n → b ≡ a + m
-    → count_by f (range_with_len a k) ≡ count_by f (range_with_len a m) + count_by f (range_with_len b n)
-count_cut f zero a n k b all at =
-    let e : k ≡ n = omega (arith, all) in let d : b ≡ a = omega (arith, at) in rw (e, d) (omega arith)
-count_cut f (suc m) a n zero b all at = absurd (omega (arith, all))
-count_cut f (suc m) a n (suc k) b all at =
-    let rest = count_cut f m (a + 1) n k b (omega (arith, all)) (omega (arith, at)) in
-    omega (arith, count_first f a k, count_first f a m, rest)
 
 nothing : (b : Bool) → size_if b 0 ≡ 0
 nothing true = refl
@@ -64,12 +48,12 @@ within_most set from to =
 pub within_cut : (set : ℕ → Bool) (from mid to : ℕ) → from ≤ mid → mid ≤ to
     → count_within set from to ≡ count_within set from mid + count_within set mid to
 within_cut set from mid to le ge =
-    count_cut set (mid - from) from (to - mid) (to - from) mid (omega (arith, le, ge)) (omega (arith, le))
+    count_split set (mid - from) from (to - mid) (to - from) mid (omega (arith, le, ge)) (omega (arith, le))
 
 pub within_same : (f g : ℕ → Bool) (from to : ℕ) → ((x : ℕ) → from ≤ x → x < to → f x ≡ g x)
     → count_within f from to ≡ count_within g from to
 within_same f g from to same =
-    count_alike f g (to - from) from (λ x low high. same x low (omega (arith, low, high)))
+    count_same f g (to - from) from (λ x low high. same x low (omega (arith, low, high)))
 
 pub within_run : (set : ℕ → Bool) (from to : ℕ) (v : Bool) → AllAre set from to v
     → count_within set from to ≡ size_if v (to - from)
@@ -219,10 +203,6 @@ areas_change old new p q end some there outside ends ends' =
       begins_none new end ends',
     )
 
-and_true : (b : Bool) → (b && true) ≡ b
-and_true true = refl
-and_true false = refl
-
 -- what came into a set where none of it was
 pub areas_came : (old new : ℕ → Bool) (p k q end : ℕ) → Changes old new p k q false false true → k < q → q ≤ end
     → EndsBy old end → EndsBy new end → (count_of new end).areas + weight (new q)
@@ -231,7 +211,7 @@ areas_came old new p k q end c more there ends ends' =
     let change = areas_change old new p q end c.some there c.outside ends ends' in
     let before = begins_to old p q false c.some c.old_are in
     let at : weight (old q && true) ≡ weight (new q)
-    = ap weight (and_true (old q) ∙ sym (c.outside.back q (omega arith))) in
+    = ap weight (and-true (old q) ∙ sym (c.outside.back q (omega arith))) in
     ⊎_elim
     (λ (lt : p < k).
     let after = begins_both new p k q false true lt more c.first_are c.second_are in
@@ -267,7 +247,7 @@ areas_went old new p k q end c some there ends ends' =
     (λ (all : q ≤ k).
     let e : k ≡ q = omega (arith, all, c.high) in
     let after = begins_to new p q false c.some (subst (λ k. AllAre new p k false) e c.first_are) in
-    let last : weight (new q && true) ≡ weight (new q) = ap weight (and_true (new q)) in
+    let last : weight (new q && true) ≡ weight (new q) = ap weight (and-true (new q)) in
     let behind : weight (nat_lt k q || new q) ≡ weight (new q) = ap (λ b. weight (b || new q)) (le-ltb k q all) in
     omega (arith, change, before, none, front, after, last, behind))
     (cases_lt k q)

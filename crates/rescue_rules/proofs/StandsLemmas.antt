@@ -1,39 +1,23 @@
 -- What a mapfile stands for.
-use Rattle.std.proofs.Common.{◌≡◌, ◌≢◌, ℕ, ◌+◌, ◌-◌, ◌<◌, ◌≤◌, ◌^◌, Bool, List, [], ◌∷◌, ◌++◌, length, replicate, Option, Some, None, ◌/◌, true, false, if◌then◌else◌, not, nat_eq, refl, sym, ap, ◌∙◌, subst, arith, append-nil, length-append}
+use Rattle.std.proofs.Common.{◌≡◌, ℕ, ◌+◌, ◌-◌, ◌<◌, ◌≤◌, ◌^◌, Bool, List, [], ◌∷◌, ◌++◌, length, replicate, Option, Some, None, ◌/◌, not, nat_eq, refl, sym, ap, ◌∙◌, subst, arith, append-nil, length-append}
 use Rattle.std.proofs.lemmas.List.{length-replicate}
 use Rattle.block_list.specs.declared.status.Status.{Status}
 use Rattle.block_list.specs.declared.status.Status.TheVariants.{NonTried}
 use Rattle.block_list.specs.declared.block.Block.{Block}
 use Rattle.block_list.specs.Map.{extended}
 use Rattle.mapfile_text.specs.declared.state.MapState.{MapState}
-use Rattle.mapfile_text.specs.declared.state.Current.{Current}
-use Rattle.mapfile_text.specs.Fields.{current_of_field, begins_with_digit, above_zero, pass_of, state_by, state_of, numeral}
 use Rattle.std.proofs.Math.Nat.{div-mul-le_self}
-use Rattle.std.proofs.lemmas.Option.{same_Some, none-some}
-use Rattle.std.proofs.lemmas.Bool.{eqb-false}
-use Rattle.mapfile_text.specs.declared.read.Mode.{Mode}
 use Rattle.mapfile_text.specs.declared.read.Mode.TheVariants.{Tight}
 use Rattle.mapfile_text.specs.Lines.{Line, said}
-use Rattle.mapfile_text.specs.MapText.{IsMapText, Blank, Continues, Lists, AreMapLines}
+use Rattle.mapfile_text.specs.MapText.{IsMapText, Continues, Lists, AreMapLines}
 use Rattle.mapfile_text.proofs.OneReading.{has_one_reading}
 use Rattle.mapfile_text.proofs.ReadPrinted.{printed_is_read}
 use Rattle.crash_site.specs.Files.{File}
+use Rattle.save_resume.proofs.MapLemmas.{map_is_not_blank, state_above}
 use Rattle.rescue_rules.specs.Start.{IsFresh, IsResumed, TextStands, AsNone, AsMap, Stands}
 use Rattle.rescue_rules.specs.Beginning.{shown_at_first}
 use Rattle.rescue_rules.specs.Snapshots.{Snapshot, heading_at, text_of}
 use Rattle.rescue_rules.specs.Laws.{StandsForOne}
-
--- a map has lines
-some_lines : (mode : Mode) (ls : List Line) (state : MapState) (first : ℕ) (listed : Bool) (statuses : List Status)
-    → AreMapLines mode ls state first listed statuses → ls ≢ []
-some_lines mode [] state first listed statuses m e = absurd m
-some_lines mode (l ∷ ls) state first listed statuses m e = cc
-
--- so it says something
-map_is_not_blank : (text : List ℕ) (mode : Mode) (state : MapState) (first : ℕ) (listed : Bool) (statuses : List Status)
-    → IsMapText text mode state first listed statuses → Blank text → ⊥
-map_is_not_blank text mode state first listed statuses m e =
-    some_lines mode (said text) state first listed statuses m.reads e
 
 -- a text stands for one map and one state
 texts_once : (text : List ℕ) (end : ℕ) (map map' : List Status) (state state' : Option MapState) → TextStands text end map state
@@ -115,46 +99,13 @@ lists_small (l ∷ ls) first listed statuses c =
     ) in
     omega (arith, behind, size, c.3)
 
--- the pass that a status line spells is a number above 0
-none_or : (zero_is : Bool) (m n : ℕ) → nat_eq m 0 ≡ zero_is → (if zero_is then None else Some m) ≡ Some n → 0 < n
-none_or true m n z is = absurd (none-some n is)
-none_or false m n z is =
-    let same : m ≡ n = same_Some m n is in
-    omega (arith, same, eqb-false m 0 z)
-
-above_some : (o : Option ℕ) (n : ℕ) → above_zero o ≡ Some n → 0 < n
-above_some None n is = absurd (none-some n is)
-above_some (Some m) n is = none_or (nat_eq m 0) m n refl is
-
-either_some : (digit : Bool) (o : Option ℕ) (n : ℕ) → (if digit then above_zero o else Some 1) ≡ Some n → 0 < n
-either_some true o n is = above_some o n is
-either_some false o n is = let one : 1 ≡ n = same_Some 1 n is in omega (arith, one)
-
-some_pass : (fields : List (List ℕ)) (n : ℕ) → pass_of fields ≡ Some n → 0 < n
-some_pass [] n is = let one : 1 ≡ n = same_Some 1 n is in omega (arith, one)
-some_pass (f ∷ fs) n is = either_some (begins_with_digit f) (numeral f) n is
-
-spelled_pass : (pos : Option ℕ) (current : Option Current) (pass : Option ℕ) (state : MapState)
-    → state_by pos current pass ≡ Some state → pass ≡ Some state.pass
-spelled_pass None current pass state is = absurd (cc)
-spelled_pass (Some p) None pass state is = absurd (cc)
-spelled_pass (Some p) (Some c) None state is = absurd (cc)
-spelled_pass (Some p) (Some c) (Some n) state is =
-    ap (λ (m : MapState). Some m.pass) (same_Some (record { pos = p; current = c; pass = n }) state is)
-
-some_state : (fields : List (List ℕ)) (state : MapState) → state_of fields ≡ Some state → 0 < state.pass
-some_state [] state is = absurd (cc)
-some_state (p ∷ []) state is = absurd (cc)
-some_state (p ∷ c ∷ rest) state is =
-    some_pass rest state.pass (spelled_pass (numeral p) (current_of_field c) (pass_of rest) state is)
-
 lines_small : (ls : List Line) (state : MapState) (first : ℕ) (listed : Bool) (statuses : List Status)
     → AreMapLines Tight ls state first listed statuses
     → (length statuses < 2 ^ 63) × IsPrintable state
 lines_small [] state first listed statuses m = absurd m
 lines_small (l ∷ ls) state first listed statuses m = (
   lists_small ls first listed statuses m.1,
-  record { pos = m.0.pos; some = some_state l.fields state m.0.spells; pass = m.0.pass },
+  record { pos = m.0.pos; some = state_above l.fields state m.0.spells; pass = m.0.pass },
 )
 
 length-extended : (statuses : List Status) (end : ℕ)

@@ -3,8 +3,9 @@ use Rattle.std.proofs.Common.{◌≡◌, ◌⊎◌, ℕ, ◌+◌, ◌-◌, ◌<�
 use Rattle.std.specs.List.{slice_get}
 use Rattle.std.proofs.lemmas.List.{length-take-le, length-drop, length-replicate}
 use Rattle.block_list.proofs.Places.{slice_get-append_left, slice_get-append_right}
+use Rattle.block_list.proofs.HeldLemmas.{slice_get-drop}
 use Rattle.crash_site.specs.Files.{written}
-use Rattle.rescue_rules.proofs.MarkLemmas.{slice_get-take, slice_get-drop}
+use Rattle.rescue_rules.proofs.MarkLemmas.{slice_get-take}
 
 -- a write begins with as many bytes as its position says
 length-front : (bytes : List ℕ) (pos : ℕ) → length (take pos (bytes ++ replicate (pos - length bytes) 0)) ≡ pos

@@ -41,7 +41,7 @@ pub record RunPromise : Type 0 where
 -- The mapfile found is one that the run saved, or the one that it began with: no older than the last save that had
 -- returned, and no newer than the last that had begun to be published. The output holds what that mapfile's map
 -- promises, stands until a write has begun, and is there, of the kind that it had.
-pub record Keeps (a : RunPromise) (returned published written : ℕ) (files : List ℕ → Option File) : Type 0 where
+pub record KeepsPromise (a : RunPromise) (returned published written : ℕ) (files : List ℕ → Option File) : Type 0 where
   pub number : ℕ
   pub no_older : returned ≤ number
   pub no_newer : number ≤ published
@@ -80,5 +80,5 @@ RunStopsSafely = (s : Setting) (began : List Status) (m : Machine) (events : Lis
     → AreFinishedAlike began m.map → IsRun s m events → Rests s d
     → ComesTo (run_calls s m events ++ end_calls s m events) calls
     → Leaves (disk_after d (until k calls)) files
-    → Keeps (promise_of_run s began m events d) (count_by is_settle (take k calls))
+    → KeepsPromise (promise_of_run s began m events d) (count_by is_settle (take k calls))
     (count_by is_publish (take (k + 1) calls)) (count_by is_write (take (k + 1) calls)) files

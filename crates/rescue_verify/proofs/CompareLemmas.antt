@@ -24,7 +24,7 @@ use Rattle.rescue_verify.specs.Pieces.{IsPiece, AskForPieces, end_of_reads}
 use Rattle.rescue_verify.specs.Looks.{Look, reads_of, differs, seen_at, seen_in, look_call, look_calls}
 use Rattle.rescue_verify.specs.Looking.{SeesPiece, HaltsLooking}
 use Rattle.rescue_verify.specs.Verified.{judged, judged_by}
-use Rattle.rescue_verify.specs.Comparing.{Plan, Counts, place_in, tally_of, counted, TakesPiece, HaltsAt, HasLooked, Compares}
+use Rattle.rescue_verify.specs.Comparing.{ComparisonPlan, Counts, place_in, tally_of, counted, TakesPiece, HaltsAt, HasLooked, Compares}
 
 -- ---- one more look
 
@@ -64,7 +64,7 @@ tally_push looks l =
 -- ---- looks so far
 
 -- looks at the first pieces, up to a position: what they count, and what they make of a map
-pub record UpTo (p : Plan) (from : ℕ) (tally : Tally) (old new : List Status) (source source' : SourceState)
+pub record UpTo (p : ComparisonPlan) (from : ℕ) (tally : Tally) (old new : List Status) (source source' : SourceState)
     (site site' : SiteState) : Type 0 where
   pub looks : List Look
   pub looked : HasLooked p looks source source' site site'
@@ -72,7 +72,7 @@ pub record UpTo (p : Plan) (from : ℕ) (tally : Tally) (old new : List Status) 
   pub counts : tally ≡ tally_of looks
   pub map_is : new ≡ judged_by old looks
 
-pub none_yet : (p : Plan) (map : List Status) (source : SourceState) (site : SiteState)
+pub none_yet : (p : ComparisonPlan) (map : List Status) (source : SourceState) (site : SiteState)
     → UpTo p 0 (record { compared = 0; differing = 0; unread = 0 }) map map source source site site
 none_yet p map source site = record {
   looks = [];
@@ -92,7 +92,7 @@ pub record SameImage (site site' : SiteState) : Type 0 where
   pub tells : site'.tells ≡ site.tells
   pub image : IsTrue site.tells → image_in site' ≡ image_in site
 
-pub one_more : (p : Plan) (from pos size : ℕ) (tally : Tally) (old new : List Status) (l : Look)
+pub one_more : (p : ComparisonPlan) (from pos size : ℕ) (tally : Tally) (old new : List Status) (l : Look)
     (source s1 s2 : SourceState) (site d1 d2 : SiteState) → UpTo p from tally old new source s1 site d1
     → s1.tells ≡ source.tells → SameImage site d1
     → IsPiece p.compared p.sector from pos (pos + size) → SeesPiece pos size (place_in p pos) l s1 s2 d1 d2
@@ -153,7 +153,7 @@ looks_stand place (l ∷ looks) d =
     (call_stands (is_whole l.read) (place l.read.pos) l.read.asked (length l.there) d)
     ∙ looks_stand place looks d
 
-pub same_image : (p : Plan) (from : ℕ) (tally : Tally) (old new : List Status) (source source' : SourceState)
+pub same_image : (p : ComparisonPlan) (from : ℕ) (tally : Tally) (old new : List Status) (source source' : SourceState)
     (site site' : SiteState) → UpTo p from tally old new source source' site site' → SiteStays site site'
     → SameImage site site'
 same_image p from tally old new source source' site site' u stays = record {
@@ -169,7 +169,7 @@ same_image p from tally old new source source' site site' u stays = record {
 }
 
 -- a piece that was taken is one more look
-pub takes_one : (p : Plan) (from pos to : ℕ) (tally tally' : Tally) (old new new' : List Status)
+pub takes_one : (p : ComparisonPlan) (from pos to : ℕ) (tally tally' : Tally) (old new new' : List Status)
     (source s1 s2 : SourceState) (site d1 d2 : SiteState) → UpTo p from tally old new source s1 site d1
     → SourceStays source s1 → SiteStays site d1 → pos < to → IsPiece p.compared p.sector from pos to
     → TakesPiece p pos to tally tally' new new' s1 s2 d1 d2
@@ -203,7 +203,7 @@ sums_by true false pos n to c d u e h k = (omega arith, omega arith)
 sums_by false true pos n to c d u e h k = (omega arith, omega arith)
 sums_by false false pos n to c d u e h k = (omega arith, omega arith)
 
-pub takes_grow : (p : Plan) (pos to : ℕ) (tally tally' : Tally) (old new : List Status) (source source' : SourceState)
+pub takes_grow : (p : ComparisonPlan) (pos to : ℕ) (tally tally' : Tally) (old new : List Status) (source source' : SourceState)
     (site site' : SiteState) → TakesPiece p pos to tally tally' old new source source' site site' → pos < to
     → to ≤ length old → tally.compared + tally.unread ≤ pos → tally.differing ≤ tally.compared
     → Grows to tally tally' old new
@@ -224,7 +224,7 @@ takes_grow p pos to tally tally' old new source source' site site' takes some wi
 -- ---- the end
 
 -- what a look that halted read and called
-record Halted (halt : Halt) (p : Plan) (from : ℕ) (source source' : SourceState) (site site' : SiteState) : Type 0 where
+record Halted (halt : Halt) (p : ComparisonPlan) (from : ℕ) (source source' : SourceState) (site site' : SiteState) : Type 0 where
   reads : List Reading
   calls : List Entry
   halts : HaltsAt halt p from reads calls
@@ -243,7 +243,7 @@ halted_by_tells : (b : Bool) (X : Type 0) → (IsTrue b → X) → ((IsTrue b �
 halted_by_tells true X told untold = told refl
 halted_by_tells false X told untold = untold (λ t. absurd (cc))
 
-halted_looking : (halt : Halt) (p : Plan) (from pos size : ℕ) (source source' : SourceState) (site site' : SiteState)
+halted_looking : (halt : Halt) (p : ComparisonPlan) (from pos size : ℕ) (source source' : SourceState) (site site' : SiteState)
     → IsPiece p.compared p.sector from pos (pos + size)
     → HaltsLooking halt pos size (place_in p pos) source source' site site' → Halted halt p from source source' site site'
 halted_looking NoMemory p from pos size source source' site site' piece h = record {
@@ -286,7 +286,7 @@ halted_looking ImageFault p from pos size source source' site site' piece h =
       record_ = λ tells. absurd (n tells);
     })
 
-pub came_to_halt : (halt : Halt) (p : Plan) (from pos size : ℕ) (tally : Tally) (old new now : List Status)
+pub came_to_halt : (halt : Halt) (p : ComparisonPlan) (from pos size : ℕ) (tally : Tally) (old new now : List Status)
     (source s1 s2 : SourceState) (site d1 d2 : SiteState) → UpTo p from tally old new source s1 site d1
     → s1.tells ≡ source.tells → d1.tells ≡ site.tells → IsPiece p.compared p.sector from pos (pos + size)
     → HaltsLooking halt pos size (place_in p pos) s1 s2 d1 d2

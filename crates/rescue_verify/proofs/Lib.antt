@@ -1,2 +1,2 @@
-pub mod LookLemmas
-pub mod CompareLemmas
+mod LookLemmas
+mod CompareLemmas

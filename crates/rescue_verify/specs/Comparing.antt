@@ -19,17 +19,17 @@ use Rattle.rescue_verify.specs.Looking.{SeesPiece}
 use Rattle.rescue_verify.specs.Verified.{judged, judged_by}
 
 -- What is compared, in sectors of this size, and where a position stands in the image: `from` stands at `to`.
-pub record Plan : Type 0 where
+pub record ComparisonPlan : Type 0 where
   pub compared : ℕ → Bool
   pub sector : ℕ
   pub from : ℕ
   pub to : ℕ
 
-abbrev pub place_in : Plan → ℕ → ℕ
+abbrev pub place_in : ComparisonPlan → ℕ → ℕ
 place_in p x = place_from p.from p.to x
 
 -- the same of what the code hands on
-abbrev pub plan_by : Comparison → Plan
+abbrev pub plan_by : Comparison → ComparisonPlan
 plan_by c = record { compared = covers c.compared.now; sector = c.sector; from = c.from; to = c.to }
 
 -- what looks count
@@ -49,7 +49,7 @@ counted t l = record {
 }
 
 -- The piece from one position up to another was looked at, counted, and marked in the map if it differs.
-pub record TakesPiece (p : Plan) (from to : ℕ) (tally tally' : Tally) (old new : List Status)
+pub record TakesPiece (p : ComparisonPlan) (from to : ℕ) (tally tally' : Tally) (old new : List Status)
     (source source' : SourceState) (site site' : SiteState) : Type 0 where
   pub look : Look
   pub sees : SeesPiece from (to - from) (place_in p from) look source source' site site'
@@ -58,7 +58,7 @@ pub record TakesPiece (p : Plan) (from to : ℕ) (tally tally' : Tally) (old new
 
 -- Why a comparison stopped in front of a piece, or within it, and what it read of input and files meanwhile: room in the
 -- map ran out before the piece was read; its read was lost; or it was read whole, and the read of the image failed.
-abbrev pub HaltsAt : Halt → Plan → (from : ℕ) → List Reading → List Entry → Type 0
+abbrev pub HaltsAt : Halt → ComparisonPlan → (from : ℕ) → List Reading → List Entry → Type 0
 HaltsAt NoMemory p from reads calls = (reads ≡ []) × (calls ≡ [])
 HaltsAt SourceLost p from reads calls =
     (pos end : ℕ) × IsPiece p.compared p.sector from pos end × (reads ≡ []) × (calls ≡ [])
@@ -67,7 +67,7 @@ HaltsAt ImageFault p from reads calls =
     × Lost (image_read (place_in p r.pos) r.asked None) [] calls
 
 -- It came to the last piece, counted what it saw, and marked it in the map; or it stopped.
-abbrev pub EndsComparing : Plan → (old new : List Status) → Result Tally Halt → List Look → List Reading → List Entry
+abbrev pub EndsComparing : ComparisonPlan → (old new : List Status) → Result Tally Halt → List Look → List Reading → List Entry
     → Type 0
 EndsComparing p old new (Ok tally) looks reads calls =
     NoneFrom p.compared (end_of_reads 0 (reads_of looks)) × (new ≡ judged_by old looks) × (tally ≡ tally_of looks)
@@ -83,7 +83,7 @@ Counts (Err ImageFault) source source' site site' = (source'.losses ≡ source.l
 
 -- Looks at the first pieces, in order: they are reads of the input and calls on the files, where these tell; and what the
 -- image gave is what it has there, where the files tell.
-pub record HasLooked (p : Plan) (looks : List Look) (source source' : SourceState) (site site' : SiteState)
+pub record HasLooked (p : ComparisonPlan) (looks : List Look) (source source' : SourceState) (site site' : SiteState)
     : Type 0 where
   pub asks : AskForPieces p.compared p.sector 0 (reads_of looks)
   pub journal : IsTrue source.tells → source'.journal ≡ source.journal ++ reads_of looks
@@ -92,7 +92,7 @@ pub record HasLooked (p : Plan) (looks : List Look) (source source' : SourceStat
       → looks ≡ map (seen_in (bytes_of (image_in site)) (place_in p)) (reads_of looks)
 
 -- What a comparison did, by its outcome: looks at the first pieces, in order, and what came behind them.
-pub record Compares (p : Plan) (old new : List Status) (result : Result Tally Halt) (source source' : SourceState)
+pub record Compares (p : ComparisonPlan) (old new : List Status) (result : Result Tally Halt) (source source' : SourceState)
     (site site' : SiteState) : Type 0 where
   pub looks : List Look
   pub reads : List Reading

@@ -15,7 +15,7 @@ use Rattle.rescue_rules.specs.Snapshots.{Snapshot}
 use Rattle.rescue_rules.specs.RunCalls.{closing_calls}
 use Rattle.rescue_rules.specs.Nameless.{nameless}
 use Rattle.rescue_core.specs.RunState.{RunState, setting_in}
-use Rattle.rescue_core.specs.Closing.{closing_snapshot, Saves, Saved, Unsaved}
+use Rattle.rescue_core.specs.Closing.{closing_snapshot, LastSave, Saved, Unsaved}
 use Rattle.safe_turns.specs.Safe.{IsHeldIn, IsSafe}
 use Rattle.safe_turns.specs.Laws.{IsLeftWithin, CloseIsHeld}
 use Rattle.safe_turns.proofs.SafeLemmas.{comes_all}
@@ -32,7 +32,7 @@ closing_named : (s : Setting) (r : RunState) (p : Snapshot) → setting_in r ≡
 closing_named s r p setting = ap (λ (x : Setting). closing_calls x p) setting
 
 saves_grew : (s : Setting) (stop : Option Stop) (r : RunState) (end : RunEnd) (site site' : SiteState)
-    → setting_in r ≡ nameless s → IsTrue site.tells → Saves stop r end site site'
+    → setting_in r ≡ nameless s → IsTrue site.tells → LastSave stop r end site site'
     → Grew (closing_calls s (closing_snapshot stop r)) site.calls site'.calls
 saves_grew s stop r end site site' setting tells (Saved is makes draft) =
     let calls : List Call = closing_calls (setting_in r) (closing_snapshot stop r) in
@@ -44,7 +44,7 @@ saves_grew s stop r end site site' setting tells (Unsaved call is names breaks d
 
 saves_are_held : (s : Setting) (start : List ℕ) (reads : List Reading) (stop : Option Stop) (r : RunState)
     (end : RunEnd) (site site' : SiteState) (files : List ℕ → Option File) → setting_in r ≡ nameless s
-    → IsTrue site.tells → Keeps site site' → Saves stop r end site site'
+    → IsTrue site.tells → Keeps site site' → LastSave stop r end site site'
     → IsSafe s start reads r.machine (disk_of site) → IsLeftWithin site site' files → IsHeldIn s start reads files
 saves_are_held s start reads stop r end site site' files setting tells keeps saves safe l =
     let p : Snapshot = closing_snapshot stop r in

@@ -38,11 +38,11 @@ use Rattle.rescue_rules.proofs.MoveLemmas.{moves_more}
 use Rattle.rescue_rules.proofs.NamelessLemmas.{run_named}
 use Rattle.rescue_core.specs.Across.{Across}
 use Rattle.rescue_core.specs.RunState.{RunState, setting_in}
-use Rattle.rescue_core.specs.Closing.{Saves, Saved, Unsaved}
+use Rattle.rescue_core.specs.Closing.{LastSave, Saved, Unsaved}
 use Rattle.copy_passes.specs.Turns.{IsAlike, Went}
 use Rattle.ddrescue_cli.specs.Running.{WentToEnd}
-use Rattle.ddrescue_cli.proofs.EndLemmas.{behind_over}
-use Rattle.ddrescue_cli.proofs.LastLemmas.{behind_all}
+use Rattle.ddrescue_cli.proofs.runs.EndLemmas.{behind_over}
+use Rattle.ddrescue_cli.proofs.runs.LastLemmas.{behind_all}
 use Rattle.safe_turns.specs.UnderWay.{StillComes, Now, Later, IsUnderWay}
 use Rattle.safe_turns.specs.Ended.{IsLastSaved, IsWellEnded}
 use Rattle.safe_turns.specs.EndLaws.{PhasesEndWell, DoneEndsWell, StoppedIsSaved, WholeRunIsHeld}
@@ -179,7 +179,7 @@ sensible_named s r setting sensible =
 closes_made : (s : Setting) (r r' : RunState) (o : Across) (site : SiteState) → setting_in r ≡ nameless s
     → IsTrue o.site.tells → Keeps o.site o.site' → (w : Went r r' o)
     → has_ended (setting_in r) (state_after (setting_in r) r.machine w.events) ≡ true
-    → Saves None r' RunDone o.site' site → AllMade s r.machine w.events o.site site
+    → LastSave None r' RunDone o.site' site → AllMade s r.machine w.events o.site site
 closes_made s r r' o site setting tells keeps w over (Saved is makes draft) =
     let t : TurnsRun s r r' w.events o.site o.site' = turns_run s r r' o setting tells w in
     let k : Machine = state_after s r.machine w.events in

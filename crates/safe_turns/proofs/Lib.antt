@@ -1,10 +1,10 @@
-pub mod LastLemmas
-pub mod SafeLemmas
-pub mod SiteLemmas
-pub mod TurnLemmas
-pub mod PhaseLemmas
-pub mod CloseLemmas
-pub mod WayLemmas
-pub mod WellLemmas
-pub mod PassLemmas
-pub mod EndLemmas
+mod LastLemmas
+mod SafeLemmas
+mod SiteLemmas
+mod TurnLemmas
+mod PhaseLemmas
+mod CloseLemmas
+mod WayLemmas
+mod WellLemmas
+mod PassLemmas
+mod EndLemmas

@@ -20,7 +20,8 @@ use Rattle.rescue_rules.proofs.MoveLemmas.{run_first, run_rest}
 use Rattle.rescue_rules.proofs.OverLemmas.{live_before, live_was}
 use Rattle.rescue_rules.proofs.ReadyLemmas.{order_begun, stays_ready}
 use Rattle.rescue_rules.proofs.SearchLemmas.{request_seen}
-use Rattle.rescue_core.proofs.ChangeLemmas.{Kept, Missed, CutOff, Between, Stands, rest_is}
+use Rattle.rescue_rules.proofs.StatusLemmas.{rest_is}
+use Rattle.rescue_core.proofs.ChangeLemmas.{Kept, Missed, CutOff, Between, Stands}
 use Rattle.trim_scrape.proofs.CursorLemmas.{LiesAhead, JumpsNever, left_on, left_begun, left_seen}
 use Rattle.trim_scrape.proofs.OrderLemmas.{order, Follows, AreOrdered, follows_from, ordered_from, contains_cases, has_trimming, has_scraping}
 use Rattle.trim_scrape.proofs.OwedLemmas.{Owes, Now as OwedNow, Later as OwedLater, owes_ready, wanted_in, passes_are}

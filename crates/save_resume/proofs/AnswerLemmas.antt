@@ -20,11 +20,11 @@ use Rattle.save_resume.specs.Laws.{ReadAsOne, RefusedForOne, ReadIsNotRefused, N
 use Rattle.save_resume.proofs.MapLemmas.{map_is_not_blank, blank_fault, fault_is_blank}
 
 -- one file is there
-one_there : (file : Option File) (f g : File) → file ≡ Some f → file ≡ Some g → f ≡ g
+pub one_there : (file : Option File) (f g : File) → file ≡ Some f → file ≡ Some g → f ≡ g
 one_there file f g is is' = let e : Some f ≡ Some g = sym is ∙ is' in cc
 
 -- no file, or one
-not_there : (file : Option File) (f : File) → file ≡ None → file ≡ Some f → ⊥
+pub not_there : (file : Option File) (f : File) → file ≡ None → file ≡ Some f → ⊥
 not_there file f none is = cc
 
 pub read_as_one : ReadAsOne

@@ -1,11 +1,15 @@
+-- Other crates cite these.
 pub mod CallLemmas
 pub mod FillLemmas
-pub mod SaveLemmas
 pub mod StageLemmas
 pub mod StopLemmas
-pub mod LoadLemmas
 pub mod MapLemmas
-pub mod BarrierLemmas
-pub mod ResumeLemmas
 pub mod AnswerLemmas
-pub mod ReadLemmas
+pub mod NameLemmas
+pub mod NamedLemmas
+-- These are the crate's own.
+mod SaveLemmas
+mod LoadLemmas
+mod BarrierLemmas
+mod ResumeLemmas
+mod ReadLemmas

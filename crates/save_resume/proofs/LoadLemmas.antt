@@ -15,7 +15,7 @@ use Rattle.crash_site.specs.Calls.{Entry, Done, Made, Lost, map_read}
 use Rattle.crash_site.specs.Folder.{Folder, after}
 use Rattle.save_resume.specs.declared.load.ResumeFault.{ResumeFault}
 use Rattle.save_resume.specs.declared.load.ResumeFault.TheVariants.{Site, Map as Refused, NoMemory}
-use Rattle.save_resume.specs.Loading.{piece_size, piece_reads, load_reads, IsPiece, BeginsLoad, Ends}
+use Rattle.save_resume.specs.Loading.{piece_size, piece_reads, load_reads, IsPiece, BeginsLoad, EndsLoad}
 use Rattle.save_resume.specs.Resuming.{LoadEnded, BrokeInLoad}
 use Rattle.save_resume.specs.Text.{IsTextOf, TextStop}
 use Rattle.crash_site.proofs.LawLemmas.{after-append}
@@ -80,7 +80,7 @@ begins name file text calls calls' answer p = record {
 -- a read that ends the load
 load_ended : (name : List ℕ) (file : Option File) (text : List ℕ) (calls calls' calls'' : List Entry) (pos asked : ℕ) (answer : Option MapRead)
     → (p : Pieces name file text calls calls') → pos ≡ length text → asked ≡ piece_size
-    → calls'' ≡ calls' ++ Done (map_read name pos asked answer) ∷ [] → Ends file (sum p.given) answer → LoadEnded [] name file calls calls''
+    → calls'' ≡ calls' ++ Done (map_read name pos asked answer) ∷ [] → EndsLoad file (sum p.given) answer → LoadEnded [] name file calls calls''
 load_ended name file text calls calls' calls'' pos asked answer p at size done ends = (
   load_reads name p.given answer,
   record { begins = begins name file text calls calls' answer p; ends = ends },

@@ -53,7 +53,7 @@ by_above None current pass state known is = absurd (cc)
 by_above (Some p) None pass state known is = absurd (cc)
 by_above (Some p) (Some c) None state known is = absurd (cc)
 
-state_above : (fields : List (List ℕ)) (state : MapState) → state_of fields ≡ Some state → 0 < state.pass
+pub state_above : (fields : List (List ℕ)) (state : MapState) → state_of fields ≡ Some state → 0 < state.pass
 state_above [] state is = absurd (cc)
 state_above (p ∷ []) state is = absurd (cc)
 state_above (p ∷ c ∷ rest) state is = by_above (numeral p) (current_of_field c) (pass_of rest) state (pass_above rest) is

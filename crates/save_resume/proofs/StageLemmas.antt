@@ -118,11 +118,11 @@ appended_in_part names text piece was now d =
     moves_on names was now (entered now (Failed (draft_append piece)))
     (λ n apart. part_other now (draft_append piece) n (is_the_draft now names n d.draft apart)) (λ n apart. refl) refl d.synced
 
-appended_draft : (r : Folder) (o : Option (List ℕ)) (piece : List ℕ) → (appended r o piece).draft ≡ r.draft
+pub appended_draft : (r : Folder) (o : Option (List ℕ)) (piece : List ℕ) → (appended r o piece).draft ≡ r.draft
 appended_draft r None piece = refl
 appended_draft r (Some draft) piece = refl
 
-appended_image : (r : Folder) (o : Option (List ℕ)) (piece : List ℕ) → (appended r o piece).image ≡ r.image
+pub appended_image : (r : Folder) (o : Option (List ℕ)) (piece : List ℕ) → (appended r o piece).image ≡ r.image
 appended_image r None piece = refl
 appended_image r (Some draft) piece = refl
 

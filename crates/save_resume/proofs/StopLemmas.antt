@@ -11,7 +11,7 @@ use Rattle.crash_site.specs.Left.{until, Leaves, MayBeLeft}
 use Rattle.crash_site.specs.Along.{AlongCalls}
 use Rattle.crash_site.specs.SiteState.{SiteState}
 use Rattle.crash_site.proofs.DiskLemmas.{reads_run, rest_sound, run-append}
-use Rattle.crash_site.proofs.LawLemmas.{own_name, put_other, done_other}
+use Rattle.crash_site.proofs.LawLemmas.{own_name, put_other, done_other, moved_own}
 use Rattle.crash_site.proofs.AlongLemmas.{WentOn, made_goes, broke_goes, stop_past}
 use Rattle.mapfile_text.specs.Pieces.{pieces_of}
 use Rattle.mapfile_text.proofs.PieceLemmas.{in_pieces}
@@ -20,13 +20,6 @@ use Rattle.save_resume.specs.MapNames.{MapNames}
 use Rattle.save_resume.specs.Saving.{publish_calls, save_calls, Saves}
 use Rattle.save_resume.specs.SaveStops.{disk_of, text_file, IsOldOrNew, Old, StopsInSave, IsSaved}
 use Rattle.save_resume.proofs.StageLemmas.{Drafting, ShowsNew, IsSafe, synced_safe, published_safe, image_synced, begun_in_part, draft_begun, appended_in_part, appended_more, firm_kept, published_in_part, moves_on, reshown, settled, settled_shows, is_other}
-
--- a publish puts the draft's file under the mapfile's name
-moved_map : (r : Folder) (o : Option (List ℕ)) (draft name : List ℕ) → o ≡ Some draft → (moved r o name).files name ≡ r.files draft
-moved_map r None draft name is = absurd (cc)
-moved_map r (Some from) draft name is =
-    let same : from ≡ draft = cc in
-    cond-true (bytes_eq name name) (r.files from) (put r.files from None name) (own_name name) ∙ ap r.files same
 
 -- and leaves none under the draft's
 moved_draft : (r : Folder) (o : Option (List ℕ)) (draft name : List ℕ) → o ≡ Some draft → draft ≢ name → (moved r o name).files draft ≡ None
@@ -37,7 +30,7 @@ moved_draft r (Some from) draft name is apart =
     ∙ ap (λ (n : List ℕ). put r.files n None draft) same
     ∙ cond-true (bytes_eq draft draft) None (r.files draft) (own_name draft)
 
-moved_image : (r : Folder) (o : Option (List ℕ)) (name : List ℕ) → (moved r o name).image ≡ r.image
+pub moved_image : (r : Folder) (o : Option (List ℕ)) (name : List ℕ) → (moved r o name).image ≡ r.image
 moved_image r None name = refl
 moved_image r (Some from) name = refl
 
@@ -59,7 +52,7 @@ was_moved : (names : MapNames) (text : List ℕ) (was now : Disk) → Drafting n
 was_moved names text was now d firm = record {
   published = reshown names text was _ (entered now (Done (draft_publish names.map))) (λ n. refl)
       (published_in_part names text was now d firm);
-  map = moved_map now.reads now.reads.draft names.draft names.map d.draft ∙ d.holds;
+  map = moved_own now.reads now.reads.draft names.draft names.map d.draft ∙ d.holds;
   draft = λ apart. moved_draft now.reads now.reads.draft names.draft names.map d.draft apart;
   others = λ n apart_map apart.
       done_other now.reads (draft_publish names.map) n (is_other now names n d.draft apart_map apart) ∙ d.synced.reads n apart;

@@ -34,14 +34,14 @@ pub record BeginsLoad (name : List ℕ) (file : Option File) (calls : List Call)
   pub calls_are : calls ≡ load_reads name given answer
 
 -- the read behind so many bytes ends a load: it finds no such file, the file's end, or more bytes than a text may have
-abbrev pub Ends : Option File → (taken : ℕ) → Option MapRead → Type 0
-Ends file taken None = ⊥
-Ends file taken (Some Absent) = file ≡ None
-Ends file taken (Some (Bytes n)) =
+abbrev pub EndsLoad : Option File → (taken : ℕ) → Option MapRead → Type 0
+EndsLoad file taken None = ⊥
+EndsLoad file taken (Some Absent) = file ≡ None
+EndsLoad file taken (Some (Bytes n)) =
     ((n ≡ 0) × (taken ≡ length (bytes_of file)))
     ⊎ (IsPiece n × (text_limit < taken + n) × (taken + n ≤ length (bytes_of file)))
 
 -- all reads of a file, up to the one that ends the load
 pub record IsLoad (name : List ℕ) (file : Option File) (calls : List Call) : Type 0 where
   pub begins : BeginsLoad name file calls
-  pub ends : Ends file (sum begins.given) begins.answer
+  pub ends : EndsLoad file (sum begins.given) begins.answer

@@ -15,7 +15,7 @@ use Rattle.save_resume.specs.declared.load.ResumeFault.{ResumeFault}
 use Rattle.save_resume.specs.declared.load.ResumeFault.TheVariants.{Site, Map as Fault, NoMemory as Starving}
 use Rattle.save_resume.specs.declared.named.NamedFault.{NamedFault}
 use Rattle.save_resume.specs.declared.named.NamedFault.TheVariants.{ReadFailed, Absent, Refused, NoMemory}
-use Rattle.save_resume.specs.Resuming.{IsReadAs, IsRefusedFor, LoadEnded, Starved, BrokeInLoad}
+use Rattle.save_resume.specs.Resuming.{IsReadAs, IsRefusedFor, LoadEnded, StarvedInLoad, BrokeInLoad}
 
 -- how such a map is read: where that is asked for it may have gaps, which aren't finished
 abbrev pub map_mode : (loose : Bool) → Mode
@@ -46,7 +46,7 @@ LoadsNamed name mode file (Ok m) calls calls' = IsReadAs file mode m × LoadEnde
 LoadsNamed name mode file (Err ReadFailed) calls calls' = BrokeInLoad [] name file calls calls'
 LoadsNamed name mode file (Err Absent) calls calls' = (file ≡ None) × LoadEnded [] name file calls calls'
 LoadsNamed name mode file (Err (Refused e)) calls calls' = IsRefusedFor file mode e × LoadEnded [] name file calls calls'
-LoadsNamed name mode file (Err NoMemory) calls calls' = Starved [] name file calls calls'
+LoadsNamed name mode file (Err NoMemory) calls calls' = StarvedInLoad [] name file calls calls'
 
 -- the same of the file alone
 abbrev pub IsNamedAs : Mode → Result ReadMap NamedFault → Option File → Type 0

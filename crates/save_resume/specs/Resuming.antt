@@ -46,8 +46,8 @@ LoadEnded before name file calls calls' =
     (load : List Call) × IsLoad name file load × Made (before ++ load) calls calls'
 
 -- the first reads of a load, behind other calls, for which memory ran out
-abbrev pub Starved : List Call → List ℕ → Option File → List Entry → List Entry → Type 0
-Starved before name file calls calls' =
+abbrev pub StarvedInLoad : List Call → List ℕ → Option File → List Entry → List Entry → Type 0
+StarvedInLoad before name file calls calls' =
     (load : List Call) × BeginsLoad name file load × Made (before ++ load) calls calls'
 
 -- a read of a load failed, behind other calls
@@ -61,7 +61,7 @@ Loads name mode file (Ok None) calls calls' = (file ≡ None) × LoadEnded [] na
 Loads name mode file (Ok (Some m)) calls calls' = IsReadAs file mode m × LoadEnded [] name file calls calls'
 Loads name mode file (Err (Site call)) calls calls' = (call ≡ MapRead) × BrokeInLoad [] name file calls calls'
 Loads name mode file (Err (Refused e)) calls calls' = IsRefusedFor file mode e × LoadEnded [] name file calls calls'
-Loads name mode file (Err NoMemory) calls calls' = Starved [] name file calls calls'
+Loads name mode file (Err NoMemory) calls calls' = StarvedInLoad [] name file calls calls'
 
 -- The barrier: the mapfile is settled and the image synced, so that nothing of an earlier run is pending.
 abbrev pub barrier_calls : MapNames → List Call
@@ -95,7 +95,7 @@ Resumes names file (Ok (Map m)) calls calls' =
 Resumes names file (Err (Site call)) calls calls' = BrokeAsResumed names file call calls calls'
 Resumes names file (Err (Refused e)) calls calls' =
     IsRefusedFor file Tight e × (e ≢ NoStatusLine) × LoadEnded (barrier_calls names) names.map file calls calls'
-Resumes names file (Err NoMemory) calls calls' = Starved (barrier_calls names) names.map file calls calls'
+Resumes names file (Err NoMemory) calls calls' = StarvedInLoad (barrier_calls names) names.map file calls calls'
 
 -- the calls of a resume
 abbrev pub IsResumeCall : SiteCall → Type 0

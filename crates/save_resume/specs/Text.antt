@@ -9,7 +9,7 @@ use Rattle.crash_site.specs.Calls.{Entry}
 use Rattle.crash_site.specs.declared.site.SiteCall.TheVariants.{MapRead}
 use Rattle.save_resume.specs.declared.load.ResumeFault.{ResumeFault}
 use Rattle.save_resume.specs.declared.load.ResumeFault.TheVariants.{Site, Map as Refused, NoMemory}
-use Rattle.save_resume.specs.Resuming.{LoadEnded, Starved, BrokeInLoad}
+use Rattle.save_resume.specs.Resuming.{LoadEnded, StarvedInLoad, BrokeInLoad}
 
 -- a text is that of a file, within the limit
 pub record IsTextOf (file : Option File) (text : List ℕ) : Type 0 where
@@ -28,7 +28,7 @@ pub record IsTooLong (file : Option File) : Type 0 where
 abbrev pub TextStop : List ℕ → Option File → ResumeFault → List Entry → List Entry → Type 0
 TextStop name file (Site call) calls calls' = (call ≡ MapRead) × BrokeInLoad [] name file calls calls'
 TextStop name file (Refused e) calls calls' = (e ≡ TooLong) × IsTooLong file × LoadEnded [] name file calls calls'
-TextStop name file NoMemory calls calls' = Starved [] name file calls calls'
+TextStop name file NoMemory calls calls' = StarvedInLoad [] name file calls calls'
 
 -- why a text within the limit gave no map
 abbrev pub NoMapIn : List ℕ → Mode → ResumeFault → Type 0

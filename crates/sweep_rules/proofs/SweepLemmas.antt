@@ -9,12 +9,13 @@ use Rattle.block_list.specs.declared.status.Status.{Status}
 use Rattle.block_list.specs.declared.status.Status.TheVariants.{Finished}
 use Rattle.block_list.specs.Map.{Has}
 use Rattle.block_list.specs.Places.{IsFirst, IsRunUp}
+use Rattle.block_list.proofs.HeldLemmas.{slice_get-drop}
 use Rattle.faulty_source.specs.Journal.{floor}
 use Rattle.rescue_rules.specs.Counts.{passes}
 use Rattle.rescue_rules.specs.Preparation.{changed_from, if_asked}
 use Rattle.rescue_rules.specs.Machine.{cut_end}
 use Rattle.rescue_rules.specs.Setting.{Setting, place}
-use Rattle.rescue_rules.proofs.MarkLemmas.{slice_get-take, slice_get-drop}
+use Rattle.rescue_rules.proofs.MarkLemmas.{slice_get-take}
 use Rattle.sweep_rules.specs.Sweep.{Sweeper, Sweep, Swept, IsTaken, IsPiece, sweep_search, filler, generator, swept, is_generated, is_there, part_of}
 use Rattle.sweep_rules.specs.SweepLaws.{PieceIsOne, GeneratesWhatIsHeld, FilledMapStands}
 

@@ -11,7 +11,7 @@ use Rattle.faulty_source.specs.SourceState.{SourceState, Reads}
 use Rattle.transfer_token.specs.declared.token.Request.{Request}
 use Rattle.transfer_token.specs.declared.fetch.Fetched.{Fetched}
 use Rattle.transfer_token.specs.declared.fetch.Fetched.TheVariants.{Whole, Part, Nothing, Ended, Empty}
-use Rattle.transfer_token.specs.Tokens.{between, size_of, IsCut, Spans, IfLoaded, Holds, Fetches}
+use Rattle.transfer_token.specs.Tokens.{between, size_of, IsCut, Spans, IfLoaded, HoldsLoaded, Fetches}
 
 -- the range is the part of the read that is kept
 abbrev IsKept : ℕ → Reading → Run → Type 0
@@ -65,13 +65,13 @@ kept_right sector r bytes loaded right is =
 -- so the buffer's front holds what was loaded
 loaded_holds : (sector : ℕ) (r : Reading) (fetched : Fetched) (buf : List ℕ) (source : SourceState) → IsCut sector r fetched
     → take (length r.given) buf ≡ r.given → (IsTrue source.tells → r.given ≡ slice_range source.bytes r.pos (r.pos + length r.given))
-    → IfLoaded fetched (Holds sector r source buf)
+    → IfLoaded fetched (HoldsLoaded sector r source buf)
 loaded_holds sector r fetched buf source cut front right =
-    let holds : (loaded : Run) → IsKept sector r loaded → Holds sector r source buf loaded = λ loaded is. record {
+    let holds : (loaded : Run) → IsKept sector r loaded → HoldsLoaded sector r source buf loaded = λ loaded is. record {
       given = front_given sector r buf loaded front is;
       own = λ tells. front_given sector r buf loaded front is ∙ kept_right sector r source.bytes loaded (right tells) is;
     } in
-    if_loaded fetched (IsKept sector r) (Holds sector r source buf) holds (loaded_is_kept sector r fetched cut)
+    if_loaded fetched (IsKept sector r) (HoldsLoaded sector r source buf) holds (loaded_is_kept sector r fetched cut)
 
 -- what a read gave into the front of a buffer was fetched, and cut
 pub fetched_so : (request : Request) (sector : ℕ) (got : Got) (fetched : Fetched) (part rest : List ℕ) (old new : SourceState)

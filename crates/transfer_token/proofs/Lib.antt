@@ -1,1 +1,1 @@
-pub mod FetchLemmas
+mod FetchLemmas

@@ -65,7 +65,7 @@ IfLoaded (Empty over) holds = ⊤
 
 -- At the buffer's front stand the bytes of the loaded range: those that the read gave first, as many as are kept, and
 -- so the input's own.
-pub record Holds (sector : ℕ) (r : Reading) (source : SourceState) (buf : List ℕ) (loaded : Run) : Type 0 where
+pub record HoldsLoaded (sector : ℕ) (r : Reading) (source : SourceState) (buf : List ℕ) (loaded : Run) : Type 0 where
   pub given : take (size_of loaded) buf ≡ take (kept sector r) r.given
   pub own : IsTrue source.tells → take (size_of loaded) buf ≡ slice_range source.bytes loaded.from loaded.to
 
@@ -85,7 +85,7 @@ pub record Fetches (request : Request) (sector : ℕ) (got : Got) (fetched : Fet
   pub cut : IsCut sector reading fetched
   pub spans : Spans request fetched
   pub front : take (length reading.given) buf ≡ reading.given
-  pub loaded : IfLoaded fetched (Holds sector reading old buf)
+  pub loaded : IfLoaded fetched (HoldsLoaded sector reading old buf)
 
 -- a status of what a read failed at
 abbrev pub IsFailed : Status → Type 0

@@ -1,24 +1,23 @@
 -- What a read behind copying asked for is finished behind it, or bad, if it is still left of the domain.
-use Rattle.std.proofs.Common.{◌≡◌, ◌⊎◌, ℕ, ◌+◌, ◌-◌, ◌<◌, ◌≤◌, Bool, true, false, ◌&&◌, nat_lt, if◌then◌else◌, List, length, Some, refl, sym, ap, ◌∙◌, arith, inl, inr, ⊎_elim}
-use Rattle.std.specs.List.{slice_get}
+use Rattle.std.proofs.Common.{◌≡◌, ◌⊎◌, ℕ, ◌+◌, ◌-◌, ◌<◌, ◌≤◌, Bool, true, false, ◌&&◌, nat_lt, if◌then◌else◌, List, length, Some, sym, ap, ◌∙◌, arith, inl, inr, ⊎_elim}
 use Rattle.std.proofs.lemmas.Bool.{cases_lt, cond_both}
 use Rattle.std.proofs.lemmas.Option.{same_Some}
 use Rattle.block_list.specs.declared.status.Status.{Status}
-use Rattle.block_list.specs.declared.status.Status.TheVariants.{NonTrimmed, NonScraped, BadSector, Finished}
+use Rattle.block_list.specs.declared.status.Status.TheVariants.{NonTrimmed, BadSector, Finished}
 use Rattle.block_list.specs.Map.{Has, marked}
 use Rattle.block_list.proofs.Places.{length-marked}
 use Rattle.faulty_source.specs.Ends.{is_before}
 use Rattle.faulty_source.specs.Journal.{Reading, is_failed, kept}
-use Rattle.rescue_rules.specs.declared.stop.TrimMode.{TrimMode}
-use Rattle.rescue_rules.specs.declared.stop.TrimMode.TheVariants.{Lead, Tail}
+use Rattle.rescue_rules.specs.declared.stop.TrimMode.TheVariants.{Tail}
 use Rattle.rescue_rules.specs.Setting.{Setting, IsSensible}
 use Rattle.rescue_rules.specs.Machine.{Machine, IsRequest}
 use Rattle.rescue_rules.specs.Step.{Event, is_copying, rest_status, scraped, over_after, step}
 use Rattle.rescue_rules.specs.MachineLaws.{IsInOrder, StepsBy}
 use Rattle.rescue_rules.proofs.GivenLemmas.{covers_here}
-use Rattle.rescue_rules.proofs.MarkLemmas.{marked_inside, marked_outside}
+use Rattle.rescue_rules.proofs.MarkLemmas.{marked_inside}
 use Rattle.rescue_rules.proofs.OverLemmas.{good_reaches}
 use Rattle.rescue_rules.proofs.StepLemmas.{asks_back, move_steps}
+use Rattle.rescue_core.proofs.ChangeLemmas.{scraped_behind}
 
 -- An event of a request of a phase behind copying, and what it does.
 pub record StepsLater (s : Setting) (m : Machine) (e : Event) : Type 0 where
@@ -38,14 +37,6 @@ steps_later s m e ok order later asks few = record {
 rest_bad : (s : Setting) (m : Machine) (size : ℕ) → is_copying m ≡ false → rest_status s m size ≡ BadSector
 rest_bad s m size later = ap (λ (c : Bool). if c && nat_lt s.sector size then NonTrimmed else BadSector) later
 
--- what lies between a run's front and its back lies before the read of its back
-scraped_before : (mode : TrimMode) (p : ℕ) (map : List Status) (x : ℕ) → p ≤ length map
-    → ((low : ℕ) → mode ≡ Tail low → low ≤ p) → p ≤ x → slice_get (scraped mode p map) x ≡ slice_get map x
-scraped_before Lead p map x there back from = refl
-scraped_before (Tail low) p map x there back from =
-    let le : low ≤ p = back low refl in
-    marked_outside map low (p - low) NonScraped x (omega (arith, le, there)) (inr (omega (arith, le, from)))
-
 rest_marked : (s : Setting) (m : Machine) (e : Event) (x : ℕ) → StepsLater s m e
     → is_before (over_after m e.reading) x ≡ true → e.reading.pos + kept s.sector e.reading ≤ x
     → x < e.reading.pos + e.reading.asked → Has (step s m e).map BadSector x
@@ -60,7 +51,7 @@ rest_marked s m e x l before from to =
     let size_rest : length rest ≡ length whole = length-marked whole (r.pos + k) (r.asked - k) t there in
     cond_both (is_failed r) (scraped m.mode r.pos rest) whole (λ (map : List Status). Has map BadSector x)
     (λ failed.
-    scraped_before m.mode r.pos rest x (omega (arith, size, size_rest, l.steps.there)) l.back (omega (arith, from))
+    scraped_behind m.mode r.pos rest x (omega (arith, size, size_rest, l.steps.there)) l.back (omega (arith, from))
     ∙ marked_inside whole (r.pos + k) (r.asked - k) t x there from (omega (arith, to, l.steps.kept_asked))
     ∙ ap (λ (u : Status). Some u) (rest_bad s m (r.asked - k) l.later))
     (λ good. let far : r.pos + r.asked ≤ x = good_reaches m r s.sector x good before from in absurd (omega (arith, far, to)))

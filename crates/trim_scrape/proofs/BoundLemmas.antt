@@ -18,9 +18,10 @@ use Rattle.rescue_rules.proofs.MoveLemmas.{run_first, run_rest}
 use Rattle.rescue_rules.proofs.OverLemmas.{before_was, wanted_before}
 use Rattle.rescue_rules.proofs.ReadyLemmas.{stays_ready}
 use Rattle.rescue_rules.proofs.StepLemmas.{finished_unwanted, request_asks}
+use Rattle.rescue_rules.proofs.StatusLemmas.{rest_is}
 use Rattle.copy_passes.proofs.OnceLemmas.{copying_asks_once}
-use Rattle.trim_scrape.specs.Bounds.{Asks, narrows, is_narrowing, AskFew}
-use Rattle.rescue_core.proofs.ChangeLemmas.{Kept, Missed, CutOff, Between, Stands, rest_is}
+use Rattle.trim_scrape.specs.Bounds.{MoveAsks, narrows, is_narrowing, AskFew}
+use Rattle.rescue_core.proofs.ChangeLemmas.{Kept, Missed, CutOff, Between, Stands}
 use Rattle.trim_scrape.proofs.OrderLemmas.{AreOrdered, ordered_from}
 use Rattle.trim_scrape.proofs.OwedLemmas.{Owes, owed_before, asked_owed, asked_paid, owed_step}
 use Rattle.trim_scrape.proofs.RunLemmas.{MayRun, Moves, moves_by, has_ready, asked_taken}
@@ -38,7 +39,7 @@ record IsFirstMove (s : Setting) (m : Machine) (e : Event) (x : ℕ) (Fits : Mac
   asks : AsksFor e.reading x
 
 first_is : (s : Setting) (m : Machine) (e : Event) (es : List Event) (x : ℕ) (v : Move) (Fits : Machine → Type 0)
-    → Asks (moves s m (e ∷ es)) 0 x v → Fits v.before → IsFirstMove s m e x Fits
+    → MoveAsks (moves s m (e ∷ es)) 0 x v → Fits v.before → IsFirstMove s m e x Fits
 first_is s m e es x v Fits a fits =
     let same : move_of s m e ≡ v = same_Some (move_of s m e) v a.is in
     record {
@@ -47,7 +48,7 @@ first_is s m e es x v Fits a fits =
     }
 
 never_again : (s : Setting) (m : Machine) (es : List Event) (j x : ℕ) (w : Move) (Fits Done : Machine → Type 0)
-    → IsOnce s x Fits Done → IsSensible s → MayRun s m → IsRun s m es → Done m → Asks (moves s m es) j x w
+    → IsOnce s x Fits Done → IsSensible s → MayRun s m → IsRun s m es → Done m → MoveAsks (moves s m es) j x w
     → Fits w.before → ⊥
 never_again s m [] j x w Fits Done once ok may run done a fits = let none : _ = a.is in absurd (cc)
 never_again s m (e ∷ es) zero x w Fits Done once ok may run done a fits =
@@ -61,8 +62,8 @@ never_again s m (e ∷ es) (suc j) x w Fits Done once ok may run done a fits =
 
 once_first : (s : Setting) (m : Machine) (e : Event) (es : List Event) (j x : ℕ) (v w : Move)
     (Fits Done : Machine → Type 0)
-    → IsOnce s x Fits Done → IsSensible s → MayRun s m → IsRun s m (e ∷ es) → Asks (moves s m (e ∷ es)) 0 x v
-    → Fits v.before → Asks (moves s m (e ∷ es)) (suc j) x w → Fits w.before → ⊥
+    → IsOnce s x Fits Done → IsSensible s → MayRun s m → IsRun s m (e ∷ es) → MoveAsks (moves s m (e ∷ es)) 0 x v
+    → Fits v.before → MoveAsks (moves s m (e ∷ es)) (suc j) x w → Fits w.before → ⊥
 once_first s m e es j x v w Fits Done once ok may run a fits b fits' =
     let by : Moves s m e = moves_by s m e ok may (run_first s m e es run) in
     let first : IsFirstMove s m e x Fits = first_is s m e es x v Fits a fits in
@@ -70,8 +71,8 @@ once_first s m e es j x v w Fits Done once ok may run a fits b fits' =
     (once.makes m e by first.fits first.asks) (record { is = b.is; asks = b.asks }) fits'
 
 asks_once : (s : Setting) (m : Machine) (es : List Event) (i j x : ℕ) (v w : Move) (Fits Done : Machine → Type 0)
-    → IsOnce s x Fits Done → IsSensible s → MayRun s m → IsRun s m es → Asks (moves s m es) i x v
-    → Asks (moves s m es) j x w → Fits v.before → Fits w.before → i ≡ j
+    → IsOnce s x Fits Done → IsSensible s → MayRun s m → IsRun s m es → MoveAsks (moves s m es) i x v
+    → MoveAsks (moves s m es) j x w → Fits v.before → Fits w.before → i ≡ j
 asks_once s m [] i j x v w Fits Done once ok may run a b fits fits' = let none : _ = a.is in absurd (cc)
 asks_once s m (e ∷ es) zero zero x v w Fits Done once ok may run a b fits fits' = refl
 asks_once s m (e ∷ es) zero (suc j) x v w Fits Done once ok may run a b fits fits' =
@@ -192,7 +193,7 @@ retrying_once s x n =
 
 -- a move of a run asks for nothing that is finished
 unfinished : (s : Setting) (m : Machine) (es : List Event) (i x : ℕ) (v : Move) → IsSensible s → IsRun s m es
-    → Asks (moves s m es) i x v → Has v.before.map Finished x → ⊥
+    → MoveAsks (moves s m es) i x v → Has v.before.map Finished x → ⊥
 unfinished s m es i x v ok run a has =
     let p : ℕ = v.event.reading.pos in
     let q : ℕ = v.event.reading.pos + v.event.reading.asked in

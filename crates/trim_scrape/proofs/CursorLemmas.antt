@@ -1,9 +1,6 @@
 -- What a pass has left: the positions that its cursor hasn't come past.
-use Rattle.std.proofs.Common.{◌≡◌, ◌⊎◌, ℕ, ◌+◌, ◌-◌, ◌<◌, ◌≤◌, min, Bool, true, false, ◌&&◌, nat_le, if◌then◌else◌, List, length, get_or, refl, sym, ap, subst, ◌∙◌, arith, inl, inr, ⊎_elim}
-use Rattle.std.specs.List.{range_with_len}
-use Rattle.std.proofs.lemmas.Bool.{cases_lt, cases_Bool, and_from, cond-false, le-leb, lt-leb, lt-ltb}
-use Rattle.std.proofs.lemmas.List.Folds.{list_any_at}
-use Rattle.std.proofs.lemmas.List.FromFn.{length-range_with_len, get_or-range_with_len}
+use Rattle.std.proofs.Common.{◌≡◌, ◌⊎◌, ℕ, ◌+◌, ◌-◌, ◌<◌, ◌≤◌, min, Bool, true, false, ◌&&◌, nat_le, if◌then◌else◌, List, length, refl, sym, ap, subst, ◌∙◌, arith, inl, inr, ⊎_elim}
+use Rattle.std.proofs.lemmas.Bool.{cases_lt, cases_Bool, cond-false, le-leb, lt-leb, lt-ltb}
 use Rattle.faulty_source.specs.Ends.{is_before}
 use Rattle.faulty_source.specs.Journal.{is_failed}
 use Rattle.rescue_rules.specs.declared.stop.TrimMode.{TrimMode}
@@ -12,14 +9,15 @@ use Rattle.rescue_rules.specs.declared.phase.Phase.{Phase}
 use Rattle.rescue_rules.specs.declared.phase.Phase.TheVariants.{Copying, Trimming, Scraping, Retrying}
 use Rattle.rescue_rules.specs.Setting.{Setting}
 use Rattle.rescue_rules.specs.Passes.{Pass, is_up}
-use Rattle.rescue_rules.specs.Machine.{Machine, pass_of, is_wanted, IsWanted, Search, search_in, search_of, IsNextRun, cut_start, cut_end, is_ahead, IsRequest, has_request}
+use Rattle.rescue_rules.specs.Machine.{Machine, pass_of, IsWanted, Search, search_in, search_of, IsNextRun, cut_start, cut_end, is_ahead, IsRequest, has_request}
 use Rattle.rescue_rules.specs.Step.{Event, copies, trims, is_trimming, is_slow, is_jump, reach, over_after, cursor_after, step}
 use Rattle.rescue_rules.specs.Moves.{begun}
 use Rattle.rescue_rules.specs.MachineLaws.{IsInOrder, StepsBy, AsksFor}
 use Rattle.rescue_rules.proofs.OverLemmas.{before_was, wanted_before}
 use Rattle.rescue_rules.proofs.SearchLemmas.{wanted_within}
-use Rattle.rescue_core.proofs.ChangeLemmas.{trims_is}
+use Rattle.rescue_rules.proofs.StepLemmas.{trims_is}
 use Rattle.copy_passes.proofs.TopLemmas.{reach_few, reach_some, before_reach}
+use Rattle.copy_passes.proofs.CopyingLemmas.{wanted_seen}
 
 -- a position lies ahead of a cursor, upwards or downwards
 abbrev pub LiesAhead : (up : Bool) → (cursor x : ℕ) → Type 0
@@ -207,18 +205,6 @@ pub left_begun : (s : Setting) (m : Machine) (p : Pass) (ps : List Pass) (x : �
 left_begun s m p ps x within before =
     record { before = before; ahead = λ off. start_by (is_up s p) (length m.map) x within }
 
--- a wanted position ahead is a request
-seen : (s : Setting) (m : Machine) (x : ℕ) → is_wanted s m x ≡ true → is_ahead (search_of s m) x ≡ true
-    → has_request s m ≡ true
-seen s m x wanted ahead =
-    let P : ℕ → Bool = λ y. is_wanted s m y && is_ahead (search_of s m) y in
-    let there : x < length m.map = wanted_within s m x wanted in
-    let here : P x ≡ true = and_from (is_wanted s m x) (is_ahead (search_of s m) x) wanted ahead in
-    let at : get_or (range_with_len 0 (length m.map)) x 0 ≡ x =
-    get_or-range_with_len 0 (length m.map) x 0 there ∙ (let e : 0 + x ≡ x = omega arith in e) in
-    list_any_at P (range_with_len 0 (length m.map)) x 0 (omega (arith, there, length-range_with_len 0 (length m.map)))
-    (ap P at ∙ here)
-
 ahead_by : (up : Bool) (cursor size x : ℕ) → LiesAhead up cursor x → is_ahead (from_cursor up cursor size) x ≡ true
 ahead_by true cursor size x ahead = le-leb cursor x ahead
 ahead_by false cursor size x ahead = lt-ltb x cursor ahead
@@ -231,14 +217,14 @@ trimming_seen s m x Lead order on is wanted =
     let at : search_of s m ≡ search_in s m Trimming Lead =
     ap (λ (phase : Phase). search_in s m phase m.mode) (trims_is (pass_of m).phase on)
     ∙ ap (search_in s m Trimming) is in
-    seen s m x wanted (ap (λ (f : Search). is_ahead f x) at
+    wanted_seen s m x wanted (ap (λ (f : Search). is_ahead f x) at
     ∙ ahead_by up (if up then 0 else length m.map) s.sector x
     (start_by up (length m.map) x (wanted_within s m x wanted)))
 trimming_seen s m x (Tail low) order on is wanted =
     let at : search_of s m ≡ search_in s m Trimming (Tail low) =
     ap (λ (phase : Phase). search_in s m phase m.mode) (trims_is (pass_of m).phase on)
     ∙ ap (search_in s m Trimming) is in
-    seen s m low (order.tail low is) (ap (λ (f : Search). is_ahead f low) at ∙ le-leb low low (omega arith))
+    wanted_seen s m low (order.tail low is) (ap (λ (f : Search). is_ahead f low) at ∙ le-leb low low (omega arith))
 
 -- a position that a pass wants and has left is a request
 pub left_seen : (s : Setting) (m : Machine) (x : ℕ) → IsInOrder s m → IsWanted s m x → IsLeft s m x
@@ -246,6 +232,6 @@ pub left_seen : (s : Setting) (m : Machine) (x : ℕ) → IsInOrder s m → IsWa
 left_seen s m x order wanted left =
     ⊎_elim (λ (on : is_trimming m ≡ true). trimming_seen s m x m.mode order on refl wanted)
     (λ (off : is_trimming m ≡ false).
-    seen s m x wanted (ap (λ (f : Search). is_ahead f x) (search_is s m (pass_of m).phase m.mode off)
+    wanted_seen s m x wanted (ap (λ (f : Search). is_ahead f x) (search_is s m (pass_of m).phase m.mode off)
     ∙ ahead_by (is_up s (pass_of m)) m.cursor (size_of s (pass_of m).phase) x (left.ahead off)))
     (cases_Bool (is_trimming m))

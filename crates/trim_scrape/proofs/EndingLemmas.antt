@@ -15,7 +15,7 @@ use Rattle.rescue_rules.specs.Machine.{Machine, pass_of, start_of, is_live}
 use Rattle.rescue_rules.specs.Step.{Event, limit_met}
 use Rattle.rescue_rules.specs.Moves.{ready, no_pass_left, moves, state_after, has_ended, IsRun}
 use Rattle.rescue_rules.specs.Beginning.{first_pass, first_cursor, machine_of}
-use Rattle.rescue_rules.proofs.FitLemmas.{run_size}
+use Rattle.rescue_rules.proofs.FitLemmas.{run_size, first_few}
 use Rattle.rescue_rules.proofs.ReadyLemmas.{order_begins}
 use Rattle.trim_scrape.specs.Endings.{IsLeftWell, Rescued, Untrimmed, Unscraped, Bad}
 use Rattle.trim_scrape.specs.Laws.{RunEndsWell}
@@ -24,10 +24,6 @@ use Rattle.trim_scrape.proofs.FailLemmas.{Fails, owed_fails}
 use Rattle.trim_scrape.proofs.OrderLemmas.{ordered_from, behind_contains, has_last, has_trimming, has_scraping, has_retrying}
 use Rattle.trim_scrape.proofs.OwedLemmas.{Owes, Now, Later}
 use Rattle.trim_scrape.proofs.RunLemmas.{MayRun}
-
-few_passes : (from : Option MapState) → first_pass from ≤ 5
-few_passes None = omega arith
-few_passes (Some state) = omega arith
 
 -- a pass's start leaves each position
 left_at_start : (s : Setting) (m : Machine) (p : Pass) (x : ℕ) → pass_of m ≡ p → m.cursor ≡ start_of s p m.map
@@ -53,7 +49,7 @@ owes_last : (s : Setting) (map : List Status) (from : Option MapState) (shown : 
     → Owes s (machine_of s map from shown time) (numbered Copying 5) x
 owes_last s map from shown time x within =
     let m : Machine = machine_of s map from shown time in
-    let few : first_pass from ≤ 5 = few_passes from in
+    let few : first_pass from ≤ 5 = first_few from in
     ⊎_elim (λ (less : first_pass from < 5). Later (has_last s (first_pass from) less))
     (λ (ge : 5 ≤ first_pass from).
     let last : first_pass from ≡ 5 = omega (arith, few, ge) in
@@ -67,7 +63,7 @@ owes_last s map from shown time x within =
 -- and the passes behind copying
 owes_behind : (s : Setting) (map : List Status) (from : Option MapState) (shown : MapState) (time x : ℕ) (p : Pass)
     → Contains (passes_behind s Copying) p → Owes s (machine_of s map from shown time) p x
-owes_behind s map from shown time x p has = Later (behind_contains s (first_pass from) p (few_passes from) has)
+owes_behind s map from shown time x p has = Later (behind_contains s (first_pass from) p (first_few from) has)
 
 -- a run that went on to its end
 record Ended (s : Setting) (m : Machine) (es : List Event) : Type 0 where

@@ -20,8 +20,9 @@ use Rattle.rescue_rules.proofs.MoveLemmas.{run_first, run_rest}
 use Rattle.rescue_rules.proofs.OverLemmas.{live_before, live_was}
 use Rattle.rescue_rules.proofs.SearchLemmas.{request_seen}
 use Rattle.rescue_rules.proofs.ReadyLemmas.{stays_ready}
+use Rattle.rescue_rules.proofs.StatusLemmas.{rest_is}
 use Rattle.trim_scrape.specs.Endings.{FailedIn}
-use Rattle.rescue_core.proofs.ChangeLemmas.{Kept, Missed, CutOff, Between, Stands, rest_is}
+use Rattle.rescue_core.proofs.ChangeLemmas.{Kept, Missed, CutOff, Between, Stands}
 use Rattle.trim_scrape.proofs.CursorLemmas.{IsLeft, JumpsNever, left_on}
 use Rattle.trim_scrape.proofs.OrderLemmas.{order, IsFrom, AreOrdered}
 use Rattle.trim_scrape.proofs.OwedLemmas.{Owes, Now, Later, ready_all, all_from, owes_contains, owes_ready, wanted_in, passes_are}

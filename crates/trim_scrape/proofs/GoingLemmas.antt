@@ -13,7 +13,7 @@ use Rattle.rescue_core.specs.declared.turn.Turn.{Turn}
 use Rattle.rescue_core.specs.Across.{Across}
 use Rattle.rescue_core.specs.RunState.{RunState, setting_in, passed, HasPlaces}
 use Rattle.rescue_core.specs.Turning.{Turned}
-use Rattle.copy_passes.specs.Turns.{GoesOn}
+use Rattle.copy_passes.specs.Turns.{WentByTurns}
 use Rattle.copy_passes.proofs.TurnLemmas.{IsOneMove, one_move, between, begins, goes_on_by_pass}
 use Rattle.trim_scrape.specs.Passing.{IsPassOf, IsBefore}
 use Rattle.trim_scrape.proofs.PassingLemmas.{IsInPass, left_of, PassStep, passes_step, GoesNext, goes_next}
@@ -22,7 +22,7 @@ use Rattle.trim_scrape.proofs.PassingLemmas.{IsInPass, left_of, PassStep, passes
 pub begins_next : (phase : Phase) (number : ℕ) (r r1 : RunState) (a : SourceState) (d : SiteState) (k : ClockState)
     (x : ConsoleState) → IsBefore phase number r → IsPassOf (setting_in r) phase number
     → HasPlaces r.settings (covers r.domain) → a.is_open ≡ true → d.is_open ≡ true → d.is_drafting ≡ false
-    → r1 ≡ passed r phase number → GoesOn r r1 (between a a d d k k x x)
+    → r1 ≡ passed r phase number → WentByTurns r r1 (between a a d d k k x x)
 begins_next phase number r r1 a d k x b there places input image no_draft is =
     let by : GoesNext phase number r = goes_next phase number r b there in
     goes_on_by_pass r r r1 (between a a d d k k x x) phase number by.first (begins r a d k x places input image no_draft)

@@ -1,13 +1,15 @@
-pub mod BehindLemmas
-pub mod AskedLemmas
+-- Other crates cite these.
 pub mod BoundLemmas
-pub mod CountLemmas
 pub mod CursorLemmas
 pub mod EndingLemmas
 pub mod FailLemmas
-pub mod GoingLemmas
 pub mod OrderLemmas
 pub mod OwedLemmas
-pub mod PassingLemmas
 pub mod RunLemmas
-pub mod SweepLemmas
+-- These are the crate's own.
+mod BehindLemmas
+mod AskedLemmas
+mod CountLemmas
+mod GoingLemmas
+mod PassingLemmas
+mod SweepLemmas

@@ -9,13 +9,13 @@ use Rattle.rescue_rules.specs.Passes.{Pass, numbered}
 use Rattle.rescue_rules.specs.Machine.{Machine, pass_of, is_live}
 use Rattle.rescue_rules.specs.Step.{Event}
 use Rattle.rescue_rules.specs.Moves.{Move, moves, state_after}
-use Rattle.trim_scrape.specs.Bounds.{Asks}
+use Rattle.trim_scrape.specs.Bounds.{MoveAsks}
 
 -- a read of this pass asked for a position, and failed
 pub record FailedIn (pass : Pass) (ms : List Move) (x : ℕ) : Type 0 where
   pub number : ℕ
   pub move : Move
-  pub asks : Asks ms number x move
+  pub asks : MoveAsks ms number x move
   pub pass_is : pass_of move.before ≡ pass
   pub failed : is_failed move.event.reading ≡ true
 

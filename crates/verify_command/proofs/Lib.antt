@@ -1,2 +1,2 @@
-pub mod OptionLemmas
-pub mod CommandLemmas
+mod OptionLemmas
+mod CommandLemmas

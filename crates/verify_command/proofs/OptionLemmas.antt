@@ -2,12 +2,14 @@
 use Rattle.std.proofs.Common.{◌≡◌, ℕ, ◌^◌, ◌<◌, Bool, true, false, cond, ◌||◌, List, [], ◌∷◌, slice_get, Option, Some, None, Result, Ok, Err, IfSome, refl, sym, ◌∙◌, ap, subst, arith}
 use Rattle.std.proofs.lemmas.Option.{same_Some}
 use Rattle.std.specs.Option.{option_map, option_and_then}
+use Rattle.std.proofs.Math.Bool.{or_assoc}
 use Rattle.option_words.specs.Rows.{is_letter}
 use Rattle.option_words.specs.declared.reading.Item.{Item}
 use Rattle.option_values.specs.Values.{OptionRow, default_sector, is_given, is_of, letter_meant, options_with, set_by, set_in_turn, size_by, value_of, with_item, with_sector, word_at}
 use Rattle.option_values.proofs.RowLemmas.{EachRow, letter_given, row_passes}
-use Rattle.option_values.proofs.TurnLemmas.{IsSector, fault_stays, sector_in_turn, turn_parts}
+use Rattle.option_values.proofs.TurnLemmas.{IsSector, fault_stays, sector_in_turn, turn_parts, default_is}
 use Rattle.option_values.proofs.ValueLemmas.{map_part, or_part, size_by_below}
+use Rattle.option_values.proofs.QuietLemmas.{or_false, or_true}
 use Rattle.verify_command.specs.declared.options.VerifyOptions.{VerifyOptions}
 use Rattle.verify_command.specs.Options.{no_options, option_meanings, option_rows, options_in, quiet_letter, sector_letter}
 
@@ -25,14 +27,6 @@ pub record Keeps (sector : ℕ) (o : VerifyOptions) (quiet : Bool) (o' : VerifyO
   pub same : o'.sector ≡ o.sector
   pub range : AreInRange sector o → AreInRange sector o'
   pub quiet_is : o'.quiet ≡ (o.quiet || quiet)
-
-or_false : (b : Bool) → b ≡ (b || false)
-or_false true = refl
-or_false false = refl
-
-or_true : (b : Bool) → true ≡ (b || true)
-or_true true = refl
-or_true false = refl
 
 module _ (sector : ℕ) (o : VerifyOptions) (h : AreInRange sector o) where
   with_input : (n : ℕ) → n < 2 ^ 63 → AreInRange sector (record o { input_position = n })
@@ -120,10 +114,6 @@ item_keeps sector words o o' i e =
     let at = slice_get option_rows i.row in
     row_keeps sector o o' i.row at value refl (or_part (set_by at sector o value) (word_at i.value) o' e)
 
-or_assoc : (a b c : Bool) → ((a || b) || c) ≡ (a || (b || c))
-or_assoc true b c = refl
-or_assoc false b c = refl
-
 items_keep : (sector : ℕ) (words : List (List ℕ)) (items : List Item) (o o' : VerifyOptions)
     → set_in_turn (with_item option_rows sector words) (Ok o) items ≡ Ok o'
     → Keeps sector o (is_given option_meanings quiet_letter items) o'
@@ -149,9 +139,6 @@ none_in_range n h = record { sector = h; input = omega arith; output = tt }
 pub record AreKept (o : VerifyOptions) (quiet : Bool) : Type 0 where
   pub range : AreInRange o.sector o
   pub quiet_is : o.quiet ≡ quiet
-
-default_is : IsSector default_sector
-default_is = record { low = omega arith; high = omega arith }
 
 kept_by : (words : List (List ℕ)) (items : List Item) (sector : Result ℕ ℕ) (o : VerifyOptions)
     → set_in_turn (with_sector option_meanings sector_letter words) (Ok default_sector) items ≡ sector

@@ -1,3 +1,4 @@
+-- Other crates cite these.
 pub mod AnswerLemmas
 pub mod FrontLemmas
 pub mod GainLemmas
@@ -5,3 +6,4 @@ pub mod HoldsLemmas
 pub mod LoadLemmas
 pub mod PartLemmas
 pub mod VerdictLemmas
+pub mod BarrierLemmas

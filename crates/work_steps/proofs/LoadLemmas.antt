@@ -12,17 +12,17 @@ use Rattle.crash_site.specs.Calls.{Call, Entry, Done as Returned, BrokeAt}
 use Rattle.crash_site.specs.SiteState.{SiteState, files_in}
 use Rattle.save_resume.specs.Saving.{IsNameIn}
 use Rattle.save_resume.specs.Loading.{load_reads, IsPiece, BeginsLoad, IsLoad}
-use Rattle.save_resume.specs.Resuming.{IsOfFile, LoadEnded, Starved, BrokeInLoad}
+use Rattle.save_resume.specs.Resuming.{IsOfFile, LoadEnded, StarvedInLoad, BrokeInLoad}
 use Rattle.work_steps.specs.Work.{Faults, Step, Look, Read}
 use Rattle.work_steps.specs.Parts.{StoppedIn, WentThrough}
 use Rattle.work_steps.proofs.GainLemmas.{GainsBroken, broke_gains, broke_past}
 
 -- ---- there is a load of each file
 
-ones_sum : (n : ℕ) → sum (replicate n 1) ≡ n
+pub ones_sum : (n : ℕ) → sum (replicate n 1) ≡ n
 ones_sum n = let e : sum (replicate n 1) ≡ n * 1 = sum_by-replicate (λ (x : ℕ). x) n 1 in omega (arith, e)
 
-one_is_piece : IsPiece 1
+pub one_is_piece : IsPiece 1
 one_is_piece = (omega arith, omega arith)
 
 -- the first reads of a file that gave so many bytes, one by one, and the read behind them
@@ -152,7 +152,7 @@ pub record RanOut (before : List Call) (name : List ℕ) (old new : SiteState) :
   pub gained : IsTrue old.tells → new.calls ≡ old.calls ++ map Returned (before ++ load)
 
 pub ran_out : (before : List Call) (name : List ℕ) (old new : SiteState)
-    → (IsTrue old.tells → Starved before name (files_in old name) old.calls new.calls) → RanOut before name old new
+    → (IsTrue old.tells → StarvedInLoad before name (files_in old name) old.calls new.calls) → RanOut before name old new
 ran_out before name old new told =
     by_tells old.tells (RanOut before name old new)
     (λ t.

@@ -25,8 +25,14 @@ stopped_more f (Read (Some name) file ∷ rows) more run e d (inr (inr h)) =
     inr (inr (h.0, h.1, h.2, h.3, stopped_more f rows more run e _ h.4))
 
 -- calls behind which others come
-grown : (calls rest later front : List Entry) → calls ≡ front ++ rest → calls ++ later ≡ front ++ (rest ++ later)
+pub grown : (calls rest later front : List Entry) → calls ≡ front ++ rest → calls ++ later ≡ front ++ (rest ++ later)
 grown calls rest later front is = ap (λ c. c ++ later) is ∙ append_assoc front rest later
+
+-- calls one behind another, and then others
+pub grew_both : (d0 d1 d2 more : List Entry) (o l : List Entry) → d1 ≡ d0 ++ o → d2 ≡ d1 ++ l
+    → d2 ++ more ≡ d0 ++ (o ++ (l ++ more))
+grew_both d0 d1 d2 more o l first second =
+    ap (λ r. r ++ more) second ∙ append_assoc d1 l more ∙ ap (λ r. r ++ (l ++ more)) first ∙ append_assoc d0 o (l ++ more)
 
 -- what is done behind rows that the work went through is done by all of it
 pub through_then : {E : Type 0} (f : Faults E) (rows more : List (Step E)) (run : E → Deeds → Type 0) (e : E)

@@ -1,7 +1,7 @@
 -- By the piece that comes next.
 use Rattle.std.proofs.Common.{refl, ◌∙◌, arith}
 use Rattle.mapfile_text.specs.Printed.{printed}
-use Rattle.map_printing.proofs.PutLemmas.{nothing_put, next_put, next_broke, shorter}
+use Rattle.rescue_console.proofs.PutLemmas.{nothing_put, next_put, next_broke, shorter}
 use Rattle.map_printing.proofs.put_map.Goals as goal
 
 pub pieces-init : goal.pieces-init

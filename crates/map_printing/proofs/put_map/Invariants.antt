@@ -2,7 +2,7 @@
 use Rattle.std.proofs.Common.{length}
 use Rattle.mapfile_text.specs.LeftOf.{left_of}
 use Rattle.mapfile_text.specs.Printed.{printed}
-use Rattle.map_printing.proofs.PutLemmas.{PartlyPut}
+use Rattle.rescue_console.proofs.PutLemmas.{PartlyPut}
 use Rattle.map_printing.proofs.put_map.Given as goal
 
 abbrev pub invariant-pieces : goal.invariant-pieces

@@ -1,11 +1,11 @@
 use Rattle.std.proofs.Common.{◌≡◌}
-use Rattle.copy_passes.specs.Turns.{GoesOn}
+use Rattle.copy_passes.specs.Turns.{WentByTurns}
 use Rattle.copy_passes.specs.Copying.{IsCopying}
 use Rattle.copy_passes.proofs.CopyingLemmas.{ahead_of}
 use Rattle.copy_passes.proofs.copy.run_pass.Given as goal
 
 abbrev pub invariant-turns : goal.invariant-turns
-invariant-turns g l = GoesOn l.initial.rescue l.rescue (record {
+invariant-turns g l = WentByTurns l.initial.rescue l.rescue (record {
   source = g.S.Source.state l.initial.source;
   source' = g.S.Source.state l.source;
   site = g.D.Site.state l.initial.site;

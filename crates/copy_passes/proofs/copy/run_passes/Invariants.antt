@@ -1,11 +1,11 @@
 use Rattle.std.proofs.Common.{◌-◌}
 use Rattle.rescue_rules.specs.Passes.{copying_passes}
-use Rattle.copy_passes.specs.Turns.{GoesOn}
+use Rattle.copy_passes.specs.Turns.{WentByTurns}
 use Rattle.copy_passes.specs.Copying.{IsCopying}
 use Rattle.copy_passes.proofs.copy.run_passes.Given as goal
 
 abbrev pub invariant-passes : goal.invariant-passes
-invariant-passes g l = GoesOn l.initial.rescue l.rescue (record {
+invariant-passes g l = WentByTurns l.initial.rescue l.rescue (record {
   source = g.S.Source.state l.initial.source;
   source' = g.S.Source.state l.source;
   site = g.D.Site.state l.initial.site;

@@ -3,10 +3,10 @@ use Rattle.std.proofs.lemmas.Result.{err_from_is_err_and}
 use Rattle.faulty_source.proofs.Keeping.{keeps_self, keeps_more}
 use Rattle.rescue_command.specs.Command.{told_by}
 use Rattle.ddrescue_cli.specs.declared.ending.Which.TheVariants.{DomainMap}
-use Rattle.ddrescue_cli.proofs.CauseLemmas.{map_causes, map_drafts, load_leaves}
-use Rattle.ddrescue_cli.proofs.OpenedLemmas.{not_opened}
-use Rattle.ddrescue_cli.proofs.SweptEnds.{cause_behind}
-use Rattle.ddrescue_cli.proofs.FilledLemmas.{takes_as, takes_into, fill_unread, fill_unopened, fill_unpatterned, fill_output, fill_load, fill_unplaced, fill_goes}
+use Rattle.ddrescue_cli.proofs.words.CauseLemmas.{map_causes, map_drafts, load_leaves}
+use Rattle.ddrescue_cli.proofs.files.OpenedLemmas.{not_opened}
+use Rattle.ddrescue_cli.proofs.sweeps.SweptEnds.{cause_behind}
+use Rattle.ddrescue_cli.proofs.sweeps.FilledLemmas.{takes_as, takes_into, fill_unread, fill_unopened, fill_unpatterned, fill_output, fill_load, fill_unplaced, fill_goes}
 use Rattle.ddrescue_cli.proofs.fill.fill.Goals as goal
 
 pub returns-in_err-domain_map-clause-worked : goal.returns-in_err-domain_map-clause-worked

@@ -3,10 +3,10 @@ use Rattle.std.proofs.lemmas.Result.{err_from_is_err_and}
 use Rattle.faulty_source.proofs.Keeping.{keeps_self}
 use Rattle.rescue_command.specs.Command.{told_by}
 use Rattle.ddrescue_cli.specs.declared.ending.Which.TheVariants.{DomainMap}
-use Rattle.ddrescue_cli.proofs.CauseLemmas.{map_causes, map_drafts, load_leaves}
-use Rattle.ddrescue_cli.proofs.OpenedLemmas.{not_opened}
-use Rattle.ddrescue_cli.proofs.SweptEnds.{cause_behind}
-use Rattle.ddrescue_cli.proofs.GeneratedLemmas.{generate_unread, generate_unopened, generate_output, generate_load, generate_unplaced, generate_goes}
+use Rattle.ddrescue_cli.proofs.words.CauseLemmas.{map_causes, map_drafts, load_leaves}
+use Rattle.ddrescue_cli.proofs.files.OpenedLemmas.{not_opened}
+use Rattle.ddrescue_cli.proofs.sweeps.SweptEnds.{cause_behind}
+use Rattle.ddrescue_cli.proofs.sweeps.GeneratedLemmas.{generate_unread, generate_unopened, generate_output, generate_load, generate_unplaced, generate_goes}
 use Rattle.ddrescue_cli.proofs.generate.generate.Goals as goal
 
 pub returns-in_err-domain_map-clause-worked : goal.returns-in_err-domain_map-clause-worked

@@ -4,8 +4,8 @@ use Rattle.rescue_command.specs.Command.{told_by}
 use Rattle.ddrescue_cli.specs.Answers.{drafting_left}
 use Rattle.ddrescue_cli.specs.Asked.{Maps}
 use Rattle.ddrescue_cli.specs.Steps.{maps_read}
-use Rattle.ddrescue_cli.proofs.SweptEnds.{sweep_cause, none_cause, draft_as}
-use Rattle.ddrescue_cli.proofs.SweptLemmas.{generated_so, generated_none, job_suits, job_heading}
+use Rattle.ddrescue_cli.proofs.sweeps.SweptEnds.{sweep_cause, none_cause, draft_as}
+use Rattle.ddrescue_cli.proofs.sweeps.SweptLemmas.{generated_so, generated_none, job_suits, job_heading}
 use Rattle.ddrescue_cli.proofs.generate.run.Goals as goal
 
 pub run_generate-closed-requires-clause-room : goal.run_generate-closed-requires-clause-room

@@ -1,4 +1,4 @@
-use Rattle.ddrescue_cli.proofs.SweepVerdict.{generate_has_one_verdict}
+use Rattle.ddrescue_cli.proofs.sweeps.SweepVerdict.{generate_has_one_verdict}
 use Rattle.ddrescue_cli.proofs.laws.a_generating_has_one_verdict.Goals as goal
 
 pub returns : goal.returns

@@ -1,4 +1,4 @@
-use Rattle.ddrescue_cli.proofs.SweepComplete.{generate_is_done_unless}
+use Rattle.ddrescue_cli.proofs.sweeps.SweepComplete.{generate_is_done_unless}
 use Rattle.ddrescue_cli.proofs.laws.a_generating_is_done_unless.Goals as goal
 
 pub returns : goal.returns

@@ -1,4 +1,4 @@
-use Rattle.ddrescue_cli.proofs.SampledLemmas.{sample_is_one_line}
+use Rattle.ddrescue_cli.proofs.runs.SampledLemmas.{sample_is_one_line}
 use Rattle.ddrescue_cli.proofs.laws.a_sample_is_one_line.Goals as goal
 
 pub returns : goal.returns

@@ -1,4 +1,4 @@
-use Rattle.ddrescue_cli.proofs.RefusalLemmas.{faults_are_of_steps}
+use Rattle.ddrescue_cli.proofs.words.RefusalLemmas.{faults_are_of_steps}
 use Rattle.ddrescue_cli.proofs.laws.faults_are_of_steps.Goals as goal
 
 pub returns : goal.returns

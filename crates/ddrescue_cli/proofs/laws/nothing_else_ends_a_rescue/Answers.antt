@@ -1,4 +1,4 @@
-use Rattle.ddrescue_cli.proofs.CompleteLemmas.{is_done_unless}
+use Rattle.ddrescue_cli.proofs.promise.CompleteLemmas.{is_done_unless}
 use Rattle.ddrescue_cli.proofs.laws.nothing_else_ends_a_rescue.Goals as goal
 
 pub returns : goal.returns

@@ -1,4 +1,4 @@
-use Rattle.ddrescue_cli.proofs.VerdictLemmas.{has_one_verdict}
+use Rattle.ddrescue_cli.proofs.words.VerdictLemmas.{has_one_verdict}
 use Rattle.ddrescue_cli.proofs.laws.words_and_files_have_one_verdict.Goals as goal
 
 pub returns : goal.returns

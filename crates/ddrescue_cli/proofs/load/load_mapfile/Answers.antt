@@ -1,5 +1,5 @@
 -- What a load did, by what the resume answered.
-use Rattle.ddrescue_cli.proofs.LoadLemmas.{fresh_loads, map_loads, refused_loads, starved_loads, broken_loads}
+use Rattle.ddrescue_cli.proofs.files.LoadLemmas.{fresh_loads, map_loads, refused_loads, starved_loads, broken_loads}
 use Rattle.ddrescue_cli.proofs.load.load_mapfile.Goals as goal
 
 pub returns-in-Ok-Fresh-clause-loaded : goal.returns-in-Ok-Fresh-clause-loaded

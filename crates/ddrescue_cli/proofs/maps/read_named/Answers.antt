@@ -1,6 +1,6 @@
 -- What the read of a map answers, by what the load of it answered.
 use Rattle.save_resume.specs.Named.{map_mode}
-use Rattle.ddrescue_cli.proofs.MapReadLemmas.{named_read, named_stopped, named_cause, unnamed}
+use Rattle.ddrescue_cli.proofs.files.MapReadLemmas.{named_read, named_stopped, named_cause, unnamed}
 use Rattle.ddrescue_cli.proofs.maps.read_named.Goals as goal
 
 pub returns-in_default-clause-told : goal.returns-in_default-clause-told

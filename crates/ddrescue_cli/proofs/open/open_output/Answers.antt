@@ -1,7 +1,7 @@
 -- What the open of the output did, by what it found.
 use Rattle.std.proofs.Common.{◌≡◌, false, true, rules, sym, ◌∙◌}
 use Rattle.crash_site.specs.declared.site.ImageKind.TheVariants.{Absent, Other}
-use Rattle.ddrescue_cli.proofs.OpenLemmas.{output_failed, output_missing, output_opened, output_refused}
+use Rattle.ddrescue_cli.proofs.files.OpenLemmas.{output_failed, output_missing, output_opened, output_refused}
 use Rattle.ddrescue_cli.proofs.open.open_output.Goals as goal
 
 pub returns-in-Ok-Absent-clause-opens : goal.returns-in-Ok-Absent-clause-opens

@@ -1,6 +1,6 @@
 use Rattle.std.proofs.Common.{◌≡◌, ◌++◌, min, length, take, drop, length-append, arith}
 use Rattle.std.proofs.lemmas.List.{length-take-le, length-drop}
-use Rattle.ddrescue_cli.proofs.PatternLemmas.{short_read, whole_read}
+use Rattle.ddrescue_cli.proofs.files.PatternLemmas.{short_read, whole_read}
 use Rattle.ddrescue_cli.proofs.pattern.read_front.Goals as goal
 
 pub returns-then-count-front-clause-reads : goal.returns-then-count-front-clause-reads

@@ -1,6 +1,6 @@
 use Rattle.std.proofs.Common.{arith}
 use Rattle.faulty_source.proofs.Keeping.{stays_self}
-use Rattle.ddrescue_cli.proofs.PatternLemmas.{taken_read}
+use Rattle.ddrescue_cli.proofs.files.PatternLemmas.{taken_read}
 use Rattle.ddrescue_cli.proofs.pattern.read_pattern.Goals as goal
 
 pub returns-then-end-eq0-clause-source : goal.returns-then-end-eq0-clause-source

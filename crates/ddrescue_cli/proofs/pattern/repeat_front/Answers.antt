@@ -1,6 +1,6 @@
 use Rattle.std.proofs.Common.{◌≡◌, ℕ, length, refl, subst, arith}
 use Rattle.std.proofs.lemmas.List.{length-set}
-use Rattle.ddrescue_cli.proofs.PatternLemmas.{IsFilledTo, filled_first, filled_next, filled_all}
+use Rattle.ddrescue_cli.proofs.files.PatternLemmas.{IsFilledTo, filled_first, filled_next, filled_all}
 use Rattle.ddrescue_cli.proofs.pattern.repeat_front.Goals as goal
 
 pub loop-i-init : goal.loop-i-init

@@ -1,5 +1,5 @@
 -- What stands in front of where it has come is the front, over and over.
-use Rattle.ddrescue_cli.proofs.PatternLemmas.{IsFilledTo}
+use Rattle.ddrescue_cli.proofs.files.PatternLemmas.{IsFilledTo}
 use Rattle.ddrescue_cli.proofs.pattern.repeat_front.Given as goal
 
 abbrev pub invariant-loop-i : goal.invariant-loop-i

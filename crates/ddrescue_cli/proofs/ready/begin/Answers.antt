@@ -1,7 +1,7 @@
 use Rattle.std.proofs.Common.{Option, ap, ◌∙◌}
 use Rattle.mapfile_text.specs.declared.state.MapState.{MapState}
 use Rattle.rescue_core.specs.RunState.{RunState}
-use Rattle.ddrescue_cli.proofs.BeginLemmas.{sound_settings, begun_with, begun_over, shows_nothing, shows_loaded}
+use Rattle.ddrescue_cli.proofs.runs.BeginLemmas.{sound_settings, begun_with, begun_over, shows_nothing, shows_loaded}
 use Rattle.ddrescue_cli.proofs.ready.begin.Goals as goal
 use Rattle.ddrescue_cli.proofs.ready.begin.Goals.{in-Some, in_default}
 

@@ -1,6 +1,6 @@
 use Rattle.std.proofs.Common.{rules}
 use Rattle.rescue_command.specs.Command.{told_by}
-use Rattle.ddrescue_cli.proofs.OpeningLemmas.{says_size}
+use Rattle.ddrescue_cli.proofs.files.OpeningLemmas.{says_size}
 use Rattle.ddrescue_cli.proofs.ready.make_opening.Goals as goal
 
 pub returns : goal.returns

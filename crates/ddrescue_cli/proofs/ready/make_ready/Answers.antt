@@ -1,7 +1,7 @@
 use Rattle.std.proofs.Common.{rules, None, refl}
 use Rattle.ddrescue_cli.specs.Steps.{maps_read}
 use Rattle.ddrescue_cli.specs.Running.{settings_by}
-use Rattle.ddrescue_cli.proofs.BeginLemmas.{suits_made, short_made}
+use Rattle.ddrescue_cli.proofs.runs.BeginLemmas.{suits_made, short_made}
 use Rattle.ddrescue_cli.proofs.ready.make_ready.Goals as goal
 
 pub returns-clause-begins : goal.returns-clause-begins

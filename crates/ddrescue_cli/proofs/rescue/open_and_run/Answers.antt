@@ -3,8 +3,8 @@ use Rattle.std.proofs.Common.{refl, sym, ◌∙◌}
 use Rattle.std.proofs.lemmas.Result.{err_from_is_err_and}
 use Rattle.faulty_source.proofs.Keeping.{keeps_more}
 use Rattle.rescue_command.specs.Command.{told_by}
-use Rattle.ddrescue_cli.proofs.CauseLemmas.{load_leaves}
-use Rattle.ddrescue_cli.proofs.OpenedLemmas.{not_opened, input_fails, output_fails, load_fails, place_fails, run_goes}
+use Rattle.ddrescue_cli.proofs.words.CauseLemmas.{load_leaves}
+use Rattle.ddrescue_cli.proofs.files.OpenedLemmas.{not_opened, input_fails, output_fails, load_fails, place_fails, run_goes}
 use Rattle.ddrescue_cli.proofs.rescue.open_and_run.Goals as goal
 
 pub returns-in_default-clause-opened : goal.returns-in_default-clause-opened

@@ -6,7 +6,7 @@ use Rattle.copy_passes.proofs.TurnLemmas.{between}
 use Rattle.ddrescue_cli.specs.Asked.{setting_of}
 use Rattle.ddrescue_cli.specs.Answers.{Causes}
 use Rattle.ddrescue_cli.specs.Steps.{DidRun, maps_read}
-use Rattle.ddrescue_cli.proofs.TestedLemmas.{ran_below, causes_below}
+use Rattle.ddrescue_cli.proofs.runs.TestedLemmas.{ran_below, causes_below}
 use Rattle.ddrescue_cli.proofs.rescue.run_tested.Goals as goal
 
 pub returns-in-None-clause-ran : goal.returns-in-None-clause-ran

@@ -3,9 +3,9 @@ use Rattle.option_values.specs.declared.command_error.CommandError.{CommandError
 use Rattle.option_values.specs.declared.command_error.CommandError.TheVariants.{Usage}
 use Rattle.rescue_command.specs.Command.{told_by, IsErrorOf}
 use Rattle.ddrescue_cli.specs.declared.aim.Aim.TheVariants.{Rescue as ToRescue, Fill as ToFill, Generate as ToGenerate}
-use Rattle.ddrescue_cli.proofs.SampledLemmas.{sample_kept}
-use Rattle.ddrescue_cli.proofs.StillLemmas.{starved_kept, refused_kept}
-use Rattle.ddrescue_cli.proofs.TaskLemmas.{asked_task, never_sampled}
+use Rattle.ddrescue_cli.proofs.runs.SampledLemmas.{sample_kept}
+use Rattle.ddrescue_cli.proofs.promise.StillLemmas.{starved_kept, refused_kept}
+use Rattle.ddrescue_cli.proofs.promise.TaskLemmas.{asked_task, never_sampled}
 use Rattle.ddrescue_cli.proofs.rescue.work.Goals as goal
 
 pub returns-in-Err-NoMemory-clause-promise : goal.returns-in-Err-NoMemory-clause-promise

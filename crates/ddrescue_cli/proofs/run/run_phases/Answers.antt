@@ -1,5 +1,5 @@
 use Rattle.copy_passes.proofs.TurnLemmas.{goes_on}
-use Rattle.ddrescue_cli.proofs.PhaseLemmas.{ends_behind}
+use Rattle.ddrescue_cli.proofs.runs.PhaseLemmas.{ends_behind}
 use Rattle.ddrescue_cli.proofs.run.run_phases.Goals as goal
 
 pub returns-in-Err-run_trimming-clause-ends : goal.returns-in-Err-run_trimming-clause-ends

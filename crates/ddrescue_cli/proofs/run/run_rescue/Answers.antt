@@ -1,6 +1,6 @@
 use Rattle.save_resume.proofs.FillLemmas.{keeps_more}
-use Rattle.ddrescue_cli.proofs.StoppedLemmas.{stopped_cause, stopped_draft}
-use Rattle.ddrescue_cli.proofs.EndLemmas.{run_end, stopped_end}
+use Rattle.ddrescue_cli.proofs.runs.StoppedLemmas.{stopped_cause, stopped_draft}
+use Rattle.ddrescue_cli.proofs.runs.EndLemmas.{run_end, stopped_end}
 use Rattle.ddrescue_cli.proofs.run.run_rescue.Goals as goal
 
 pub returns-in-Ok-clause-went : goal.returns-in-Ok-clause-went

@@ -3,7 +3,7 @@ use Rattle.block_list.specs.declared.block.Run.{Run}
 use Rattle.block_list.specs.declared.status.Status.{Status}
 use Rattle.rescue_domain.specs.Parts.{covers}
 use Rattle.rescue_rules.specs.Counts.{counts_of}
-use Rattle.ddrescue_cli.proofs.SampledLemmas.{ran_to_end}
+use Rattle.ddrescue_cli.proofs.runs.SampledLemmas.{ran_to_end}
 use Rattle.ddrescue_cli.proofs.sample.count_run.Goals as goal
 
 pub returns-then-is_done : goal.returns-then-is_done

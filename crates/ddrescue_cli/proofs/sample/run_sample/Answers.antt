@@ -1,5 +1,5 @@
 use Rattle.std.proofs.Common.{rules, true}
-use Rattle.ddrescue_cli.proofs.SampledLemmas.{line_made}
+use Rattle.ddrescue_cli.proofs.runs.SampledLemmas.{line_made}
 use Rattle.ddrescue_cli.proofs.sample.run_sample.Goals as goal
 
 pub returns : goal.returns

@@ -2,7 +2,7 @@ use Rattle.std.proofs.Common.{length, refl, sym, subst}
 use Rattle.rescue_domain.specs.Parts.{covers}
 use Rattle.rescue_core.specs.declared.settings.Settings.{Settings}
 use Rattle.rescue_core.specs.RunState.{Suits}
-use Rattle.ddrescue_cli.proofs.BeginLemmas.{asked_placed, sound_settings}
+use Rattle.ddrescue_cli.proofs.runs.BeginLemmas.{asked_placed, sound_settings}
 use Rattle.ddrescue_cli.proofs.sweep.make_job.Goals as goal
 
 pub returns : goal.returns

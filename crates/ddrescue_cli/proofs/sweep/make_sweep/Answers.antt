@@ -1,7 +1,7 @@
 use Rattle.std.proofs.Common.{length, refl}
 use Rattle.ddrescue_cli.specs.Steps.{maps_read}
 use Rattle.ddrescue_cli.specs.Running.{settings_by}
-use Rattle.ddrescue_cli.proofs.BeginLemmas.{asked_suits}
+use Rattle.ddrescue_cli.proofs.runs.BeginLemmas.{asked_suits}
 use Rattle.ddrescue_cli.proofs.sweep.make_sweep.Goals as goal
 
 pub returns : goal.returns

@@ -1,10 +1,11 @@
 use Rattle.std.proofs.Common.{arith}
-use Rattle.map_algebra.proofs.WalkLemmas.{stretch_ends, constant_in, constant_behind}
+use Rattle.block_list.proofs.HeldLemmas.{stretch_within}
+use Rattle.map_algebra.proofs.WalkLemmas.{constant_in, constant_behind}
 use Rattle.map_algebra.proofs.pieces.status_from.Goals as goal
 
 pub overflow_add-block : goal.overflow_add-block
 overflow_add-block g c =
-    omega (arith, stretch_ends _ _ c.stretch_near-block.ensures.stretch, c.end.ensures.end, c.end.ensures.short)
+    omega (arith, stretch_within _ _ c.stretch_near-block.ensures.stretch, c.end.ensures.end, c.end.ensures.short)
 
 pub returns-then-end-x-clause-stretch : goal.returns-then-end-x-clause-stretch
 returns-then-end-x-clause-stretch g c = constant_behind _ _ _ (omega arith) (omega arith)

@@ -11,8 +11,9 @@ use Rattle.rescue_core.specs.RunState.{RunState, started}
 use Rattle.rescue_command.specs.declared.options.Options.{Options}
 use Rattle.ddrescue_cli.specs.Asked.{ArePlacedBy}
 use Rattle.ddrescue_cli.specs.Sampled.{no_maps}
-use Rattle.ddrescue_cli.proofs.BeginLemmas.{begun_over, shows_nothing, short_made, sound_settings, suits_made, whole_from}
+use Rattle.ddrescue_cli.proofs.runs.BeginLemmas.{begun_over, shows_nothing, short_made, sound_settings, suits_made}
 use Rattle.plan_command.specs.Command.{length_limit}
+use Rattle.rescue_domain.proofs.PlaceLemmas.{whole_from}
 use Rattle.rescue_plan.specs.Plan.{blank}
 use Rattle.rescue_plan.proofs.ready.make_rescue.Goals as goal
 

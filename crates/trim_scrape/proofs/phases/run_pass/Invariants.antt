@@ -1,10 +1,10 @@
 use Rattle.std.proofs.Common.{◌≡◌}
-use Rattle.copy_passes.specs.Turns.{GoesOn}
+use Rattle.copy_passes.specs.Turns.{WentByTurns}
 use Rattle.trim_scrape.proofs.PassingLemmas.{IsInPass, left_of}
 use Rattle.trim_scrape.proofs.phases.run_pass.Given as goal
 
 abbrev pub invariant-turns : goal.invariant-turns
-invariant-turns g l = GoesOn l.fn.rescue l.rescue (record {
+invariant-turns g l = WentByTurns l.fn.rescue l.rescue (record {
   source = g.S.Source.state l.fn.source;
   source' = g.S.Source.state l.source;
   site = g.D.Site.state l.fn.site;

@@ -1,10 +1,10 @@
 use Rattle.rescue_rules.specs.declared.phase.Phase.TheVariants.{Retrying}
-use Rattle.copy_passes.specs.Turns.{GoesOn}
+use Rattle.copy_passes.specs.Turns.{WentByTurns}
 use Rattle.trim_scrape.specs.Passing.{IsBefore}
 use Rattle.trim_scrape.proofs.phases.run_retries.Given as goal
 
 abbrev pub invariant-passes : goal.invariant-passes
-invariant-passes g l = GoesOn l.fn.rescue l.rescue (record {
+invariant-passes g l = WentByTurns l.fn.rescue l.rescue (record {
   source = g.S.Source.state l.fn.source;
   source' = g.S.Source.state l.source;
   site = g.D.Site.state l.fn.site;

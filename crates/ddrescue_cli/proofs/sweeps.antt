@@ -1,0 +1,19 @@
+-- Fill mode and generate mode.
+pub mod EarlyStops
+pub mod FilledLemmas
+pub mod GeneratedLemmas
+pub mod SweepComplete
+pub mod SweepCounts
+pub mod SweepDone
+pub mod SweepDoneLemmas
+pub mod SweepFaults
+pub mod SweepFiles
+pub mod SweepGoes
+pub mod SweepLeaves
+pub mod SweepNames
+pub mod SweepOutside
+pub mod SweepSafely
+pub mod SweepVerdict
+pub mod SweepWay
+pub mod SweptEnds
+pub mod SweptLemmas

@@ -1,0 +1,2 @@
+-- Other crates cite these.
+pub mod CountLemmas
