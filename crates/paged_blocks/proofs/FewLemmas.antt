@@ -17,7 +17,7 @@ use Rattle.block_list.proofs.EditLemmas.{no_block, rising}
 use Rattle.block_list.proofs.LookupLemmas.{IsClear, clear_behind, clear_before, found_first, found_run_up, found_last, found_run_down}
 use Rattle.block_list.proofs.ApartLemmas.{merged_from_apart}
 use Rattle.block_list.proofs.StretchLemmas.{stretches_tiles, stretches_covered, stretches_apart}
-use Rattle.paged_blocks.specs.Search.{IsSearched}
+use Rattle.paged_blocks.specs.Search.{IsSearched, IsBare}
 use Rattle.paged_blocks.specs.declared.paged_tiles.Form.{Form}
 use Rattle.paged_blocks.specs.declared.paged_tiles.Form.TheVariants.{Few, Many}
 use Rattle.paged_blocks.specs.Forms.{shown, IsFormed}
@@ -74,20 +74,43 @@ all_searched_place map at i b h w n e l =
     place_searched (stretches map) at (i + 1) (stretches_tiled map h) (omega (arith, ap length (stretches_covered 0 map)))
     (all_searched map at i b h n e l)
 
--- and where it doesn't, the search goes on among those in front of it, of which the first begins at 0
-pub narrowed_first : (map : List Status) (at i : ℕ) (b : Block) → length map < 2 ^ 63 → 0 < at
-    → i + 1 ≡ length (stretches map) → slice_get (stretches map) i ≡ Some b → at ≤ b.pos
+-- and where it doesn't, the place is at or in front of where it begins
+pub last_behind : (map : List Status) (at i : ℕ) (b : Block) → length map < 2 ^ 63 → i + 1 ≡ length (stretches map)
+    → slice_get (stretches map) i ≡ Some b → at ≤ b.pos → at ≤ start_of (stretches map) (length (stretches map) - 1)
+last_behind map at i b h n e l =
+    let bs : List Block = stretches map in
+    let k : i ≡ length bs - 1 = omega arith in
+    omega (arith, (tile_read bs i b (stretches_tiled map h) (omega arith) (block_read bs i b e)).begins, ap (λ j. start_of bs j) k)
+
+pub front_within : (map : List Status) (at : ℕ) → at ≤ start_of (stretches map) (length (stretches map) - 1) → at ≤ length map
+front_within map at l =
+    let bs : List Block = stretches map in
+    omega (arith, start_mono bs (length bs - 1) (length bs) (omega arith), start_all bs (length bs) (omega arith), ap length (stretches_covered 0 map))
+
+-- a place in front of the last stretch has one more in front of it
+pub front_stretch : (map : List Status) (at : ℕ) → 0 < at → at ≤ start_of (stretches map) (length (stretches map) - 1)
+    → 1 < length (stretches map)
+front_stretch map at z l =
+    let bs : List Block = stretches map in
+    let none : start_of bs 0 ≡ 0 = refl in
+    ⊎_elim (λ (u : 1 < length bs). u)
+    (λ (u : length bs ≤ 1). absurd (omega (arith, start_mono bs (length bs - 1) 0 (omega arith), none)))
+    (cases_lt 1 (length bs))
+
+-- the search goes on among those in front of the last one, of which the first begins at 0
+pub narrowed_front : (map : List Status) (at i : ℕ) → length map < 2 ^ 63 → 0 < at
+    → at ≤ start_of (stretches map) (length (stretches map) - 1) → i ≡ length (stretches map) - 1
     → IsNarrowed block_begins (stretches map) at 0 i
-narrowed_first map at i b h z n e l =
+narrowed_front map at i h z l n =
     let bs : List Block = stretches map in
     let t = stretches_tiled map h in
     let none : start_of bs 0 ≡ 0 = refl in
-    let r = tile_read bs i b t (omega arith) (block_read bs i b e) in
+    let m = front_stretch map at z l in
     record {
-      order = ⊎_elim (λ (u : 0 < i). u) (λ (u : i ≤ 0). absurd (omega (arith, r.begins, start_mono bs i 0 u, none))) (cases_lt 0 i);
+      order = omega arith;
       within = omega arith;
       before = λ d. omega (arith, (tile_at bs 0 d t (omega arith)).begins, none);
-      behind = λ d u. omega (arith, ap block_begins (get_or_from_slice_get bs i b d e));
+      behind = λ d u. omega (arith, (tile_at bs i d t u).begins, ap (λ j. start_of bs j) n);
     }
 
 few_index : (map : List Status) (i : ℕ) (b : Block) → slice_get (stretches map) i ≡ Some b → i < length (stretches map)
@@ -147,6 +170,29 @@ few_run_down map i to s b h e u q =
     let P : List Status → Type 0 = λ m. IsRunDown (Has m s) b.pos (min to (b.pos + b.size)) in
     subst P (stretches_covered 0 map) (found_run_down bs i to s b (stretches_tiled map h) (stretches_merged map)
     (few_index map i b e) (block_read bs i b e) u q)
+
+-- what a search hands out that passed the stretches in front of an index
+pub few_passed : (map : List Status) (from to : ℕ) (s : Status) → IsBare map s from to → IsClear map s from to
+few_passed map from to s b = record { clear = b.bare }
+
+pub few_over : (map : List Status) (i : ℕ) (b : Block) (s : Status) → length (stretches map) ≤ i
+    → slice_get (stretches map) i ≡ Some b → b.status ≡ s
+few_over map i b s h e = absurd (omega (arith, few_index map i b e))
+
+pub few_front_of : (map : List Status) (from i : ℕ) → from < start_of (stretches map) (length (stretches map) - 1)
+    → length (stretches map) ≤ i → from < start_of (stretches map) (i + 1)
+few_front_of map from i l h = omega (arith, start_mono (stretches map) (length (stretches map) - 1) (i + 1) (omega arith))
+
+-- the last stretch holds each position from where it begins on
+pub last_clear : (map : List Status) (i from : ℕ) (s : Status) (b : Block) → length map < 2 ^ 63
+    → slice_get (stretches map) i ≡ Some b → b.pos ≤ from → IsClear map s from (start_of (stretches map) i)
+last_clear map i from s b h e l =
+    let r = (tile_read (stretches map) i b (stretches_tiled map h) (few_index map i b e) (block_read (stretches map) i b e)).begins in
+    record { clear = λ x u v k. absurd (omega (arith, r)) }
+
+pub last_reached : (map : List Status) (from i : ℕ) → from < length map → length (stretches map) ≤ i + 1
+    → from < start_of (stretches map) (i + 1)
+last_reached map from i l h = omega (arith, start_all (stretches map) (i + 1) h, ap length (stretches_covered 0 map))
 
 -- where all stretches were passed
 pub few_none : (map : List Status) (i from : ℕ) (s : Status) → length (stretches map) ≤ i

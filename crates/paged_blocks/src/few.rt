@@ -1,9 +1,11 @@
 //! Searches in a plain list of a few blocks.
-ghost use Rattle.std.specs.Prelude.{◌≡◌, ℕ, ◌+◌, ◌<◌, ◌≤◌, ◌^◌, length, IfOk, IfSome, IfNone};
+ghost use Rattle.std.specs.Prelude.{◌≡◌, ℕ, ◌+◌, ◌-◌, ◌<◌, ◌≤◌, ◌^◌, length, slice_get, Some, IfOk, IfSome, IfNone};
 ghost use Rattle.block_list.specs.Map.{Has};
 ghost use Rattle.block_list.specs.Places.{IsFirst, IsLast, IsRunUp, IsRunDown};
 ghost use Rattle.block_list.specs.Stretches.{stretches};
-ghost use Rattle.block_list.specs.Edits.{IsPlace};
+ghost use Rattle.block_list.specs.Edits.{IsPlace, start_of};
+ghost use Rattle.block_list.specs.declared.block.Block.{Block};
+ghost use Rattle.paged_blocks.specs.Search.{IsBare};
 
 use crate::lookups::{run_down, run_up};
 use crate::steps::Steps;
@@ -30,24 +32,20 @@ pub fn copied(alloc: Global, tiles: &PlainTiles) -> Result<PlainTiles, NoMemory>
     Ok(copy)
 }
 
-/// How many blocks begin before a position. It looks at the last one, where a run that goes up the first time stands,
-/// then at a middle one, and then among half as many, till one is left.
+/// How many blocks begin before a position that the last one doesn't begin before. It looks at a middle one, and then
+/// among half as many, till one is left.
 #[inline(always)]
-fn begun_before<L: Ledger>(tiles: &PlainTiles, at: u64, steps: &mut Steps<L>) -> usize
+fn begun_in_front<L: Ledger>(tiles: &PlainTiles, at: u64, steps: &mut Steps<L>) -> usize
     requires few { length (stretches tiles.now.statuses) ≤ 120 }
     requires short { length tiles.now.statuses < 2 ^ 63 }
     requires some { 0 < at }
-    requires within { at ≤ length tiles.now.statuses }
+    requires front { at ≤ start_of (stretches tiles.now.statuses) (length (stretches tiles.now.statuses) - 1) }
     ensures place { IsPlace (stretches tiles.now.statuses) at result }
     ensures begun { 0 < result }
-    ensures cost { steps.new ≤ steps.old + 8 }
+    ensures cost { steps.new ≤ steps.old + 7 }
 {
     let mut last = 0;
     let mut end = tiles.blocks() - 1;
-    steps.tick();
-    if tiles.block(end).pos < at {
-        return end + 1;
-    }
     while last + 1 < end {
         let middle = last + (end - last) / 2;
         steps.tick();
@@ -60,7 +58,54 @@ fn begun_before<L: Ledger>(tiles: &PlainTiles, at: u64, steps: &mut Steps<L>) ->
     last + 1
 }
 
-/// The first position at or after `from` that has a status, and the end of its block.
+/// How many blocks begin before a position. It looks at the last one first.
+#[inline(always)]
+fn begun_before<L: Ledger>(tiles: &PlainTiles, at: u64, steps: &mut Steps<L>) -> usize
+    requires few { length (stretches tiles.now.statuses) ≤ 120 }
+    requires short { length tiles.now.statuses < 2 ^ 63 }
+    requires some { 0 < at }
+    requires within { at ≤ length tiles.now.statuses }
+    ensures place { IsPlace (stretches tiles.now.statuses) at result }
+    ensures begun { 0 < result }
+    ensures cost { steps.new ≤ steps.old + 8 }
+{
+    let last = tiles.blocks() - 1;
+    steps.tick();
+    if tiles.block(last).pos < at {
+        return last + 1;
+    }
+    begun_in_front(tiles, at, steps)
+}
+
+/// The index of the first block with a status that ends behind a position, where the last one begins behind it; without
+/// one the number of blocks.
+#[inline(never)]
+fn first_from<L: Ledger>(
+    tiles: &PlainTiles,
+    from: u64,
+    status: Status,
+    steps: &mut Steps<L>,
+) -> usize
+    requires few { length (stretches tiles.now.statuses) ≤ 120 }
+    requires short { length tiles.now.statuses < 2 ^ 63 }
+    requires front { from < start_of (stretches tiles.now.statuses) (length (stretches tiles.now.statuses) - 1) }
+    ensures bare { IsBare tiles.now.statuses status from (start_of (stretches tiles.now.statuses) result) }
+    ensures behind { from < start_of (stretches tiles.now.statuses) (result + 1) }
+    ensures has { (b : Block) → slice_get (stretches tiles.now.statuses) result ≡ Some b → b.status ≡ status }
+    ensures cost { steps.new ≤ steps.old + 127 }
+{
+    let begun = begun_in_front(tiles, from + 1, steps);
+    for i in begun - 1..tiles.blocks() {
+        steps.tick();
+        if tiles.block(i).status.is(status) {
+            return i;
+        }
+    }
+    tiles.blocks()
+}
+
+/// The first position at or after `from` that has a status, and the end of its block. It looks at the last block first,
+/// where a run that goes up the first time stands.
 #[inline(always)]
 pub fn first_with<L: Ledger>(
     tiles: &PlainTiles,
@@ -77,15 +122,22 @@ pub fn first_with<L: Ledger>(
     if tiles.end() <= from {
         return None;
     }
-    let begun = begun_before(tiles, from + 1, steps);
-    for i in begun - 1..tiles.blocks() {
-        steps.tick();
-        let block = tiles.block(i);
-        if block.status.is(status) {
-            return Some(run_up(block, from));
-        }
+    let last = tiles.blocks() - 1;
+    steps.tick();
+    let block = tiles.block(last);
+    if block.pos <= from {
+        return if block.status.is(status) {
+            Some(run_up(block, from))
+        } else {
+            None
+        };
     }
-    None
+    let i = first_from(tiles, from, status, steps);
+    if i < tiles.blocks() {
+        Some(run_up(tiles.block(i), from))
+    } else {
+        None
+    }
 }
 
 /// The greatest end at or before `before` below which a position has a status, and the start of its block.

@@ -1,5 +1,5 @@
 //! The map of a rescue: a plain list of a few blocks, or a map in pages.
-ghost use Rattle.std.specs.Prelude.{◌≡◌, ℕ, ◌+◌, ◌-◌, ◌/◌, ◌<◌, ◌≤◌, length, IfOk, IfSome, IfNone};
+ghost use Rattle.std.specs.Prelude.{◌≡◌, ℕ, ◌+◌, ◌-◌, ◌/◌, ◌<◌, ◌≤◌, length, OnOk, IfOk, IfSome, IfNone};
 ghost use Rattle.block_list.specs.Map.{Has};
 ghost use Rattle.block_list.specs.Places.{IsFirst, IsLast, IsRunUp, IsRunDown};
 ghost use Rattle.block_list.specs.Stretches.{stretches};
@@ -68,6 +68,25 @@ fn paged(alloc: Global, tiles: &PlainTiles, n: usize) -> Result<Pages, NoMemory>
 }
 
 impl PagedTiles {
+    /// `reserve` of more than there is, in pages: a plain list is put into them first.
+    #[cold]
+    #[inline(never)]
+    fn reserve_pages(&mut self, n: usize) -> Result<(), NoMemory>
+        requires more { self.old.spare < n }
+        ensures spare { OnOk result (n ≤ self.new.spare) }
+        ensures kept { self.old.spare ≤ self.new.spare }
+        ensures statuses { self.new.statuses ≡ self.old.statuses }
+    {
+        match &mut self.form {
+            Form::Few(tiles) => {
+                let pages = paged(self.alloc, tiles, n)?;
+                self.form = Form::Many(pages);
+                Ok(())
+            }
+            Form::Many(pages) => pages.reserve(n),
+        }
+    }
+
     /// `find_forward`, with its steps counted.
     #[inline(always)]
     pub fn find_forward_counted<L: Ledger>(
@@ -191,12 +210,10 @@ impl Tiles for PagedTiles {
                 if n <= few::FEW - tiles.blocks() {
                     return tiles.reserve(n);
                 }
-                let pages = paged(self.alloc, tiles, n)?;
-                self.form = Form::Many(pages);
-                Ok(())
             }
-            Form::Many(pages) => pages.reserve(n),
+            Form::Many(pages) => return pages.reserve(n),
         }
+        self.reserve_pages(n)
     }
 
     #[inline(always)]

@@ -19,6 +19,28 @@ pub fn find_up<T: Tiles>(live: Live<'_>, tiles: &T, from: u64, status: Status) -
     ensures none { IfNone result ((x : ℕ) → from ≤ x
         → IsMarked (lives live.entry) (T.statuses tiles.now) status x → ⊥) }
 {
+    // Nearly always the first part has one.
+    let part = live.next_in(from)?;
+    let found = tiles.find_forward(part.from, status)?;
+    if found.from < part.to {
+        return Some(Run {
+            from: found.from,
+            to: found.to.min(part.to),
+        });
+    }
+    find_further_up(live, tiles, found.from, status)
+}
+
+/// Does so part by part.
+#[inline(never)]
+fn find_further_up<T: Tiles>(live: Live<'_>, tiles: &T, from: u64, status: Status) -> Option<Run>
+    ensures first { IfSome result (λ run.
+        IsFirst (IsMarked (lives live.entry) (T.statuses tiles.now) status) from run.from) }
+    ensures run { IfSome result (λ run.
+        IsRunUp (IsMarked (lives live.entry) (T.statuses tiles.now) status) run.from run.to) }
+    ensures none { IfNone result ((x : ℕ) → from ≤ x
+        → IsMarked (lives live.entry) (T.statuses tiles.now) status x → ⊥) }
+{
     let mut at = from;
     while let Some(part) = live.next_in(at) {
         let found = tiles.find_forward(part.from, status)?;

@@ -1,33 +1,62 @@
-use Rattle.std.proofs.Common.{arith}
-use Rattle.paged_blocks.proofs.FewLemmas.{few_behind, few_first, few_run_up, few_none, few_short, few_begun, few_reached}
+use Rattle.std.proofs.Common.{◌+◌, ◌-◌, arith}
+use Rattle.paged_blocks.proofs.FewLemmas.{some_stretch, last_behind, last_clear, last_reached, few_behind, few_first, few_run_up, few_none, few_passed, few_short}
 use Rattle.paged_blocks.proofs.few.first_with.Goals as goal
+
+pub overflow_sub-last : goal.overflow_sub-last
+overflow_sub-last g c =
+    omega (arith, some_stretch c.args.tiles.now.statuses (c.args.from + 1) (omega arith) (omega (arith, c.end.ensures.end)), c.blocks-last.ensures)
+
+pub block-block-requires : goal.block-block-requires
+block-block-requires g c =
+    omega (arith, some_stretch c.args.tiles.now.statuses (c.args.from + 1) (omega arith) (omega (arith, c.end.ensures.end)), c.blocks-last.ensures)
 
 pub run_up-requires : goal.run_up-requires
 run_up-requires g c = omega (arith, few_short c.args.tiles.now.statuses _ _ (rw c.end.ensures.end at c.end.ensures.short) c.block-block.ensures)
 
 pub returns-then-is-clause-first : goal.returns-then-is-clause-first
 returns-then-is-clause-first g c =
-    rw c.run_up.ensures (few_first c.args.tiles.now.statuses _ _ _ _ (rw c.end.ensures.end at c.end.ensures.short) c.block-block.ensures
-    c.loop-i.invariant.clear
-    (few_reached c.args.tiles.now.statuses _ _ _ c.begun_before-begun.ensures.place (omega arith)) (c.is.ensures.0 c.if-is.true))
+    let short = rw c.end.ensures.end at c.end.ensures.short in
+    rw c.run_up.ensures (few_first c.args.tiles.now.statuses _ _ _ _ short c.block-block.ensures
+    (last_clear _ _ _ _ _ short c.block-block.ensures (omega arith))
+    (last_reached c.args.tiles.now.statuses _ _ (omega (arith, c.end.ensures.end)) (omega (arith, c.blocks-last.ensures)))
+    (c.is.ensures.0 c.if-is.true))
 
 pub returns-then-is-clause-run : goal.returns-then-is-clause-run
 returns-then-is-clause-run g c =
     rw c.run_up.ensures (few_run_up c.args.tiles.now.statuses _ _ _ _ (rw c.end.ensures.end at c.end.ensures.short) c.block-block.ensures
-    (few_reached c.args.tiles.now.statuses _ _ _ c.begun_before-begun.ensures.place (omega arith)) (c.is.ensures.0 c.if-is.true))
+    (last_reached c.args.tiles.now.statuses _ _ (omega (arith, c.end.ensures.end)) (omega (arith, c.blocks-last.ensures)))
+    (c.is.ensures.0 c.if-is.true))
 
-pub loop-i-init : goal.loop-i-init
-loop-i-init g c = record {
-  clear = few_begun _ _ _ _ c.begun_before-begun.ensures.place c.begun_before-begun.ensures.begun;
-  cost = omega (arith, c.begun_before-begun.ensures.begun);
-}
+pub returns-else-is-clause-none : goal.returns-else-is-clause-none
+returns-else-is-clause-none g c =
+    let short = rw c.end.ensures.end at c.end.ensures.short in
+    few_none c.args.tiles.now.statuses (c.blocks-last.result - 1 + 1) _ _ (omega (arith, c.blocks-last.ensures))
+    (few_behind c.args.tiles.now.statuses _ _ _ _ short c.block-block.ensures (λ q. let t = c.is.ensures.1 q in cc)
+    (last_clear _ _ _ _ _ short c.block-block.ensures (omega arith)))
 
-pub loop-i-preserved : goal.loop-i-preserved
-loop-i-preserved g c = record {
-  clear = few_behind c.args.tiles.now.statuses _ _ _ _ (rw c.end.ensures.end at c.end.ensures.short) c.block-block.ensures
-      (λ q. let t = c.is.ensures.1 q in cc) c.loop-i.invariant.clear;
-  cost = omega (arith, c.tick.ensures, c.loop-i.invariant.cost);
-}
+pub first_from-i-requires-clause-front : goal.first_from-i-requires-clause-front
+first_from-i-requires-clause-front g c =
+    let some = some_stretch c.args.tiles.now.statuses (c.args.from + 1) (omega arith) (omega (arith, c.end.ensures.end)) in
+    omega (
+      arith,
+      last_behind c.args.tiles.now.statuses (c.args.from + 1) _ _ (rw c.end.ensures.end at c.end.ensures.short)
+          (omega (arith, some, c.blocks-last.ensures)) c.block-block.ensures (omega arith),
+    )
 
-pub returns-clause-none : goal.returns-clause-none
-returns-clause-none g c = few_none _ _ _ _ (rw (← c.blocks-i-end.ensures) (omega arith)) c.loop-i.invariant.clear
+pub run_up-requires-then-i-blocks : goal.run_up-requires-then-i-blocks
+run_up-requires-then-i-blocks g c =
+    omega (arith, few_short c.args.tiles.now.statuses _ _ (rw c.end.ensures.end at c.end.ensures.short) c.block.ensures)
+
+pub returns-then-i-blocks-clause-first : goal.returns-then-i-blocks-clause-first
+returns-then-i-blocks-clause-first g c =
+    rw c.run_up-then-i-blocks.ensures (few_first c.args.tiles.now.statuses _ _ _ _ (rw c.end.ensures.end at c.end.ensures.short) c.block.ensures
+    (few_passed _ _ _ _ c.first_from-i.ensures.bare) c.first_from-i.ensures.behind (c.first_from-i.ensures.has _ c.block.ensures))
+
+pub returns-then-i-blocks-clause-run : goal.returns-then-i-blocks-clause-run
+returns-then-i-blocks-clause-run g c =
+    rw c.run_up-then-i-blocks.ensures (few_run_up c.args.tiles.now.statuses _ _ _ _ (rw c.end.ensures.end at c.end.ensures.short) c.block.ensures
+    c.first_from-i.ensures.behind (c.first_from-i.ensures.has _ c.block.ensures))
+
+pub returns-else-i-blocks-clause-none : goal.returns-else-i-blocks-clause-none
+returns-else-i-blocks-clause-none g c =
+    few_none c.args.tiles.now.statuses _ _ _ (omega (arith, c.blocks-2.ensures)) (few_passed _ _ _ _ c.first_from-i.ensures.bare)
