@@ -71,7 +71,7 @@ fn copying_from(again: bool, state: Option<MapState>) -> Option<MapState>
 pub(crate) struct Ready {
     pub domain: Domain,
     /// What is made of the map that it goes on with.
-    pub tiles: PlainTiles,
+    pub tiles: RunMap,
     /// The state that the mapfile showed, if there is one.
     pub state: Option<MapState>,
     /// Room for a cluster.

@@ -13,10 +13,10 @@ ghost use Rattle.ddrescue_cli.specs.Answers.{Causes, drafting_left};
 ghost use Rattle.ddrescue_cli.specs.Work.{answer_of};
 ghost use Rattle.ddrescue_cli.specs.Running.{AreReady, WentToEnd};
 
-use block_list::plain_tiles::PlainTiles;
 use copy_passes::copy::run_copying;
 use crash_site::site::Site;
 use faulty_source::source::Source;
+use paged_blocks::paged_tiles::PagedTiles;
 use rescue_console::clock::Clock;
 use rescue_console::console::Console;
 use rescue_core::closing::Closed;
@@ -24,7 +24,7 @@ use rescue_core::phases::{Copying, Finished, Rescue, Stopped};
 use trim_scrape::phases::{run_retrying, run_scraping, run_trimming};
 
 /// The map of a run.
-pub type RunMap = PlainTiles;
+pub type RunMap = PagedTiles;
 
 /// Makes the phases of a rescue in order: it copies, trims, scrapes and retries.
 pub(crate) fn run_phases<S: Source, D: Site, K: Clock, C: Console>(

@@ -27,7 +27,7 @@ use std::alloc::Global;
 pub(crate) struct SweepReady {
     pub domain: Domain,
     /// The map that its mapfile stands for.
-    pub tiles: PlainTiles,
+    pub tiles: RunMap,
     /// The state that the mapfile showed, if it was there.
     pub state: Option<MapState>,
     /// The line that says how much is asked for, if that is said.

@@ -9,6 +9,7 @@ use block_list::plain_tiles::PlainTiles;
 use block_list::tiles::{NoMemory, Tiles};
 use ddrescue_cli::run::RunMap;
 use mapfile_text::heading::{Heading, Program};
+use paged_blocks::paged_tiles::PagedTiles;
 use plan_command::command::Command;
 use rescue_command::options::Options;
 use rescue_core::phases::{Copying, Rescue};
@@ -50,7 +51,7 @@ fn blank_map(alloc: Global, length: u64) -> Result<RunMap, NoMemory>
     let mut tiles = PlainTiles::new(alloc);
     tiles.reserve(1)?;
     tiles.extend_to(length);
-    Ok(tiles)
+    PagedTiles::from_plain(alloc, &tiles)
 }
 
 /// The rescue that a command asks for, at its start, with all that it wants memory for but its journal. It says nothing,
