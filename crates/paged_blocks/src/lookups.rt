@@ -116,6 +116,7 @@ fn first_in<L: Ledger>(
 }
 
 /// The first position at or after `from` that has a status, and the end of its block.
+#[inline(never)]
 pub fn first_with<L: Ledger>(
     pages: &[Page],
     entries: &Entries,

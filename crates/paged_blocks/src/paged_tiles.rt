@@ -207,7 +207,7 @@ impl Tiles for PagedTiles {
     fn reserve(&mut self, n: usize) -> Result<(), NoMemory> {
         match &mut self.form {
             Form::Few(tiles) => {
-                if n <= few::FEW - tiles.blocks() {
+                if n <= few::FEW && tiles.blocks() <= few::FEW - n {
                     return tiles.reserve(n);
                 }
             }

@@ -22,9 +22,9 @@ use std::sync::ledger::Ledger;
 #[derive(Drop)]
 pub struct Pages {
     pages: Vec<Page>,
+    end: u64,
     entries: Entries,
     free: Vec<usize>,
-    end: u64,
 }
 
 impl Model for Pages {
@@ -62,9 +62,9 @@ impl Pages {
         free.reserve(pages.len()).map_err(|_| NoMemory)?;
         Ok(Pages {
             pages,
+            end,
             entries,
             free,
-            end,
         })
     }
 }
@@ -87,7 +87,7 @@ impl Pages {
     }
 
     /// The first position at or after `from` that has a status, and the end of its stretch. Its steps are counted.
-    #[inline(never)]
+    #[inline(always)]
     pub fn find_forward<L: Ledger>(
         &self,
         from: u64,
