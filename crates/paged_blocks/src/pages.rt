@@ -19,6 +19,7 @@ use std::marker::Model;
 use std::sync::ledger::Ledger;
 
 /// A map as pages of at most 64 blocks and a list of their places.
+// The end stands where a plain list has its own, so that a map of either form reads it alike.
 #[derive(Drop)]
 pub struct Pages {
     pages: Vec<Page>,
