@@ -42,6 +42,18 @@ stretch_held bs x i b t m p q =
       holds = omega (arith, r.ends, p.reaches, ap (λ n. start_of bs n) e);
     }
 
+-- a block that holds a position is the last one that begins at or before it
+pub place_held : (bs : List Block) (i x : ℕ) (b : Block) → IsTiled bs → i < length bs → b ≡ get_or bs i b → b.pos ≤ x
+    → x - b.pos < b.size → IsPlace bs (x + 1) (i + 1)
+place_held bs i x b t h q l u =
+    let r = tile_read bs i b t h q in
+    let e : i + 1 - 1 ≡ i = omega arith in
+    record {
+      index = omega arith;
+      before = λ z. omega (arith, r.begins, ap (λ n. start_of bs n) e);
+      reaches = omega (arith, r.ends);
+    }
+
 -- the blocks from an index on
 abbrev pub rest_from : List Block → ℕ → List Block
 rest_from bs h = take (length bs - h) (drop h bs)

@@ -6,6 +6,7 @@ pub mod block;
 mod edits;
 pub mod laws;
 mod lookups;
+pub mod near;
 pub mod plain_tiles;
 pub mod status;
 pub mod tiles;

@@ -1,16 +1,49 @@
 //! Where a list of blocks that tiles a map from 0 on has a status.
-ghost use Rattle.std.specs.Prelude.{◌≡◌, ℕ, ◌+◌, ◌<◌, ◌≤◌, length, IfSome, IfNone, count_by};
+ghost use Rattle.std.specs.Prelude.{◌≡◌, ℕ, ◌+◌, ◌<◌, ◌≤◌, true, length, IfSome, IfNone, count_by};
 ghost use Rattle.std.specs.List.{flat_map};
 ghost use Rattle.block_list.specs.Status.{same};
 ghost use Rattle.block_list.specs.Map.{Has};
 ghost use Rattle.block_list.specs.Places.{IsFirst, IsLast, IsRunUp, IsRunDown};
 ghost use Rattle.block_list.specs.Stretches.{covered};
 ghost use Rattle.block_list.specs.Tiling.{IsMerged};
-ghost use Rattle.block_list.specs.Edits.{IsTiled};
+ghost use Rattle.block_list.specs.Edits.{IsTiled, IsPlace};
 
 use crate::block::{Block, Run};
 use crate::edits::begun_before;
 use crate::status::Status;
+
+/// Whether the block with an index holds a position.
+fn is_held_by(blocks: &[Block], i: usize, x: u64) -> bool
+    requires { IsTiled blocks.now }
+    ensures { result ≡ true → IsPlace blocks.now (x + 1) (i + 1) }
+{
+    if i >= blocks.len() {
+        return false;
+    }
+    let block = blocks[i];
+    if x < block.pos {
+        return false;
+    }
+    x - block.pos < block.size
+}
+
+/// How many blocks begin at or before a position. It looks at the block with the index `near` first, and at the one
+/// behind it.
+pub fn begun_near(blocks: &[Block], near: usize, x: u64) -> usize
+    requires tiled { IsTiled blocks.now }
+    requires within { x < length (flat_map covered blocks.now) }
+    ensures { IsPlace blocks.now (x + 1) result }
+{
+    if near < blocks.len() {
+        if is_held_by(blocks, near, x) {
+            return near + 1;
+        }
+        if is_held_by(blocks, near + 1, x) {
+            return near + 2;
+        }
+    }
+    begun_before(blocks, x + 1)
+}
 
 /// The first position at or after `from` that has a status, and the end of its block.
 pub fn first_with(blocks: &[Block], from: u64, status: Status) -> Option<Run>

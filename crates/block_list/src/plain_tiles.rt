@@ -2,6 +2,7 @@ ghost use Rattle.std.specs.Prelude.{◌≡◌, ◌+◌, ◌<◌, ◌^◌, ◌++�
 ghost use Rattle.block_list.specs.Push.{push_fault, EndsWith};
 
 use crate::block::{Block, Run};
+use crate::near::Near;
 use crate::status::Status;
 use crate::tiles::{NoMemory, Tiles};
 use crate::{edits, lookups};
@@ -111,6 +112,12 @@ impl Tiles for PlainTiles {
     fn stretch_at(&self, x: u64) -> Block {
         let behind = edits::begun_before(&self.blocks, x + 1);
         self.blocks[behind - 1]
+    }
+
+    fn stretch_near(&self, near: &mut Near, x: u64) -> Block {
+        let begun = lookups::begun_near(&self.blocks, near.block, x);
+        near.block = begun - 1;
+        self.blocks[begun - 1]
     }
 
     fn find_forward(&self, from: u64, status: Status) -> Option<Run> {

@@ -6,6 +6,7 @@ ghost use Rattle.block_list.specs.Map.{Has, marked, extended};
 ghost use Rattle.block_list.specs.Stretches.{stretches, IsStretchAt};
 
 use crate::block::{Block, Run};
+use crate::near::Near;
 use crate::status::Status;
 
 /// Memory wasn't there.
@@ -32,6 +33,12 @@ pub trait Tiles: Drop {
 
     /// The stretch of equal statuses that holds a position.
     fn stretch_at(&self, x: u64) -> Block
+        requires { x < length (statuses self.now) }
+        ensures { IsStretchAt (statuses self.now) x result };
+
+    /// `stretch_at`, which looks at `near` and right behind it first, and then has `near` say where that stretch stands. So
+    /// a walk upwards from stretch to stretch takes a few steps for each.
+    fn stretch_near(&self, near: &mut Near, x: u64) -> Block
         requires { x < length (statuses self.now) }
         ensures { IsStretchAt (statuses self.now) x result };
 
