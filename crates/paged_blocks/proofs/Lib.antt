@@ -12,5 +12,6 @@ mod RegionLemmas
 mod RewriteLemmas
 mod HalvingLemmas
 mod StepLemmas
+mod TallyLemmas
 mod GainLemmas
 mod FewLemmas

@@ -11,10 +11,10 @@ use Rattle.block_list.specs.Stretches.{covered, IsStretchAt}
 use Rattle.block_list.specs.Edits.{IsPlace, start_of}
 use Rattle.block_list.proofs.TileLemmas.{tile_at, start_mono, start_all}
 use Rattle.block_list.proofs.EditLemmas.{no_block, rising}
-use Rattle.block_list.proofs.LookupLemmas.{stretch_held}
+use Rattle.block_list.proofs.LookupLemmas.{stretch_held, place_held}
 use Rattle.paged_blocks.specs.declared.entry.Entry.{Entry}
 use Rattle.paged_blocks.specs.Search.{IsSearched}
-use Rattle.paged_blocks.specs.Paging.{blocks_of, flat, before, IsPaging, IsHeld}
+use Rattle.paged_blocks.specs.Paging.{blocks_of, flat, before, IsEntryOf, IsPaging, IsHeld}
 use Rattle.paged_blocks.proofs.SearchLemmas.{block_begins}
 
 -- an entry to read a list with
@@ -188,6 +188,14 @@ pub named : (pages : List (List Block)) (es : List Entry) (k : ℕ) (e : Entry) 
     → k < length es → page ≡ get_or pages (get_or es k e).page page → page ≡ blocks_of pages (get_or es k e)
 named pages es k e page p h q = q ∙ get_or_default pages (get_or es k e).page page [] (p.each k e h).page
 
+-- an entry that was read says what its page holds
+pub entry_says : (pages : List (List Block)) (es : List Entry) (k : ℕ) (d e : Entry) (page : List Block) → IsPaging pages es
+    → k < length es → e ≡ get_or es k d → page ≡ get_or pages e.page page → IsEntryOf page e.page e
+entry_says pages es k d e page p h q r =
+    let y = p.each k d h in
+    let v = named pages es k d page p h (rw q at r) in
+    rw (v, q) (record { page = refl; len = y.len; fits = y.fits; begins = y.begins; tally = y.tally })
+
 -- a block that was read in its page
 pub read_in_page : (pages : List (List Block)) (es : List Entry) (k j : ℕ) (e : Entry) (b : Block) → k < length es
     → slice_get (blocks_of pages (get_or es k e)) j ≡ Some b → b ≡ get_or (flat pages es) (before pages es k + j) b
@@ -214,6 +222,22 @@ block_in_page pages es k j i e page b p h z q r =
     slice_get_read (flat pages es) (length (flat pages es)) (before pages es k + j) b refl (page_index pages es k j e h l)
     (read_in_page pages es k j e b h w) in
     rw z at v
+
+-- a block of a page that holds a position is the last one that begins at or before it
+pub held_there : (pages : List (List Block)) (es : List Entry) (x k j : ℕ) (e : Entry) (page : List Block) (b : Block)
+    → IsPaging pages es → k < length es → page ≡ get_or pages (get_or es k e).page page → slice_get page j ≡ Some b
+    → b.pos ≤ x → x - b.pos < b.size → IsHeld pages es (x + 1) k (j + 1)
+held_there pages es x k j e page b p h q r l u =
+    let w = rw (named pages es k e page p h q) at r in
+    let m = slice_get_within (blocks_of pages (get_or es k e)) j b w in
+    let z : before pages es k + (j + 1) ≡ before pages es k + j + 1 = omega arith in
+    record {
+      entry = h;
+      block = omega arith;
+      within = λ d. rw (get_or_default es k d e h) (omega arith);
+      place = rw z (place_held (flat pages es) (before pages es k + j) x b p.tiled (page_index pages es k j e h m)
+          (read_in_page pages es k j e b h w) l u);
+    }
 
 -- the block that was read in the page of the last one that begins before a position
 pub held_read : (pages : List (List Block)) (es : List Entry) (at k j : ℕ) (e : Entry) (page : List Block) (b : Block)

@@ -154,6 +154,19 @@ middle_short front middle back =
       length-append (flat_map covered front) (flat_map covered middle),
     )
 
+-- a page has no more positions than all
+pub page_short : (pages : List (List Block)) (es : List Entry) (k : ℕ) (d : Entry) → k < length es
+    → length (flat_map covered (blocks_of pages (get_or es k d))) ≤ length (flat_map covered (flat pages es))
+page_short pages es k d h =
+    let front : List Block = flat pages (take k es) in
+    let page : List Block = blocks_of pages (get_or es k d) in
+    let back : List Block = flat pages (drop (k + 1) es) in
+    let e : flat pages es ≡ front ++ page ++ back =
+    ap (λ r. flat pages r) (sym (take-append-drop k es) ∙ ap (λ r. take k es ++ r) (drop_more es k d h))
+    ∙ flat_map-append (blocks_of pages) (take k es) (get_or es k d ∷ drop (k + 1) es)
+    ∙ sym (append_assoc front page back) in
+    omega (arith, middle_short front page back, ap (λ r. length (flat_map covered r)) e)
+
 -- the blocks of a region are at most two more than its pages hold
 pub region_few : (pages : List (List Block)) (es : List Entry) (r : Region) → IsPaging pages es → IsRegion es r
     → length (refilled pages es r) ≤ length (flat pages es) + 2 → length r.blocks ≤ 64 * (r.behind - r.first) + 2

@@ -12,6 +12,7 @@ ghost use Rattle.paged_blocks.specs.Room.{room_for};
 
 use crate::entries::Entries;
 use crate::filing::{refill, rewrite};
+use crate::fill::entry_behind;
 use crate::marks::{Edit, mark};
 use crate::page::Page;
 use crate::regions::{edited_page, first_region, region_of};
@@ -45,10 +46,15 @@ fn edit_page(pages: &mut Vec<Page>, entries: &mut Entries, edit: &Edit)
     ensures capacity { entries.new.room ≡ entries.old.room }
 {
     let page = edited_page(pages, entries, edit);
-    rewrite(pages, entries, edit.first, page);
+    let old = entries.at(edit.first);
+    let entry = entry_behind(old, &pages[old.page], edit, &page);
+    rewrite(pages, entries, edit.first, page, entry);
 }
 
 /// Makes an edit, for which the pages that it touches are filled anew.
+// It has many blocks on their way, for which a function pays as it begins.
+#[cold]
+#[inline(never)]
 fn edit_pages(pages: &mut Vec<Page>, entries: &mut Entries, free: &mut Vec<usize>, edit: &Edit)
     requires kept { IsKept pages.old.items entries.old.items free.old.items }
     requires edit { IsEdit pages.old.items entries.old.items edit.now }
@@ -65,6 +71,31 @@ fn edit_pages(pages: &mut Vec<Page>, entries: &mut Entries, free: &mut Vec<usize
     ensures room { vec_len pages.new ≤ vec_capacity free.new }
 {
     let region = region_of(pages, entries, edit);
+    refill(pages, entries, free, &region);
+}
+
+/// Makes the first page, of one block.
+#[cold]
+#[inline(never)]
+fn edit_none(pages: &mut Vec<Page>, entries: &mut Entries, free: &mut Vec<usize>, block: Block)
+    requires kept { IsKept pages.old.items entries.old.items free.old.items }
+    requires none { length entries.old.items ≡ 0 }
+    requires some { 0 < block.size }
+    requires begins { block.pos ≡ 0 }
+    requires short { block.size < 2 ^ 63 }
+    requires spare { 1 ≤ room_for (vec_len pages.old) (entries.old.room) (length entries.old.items)
+        (length (flat pages.old.items entries.old.items)) }
+    requires room { vec_len pages.old ≤ vec_capacity free.old }
+    ensures kept { IsKept pages.new.items entries.new.items free.new.items }
+    ensures marked { flat_map covered (flat pages.new.items entries.new.items)
+        ≡ marked (flat_map covered (flat pages.old.items entries.old.items)) block.pos block.size block.status }
+    ensures one { length (flat pages.new.items entries.new.items) ≤ 1 }
+    ensures few { length entries.new.items ≤ 1 }
+    ensures pages { vec_len pages.new ≡ vec_len pages.old }
+    ensures capacity { entries.old.room ≤ entries.new.room }
+    ensures room { vec_len pages.new ≤ vec_capacity free.new }
+{
+    let region = first_region(pages, entries, block);
     refill(pages, entries, free, &region);
 }
 
@@ -99,8 +130,7 @@ pub fn overwrite(
     ensures room { vec_len pages.new ≤ vec_capacity free.new }
 {
     if entries.len() == 0 {
-        let region = first_region(pages, entries, block);
-        refill(pages, entries, free, &region);
+        edit_none(pages, entries, free, block);
         return;
     }
     let edit = mark(pages, entries, end, block);

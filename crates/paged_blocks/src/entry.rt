@@ -1,5 +1,5 @@
 //! What is known of a page without a look at its blocks.
-ghost use Rattle.std.specs.Prelude.{◌≡◌, ◌+◌, ◌<◌, ◌^◌};
+ghost use Rattle.std.specs.Prelude.{◌≡◌, ◌+◌, ◌<◌, ◌≤◌, ◌^◌};
 ghost use Rattle.block_list.specs.declared.status.Status.{Status};
 ghost use Rattle.paged_blocks.specs.Tally.{tallied};
 
@@ -41,6 +41,21 @@ impl Tally {
             Status::NonScraped => self.non_scraped += size,
             Status::BadSector => self.bad_sector += size,
             Status::Finished => self.finished += size,
+        }
+    }
+
+    /// These without some that are among them, and with others.
+    pub fn exchanged(self, gone: Tally, come: Tally) -> Tally
+        requires among { (s : Status) → tallied gone s ≤ tallied self s }
+        requires short { (s : Status) → tallied self s + tallied come s < 2 ^ 64 }
+        ensures { (s : Status) → tallied result s + tallied gone s ≡ tallied self s + tallied come s }
+    {
+        Tally {
+            non_tried: self.non_tried - gone.non_tried + come.non_tried,
+            non_trimmed: self.non_trimmed - gone.non_trimmed + come.non_trimmed,
+            non_scraped: self.non_scraped - gone.non_scraped + come.non_scraped,
+            bad_sector: self.bad_sector - gone.bad_sector + come.bad_sector,
+            finished: self.finished - gone.finished + come.finished,
         }
     }
 

@@ -3,13 +3,14 @@ ghost use Rattle.std.specs.Prelude.{◌≡◌, ℕ, ◌+◌, ◌-◌, ◌*◌, �
 ghost use Rattle.std.specs.List.{flat_map};
 ghost use Rattle.block_list.specs.Stretches.{covered};
 ghost use Rattle.paged_blocks.specs.declared.entry.Entry.{Entry};
-ghost use Rattle.paged_blocks.specs.Paging.{flat, short_pages, naming, standing, AreFiled, IsKept, IsRewritten};
+ghost use Rattle.paged_blocks.specs.Paging.{flat, short_pages, naming, standing, AreFiled, IsEntryOf, IsKept, IsRewritten};
 ghost use Rattle.paged_blocks.specs.Rows.{AreRow};
 ghost use Rattle.paged_blocks.specs.Regions.{IsRegion, IsFull, refilled};
 ghost use Rattle.block_list.specs.Tiling.{IsMerged};
 ghost use Rattle.block_list.specs.Edits.{IsTiled};
 
 use crate::entries::Entries;
+use crate::entry::Entry;
 use crate::fill::{entry_of, page_len};
 use crate::gathered::Gathered;
 use crate::page::Page;
@@ -98,20 +99,19 @@ fn deal(
     }
 }
 
-/// Puts a page in the place of that of the entry with an index, which says then what it holds.
-pub fn rewrite(pages: &mut Vec<Page>, entries: &mut Entries, k: usize, page: Page)
+/// Puts a page, and the entry that says what it holds, in the place of those with an index.
+pub fn rewrite(pages: &mut Vec<Page>, entries: &mut Entries, k: usize, page: Page, entry: Entry)
     requires index { k < length entries.old.items }
-    requires number { (d : Entry) → (slice_index_or entries.old.items k d).page < vec_len pages.old }
-    requires some { 0 < length page }
-    requires short { length (flat_map covered page) < 2 ^ 63 }
+    requires within { entry.page < vec_len pages.old }
+    requires number { (d : Entry) → entry.page ≡ (slice_index_or entries.old.items k d).page }
+    requires says { IsEntryOf page entry.page entry }
     ensures rewritten { IsRewritten pages.old.items entries.old.items k page pages.new.items entries.new.items }
     ensures pages { vec_len pages.new ≡ vec_len pages.old }
     ensures len { length entries.new.items ≡ length entries.old.items }
     ensures capacity { entries.new.room ≡ entries.old.room }
 {
-    let number = entries.at(k).page;
-    entries.put(k, entry_of(number, &page));
-    pages[number] = page;
+    entries.put(k, entry);
+    pages[entry.page] = page;
 }
 
 /// Puts blocks in the place of those of some pages. The pages that had those become free before others are taken into

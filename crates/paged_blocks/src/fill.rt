@@ -1,11 +1,16 @@
 //! Pages that are made from a list of blocks.
-ghost use Rattle.std.specs.Prelude.{◌≡◌, ◌+◌, ◌<◌, ◌≤◌, ◌^◌, List, [], length, slice_range, take, OnOk};
+ghost use Rattle.std.specs.Prelude.{◌≡◌, ◌+◌, ◌<◌, ◌≤◌, ◌^◌, List, [], length, slice_range, take, count_by, OnOk};
 ghost use Rattle.std.specs.List.{flat_map};
 ghost use Rattle.block_list.specs.Stretches.{covered, stretches};
+ghost use Rattle.block_list.specs.declared.status.Status.{Status};
+ghost use Rattle.block_list.specs.Status.{same};
+ghost use Rattle.paged_blocks.specs.Marks.{spliced};
 ghost use Rattle.paged_blocks.specs.Paging.{IsEntryOf, IsAdded};
+ghost use Rattle.paged_blocks.specs.Tally.{tallied};
 
 use crate::entries::Entries;
 use crate::entry::{Entry, Tally};
+use crate::marks::Edit;
 use crate::page::Page;
 use block_list::plain_tiles::PlainTiles;
 use block_list::tiles::{NoMemory, Tiles};
@@ -46,22 +51,55 @@ pub fn page_of(tiles: &PlainTiles, from: usize, to: usize) -> Page
     page
 }
 
+/// How many positions of the blocks of a page from one index up to another have each status.
+fn tally_of(page: &Page, from: usize, to: usize) -> Tally
+    requires order { from ≤ to }
+    requires within { to ≤ length page.now }
+    requires short { length (flat_map covered page.now) < 2 ^ 63 }
+    ensures { (s : Status) → tallied result s
+        ≡ count_by (λ z. same z s) (flat_map covered (slice_range page.now from to)) }
+{
+    let mut tally = Tally::none();
+    for i in from..to {
+        let block = page.block(i);
+        tally.add(block.status, block.size);
+    }
+    tally
+}
+
 /// The entry of a page with a number.
 pub fn entry_of(number: usize, page: &Page) -> Entry
     requires some { 0 < length page.now }
     requires short { length (flat_map covered page.now) < 2 ^ 63 }
     ensures { IsEntryOf page.now number result }
 {
-    let mut tally = Tally::none();
-    for i in 0..page.len() {
-        let block = page.block(i);
-        tally.add(block.status, block.size);
-    }
     Entry {
         page: number,
         pos: page.block(0).pos,
         len: page.len(),
-        tally,
+        tally: tally_of(page, 0, page.len()),
+    }
+}
+
+/// The entry of a page that was another, of which some blocks went and others came in their place. Only those are counted.
+pub fn entry_behind(entry: Entry, old: &Page, edit: &Edit, page: &Page) -> Entry
+    requires says { IsEntryOf old.now entry.page entry }
+    requires order { edit.now.from ≤ edit.now.to }
+    requires within { edit.now.to ≤ length old.now }
+    requires spliced { page.now ≡ spliced old.now edit.now.from edit.now.to edit.now.new }
+    requires some { 0 < length page.now }
+    requires old_short { length (flat_map covered old.now) < 2 ^ 63 }
+    requires short { length (flat_map covered page.now) < 2 ^ 63 }
+    ensures number { result.page ≡ entry.page }
+    ensures says { IsEntryOf page.now entry.page result }
+{
+    let gone = tally_of(old, edit.from, edit.to);
+    let come = edit.new.tally();
+    Entry {
+        page: entry.page,
+        pos: page.block(0).pos,
+        len: page.len(),
+        tally: entry.tally.exchanged(gone, come),
     }
 }
 

@@ -10,6 +10,7 @@ mod fill;
 mod gathered;
 mod lookups;
 mod marks;
+mod near;
 mod page;
 pub mod paged_tiles;
 mod pages;

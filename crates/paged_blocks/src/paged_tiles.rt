@@ -8,6 +8,7 @@ use crate::few;
 use crate::pages::Pages;
 use crate::steps::Steps;
 use block_list::block::{Block, Run};
+use block_list::near::Near;
 use block_list::plain_tiles::PlainTiles;
 use block_list::status::Status;
 use block_list::tiles::{NoMemory, Tiles};
@@ -184,6 +185,13 @@ impl Tiles for PagedTiles {
         match &self.form {
             Form::Few(tiles) => tiles.stretch_at(x),
             Form::Many(pages) => pages.stretch_at(x),
+        }
+    }
+
+    fn stretch_near(&self, near: &mut Near, x: u64) -> Block {
+        match &self.form {
+            Form::Few(tiles) => tiles.stretch_near(near, x),
+            Form::Many(pages) => pages.stretch_near(near, x),
         }
     }
 

@@ -9,8 +9,9 @@ use crate::entries::Entries;
 use crate::fill::{add, page_len, page_of};
 use crate::page::Page;
 use crate::steps::Steps;
-use crate::{edits, lookups, room};
+use crate::{edits, lookups, near, room};
 use block_list::block::{Block, Run};
+use block_list::near::Near;
 use block_list::plain_tiles::PlainTiles;
 use block_list::status::Status;
 use block_list::tiles::{NoMemory, Tiles};
@@ -85,6 +86,14 @@ impl Pages {
         ensures { IsStretchAt self.now.statuses x result }
     {
         lookups::stretch_at(&self.pages, &self.entries, x)
+    }
+
+    /// `stretch_at`, which looks at `near` first, and has it say where that stretch stands.
+    pub fn stretch_near(&self, near: &mut Near, x: u64) -> Block
+        requires { x < length self.now.statuses }
+        ensures { IsStretchAt self.now.statuses x result }
+    {
+        near::stretch_near(&self.pages, &self.entries, near, x)
     }
 
     /// The first position at or after `from` that has a status, and the end of its stretch. Its steps are counted.

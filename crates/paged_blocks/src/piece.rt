@@ -1,6 +1,12 @@
 //! The blocks that come in the place of others.
-ghost use Rattle.std.specs.Prelude.{◌≡◌, ◌<◌, ◌≤◌, [], ◌∷◌, ◌++◌, length, slice_get, Some, option_to_list};
+ghost use Rattle.std.specs.Prelude.{◌≡◌, ◌<◌, ◌≤◌, ◌^◌, [], ◌∷◌, ◌++◌, length, slice_get, count_by, Some, option_to_list};
+ghost use Rattle.std.specs.List.{flat_map};
+ghost use Rattle.block_list.specs.declared.status.Status.{Status};
+ghost use Rattle.block_list.specs.Status.{same};
+ghost use Rattle.block_list.specs.Stretches.{covered};
+ghost use Rattle.paged_blocks.specs.Tally.{tallied};
 
+use crate::entry::Tally;
 use crate::slot::Slot;
 use arrayvec::ArrayVec;
 use block_list::block::Block;
@@ -47,6 +53,19 @@ impl Piece {
         ensures { slice_get self.now i ≡ Some result }
     {
         self.slots[i].block
+    }
+
+    /// How many positions of its blocks have each status.
+    pub fn tally(&self) -> Tally
+        requires { length (flat_map covered self.now) < 2 ^ 63 }
+        ensures { (s : Status) → tallied result s ≡ count_by (λ z. same z s) (flat_map covered self.now) }
+    {
+        let mut tally = Tally::none();
+        for i in 0..self.len() {
+            let block = self.block(i);
+            tally.add(block.status, block.size);
+        }
+        tally
     }
 
     /// Puts a block behind the last one.

@@ -42,8 +42,12 @@ pub fn reserve(
     if n <= free.len() && n <= entries.room() - used {
         return Ok(());
     }
-    let halves = blocks(pages, entries).checked_add(n).ok_or(NoMemory)?;
-    let wanted = halves.div_ceil(32).min(used.saturating_add(n));
+    let mut wanted = used.saturating_add(n);
+    // For a few blocks it isn't worth while to count those that there are.
+    if n > 32 {
+        let halves = blocks(pages, entries).checked_add(n).ok_or(NoMemory)?;
+        wanted = wanted.min(halves.div_ceil(32));
+    }
     entries.reserve(wanted.saturating_sub(used))?;
     free.reserve(wanted.saturating_sub(free.len()))
         .map_err(|_| NoMemory)?;

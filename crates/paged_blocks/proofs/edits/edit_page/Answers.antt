@@ -4,8 +4,8 @@ use Rattle.block_list.specs.declared.block.Block.{Block}
 use Rattle.block_list.specs.Stretches.{covered}
 use Rattle.paged_blocks.specs.declared.entry.Entry.{Entry}
 use Rattle.paged_blocks.specs.Paging.{flat}
-use Rattle.paged_blocks.proofs.PagingLemmas.{no_entry}
-use Rattle.paged_blocks.proofs.RegionLemmas.{page_edited, page_some, middle_short}
+use Rattle.paged_blocks.proofs.PagingLemmas.{no_entry, named, entry_says}
+use Rattle.paged_blocks.proofs.RegionLemmas.{page_edited, page_some, page_short, middle_short}
 use Rattle.paged_blocks.proofs.RewriteLemmas.{page_flat, page_kept}
 use Rattle.paged_blocks.proofs.edits.edit_page.Goals as goal
 
@@ -15,18 +15,33 @@ edited_page-page-requires-clause-paging c = rw c.deref.ensures.value c.requires.
 pub rewrite-requires-clause-index : goal.rewrite-requires-clause-index
 rewrite-requires-clause-index c = omega (arith, c.requires.edit.order, c.requires.edit.last)
 
-pub rewrite-requires-clause-number : goal.rewrite-requires-clause-number
-rewrite-requires-clause-number c = λ d.
+pub entry_behind-entry-requires-clause-says : goal.entry_behind-entry-requires-clause-says
+entry_behind-entry-requires-clause-says c =
     let there : c.args.edit.now.first < length c.args.entries.now.items = omega (arith, c.requires.edit.order, c.requires.edit.last) in
-    omega (arith, (c.requires.kept.1.paging.each c.args.edit.now.first d there).page, c.args.pages.now.ok.0)
+    entry_says c.args.pages.now.items c.args.entries.now.items c.args.edit.now.first no_entry _ _ c.requires.kept.1.paging
+    there (c.at-old.ensures no_entry) c.index.ensures
 
-pub rewrite-requires-clause-some : goal.rewrite-requires-clause-some
-rewrite-requires-clause-some c =
+pub entry_behind-entry-requires-clause-some : goal.entry_behind-entry-requires-clause-some
+entry_behind-entry-requires-clause-some c =
     let q = rw c.deref.ensures.value at (c.edited_page-page.ensures no_entry) in
     page_some _ _ c.args.edit.now _ c.requires.edit c.requires.stays.page q
 
-pub rewrite-requires-clause-short : goal.rewrite-requires-clause-short
-rewrite-requires-clause-short c =
+pub entry_behind-entry-requires-clause-old_short : goal.entry_behind-entry-requires-clause-old_short
+entry_behind-entry-requires-clause-old_short c =
+    let pages : List (List Block) = c.args.pages.now.items in
+    let es : List Entry = c.args.entries.now.items in
+    let there : c.args.edit.now.first < length es = omega (arith, c.requires.edit.order, c.requires.edit.last) in
+    let own = named pages es c.args.edit.now.first no_entry _ c.requires.kept.1.paging there
+    (rw (c.at-old.ensures no_entry) at c.index.ensures) in
+    omega (
+      arith,
+      page_short pages es c.args.edit.now.first no_entry there,
+      ap (λ r. length (flat_map covered r)) own,
+      c.requires.kept.1.paging.tiled.short,
+    )
+
+pub entry_behind-entry-requires-clause-short : goal.entry_behind-entry-requires-clause-short
+entry_behind-entry-requires-clause-short c =
     let q = rw c.deref.ensures.value at (c.edited_page-page.ensures no_entry) in
     let pages : List (List Block) = c.args.pages.now.items in
     let es : List Entry = c.args.entries.now.items in
