@@ -17,13 +17,16 @@ use crate::place::{Part, Place};
 use crate::state::MapState;
 use arrayvec::ArrayVec;
 use block_list::block::Block;
+use block_list::near::Near;
 use block_list::tiles::Tiles;
 use std::marker::Model;
 
-/// Prints a mapfile piece by piece. It keeps the place in the text, and nothing of the text or its length.
+/// Prints a mapfile piece by piece. It keeps the place in the text and where to look first in the map, and nothing of
+/// the text or its length.
 #[derive(Drop)]
 pub struct MapPrinter {
     place: Place,
+    near: Near,
 }
 
 impl Model for MapPrinter {
@@ -45,6 +48,7 @@ impl MapPrinter {
                 part: Part::Program,
                 went: 0,
             },
+            near: Near::start(),
         }
     }
 
@@ -67,7 +71,7 @@ impl MapPrinter {
             (pieces_of (left_of self.old heading.now state (T.statuses tiles.now)) ≡ []) }
     {
         out.clear();
-        self.place = fill(self.place, state, heading, tiles, out);
+        self.place = fill(self.place, state, heading, tiles, &mut self.near, out);
         !out.is_empty()
     }
 }
@@ -78,6 +82,7 @@ fn fill<T: Tiles>(
     state: MapState,
     heading: &Heading,
     tiles: &T,
+    near: &mut Near,
     out: &mut ArrayVec<u8, 4096>,
 ) -> Place
     requires { out.old.items ≡ [] }
@@ -92,7 +97,7 @@ fn fill<T: Tiles>(
         if room == 0 {
             return place;
         }
-        let (len, next) = append_part(out, place, state, heading, tiles);
+        let (len, next) = append_part(out, place, state, heading, tiles, near);
         place = place.behind(len, next, room);
     }
     place
@@ -116,6 +121,7 @@ fn append_part<T: Tiles>(
     state: MapState,
     heading: &Heading,
     tiles: &T,
+    near: &mut Near,
 ) -> (usize, Part)
     requires there { (number_of place.part < 9) ⊎ (position_of place.part < length (T.statuses tiles.now)) }
     requires short { length (T.statuses tiles.now) < 2 ^ 63 }
@@ -130,7 +136,7 @@ fn append_part<T: Tiles>(
         }
         Part::Block(pos) => {
             let mut line = Line::new();
-            let end = append_rest(&mut line, pos, tiles);
+            let end = append_rest(&mut line, pos, tiles, near);
             append_line(out, line.as_slice(), place.went);
             (line.len(), Part::Block(end))
         }
@@ -144,13 +150,13 @@ fn append_part<T: Tiles>(
 }
 
 /// Appends the line of what is left from a position on of the stretch that holds it, and returns the stretch's end.
-fn append_rest<T: Tiles>(line: &mut Line, pos: u64, tiles: &T) -> u64
+fn append_rest<T: Tiles>(line: &mut Line, pos: u64, tiles: &T, near: &mut Near) -> u64
     requires empty { line.old.items ≡ [] }
     requires there { pos < length (T.statuses tiles.now) }
     requires short { length (T.statuses tiles.now) < 2 ^ 63 }
     ensures { map_lines pos (T.statuses tiles.now) ≡ line.new.items ∷ map_lines result (T.statuses tiles.now) }
 {
-    let stretch = tiles.stretch_at(pos);
+    let stretch = tiles.stretch_near(near, pos);
     let end = stretch.pos + stretch.size;
     let rest = Block {
         pos,
