@@ -5,7 +5,7 @@ ghost use Rattle.block_list.specs.Types.{is_types};
 ghost use Rattle.rescue_domain.specs.Parts.{covers};
 ghost use Rattle.map_algebra.specs.Change.{change_of, change_by, becomes, new_type, changed_by, changed_map, inverting};
 
-use crate::pieces::{Near, Piece, piece_at, put};
+use crate::pieces::{Nearby, Piece, piece_at, put};
 use block_list::plain_tiles::PlainTiles;
 use block_list::status::Status;
 use block_list::tiles::{NoMemory, Tiles};
@@ -136,7 +136,7 @@ pub fn change_types<T: Tiles>(
 {
     let end = tiles.end();
     let mut out = PlainTiles::new(alloc);
-    let mut near = Near::start();
+    let mut near = Nearby::start();
     let mut at = 0;
     while at < end {
         let piece = piece_at(tiles, domain, &mut near, at, end);

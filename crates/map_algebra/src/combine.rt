@@ -3,7 +3,7 @@ ghost use Rattle.std.specs.Prelude.{◌≡◌, IfOk, if◌then◌else◌};
 ghost use Rattle.rescue_domain.specs.Parts.{covers};
 ghost use Rattle.map_algebra.specs.Combine.{combined, combined_map};
 
-use crate::pieces::{Pair, PairNear, is_finished, pair_at, put};
+use crate::pieces::{Pair, PairNearby, is_finished, pair_at, put};
 use block_list::plain_tiles::PlainTiles;
 use block_list::status::Status;
 use block_list::tiles::{NoMemory, Tiles};
@@ -59,7 +59,7 @@ pub fn combine<T: Tiles, U: Tiles>(
 {
     let end = first.end().max(second.end());
     let mut out = PlainTiles::new(alloc);
-    let mut near = PairNear::start();
+    let mut near = PairNearby::start();
     let mut at = 0;
     while at < end {
         let pair = pair_at(first, second, domain, &mut near, at, end);

@@ -4,7 +4,7 @@ ghost use Rattle.rescue_domain.specs.Parts.{covers};
 ghost use Rattle.map_algebra.specs.At.{IsWithin};
 ghost use Rattle.map_algebra.specs.Compare.{IsDoneIn, IsOpenIn, AgreeIn, DifferIn, FinishAlikeIn, FinishUnlikeIn};
 
-use crate::pieces::{Near, PairNear, is_finished, pair_at, piece_at};
+use crate::pieces::{Nearby, PairNearby, is_finished, pair_at, piece_at};
 use block_list::tiles::Tiles;
 use rescue_domain::domain::Domain;
 
@@ -15,7 +15,7 @@ pub fn is_done<T: Tiles>(tiles: &T, domain: &Domain) -> bool
     ensures open { result ≡ false → IsOpenIn (covers domain.now) (T.statuses tiles.now) }
 {
     let end = tiles.end();
-    let mut near = Near::start();
+    let mut near = Nearby::start();
     let mut at = 0;
     while at < end {
         let piece = piece_at(tiles, domain, &mut near, at, end);
@@ -33,7 +33,7 @@ pub fn same<T: Tiles, U: Tiles>(first: &T, second: &U, domain: &Domain) -> bool
     ensures differ { result ≡ false → DifferIn (covers domain.now) (T.statuses first.now) (U.statuses second.now) }
 {
     let end = first.end().max(second.end());
-    let mut near = PairNear::start();
+    let mut near = PairNearby::start();
     let mut at = 0;
     while at < end {
         let pair = pair_at(first, second, domain, &mut near, at, end);
@@ -52,7 +52,7 @@ pub fn same_finished<T: Tiles, U: Tiles>(first: &T, second: &U, domain: &Domain)
         → FinishUnlikeIn (covers domain.now) (T.statuses first.now) (U.statuses second.now) }
 {
     let end = first.end().max(second.end());
-    let mut near = PairNear::start();
+    let mut near = PairNearby::start();
     let mut at = 0;
     while at < end {
         let pair = pair_at(first, second, domain, &mut near, at, end);

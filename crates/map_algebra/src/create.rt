@@ -8,7 +8,7 @@ ghost use Rattle.map_algebra.specs.Create.{at_mark, created_map, mark_of};
 ghost use Rattle.map_algebra.specs.Numbers.{IsInRange};
 
 use crate::blocks::positions_of;
-use crate::pieces::{Near, Piece, piece_at, put};
+use crate::pieces::{Nearby, Piece, piece_at, put};
 use crate::shape::Shape;
 use block_list::plain_tiles::PlainTiles;
 use block_list::status::Status;
@@ -76,7 +76,7 @@ fn created(
 {
     let end = marks.end();
     let mut map = PlainTiles::new(alloc);
-    let mut near = Near::start();
+    let mut near = Nearby::start();
     let mut at = 0;
     while at < end {
         let piece = piece_at(marks, domain, &mut near, at, end);

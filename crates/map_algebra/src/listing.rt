@@ -9,7 +9,7 @@ ghost use Rattle.map_algebra.specs.At.{IsWithin};
 ghost use Rattle.map_algebra.specs.Blocks.{block_of};
 ghost use Rattle.map_algebra.specs.Listing.{IsListed, is_typed, wanted_of};
 
-use crate::pieces::{Near, Piece, piece_at};
+use crate::pieces::{Nearby, Piece, piece_at};
 use crate::shape::Shape;
 use block_list::tiles::Tiles;
 use block_list::types::TypeSet;
@@ -23,7 +23,7 @@ pub struct Listing {
     shape: Shape,
     /// The least number that may come.
     least: u64,
-    near: Near,
+    near: Nearby,
 }
 
 impl Model for Listing {
@@ -52,12 +52,12 @@ impl Listing {
             types,
             shape: Shape { ipos, opos, size },
             least: 0,
-            near: Near::start(),
+            near: Nearby::start(),
         }
     }
 
     /// The least number that is listed and didn't come yet. Over all calls on one map and one domain it takes time
-    /// linear in these and in the numbers that come.
+    /// linear in these and in the numbers that come, and for each number a search in both.
     pub fn next<T: Tiles>(&mut self, tiles: &T, domain: &Domain) -> Option<u64>
         requires within { IsWithin (covers domain.now) (T.statuses tiles.now) }
         requires from { (x : ℕ) → covers domain.now x ≡ true → self.old.shape.ipos ≤ x }
@@ -102,7 +102,7 @@ fn first_wanted<T: Tiles>(
     tiles: &T,
     domain: &Domain,
     types: TypeSet,
-    near: &mut Near,
+    near: &mut Nearby,
     from: u64,
     end: u64,
 ) -> Option<u64>

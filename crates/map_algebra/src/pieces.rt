@@ -1,12 +1,12 @@
 //! Walks along a map and a domain, a piece at a time, and the map that a walk makes.
 ghost use Rattle.std.specs.Prelude.{◌≡◌, ◌-◌, ◌<◌, ◌≤◌, ◌^◌, ◌++◌, length, replicate, OnOk, OnErr};
 ghost use Rattle.block_list.specs.Status.{same};
-ghost use Rattle.block_list.specs.Stretches.{IsStretchAt};
 ghost use Rattle.rescue_domain.specs.Parts.{covers};
 ghost use Rattle.rescue_domain.specs.Stretch.{IsConstant};
 ghost use Rattle.map_algebra.specs.At.{status_at};
 
 use block_list::block::Block;
+use block_list::near::Near;
 use block_list::plain_tiles::PlainTiles;
 use block_list::status::Status;
 use block_list::tiles::{NoMemory, Tiles};
@@ -39,84 +39,40 @@ pub(crate) struct Pair {
 /// Where to look first, in a map and in a domain. It changes no answer; a walk upwards with one of these goes over the
 /// stretches of the map and the intervals of the domain once.
 #[derive(Clone, Copy)]
-pub(crate) struct Near {
-    stretch: usize,
+pub(crate) struct Nearby {
+    map: Near,
     part: usize,
 }
 
-impl Near {
-    /// In front of all.
-    pub(crate) fn start() -> Near {
-        Near {
-            stretch: 0,
+impl Nearby {
+    /// At the first stretch and the first interval.
+    pub(crate) fn start() -> Nearby {
+        Nearby {
+            map: Near::start(),
             part: 0,
         }
     }
-
-    /// At a position.
-    pub(crate) fn at<T: Tiles>(tiles: &T, x: u64) -> Near {
-        Near {
-            stretch: number_at(tiles, x),
-            part: 0,
-        }
-    }
-}
-
-/// The number of the last stretch of a map that begins at a position or before it, or 0, by halves.
-fn number_at<T: Tiles>(tiles: &T, x: u64) -> usize {
-    let mut low = 0;
-    let mut high = tiles.blocks();
-    while low < high {
-        let middle = low + (high - low) / 2;
-        if tiles.block(middle).pos <= x {
-            low = middle + 1;
-        } else {
-            high = middle;
-        }
-    }
-    low.saturating_sub(1)
 }
 
 /// The same for two maps.
 #[derive(Clone, Copy)]
-pub(crate) struct PairNear {
-    first: Near,
-    second: usize,
+pub(crate) struct PairNearby {
+    first: Nearby,
+    second: Near,
 }
 
-impl PairNear {
-    /// In front of all.
-    pub(crate) fn start() -> PairNear {
-        PairNear {
-            first: Near::start(),
-            second: 0,
+impl PairNearby {
+    /// At the first stretches and the first interval.
+    pub(crate) fn start() -> PairNearby {
+        PairNearby {
+            first: Nearby::start(),
+            second: Near::start(),
         }
     }
-}
-
-/// The stretch of a map that holds a position. `near` is the number of the stretch to look at first, and then that of
-/// this one. A position in front of that first stretch is found by halves, and `near` is 0 then.
-fn stretch_near<T: Tiles>(tiles: &T, near: &mut usize, x: u64) -> Block
-    requires { x < length (T.statuses tiles.now) }
-    ensures { IsStretchAt (T.statuses tiles.now) x result }
-{
-    let count = tiles.blocks();
-    while *near < count {
-        let block = tiles.block(*near);
-        if x < block.pos {
-            break;
-        }
-        if x - block.pos < block.size {
-            return block;
-        }
-        *near += 1;
-    }
-    *near = 0;
-    tiles.stretch_at(x)
 }
 
 /// The status of a position, and up to where, at most a limit, the positions behind it have it too.
-pub(crate) fn status_from<T: Tiles>(tiles: &T, near: &mut usize, x: u64, limit: u64) -> Stretch
+pub(crate) fn status_from<T: Tiles>(tiles: &T, near: &mut Near, x: u64, limit: u64) -> Stretch
     requires { x < limit }
     ensures stretch { IsConstant (status_at (T.statuses tiles.now)) x result.to result.status }
     ensures limit { result.to ≤ limit }
@@ -127,7 +83,7 @@ pub(crate) fn status_from<T: Tiles>(tiles: &T, near: &mut usize, x: u64, limit: 
             status: Status::NonTried,
         };
     }
-    let block = stretch_near(tiles, near, x);
+    let block = tiles.stretch_near(near, x);
     Stretch {
         to: limit.min(block.pos + block.size),
         status: block.status,
@@ -138,7 +94,7 @@ pub(crate) fn status_from<T: Tiles>(tiles: &T, near: &mut usize, x: u64, limit: 
 pub(crate) fn piece_at<T: Tiles>(
     tiles: &T,
     domain: &Domain,
-    near: &mut Near,
+    near: &mut Nearby,
     x: u64,
     limit: u64,
 ) -> Piece
@@ -147,7 +103,7 @@ pub(crate) fn piece_at<T: Tiles>(
     ensures inside { IsConstant (covers domain.now) x result.to result.inside }
     ensures limit { result.to ≤ limit }
 {
-    let stretch = status_from(tiles, &mut near.stretch, x, limit);
+    let stretch = status_from(tiles, &mut near.map, x, limit);
     let part = domain.stretch_at(&mut near.part, x, stretch.to);
     Piece {
         to: part.to,
@@ -161,7 +117,7 @@ pub(crate) fn pair_at<T: Tiles, U: Tiles>(
     first: &T,
     second: &U,
     domain: &Domain,
-    near: &mut PairNear,
+    near: &mut PairNearby,
     x: u64,
     limit: u64,
 ) -> Pair

@@ -7,7 +7,7 @@ ghost use Rattle.map_algebra.specs.At.{IsWithin};
 ghost use Rattle.block_list.specs.Areas.{count_of};
 ghost use Rattle.map_algebra.specs.Summary.{summary_of, count_from, has_one, has_status};
 
-use crate::pieces::{Near, Piece, piece_at};
+use crate::pieces::{Nearby, Piece, piece_at};
 use block_list::areas::Count;
 use block_list::status::Status;
 use block_list::tiles::Tiles;
@@ -58,7 +58,7 @@ pub fn count_statuses<T: Tiles>(
 ) -> Count
     ensures { result ≡ count_from (has_one (covers domain.now) (T.statuses tiles.now) statuses.now) from to }
 {
-    let mut near = Near::at(tiles, from);
+    let mut near = Nearby::start();
     let mut count = Count { bytes: 0, areas: 0 };
     // Whether the position right in front of `at` was counted.
     let mut begun = from > 0
