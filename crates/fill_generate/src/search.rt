@@ -5,6 +5,7 @@ ghost use Rattle.rescue_domain.specs.Parts.{covers};
 ghost use Rattle.fill_generate.specs.Modes.{is_taken, IsTakenIn};
 
 use crate::mode::Mode;
+use block_list::near::Near;
 use block_list::tiles::Tiles;
 use rescue_domain::domain::Domain;
 
@@ -15,23 +16,30 @@ struct Alike {
     pub to: u64,
 }
 
-/// Whether a sweep takes a position, and up to where those behind it are like it. `near` is the domain's, from stretch
-/// to stretch.
-fn alike_from<T: Tiles>(mode: Mode, domain: &Domain, tiles: &T, near: &mut usize, x: u64) -> Alike
+/// Whether a sweep takes a position, and up to where those behind it are like it. `part` and `near` say where to look
+/// first, in the domain and in the map.
+fn alike_from<T: Tiles>(
+    mode: Mode,
+    domain: &Domain,
+    tiles: &T,
+    part: &mut usize,
+    near: &mut Near,
+    x: u64,
+) -> Alike
     requires { x < length (T.statuses tiles.now) }
     ensures later { x < result.to }
     ensures within { result.to ≤ length (T.statuses tiles.now) }
     ensures alike { (y : ℕ) → x ≤ y → y < result.to
         → is_taken mode (covers domain.now) (T.statuses tiles.now) y ≡ result.taken }
 {
-    let stretch = domain.stretch_at(near, x, tiles.end());
+    let stretch = domain.stretch_at(part, x, tiles.end());
     if !stretch.inside {
         return Alike {
             taken: false,
             to: stretch.to,
         };
     }
-    let block = tiles.stretch_at(x);
+    let block = tiles.stretch_near(near, x);
     Alike {
         taken: mode.takes(block.status),
         to: stretch.to.min(block.pos + block.size),
@@ -51,10 +59,11 @@ pub(crate) fn first_taken<T: Tiles>(
     ensures none { IfNone result ((x : ℕ) → from ≤ x
         → IsTakenIn mode (covers domain.now) (T.statuses tiles.now) x → ⊥) }
 {
-    let mut near = 0;
+    let mut part = 0;
+    let mut near = Near::start();
     let mut at = from;
     while at < tiles.end() {
-        let here = alike_from(mode, domain, tiles, &mut near, at);
+        let here = alike_from(mode, domain, tiles, &mut part, &mut near, at);
         if here.taken {
             return Some(at);
         }
@@ -78,10 +87,11 @@ pub(crate) fn taken_to<T: Tiles>(
         → IsTakenIn mode (covers domain.now) (T.statuses tiles.now) y }
     ensures stops { result < limit → IsTakenIn mode (covers domain.now) (T.statuses tiles.now) result → ⊥ }
 {
-    let mut near = 0;
+    let mut part = 0;
+    let mut near = Near::start();
     let mut at = from;
     while at < limit && at < tiles.end() {
-        let here = alike_from(mode, domain, tiles, &mut near, at);
+        let here = alike_from(mode, domain, tiles, &mut part, &mut near, at);
         if !here.taken {
             return at;
         }
