@@ -1,5 +1,5 @@
 -- A digit goes in front of those that were written.
-use Rattle.std.proofs.Common.{◌≡◌, ◌-◌, ◌/◌, ◌%◌, ◌++◌, true, [], ◌∷◌, take, drop, arith, sym, ap, ◌∙◌}
+use Rattle.std.proofs.Common.{◌≡◌, ◌-◌, ◌/◌, ◌%◌, ◌++◌, true, [], ◌∷◌, drop, arith, sym, ap, ◌∙◌}
 use Rattle.std.specs.Fmt.{digit_glyph}
 use Rattle.std.proofs.lemmas.List.{length-set, take-set-le, take-append-drop}
 use Rattle.mapfile_text.proofs.DigitLemmas.{front_digit}
