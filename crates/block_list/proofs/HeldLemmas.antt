@@ -1,13 +1,13 @@
 -- The stretch that holds a position, and what is left of a map from there on.
-use Rattle.std.proofs.Common.{◌≡◌, ℕ, zero, suc, ◌+◌, ◌-◌, ◌<◌, ◌≤◌, List, [], ◌∷◌, ◌++◌, length, drop, replicate, Some, true, false, cond, refl, arith, ap, sym, ◌∙◌, ⊎_elim, zero-add}
+use Rattle.std.proofs.Common.{◌≡◌, ℕ, zero, suc, ◌+◌, ◌-◌, ◌<◌, ◌≤◌, List, [], ◌∷◌, ◌++◌, length, take, drop, replicate, Some, true, false, cond, refl, arith, ap, sym, ◌∙◌, ⊎_elim, zero-add, append_assoc}
 use Rattle.std.specs.List.{slice_get}
 use Rattle.std.proofs.lemmas.Bool.{cases_lt}
-use Rattle.std.proofs.lemmas.List.{drop-drop, length-drop}
+use Rattle.std.proofs.lemmas.List.{drop-drop, length-drop, take-append-drop}
 use Rattle.std.proofs.lemmas.Option.{slice_get_within}
 use Rattle.block_list.specs.declared.status.Status.{Status}
 use Rattle.block_list.specs.declared.block.Block.{Block}
 use Rattle.block_list.specs.Status.{same}
-use Rattle.block_list.specs.Map.{Has}
+use Rattle.block_list.specs.Map.{Has, marked}
 use Rattle.block_list.specs.Stretches.{joined, stretches_from, stretches, stretches_behind, IsStretch, IsStretchAt, OneStretchHolds, StretchesMeet, StretchesGoOn}
 use Rattle.block_list.specs.Tiling.{AreTiles}
 use Rattle.block_list.proofs.ApartLemmas.{IsOther}
@@ -44,6 +44,18 @@ pub stretch_within : (map : List Status) (b : Block) → IsStretch map b → b.p
 stretch_within map b s =
     let last : ℕ = b.pos + b.size - 1 in
     omega (arith, s.some, slice_get_within map last b.status (s.has last (omega (arith, s.some)) (omega (arith, s.some))))
+
+-- a mark of positions that have its status changes nothing
+pub marked_already : (map : List Status) (pos size : ℕ) (b : Block) → IsStretchAt map pos b → pos + size ≤ b.pos + b.size
+    → marked map pos size b.status ≡ map
+marked_already map pos size b a h =
+    let within : b.pos + b.size ≤ length map = stretch_within map b a.stretch in
+    let front = same_front size b.status (drop pos map) (omega (arith, length-drop pos map))
+    (λ k u. slice_get-drop pos map k ∙ a.stretch.has (pos + k) (omega (arith, a.begun)) (omega arith)) in
+    append_assoc (take pos map) (replicate size b.status) (drop (pos + size) map)
+    ∙ ap (λ r. take pos map ++ r)
+    (ap (λ r. replicate size b.status ++ r) (sym (drop-drop size pos map)) ∙ sym front)
+    ∙ take-append-drop pos map
 
 pub stretches_go_on : StretchesGoOn
 stretches_go_on map x b a =

@@ -1,8 +1,8 @@
 //! Where the blocks of pages have a status.
-ghost use Rattle.std.specs.Prelude.{◌≡◌, ℕ, ◌+◌, ◌-◌, ◌/◌, ◌^◌, ◌<◌, ◌≤◌, length, max, min, slice_get, count_by, Some, IfSome, IfNone};
+ghost use Rattle.std.specs.Prelude.{◌≡◌, ℕ, ◌+◌, ◌-◌, ◌/◌, ◌^◌, ◌<◌, ◌≤◌, true, length, max, min, slice_get, count_by, Some, IfSome, IfNone};
 ghost use Rattle.std.specs.List.{flat_map};
 ghost use Rattle.block_list.specs.Status.{same};
-ghost use Rattle.block_list.specs.Map.{Has};
+ghost use Rattle.block_list.specs.Map.{Has, marked};
 ghost use Rattle.block_list.specs.Places.{IsFirst, IsLast, IsRunUp, IsRunDown};
 ghost use Rattle.paged_blocks.specs.Search.{AreFilled, HasNone, HasAt, IsFirstBlock, IsLastBlock, IsWalk};
 ghost use Rattle.block_list.specs.Stretches.{covered, IsStretchAt};
@@ -74,6 +74,21 @@ pub fn stretch_at(pages: &[Page], entries: &Entries, x: u64) -> Block
 {
     let (last, begun) = held_before(pages, entries, x + 1);
     pages[entries.at(last).page].block(begun - 1)
+}
+
+/// Whether the positions of a block have its status already.
+pub fn is_marked(pages: &[Page], entries: &Entries, block: Block) -> bool
+    requires paging { IsPaging pages.now entries.now.items }
+    requires some { 0 < block.size }
+    requires within { block.pos + block.size ≤ length (flat_map covered (flat pages.now entries.now.items)) }
+    ensures { result ≡ true → marked (flat_map covered (flat pages.now entries.now.items)) block.pos block.size block.status
+        ≡ flat_map covered (flat pages.now entries.now.items) }
+{
+    let held = stretch_at(pages, entries, block.pos);
+    if !held.status.is(block.status) {
+        return false;
+    }
+    block.pos + block.size <= held.pos + held.size
 }
 
 /// The block with an index among those of all pages.

@@ -54,6 +54,9 @@ impl Pages {
         let blocks = tiles.blocks();
         let mut pages = Vec::new(alloc);
         let mut entries = Entries::new(alloc);
+        let count = blocks.div_ceil(64);
+        pages.reserve(count).map_err(|_| NoMemory)?;
+        entries.reserve(count)?;
         let mut made = 0;
         while made < blocks {
             let to = made + page_len(blocks - made);
@@ -179,6 +182,10 @@ impl Pages {
         ensures spare { self.old.spare ≤ self.new.spare + 2 }
     {
         let block = Block { pos, size, status };
+        // A read that fails again leaves the map as it was.
+        if lookups::is_marked(&self.pages, &self.entries, block) {
+            return;
+        }
         edits::overwrite(
             &mut self.pages,
             &mut self.entries,

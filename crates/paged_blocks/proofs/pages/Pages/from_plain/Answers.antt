@@ -20,14 +20,14 @@ loop-made-preserved c =
 
 pub invariant_of-result : goal.invariant_of-result
 invariant_of-result c =
-    let done : IsOk c.reserve.result = let v = c.map_err.ensures.variant in let w = c.in_ok-map_err.was in cc in
-    let f : c.reserve.new.self.items ≡ [] = let v = c.reserve.ensures.items in let w = c.new-free.ensures.items in cc in
+    let done : IsOk c.reserve-3.result = let v = c.map_err-2.ensures.variant in let w = c.in_ok-map_err-2.was in cc in
+    let f : c.reserve-3.new.self.items ≡ [] = let v = c.reserve-3.ensures.items in let w = c.new-free.ensures.items in cc in
     let all : length (stretches c.args.tiles.now.statuses) ≤ c.loop-made.made = omega (arith, c.loop-made-test.false, c.blocks-blocks.ensures) in
     let short : length c.args.tiles.now.statuses < 2 ^ 63 = omega (arith, c.end-end.ensures.end, c.end-end.ensures.short) in
     record {
       kept = rw f (filled _ _ c.args.tiles.now.statuses _ short c.loop-made.invariant all);
       ends = c.end-end.ensures.end ∙ ap length (sym (filled_statuses _ _ c.args.tiles.now.statuses _ c.loop-made.invariant all));
-      room = omega (arith, on_success c.reserve.result _ done c.reserve.ensures.ok);
+      room = omega (arith, on_success c.reserve-3.result _ done c.reserve-3.ensures.ok);
     }
 
 pub returns : goal.returns
