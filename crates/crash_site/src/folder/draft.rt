@@ -1,4 +1,5 @@
 use crate::folder::apart::Apart;
+use crate::folder::mapfile::find_map;
 use crate::folder::names::make_new;
 use real_files::identity::Identity;
 use real_files::outcome::if_there;
@@ -44,10 +45,10 @@ impl Draft {
         self.file.sync_all()
     }
 
-    /// Renames the draft, if it still has its name. The mode and the owner of a mapfile that is there go over to it.
+    /// Renames the draft, if it still has its name. The mode and the owner of a mapfile that is there go over to it; what
+    /// is no regular file, as a device, keeps its name.
     pub fn publish(self, rt: &HostRuntime, apart: &Apart<'_>, name: &str) -> io::Result<()> {
-        if let Some(found) = if_there(fs::metadata(rt, name))? {
-            apart.check(&found)?;
+        if let Some(found) = find_map(rt, apart, name)? {
             keep_rights(&self.file, &found);
         }
         let standing = fs::symlink_metadata(rt, self.name.as_str())?;
