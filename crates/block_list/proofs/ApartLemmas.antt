@@ -24,7 +24,8 @@ apart_from_merged (b ∷ c ∷ bs) m = (
       (record { differ = λ k x y e f. m.differ (suc k) x y e (rw (add-one (suc k)) (rw (add-one k) at f)) }),
 )
 
-differs : (bs : List Block) (k : ℕ) (x y : Block) → AreApart bs → slice_get bs k ≡ Some x → slice_get bs (suc k) ≡ Some y → x.status ≡ y.status → ⊥
+differs : (bs : List Block) (k : ℕ) (x y : Block) → AreApart bs → slice_get bs k ≡ Some x
+    → slice_get bs (suc k) ≡ Some y → x.status ≡ y.status → ⊥
 differs [] k x y a e f s = cc
 differs (b ∷ []) k x y a e f s = cc
 differs (b ∷ c ∷ bs) zero x y a e f s = a.0 (cc)
@@ -42,12 +43,14 @@ pub apart_right : (xs ys : List Block) → AreApart (xs ++ ys) → AreApart ys
 apart_right [] ys a = a
 apart_right (b ∷ xs) ys a = apart_right xs ys a.1
 
-pub apart_meet : (xs : List Block) (b : Block) (ys : List Block) → AreApart (xs ++ b ∷ []) → AreApart (b ∷ ys) → AreApart (xs ++ b ∷ ys)
+pub apart_meet : (xs : List Block) (b : Block) (ys : List Block) → AreApart (xs ++ b ∷ []) → AreApart (b ∷ ys)
+    → AreApart (xs ++ b ∷ ys)
 apart_meet [] b ys f g = g
 apart_meet (x ∷ []) b ys f g = (f.0, g)
 apart_meet (x ∷ y ∷ xs) b ys f g = (f.0, apart_meet (y ∷ xs) b ys f.1 g)
 
-pub apart_last : (xs : List Block) (b c : Block) → b.status ≡ c.status → AreApart (xs ++ b ∷ []) → AreApart (xs ++ c ∷ [])
+pub apart_last : (xs : List Block) (b c : Block) → b.status ≡ c.status → AreApart (xs ++ b ∷ [])
+    → AreApart (xs ++ c ∷ [])
 apart_last [] b c e a = (tt, tt)
 apart_last (x ∷ []) b c e a = (λ q. a.0 (q ∙ sym e), (tt, tt))
 apart_last (x ∷ y ∷ xs) b c e a = (a.0, apart_last (y ∷ xs) b c e a.1)
@@ -55,11 +58,14 @@ apart_last (x ∷ y ∷ xs) b c e a = (a.0, apart_last (y ∷ xs) b c e a.1)
 pub apart_first : (b c : Block) (ys : List Block) → b.status ≡ c.status → AreApart (b ∷ ys) → AreApart (c ∷ ys)
 apart_first b c ys e a = (let P : Status → Type 0 = λ s. IsOther s ys in subst P e a.0, a.1)
 
-pub apart_push : (xs : List Block) (a b : Block) → (a.status ≡ b.status → ⊥) → AreApart (xs ++ a ∷ []) → AreApart ((xs ++ a ∷ []) ++ b ∷ [])
+pub apart_push : (xs : List Block) (a b : Block) → (a.status ≡ b.status → ⊥) → AreApart (xs ++ a ∷ [])
+    → AreApart ((xs ++ a ∷ []) ++ b ∷ [])
 apart_push xs a b h f = rw (append_assoc xs (a ∷ []) (b ∷ [])) (apart_meet xs a (b ∷ []) f (h, (tt, tt)))
 
 pub merged_front : (i : ℕ) (bs : List Block) → IsMerged bs → AreApart (take i bs)
-merged_front i bs m = apart_left (take i bs) (drop i bs) (subst AreApart (sym (take-append-drop i bs)) (apart_from_merged bs m))
+merged_front i bs m =
+    apart_left (take i bs) (drop i bs) (subst AreApart (sym (take-append-drop i bs)) (apart_from_merged bs m))
 
 pub merged_back : (i : ℕ) (bs : List Block) → IsMerged bs → AreApart (drop i bs)
-merged_back i bs m = apart_right (take i bs) (drop i bs) (subst AreApart (sym (take-append-drop i bs)) (apart_from_merged bs m))
+merged_back i bs m =
+    apart_right (take i bs) (drop i bs) (subst AreApart (sym (take-append-drop i bs)) (apart_from_merged bs m))

@@ -87,7 +87,8 @@ end_in set a bound = record {
 }
 
 -- from the next place, where this one isn't of the set
-out_out : (set : ℕ → Bool) (a n : ℕ) → set a ≡ false → begins_area set a ≡ false → Outside set (a + 1) n → Outside set a (suc n)
+out_out : (set : ℕ → Bool) (a n : ℕ) → set a ≡ false → begins_area set a ≡ false → Outside set (a + 1) n
+    → Outside set a (suc n)
 out_out set a n f b o = record {
   runs = o.runs;
   are = weaken a (a + 1) o.runs (omega arith) o.are;
@@ -96,7 +97,8 @@ out_out set a n f b o = record {
   count = o.count ∙ sym (count_no (begins_area set) a n b);
 }
 
-out_in : (set : ℕ → Bool) (a n : ℕ) → set a ≡ false → begins_area set a ≡ false → Outside set (a + 1) n → Inside set a (suc n)
+out_in : (set : ℕ → Bool) (a n : ℕ) → set a ≡ false → begins_area set a ≡ false → Outside set (a + 1) n
+    → Inside set a (suc n)
 out_in set a n f b o = record {
   end = a;
   from = omega arith;
@@ -110,7 +112,8 @@ out_in set a n f b o = record {
 }
 
 -- where this one is
-in_in : (set : ℕ → Bool) (a n : ℕ) → set a ≡ true → begins_area set a ≡ false → Inside set (a + 1) n → Inside set a (suc n)
+in_in : (set : ℕ → Bool) (a n : ℕ) → set a ≡ true → begins_area set a ≡ false → Inside set (a + 1) n
+    → Inside set a (suc n)
 in_in set a n t b i = record {
   end = i.end;
   from = omega (arith, i.from);
@@ -122,13 +125,17 @@ in_in set a n t b i = record {
   count = i.count ∙ sym (count_no (begins_area set) a n b);
 }
 
-in_out : (set : ℕ → Bool) (a n : ℕ) → set a ≡ true → begins_area set a ≡ true → Inside set (a + 1) n → Outside set a (suc n)
+in_out : (set : ℕ → Bool) (a n : ℕ) → set a ≡ true → begins_area set a ≡ true → Inside set (a + 1) n
+    → Outside set a (suc n)
 in_out set a n t b i = record {
   runs = (a, i.end) ∷ i.runs;
   are = (omega arith, omega (arith, i.from), i.are);
-  below = λ x lt. or_from (nat_le a x && nat_lt x i.end) (holds_one i.runs x) (and_left (nat_le a x) (nat_lt x i.end) (lt-leb a x lt)) (i.below x (omega (arith, lt)));
+  below = λ x lt.
+      or_from (nat_le a x && nat_lt x i.end) (holds_one i.runs x) (and_left (nat_le a x) (nat_lt x i.end) (lt-leb a x lt))
+      (i.below x (omega (arith, lt)));
   above = place_up (λ x. ((nat_le a x && nat_lt x i.end) || holds_one i.runs x) ≡ set x) a
-      (or_left (nat_le a a && nat_lt a i.end) (holds_one i.runs a) (and_from (nat_le a a) (nat_lt a i.end) (le-leb a a (omega arith)) (lt-ltb a i.end (omega (arith, i.from)))) ∙ sym t)
+      (or_left (nat_le a a && nat_lt a i.end) (holds_one i.runs a)
+      (and_from (nat_le a a) (nat_lt a i.end) (le-leb a a (omega arith)) (lt-ltb a i.end (omega (arith, i.from)))) ∙ sym t)
       (λ x le. ap (λ (c : Bool). (c && nat_lt x i.end) || holds_one i.runs x) (le-leb a x (omega (arith, le))) ∙ i.above x le);
   count = omega (arith, i.count, count_yes (begins_area set) a n b);
 }
@@ -181,8 +188,10 @@ pub areas_change_within : AreasChangeWithin
 areas_change_within old new p q end some inside stands =
     let m : ℕ = q + 1 - p in
     let n : ℕ = end - (q + 1) in
-    let front = count_same (begins_area new) (begins_area old) p 0 (λ x from to. begins_same old new x (stands.front x (omega (arith, to))) (λ y e. stands.front y (omega (arith, e, to)))) in
-    let back = count_same (begins_area new) (begins_area old) n (q + 1) (λ x from to. begins_same old new x (stands.back x (omega (arith, from))) (λ y e. stands.back y (omega (arith, e, from)))) in
+    let front = count_same (begins_area new) (begins_area old) p 0
+    (λ x from to. begins_same old new x (stands.front x (omega (arith, to))) (λ y e. stands.front y (omega (arith, e, to)))) in
+    let back = count_same (begins_area new) (begins_area old) n (q + 1)
+    (λ x from to. begins_same old new x (stands.back x (omega (arith, from))) (λ y e. stands.back y (omega (arith, e, from)))) in
     let split1 = λ (f : ℕ → Bool). count_split f p 0 (m + n) end p (omega (arith, some, inside)) (omega arith) in
     let split2 = λ (f : ℕ → Bool). count_split f m p n (m + n) (q + 1) refl (omega (arith, some)) in
     omega (arith, front, back, split1 (begins_area new), split2 (begins_area new), split1 (begins_area old), split2 (begins_area old))

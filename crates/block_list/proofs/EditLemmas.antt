@@ -23,7 +23,8 @@ pub read_there : (bs : List Block) (k : ℕ) → k < length bs → get_or bs k n
 read_there bs k h = get_or_default bs k no_block (get_or bs k no_block) h
 
 pub rising : (bs : List Block) → IsTiled bs → IsNonDecreasingBy (λ (b : Block). b.pos) bs
-rising bs t i j d h l = omega (arith, (tile_at bs i d t (omega arith)).begins, (tile_at bs j d t l).begins, start_mono bs i j h)
+rising bs t i j d h l =
+    omega (arith, (tile_at bs i d t (omega arith)).begins, (tile_at bs j d t l).begins, start_mono bs i j h)
 
 pub place_from_point : (bs : List Block) (at i : ℕ) → IsTiled bs → at ≤ length (flat_map covered bs) → i ≤ length bs
     → IsPartitionPoint (λ y. ltb y.pos at ≡ true) (λ y. ltb y.pos at ≡ false) bs i → IsPlace bs at i
@@ -36,8 +37,10 @@ place_from_point bs at i t w h p = record {
       (cases_lt i (length bs));
 }
 
-cut_at_is : (bs : List Block) (k : ℕ) (f g : Block) → k < length bs → cut_at bs k f g ≡ take k bs ++ (f ∷ g ∷ drop (k + 1) bs)
-cut_at_is bs k f g h = rw (take_more_set bs k f h, drop-set-lt (k + 1) bs k f (omega arith)) (append_assoc (take k bs) (f ∷ []) (g ∷ drop (k + 1) bs))
+cut_at_is : (bs : List Block) (k : ℕ) (f g : Block) → k < length bs
+    → cut_at bs k f g ≡ take k bs ++ (f ∷ g ∷ drop (k + 1) bs)
+cut_at_is bs k f g h =
+    rw (take_more_set bs k f h, drop-set-lt (k + 1) bs k f (omega arith)) (append_assoc (take k bs) (f ∷ []) (g ∷ drop (k + 1) bs))
 
 cut_tiles : (low : ℕ) (b : Block) (bs : List Block) (end at : ℕ) → AreTiles low (b ∷ bs) end
     → b.pos < at → at < b.pos + b.size → AreTiles low (front_of b at ∷ back_of b at ∷ bs) end
@@ -81,7 +84,8 @@ divided xs b ys at i e t l u =
     let dr : drop i new ≡ g ∷ ys =
     ap (λ r. drop i r) (sym (append_assoc xs (f ∷ []) (g ∷ ys)))
     ∙ drop_at (xs ++ f ∷ []) (g ∷ ys) i (length_push xs f ∙ sym e) in
-    let tiles : AreTiles 0 new end = tiles_join 0 xs (f ∷ g ∷ ys) (0 + length (flat_map covered xs)) end parts.front (cut_tiles _ b ys end at parts.back l u) in
+    let tiles : AreTiles 0 new end =
+    tiles_join 0 xs (f ∷ g ∷ ys) (0 + length (flat_map covered xs)) end parts.front (cut_tiles _ b ys end at parts.back l u) in
     let start : b.pos ≡ length (flat_map covered xs) = omega (arith, parts.back.0) in
     record {
       tiled = tiled_from_tiles new end tiles t.short;
@@ -122,7 +126,8 @@ uncut bs at i t h e = record {
   front = λ m. merged_from_apart (take i bs) (merged_front i bs m);
   back = λ n l m. ⊎_elim
       (λ (o : i < n). ⊎_elim
-      (λ (w : i < length bs). absurd (omega (arith, start_mono bs (i + 1) n (omega arith), start_more bs i no_block w, (tile_at bs i no_block t w).sized)))
+      (λ (w : i < length bs).
+      absurd (omega (arith, start_mono bs (i + 1) n (omega arith), start_more bs i no_block w, (tile_at bs i no_block t w).sized)))
       (λ (w : length bs ≤ i). rw (drop_all i bs w) (merged_from_apart [] tt))
       (cases_lt i (length bs)))
       (λ (o : n ≤ i).
@@ -172,7 +177,8 @@ apart_before bs k i block a e h q p s =
       sized = omega arith;
       status = refl;
       same = refl;
-      merged = λ m. let b : AreApart (take k bs ++ a ∷ []) = rw w at (apart_from_merged _ m) in rw w (merged_from_apart _ (apart_push (take k bs) a block s b));
+      merged = λ m. let b : AreApart (take k bs ++ a ∷ []) = rw w at (apart_from_merged _ m) in
+          rw w (merged_from_apart _ (apart_push (take k bs) a block s b));
     }
 
 -- the block behind joins
@@ -268,7 +274,8 @@ appended_either bs new low block wide false t s u f e =
     (omega (arith, start_le_end bs low, t.short)))
 
 -- the last block has the status of the last position
-last_status : (bs : List Block) (status : Status) → EndsWith (flat_map covered bs) status → (front : List Block) (last : Block)
+last_status : (bs : List Block) (status : Status) → EndsWith (flat_map covered bs) status
+    → (front : List Block) (last : Block)
     → bs ≡ front ++ last ∷ [] → 0 < last.size → last.status ≡ status
 last_status bs status f front last e z =
     let x : ℕ = length (flat_map covered bs) - 1 in

@@ -35,7 +35,8 @@ joined_is_other s pos t (b ∷ bs) h =
     elim (same t b.status) as (λ v. IsOther s (cond v (record { pos = pos; size = b.size + 1; status = t } ∷ bs)
     (record { pos = pos; size = 1; status = t } ∷ b ∷ bs))) [ true ↦ h | false ↦ h ]
 
-first_is_other : (s : Status) (pos : ℕ) (m : List Status) → (slice_get m 0 ≡ Some s → ⊥) → IsOther s (stretches_from pos m)
+first_is_other : (s : Status) (pos : ℕ) (m : List Status) → (slice_get m 0 ≡ Some s → ⊥)
+    → IsOther s (stretches_from pos m)
 first_is_other s pos [] h = tt
 first_is_other s pos (t ∷ m) h = joined_is_other s pos t (stretches_from (pos + 1) m) (λ e. h (ap Some (sym e)))
 
@@ -87,7 +88,8 @@ no_earlier map x b c f g = ⊎_elim
     (λ (l : c.pos ≤ b.pos). l) (cases_lt b.pos c.pos)
 
 -- nor ends behind it
-no_later : (map : List Status) (x : ℕ) (b c : Block) → IsStretchAt map x b → IsStretchAt map x c → b.pos + b.size ≤ c.pos + c.size
+no_later : (map : List Status) (x : ℕ) (b c : Block) → IsStretchAt map x b → IsStretchAt map x c
+    → b.pos + b.size ≤ c.pos + c.size
 no_later map x b c f g = ⊎_elim
     (λ (l : c.pos + c.size < b.pos + b.size).
     let same = one_status map b.status c.status x (f.stretch.has x f.begun f.holds) (g.stretch.has x g.begun g.holds) in

@@ -24,8 +24,10 @@ pub record IsClear (map : List Status) (s : Status) (from to : ℕ) : Type 0 whe
   pub clear : (x : ℕ) → from ≤ x → x < to → Has map s x → ⊥
 
 -- a block that was read is a maximal stretch
-pub stretch_read : (bs : List Block) (i : ℕ) (b : Block) → IsTiled bs → IsMerged bs → i < length bs → b ≡ get_or bs i b → IsStretch (flat_map covered bs) b
-stretch_read bs i b t m h e = stretch_at bs (length (flat_map covered bs)) i b t.tiled (apart_from_merged bs m) (slice_get_read bs (length bs) i b refl h e)
+pub stretch_read : (bs : List Block) (i : ℕ) (b : Block) → IsTiled bs → IsMerged bs → i < length bs → b ≡ get_or bs i b
+    → IsStretch (flat_map covered bs) b
+stretch_read bs i b t m h e =
+    stretch_at bs (length (flat_map covered bs)) i b t.tiled (apart_from_merged bs m) (slice_get_read bs (length bs) i b refl h e)
 
 -- the last block that begins at or before a position is the stretch that holds it
 pub stretch_held : (bs : List Block) (x i : ℕ) (b : Block) → IsTiled bs → IsMerged bs → IsPlace bs (x + 1) i
@@ -59,7 +61,8 @@ abbrev pub rest_from : List Block → ℕ → List Block
 rest_from bs h = take (length bs - h) (drop h bs)
 
 pub rest_index : (bs : List Block) (h k : ℕ) → k < length (rest_from bs h) → h + k < length bs
-rest_index bs h k l = omega (arith, length-take-le (length bs - h) (drop h bs) (omega (arith, length-drop h bs)), length-drop h bs)
+rest_index bs h k l =
+    omega (arith, length-take-le (length bs - h) (drop h bs) (omega (arith, length-drop h bs)), length-drop h bs)
 
 -- a block that was read there
 pub rest_read : (bs : List Block) (h k : ℕ) → k < length (rest_from bs h)
@@ -71,13 +74,15 @@ rest_read bs h k l =
     e ∙ read_there bs (h + k) n ∙ ap (λ (d : Block). get_or bs (h + k) d) (sym e)
 
 pub rest_end : (bs : List Block) (h k : ℕ) → h ≤ length bs → length (rest_from bs h) ≤ k → length bs ≤ h + k
-rest_end bs h k n l = omega (arith, length-take-le (length bs - h) (drop h bs) (omega (arith, length-drop h bs)), length-drop h bs)
+rest_end bs h k n l =
+    omega (arith, length-take-le (length bs - h) (drop h bs) (omega (arith, length-drop h bs)), length-drop h bs)
 
 other_status : (map : List Status) (s z : Status) (x : ℕ) → Has map s x → Has map z x → (z ≡ s → ⊥) → ⊥
 other_status map s z x h k o = o (cc)
 
 -- a block of another status, from its position on
-other_block : (map : List Status) (s : Status) (b : Block) (x : ℕ) → IsStretch map b → (b.status ≡ s → ⊥) → b.pos ≤ x → x < b.pos + b.size → Has map s x → ⊥
+other_block : (map : List Status) (s : Status) (b : Block) (x : ℕ) → IsStretch map b → (b.status ≡ s → ⊥) → b.pos ≤ x
+    → x < b.pos + b.size → Has map s x → ⊥
 other_block map s b x k o l u h = other_status map s b.status x h (k.has x l u) o
 
 pub clear_behind : (bs : List Block) (i from : ℕ) (s : Status) (b : Block) → IsTiled bs → IsMerged bs → i < length bs
@@ -105,7 +110,8 @@ clear_before bs i to s b t m h e o c =
 -- all blocks were passed
 pub clear_up : (bs : List Block) (i from : ℕ) (s : Status) → length bs ≤ i
     → IsClear (flat_map covered bs) s from (start_of bs i) → (x : ℕ) → from ≤ x → Has (flat_map covered bs) s x → ⊥
-clear_up bs i from s h c x l k = c.clear x l (omega (arith, start_all bs i h, slice_get_within (flat_map covered bs) x s k)) k
+clear_up bs i from s h c x l k =
+    c.clear x l (omega (arith, start_all bs i h, slice_get_within (flat_map covered bs) x s k)) k
 
 pub found_first : (bs : List Block) (i from : ℕ) (s : Status) (b : Block) → IsTiled bs → IsMerged bs → i < length bs
     → b ≡ get_or bs i b → IsClear (flat_map covered bs) s from (start_of bs i) → from < start_of bs (i + 1)
@@ -116,7 +122,8 @@ found_first bs i from s b t m h e c u q =
     record {
       after = omega arith;
       holds = k.has (max from b.pos) (omega arith) (omega (arith, r.ends, r.sized)) ∙ ap Some q;
-      least = λ y l v. ⊎_elim (λ (o : y < b.pos). absurd (c.clear y l (omega (arith, r.begins)) v)) (λ (o : b.pos ≤ y). omega arith) (cases_lt y b.pos);
+      least = λ y l v.
+          ⊎_elim (λ (o : y < b.pos). absurd (c.clear y l (omega (arith, r.begins)) v)) (λ (o : b.pos ≤ y). omega arith) (cases_lt y b.pos);
     }
 
 pub found_run_up : (bs : List Block) (i from : ℕ) (s : Status) (b : Block) → IsTiled bs → IsMerged bs → i < length bs
@@ -158,7 +165,8 @@ found_run_down bs i before s b t m h e u q =
     }
 
 -- a place behind the map's end is as good as the end
-pub last_within : (map : List Status) (s : Status) (before end : ℕ) → IsLast (Has map s) (min before (length map)) end → IsLast (Has map s) before end
+pub last_within : (map : List Status) (s : Status) (before end : ℕ) → IsLast (Has map s) (min before (length map)) end
+    → IsLast (Has map s) before end
 last_within map s before end k = record {
   below = omega (arith, k.below);
   some = k.some;
@@ -207,7 +215,8 @@ counted_yes bs i s d h e =
     let z : same (get_or bs i d).status s ≡ true = rw e (same_self s) in
     omega (arith, counted_more bs i s d h, count-yes (λ z. same z s) (get_or bs i d).size (get_or bs i d).status z)
 
-pub counted_no : (bs : List Block) (i : ℕ) (s : Status) (d : Block) → i < length bs → ((get_or bs i d).status ≡ s → ⊥) → counted bs s (i + 1) ≡ counted bs s i
+pub counted_no : (bs : List Block) (i : ℕ) (s : Status) (d : Block) → i < length bs → ((get_or bs i d).status ≡ s → ⊥)
+    → counted bs s (i + 1) ≡ counted bs s i
 counted_no bs i s d h e =
     omega (
       arith,
@@ -216,7 +225,8 @@ counted_no bs i s d h e =
           (other_same (get_or bs i d).status s e),
     )
 
-pub counted_all : (bs : List Block) (i : ℕ) (s : Status) → length bs ≤ i → counted bs s i ≡ count_by (λ z. same z s) (flat_map covered bs)
+pub counted_all : (bs : List Block) (i : ℕ) (s : Status) → length bs ≤ i
+    → counted bs s i ≡ count_by (λ z. same z s) (flat_map covered bs)
 counted_all bs i s h = ap (λ r. count_by (λ z. same z s) (flat_map covered r)) (take_all i bs h)
 
 pub counted_end : (bs : List Block) (i : ℕ) (s : Status) → counted bs s i ≤ length (flat_map covered bs)

@@ -22,7 +22,8 @@ same_self BadSector = refl
 same_self Finished = refl
 
 status_with : ℕ → Status
-status_with n = cond (nat_eq n 63) NonTried (cond (nat_eq n 42) NonTrimmed (cond (nat_eq n 47) NonScraped (cond (nat_eq n 45) BadSector Finished)))
+status_with n =
+    cond (nat_eq n 63) NonTried (cond (nat_eq n 42) NonTrimmed (cond (nat_eq n 47) NonScraped (cond (nat_eq n 45) BadSector Finished)))
 
 status_with-symbol : (s : Status) → status_with (symbol s) ≡ s
 unfolding status_with
@@ -33,7 +34,8 @@ status_with-symbol BadSector = refl
 status_with-symbol Finished = refl
 
 pub equal_from_same : (s t : Status) → same s t ≡ true → s ≡ t
-equal_from_same s t h = sym (status_with-symbol s) ∙ ap status_with (eqb-true (symbol s) (symbol t) h) ∙ status_with-symbol t
+equal_from_same s t h =
+    sym (status_with-symbol s) ∙ ap status_with (eqb-true (symbol s) (symbol t) h) ∙ status_with-symbol t
 
 pub other_same : (s t : Status) → (s ≡ t → ⊥) → same s t ≡ false
 other_same s t h =
@@ -44,7 +46,8 @@ other_same s t h =
     ] in
     k (same s t) refl
 
-joined_other : (pos : ℕ) (s : Status) (bs : List Block) → IsOther s bs → joined pos s bs ≡ record { pos = pos; size = 1; status = s } ∷ bs
+joined_other : (pos : ℕ) (s : Status) (bs : List Block) → IsOther s bs
+    → joined pos s bs ≡ record { pos = pos; size = 1; status = s } ∷ bs
 joined_other pos s [] h = refl
 joined_other pos s (b ∷ bs) h = rw (other_same s b.status h) refl
 
@@ -61,7 +64,8 @@ first_stretch pos (suc (suc n)) s rest bs o h e =
     ap (λ r. joined pos s r) k ∙ w ∙ ap B (add-one (suc n))
 
 -- merged blocks are the stretches of the map that they tile
-pub stretches_of_tiles : (low : ℕ) (bs : List Block) (end : ℕ) → AreTiles low bs end → AreApart bs → stretches_from low (flat_map covered bs) ≡ bs
+pub stretches_of_tiles : (low : ℕ) (bs : List Block) (end : ℕ) → AreTiles low bs end → AreApart bs
+    → stretches_from low (flat_map covered bs) ≡ bs
 stretches_of_tiles low [] end t a = refl
 stretches_of_tiles low (b ∷ bs) end t a =
     let B : ℕ → List Block = λ p. record { pos = p; size = b.size; status = b.status } ∷ bs in
@@ -71,7 +75,8 @@ stretches_of_tiles low (b ∷ bs) end t a =
 pub stretches_of_tiling : (t : Inside) → IsTiling t → stretches (flat_map covered t.blocks.items) ≡ t.blocks.items
 stretches_of_tiling t h = stretches_of_tiles 0 t.blocks.items t.end h.tiled (apart_from_merged t.blocks.items h.merged)
 
-joined_tiles : (pos : ℕ) (s : Status) (bs : List Block) (end : ℕ) → AreTiles (pos + 1) bs end → AreTiles pos (joined pos s bs) end
+joined_tiles : (pos : ℕ) (s : Status) (bs : List Block) (end : ℕ) → AreTiles (pos + 1) bs end
+    → AreTiles pos (joined pos s bs) end
 joined_tiles pos s [] end t = (refl, omega arith, t)
 joined_tiles pos s (b ∷ bs) end t =
     let z : pos + 1 + b.size ≡ pos + (b.size + 1) = omega arith in
@@ -112,13 +117,15 @@ stretches_tiles pos (s ∷ map) =
 
 pub stretches_covered : (pos : ℕ) (map : List Status) → flat_map covered (stretches_from pos map) ≡ map
 stretches_covered pos [] = refl
-stretches_covered pos (s ∷ map) = joined_covered pos s (stretches_from (pos + 1) map) ∙ ap (λ r. s ∷ r) (stretches_covered (pos + 1) map)
+stretches_covered pos (s ∷ map) =
+    joined_covered pos s (stretches_from (pos + 1) map) ∙ ap (λ r. s ∷ r) (stretches_covered (pos + 1) map)
 
 pub stretches_apart : (pos : ℕ) (map : List Status) → AreApart (stretches_from pos map)
 stretches_apart pos [] = tt
 stretches_apart pos (s ∷ map) = joined_apart pos s (stretches_from (pos + 1) map) (stretches_apart (pos + 1) map)
 
-first_other : (s : Status) (low : ℕ) (bs : List Block) (end : ℕ) → AreTiles low bs end → IsOther s bs → slice_get (flat_map covered bs) 0 ≡ Some s → ⊥
+first_other : (s : Status) (low : ℕ) (bs : List Block) (end : ℕ) → AreTiles low bs end → IsOther s bs
+    → slice_get (flat_map covered bs) 0 ≡ Some s → ⊥
 first_other s low [] end t o h = cc
 first_other s low (b ∷ bs) end t o h =
     let l : 0 < length (covered b) = omega (arith, length-replicate b.size b.status, t.1) in
@@ -140,7 +147,8 @@ last_other b low (c ∷ d ∷ xs) mid x t a e h =
     let l : length (covered c) ≤ x = omega (arith, length-replicate c.size c.status, t.2.1) in
     let p = slice_get-append_right (covered c) (flat_map covered (d ∷ xs)) x l in
     let z : x - length (covered c) ≡ x - c.size = omega (arith, length-replicate c.size c.status) in
-    last_other b (low + c.size) (d ∷ xs) mid (x - c.size) t.2 a.1 (omega (arith, t.2.1)) (ap (λ k. slice_get (flat_map covered (d ∷ xs)) k) (sym z) ∙ sym p ∙ h)
+    last_other b (low + c.size) (d ∷ xs) mid (x - c.size) t.2 a.1 (omega (arith, t.2.1))
+    (ap (λ k. slice_get (flat_map covered (d ∷ xs)) k) (sym z) ∙ sym p ∙ h)
 
 pub block_has : (xs : List Block) (b : Block) (ys : List Block) (x : ℕ) → length (flat_map covered xs) ≤ x
     → x < length (flat_map covered xs) + b.size → slice_get (flat_map covered (xs ++ b ∷ ys)) x ≡ Some b.status
@@ -172,7 +180,8 @@ stretch_between xs b ys end t a =
           ∙ ap (λ k. slice_get (flat_map covered ys) k) (omega (arith, length-replicate b.size b.status))) ∙ h);
     }
 
-pub stretch_at : (bs : List Block) (end i : ℕ) (b : Block) → AreTiles 0 bs end → AreApart bs → slice_get bs i ≡ Some b → IsStretch (flat_map covered bs) b
+pub stretch_at : (bs : List Block) (end i : ℕ) (b : Block) → AreTiles 0 bs end → AreApart bs → slice_get bs i ≡ Some b
+    → IsStretch (flat_map covered bs) b
 stretch_at bs end i b t a e =
     let h = slice_get_within bs i b e in
     let s : take i bs ++ b ∷ drop (i + 1) bs ≡ bs =

@@ -12,14 +12,17 @@ use Rattle.block_list.specs.Edits.{IsTiled, start_of}
 pub covered-append : (xs ys : List Block) → flat_map covered (xs ++ ys) ≡ flat_map covered xs ++ flat_map covered ys
 covered-append xs ys = flat_map-append covered xs ys
 
-pub length_first : (b : Block) (xs : List Block) → length (flat_map covered (b ∷ xs)) ≡ b.size + length (flat_map covered xs)
-length_first b xs = omega (arith, length-append (replicate b.size b.status) (flat_map covered xs), length-replicate b.size b.status)
+pub length_first : (b : Block) (xs : List Block)
+    → length (flat_map covered (b ∷ xs)) ≡ b.size + length (flat_map covered xs)
+length_first b xs =
+    omega (arith, length-append (replicate b.size b.status) (flat_map covered xs), length-replicate b.size b.status)
 
 pub tiles_end : (low : ℕ) (xs : List Block) (end : ℕ) → AreTiles low xs end → end ≡ low + length (flat_map covered xs)
 tiles_end low [] end t = omega (arith, t)
 tiles_end low (b ∷ xs) end t = omega (arith, tiles_end (low + b.size) xs end t.2, length_first b xs)
 
-pub tiles_join : (low : ℕ) (xs ys : List Block) (mid end : ℕ) → AreTiles low xs mid → AreTiles mid ys end → AreTiles low (xs ++ ys) end
+pub tiles_join : (low : ℕ) (xs ys : List Block) (mid end : ℕ) → AreTiles low xs mid → AreTiles mid ys end
+    → AreTiles low (xs ++ ys) end
 tiles_join low [] ys mid end s t = rw s at t
 tiles_join low (b ∷ xs) ys mid end s t = (s.0, s.1, tiles_join (low + b.size) xs ys mid end s.2 t)
 
@@ -28,7 +31,8 @@ pub record AreParts (low mid : ℕ) (xs ys : List Block) (end : ℕ) : Type 0 wh
   pub front : AreTiles low xs mid
   pub back : AreTiles mid ys end
 
-pub tiles_split : (low : ℕ) (xs ys : List Block) (end : ℕ) → AreTiles low (xs ++ ys) end → AreParts low (low + length (flat_map covered xs)) xs ys end
+pub tiles_split : (low : ℕ) (xs ys : List Block) (end : ℕ) → AreTiles low (xs ++ ys) end
+    → AreParts low (low + length (flat_map covered xs)) xs ys end
 tiles_split low [] ys end t = let z : low + 0 ≡ low = omega arith in record { front = z; back = rw z t }
 tiles_split low (b ∷ xs) ys end t =
     let k = tiles_split (low + b.size) xs ys end t.2 in
@@ -40,7 +44,8 @@ tiled_from_tiles bs end t s =
     let e : end ≡ length (flat_map covered bs) = omega (arith, tiles_end 0 bs end t) in
     record { tiled = rw e at t; short = omega arith }
 
-pub parts_of : (bs : List Block) (i : ℕ) → IsTiled bs → AreParts 0 (start_of bs i) (take i bs) (drop i bs) (length (flat_map covered bs))
+pub parts_of : (bs : List Block) (i : ℕ) → IsTiled bs
+    → AreParts 0 (start_of bs i) (take i bs) (drop i bs) (length (flat_map covered bs))
 parts_of bs i t =
     let T : List Block → Type 0 = λ r. AreTiles 0 r (length (flat_map covered bs)) in
     let k = tiles_split 0 (take i bs) (drop i bs) (length (flat_map covered bs)) (subst T (sym (take-append-drop i bs)) t.tiled) in
@@ -60,9 +65,11 @@ pub start_mono : (bs : List Block) (i j : ℕ) → i ≤ j → start_of bs i ≤
 start_mono bs i j h = rw (take-take i j bs h) at (start_le_end (take j bs) i)
 
 pub index_before : (bs : List Block) (i j : ℕ) → start_of bs i < start_of bs j → i < j
-index_before bs i j h = ⊎_elim (λ (l : i < j). l) (λ (l : j ≤ i). absurd (omega (arith, start_mono bs j i l))) (cases_lt i j)
+index_before bs i j h =
+    ⊎_elim (λ (l : i < j). l) (λ (l : j ≤ i). absurd (omega (arith, start_mono bs j i l))) (cases_lt i j)
 
-pub start_more : (bs : List Block) (i : ℕ) (d : Block) → i < length bs → start_of bs (i + 1) ≡ start_of bs i + (get_or bs i d).size
+pub start_more : (bs : List Block) (i : ℕ) (d : Block) → i < length bs
+    → start_of bs (i + 1) ≡ start_of bs i + (get_or bs i d).size
 start_more bs i d h = rw (take_more bs i d h, covered-append (take i bs) (get_or bs i d ∷ []))
     (omega (arith, length-append (flat_map covered (take i bs)) (flat_map covered (get_or bs i d ∷ [])), length_first (get_or bs i d) []))
 
@@ -90,13 +97,15 @@ pub tile_read : (bs : List Block) (i : ℕ) (b : Block) → IsTiled bs → i < l
 tile_read bs i b t h e = rw (← e) at (tile_at bs i b t h)
 
 -- the statuses of the blocks in front of a place and behind it
-pub front_statuses : (bs : List Block) (i n : ℕ) → start_of bs i ≡ n → flat_map covered (take i bs) ≡ take n (flat_map covered bs)
+pub front_statuses : (bs : List Block) (i n : ℕ) → start_of bs i ≡ n
+    → flat_map covered (take i bs) ≡ take n (flat_map covered bs)
 front_statuses bs i n h =
     let e : flat_map covered bs ≡ flat_map covered (take i bs) ++ flat_map covered (drop i bs) =
     ap (λ r. flat_map covered r) (sym (take-append-drop i bs)) ∙ covered-append (take i bs) (drop i bs) in
     sym (ap (λ z. take n z) e ∙ take_at (flat_map covered (take i bs)) (flat_map covered (drop i bs)) n h)
 
-pub back_statuses : (bs : List Block) (i n : ℕ) → start_of bs i ≡ n → flat_map covered (drop i bs) ≡ drop n (flat_map covered bs)
+pub back_statuses : (bs : List Block) (i n : ℕ) → start_of bs i ≡ n
+    → flat_map covered (drop i bs) ≡ drop n (flat_map covered bs)
 back_statuses bs i n h =
     let e : flat_map covered bs ≡ flat_map covered (take i bs) ++ flat_map covered (drop i bs) =
     ap (λ r. flat_map covered r) (sym (take-append-drop i bs)) ∙ covered-append (take i bs) (drop i bs) in

@@ -5,7 +5,8 @@ use Rattle.block_list.proofs.EditLemmas.{replaced_tiled, replaced_merged, replac
 use Rattle.block_list.proofs.edits.replace.Goals as goal
 
 pub join_before-low-requires-clause-short : goal.join_before-low-requires-clause-short
-join_before-low-requires-clause-short c = omega (arith, c.requires.ends, c.requires.tiled.short, start_le_end c.args.blocks.now.items c.args.j)
+join_before-low-requires-clause-short c =
+    omega (arith, c.requires.ends, c.requires.tiled.short, start_le_end c.args.blocks.now.items c.args.j)
 
 pub returns-clause-tiled : goal.returns-clause-tiled
 returns-clause-tiled c =

@@ -47,4 +47,5 @@ loop-block-preserved c =
     rw z (clear_behind _ _ _ _ _ c.requires.tiled c.requires.merged h e (λ q. let t = c.is.ensures.1 q in cc) c.loop-block.invariant)
 
 pub returns-clause-none : goal.returns-clause-none
-returns-clause-none c = clear_up _ _ _ _ (rest_end _ _ _ (omega (arith, c.begun_before-holding.ensures.index)) c.loop-block-test.false) c.loop-block.invariant
+returns-clause-none c =
+    clear_up _ _ _ _ (rest_end _ _ _ (omega (arith, c.begun_before-holding.ensures.index)) c.loop-block-test.false) c.loop-block.invariant

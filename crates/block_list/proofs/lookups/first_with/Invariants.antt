@@ -6,4 +6,5 @@ use Rattle.block_list.proofs.LookupLemmas.{IsClear}
 use Rattle.block_list.proofs.lookups.first_with.Given as goal
 
 abbrev pub invariant-loop-block : goal.invariant-loop-block
-invariant-loop-block l = IsClear (flat_map covered l.blocks) l.status l.from (start_of l.blocks (l.holding + l.block-index))
+invariant-loop-block l =
+    IsClear (flat_map covered l.blocks) l.status l.from (start_of l.blocks (l.holding + l.block-index))

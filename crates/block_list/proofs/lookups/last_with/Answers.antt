@@ -20,7 +20,8 @@ returns-then-is-clause-last c =
       start_mono c.args.blocks.now (c.loop-i.i - 1) (c.begun_before-begun.result - 1) (omega arith),
       c.begun_before-begun.ensures.before (omega arith),
     ) in
-    rw c.min.ensures (found_last _ _ _ _ _ c.requires.tiled c.requires.merged h (read_there _ _ h) (rw z at c.loop-i.invariant) l (c.is.ensures.0 c.if-is.true))
+    rw c.min.ensures (found_last _ _ _ _ _ c.requires.tiled c.requires.merged h (read_there _ _ h)
+    (rw z at c.loop-i.invariant) l (c.is.ensures.0 c.if-is.true))
 
 pub returns-then-is-clause-run : goal.returns-then-is-clause-run
 returns-then-is-clause-run c =

@@ -36,7 +36,8 @@ pub returns-then-self-end-clause-extended : goal.returns-then-self-end-clause-ex
 returns-then-self-end-clause-extended c =
     let room : vec_len c.self.inside.blocks < vec_capacity c.self.inside.blocks = omega (arith, rw (← c.self.view_is) at c.requires.spare) in
     let added = on_success c.append.result _ (c.append.ensures.full room) c.append.ensures.added in
-    rw (← c.self.view_is) (added ∙ ap (λ n. flat_map covered c.self.inside.blocks.items ++ replicate (c.args.end - n) NonTried) (tiling_end _ c.self.invariant))
+    rw (← c.self.view_is)
+    (added ∙ ap (λ n. flat_map covered c.self.inside.blocks.items ++ replicate (c.args.end - n) NonTried) (tiling_end _ c.self.invariant))
 
 pub returns-else-self-end-clause-extended : goal.returns-else-self-end-clause-extended
 returns-else-self-end-clause-extended c =

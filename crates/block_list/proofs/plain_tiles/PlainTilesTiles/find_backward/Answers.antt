@@ -7,7 +7,8 @@ pub last_with-requires-clause-tiled : goal.last_with-requires-clause-tiled
 last_with-requires-clause-tiled c = rw c.deref.ensures.value (tiled_from_tiling _ c.self.invariant)
 
 pub last_with-requires-clause-within : goal.last_with-requires-clause-within
-last_with-requires-clause-within c = rw c.deref.ensures.value (omega (arith, c.min.ensures, tiling_end _ c.self.invariant))
+last_with-requires-clause-within c =
+    rw c.deref.ensures.value (omega (arith, c.min.ensures, tiling_end _ c.self.invariant))
 
 pub returns-clause-last : goal.returns-clause-last
 returns-clause-last c =

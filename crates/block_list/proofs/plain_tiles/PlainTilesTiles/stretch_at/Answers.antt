@@ -16,5 +16,6 @@ begun_before-behind-requires-clause-tiled c = rw c.deref.ensures.value (tiled_fr
 
 pub returns : goal.returns
 returns c =
-    let p : IsPlace c.self.inside.blocks.items (c.args.x + 1) c.begun_before-behind.result = rw c.deref.ensures.value at c.begun_before-behind.ensures in
+    let p : IsPlace c.self.inside.blocks.items (c.args.x + 1) c.begun_before-behind.result =
+    rw c.deref.ensures.value at c.begun_before-behind.ensures in
     rw (← c.self.view_is) (stretch_held _ _ _ _ (tiled_from_tiling _ c.self.invariant) c.self.invariant.merged p c.index.ensures)
