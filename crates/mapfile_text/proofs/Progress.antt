@@ -178,6 +178,7 @@ comes-next {mode = mode} {all = all} {ls = ls} shape shape' block e c b gap =
     })
 
 -- where a block can't follow is a fault of the line with the number
-pub same_place : (mode : Mode) (end : ℕ) (l l' : Line) (b : Block) (e : MapError) → l.number ≡ l'.number → PlaceFault mode end l b e → PlaceFault mode end l' b e
+pub same_place : (mode : Mode) (end : ℕ) (l l' : Line) (b : Block) (e : MapError) → l.number ≡ l'.number
+    → PlaceFault mode end l b e → PlaceFault mode end l' b e
 same_place Tight end l l' b e q f = elim f [ inl x ↦ inl (x.0 ∙ ap Overlap q, x.1) | inr x ↦ inr (x.0 ∙ ap Gap q, x.1) ]
 same_place (Loose status) end l l' b e q f = (f.0 ∙ ap Overlap q, f.1)

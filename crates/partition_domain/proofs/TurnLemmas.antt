@@ -70,7 +70,8 @@ module _ (k : ℕ) (main : List ℕ) (c : Chain) (chain : List (List ℕ)) (last
 
   found : is_used (entry last 0) ≡ true → c.given ≡ k - 5 → To gave
   found used at =
-      part_on main grown k s.e (record { first = c.at + (entry last 0).first; count = (entry last 0).count }) are_grown (not_primary k near.logical) s.is_extended
+      part_on main grown k s.e (record { first = c.at + (entry last 0).first; count = (entry last 0).count }) are_grown
+      (not_primary k near.logical) s.is_extended
       (ap (λ (ps : List Partition). slice_get ps (k - 5)) (gives used)
       ∙ ap (λ (n : ℕ). slice_get (before ++ part ∷ []) n) (sym at ∙ s.given) ∙ item_behind before part
       ∙ ap (λ (n : ℕ). Some (record { first = n + (entry last 0).first; count = (entry last 0).count })) (sym s.at))

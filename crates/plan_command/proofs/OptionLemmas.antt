@@ -214,23 +214,28 @@ rows_keep = (
         (λ s o o' v. lifted s o o' false _ (λ n. skips_keep s o.rescue n v)),
         (
           (λ s o o' v. lifted s o o' false (Some (record o.rescue { no_scrape = true }))
-              (λ n. alone s o.rescue n (record o.rescue { no_scrape = true }) refl (λ h. h) refl (λ p. still_plain o.rescue (record o.rescue { no_scrape = true }) refl refl refl refl refl refl refl refl p))),
+              (λ n. alone s o.rescue n (record o.rescue { no_scrape = true }) refl (λ h. h) refl
+              (λ p. still_plain o.rescue (record o.rescue { no_scrape = true }) refl refl refl refl refl refl refl refl p))),
           (
             (λ s o o' v. lifted s o o' false (Some (record o.rescue { no_trim = true }))
-                (λ n. alone s o.rescue n (record o.rescue { no_trim = true }) refl (λ h. h) refl (λ p. still_plain o.rescue (record o.rescue { no_trim = true }) refl refl refl refl refl refl refl refl p))),
+                (λ n. alone s o.rescue n (record o.rescue { no_trim = true }) refl (λ h. h) refl
+                (λ p. still_plain o.rescue (record o.rescue { no_trim = true }) refl refl refl refl refl refl refl refl p))),
             (
               (λ s o o' v. lifted s o o' true (Some (record o.rescue { quiet = true }))
-                  (λ n. flag_keeps s o.rescue n true (record o.rescue { quiet = true }) refl (λ h. h) (or_true o.rescue.quiet) (λ p. still_plain o.rescue (record o.rescue { quiet = true }) refl refl refl refl refl refl refl refl p))),
+                  (λ n. flag_keeps s o.rescue n true (record o.rescue { quiet = true }) refl (λ h. h) (or_true o.rescue.quiet)
+                  (λ p. still_plain o.rescue (record o.rescue { quiet = true }) refl refl refl refl refl refl refl refl p))),
               (
                 (λ s o o' v. lifted s o o' false _ (λ n. retries_keep s o.rescue n (number_by v))),
                 (
                   (λ s o o' v. lifted s o o' false (Some (record o.rescue { reverse = true }))
-                      (λ n. alone s o.rescue n (record o.rescue { reverse = true }) refl (λ h. h) refl (λ p. still_plain o.rescue (record o.rescue { reverse = true }) refl refl refl refl refl refl refl refl p))),
+                      (λ n. alone s o.rescue n (record o.rescue { reverse = true }) refl (λ h. h) refl
+                      (λ p. still_plain o.rescue (record o.rescue { reverse = true }) refl refl refl refl refl refl refl refl p))),
                   (
                     (λ s o o' v. lifted s o o' false _ (λ n. length_keeps s o.rescue n (size_by s v))),
                     (
                       (λ s o o' v. lifted s o o' false (Some (record o.rescue { unidirectional = true }))
-                          (λ n. alone s o.rescue n (record o.rescue { unidirectional = true }) refl (λ h. h) refl (λ p. still_plain o.rescue (record o.rescue { unidirectional = true }) refl refl refl refl refl refl refl refl p))),
+                          (λ n. alone s o.rescue n (record o.rescue { unidirectional = true }) refl (λ h. h) refl
+                          (λ p. still_plain o.rescue (record o.rescue { unidirectional = true }) refl refl refl refl refl refl refl refl p))),
                       tt,
                     ),
                   ),

@@ -116,7 +116,8 @@ over_goes s files lines e g load statuses state run on loaded stands grew (inr r
     run_goes s files g load statuses state ran.end run on loaded stands grew ran.runs
 
 -- a load behind the barrier, and what follows it
-loaded_goes : (o : Options) (s : Setting) (files : List ℕ → Option File) (lines : List (List ℕ)) (e : Ending) (d : Deeds) (load : List Call) (run : List Entry)
+loaded_goes : (o : Options) (s : Setting) (files : List ℕ → Option File) (lines : List (List ℕ)) (e : Ending) (d : Deeds)
+    (load : List Call) (run : List Entry)
     → s.has_mapfile ≡ true → IsLoad s.names.map (files s.names.map) load → d.gain.calls ≡ map Returned (settling_calls s ++ load) ++ run
     → Works rescue_faults (Look (MapfileRefused (files s.names.map)) ∷ Look (PlacesRefused o s.end) ∷ [])
     (Rescues s (mapfile_in s files) lines) e (with_calls d run)
@@ -128,7 +129,8 @@ loaded_goes o s files lines e d load run on loaded grew (inr (accepted, inl (ref
 loaded_goes o s files lines e d load run on loaded grew (inr (accepted, inr (placed, (none, (statuses, state, stands, runs))))) =
     over_goes s files lines e d.gain load statuses state run on loaded stands grew runs
 
-read_goes : (o : Options) (s : Setting) (files : List ℕ → Option File) (lines : List (List ℕ)) (e : Ending) (d : Deeds) (rest more : List Entry) → s.has_mapfile ≡ true
+read_goes : (o : Options) (s : Setting) (files : List ℕ → Option File) (lines : List (List ℕ)) (e : Ending) (d : Deeds) (rest more : List Entry)
+    → s.has_mapfile ≡ true
     → d.gain.calls ≡ opened s ++ rest → rest ≡ map Returned (barrier_calls s.names) ++ more
     → Works rescue_faults (Read (Some s.names.map) (files s.names.map) ∷ Look (MapfileRefused (files s.names.map)) ∷ Look (PlacesRefused o s.end) ∷ [])
     (Rescues s (mapfile_in s files) lines) e (with_calls d more)
@@ -142,7 +144,8 @@ read_goes o s files lines e d rest more on grew grew' (inr (inr (load, run, load
 
 -- what follows the opening of the output
 output_goes : (c : Command) (mapfile : Option (List ℕ)) (line : List ℕ) (end : ℕ) (maps : Maps)
-    (files : List ℕ → Option File) (lines : List (List ℕ)) (e : Ending) (d : Deeds) (rest : List Entry) → (setting_by c (option_map names_of mapfile) line end maps).has_mapfile ≡ true
+    (files : List ℕ → Option File) (lines : List (List ℕ)) (e : Ending) (d : Deeds) (rest : List Entry)
+    → (setting_by c (option_map names_of mapfile) line end maps).has_mapfile ≡ true
     → d.gain.calls ≡ opened (setting_by c (option_map names_of mapfile) line end maps) ++ rest
     → Works rescue_faults (load_rows mapfile (file_of mapfile files) ++ Look (PlacesRefused c.options end) ∷ [])
     (Rescues (setting_by c (option_map names_of mapfile) line end maps) (file_of mapfile files) lines) e (with_calls d rest)

@@ -290,7 +290,8 @@ stopped_saves r r1 r2 stop end heard p q spare o site2 source2 clock2 console2 c
     let saves' : LastSave (Some stop) r1 end o.site' site2 = saves_as (Some stop) r2 r1 end o.site' site2 still saves in
     to_end r end heard w.events spare (across_to o source2 site2 clock2 console3) d
     (save_ends r r1 w.events (Some stop) (length spare) end o.site.tells o.site.calls o.site' site2
-    (by (behind r w.events) on (behind_limit r r1 w.events None w.stands w.state within)) (setting_stands r r1 w.stands) (saves_on r r1 w.events stop w.state on) w.made.made
+    (by (behind r w.events) on (behind_limit r r1 w.events None w.stands w.state within)) (setting_stands r r1 w.stands)
+    (saves_on r r1 w.events stop w.state on) w.made.made
     (λ tells. rw same tells) saves')
     (says_all r r1 w.events end heard o.console o.console' console3 (setting_stands r r1 w.stands) w.state w.says
     (last_as r2 r1 end heard console2 o.console' console3 still unsaid last)

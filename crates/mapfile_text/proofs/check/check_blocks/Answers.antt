@@ -13,20 +13,23 @@ pub returns-in_err-block-clause-fault : goal.returns-in_err-block-clause-fault
 returns-in_err-block-clause-fault c =
     let line = c.in-Some.line in
     let q : c.from_residual.result ≡ Err c.in_err-block.field-0.0 = search rules in
-    let g : Comes c.args.mode (no_comments c.args.lines) c.loop-line.shape (line_of line ∷ no_comments line.behind) = rw c.in-Some.ensures at c.loop-line.invariant.comes in
+    let g : Comes c.args.mode (no_comments c.args.lines) c.loop-line.shape (line_of line ∷ no_comments line.behind) =
+    rw c.in-Some.ensures at c.loop-line.invariant.comes in
     rw q (comes-bad_block _ g c.in_err-block.ensures.fault)
 
 pub put-requires-clause-few : goal.put-requires-clause-few
 put-requires-clause-few c =
     let line = c.in-Some.line in
-    let g : Comes c.args.mode (no_comments c.args.lines) c.loop-line.shape (line_of line ∷ no_comments line.behind) = rw c.in-Some.ensures at c.loop-line.invariant.comes in
+    let g : Comes c.args.mode (no_comments c.args.lines) c.loop-line.shape (line_of line ∷ no_comments line.behind) =
+    rw c.in-Some.ensures at c.loop-line.invariant.comes in
     omega (arith, g.lines)
 
 pub loop-line-preserved : goal.loop-line-preserved
 loop-line-preserved c =
     let line = c.in-Some.line in
     let more = c.in_ok-put.ensures in
-    let g : Comes c.args.mode (no_comments c.args.lines) c.loop-line.shape (line_of line ∷ no_comments line.behind) = rw c.in-Some.ensures at c.loop-line.invariant.comes in
+    let g : Comes c.args.mode (no_comments c.args.lines) c.loop-line.shape (line_of line ∷ no_comments line.behind) =
+    rw c.in-Some.ensures at c.loop-line.invariant.comes in
     let left : no_comments c.lines_behind-lines.result ≡ no_comments line.behind =
     ap no_comments (c.lines_behind-lines.ensures ∙ ap (λ (l : OpenLine). l.behind) c.read_block.ensures.kept) in
     record {
@@ -39,10 +42,12 @@ pub returns-in_err-put-clause-fault : goal.returns-in_err-put-clause-fault
 returns-in_err-put-clause-fault c =
     let line = c.in-Some.line in
     let q : c.from_residual-in_err-put.result ≡ Err c.in_err-put.field-0.0 = search rules in
-    let g : Comes c.args.mode (no_comments c.args.lines) c.loop-line.shape (line_of line ∷ no_comments line.behind) = rw c.in-Some.ensures at c.loop-line.invariant.comes in
+    let g : Comes c.args.mode (no_comments c.args.lines) c.loop-line.shape (line_of line ∷ no_comments line.behind) =
+    rw c.in-Some.ensures at c.loop-line.invariant.comes in
     let place = c.in_err-put.ensures.fault in
     let number = ap (λ (l : OpenLine). l.number) c.read_block.ensures.kept in
-    rw q (comes-bad_place _ g place.0 c.in_ok-block.ensures.block (same_place c.args.mode c.loop-line.shape.end (line_of c.read_block.new.line) (line_of line) c.in_ok-block.block _ number place.1))
+    rw q (comes-bad_place _ g place.0 c.in_ok-block.ensures.block
+    (same_place c.args.mode c.loop-line.shape.end (line_of c.read_block.new.line) (line_of line) c.in_ok-block.block _ number place.1))
 
 pub returns-clause-lists : goal.returns-clause-lists
 returns-clause-lists c = comes-end (rw c.in_default.ensures at c.loop-line.invariant.comes)

@@ -33,7 +33,8 @@ loop-line-preserved c =
     ap no_comments (c.lines_behind-lines.ensures ∙ ap (λ (l : OpenLine). l.behind) c.read_block.ensures.kept) in
     record {
       state = more.state ∙ c.loop-line.invariant.state;
-      goes = subst (λ (ls : List Line). Goes c.args.mode (no_comments c.args.lines) c.put.new.self.listed c.put.new.self.first c.put.new.self.tiles.statuses ls) (sym left)
+      goes = subst (λ (ls : List Line).
+          Goes c.args.mode (no_comments c.args.lines) c.put.new.self.listed c.put.new.self.first c.put.new.self.tiles.statuses ls) (sym left)
           (goes-next map.listed c.put.new.self.listed map.first c.put.new.self.first map.tiles.statuses c.put.new.self.tiles.statuses c.in_ok-block.block
           more.listed g c.in_ok-block.ensures.block more.gap more.first more.statuses);
     }
@@ -47,7 +48,8 @@ returns-in_err-put-clause-fault c =
     rw c.in-Some.ensures at c.loop-line.invariant.goes in
     let number = ap (λ (l : OpenLine). l.number) c.read_block.ensures.kept in
     rw q (⊎_elim (λ out. inl out) (λ place. inr (goes-bad_place _ map.listed g place.0 c.in_ok-block.ensures.block
-    (same_place c.args.mode (length map.tiles.statuses) (line_of c.read_block.new.line) (line_of line) c.in_ok-block.block _ number place.1))) c.in_err-put.ensures.fault)
+    (same_place c.args.mode (length map.tiles.statuses) (line_of c.read_block.new.line) (line_of line) c.in_ok-block.block _ number place.1)))
+    c.in_err-put.ensures.fault)
 
 pub returns-clause-lists : goal.returns-clause-lists
 returns-clause-lists c = goes-end c.loop-line.map.listed (rw c.in_default.ensures at c.loop-line.invariant.goes)

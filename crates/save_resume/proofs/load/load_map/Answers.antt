@@ -16,8 +16,12 @@ returns-in_err-text-clause-read g c =
 pub returns-in_err-map_in-clause-read : goal.returns-in_err-map_in-clause-read
 returns-in_err-map_in-clause-read g c =
     let q = err_from_is_err_and c.from_residual-in_err-map_in.result c.from_residual-in_err-map_in.ensures.1 in
-    rw (q.1, q.2) (no_map_read _ _ c.args.mode _ _ (rw c.in-Some.is at c.in_ok-text.ensures.found) (short_items c.in-Some.text.len c.in-Some.text.items c.in-Some.text.ok.0 (rw c.in-Some.is at c.in_ok-text.ensures.short)) (search rules))
+    rw (q.1, q.2) (no_map_read _ _ c.args.mode _ _ (rw c.in-Some.is at c.in_ok-text.ensures.found)
+    (short_items c.in-Some.text.len c.in-Some.text.items c.in-Some.text.ok.0 (rw c.in-Some.is at c.in_ok-text.ensures.short))
+    (search rules))
 
 pub returns-clause-read : goal.returns-clause-read
 returns-clause-read g c =
-    map_read _ _ c.args.mode c.in-Some.text.items c.in_ok-map_in.field-0 (rw c.in-Some.is at c.in_ok-text.ensures.found) (short_items c.in-Some.text.len c.in-Some.text.items c.in-Some.text.ok.0 (rw c.in-Some.is at c.in_ok-text.ensures.short)) (search rules)
+    map_read _ _ c.args.mode c.in-Some.text.items c.in_ok-map_in.field-0 (rw c.in-Some.is at c.in_ok-text.ensures.found)
+    (short_items c.in-Some.text.len c.in-Some.text.items c.in-Some.text.ok.0 (rw c.in-Some.is at c.in_ok-text.ensures.short))
+    (search rules)
