@@ -31,6 +31,7 @@ use rescue_console::clock::Clock;
 use rescue_console::console::Console;
 use rescue_core::closing::{Closed, end_saved, last_shown};
 use rescue_core::counts::counts_at_first;
+use rescue_core::due::{is_line_due, is_save_due};
 use rescue_core::line::{say_last, say_phase};
 use rescue_core::settings::Settings;
 use rescue_domain::domain::Domain;
@@ -40,9 +41,6 @@ use save_resume::draft::SaveFault;
 use save_resume::names::Names;
 use save_resume::save::save;
 use std::marker::Model;
-
-/// So many milliseconds lie between two due saves.
-const SAVE_INTERVAL: u64 = 30000;
 
 /// A piece of a map: a position, and how many bytes from there on.
 #[derive(Clone, Copy, Debug, PartialEq, Eq)]
@@ -116,21 +114,9 @@ fn first_cursor(loaded: Option<MapState>, current: Current) -> u64
     }
 }
 
-/// Whether a line is due behind a piece, in this second.
-fn is_line_due(said: Option<Said>, current: Current, second: u64) -> bool
-    ensures { result ≡ is_line_due said current second }
-{
-    match said {
-        None => true,
-        Some(said) => said.current != current || said.second < second,
-    }
-}
-
 impl Tally {
-    ghost use Rattle.std.specs.Prelude.{◌≡◌, ℕ, ◌+◌, ◌/◌, ◌<◌, ◌^◌, nat_le, List};
+    ghost use Rattle.std.specs.Prelude.{◌≡◌, ◌+◌, ◌<◌, ◌^◌, List};
     ghost use Rattle.block_list.specs.declared.status.Status.{Status};
-    ghost use Rattle.rescue_rules.specs.Said.{is_line_due};
-    ghost use Rattle.rescue_rules.specs.Step.{save_interval};
     ghost use Rattle.sweep_rules.specs.Sweep.{Sweeper, sweep_over};
     ghost use Rattle.fill_generate.specs.SweepState.{sweep_at, moved};
 
@@ -168,7 +154,7 @@ impl Tally {
             written: self.written.saturating_add(written),
             began: self.began,
             now: after,
-            due_at: if self.is_save_due(after) {
+            due_at: if is_save_due(self.due_at, after) {
                 after
             } else {
                 self.due_at
@@ -184,13 +170,6 @@ impl Tally {
                 self.said
             },
         }
-    }
-
-    /// Whether a save is due behind a piece at this time.
-    fn is_save_due(self, after: u64) -> bool
-        ensures { result ≡ nat_le (self.due_at + save_interval) after }
-    {
-        after.saturating_sub(self.due_at) >= SAVE_INTERVAL
     }
 }
 
@@ -298,7 +277,7 @@ impl<T: Tiles> Sweeping<T> {
         let current = self.mode.current();
         let due = Due {
             line: is_line_due(self.tally.said, current, after / 1000),
-            save: self.tally.is_save_due(after),
+            save: is_save_due(self.tally.due_at, after),
         };
         self.tally = self.tally.behind(piece, current, written, after);
         due

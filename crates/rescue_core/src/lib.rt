@@ -4,6 +4,7 @@
 mod behind;
 pub mod closing;
 pub mod counts;
+pub mod due;
 mod gather;
 mod landing;
 mod limit;

@@ -1,15 +1,16 @@
 //! What a run has come to behind a read.
-ghost use Rattle.std.specs.Prelude.{◌≡◌, ℕ, ◌+◌, ◌*◌, ◌/◌, ◌<◌, ◌≤◌, ◌^◌, length};
+ghost use Rattle.std.specs.Prelude.{◌≡◌, ◌*◌, ◌/◌, ◌<◌, ◌^◌};
 ghost use Rattle.faulty_source.specs.Got.{count_of, is_end};
 ghost use Rattle.faulty_source.specs.Journal.{kept as kept_by};
-ghost use Rattle.rescue_rules.specs.Passes.{numbered, current_of};
-ghost use Rattle.rescue_rules.specs.Machine.{Machine, pass_of};
+ghost use Rattle.rescue_rules.specs.Passes.{current_of};
+ghost use Rattle.rescue_rules.specs.Machine.{Machine};
 ghost use Rattle.rescue_rules.specs.Said.{is_line_due as line_due};
 ghost use Rattle.rescue_rules.specs.Step.{Event, is_timely, earlier, step};
 ghost use Rattle.rescue_core.specs.RunState.{RunState, setting_in};
 ghost use Rattle.rescue_core.specs.Turning.{turn_of};
 ghost use Rattle.rescue_core.specs.TurnParts.{IsReadOf, end_met, tally_of};
 
+use crate::due::{is_line_due, is_save_due};
 use crate::settings::Settings;
 use crate::state::{Place, Tally};
 use crate::turn::Turn;
@@ -18,9 +19,6 @@ use mapfile_text::state::{Current, MapState};
 use rescue_rules::phase::Phase;
 use rescue_rules::report::Said;
 use transfer_token::token::Request;
-
-/// So many milliseconds lie between two due saves.
-const SAVE_INTERVAL: u64 = 30000;
 
 /// What a turn answers of what a read gave between two times, of which so many bytes were kept.
 pub(crate) fn turn_behind(
@@ -52,13 +50,6 @@ pub(crate) fn turn_behind(
     }
 }
 
-/// Whether a save is due behind a read at this time, by when the last one was.
-fn is_due(due_at: u64, after: u64) -> bool
-    ensures { (m : Machine) (e : Event) → m.due_at ≡ due_at → e.after ≡ after → result ≡ is_timely m e }
-{
-    after.saturating_sub(due_at) >= SAVE_INTERVAL
-}
-
 /// What is due behind a read.
 pub(crate) struct Due {
     /// Whether a line is due, and whether it is time for a save.
@@ -84,7 +75,7 @@ pub(crate) fn tally_behind(
 {
     let second = after / 1000;
     let speaks = is_line_due(tally.said, shown.current, second);
-    let saves = is_due(tally.due_at, after);
+    let saves = is_save_due(tally.due_at, after);
     if turn.failed() {
         tally.failed = tally.failed.saturating_add(1);
     } else {
@@ -106,16 +97,6 @@ pub(crate) fn tally_behind(
         tally.over = Some(earlier(tally.over, end));
     }
     Due { speaks, saves }
-}
-
-/// Whether a line is due behind an event, in this phase and this second.
-fn is_line_due(said: Option<Said>, current: Current, second: u64) -> bool
-    ensures { result ≡ line_due said current second }
-{
-    match said {
-        None => true,
-        Some(said) => said.current != current || said.second < second,
-    }
 }
 
 /// The earlier of two ends, if there is another.
