@@ -8,15 +8,8 @@ ghost use Rattle.ddrescue_cli.specs.Running.{lines_in};
 use block_list::tiles::NoMemory;
 use itoa::Buffer;
 use rescue_console::console::{Channel, Console};
+use rescue_sample::line::add;
 use std::alloc::Global;
-
-/// Adds a text.
-fn add(line: &mut Vec<u8>, text: &str) -> Result<(), NoMemory>
-    ensures { OnOk result (line.new.items ≡ line.old.items ++ text.now) }
-{
-    line.extend_from_slice(text.as_bytes())
-        .map_err(|_| NoMemory)
-}
 
 /// A byte of a name, as it is said.
 fn shown(byte: u8) -> u8

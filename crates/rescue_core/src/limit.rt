@@ -1,5 +1,5 @@
 //! The limits that are set to a run.
-ghost use Rattle.std.specs.Prelude.{◌≡◌, ◌-◌, Some, None, option_map, if◌then◌else◌};
+ghost use Rattle.std.specs.Prelude.{◌≡◌, ◌-◌, Some, None, if◌then◌else◌};
 ghost use Rattle.rescue_rules.specs.declared.stop.Limit.TheVariants.{TimedOut};
 ghost use Rattle.rescue_rules.specs.Step.{areas_allowed, is_beyond, limit_met, time_allowed};
 ghost use Rattle.rescue_core.specs.RunState.{RunState, Counted, setting_in};

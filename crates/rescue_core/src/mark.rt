@@ -1,11 +1,11 @@
 //! What a read changes in the map.
-ghost use Rattle.std.specs.Prelude.{◌≡◌, ℕ, ◌+◌, ◌-◌, ◌<◌, ◌≤◌, ◌^◌, ⊤, length};
+ghost use Rattle.std.specs.Prelude.{◌≡◌, ◌+◌, ◌-◌, ◌<◌, ◌≤◌, length};
 ghost use Rattle.block_list.specs.Map.{marked};
 ghost use Rattle.faulty_source.specs.Journal.{Reading};
 ghost use Rattle.transfer_token.specs.Tokens.{size_of, Spans, IsCut};
 ghost use Rattle.rescue_rules.specs.Machine.{Machine, pass_of};
 ghost use Rattle.rescue_rules.specs.Setting.{Setting};
-ghost use Rattle.rescue_rules.specs.Step.{map_after, rest_status, scraped, copies};
+ghost use Rattle.rescue_rules.specs.Step.{map_after, rest_status, scraped};
 ghost use Rattle.rescue_core.specs.RunState.{RunState, setting_in};
 ghost use Rattle.rescue_core.specs.TurnParts.{RunsAt, fetched_of, end_met, IsBackOf};
 

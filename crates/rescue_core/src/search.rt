@@ -1,5 +1,5 @@
 //! Where the next positions lie that are left of a domain and have a status, in both directions.
-ghost use Rattle.std.specs.Prelude.{◌≡◌, ℕ, ◌<◌, ◌≤◌, IfSome, IfNone};
+ghost use Rattle.std.specs.Prelude.{ℕ, ◌<◌, ◌≤◌, IfSome, IfNone};
 ghost use Rattle.block_list.specs.Places.{IsFirst, IsLast, IsRunUp, IsRunDown};
 ghost use Rattle.rescue_domain.specs.Live.{lives};
 ghost use Rattle.rescue_core.specs.Search.{IsMarked};

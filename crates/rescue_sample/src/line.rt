@@ -9,8 +9,8 @@ use itoa::Buffer;
 use rescue_rules::report::Counts;
 use std::alloc::Global;
 
-/// Adds a text.
-fn add(line: &mut Vec<u8>, text: &str) -> Result<(), NoMemory>
+/// Adds a text to a line.
+pub fn add(line: &mut Vec<u8>, text: &str) -> Result<(), NoMemory>
     ensures { OnOk result (line.new.items ≡ line.old.items ++ text.now) }
 {
     line.extend_from_slice(text.as_bytes())
