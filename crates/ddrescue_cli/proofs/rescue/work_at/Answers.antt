@@ -1,0 +1,25 @@
+use Rattle.rescue_command.specs.Command.{told_by}
+use Rattle.ddrescue_cli.specs.declared.aim.Aim.TheVariants.{Rescue as ToRescue, Fill as ToFill, Generate as ToGenerate}
+use Rattle.ddrescue_cli.proofs.runs.SampledLemmas.{sample_kept}
+use Rattle.ddrescue_cli.proofs.promise.TaskLemmas.{asked_task, never_sampled}
+use Rattle.ddrescue_cli.proofs.rescue.work_at.Goals as goal
+
+pub returns-in-Sample-clause-promise : goal.returns-in-Sample-clause-promise
+returns-in-Sample-clause-promise g c = λ now heard says.
+    sample_kept _ _ _ _ _ _ _ _ c.in-Sample.kib c.in-Sample.quiet _ heard
+    (asked_task _ _ _ c.in-Sample.is c.requires.asked) c.tell_sample.ensures c.requires.no_draft says
+
+pub returns-in-Rescue-clause-apart : goal.returns-in-Rescue-clause-apart
+returns-in-Rescue-clause-apart g c = λ kib quiet asks.
+    absurd (never_sampled _ ToRescue (told_by c.in-Rescue.command) (asked_task _ _ _ c.in-Rescue.is c.requires.asked) kib
+    quiet asks)
+
+pub returns-in-Fill-clause-apart : goal.returns-in-Fill-clause-apart
+returns-in-Fill-clause-apart g c = λ kib quiet asks.
+    absurd (never_sampled _ (ToFill c.in-Fill.types) (told_by c.in-Fill.command)
+    (asked_task _ _ _ c.in-Fill.is c.requires.asked) kib quiet asks)
+
+pub returns-in-Generate-clause-apart : goal.returns-in-Generate-clause-apart
+returns-in-Generate-clause-apart g c = λ kib quiet asks.
+    absurd (never_sampled _ ToGenerate (told_by c.in-Generate.command)
+    (asked_task _ _ _ c.in-Generate.is c.requires.asked) kib quiet asks)
