@@ -1,5 +1,5 @@
 -- The rescue of a sample: what it asks for, its step, and what is said of it.
-use Rattle.std.specs.Prelude.{◌≡◌, ℕ, Bool, true, IsTrue, List, [], ◌∷◌, ◌++◌, length, replicate, Option, None, codes}
+use Rattle.std.specs.Prelude.{◌≡◌, ℕ, Bool, true, IsTrue, List, [], ◌∷◌, ◌++◌, length, replicate, None, codes}
 use Rattle.block_list.specs.declared.status.Status.TheVariants.{NonTried}
 use Rattle.faulty_source.specs.SourceState.{SourceState}
 use Rattle.rescue_console.specs.ClockState.{ClockState, Reads as ReadsClock}

@@ -1,5 +1,5 @@
 //! Fill mode: a pattern is written to the outfile where the mapfile has some statuses.
-ghost use Rattle.std.specs.Prelude.{◌≡◌, ℕ, ◌<◌, ◌≤◌, ◌^◌, true, false, is_some, length, Option};
+ghost use Rattle.std.specs.Prelude.{◌≡◌, ◌<◌, true, false, is_some, length, Option};
 ghost use Rattle.block_list.specs.Tiled.{Tiled};
 ghost use Rattle.faulty_source.specs.SourceState.{Keeps as SourceKeeps};
 ghost use Rattle.crash_site.specs.SiteState.{Keeps as SiteKeeps};

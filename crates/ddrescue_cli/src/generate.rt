@@ -1,5 +1,5 @@
 //! Generate mode: a mapfile is made of what the outfile holds.
-ghost use Rattle.std.specs.Prelude.{◌≡◌, ℕ, ◌<◌, ◌≤◌, ◌^◌, true, false, is_some, length, Option};
+ghost use Rattle.std.specs.Prelude.{◌≡◌, ◌<◌, ◌^◌, true, false, is_some, Option};
 ghost use Rattle.block_list.specs.Tiled.{Tiled};
 ghost use Rattle.faulty_source.specs.SourceState.{Keeps as SourceKeeps};
 ghost use Rattle.crash_site.specs.SiteState.{Keeps as SiteKeeps};

@@ -1,7 +1,6 @@
 //! The pattern of fill mode: the infile's front, over and over.
-ghost use Rattle.std.specs.Prelude.{◌≡◌, ℕ, ◌<◌, ◌≤◌, ◌^◌, ◌%◌, true, length, slice_get, OnOk, IfOk, IfErr};
-ghost use Rattle.faulty_source.specs.SourceState.{Keeps, Stays};
-ghost use Rattle.ddrescue_cli.specs.declared.ending.Ending.TheVariants.{NoMemory as OutOfMemory};
+ghost use Rattle.std.specs.Prelude.{◌≡◌, ℕ, ◌<◌, ◌≤◌, ◌^◌, ◌%◌, true, length, slice_get};
+ghost use Rattle.faulty_source.specs.SourceState.{Stays};
 ghost use Rattle.ddrescue_cli.specs.Pattern.{PatternCause, ReadsPattern, TakesPattern, taken_as};
 
 use crate::ending::Ending;

@@ -1,5 +1,5 @@
 //! What fill mode and generate mode begin with.
-ghost use Rattle.std.specs.Prelude.{◌≡◌, ℕ, ◌<◌, ◌≤◌, ◌^◌, List, Option, IfOk, length};
+ghost use Rattle.std.specs.Prelude.{ℕ, ◌<◌, ◌≤◌, ◌^◌, List, Option, IfOk, length};
 ghost use Rattle.block_list.specs.Tiled.{Tiled};
 ghost use Rattle.block_list.specs.declared.status.Status.{Status};
 ghost use Rattle.mapfile_text.specs.declared.state.MapState.{MapState as State};

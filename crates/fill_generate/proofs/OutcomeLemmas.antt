@@ -1,5 +1,5 @@
 -- A piece by its outcome.
-use Rattle.std.proofs.Common.{◌≡◌, ℕ, ◌+◌, Bool, true, false, List, [], ◌∷◌, length, Some, None, Result, Ok, Err, OnOk, IfErr, refl, sym, ap, subst, ◌∙◌}
+use Rattle.std.proofs.Common.{◌≡◌, ℕ, ◌+◌, Bool, true, false, List, [], ◌∷◌, length, None, Result, Ok, Err, OnOk, IfErr, refl, sym, ap, subst, ◌∙◌}
 use Rattle.std.proofs.lemmas.Bool.{le-leb}
 use Rattle.crash_site.specs.Calls.{image_read}
 use Rattle.crash_site.specs.SiteState.{SiteState, Keeps as SiteKeeps, Stays as SiteStays, Makes}

@@ -1,5 +1,5 @@
 //! Where the positions lie that a sweep takes.
-ghost use Rattle.std.specs.Prelude.{◌≡◌, ℕ, ◌<◌, ◌≤◌, ◌^◌, true, false, length, IfSome, IfNone};
+ghost use Rattle.std.specs.Prelude.{◌≡◌, ℕ, ◌<◌, ◌≤◌, ◌^◌, false, length, IfSome, IfNone};
 ghost use Rattle.block_list.specs.Places.{IsFirst};
 ghost use Rattle.rescue_domain.specs.Parts.{covers};
 ghost use Rattle.fill_generate.specs.Modes.{is_taken, IsTakenIn};

@@ -1,7 +1,7 @@
 //! A sweep between its pieces, and what each piece changes of it.
-ghost use Rattle.std.specs.Prelude.{◌≡◌, ℕ, ◌+◌, ◌/◌, ◌<◌, ◌≤◌, ◌^◌, true, false, nat_le, [], ◌∷◌, Some, None, is_none, length, if◌then◌else◌, IfOk, IfErr, IfSome, IfNone, OnOk, OnErr};
+ghost use Rattle.std.specs.Prelude.{◌≡◌, ◌+◌, ◌/◌, ◌<◌, ◌^◌, true, false, nat_le, [], ◌∷◌, Some, None, length, if◌then◌else◌, IfErr, IfSome, IfNone, OnOk};
 ghost use Rattle.crash_site.specs.SiteState.{Keeps as SiteKeeps, Stays as SiteStays};
-ghost use Rattle.rescue_console.specs.ClockState.{Keeps as ClockKeeps, Reads as ReadsClock};
+ghost use Rattle.rescue_console.specs.ClockState.{Keeps as ClockKeeps};
 ghost use Rattle.rescue_console.specs.Speaking.{SpeaksOn, out_pieces};
 ghost use Rattle.mapfile_text.specs.declared.heading.Program.TheVariants.{Ddrescue};
 ghost use Rattle.save_resume.specs.Saving.{save_calls, Saves};
@@ -13,7 +13,7 @@ ghost use Rattle.rescue_rules.specs.Snapshots.{text_of};
 ghost use Rattle.rescue_rules.specs.Lines.{phase_front, last_front, report_text, is_done};
 ghost use Rattle.rescue_core.specs.Closing.{MayClose, drafting_after};
 ghost use Rattle.rescue_core.specs.RunState.{IsSound, Suits, HasPlaces};
-ghost use Rattle.sweep_rules.specs.Sweep.{Sweeper, sweep_over, sweep_from, sweep_snapshot, sweep_end, IsSweptOut};
+ghost use Rattle.sweep_rules.specs.Sweep.{Sweeper, sweep_over, sweep_from, sweep_snapshot, IsSweptOut};
 ghost use Rattle.sweep_rules.specs.SweepWork.{sweep_report};
 ghost use Rattle.fill_generate.specs.Modes.{current_in, IsOf};
 ghost use Rattle.fill_generate.specs.SweepState.{SweepState, setting_of, sweep_at, state_at, standing, moved, IsSweeping};

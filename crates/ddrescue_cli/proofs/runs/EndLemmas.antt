@@ -38,7 +38,7 @@ use Rattle.rescue_rules.specs.Work.{EndsBy, Ends, end_of, IsSaved, IsUnsaved, Is
 use Rattle.rescue_rules.proofs.ReadyLemmas.{ready_here, spent_request}
 use Rattle.rescue_rules.proofs.SearchLemmas.{request_seen}
 use Rattle.rescue_core.specs.RunState.{RunState, names_in, setting_in}
-use Rattle.rescue_core.specs.Turning.{IsEvent, stepped, move_by, Halted, Starved, Lost, Unwritten, Unsaved, Limited, move_pieces}
+use Rattle.rescue_core.specs.Turning.{IsEvent, stepped, move_by, Halted, Starved, Lost, Unwritten, Unsaved, Limited}
 use Rattle.rescue_core.specs.Closing.{LastSave, Saved, Unsaved as UnsavedEnd, Closes, closing_snapshot, end_of as core_end, last_pieces}
 use Rattle.rescue_core.specs.Across.{Across}
 use Rattle.copy_passes.specs.Turns.{IsFrom, IsAlike, moved_to, Went, WentUpTo}

@@ -1,5 +1,5 @@
 -- What a run that stopped leaves of the objects' counts, and of its draft.
-use Rattle.std.proofs.Common.{◌≡◌, ℕ, Bool, false, Option, Some, None, refl, sym, ap, subst, ◌∙◌}
+use Rattle.std.proofs.Common.{◌≡◌, ℕ, false, Some, refl, sym, ap, subst, ◌∙◌}
 use Rattle.fault_count.specs.Counts.{raised}
 use Rattle.faulty_source.specs.SourceState.{SourceState}
 use Rattle.crash_site.specs.declared.site.SiteCall.{SiteCall}
@@ -7,13 +7,12 @@ use Rattle.crash_site.specs.SiteState.{SiteState}
 use Rattle.rescue_rules.specs.declared.stop.Stop.{Stop}
 use Rattle.rescue_rules.specs.declared.stop.Stop.TheVariants.{SourceLost as InputLost, Site, LimitMet as Limited, NoMemory as NoRoom}
 use Rattle.rescue_rules.specs.declared.stop.RunEnd.{RunEnd}
-use Rattle.rescue_rules.specs.declared.stop.RunEnd.TheVariants.{Stopped, SaveFailed}
+use Rattle.rescue_rules.specs.declared.stop.RunEnd.TheVariants.{Stopped}
 use Rattle.rescue_core.specs.RunState.{RunState}
 use Rattle.rescue_core.specs.Across.{Across}
 use Rattle.rescue_core.specs.Turning.{Starved, Lost, Unwritten, Limited as LimitedTurn, Unsaved as UnsavedTurn}
 use Rattle.rescue_core.specs.Closing.{LastSave, Saved, Unsaved, Closes, drafting_after}
 use Rattle.copy_passes.specs.Turns.{WentUpTo, ObjectsStay}
-use Rattle.ddrescue_cli.specs.declared.ending.Ending.{Ending}
 use Rattle.ddrescue_cli.specs.declared.ending.Ending.TheVariants.{SiteFault}
 use Rattle.ddrescue_cli.specs.Answers.{Causes, Rises, drafting_left, unchanged}
 use Rattle.ddrescue_cli.specs.Work.{answer_of}

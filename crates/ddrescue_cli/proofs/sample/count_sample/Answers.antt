@@ -1,5 +1,5 @@
 use Rattle.std.proofs.Common.{◌∙◌, None, ap}
-use Rattle.rescue_command.specs.Command.{Command, told_by}
+use Rattle.rescue_command.specs.Command.{told_by}
 use Rattle.mapfile_text.specs.HeadingLines.{HeadingLines}
 use Rattle.ddrescue_cli.specs.Steps.{maps_read}
 use Rattle.ddrescue_cli.proofs.runs.SampledLemmas.{names_alike, sample_counted, sample_placed}

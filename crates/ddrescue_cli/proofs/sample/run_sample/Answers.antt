@@ -1,4 +1,4 @@
-use Rattle.std.proofs.Common.{rules, true}
+use Rattle.std.proofs.Common.{rules}
 use Rattle.ddrescue_cli.proofs.runs.SampledLemmas.{line_made}
 use Rattle.ddrescue_cli.proofs.sample.run_sample.Goals as goal
 

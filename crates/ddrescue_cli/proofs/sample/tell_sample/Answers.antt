@@ -1,4 +1,3 @@
-use Rattle.std.proofs.Common.{refl, inr, ◌∷◌, []}
 use Rattle.ddrescue_cli.proofs.runs.SampledLemmas.{told_done}
 use Rattle.ddrescue_cli.proofs.sample.tell_sample.Goals as goal
 
