@@ -7,25 +7,25 @@ use Rattle.std.proofs.lemmas.List.Sums.{sum_by-cons}
 use Rattle.std.proofs.Math.Bool.{and-true}
 use Rattle.block_list.specs.Areas.{begins_area, AreApart, holds_one, AreasAreIntervals, AreasChangeWithin}
 
--- runs of a set from a place on, the place below which isn't of the set
+-- ranges of a set from a place on, the place below which isn't of the set
 record Outside (set : ℕ → Bool) (a n : ℕ) : Type 0 where
-  runs : List (ℕ × ℕ)
-  are : AreApart a runs
-  below : (x : ℕ) → x < a → holds_one runs x ≡ false
-  above : (x : ℕ) → a ≤ x → holds_one runs x ≡ set x
-  count : length runs ≡ count_by (begins_area set) (range_with_len a n)
+  ranges : List (ℕ × ℕ)
+  are : AreApart a ranges
+  below : (x : ℕ) → x < a → holds_one ranges x ≡ false
+  above : (x : ℕ) → a ≤ x → holds_one ranges x ≡ set x
+  count : length ranges ≡ count_by (begins_area set) (range_with_len a n)
 
--- the same where a run has begun below: it goes up to an end
+-- the same where a range has begun below: it goes up to an end
 record Inside (set : ℕ → Bool) (a n : ℕ) : Type 0 where
   end : ℕ
   from : a ≤ end
-  runs : List (ℕ × ℕ)
-  are : AreApart (end + 1) runs
-  below : (x : ℕ) → x < a → holds_one runs x ≡ false
-  above : (x : ℕ) → a ≤ x → (nat_lt x end || holds_one runs x) ≡ set x
-  count : length runs ≡ count_by (begins_area set) (range_with_len a n)
+  ranges : List (ℕ × ℕ)
+  are : AreApart (end + 1) ranges
+  below : (x : ℕ) → x < a → holds_one ranges x ≡ false
+  above : (x : ℕ) → a ≤ x → (nat_lt x end || holds_one ranges x) ≡ set x
+  count : length ranges ≡ count_by (begins_area set) (range_with_len a n)
 
-weaken : (low low' : ℕ) (runs : List (ℕ × ℕ)) → low ≤ low' → AreApart low' runs → AreApart low runs
+weaken : (low low' : ℕ) (ranges : List (ℕ × ℕ)) → low ≤ low' → AreApart low' ranges → AreApart low ranges
 weaken low low' [] le are = tt
 weaken low low' (r ∷ rs) le are = (omega (arith, le, are.0), are.1, are.2)
 
@@ -68,7 +68,7 @@ place_up P a here up x le =
 
 end_out : (set : ℕ → Bool) (a : ℕ) → ((x : ℕ) → set x ≡ true → x < a) → Outside set a 0
 end_out set a bound = record {
-  runs = [];
+  ranges = [];
   are = tt;
   below = λ x lt. refl;
   above = λ x le. sym (false_from_ne_true (set x) (λ t. omega (arith, bound x t, le)));
@@ -79,7 +79,7 @@ end_in : (set : ℕ → Bool) (a : ℕ) → ((x : ℕ) → set x ≡ true → x 
 end_in set a bound = record {
   end = a;
   from = omega arith;
-  runs = [];
+  ranges = [];
   are = tt;
   below = λ x lt. refl;
   above = λ x le. or_from (nat_lt x a) false (le-ltb x a le) refl ∙ sym (false_from_ne_true (set x) (λ t. omega (arith, bound x t, le)));
@@ -90,10 +90,10 @@ end_in set a bound = record {
 out_out : (set : ℕ → Bool) (a n : ℕ) → set a ≡ false → begins_area set a ≡ false → Outside set (a + 1) n
     → Outside set a (suc n)
 out_out set a n f b o = record {
-  runs = o.runs;
-  are = weaken a (a + 1) o.runs (omega arith) o.are;
+  ranges = o.ranges;
+  are = weaken a (a + 1) o.ranges (omega arith) o.are;
   below = λ x lt. o.below x (omega (arith, lt));
-  above = place_up (λ x. holds_one o.runs x ≡ set x) a (o.below a (omega arith) ∙ sym f) o.above;
+  above = place_up (λ x. holds_one o.ranges x ≡ set x) a (o.below a (omega arith) ∙ sym f) o.above;
   count = o.count ∙ sym (count_no (begins_area set) a n b);
 }
 
@@ -102,12 +102,12 @@ out_in : (set : ℕ → Bool) (a n : ℕ) → set a ≡ false → begins_area se
 out_in set a n f b o = record {
   end = a;
   from = omega arith;
-  runs = o.runs;
+  ranges = o.ranges;
   are = o.are;
   below = λ x lt. o.below x (omega (arith, lt));
-  above = place_up (λ x. (nat_lt x a || holds_one o.runs x) ≡ set x) a
-      (or_from (nat_lt a a) (holds_one o.runs a) (le-ltb a a (omega arith)) (o.below a (omega arith)) ∙ sym f)
-      (λ x le. ap (λ (c : Bool). c || holds_one o.runs x) (le-ltb x a (omega (arith, le))) ∙ o.above x le);
+  above = place_up (λ x. (nat_lt x a || holds_one o.ranges x) ≡ set x) a
+      (or_from (nat_lt a a) (holds_one o.ranges a) (le-ltb a a (omega arith)) (o.below a (omega arith)) ∙ sym f)
+      (λ x le. ap (λ (c : Bool). c || holds_one o.ranges x) (le-ltb x a (omega (arith, le))) ∙ o.above x le);
   count = o.count ∙ sym (count_no (begins_area set) a n b);
 }
 
@@ -117,26 +117,26 @@ in_in : (set : ℕ → Bool) (a n : ℕ) → set a ≡ true → begins_area set 
 in_in set a n t b i = record {
   end = i.end;
   from = omega (arith, i.from);
-  runs = i.runs;
+  ranges = i.ranges;
   are = i.are;
   below = λ x lt. i.below x (omega (arith, lt));
-  above = place_up (λ x. (nat_lt x i.end || holds_one i.runs x) ≡ set x) a
-      (or_left (nat_lt a i.end) (holds_one i.runs a) (lt-ltb a i.end (omega (arith, i.from))) ∙ sym t) i.above;
+  above = place_up (λ x. (nat_lt x i.end || holds_one i.ranges x) ≡ set x) a
+      (or_left (nat_lt a i.end) (holds_one i.ranges a) (lt-ltb a i.end (omega (arith, i.from))) ∙ sym t) i.above;
   count = i.count ∙ sym (count_no (begins_area set) a n b);
 }
 
 in_out : (set : ℕ → Bool) (a n : ℕ) → set a ≡ true → begins_area set a ≡ true → Inside set (a + 1) n
     → Outside set a (suc n)
 in_out set a n t b i = record {
-  runs = (a, i.end) ∷ i.runs;
+  ranges = (a, i.end) ∷ i.ranges;
   are = (omega arith, omega (arith, i.from), i.are);
   below = λ x lt.
-      or_from (nat_le a x && nat_lt x i.end) (holds_one i.runs x) (and_left (nat_le a x) (nat_lt x i.end) (lt-leb a x lt))
+      or_from (nat_le a x && nat_lt x i.end) (holds_one i.ranges x) (and_left (nat_le a x) (nat_lt x i.end) (lt-leb a x lt))
       (i.below x (omega (arith, lt)));
-  above = place_up (λ x. ((nat_le a x && nat_lt x i.end) || holds_one i.runs x) ≡ set x) a
-      (or_left (nat_le a a && nat_lt a i.end) (holds_one i.runs a)
+  above = place_up (λ x. ((nat_le a x && nat_lt x i.end) || holds_one i.ranges x) ≡ set x) a
+      (or_left (nat_le a a && nat_lt a i.end) (holds_one i.ranges a)
       (and_from (nat_le a a) (nat_lt a i.end) (le-leb a a (omega arith)) (lt-ltb a i.end (omega (arith, i.from)))) ∙ sym t)
-      (λ x le. ap (λ (c : Bool). (c && nat_lt x i.end) || holds_one i.runs x) (le-leb a x (omega (arith, le))) ∙ i.above x le);
+      (λ x le. ap (λ (c : Bool). (c && nat_lt x i.end) || holds_one i.ranges x) (le-leb a x (omega (arith, le))) ∙ i.above x le);
   count = omega (arith, i.count, count_yes (begins_area set) a n b);
 }
 
@@ -158,7 +158,7 @@ both set (suc n) a bound =
 pub areas_are_intervals : AreasAreIntervals
 areas_are_intervals set end bound =
     let o : Outside set 0 end = (both set end 0 (λ x t. omega (arith, bound x t))).0 refl in
-    (o.runs, o.are, (λ x. o.above x (omega arith)), o.count)
+    (o.ranges, o.are, (λ x. o.above x (omega arith)), o.count)
 
 -- counts over ranges
 pub count_same : (f g : ℕ → Bool) (n a : ℕ) → ((x : ℕ) → a ≤ x → x < a + n → f x ≡ g x)

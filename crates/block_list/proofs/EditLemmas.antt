@@ -10,7 +10,7 @@ use Rattle.block_list.specs.Map.{marked}
 use Rattle.block_list.specs.Stretches.{covered, back_of}
 use Rattle.block_list.specs.Tiling.{AreTiles, IsMerged}
 use Rattle.block_list.specs.Push.{EndsWith}
-use Rattle.block_list.specs.Edits.{IsTiled, IsPlace, IsCut, IsJoinedBefore, IsJoinedBehind, start_of, front_of, cut_at}
+use Rattle.block_list.specs.Edits.{IsTiled, IsPlace, IsBlockCut, IsJoinedBefore, IsJoinedBehind, start_of, front_of, cut_at}
 use Rattle.block_list.proofs.TileLemmas.{covered-append, length_first, tiles_join, tiles_split, tiled_from_tiles, parts_of, start_le_end, start_mono, index_before, start_more, start_all, tile_at, tile_read, front_statuses, back_statuses}
 use Rattle.block_list.proofs.StretchLemmas.{block_has}
 use Rattle.block_list.proofs.ApartLemmas.{AreApart, apart_from_merged, merged_from_apart, apart_left, apart_right, apart_meet, apart_last, apart_first, apart_push, merged_front, merged_back}
@@ -71,7 +71,7 @@ no_later xs b ys n at h u =
     (λ (l : n ≤ length xs). l) (cases_lt (length xs) n)
 
 divided : (xs : List Block) (b : Block) (ys : List Block) (at i : ℕ) → i ≡ length xs + 1 → IsTiled (xs ++ b ∷ ys)
-    → b.pos < at → at < b.pos + b.size → IsCut (xs ++ b ∷ ys) (xs ++ front_of b at ∷ back_of b at ∷ ys) at i
+    → b.pos < at → at < b.pos + b.size → IsBlockCut (xs ++ b ∷ ys) (xs ++ front_of b at ∷ back_of b at ∷ ys) at i
 divided xs b ys at i e t l u =
     let f : Block = front_of b at in
     let g : Block = back_of b at in
@@ -106,17 +106,17 @@ divided xs b ys at i e t l u =
 -- the cut of a block that was read
 pub cut_read : (bs new : List Block) (at k i : ℕ) (b : Block) → i ≡ k + 1 → IsTiled bs → k < length bs
     → b ≡ get_or bs k b → b.pos < at → at < b.pos + b.size → new ≡ cut_at bs k (front_of b at) (back_of b at)
-    → IsCut bs new at i
+    → IsBlockCut bs new at i
 cut_read bs new at k i b e t h q l u n =
     let s : take k bs ++ b ∷ drop (k + 1) bs ≡ bs =
     ap (λ r. take k bs ++ r) (ap (λ z. z ∷ drop (k + 1) bs) q ∙ sym (drop_more bs k b h)) ∙ take-append-drop k bs in
     let m : new ≡ take k bs ++ front_of b at ∷ back_of b at ∷ drop (k + 1) bs = n ∙ cut_at_is bs k (front_of b at) (back_of b at) h in
     let w : i ≡ length (take k bs) + 1 = omega (arith, e, length-take-le k bs (omega arith)) in
-    let P : List Block → Type 0 = λ r. IsCut r (take k bs ++ front_of b at ∷ back_of b at ∷ drop (k + 1) bs) at i in
+    let P : List Block → Type 0 = λ r. IsBlockCut r (take k bs ++ front_of b at ∷ back_of b at ∷ drop (k + 1) bs) at i in
     rw m (subst P s (divided (take k bs) b (drop (k + 1) bs) at i w (subst IsTiled (sym s) t) l u))
 
 -- a block already begins there, or it is the end
-pub uncut : (bs : List Block) (at i : ℕ) → IsTiled bs → i ≤ length bs → start_of bs i ≡ at → IsCut bs bs at i
+pub uncut : (bs : List Block) (at i : ℕ) → IsTiled bs → i ≤ length bs → start_of bs i ≡ at → IsBlockCut bs bs at i
 uncut bs at i t h e = record {
   tiled = t;
   same = refl;

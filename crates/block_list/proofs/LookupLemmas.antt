@@ -7,10 +7,10 @@ use Rattle.std.proofs.lemmas.List.Sums.{count_by-le-length, sum_by-append}
 use Rattle.std.proofs.lemmas.Option.{slice_get_read, slice_get_within}
 use Rattle.block_list.specs.declared.status.Status.{Status}
 use Rattle.block_list.specs.declared.block.Block.{Block}
-use Rattle.block_list.specs.declared.block.Run.{Run}
+use Rattle.block_list.specs.declared.block.Range.{Range}
 use Rattle.block_list.specs.Status.{same}
 use Rattle.block_list.specs.Map.{Has}
-use Rattle.block_list.specs.Places.{IsFirst, IsLast, IsRunUp, IsRunDown}
+use Rattle.block_list.specs.Places.{IsFirst, IsLast, IsRangeUp, IsRangeDown}
 use Rattle.block_list.specs.Stretches.{covered, IsStretch, IsStretchAt}
 use Rattle.block_list.specs.Tiling.{IsMerged}
 use Rattle.block_list.specs.Edits.{IsTiled, IsPlace, start_of}
@@ -126,10 +126,10 @@ found_first bs i from s b t m h e c u q =
           ⊎_elim (λ (o : y < b.pos). absurd (c.clear y l (omega (arith, r.begins)) v)) (λ (o : b.pos ≤ y). omega arith) (cases_lt y b.pos);
     }
 
-pub found_run_up : (bs : List Block) (i from : ℕ) (s : Status) (b : Block) → IsTiled bs → IsMerged bs → i < length bs
+pub found_range_up : (bs : List Block) (i from : ℕ) (s : Status) (b : Block) → IsTiled bs → IsMerged bs → i < length bs
     → b ≡ get_or bs i b → from < start_of bs (i + 1) → b.status ≡ s
-    → IsRunUp (Has (flat_map covered bs) s) (max from b.pos) (b.pos + b.size)
-found_run_up bs i from s b t m h e u q =
+    → IsRangeUp (Has (flat_map covered bs) s) (max from b.pos) (b.pos + b.size)
+found_range_up bs i from s b t m h e u q =
     let r = tile_read bs i b t h e in
     let k = stretch_read bs i b t m h e in
     record {
@@ -152,10 +152,10 @@ found_last bs i before s b t m h e c u q =
           (λ (o : b.pos + b.size ≤ y). absurd (c.clear y (omega (arith, r.ends)) l v)) (cases_lt y (b.pos + b.size));
     }
 
-pub found_run_down : (bs : List Block) (i before : ℕ) (s : Status) (b : Block) → IsTiled bs → IsMerged bs
+pub found_range_down : (bs : List Block) (i before : ℕ) (s : Status) (b : Block) → IsTiled bs → IsMerged bs
     → i < length bs → b ≡ get_or bs i b → start_of bs i < before → b.status ≡ s
-    → IsRunDown (Has (flat_map covered bs) s) b.pos (min before (b.pos + b.size))
-found_run_down bs i before s b t m h e u q =
+    → IsRangeDown (Has (flat_map covered bs) s) b.pos (min before (b.pos + b.size))
+found_range_down bs i before s b t m h e u q =
     let r = tile_read bs i b t h e in
     let k = stretch_read bs i b t m h e in
     record {
@@ -175,17 +175,17 @@ last_within map s before end k = record {
 }
 
 -- a place behind the map's end, whatever was found
-pub last_of : (map : List Status) (s : Status) (before : ℕ) (r : Option Run)
-    → IfSome r (λ run. IsLast (Has map s) (min before (length map)) run.to)
-    → IfSome r (λ run. IsLast (Has map s) before run.to)
+pub last_of : (map : List Status) (s : Status) (before : ℕ) (r : Option Range)
+    → IfSome r (λ range. IsLast (Has map s) (min before (length map)) range.to)
+    → IfSome r (λ range. IsLast (Has map s) before range.to)
 last_of map s before None h = h
-last_of map s before (Some run) h = last_within map s before run.to h
+last_of map s before (Some range) h = last_within map s before range.to h
 
-pub none_of : (map : List Status) (s : Status) (before : ℕ) (r : Option Run)
+pub none_of : (map : List Status) (s : Status) (before : ℕ) (r : Option Range)
     → IfNone r ((x : ℕ) → x < min before (length map) → Has map s x → ⊥)
     → IfNone r ((x : ℕ) → x < before → Has map s x → ⊥)
 none_of map s before None h = λ x l v. h x (omega (arith, slice_get_within map x s v)) v
-none_of map s before (Some run) h = h
+none_of map s before (Some range) h = h
 
 -- counts of a list's parts
 count-append : (p : Status → Bool) (xs ys : List Status) → count_by p (xs ++ ys) ≡ count_by p xs + count_by p ys

@@ -8,7 +8,7 @@ use Rattle.block_list.specs.declared.status.Status.{Status}
 use Rattle.block_list.specs.declared.status.Status.TheVariants.{NonTried, NonTrimmed, NonScraped, BadSector, Finished}
 use Rattle.block_list.specs.declared.types.TypeSet.{TypeSet}
 use Rattle.block_list.specs.Status.{symbol, status_of_symbol}
-use Rattle.block_list.specs.Types.{is_types, lists, has_type, AreTypes, TypesAreCharacters}
+use Rattle.block_list.specs.Types.{is_types, has_symbol, has_type, AreTypes, TypesAreCharacters}
 
 pub symbol_is_read : (s : Status) → status_of_symbol (symbol s) ≡ Some s
 symbol_is_read NonTried = refl
@@ -61,14 +61,14 @@ test_from_types (c ∷ cs) t =
 
 abbrev set_of : List ℕ → TypeSet
 set_of text = record {
-  non_tried = lists text NonTried;
-  non_trimmed = lists text NonTrimmed;
-  non_scraped = lists text NonScraped;
-  bad_sector = lists text BadSector;
-  finished = lists text Finished;
+  non_tried = has_symbol text NonTried;
+  non_trimmed = has_symbol text NonTrimmed;
+  non_scraped = has_symbol text NonScraped;
+  bad_sector = has_symbol text BadSector;
+  finished = has_symbol text Finished;
 }
 
-has_listed : (text : List ℕ) (s : Status) → has_type (set_of text) s ≡ lists text s
+has_listed : (text : List ℕ) (s : Status) → has_type (set_of text) s ≡ has_symbol text s
 has_listed text NonTried = refl
 has_listed text NonTrimmed = refl
 has_listed text NonScraped = refl
@@ -78,7 +78,7 @@ has_listed text Finished = refl
 pub types_are_characters : TypesAreCharacters
 types_are_characters text =
     let P : Bool → Type 0 = λ v. MatchOption (cond v (Some (set_of text)) None) (AreTypes text → ⊥)
-    (λ t. AreTypes text × ((s : Status) → has_type t s ≡ lists text s)) in
+    (λ t. AreTypes text × ((s : Status) → has_type t s ≡ has_symbol text s)) in
     let k : (v : Bool) → is_types text ≡ v → P v = λ v. elim v as (λ v. is_types text ≡ v → P v) [
       | true ↦ λ yes. (types_from_test text yes, has_listed text)
       | false ↦ λ no types. let yes = test_from_types text types in cc

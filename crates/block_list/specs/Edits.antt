@@ -30,7 +30,7 @@ cut_at bs i front back = insert (slice_set bs i front) (i + 1) back
 
 -- new are the same statuses in blocks of which the one at i begins at a position, or the position is the end; what
 -- stood in front of the position stands there still, and the blocks on either side of it are as merged as they were
-pub record IsCut (bs new : List Block) (at i : ℕ) : Type 0 where
+pub record IsBlockCut (bs new : List Block) (at i : ℕ) : Type 0 where
   pub tiled : IsTiled new
   pub same : flat_map covered new ≡ flat_map covered bs
   pub index : i ≤ length new

@@ -7,7 +7,7 @@ pub record IsFirst (P : ℕ → Type 0) (from x : ℕ) : Type 0 where
   pub least : (y : ℕ) → from ≤ y → P y → x ≤ y
 
 -- P holds from x on, up to end and not there
-pub record IsRunUp (P : ℕ → Type 0) (x end : ℕ) : Type 0 where
+pub record IsRangeUp (P : ℕ → Type 0) (x end : ℕ) : Type 0 where
   pub begun : x < end
   pub within : (y : ℕ) → x ≤ y → y < end → P y
   pub stops : P end → ⊥
@@ -20,7 +20,7 @@ pub record IsLast (P : ℕ → Type 0) (before end : ℕ) : Type 0 where
   pub greatest : (y : ℕ) → y < before → P y → y < end
 
 -- P holds below end, down to start and not below it
-pub record IsRunDown (P : ℕ → Type 0) (start end : ℕ) : Type 0 where
+pub record IsRangeDown (P : ℕ → Type 0) (start end : ℕ) : Type 0 where
   pub begun : start < end
   pub within : (y : ℕ) → start ≤ y → y < end → P y
   pub stops : (y : ℕ) → y + 1 ≡ start → P y → ⊥

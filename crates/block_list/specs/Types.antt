@@ -11,18 +11,18 @@ abbrev pub is_types : List ℕ → Bool
 is_types text = not (nat_eq (length text) 0) && list_all (λ c. is_some (status_of_symbol c)) text
 
 -- a text has the character of a status
-abbrev pub lists : List ℕ → Status → Bool
-lists text s = list_any (nat_eq (symbol s)) text
+abbrev pub has_symbol : List ℕ → Status → Bool
+has_symbol text s = list_any (nat_eq (symbol s)) text
 
 -- the types that a text lists, in any order and as often as it will, if it is types
 abbrev pub types_of : List ℕ → Option TypeSet
 types_of text =
     if is_types text then Some (record {
-      non_tried = lists text NonTried;
-      non_trimmed = lists text NonTrimmed;
-      non_scraped = lists text NonScraped;
-      bad_sector = lists text BadSector;
-      finished = lists text Finished;
+      non_tried = has_symbol text NonTried;
+      non_trimmed = has_symbol text NonTrimmed;
+      non_scraped = has_symbol text NonScraped;
+      bad_sector = has_symbol text BadSector;
+      finished = has_symbol text Finished;
     })
     else None
 
@@ -43,4 +43,4 @@ pub record AreTypes (text : List ℕ) : Type 0 where
 abbrev pub TypesAreCharacters : Type 0
 TypesAreCharacters = (text : List ℕ) →
     MatchOption (types_of text) (AreTypes text → ⊥)
-    (λ t. AreTypes text × ((s : Status) → has_type t s ≡ lists text s))
+    (λ t. AreTypes text × ((s : Status) → has_type t s ≡ has_symbol text s))

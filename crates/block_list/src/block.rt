@@ -10,7 +10,7 @@ pub struct Block {
 
 /// Positions from `from` up to `to`, in bytes.
 #[derive(Clone, Copy, Debug, PartialEq, Eq)]
-pub struct Run {
+pub struct Range {
     pub from: u64,
     pub to: u64,
 }

@@ -5,7 +5,7 @@ ghost use Rattle.block_list.specs.Map.{marked};
 ghost use Rattle.block_list.specs.Stretches.{covered, back_of};
 ghost use Rattle.block_list.specs.Tiling.{IsMerged};
 ghost use Rattle.block_list.specs.Push.{EndsWith};
-ghost use Rattle.block_list.specs.Edits.{IsTiled, IsPlace, IsShifted, IsCut, IsJoinedBefore, IsJoinedBehind, start_of, front_of, cut_at};
+ghost use Rattle.block_list.specs.Edits.{IsTiled, IsPlace, IsShifted, IsBlockCut, IsJoinedBefore, IsJoinedBehind, start_of, front_of, cut_at};
 
 use crate::block::Block;
 use crate::status::Status;
@@ -126,7 +126,7 @@ fn cut(blocks: &mut Vec<Block>, i: usize, at: u64)
     requires tiled { IsTiled blocks.old.items }
     requires place { IsPlace blocks.old.items at i }
     requires room { vec_len blocks.old < vec_capacity blocks.old }
-    ensures cut { IsCut blocks.old.items blocks.new.items at i }
+    ensures cut { IsBlockCut blocks.old.items blocks.new.items at i }
     ensures len { vec_len blocks.new ≤ vec_len blocks.old + 1 }
     ensures capacity { vec_capacity blocks.new ≡ vec_capacity blocks.old }
 {

@@ -3,12 +3,12 @@ ghost use Rattle.std.specs.Prelude.{◌≡◌, ℕ, ◌+◌, ◌<◌, ◌≤◌,
 ghost use Rattle.std.specs.List.{flat_map};
 ghost use Rattle.block_list.specs.Status.{same};
 ghost use Rattle.block_list.specs.Map.{Has};
-ghost use Rattle.block_list.specs.Places.{IsFirst, IsLast, IsRunUp, IsRunDown};
+ghost use Rattle.block_list.specs.Places.{IsFirst, IsLast, IsRangeUp, IsRangeDown};
 ghost use Rattle.block_list.specs.Stretches.{covered};
 ghost use Rattle.block_list.specs.Tiling.{IsMerged};
 ghost use Rattle.block_list.specs.Edits.{IsTiled, IsPlace};
 
-use crate::block::{Block, Run};
+use crate::block::{Block, Range};
 use crate::edits::begun_before;
 use crate::status::Status;
 
@@ -46,18 +46,18 @@ pub fn begun_near(blocks: &[Block], near: usize, x: u64) -> usize
 }
 
 /// The first position at or after `from` that has a status, and the end of its block.
-pub fn first_with(blocks: &[Block], from: u64, status: Status) -> Option<Run>
+pub fn first_with(blocks: &[Block], from: u64, status: Status) -> Option<Range>
     requires tiled { IsTiled blocks.now }
     requires merged { IsMerged blocks.now }
     requires within { from < length (flat_map covered blocks.now) }
-    ensures first { IfSome result (λ run. IsFirst (Has (flat_map covered blocks.now) status) from run.from) }
-    ensures run { IfSome result (λ run. IsRunUp (Has (flat_map covered blocks.now) status) run.from run.to) }
+    ensures first { IfSome result (λ range. IsFirst (Has (flat_map covered blocks.now) status) from range.from) }
+    ensures range { IfSome result (λ range. IsRangeUp (Has (flat_map covered blocks.now) status) range.from range.to) }
     ensures none { IfNone result ((x : ℕ) → from ≤ x → Has (flat_map covered blocks.now) status x → ⊥) }
 {
     let holding = begun_before(blocks, from + 1) - 1;
     for block in &blocks[holding..] {
         if block.status.is(status) {
-            return Some(Run {
+            return Some(Range {
                 from: from.max(block.pos),
                 to: block.pos + block.size,
             });
@@ -67,19 +67,19 @@ pub fn first_with(blocks: &[Block], from: u64, status: Status) -> Option<Run>
 }
 
 /// The greatest end at or before `before` below which a position has a status, and the start of its block.
-pub fn last_with(blocks: &[Block], before: u64, status: Status) -> Option<Run>
+pub fn last_with(blocks: &[Block], before: u64, status: Status) -> Option<Range>
     requires tiled { IsTiled blocks.now }
     requires merged { IsMerged blocks.now }
     requires within { before ≤ length (flat_map covered blocks.now) }
-    ensures last { IfSome result (λ run. IsLast (Has (flat_map covered blocks.now) status) before run.to) }
-    ensures run { IfSome result (λ run. IsRunDown (Has (flat_map covered blocks.now) status) run.from run.to) }
+    ensures last { IfSome result (λ range. IsLast (Has (flat_map covered blocks.now) status) before range.to) }
+    ensures range { IfSome result (λ range. IsRangeDown (Has (flat_map covered blocks.now) status) range.from range.to) }
     ensures none { IfNone result ((x : ℕ) → x < before → Has (flat_map covered blocks.now) status x → ⊥) }
 {
     let begun = begun_before(blocks, before);
     for i in (0..begun).rev() {
         let block = blocks[i];
         if block.status.is(status) {
-            return Some(Run {
+            return Some(Range {
                 from: block.pos,
                 to: before.min(block.pos + block.size),
             });

@@ -1,7 +1,7 @@
 ghost use Rattle.std.specs.Prelude.{◌≡◌, ◌+◌, ◌<◌, ◌^◌, ◌++◌, ◌⊎◌, [], length, replicate, None, OnOk, OnErr, IsOk, IfOk, MatchOption};
 ghost use Rattle.block_list.specs.Push.{push_fault, EndsWith};
 
-use crate::block::{Block, Run};
+use crate::block::{Block, Range};
 use crate::near::Near;
 use crate::status::Status;
 use crate::tiles::{NoMemory, Tiles};
@@ -120,7 +120,7 @@ impl Tiles for PlainTiles {
         self.blocks[begun - 1]
     }
 
-    fn find_forward(&self, from: u64, status: Status) -> Option<Run> {
+    fn find_forward(&self, from: u64, status: Status) -> Option<Range> {
         if from < self.end {
             lookups::first_with(&self.blocks, from, status)
         } else {
@@ -128,7 +128,7 @@ impl Tiles for PlainTiles {
         }
     }
 
-    fn find_backward(&self, before: u64, status: Status) -> Option<Run> {
+    fn find_backward(&self, before: u64, status: Status) -> Option<Range> {
         lookups::last_with(&self.blocks, before.min(self.end), status)
     }
 

@@ -1,11 +1,11 @@
 ghost use Rattle.std.specs.Prelude.{◌≡◌, ℕ, ◌+◌, ◌<◌, ◌≤◌, ◌^◌, List, length, slice_get, Some, OnOk, IfSome, IfNone, count_by};
 ghost use Rattle.block_list.specs.declared.status.Status.{Status};
 ghost use Rattle.block_list.specs.Status.{same};
-ghost use Rattle.block_list.specs.Places.{IsFirst, IsLast, IsRunUp, IsRunDown};
+ghost use Rattle.block_list.specs.Places.{IsFirst, IsLast, IsRangeUp, IsRangeDown};
 ghost use Rattle.block_list.specs.Map.{Has, marked, extended};
 ghost use Rattle.block_list.specs.Stretches.{stretches, IsStretchAt};
 
-use crate::block::{Block, Run};
+use crate::block::{Block, Range};
 use crate::near::Near;
 use crate::status::Status;
 
@@ -43,15 +43,15 @@ pub trait Tiles: Drop {
         ensures { IsStretchAt (statuses self.now) x result };
 
     /// The first position at or after `from` that has a status, and the end of its stretch of equal statuses.
-    fn find_forward(&self, from: u64, status: Status) -> Option<Run>
-        ensures first { IfSome result (λ run. IsFirst (Has (statuses self.now) status) from run.from) }
-        ensures run { IfSome result (λ run. IsRunUp (Has (statuses self.now) status) run.from run.to) }
+    fn find_forward(&self, from: u64, status: Status) -> Option<Range>
+        ensures first { IfSome result (λ range. IsFirst (Has (statuses self.now) status) from range.from) }
+        ensures range { IfSome result (λ range. IsRangeUp (Has (statuses self.now) status) range.from range.to) }
         ensures none { IfNone result ((x : ℕ) → from ≤ x → Has (statuses self.now) status x → ⊥) };
 
     /// The greatest end at or before `before` below which a position has a status, and the start of its stretch.
-    fn find_backward(&self, before: u64, status: Status) -> Option<Run>
-        ensures last { IfSome result (λ run. IsLast (Has (statuses self.now) status) before run.to) }
-        ensures run { IfSome result (λ run. IsRunDown (Has (statuses self.now) status) run.from run.to) }
+    fn find_backward(&self, before: u64, status: Status) -> Option<Range>
+        ensures last { IfSome result (λ range. IsLast (Has (statuses self.now) status) before range.to) }
+        ensures range { IfSome result (λ range. IsRangeDown (Has (statuses self.now) status) range.from range.to) }
         ensures none { IfNone result ((x : ℕ) → x < before → Has (statuses self.now) status x → ⊥) };
 
     /// How many positions have a status.

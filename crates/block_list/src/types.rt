@@ -2,7 +2,7 @@
 ghost use Rattle.std.specs.Prelude.{◌≡◌, is_some};
 ghost use Rattle.std.specs.List.{list_all};
 ghost use Rattle.block_list.specs.Status.{status_of_symbol};
-ghost use Rattle.block_list.specs.Types.{is_types, lists, types_of, has_type};
+ghost use Rattle.block_list.specs.Types.{is_types, has_symbol, types_of, has_type};
 
 use crate::status::Status;
 
@@ -26,11 +26,11 @@ impl TypeSet {
             return None;
         }
         Some(TypeSet {
-            non_tried: lists(text, Status::NonTried),
-            non_trimmed: lists(text, Status::NonTrimmed),
-            non_scraped: lists(text, Status::NonScraped),
-            bad_sector: lists(text, Status::BadSector),
-            finished: lists(text, Status::Finished),
+            non_tried: has_symbol(text, Status::NonTried),
+            non_trimmed: has_symbol(text, Status::NonTrimmed),
+            non_scraped: has_symbol(text, Status::NonScraped),
+            bad_sector: has_symbol(text, Status::BadSector),
+            finished: has_symbol(text, Status::Finished),
         })
     }
 
@@ -63,8 +63,8 @@ fn all_are_symbols(text: &[u8]) -> bool
 }
 
 /// Whether a text has the character of a status.
-fn lists(text: &[u8], status: Status) -> bool
-    ensures { result ≡ lists text.now status }
+fn has_symbol(text: &[u8], status: Status) -> bool
+    ensures { result ≡ has_symbol text.now status }
 {
     let symbol = status.symbol();
     text.iter().any(|c| symbol == *c)

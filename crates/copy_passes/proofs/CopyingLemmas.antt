@@ -11,7 +11,7 @@ use Rattle.rescue_rules.specs.declared.phase.Phase.{Phase}
 use Rattle.rescue_rules.specs.declared.phase.Phase.TheVariants.{Copying}
 use Rattle.rescue_rules.specs.Setting.{Setting}
 use Rattle.rescue_rules.specs.Passes.{Pass, taken, is_up, numbered, copying_passes, passes_behind, passes_from}
-use Rattle.rescue_rules.specs.Machine.{Machine, pass_of, start_of, has_taken, is_live, is_wanted, IsWanted, Search, search_in, search_of, IsNextRun, cut_start, cut_end, is_ahead, IsRequest, has_request}
+use Rattle.rescue_rules.specs.Machine.{Machine, pass_of, start_of, has_taken, is_live, is_wanted, IsWanted, Search, search_in, search_of, IsNextRange, cut_start, cut_end, is_ahead, IsRequest, has_request}
 use Rattle.rescue_rules.specs.Step.{Event, trims, is_copying, is_trimming, is_slow, is_jump, reach, cursor_after, limit_met, step}
 use Rattle.rescue_rules.specs.MachineLaws.{StepsBy}
 use Rattle.rescue_rules.proofs.OverLemmas.{live_was, wanted_live, wanted_before}
@@ -22,7 +22,7 @@ use Rattle.rescue_rules.proofs.StepLemmas.{move_steps}
 use Rattle.rescue_core.proofs.PassLemmas.{next_passes, copying_leads}
 use Rattle.rescue_core.specs.RunState.{RunState, setting_in, passed, IsGone}
 use Rattle.rescue_core.specs.Turning.{stepped}
-use Rattle.copy_passes.specs.Copying.{LeavesNone, IsCopying}
+use Rattle.copy_passes.specs.Copying.{LeavesNone, MayCopy}
 use Rattle.copy_passes.proofs.TopLemmas.{top_of, top_within, reach_few, takes_far, below_top}
 use Rattle.copy_passes.proofs.TriedLemmas.{untried}
 
@@ -30,11 +30,11 @@ use Rattle.copy_passes.proofs.TriedLemmas.{untried}
 abbrev pub is_upward : RunState → Bool
 is_upward r = is_up (setting_in r) (pass_of r.machine)
 
-pub pass_is : (r : RunState) → IsCopying r → pass_of r.machine ≡ numbered Copying r.pass
+pub pass_is : (r : RunState) → MayCopy r → pass_of r.machine ≡ numbered Copying r.pass
 pass_is r c =
     ap (λ (ps : List Pass). slice_index_or ps 0 (numbered Copying 1)) c.passes ∙ copying_leads (setting_in r) r.pass c.few
 
-untrimming : (r : RunState) → IsCopying r → is_trimming r.machine ≡ false
+untrimming : (r : RunState) → MayCopy r → is_trimming r.machine ≡ false
 untrimming r c = ap (λ (p : Pass). trims p.phase) (pass_is r c)
 
 -- how all phases but trimming find their requests: from the cursor on, in the pass's direction
@@ -60,7 +60,7 @@ IsNearest false P cursor p q = IsNearestDown P cursor p q
 
 abbrev pub IsFoundBy : Search → (ℕ → Type 0) → (sector start end p q : ℕ) → Type 0
 IsFoundBy f P sector start end p q =
-    IsNextRun f.up P f.from start end × (p ≡ cut_start f sector start end) × (q ≡ cut_end f sector start end)
+    IsNextRange f.up P f.from start end × (p ≡ cut_start f sector start end) × (q ≡ cut_end f sector start end)
 
 pub nearest_by : (up : Bool) (P : ℕ → Type 0) (cursor size sector start end p q : ℕ)
     → IsFoundBy (searched up cursor size) P sector start end p q → IsNearest up P cursor p q
@@ -77,14 +77,14 @@ nearest_by false P cursor size sector start end p q found =
       greatest = λ y below holds. omega (arith, is, found.0.0.greatest y below holds);
     }
 
-nearest : (r : RunState) (p q : ℕ) → IsCopying r → IsRequest (setting_in r) r.machine p q
+nearest : (r : RunState) (p q : ℕ) → MayCopy r → IsRequest (setting_in r) r.machine p q
     → IsNearest (is_upward r) (IsWanted (setting_in r) r.machine) r.machine.cursor p q
 nearest r p q c asks =
     let s : Setting = setting_in r in
     let P : ℕ → Type 0 = IsWanted s r.machine in
     nearest_by (is_upward r) P r.machine.cursor s.cluster s.sector asks.start asks.end p q
     (subst (λ (f : Search). IsFoundBy f P s.sector asks.start asks.end p q) (search_is s r.machine r.pass (pass_is r c))
-    (asks.run, asks.starts, asks.ends))
+    (asks.range, asks.starts, asks.ends))
 
 -- where a read from p that goes up to q puts the cursor, with a jump
 abbrev pub cursor_by : Bool → (len p q jump : ℕ) → ℕ
@@ -93,7 +93,7 @@ cursor_by up len p q jump = if up then min len (q + jump) else p - jump
 abbrev jump_of : Setting → Machine → Event → ℕ
 jump_of s m e = if is_jump s m e then m.skip else 0
 
-cursor_is : (r : RunState) (e : Event) → IsCopying r → cursor_after (setting_in r) r.machine e
+cursor_is : (r : RunState) (e : Event) → MayCopy r → cursor_after (setting_in r) r.machine e
     ≡ cursor_by (is_upward r) (length r.machine.map) e.reading.pos (reach e.reading) (jump_of (setting_in r) r.machine e)
 cursor_is r e c =
     cond-false (is_trimming r.machine) e.reading.pos
@@ -134,7 +134,7 @@ never_jumps true false true = refl
 never_jumps true false false = refl
 never_jumps false failed slow = refl
 
-last_jump : (r : RunState) (e : Event) → IsCopying r → r.pass ≡ copying_passes → jump_of (setting_in r) r.machine e ≡ 0
+last_jump : (r : RunState) (e : Event) → MayCopy r → r.pass ≡ copying_passes → jump_of (setting_in r) r.machine e ≡ 0
 last_jump r e c last =
     let s : Setting = setting_in r in
     let m : Machine = r.machine in
@@ -189,7 +189,7 @@ two_of s number few =
     )
 
 -- copying asks for the non-tried positions that are left of the domain, and for no others
-pub wanted_here : (r : RunState) (x : ℕ) → IsCopying r → is_live (setting_in r) r.machine x ≡ true
+pub wanted_here : (r : RunState) (x : ℕ) → MayCopy r → is_live (setting_in r) r.machine x ≡ true
     → Has r.machine.map NonTried x
     → is_wanted (setting_in r) r.machine x ≡ true
 wanted_here r x c inside has =
@@ -210,7 +210,7 @@ ahead_is : (s : Setting) (m : Machine) (number x : ℕ) → pass_of m ≡ number
 ahead_is s m number x is = ap (λ (f : Search). is_ahead f x) (search_is s m number is)
 
 -- the last pass leaves nothing behind an event of its request
-leaves_none : (r : RunState) (e : Event) → IsCopying r → r.pass ≡ copying_passes
+leaves_none : (r : RunState) (e : Event) → MayCopy r → r.pass ≡ copying_passes
     → IsRequest (setting_in r) r.machine e.reading.pos (e.reading.pos + e.reading.asked) → StepsBy (setting_in r) r.machine e
     → length e.reading.given ≤ e.reading.asked → LeavesNone (setting_in r) (step (setting_in r) r.machine e)
 leaves_none r e c last asks by few =
@@ -240,9 +240,9 @@ leaves_none r e c last asks by few =
 pub record CopyStep (r : RunState) (e : Event) (heard : Bool) : Type 0 where
   pub steps : StepsBy (setting_in r) r.machine e
   pub less : ahead_of (stepped r e heard) < ahead_of r
-  pub copying : IsCopying (stepped r e heard)
+  pub copying : MayCopy (stepped r e heard)
 
-pub copy_steps : (r : RunState) (e : Event) (heard : Bool) → IsCopying r
+pub copy_steps : (r : RunState) (e : Event) (heard : Bool) → MayCopy r
     → IsRequest (setting_in r) r.machine e.reading.pos (e.reading.pos + e.reading.asked)
     → length e.reading.given ≤ e.reading.asked → limit_met (setting_in r) (stepped r e heard).machine ≡ None
     → CopyStep r e heard
@@ -280,7 +280,7 @@ wanted_seen s m x wanted ahead =
     list_any_at P (range_with_len 0 (length m.map)) x 0 (omega (arith, there, length-range_with_len 0 (length m.map))) (ap P at ∙ here)
 
 -- where the last pass has no request left nothing is non-tried
-pub none_left : (r : RunState) → IsCopying r → r.pass ≡ copying_passes → has_request (setting_in r) r.machine ≡ false
+pub none_left : (r : RunState) → MayCopy r → r.pass ≡ copying_passes → has_request (setting_in r) r.machine ≡ false
     → IsGone NonTried r
 none_left r c last none x inside has =
     let s : Setting = setting_in r in
@@ -305,12 +305,12 @@ leaves_at_start s m number is begins = record {
 }
 
 -- the next pass
-pub second_is : (r : RunState) → IsCopying r → r.pass < copying_passes
+pub second_is : (r : RunState) → MayCopy r → r.pass < copying_passes
     → slice_get r.machine.passes 1 ≡ Some (numbered Copying (r.pass + 1))
 second_is r c few =
     ap (λ (ps : List Pass). slice_get ps 1) (c.passes ∙ (two_of (setting_in r) r.pass few).1)
 
-pub copying_passed : (r : RunState) → IsCopying r → r.pass < copying_passes → IsCopying (passed r Copying (r.pass + 1))
+pub copying_passed : (r : RunState) → MayCopy r → r.pass < copying_passes → MayCopy (passed r Copying (r.pass + 1))
 copying_passed r c few =
     let s : Setting = setting_in r in
     let p : Pass = numbered Copying (r.pass + 1) in

@@ -13,7 +13,7 @@ use Rattle.save_resume.proofs.FillLemmas.{keeps_self, keeps_more}
 use Rattle.rescue_console.specs.declared.console.Channel.TheVariants.{Out}
 use Rattle.rescue_console.specs.ClockState.{ClockState, Keeps as ClockKeeps, Reads as ReadsClock}
 use Rattle.rescue_console.specs.ConsoleState.{ConsoleState}
-use Rattle.rescue_console.specs.Speaking.{Piece, SpeaksOn, out_pieces}
+use Rattle.rescue_console.specs.Speaking.{SpokenPiece, SpeaksOn, out_pieces}
 use Rattle.rescue_console.proofs.SpeakingLemmas.{speeches_join}
 use Rattle.transfer_token.specs.declared.token.Request.{Request}
 use Rattle.rescue_rules.specs.declared.phase.Phase.{Phase}
@@ -36,10 +36,10 @@ use Rattle.rescue_core.specs.declared.turn.Turn.{Turn}
 use Rattle.rescue_core.specs.Across.{Across}
 use Rattle.rescue_core.specs.RunState.{RunState, setting_in, passed, HasPlaces}
 use Rattle.rescue_core.specs.Turning.{IsEvent, move_by, Turned, Halted, stepped, move_pieces}
-use Rattle.rescue_core.specs.Closing.{drafting_after}
+use Rattle.rescue_core.specs.Closing.{drafting_at_stop}
 use Rattle.rescue_core.proofs.TurnEndLemmas.{says_none}
 use Rattle.copy_passes.specs.Turns.{IsFrom, IsAlike, moved_to, Went, WentUpTo, ObjectsStay, WentByTurns}
-use Rattle.copy_passes.specs.Copying.{IsCopying}
+use Rattle.copy_passes.specs.Copying.{MayCopy}
 use Rattle.copy_passes.proofs.AlikeLemmas.{alike_by, alike_on, next_pass_is_alike, RunMore, run_more}
 use Rattle.copy_passes.proofs.CopyingLemmas.{ahead_of, CopyStep, copy_steps, two_of, copying_passed}
 
@@ -78,13 +78,13 @@ pub times_append : (front back : List Event) → times_of (front ++ back) ≡ ti
 times_append [] back = refl
 times_append (e ∷ front) back = ap (λ (ts : List ℕ). e.before ∷ e.after ∷ ts) (times_append front back)
 
-abbrev out_piece : List ℕ → Piece
+abbrev out_piece : List ℕ → SpokenPiece
 out_piece text = record { channel = Out; text = text }
 
 pub says_more : (front back : List (List ℕ)) (h h1 h2 : Bool) (x y z : ConsoleState) → SpeaksOn (out_pieces front) h h1 x y
     → SpeaksOn (out_pieces back) h1 h2 y z → SpeaksOn (out_pieces (front ++ back)) h h2 x z
 says_more front back h h1 h2 x y z f g =
-    subst (λ (ps : List Piece). SpeaksOn ps h h2 x z) (sym (map-append out_piece front back))
+    subst (λ (ps : List SpokenPiece). SpeaksOn ps h h2 x z) (sym (map-append out_piece front back))
     (speeches_join (out_pieces front) (out_pieces back) h h1 h2 x y z f g)
 
 -- no turn
@@ -318,7 +318,7 @@ pub halts : (stop : Stop) (r r1 r2 : RunState) (request : Request) (a b c : Sour
     (k l n : ClockState) (x y z : ConsoleState) → WentByTurns r r1 (between a b d e k l x y)
     → limit_met (setting_in r1) r1.machine ≡ None
     → IsRequest (setting_in r1) r1.machine request.pos (request.pos + request.len)
-    → Halted request stop r1 r2 (between b c e f l n y z) → f.is_drafting ≡ drafting_after stop
+    → Halted request stop r1 r2 (between b c e f l n y z) → f.is_drafting ≡ drafting_at_stop stop
     → WentUpTo stop r r2 (between a c d f k n x z)
 halts stop r r1 r2 request a b c d e f k l n x y z i within asks h draft = record {
   between = r1;
@@ -337,7 +337,7 @@ halts stop r r1 r2 request a b c d e f k l n x y z i within asks h draft = recor
 }
 
 -- A turn of copying
-turn_step : (r r2 : RunState) (request : Request) (turn : Turn) (o : Across) → IsCopying r
+turn_step : (r r2 : RunState) (request : Request) (turn : Turn) (o : Across) → MayCopy r
     → IsRequest (setting_in r) r.machine request.pos (request.pos + request.len) → (t : Turned request turn r r2 o)
     → CopyStep r t.event r2.heard
 turn_step r r2 request turn o copying asks t =
@@ -347,22 +347,22 @@ turn_step r r2 request turn o copying asks t =
     (ap (λ (q : RunState). limit_met (setting_in r) q.machine) (sym t.steps) ∙ t.within)
 
 -- leaves less of the map ahead,
-pub less_ahead : (r r2 : RunState) (request : Request) (turn : Turn) (o : Across) → IsCopying r
+pub less_ahead : (r r2 : RunState) (request : Request) (turn : Turn) (o : Across) → MayCopy r
     → IsRequest (setting_in r) r.machine request.pos (request.pos + request.len) → Turned request turn r r2 o
     → ahead_of r2 < ahead_of r
 less_ahead r r2 request turn o copying asks t =
     subst (λ (q : RunState). ahead_of q < ahead_of r) (sym t.steps) (turn_step r r2 request turn o copying asks t).less
 
 -- in the same pass, and copying may go on.
-pub copies_on : (r r2 : RunState) (request : Request) (turn : Turn) (o : Across) → IsCopying r
-    → IsRequest (setting_in r) r.machine request.pos (request.pos + request.len) → Turned request turn r r2 o → IsCopying r2
+pub copies_on : (r r2 : RunState) (request : Request) (turn : Turn) (o : Across) → MayCopy r
+    → IsRequest (setting_in r) r.machine request.pos (request.pos + request.len) → Turned request turn r r2 o → MayCopy r2
 copies_on r r2 request turn o copying asks t =
-    subst IsCopying (sym t.steps) (turn_step r r2 request turn o copying asks t).copying
+    subst MayCopy (sym t.steps) (turn_step r r2 request turn o copying asks t).copying
 
 -- So may it behind the start of its next pass.
-pub goes_on_by_next : (r r1 r2 : RunState) (o : Across) (pass : ℕ) → WentByTurns r r1 o → IsCopying r1
+pub goes_on_by_next : (r r1 r2 : RunState) (o : Across) (pass : ℕ) → WentByTurns r r1 o → MayCopy r1
     → has_request (setting_in r1) r1.machine ≡ false → r1.pass < copying_passes → pass ≡ r1.pass
-    → r2 ≡ passed r1 Copying (pass + 1) → WentByTurns r r2 o × IsCopying r2
+    → r2 ≡ passed r1 Copying (pass + 1) → WentByTurns r r2 o × MayCopy r2
 goes_on_by_next r r1 r2 o pass i copying spent few same is =
     let c : Pass = numbered Copying r1.pass in
     let p : Pass = numbered Copying (r1.pass + 1) in
@@ -372,5 +372,5 @@ goes_on_by_next r r1 r2 o pass i copying spent few same is =
     two.1 ∙ ap (λ (ps : List Pass). c ∷ p ∷ ps) (sym (ap (λ (ps : List Pass). drop 2 ps) two.1)) in
     let there : r2 ≡ passed r1 Copying (r1.pass + 1) = is ∙ ap (λ (n : ℕ). passed r1 Copying (n + 1)) same in (
       goes_on_by_pass r r1 r2 o Copying (r1.pass + 1) c i spent are there,
-      subst IsCopying (sym there) (copying_passed r1 copying few),
+      subst MayCopy (sym there) (copying_passed r1 copying few),
     )

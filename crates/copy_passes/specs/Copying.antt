@@ -14,7 +14,7 @@ pub record LeavesNone (s : Setting) (m : Machine) : Type 0 where
 
 -- A run that may go on with copying: it has met no limit, and is in one of copying's passes, wherever its cursor and
 -- whatever its skip; but the last pass has left nothing behind.
-pub record IsCopying (r : RunState) : Type 0 where
+pub record MayCopy (r : RunState) : Type 0 where
   pub sensible : IsSensible (setting_in r)
   pub within : limit_met (setting_in r) r.machine ≡ None
   pub phase : r.phase ≡ Copying

@@ -1,6 +1,6 @@
 -- What the definitions mean.
 use Rattle.std.specs.Prelude.{◌≡◌, ℕ, Bool, true, false, List, ◌∷◌, length, slice_get, Option, Some}
-use Rattle.block_list.specs.declared.block.Run.{Run}
+use Rattle.block_list.specs.declared.block.Range.{Range}
 use Rattle.block_list.specs.declared.status.Status.{Status}
 use Rattle.mapfile_text.specs.declared.state.MapState.{MapState}
 use Rattle.save_resume.specs.MapNames.{MapNames}
@@ -12,9 +12,9 @@ use Rattle.rescue_rules.specs.Step.{Event, is_copying}
 use Rattle.rescue_rules.specs.Moves.{Move, moves, state_after, begun, IsRun}
 use Rattle.rescue_domain.specs.Parts.{covers}
 use Rattle.rescue_core.specs.declared.settings.Settings.{Settings}
-use Rattle.rescue_core.specs.RunState.{RunState, IsSound, Suits, started, showing}
+use Rattle.rescue_core.specs.RunState.{RunState, IsSound, Suits, started, run_showing}
 use Rattle.copy_passes.specs.Turns.{IsAlike}
-use Rattle.copy_passes.specs.Copying.{IsCopying}
+use Rattle.copy_passes.specs.Copying.{MayCopy}
 
 -- A position is asked at most once in copying: two moves of copying that ask for it are one.
 abbrev pub CopyingAsksOnce : Type 0
@@ -40,10 +40,10 @@ NextPassIsAlike = (s : Setting) (m : Machine) (c p : Pass) (ps : List Pass) → 
 
 -- a run at its start may go on with copying
 abbrev pub StartMayCopy : Type 0
-StartMayCopy = (settings : Settings) (domain : List Run) (names : Option MapNames) (line : List ℕ) (map : List Status)
+StartMayCopy = (settings : Settings) (domain : List Range) (names : Option MapNames) (line : List ℕ) (map : List Status)
     (loaded : Option MapState) (moment : ℕ) (heard : Bool) → IsSound settings → Suits settings (covers domain) (length map)
-    → IsCopying (started settings domain names line map loaded moment heard)
+    → MayCopy (started settings domain names line map loaded moment heard)
 
 -- and so may one that shows another state
 abbrev pub ShownMayCopy : Type 0
-ShownMayCopy = (r : RunState) (state : MapState) → IsCopying r → IsCopying (showing r state)
+ShownMayCopy = (r : RunState) (state : MapState) → MayCopy r → MayCopy (run_showing r state)

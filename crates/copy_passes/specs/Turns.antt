@@ -20,7 +20,7 @@ use Rattle.rescue_rules.specs.Laws.{AreTimes}
 use Rattle.rescue_core.specs.Across.{Across}
 use Rattle.rescue_core.specs.RunState.{RunState, setting_in, HasPlaces}
 use Rattle.rescue_core.specs.Turning.{Halted}
-use Rattle.rescue_core.specs.Closing.{StoppedState, drafting_after}
+use Rattle.rescue_core.specs.Closing.{StoppedState, drafting_at_stop}
 
 -- a read gave the input's own bytes
 abbrev pub IsFrom : (bytes : List ℕ) → Reading → Type 0
@@ -85,7 +85,7 @@ pub record WentUpTo (stop : Stop) (r r' : RunState) (o : Across) : Type 0 where
     clock = clock_between;
     console = console_between;
   })
-  pub draft : o.site'.is_drafting ≡ drafting_after stop
+  pub draft : o.site'.is_drafting ≡ drafting_at_stop stop
 
 -- what stays of the objects while turns are taken; the output stays open
 pub record ObjectsStay (o : Across) : Type 0 where

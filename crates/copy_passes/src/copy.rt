@@ -5,7 +5,7 @@ ghost use Rattle.rescue_rules.specs.Passes.{copying_passes};
 ghost use Rattle.rescue_rules.specs.Machine.{has_request};
 ghost use Rattle.rescue_core.specs.RunState.{setting_in, HasPlaces};
 ghost use Rattle.copy_passes.specs.Turns.{TurnsEnd, PhaseEnds};
-ghost use Rattle.copy_passes.specs.Copying.{IsCopying};
+ghost use Rattle.copy_passes.specs.Copying.{MayCopy};
 
 use block_list::tiles::Tiles;
 use crash_site::site::Site;
@@ -27,7 +27,7 @@ fn run_pass<S: Source, D: Site, K: Clock, C: Console, T: Tiles>(
     clock: &mut K,
     console: &mut C,
 ) -> Result<(), Stop>
-    requires copying { IsCopying rescue.old }
+    requires copying { MayCopy rescue.old }
     requires places { HasPlaces rescue.old.settings (covers rescue.old.domain) }
     requires input { (S.state source.old).is_open ≡ true }
     requires image { (D.state site.old).is_open ≡ true }
@@ -42,7 +42,7 @@ fn run_pass<S: Source, D: Site, K: Clock, C: Console, T: Tiles>(
       console = C.state console.old;
       console' = C.state console.new;
     }) }
-    ensures copying { OnOk result (IsCopying rescue.new) }
+    ensures copying { OnOk result (MayCopy rescue.new) }
     ensures pass { OnOk result (rescue.new.pass ≡ rescue.old.pass) }
     ensures spent { OnOk result (has_request (setting_in rescue.new) rescue.new.machine ≡ false) }
 {
@@ -60,7 +60,7 @@ fn run_passes<S: Source, D: Site, K: Clock, C: Console, T: Tiles>(
     clock: &mut K,
     console: &mut C,
 ) -> Result<(), Stop>
-    requires copying { IsCopying rescue.old }
+    requires copying { MayCopy rescue.old }
     requires places { HasPlaces rescue.old.settings (covers rescue.old.domain) }
     requires input { (S.state source.old).is_open ≡ true }
     requires image { (D.state site.old).is_open ≡ true }
@@ -75,7 +75,7 @@ fn run_passes<S: Source, D: Site, K: Clock, C: Console, T: Tiles>(
       console = C.state console.old;
       console' = C.state console.new;
     }) }
-    ensures copying { OnOk result (IsCopying rescue.new) }
+    ensures copying { OnOk result (MayCopy rescue.new) }
     ensures pass { OnOk result (rescue.new.pass ≡ copying_passes) }
     ensures spent { OnOk result (has_request (setting_in rescue.new) rescue.new.machine ≡ false) }
 {
@@ -98,7 +98,7 @@ pub fn run_copying<S: Source, D: Site, K: Clock, C: Console, T: Tiles>(
     clock: &mut K,
     console: &mut C,
 ) -> Result<Rescue<Trimming, T>, Stopped<T>>
-    requires copying { IsCopying rescue }
+    requires copying { MayCopy rescue }
     requires places { HasPlaces rescue.settings (covers rescue.domain) }
     requires input { (S.state source.old).is_open ≡ true }
     requires image { (D.state site.old).is_open ≡ true }
@@ -113,7 +113,7 @@ pub fn run_copying<S: Source, D: Site, K: Clock, C: Console, T: Tiles>(
       console = C.state console.old;
       console' = C.state console.new;
     }) }
-    ensures copying { IfOk result (λ r. IsCopying r) }
+    ensures copying { IfOk result (λ r. MayCopy r) }
     ensures pass { IfOk result (λ r. r.pass ≡ copying_passes) }
     ensures spent { IfOk result (λ r. has_request (setting_in r) r.machine ≡ false) }
 {

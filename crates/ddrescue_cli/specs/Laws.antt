@@ -37,8 +37,8 @@ use Rattle.ddrescue_cli.specs.Ddrescue.{Ddrescue}
 abbrev pub outside_by : {t : Told} {c : Command} → Ddrescue t → Asks t.words c → Outside
 outside_by {t} {c} d asks = (d.asked_for (Rescue c) asks).outside
 
-abbrev pub setting : {t : Told} {c : Command} → Ddrescue t → Asks t.words c → Setting
-setting {t} {c} d asks = asked_of c t (outside_by d asks)
+abbrev pub setting_promised : {t : Told} {c : Command} → Ddrescue t → Asks t.words c → Setting
+setting_promised {t} {c} d asks = asked_of c t (outside_by d asks)
 
 abbrev pub done_by : {t : Told} {c : Command} → Ddrescue t → Asks t.words c → Gain
 done_by {t} {c} d asks = (outside_by d asks).did.gain
@@ -51,7 +51,7 @@ FilesAreLeft = (t : Told) (c : Command) (d : Ddrescue t) → Asks t.words c → 
 -- Where the input tells, whatever the files do: what was read is a run, which asks few times and ends well.
 abbrev pub ReadsAreARun : Type 0
 ReadsAreARun = (t : Told) (c : Command) (d : Ddrescue t) (asks : Asks t.words c) → IsTrue t.source.tells
-    → HasRead (setting d asks) (outside_by d asks).maps.test t.answer t.source t.source'
+    → HasRead (setting_promised d asks) (outside_by d asks).maps.test t.answer t.source t.source'
 
 -- An answer of a rescue that names a failed call names one that a step makes.
 abbrev pub FaultsAreOfSteps : Type 0
@@ -62,37 +62,37 @@ FaultsAreOfSteps = (t : Told) (c : Command) (d : Ddrescue t) (call : SiteCall) (
 abbrev pub HoldsAtEnd : Type 0
 HoldsAtEnd =
     (t : Told) (c : Command) (began : List Status) (state : Option MapState) (d : Ddrescue t) (asks : Asks t.words c)
-    → IsTrue t.site.tells → (setting d asks).has_mapfile ≡ true → has_barrier (done_by d asks).calls ≡ true
-    → Stands (files_of t (setting d asks).names.map) (setting d asks).end began state
-    → IsKept (calls_before t) (setting d asks) (done_by d asks) began state (length (done_by d asks).calls)
+    → IsTrue t.site.tells → (setting_promised d asks).has_mapfile ≡ true → has_barrier (done_by d asks).calls ≡ true
+    → Stands (files_of t (setting_promised d asks).names.map) (setting_promised d asks).end began state
+    → IsKept (calls_before t) (setting_promised d asks) (done_by d asks) began state (length (done_by d asks).calls)
     (files_in t.site')
 
 -- the state that a rescue came to over a map, and the state that its mapfile showed
-abbrev pub comes_to : Setting → Gain → List Status → Option MapState → Machine
-comes_to s g statuses state = state_after s (begins s statuses state g) (events_in g)
+abbrev pub machine_reached : Setting → Gain → List Status → Option MapState → Machine
+machine_reached s g statuses state = state_after s (begins s statuses state g) (events_in g)
 
 -- What a rescue leaves that went on to its end, over the map that its mapfile stood for, or no mapfile:
-pub record IsFinished (t : Told) (s : Setting) (g : Gain) : Type 0 where
+pub record LeavesRescued (t : Told) (s : Setting) (g : Gain) : Type 0 where
   pub statuses : List Status
   pub state : Option MapState
   pub stands : Stands (mapfile_in s (files_of t)) s.end statuses state
   -- the reads are a run that left no request in any pass
   pub run : IsRun s (begins s statuses state g) (events_in g)
-  pub over : has_ended s (comes_to s g statuses state) ≡ true
+  pub over : has_ended s (machine_reached s g statuses state) ≡ true
   -- each position of the domain is left well:
   -- rescued, or not to be tried further, or tried in vain as often as was asked
   pub well : EndsWell s (begins s statuses state g) (events_in g)
   -- the mapfile, if there is one, is the map of all reads, and says that it is finished
   pub mapfile : s.has_mapfile ≡ true → files_in t.site' s.names.map
-      ≡ Some (record { bytes = text_of s.line (finished_snapshot (comes_to s g statuses state)); regular = true })
+      ≡ Some (record { bytes = text_of s.line (finished_snapshot (machine_reached s g statuses state)); regular = true })
   -- and the output holds what that map promises
-  pub held : Held s g.reads (bytes_of (files_of t s.outfile)) (comes_to s g statuses state).map
+  pub held : Held s g.reads (bytes_of (files_of t s.outfile)) (machine_reached s g statuses state).map
       (bytes_of (files_in t.site' s.outfile))
 
 -- A finished rescue leaves that.
 abbrev pub DoneIsSaved : Type 0
 DoneIsSaved = (t : Told) (c : Command) (d : Ddrescue t) (asks : Asks t.words c) → IsTrue t.site.tells
-    → t.answer ≡ Done → IsFinished t (setting d asks) (done_by d asks)
+    → t.answer ≡ Done → LeavesRescued t (setting_promised d asks) (done_by d asks)
 
 -- What the reads gave is the input's own, where the input tells. So what a saved map calls finished, and the reads
 -- gave, stands in the output as it stands in the input.

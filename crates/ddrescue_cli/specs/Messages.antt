@@ -6,7 +6,7 @@ use Rattle.rescue_rules.specs.declared.stop.Stop.TheVariants.{SourceLost as Inpu
 use Rattle.rescue_rules.specs.declared.stop.Limit.{Limit}
 use Rattle.rescue_rules.specs.declared.stop.Limit.TheVariants.{TooManyErrors, TooManyAreas, TimedOut}
 use Rattle.rescue_console.specs.declared.console.Channel.TheVariants.{Err}
-use Rattle.rescue_console.specs.Speaking.{Piece}
+use Rattle.rescue_console.specs.Speaking.{SpokenPiece}
 use Rattle.fault_texts.specs.Texts.{numbered_text, usage_text, error_text, fault_text, message_of}
 use Rattle.ddrescue_cli.specs.declared.ending.Which.{Which}
 use Rattle.ddrescue_cli.specs.declared.ending.Which.TheVariants.{DomainMap, TestMap, RunMap}
@@ -64,6 +64,6 @@ abbrev pub message : Ending → List ℕ
 message e = message_of program_name (text_of_ending e)
 
 -- what is said of an answer on the console: nothing of what is finished, else its message, on standard error
-abbrev pub message_pieces : Ending → List Piece
+abbrev pub message_pieces : Ending → List SpokenPiece
 message_pieces Done = []
 message_pieces e = record { channel = Err; text = message e } ∷ []

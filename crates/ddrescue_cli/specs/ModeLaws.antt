@@ -14,7 +14,7 @@ use Rattle.rescue_rules.specs.declared.stop.Stop.{Stop}
 use Rattle.rescue_rules.specs.Setting.{Setting, place}
 use Rattle.rescue_rules.specs.Start.{Stands}
 use Rattle.rescue_rules.specs.Snapshots.{text_of}
-use Rattle.sweep_rules.specs.Sweep.{Sweeper, Swept, filler, generator, sweep_over, swept_by, sweep_end, IsSweep, IsSweptOut}
+use Rattle.sweep_rules.specs.Sweep.{Sweeper, Swept, filler, generator, sweep_over, behind_pieces, sweep_end, IsSweep, IsSweptOut}
 use Rattle.sweep_rules.specs.SweepLaws.{AreGiven}
 use Rattle.sweep_rules.specs.SweepStops.{AreFilled}
 use Rattle.work_steps.specs.Work.{Deeds}
@@ -34,16 +34,16 @@ use Rattle.ddrescue_cli.specs.Ddrescue.{Ddrescue, FillModePromise, GenerateModeP
 use Rattle.ddrescue_cli.specs.Laws.{IsVerdict, NothingFailed}
 
 -- the promise of a filling, and what it was asked for
-abbrev pub filling : {t : Told} {types : TypeSet} {c : Command} → Ddrescue t → AskTask t.words (Fill types c)
+abbrev pub promised_fill : {t : Told} {types : TypeSet} {c : Command} → Ddrescue t → AskTask t.words (Fill types c)
     → FillModePromise types c t
-filling {t} {types} {c} d asks = d.asked_for (Fill types c) asks
+promised_fill {t} {types} {c} d asks = d.asked_for (Fill types c) asks
 
 abbrev pub filling_setting : {t : Told} {types : TypeSet} {c : Command} → FillModePromise types c t → Setting
 filling_setting {t} {types} {c} p = fill_setting c (command_line program_name t.words) p.top p.outside.maps
 
 -- the promise of a generating
-abbrev pub generating : {t : Told} {c : Command} → Ddrescue t → AskTask t.words (Generate c) → GenerateModePromise c t
-generating {t} {c} d asks = d.asked_for (Generate c) asks
+abbrev pub promised_generate : {t : Told} {c : Command} → Ddrescue t → AskTask t.words (Generate c) → GenerateModePromise c t
+promised_generate {t} {c} d asks = d.asked_for (Generate c) asks
 
 -- nothing of a filling is refused
 pub record FillsUnrefused (c : Command) (o : Outside) (top : ℕ) : Type 0 where
@@ -54,13 +54,13 @@ pub record FillsUnrefused (c : Command) (o : Outside) (top : ℕ) : Type 0 where
 -- tells.
 abbrev pub FillIsDoneUnless : Type 0
 FillIsDoneUnless = (t : Told) (types : TypeSet) (c : Command) (d : Ddrescue t) (asks : AskTask t.words (Fill types c))
-    → NothingFailed t → FillsUnrefused c (filling d asks).outside (filling d asks).top → t.answer ≢ PatternUnread
+    → NothingFailed t → FillsUnrefused c (promised_fill d asks).outside (promised_fill d asks).top → t.answer ≢ PatternUnread
     → t.answer ≢ NoMemory → t.answer ≡ Done
 
 -- Where nothing failed, nothing is refused and memory doesn't run out, a generating is done, whoever tells.
 abbrev pub GenerateIsDoneUnless : Type 0
 GenerateIsDoneUnless = (t : Told) (c : Command) (d : Ddrescue t) (asks : AskTask t.words (Generate c)) → NothingFailed t
-    → RefuseNothing (generate_rows c (generating d asks).outside.found (generating d asks).outside.end)
+    → RefuseNothing (generate_rows c (promised_generate d asks).outside.found (promised_generate d asks).outside.end)
     → t.answer ≢ NoMemory → t.answer ≡ Done
 
 -- An answer of a filling or of a generating that names a failed call names one that a step makes.
@@ -76,12 +76,12 @@ GenerateFaultsAreOfSteps = (t : Told) (c : Command) (d : Ddrescue t) (call : Sit
 -- made, empty; and such a generating leaves every file.
 abbrev pub UnbegunFillLeaves : Type 0
 UnbegunFillLeaves = (t : Told) (types : TypeSet) (c : Command) (d : Ddrescue t) (asks : AskTask t.words (Fill types c))
-    → IsTrue t.site.tells → (filling d asks).outside.did.gain.times ≡ []
+    → IsTrue t.site.tells → (promised_fill d asks).outside.did.gain.times ≡ []
     → AllStand (files_of t) (files_in t.site') ⊎ OutputMade c.outfile (files_of t) (files_in t.site')
 
 abbrev pub UnbegunGenerateLeaves : Type 0
 UnbegunGenerateLeaves = (t : Told) (c : Command) (d : Ddrescue t) (asks : AskTask t.words (Generate c))
-    → IsTrue t.site.tells → (generating d asks).outside.did.gain.times ≡ [] → AllStand (files_of t) (files_in t.site')
+    → IsTrue t.site.tells → (promised_generate d asks).outside.did.gain.times ≡ [] → AllStand (files_of t) (files_in t.site')
 
 -- A filling whose pattern comes whole has one verdict at most, by its command, its pattern's length and the files that it
 -- finds, and so has a generating.
@@ -104,9 +104,9 @@ pub record IsSweptThrough (t : Told) (s : Setting) (w : Sweeper) (pieces : List 
     (state : Option MapState) (time : ℕ) : Type 0 where
   pub stands : Stands (files_of t s.names.map) s.end statuses state
   pub sweep : IsSweep s w (sweep_over w statuses state time) pieces
-  pub over : IsSweptOut s w (swept_by w (sweep_over w statuses state time) pieces)
+  pub over : IsSweptOut s w (behind_pieces w (sweep_over w statuses state time) pieces)
   pub mapfile : files_in t.site' s.names.map ≡ Some (record {
-    bytes = text_of s.line (sweep_end true (swept_by w (sweep_over w statuses state time) pieces));
+    bytes = text_of s.line (sweep_end true (behind_pieces w (sweep_over w statuses state time) pieces));
     regular = true;
   })
 
@@ -115,12 +115,12 @@ abbrev pub HasNoPiece : Setting → List Swept → (y : ℕ) → Type 0
 HasNoPiece s pieces y = All (λ e. (y < place s e.pos) ⊎ (place s e.pos + e.len ≤ y)) pieces
 
 -- What a filling leaves that is done: its map as it was, the pattern in each piece, and the old bytes elsewhere.
-pub record IsFilled (t : Told) (s : Setting) (types : TypeSet) (buffer : List ℕ) (pieces : List Swept) : Type 0 where
+pub record LeavesFilled (t : Told) (s : Setting) (types : TypeSet) (buffer : List ℕ) (pieces : List Swept) : Type 0 where
   pub statuses : List Status
   pub state : Option MapState
   pub time : ℕ
-  pub swept_ : IsSweptThrough t s (filler s types buffer) pieces statuses state time
-  pub map : (swept_by (filler s types buffer) (sweep_over (filler s types buffer) statuses state time) pieces).map
+  pub through : IsSweptThrough t s (filler s types buffer) pieces statuses state time
+  pub map : (behind_pieces (filler s types buffer) (sweep_over (filler s types buffer) statuses state time) pieces).map
       ≡ statuses
   pub filled : AreFilled s buffer pieces (bytes_of (files_in t.site' s.outfile))
   pub elsewhere : (y : ℕ) → y < length (bytes_of (files_of t s.outfile)) → HasNoPiece s pieces y
@@ -129,21 +129,21 @@ pub record IsFilled (t : Told) (s : Setting) (types : TypeSet) (buffer : List �
 abbrev pub DoneIsFilled : Type 0
 DoneIsFilled = (t : Told) (types : TypeSet) (c : Command) (d : Ddrescue t) (asks : AskTask t.words (Fill types c))
     → IsTrue t.site.tells → t.answer ≡ Done
-    → IsFilled t (filling_setting (filling d asks)) types (filling d asks).buffer (filling d asks).pieces
+    → LeavesFilled t (filling_setting (promised_fill d asks)) types (promised_fill d asks).buffer (promised_fill d asks).pieces
 
 -- What a generating leaves that is done: a map of what the output held, and the output as it was.
-pub record IsGenerated (t : Told) (s : Setting) (pieces : List Swept) : Type 0 where
+pub record LeavesGenerated (t : Told) (s : Setting) (pieces : List Swept) : Type 0 where
   pub statuses : List Status
   pub state : Option MapState
   pub time : ℕ
-  pub swept_ : IsSweptThrough t s (generator s) pieces statuses state time
+  pub through : IsSweptThrough t s (generator s) pieces statuses state time
   pub given : AreGiven s (bytes_of (files_of t s.outfile)) pieces
   -- what its map calls finished was so before, or has a byte in the output
-  pub held : (x : ℕ) → Has (swept_by (generator s) (sweep_over (generator s) statuses state time) pieces).map Finished x
+  pub held : (x : ℕ) → Has (behind_pieces (generator s) (sweep_over (generator s) statuses state time) pieces).map Finished x
       → Has statuses Finished x ⊎ ((b : ℕ) × (slice_get (bytes_of (files_of t s.outfile)) (place s x) ≡ Some b))
   pub output : bytes_of (files_in t.site' s.outfile) ≡ bytes_of (files_of t s.outfile)
 
 abbrev pub DoneIsGenerated : Type 0
 DoneIsGenerated = (t : Told) (c : Command) (d : Ddrescue t) (asks : AskTask t.words (Generate c))
     → IsTrue t.site.tells → t.answer ≡ Done
-    → IsGenerated t (asked_of c t (generating d asks).outside) (generating d asks).pieces
+    → LeavesGenerated t (asked_of c t (promised_generate d asks).outside) (promised_generate d asks).pieces

@@ -15,7 +15,7 @@ use Rattle.rescue_rules.specs.StopsBy.{StopsBy}
 use Rattle.sweep_rules.specs.Sweep.{Sweeper, Swept, filler, generator}
 use Rattle.sweep_rules.specs.SweepWork.{Sweeps, sweep_begins, sweep_lines}
 use Rattle.sweep_rules.specs.SweepStops.{FillPromise, GeneratePromise, pieces_before, sweep_saves}
-use Rattle.work_steps.specs.Work.{Deeds, Step, Take, Look, Open, Works}
+use Rattle.work_steps.specs.Work.{Deeds, WorkStep, Take, Look, Open, Works}
 use Rattle.rescue_command.specs.Options.{cluster_of}
 use Rattle.rescue_command.specs.Command.{Command, Task, Rescue, Fill, Generate}
 use Rattle.ddrescue_cli.specs.declared.aim.Aim.{Aim}
@@ -60,16 +60,16 @@ fill_setting c line top maps = record (setting_of c line top maps) { end = 0 }
 -- ---- the steps
 
 -- what comes first: the names are looked at, and the map that an option names is read
-abbrev pub named_rows : Command → Found → List (Step Ending)
+abbrev pub named_rows : Command → Found → List (WorkStep Ending)
 named_rows c found =
     Take ∷ Look (NamesRefused c) ∷ map_rows DomainMap (map_mode c.options.loose) c.domain_map found.domain
 
 -- The steps of a filling up to the read of its pattern, which takes memory,
-abbrev pub fill_rows : Command → Found → (end : ℕ) → List (Step Ending)
+abbrev pub fill_rows : Command → Found → (end : ℕ) → List (WorkStep Ending)
 fill_rows c found end = named_rows c found ++ Open c.infile ∷ Look (PatternEmpty end) ∷ Take ∷ []
 
 -- and all steps of a generating, which makes no output.
-abbrev pub generate_rows : Command → Found → (end : ℕ) → List (Step Ending)
+abbrev pub generate_rows : Command → Found → (end : ℕ) → List (WorkStep Ending)
 generate_rows c found end = named_rows c found ++ Open c.infile ∷ files_rows false c found end
 
 -- ---- the sweep behind them

@@ -18,7 +18,7 @@ use Rattle.rescue_rules.specs.Events.{reads_of, times_of}
 use Rattle.rescue_core.specs.RunState.{RunState, setting_in}
 use Rattle.rescue_sample.specs.Sample.{sample_size}
 use Rattle.rescue_sample.specs.Line.{IsSampleLine}
-use Rattle.work_steps.specs.Work.{Deeds, Step, Take, Works}
+use Rattle.work_steps.specs.Work.{Deeds, WorkStep, Take, Works}
 use Rattle.work_steps.specs.Parts.{only_calls}
 use Rattle.rescue_command.specs.Command.{sample_command}
 use Rattle.ddrescue_cli.specs.declared.ending.Ending.{Ending}
@@ -43,7 +43,7 @@ abbrev pub IsLineOf : (kib : ℕ) → (line : List ℕ) → Type 0
 IsLineOf kib line = IsSampleLine kib (sample_setting (sample_size kib)) (sample_start (sample_size kib) 0) line
 
 -- The step of such a call: it takes memory.
-abbrev pub sample_rows : List (Step Ending)
+abbrev pub sample_rows : List (WorkStep Ending)
 sample_rows = Take ∷ []
 
 -- Then the sample is rescued, which does nothing on the objects of the call, and its line is said.

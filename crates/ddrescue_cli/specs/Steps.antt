@@ -28,8 +28,8 @@ use Rattle.work_steps.specs.Work.{Deeds, Works}
 use Rattle.work_steps.specs.Parts.{DidPart}
 use Rattle.rescue_command.specs.declared.options.Options.{Options}
 use Rattle.rescue_command.specs.Command.{Command, AreInLimits, told_by}
-use Rattle.ddrescue_cli.specs.declared.load.Start.{Start}
-use Rattle.ddrescue_cli.specs.declared.plan.Plan.{Plan}
+use Rattle.ddrescue_cli.specs.declared.load.LoadedMap.{LoadedMap}
+use Rattle.ddrescue_cli.specs.declared.plan.CheckedCommand.{CheckedCommand}
 use Rattle.ddrescue_cli.specs.declared.ending.Which.{Which}
 use Rattle.ddrescue_cli.specs.declared.ending.Which.TheVariants.{RunMap}
 use Rattle.ddrescue_cli.specs.declared.ending.Ended.{Ended}
@@ -53,7 +53,7 @@ heard_behind heard (Err e) = heard
 
 -- what a rescue needs before it opens a file: the names of its mapfile and its draft, apart from the outfile's, files of
 -- different names, the heading of a map that wasn't saved yet, and options within their limits
-pub record IsPlanned (plan : Plan) : Type 0 where
+pub record IsPlanned (plan : CheckedCommand) : Type 0 where
   pub names : plan.names ≡ names_by (told_by plan.command)
   pub apart : AreNamedApart (told_by plan.command).outfile plan.names
   pub different : first_same (told_by plan.command).infile (told_by plan.command).outfile
@@ -62,7 +62,7 @@ pub record IsPlanned (plan : Plan) : Type 0 where
   pub limits : AreInLimits plan.command.options
 
 -- a map that reaches an input's end and the state that a mapfile shows, if one does, within the limits
-pub record Fits (end : ℕ) (map : List Status) (state : Option MapState) : Type 0 where
+pub record SuitsInput (end : ℕ) (map : List Status) (state : Option MapState) : Type 0 where
   pub long : end ≤ length map
   pub short : length map < 2 ^ 63
   pub pos : IfSome state (λ shown. shown.pos < 2 ^ 63)
@@ -134,12 +134,12 @@ OpensOutput makes forced outfile result old new =
     DidPart rescue_faults (output_rows makes forced outfile) (files_in old outfile) (λ x file. ⊤) result old new
 
 -- what a rescue begins with is what its mapfile stands for, for an input with this length
-pub record StartsAs (end : ℕ) (start : Start) (file : Option File) : Type 0 where
+pub record StartsAs (end : ℕ) (start : LoadedMap) (file : Option File) : Type 0 where
   pub stands : Stands file end start.tiles.statuses start.state
   pub lists : MapfileLists file start.first start.listed_end
 
 -- what the load of a mapfile did, if there is one
-abbrev pub Loads : (mapfile : Option (List ℕ)) → (end : ℕ) → Result Start Ending → (old new : SiteState) → Type 0
+abbrev pub Loads : (mapfile : Option (List ℕ)) → (end : ℕ) → Result LoadedMap Ending → (old new : SiteState) → Type 0
 Loads mapfile end result old new =
     DidPart rescue_faults (load_rows mapfile) (file_of mapfile (files_in old)) (StartsAs end) result old new
 
@@ -149,7 +149,7 @@ mapfile_by None = None
 mapfile_by (Some names) = Some names.map
 
 -- what maps and a mapfile that were read say of the positions that are to be rescued
-abbrev pub maps_read : Options → (domain test : Option Tiled) → Start → Maps
+abbrev pub maps_read : Options → (domain test : Option Tiled) → LoadedMap → Maps
 maps_read o domain test start = record {
   domain = statuses_in domain;
   test = statuses_in test;
@@ -177,7 +177,7 @@ abbrev pub maps_of : (domain test : Option (List Status)) → (listed : Option (
 maps_of domain test listed = record { domain = domain; test = test; listed = listed }
 
 -- What the work did behind the maps that options name, which have these statuses. Of their files nothing is said here.
-pub record Opened (c : Command) (line : List ℕ) (domain test : Option (List Status)) (heard heard' : Bool) (e : Ending)
+pub record DidBehindMaps (c : Command) (line : List ℕ) (domain test : Option (List Status)) (heard heard' : Bool) (e : Ending)
     (o : Across) : Type 0 where
   pub found : Found
   pub output : IsTrue o.site.tells → found.output ≡ files_in o.site c.outfile

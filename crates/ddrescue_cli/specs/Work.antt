@@ -15,7 +15,7 @@ use Rattle.rescue_rules.specs.declared.stop.RunEnd.{RunEnd}
 use Rattle.rescue_rules.specs.declared.stop.RunEnd.TheVariants.{Done as Finished, Stopped, SaveFailed}
 use Rattle.rescue_rules.specs.Lines.{opening_lines, lines_of}
 use Rattle.rescue_rules.specs.Work.{Gain, Runs, begins, events_in}
-use Rattle.work_steps.specs.Work.{Deeds, Faults, Step, Take, Look, Open, Make, Read}
+use Rattle.work_steps.specs.Work.{Deeds, Faults, WorkStep, Take, Look, Open, Make, Read}
 use Rattle.rescue_command.specs.Command.{Command}
 use Rattle.ddrescue_cli.specs.declared.ending.Ending.{Ending}
 use Rattle.ddrescue_cli.specs.declared.ending.Ending.TheVariants.{Done, SourceFault, SourceLost, SiteFault, LimitMet, NoMemory}
@@ -33,16 +33,16 @@ abbrev pub IfNamed : Option (List ℕ) → (Ending → Type 0) → Ending → Ty
 IfNamed name refuses e = (is_some name ≡ true) × refuses e
 
 -- A map that an option names, if one does, is read, and may be absent or refused.
-abbrev pub map_rows : Which → Mode → (name : Option (List ℕ)) → (file : Option File) → List (Step Ending)
+abbrev pub map_rows : Which → Mode → (name : Option (List ℕ)) → (file : Option File) → List (WorkStep Ending)
 map_rows which mode name file = Read name file ∷ Look (IfNamed name (NamedMapRefused which mode file)) ∷ []
 
 -- An output that is absent is made, or it is refused.
-abbrev pub missing_rows : (makes : Bool) → (file : Option File) → List (Step Ending)
+abbrev pub missing_rows : (makes : Bool) → (file : Option File) → List (WorkStep Ending)
 missing_rows true file = []
 missing_rows false file = Look (OutputMissing file) ∷ []
 
 -- The output is opened, and may be refused.
-abbrev pub output_rows : (makes forced : Bool) → (outfile : List ℕ) → (file : Option File) → List (Step Ending)
+abbrev pub output_rows : (makes forced : Bool) → (outfile : List ℕ) → (file : Option File) → List (WorkStep Ending)
 output_rows makes forced outfile file =
     Make (image_open outfile makes ∷ []) ∷ (missing_rows makes file ++ Look (OutputRefused forced file) ∷ [])
 
@@ -52,28 +52,28 @@ barrier_of None = []
 barrier_of (Some name) = barrier_calls (names_of name)
 
 -- With a mapfile the barrier makes durable what stands, and the mapfile is read, and may be refused.
-abbrev pub load_rows : (mapfile : Option (List ℕ)) → (file : Option File) → List (Step Ending)
+abbrev pub load_rows : (mapfile : Option (List ℕ)) → (file : Option File) → List (WorkStep Ending)
 load_rows mapfile file = Make (barrier_of mapfile) ∷ Read mapfile file ∷ Look (MapfileRefused file) ∷ []
 
 -- what follows the input: the output is opened and the mapfile loaded, and each position that is asked for below a
 -- limit wants a place in the output
-abbrev pub files_rows : (makes : Bool) → Command → Found → (limit : ℕ) → List (Step Ending)
+abbrev pub files_rows : (makes : Bool) → Command → Found → (limit : ℕ) → List (WorkStep Ending)
 files_rows makes c found limit =
     output_rows makes c.options.forced c.outfile found.output ++ load_rows c.mapfile found.mapfile
     ++ Look (PlacesRefused c.options limit) ∷ []
 
 -- what follows the maps that options name: the input is opened, and then the files
-abbrev pub opened_rows : Command → Found → (end : ℕ) → List (Step Ending)
+abbrev pub opened_rows : Command → Found → (end : ℕ) → List (WorkStep Ending)
 opened_rows c found end = Open c.infile ∷ files_rows true c found end
 
 -- what follows the names
-abbrev pub worked_rows : Command → Found → (end : ℕ) → List (Step Ending)
+abbrev pub worked_rows : Command → Found → (end : ℕ) → List (WorkStep Ending)
 worked_rows c found end =
     map_rows DomainMap (map_mode c.options.loose) c.domain_map found.domain
     ++ map_rows TestMap (map_mode c.options.loose) c.test_map found.test ++ opened_rows c found end
 
 -- The steps of a rescue before its run.
-abbrev pub rescue_rows : Command → Found → (end : ℕ) → List (Step Ending)
+abbrev pub rescue_rows : Command → Found → (end : ℕ) → List (WorkStep Ending)
 rescue_rows c found end = Take ∷ Look (NamesRefused c) ∷ worked_rows c found end
 
 -- the answer of a run that ended so

@@ -9,18 +9,18 @@ ghost use Rattle.rescue_command.specs.Command.{told_by};
 ghost use Rattle.sweep_rules.specs.Sweep.{filler};
 ghost use Rattle.ddrescue_cli.specs.Asked.{ArePlacedBy};
 ghost use Rattle.ddrescue_cli.specs.Answers.{Causes, drafting_left};
-ghost use Rattle.ddrescue_cli.specs.Steps.{ending_of, heard_behind, maps_read, Fits, IsPlanned};
+ghost use Rattle.ddrescue_cli.specs.Steps.{ending_of, heard_behind, maps_read, SuitsInput, IsPlanned};
 ghost use Rattle.ddrescue_cli.specs.Modes.{fill_setting};
 ghost use Rattle.ddrescue_cli.specs.SweepSteps.{DidSweep, SweepCause, WorkedFill};
 
 use crate::ending::{Ended, Ending, Which, answer};
-use crate::load::{Start, load};
+use crate::load::{LoadedMap, load};
 use crate::maps::read_named;
 use crate::open::open_output;
 use crate::opening::say_line;
 use crate::pattern::read_pattern;
 use crate::places::places_fit;
-use crate::plan::Plan;
+use crate::plan::CheckedCommand;
 use crate::sweep::{make_job, make_sweep};
 use block_list::plain_tiles::PlainTiles;
 use block_list::tiles::Tiles;
@@ -37,14 +37,14 @@ use std::alloc::Global;
 /// said behind that.
 fn run<D: Site, K: Clock, C: Console>(
     alloc: Global,
-    plan: Plan<'_>,
+    plan: CheckedCommand<'_>,
     types: TypeSet,
     buffer: &[u8],
     domain_map: &Option<PlainTiles>,
     site: &mut D,
     clock: &mut K,
     console: &mut C,
-    start: Start,
+    start: LoadedMap,
     top: u64,
     heard: bool,
 ) -> Ended
@@ -54,7 +54,7 @@ fn run<D: Site, K: Clock, C: Console>(
     requires named { is_some (told_by plan.command).mapfile ≡ true }
     requires room { length buffer.now ≡ cluster_of (told_by plan.command).options }
     requires placed { ArePlacedBy (told_by plan.command).options top }
-    requires fits { Fits 0 start.tiles.statuses start.state }
+    requires fits { SuitsInput 0 start.tiles.statuses start.state }
     requires top { top ≡ length start.tiles.statuses }
     ensures ran { (test : Option Tiled) →
         let c = told_by plan.entry.command in
@@ -73,7 +73,7 @@ fn run<D: Site, K: Clock, C: Console>(
     ensures site { SiteKeeps (D.state site.old) (D.state site.new) }
     ensures clock { ClockKeeps (K.state clock.old) (K.state clock.new) }
 {
-    let Plan {
+    let CheckedCommand {
         command,
         names,
         heading,
@@ -96,7 +96,7 @@ fn run<D: Site, K: Clock, C: Console>(
 /// Reads the map that an option names and the pattern, opens the outfile, loads the mapfile, and fills.
 pub(crate) fn fill<S: Source, D: Site, K: Clock, C: Console>(
     alloc: Global,
-    plan: Plan<'_>,
+    plan: CheckedCommand<'_>,
     types: TypeSet,
     source: &mut S,
     site: &mut D,

@@ -7,16 +7,16 @@ ghost use Rattle.rescue_console.specs.ClockState.{Keeps as ClockKeeps};
 ghost use Rattle.rescue_command.specs.Command.{told_by};
 ghost use Rattle.ddrescue_cli.specs.Asked.{ArePlacedBy, setting_of};
 ghost use Rattle.ddrescue_cli.specs.Answers.{Causes, drafting_left};
-ghost use Rattle.ddrescue_cli.specs.Steps.{ending_of, heard_behind, maps_read, Fits, IsPlanned};
+ghost use Rattle.ddrescue_cli.specs.Steps.{ending_of, heard_behind, maps_read, SuitsInput, IsPlanned};
 ghost use Rattle.ddrescue_cli.specs.SweepSteps.{DidGenerate, SweepCause, WorkedGenerate};
 
 use crate::ending::{Ended, Ending, Which, answer};
-use crate::load::{Start, load};
+use crate::load::{LoadedMap, load};
 use crate::maps::read_named;
 use crate::open::open_output;
 use crate::opening::say_line;
 use crate::places::places_fit;
-use crate::plan::Plan;
+use crate::plan::CheckedCommand;
 use crate::sweep::{make_job, make_sweep};
 use block_list::plain_tiles::PlainTiles;
 use crash_site::site::Site;
@@ -31,12 +31,12 @@ use std::alloc::Global;
 /// taken before the clock is read; what is said first is said behind that.
 fn run<D: Site, K: Clock, C: Console>(
     alloc: Global,
-    plan: Plan<'_>,
+    plan: CheckedCommand<'_>,
     domain_map: &Option<PlainTiles>,
     site: &mut D,
     clock: &mut K,
     console: &mut C,
-    start: Start,
+    start: LoadedMap,
     end: u64,
     heard: bool,
 ) -> Ended
@@ -46,7 +46,7 @@ fn run<D: Site, K: Clock, C: Console>(
     requires named { is_some (told_by plan.command).mapfile ≡ true }
     requires placed { ArePlacedBy (told_by plan.command).options end }
     requires end { end < 2 ^ 63 }
-    requires fits { Fits end start.tiles.statuses start.state }
+    requires fits { SuitsInput end start.tiles.statuses start.state }
     ensures ran { (test : Option Tiled) →
         let c = told_by plan.entry.command in
         let s = setting_of c plan.entry.heading.line end (maps_read c.options domain_map.now test start) in
@@ -63,7 +63,7 @@ fn run<D: Site, K: Clock, C: Console>(
     ensures site { SiteKeeps (D.state site.old) (D.state site.new) }
     ensures clock { ClockKeeps (K.state clock.old) (K.state clock.new) }
 {
-    let Plan {
+    let CheckedCommand {
         command,
         names,
         heading,
@@ -91,7 +91,7 @@ fn run<D: Site, K: Clock, C: Console>(
 /// the mapfile, and looks up what the outfile holds.
 pub(crate) fn generate<S: Source, D: Site, K: Clock, C: Console>(
     alloc: Global,
-    plan: Plan<'_>,
+    plan: CheckedCommand<'_>,
     source: &mut S,
     site: &mut D,
     clock: &mut K,

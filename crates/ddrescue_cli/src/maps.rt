@@ -8,7 +8,7 @@ ghost use Rattle.save_resume.specs.Named.{map_mode};
 ghost use Rattle.ddrescue_cli.specs.Steps.{refusal_of, ReadsMap, MapCause, maps_read};
 
 use crate::ending::{Ending, Which};
-use crate::load::Start;
+use crate::load::LoadedMap;
 use block_list::plain_tiles::PlainTiles;
 use block_list::tiles::NoMemory;
 use crash_site::site::{Site, SiteCall};
@@ -59,7 +59,7 @@ pub(crate) fn domain_of(
     alloc: Global,
     options: &Options,
     domain_map: &Option<PlainTiles>,
-    start: &Start,
+    start: &LoadedMap,
     end: u64,
 ) -> Result<Domain, NoMemory>
     requires end { end < 2 ^ 63 }

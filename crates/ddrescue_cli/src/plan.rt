@@ -61,7 +61,7 @@ pub(crate) fn make_names(alloc: Global, mapfile: Option<&str>) -> Result<Option<
 
 /// What a rescue needs before it opens a file.
 #[derive(Drop)]
-pub(crate) struct Plan<'a> {
+pub(crate) struct CheckedCommand<'a> {
     pub command: Command<'a>,
     /// The names of the mapfile and its draft, if there is one.
     pub names: Option<Names>,
@@ -69,11 +69,11 @@ pub(crate) struct Plan<'a> {
 }
 
 /// Refuses two files of one name, and takes the memory that the saves want for names and heading.
-pub(crate) fn make_plan<'a>(
+pub(crate) fn check_command<'a>(
     alloc: Global,
     words: &Words,
     command: Command<'a>,
-) -> Result<Plan<'a>, Ending>
+) -> Result<CheckedCommand<'a>, Ending>
     ensures command { IfOk result (λ p. told_by p.command ≡ told_by command.entry) }
     ensures names { IfOk result (λ p. p.names ≡ names_by (told_by command.entry)) }
     ensures heading { IfOk result (λ p. p.heading ≡ heading_at (command_line program_name words.now) 0 0) }
@@ -90,7 +90,7 @@ pub(crate) fn make_plan<'a>(
     let Ok(heading) = make_heading(alloc, words) else {
         return Err(Ending::NoMemory);
     };
-    Ok(Plan {
+    Ok(CheckedCommand {
         command,
         names,
         heading,

@@ -9,10 +9,10 @@ ghost use Rattle.rescue_rules.specs.Lines.{opening_lines};
 ghost use Rattle.rescue_rules.specs.Snapshots.{heading_at};
 ghost use Rattle.rescue_command.specs.Command.{AreInLimits, told_by};
 ghost use Rattle.ddrescue_cli.specs.Asked.{Maps, ArePlacedBy, domain_asked, setting_of};
-ghost use Rattle.ddrescue_cli.specs.Steps.{maps_read, Fits};
+ghost use Rattle.ddrescue_cli.specs.Steps.{maps_read, SuitsInput};
 ghost use Rattle.ddrescue_cli.specs.Running.{IsReady, IsRunOver, MayBegin, lines_in, settings_by};
 
-use crate::load::Start;
+use crate::load::LoadedMap;
 use crate::maps::domain_of;
 use crate::opening::opening_line;
 use crate::places::output_from;
@@ -68,7 +68,7 @@ fn copying_from(again: bool, state: Option<MapState>) -> Option<MapState>
 
 /// What a run begins with: all that it wants memory for.
 #[derive(Drop)]
-pub(crate) struct Ready {
+pub(crate) struct RunMemory {
     pub domain: Domain,
     /// What is made of the map that it goes on with.
     pub tiles: RunMap,
@@ -103,19 +103,19 @@ pub(crate) fn make_ready(
     alloc: Global,
     command: Command<'_>,
     domain_map: &Option<PlainTiles>,
-    start: Start,
+    start: LoadedMap,
     end: u64,
-) -> Result<Ready, NoMemory>
+) -> Result<RunMemory, NoMemory>
     requires limits { AreInLimits (told_by command).options }
     requires end { end < 2 ^ 63 }
-    requires fits { Fits end start.tiles.statuses start.state }
+    requires fits { SuitsInput end start.tiles.statuses start.state }
     ensures ready { (test : Option Tiled) → IfOk result (λ ready. IsReady (told_by command.entry) end
         (maps_read (told_by command.entry).options domain_map.now test start) start.tiles.statuses start.state ready) }
     ensures begins { IfOk result (λ ready. MayBegin (told_by command.entry).options ready) }
 {
     let options = command.options;
     let domain = domain_of(alloc, &options, domain_map, &start, end)?;
-    let Start {
+    let LoadedMap {
         mut tiles,
         state,
         ..
@@ -125,7 +125,7 @@ pub(crate) fn make_ready(
     let Ok(buf) = vec![in alloc; 0; options.cluster() as usize] else {
         return Err(NoMemory);
     };
-    Ok(Ready {
+    Ok(RunMemory {
         domain,
         tiles,
         state,
@@ -136,7 +136,7 @@ pub(crate) fn make_ready(
 
 /// Begins a run at this moment (milliseconds since 1970), which is heard or not.
 pub(crate) fn begin(
-    ready: Ready,
+    ready: RunMemory,
     command: Command<'_>,
     names: Option<Names>,
     heading: Heading,
@@ -147,11 +147,11 @@ pub(crate) fn begin(
     requires limits { AreInLimits (told_by command).options }
     requires begins { MayBegin (told_by command).options ready }
     ensures { (end : ℕ) (maps : Maps) (statuses : List Status) (state : Option State)
-        → ArePlacedBy (told_by command.entry).options end → Fits end statuses state
+        → ArePlacedBy (told_by command.entry).options end → SuitsInput end statuses state
         → IsReady (told_by command.entry) end maps statuses state ready
         → IsRunOver names heading.line (told_by command.entry).options end maps statuses state moment heard result }
 {
-    let Ready {
+    let RunMemory {
         domain,
         tiles,
         state,

@@ -7,7 +7,7 @@ ghost use Rattle.rescue_domain.specs.Parts.{covers};
 ghost use Rattle.rescue_rules.specs.declared.phase.Phase.TheVariants.{Retrying as LastPhase};
 ghost use Rattle.rescue_core.specs.RunState.{HasPlaces};
 ghost use Rattle.copy_passes.specs.Turns.{PhaseEnds};
-ghost use Rattle.copy_passes.specs.Copying.{IsCopying};
+ghost use Rattle.copy_passes.specs.Copying.{MayCopy};
 ghost use Rattle.trim_scrape.specs.Behind.{IsBehind};
 ghost use Rattle.ddrescue_cli.specs.Answers.{Causes, drafting_left};
 ghost use Rattle.ddrescue_cli.specs.Work.{answer_of};
@@ -34,7 +34,7 @@ pub(crate) fn run_phases<S: Source, D: Site, K: Clock, C: Console>(
     clock: &mut K,
     console: &mut C,
 ) -> Result<Rescue<Finished, RunMap>, Stopped<RunMap>>
-    requires copying { IsCopying rescue }
+    requires copying { MayCopy rescue }
     requires places { HasPlaces rescue.settings (covers rescue.domain) }
     requires ready { AreReady (S.state source.old) (D.state site.old) }
     ensures ends { PhaseEnds rescue result (record {
@@ -73,7 +73,7 @@ pub fn run_rescue<S: Source, D: Site, K: Clock, C: Console>(
     clock: &mut K,
     console: &mut C,
 ) -> Closed
-    requires copying { IsCopying rescue }
+    requires copying { MayCopy rescue }
     requires places { HasPlaces rescue.settings (covers rescue.domain) }
     requires ready { AreReady (S.state source.old) (D.state site.old) }
     ensures went { WentToEnd rescue result.end result.heard (record {

@@ -3,7 +3,7 @@ ghost use Rattle.std.specs.Prelude.{◌≡◌, ◌<◌, ◌≤◌, IfOk};
 ghost use Rattle.rescue_domain.specs.Parts.{covers};
 ghost use Rattle.rescue_rules.specs.Counts.{counts_of};
 ghost use Rattle.rescue_core.specs.RunState.{HasPlaces};
-ghost use Rattle.copy_passes.specs.Copying.{IsCopying};
+ghost use Rattle.copy_passes.specs.Copying.{MayCopy};
 ghost use Rattle.ddrescue_cli.specs.Running.{AreReady};
 ghost use Rattle.ddrescue_cli.specs.Sampled.{IsLineOf, RanSample, RanToEnd, TellsSample};
 
@@ -63,7 +63,7 @@ fn count_run<S: Source, D: Site, K: Clock, C: Console>(
     clock: &mut K,
     console: &mut C,
 ) -> Result<Counts, NoMemory>
-    requires copying { IsCopying rescue }
+    requires copying { MayCopy rescue }
     requires places { HasPlaces rescue.settings (covers rescue.domain) }
     requires ready { AreReady (S.state source.old) (D.state site.old) }
     ensures { IfOk result (λ counts. RanToEnd rescue counts (S.state source.old) (S.state source.new)

@@ -8,7 +8,7 @@ ghost use Rattle.ddrescue_cli.specs.Asked.{Maps, ArePlacedBy};
 ghost use Rattle.ddrescue_cli.specs.Steps.{maps_read};
 ghost use Rattle.ddrescue_cli.specs.SweepSteps.{IsJobOver, IsSweepReady};
 
-use crate::load::Start;
+use crate::load::LoadedMap;
 use crate::maps::domain_of;
 use crate::ready::{make_opening, settings_for};
 use crate::run::RunMap;
@@ -40,7 +40,7 @@ pub(crate) fn make_sweep(
     alloc: Global,
     command: Command<'_>,
     domain_map: &Option<PlainTiles>,
-    start: Start,
+    start: LoadedMap,
     limit: u64,
 ) -> Result<SweepReady, NoMemory>
     requires limits { AreInLimits (told_by command).options }
@@ -51,7 +51,7 @@ pub(crate) fn make_sweep(
 {
     let domain = domain_of(alloc, &command.options, domain_map, &start, limit)?;
     let opening = make_opening(alloc, command, &domain)?;
-    let Start { tiles, state, .. } = start;
+    let LoadedMap { tiles, state, .. } = start;
     Ok(SweepReady {
         domain,
         tiles,

@@ -19,7 +19,7 @@ use Rattle.ddrescuelog_cli.specs.Told.{Told}
 use Rattle.ddrescuelog_cli.specs.Maps.{Maps}
 use Rattle.ddrescuelog_cli.specs.Refusals.{PlacesRefused}
 use Rattle.ddrescuelog_cli.specs.Results.{text_of}
-use Rattle.ddrescuelog_cli.specs.Answers.{Causes, FitsCommand, Takes, drafting_left}
+use Rattle.ddrescuelog_cli.specs.Answers.{Causes, FitsCommand, TakesFeed, drafting_left}
 use Rattle.ddrescuelog_cli.specs.Behind.{SiteCounts, FeedCounts, SiteBehind}
 use Rattle.ddrescuelog_cli.specs.Ddrescuelog.{PutsAs}
 use Rattle.ddrescuelog_cli.specs.Steps.{ReadCause}
@@ -198,7 +198,7 @@ pub feed_untaken : (e : LogEnding) (c : Command) (f : FeedState) → creates c.m
 feed_untaken e c f reads fits = record {
   keeps = feed_keeps f;
   counts = feed_counts e c reads fits f.faults;
-  takes = subst (λ (b : Bool). Takes b e f f) (sym reads) refl;
+  takes = subst (λ (b : Bool). TakesFeed b e f f) (sym reads) refl;
 }
 
 -- ---- standard output

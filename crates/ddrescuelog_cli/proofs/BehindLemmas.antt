@@ -8,7 +8,7 @@ use Rattle.crash_site.specs.Calls.{Call, Entry, Done as Returned, map_read}
 use Rattle.crash_site.specs.declared.site.SiteCall.TheVariants.{MapRead}
 use Rattle.save_resume.specs.Loading.{piece_size}
 use Rattle.save_resume.specs.Named.{map_mode}
-use Rattle.work_steps.specs.Work.{Deeds, Step, Take, Look, Open, Make, Read, Works}
+use Rattle.work_steps.specs.Work.{Deeds, WorkStep, Take, Look, Open, Make, Read, Works}
 use Rattle.work_steps.proofs.FrontLemmas.{IsMapRead, load_reads}
 use Rattle.log_command.specs.Command.{Command}
 use Rattle.ddrescuelog_cli.specs.declared.ending.Which.{Which}
@@ -53,7 +53,7 @@ went_by P run e front rest calls grew reads b = record {
   ends = b.ends;
 }
 
-pub behind_rows : (P : LogEnding → Type 0) (rows : List (Step LogEnding)) (run : LogEnding → Deeds → Type 0)
+pub behind_rows : (P : LogEnding → Type 0) (rows : List (WorkStep LogEnding)) (run : LogEnding → Deeds → Type 0)
     → OnlyRead rows → RowsGive P rows → (e : LogEnding) (calls : List Entry)
     → Works log_faults rows run e (only_calls calls) → Behind P run e calls
 behind_rows P [] run only give e calls w =

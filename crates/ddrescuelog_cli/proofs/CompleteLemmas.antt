@@ -20,7 +20,7 @@ use Rattle.ddrescuelog_cli.specs.Results.{Finds}
 use Rattle.ddrescuelog_cli.specs.Answers.{Causes}
 use Rattle.ddrescuelog_cli.specs.Work.{log_faults, named_rows, read_rows, EndsPrinted, EndsCreated, EndsAs, UnlessThere, WorksOver, WorksAs}
 use Rattle.ddrescuelog_cli.specs.Ddrescuelog.{Promise}
-use Rattle.ddrescuelog_cli.specs.Laws.{IsFound, IsFoundUnless, IsVerdict, NothingFailed, NothingIsRefused, rows_of_maps}
+use Rattle.ddrescuelog_cli.specs.Laws.{IsModeAnswer, IsFoundUnless, IsVerdict, NothingFailed, NothingIsRefused, rows_of_maps}
 use Rattle.ddrescuelog_cli.proofs.FoundLemmas.{answers_are_found}
 use Rattle.ddrescuelog_cli.proofs.VerdictLemmas.{Saves, saved_done, verdicts}
 
@@ -43,7 +43,7 @@ IsOfMode ConsoleFault = ⊥
 IsOfMode NoMemory = ⊥
 
 -- so it is what the mode finds
-found_by : (e : LogEnding) (F : LogEnding → Type 0) → IsOfMode e → IsFound e F → F e
+found_by : (e : LogEnding) (F : LogEnding → Type 0) → IsOfMode e → IsModeAnswer e F → F e
 found_by Done F of found = found
 found_by NotDone F of found = found
 found_by Differ F of found = found

@@ -38,7 +38,7 @@ use Rattle.ddrescuelog_cli.specs.Work.{log_faults, OnlyAnswers, EndsCreated, End
 use Rattle.ddrescuelog_cli.specs.Steps.{HasStatuses, statuses_in}
 use Rattle.ddrescuelog_cli.specs.Answers.{TakenBefore, AllTaken}
 use Rattle.ddrescuelog_cli.specs.Behind.{FeedBehind}
-use Rattle.ddrescuelog_cli.specs.Creating.{Looks, Makes, AreOfList, SavesText, Creates}
+use Rattle.ddrescuelog_cli.specs.Creating.{Looks, MakesList, AreOfList, SavesText, CreatesMap}
 use Rattle.ddrescuelog_cli.proofs.CallLemmas.{GainsBroken, broke_gains, Broken, broken_at}
 
 -- ---- the save
@@ -181,7 +181,7 @@ pub is_alone : (c : Command) (listed rest : Status) → AreInLimits c → c.mode
 is_alone c listed rest limits mode = limits.no_other (ap has_other mode)
 
 pub created_starved : (c : Command) (line : List ℕ) (site : SiteState) (feed : FeedState)
-    → Creates c line NoMemory site site feed
+    → CreatesMap c line NoMemory site site feed
 created_starved c line site feed = record {
   found = found_in c (files_in site);
   list = feed.left;
@@ -193,7 +193,7 @@ created_starved c line site feed = record {
 }
 
 pub created_stopped : (c : Command) (line : List ℕ) (e : LogEnding) (old new : SiteState) (feed : FeedState)
-    → Looks c (Err e) old new → Creates c line e old new feed
+    → Looks c (Err e) old new → CreatesMap c line e old new feed
 created_stopped c line e old new feed l = record {
   found = l.found;
   list = feed.left;
@@ -206,8 +206,8 @@ created_stopped c line e old new feed l = record {
 
 pub created_refused : (c : Command) (line : List ℕ) (listed rest : Status) (tiles : Option Tiled) (e : LogEnding)
     (old new : SiteState) (feed feed' : FeedState) → c.mode ≡ Create listed rest → c.other ≡ None
-    → Looks c (Ok tiles) old new → Makes c.options listed rest (statuses_in tiles) (Err e) feed feed'
-    → Creates c line e old new feed
+    → Looks c (Ok tiles) old new → MakesList c.options listed rest (statuses_in tiles) (Err e) feed feed'
+    → CreatesMap c line e old new feed
 created_refused c line listed rest tiles e old new feed feed' mode alone l w = record {
   found = l.found;
   list = w.list;
@@ -243,8 +243,8 @@ pub created : (c : Command) (line : List ℕ) (h : HeadingLines) (names : MapNam
     (tiles : Option Tiled) (made : Tiled) (e : LogEnding) (old mid new : SiteState) (feed feed' : FeedState)
     → c.mode ≡ Create listed rest → c.other ≡ None → names ≡ names_of c.mapfile → mid.tells ≡ old.tells
     → h ≡ record { program = Ddrescuelog; line = line; start_s = 0; now_s = 0 }
-    → Looks c (Ok tiles) old mid → Makes c.options listed rest (statuses_in tiles) (Ok made) feed feed'
-    → SavesText names (printed h first_shown made.statuses) e mid new → Creates c line e old new feed
+    → Looks c (Ok tiles) old mid → MakesList c.options listed rest (statuses_in tiles) (Ok made) feed feed'
+    → SavesText names (printed h first_shown made.statuses) e mid new → CreatesMap c line e old new feed
 created c line h names listed rest tiles made e old mid new feed feed' mode alone named same heading l w s =
     let text : List ℕ = printed h first_shown made.statuses in
     let m : Maps = maps_made tiles in

@@ -26,7 +26,7 @@ use Rattle.work_steps.specs.Work.{IsIdle}
 use Rattle.log_command.specs.declared.mode.LogMode.{LogMode}
 use Rattle.log_command.specs.declared.mode.LogMode.TheVariants.{Change, Combine, Complete, ListBlocks, Summarize}
 use Rattle.log_command.specs.Command.{Command}
-use Rattle.ddrescuelog_cli.specs.declared.load.Loaded.{Loaded}
+use Rattle.ddrescuelog_cli.specs.declared.load.LoadedMaps.{LoadedMaps}
 use Rattle.ddrescuelog_cli.specs.declared.ending.LogEnding.{LogEnding}
 use Rattle.ddrescuelog_cli.specs.declared.ending.LogEnding.TheVariants.{Done, Usage, ConsoleFault, NoMemory}
 use Rattle.ddrescuelog_cli.specs.Modes.{looks_at_places}
@@ -126,16 +126,16 @@ made_printed c mode h m (Ok t) shown statuses e old new is looks ends texts show
 made_printed c mode h m (Err f) shown statuses e old new is looks ends texts shows makes starved answers put =
     starved_as c h m e old new starved.0 starved.1
 
-domain_is : (c : Command) (m : Maps) (l : Loaded) → IsLoadedAs c m l → covers l.domain ≡ domain_of c m
+domain_is : (c : Command) (m : Maps) (l : LoadedMaps) → IsLoadedAs c m l → covers l.domain ≡ domain_of c m
 domain_is c m l is = fun_ext is.domain
 
-changed_is : (c : Command) (change : TypeChange) (m : Maps) (l : Loaded) → IsLoadedAs c m l
+changed_is : (c : Command) (change : TypeChange) (m : Maps) (l : LoadedMaps) → IsLoadedAs c m l
     → changed_map (covers l.domain) change l.tiles.statuses ≡ changed_map (domain_of c m) change m.statuses
 changed_is c change m l is =
     ap (λ (d : ℕ → Bool). changed_map d change l.tiles.statuses) (domain_is c m l is)
     ∙ ap (λ (s : List Status). changed_map (domain_of c m) change s) is.statuses
 
-combined_is : (c : Command) (op : Op) (m : Maps) (l : Loaded) → IsLoadedAs c m l
+combined_is : (c : Command) (op : Op) (m : Maps) (l : LoadedMaps) → IsLoadedAs c m l
     → combined_map op (covers l.domain) l.tiles.statuses l.other.statuses
     ≡ combined_map op (domain_of c m) m.statuses m.other
 combined_is c op m l is =
@@ -148,7 +148,7 @@ then_is : {F : Type 0} (made : Result Tiled F) (s t : List Status) → s ≡ t �
 then_is (Ok x) s t same is = is ∙ same
 then_is (Err f) s t same is = tt
 
-pub changed_found : {F : Type 0} (c : Command) (change : TypeChange) (h : HeadingLines) (m : Maps) (l : Loaded)
+pub changed_found : {F : Type 0} (c : Command) (change : TypeChange) (h : HeadingLines) (m : Maps) (l : LoadedMaps)
     (made : Result Tiled F) (e : LogEnding) (old new : ConsoleState) → c.mode ≡ Change change → IsLoadedAs c m l
     → IfOk made (λ t. t.statuses ≡ changed_map (covers l.domain) change l.tiles.statuses)
     → OnErr made ((e ≡ NoMemory) × (new ≡ old)) → OnOk made (IsPrinted e)
@@ -161,7 +161,7 @@ changed_found c change h m l made e old new is loaded makes starved answers put 
     (changed_is c change m l loaded) makes)
     starved answers put
 
-pub combined_found : {F : Type 0} (c : Command) (op : Op) (h : HeadingLines) (m : Maps) (l : Loaded)
+pub combined_found : {F : Type 0} (c : Command) (op : Op) (h : HeadingLines) (m : Maps) (l : LoadedMaps)
     (made : Result Tiled F) (e : LogEnding) (old new : ConsoleState) → c.mode ≡ Combine op → IsLoadedAs c m l
     → IfOk made (λ t. t.statuses ≡ combined_map op (covers l.domain) l.tiles.statuses l.other.statuses)
     → OnErr made ((e ≡ NoMemory) × (new ≡ old)) → OnOk made (IsPrinted e)
@@ -173,7 +173,7 @@ combined_found c op h m l made e old new is loaded makes starved answers put =
     (combined_map op (domain_of c m) m.statuses m.other) (combined_is c op m l loaded) makes)
     starved answers put
 
-pub completed_found : {T F : Type 0} (c : Command) (status : Status) (h : HeadingLines) (m : Maps) (l : Loaded)
+pub completed_found : {T F : Type 0} (c : Command) (status : Status) (h : HeadingLines) (m : Maps) (l : LoadedMaps)
     (r : Result T F) (e : LogEnding) (old new : ConsoleState) → c.mode ≡ Complete status → IsLoadedAs c m l
     → e ≡ printed_as r → OnOk r (Puts Out (printed h l.state l.tiles.statuses) old new)
     → OnErr r (PutsPart Out (printed h l.state l.tiles.statuses) old new) → HasFound c h m e old new
@@ -187,7 +187,7 @@ completed_found c status h m l r e old new is loaded answers put part =
 
 -- ---- a summary
 
-summary_is : (c : Command) (m : Maps) (l : Loaded) → IsLoadedAs c m l
+summary_is : (c : Command) (m : Maps) (l : LoadedMaps) → IsLoadedAs c m l
     → summary_text l.state (summary_of (covers l.domain) l.tiles.statuses)
     ≡ summary_text m.shown (summary_of (domain_of c m) m.statuses)
 summary_is c m l is =
@@ -195,7 +195,7 @@ summary_is c m l is =
     ∙ ap (λ (d : ℕ → Bool). summary_text m.shown (summary_of d l.tiles.statuses)) (domain_is c m l is)
     ∙ ap (λ (s : List Status). summary_text m.shown (summary_of (domain_of c m) s)) is.statuses
 
-pub summarized_found : {T F : Type 0} (c : Command) (h : HeadingLines) (m : Maps) (l : Loaded) (text : List ℕ)
+pub summarized_found : {T F : Type 0} (c : Command) (h : HeadingLines) (m : Maps) (l : LoadedMaps) (text : List ℕ)
     (r : Result T F) (e : LogEnding) (old new : ConsoleState) → c.mode ≡ Summarize → IsLoadedAs c m l
     → text ≡ summary_text l.state (summary_of (covers l.domain) l.tiles.statuses) → e ≡ printed_as r
     → OnOk r (Puts Out text old new) → OnErr r (PutsPart Out text old new) → OnErr r (text ≢ [])
@@ -222,7 +222,7 @@ places_pass c m placed e refused =
     never_beyond (whole_of c m.statuses) c.options.input_position (output_from c.options) placed refused.beyond
 
 -- what is listed of what was loaded
-abbrev pub listed_in : Command → TypeSet → Loaded → List ℕ
+abbrev pub listed_in : Command → TypeSet → LoadedMaps → List ℕ
 listed_in c types l = listed (record {
   domain = covers l.domain;
   types = types;
@@ -230,7 +230,7 @@ listed_in c types l = listed (record {
   statuses = l.tiles.statuses;
 })
 
-listed_is : (c : Command) (types : TypeSet) (line : List ℕ) (m : Maps) (l : Loaded) → IsLoadedAs c m l
+listed_is : (c : Command) (types : TypeSet) (line : List ℕ) (m : Maps) (l : LoadedMaps) → IsLoadedAs c m l
     → flat_map number_line (listed_in c types l) ≡ text_of (ListBlocks types) c line m
 listed_is c types line m l is =
     ap (λ (d : ℕ → Bool). flat_map number_line (listed (record {
@@ -267,7 +267,7 @@ list_ends c types m e is beyond fit (inr (inr broke)) line list =
       subst (λ (x : LogMode). EndsAs x c line list m e (only_calls [])) (sym is) (ends_printed e (inr broke)),
     ))
 
-pub listed_found : (c : Command) (types : TypeSet) (h : HeadingLines) (m : Maps) (l : Loaded) (e : LogEnding)
+pub listed_found : (c : Command) (types : TypeSet) (h : HeadingLines) (m : Maps) (l : LoadedMaps) (e : LogEnding)
     (old new : ConsoleState) → c.mode ≡ ListBlocks types → IsLoadedAs c m l
     → (IsPlaceRefused e
     → IsAnyBeyond (whole_of c l.tiles.statuses) c.options.input_position (output_from c.options))

@@ -25,7 +25,7 @@ use Rattle.ddrescuelog_cli.specs.declared.ending.LogEnding.TheVariants.{Done, No
 use Rattle.ddrescuelog_cli.specs.Modes.{compares, prints, removes_map, tests}
 use Rattle.ddrescuelog_cli.specs.Maps.{Found, Maps, mapfile_mode}
 use Rattle.ddrescuelog_cli.specs.Refusals.{MapIsRefused, PlacesRefused, ListRefused}
-use Rattle.ddrescuelog_cli.specs.Answers.{IsRead, MayCall, FitsCommand}
+use Rattle.ddrescuelog_cli.specs.Answers.{IsNamedMap, MayCall, FitsCommand}
 use Rattle.ddrescuelog_cli.specs.Work.{log_faults, named_rows, read_rows, OnlyAnswers, EndsPrinted, EndsCreated, EndsAs, removal_calls, WorksOver, UnlessThere, WorksAs}
 use Rattle.ddrescuelog_cli.specs.Laws.{AnswersFit}
 use Rattle.ddrescuelog_cli.proofs.FoundLemmas.{RowsGive, answers_have}
@@ -39,7 +39,7 @@ fits_as c e v is fits = subst (Fits c) (sym is) fits
 
 -- ---- the maps
 
-map_fits : (c : Command) (which : Which) (mode : Mode) (file : Option File) (e : LogEnding) → IsRead which c
+map_fits : (c : Command) (which : Which) (mode : Mode) (file : Option File) (e : LogEnding) → IsNamedMap which c
     → MapIsRefused which mode file e → Fits c e
 map_fits c which mode file e reads (inl missing) = fits_as c e (NoMap which) missing.1 reads
 map_fits c which mode file e reads (inr refused) = fits_as c e (MapRefused which refused.0) refused.2 reads

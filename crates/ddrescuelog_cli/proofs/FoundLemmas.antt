@@ -7,7 +7,7 @@ use Rattle.crash_site.specs.declared.site.SiteCall.{SiteCall}
 use Rattle.crash_site.specs.declared.site.SiteCall.TheVariants.{MapRead}
 use Rattle.crash_site.specs.Files.{File}
 use Rattle.crash_site.specs.Calls.{Entry, BrokeAt}
-use Rattle.work_steps.specs.Work.{Deeds, Step, Take, Look, Open, Make, Read, Works}
+use Rattle.work_steps.specs.Work.{Deeds, WorkStep, Take, Look, Open, Make, Read, Works}
 use Rattle.log_command.specs.declared.mode.LogMode.{LogMode}
 use Rattle.log_command.specs.declared.mode.LogMode.TheVariants.{Change, Combine, Complete, ListBlocks, Create, Test, Compare, Summarize}
 use Rattle.log_command.specs.Modes.{creates}
@@ -24,11 +24,11 @@ use Rattle.ddrescuelog_cli.specs.Maps.{domain_of}
 use Rattle.ddrescuelog_cli.specs.Refusals.{IfNamed, MapIsRefused, PlacesRefused, ListRefused}
 use Rattle.ddrescuelog_cli.specs.Results.{Finds}
 use Rattle.ddrescuelog_cli.specs.Work.{log_faults, named_rows, read_rows, OnlyAnswers, EndsPrinted, EndsCreated, EndsAs, IsNotDone, WorksOver, UnlessThere, WorksAs}
-use Rattle.ddrescuelog_cli.specs.Laws.{IsFound, AnswersAreFound}
+use Rattle.ddrescuelog_cli.specs.Laws.{IsModeAnswer, AnswersAreFound}
 use Rattle.ddrescuelog_cli.proofs.VerdictLemmas.{Saves}
 
 -- each answer of some rows has a property
-abbrev pub RowsGive : (LogEnding → Type 0) → List (Step LogEnding) → Type 0
+abbrev pub RowsGive : (LogEnding → Type 0) → List (WorkStep LogEnding) → Type 0
 RowsGive P [] = ⊤
 RowsGive P (Take ∷ more) = P NoMemory × RowsGive P more
 RowsGive P (Look refuses ∷ more) = ((e : LogEnding) → refuses e → P e) × RowsGive P more
@@ -38,7 +38,7 @@ RowsGive P (Make calls ∷ more) =
 RowsGive P (Read name file ∷ more) = P NoMemory × (P (SiteFault MapRead)) × RowsGive P more
 
 -- so each answer of a work has it whose run's answers have it
-pub answers_have : (P : LogEnding → Type 0) (rows : List (Step LogEnding)) (run : LogEnding → Deeds → Type 0)
+pub answers_have : (P : LogEnding → Type 0) (rows : List (WorkStep LogEnding)) (run : LogEnding → Deeds → Type 0)
     → RowsGive P rows → ((e : LogEnding) (d : Deeds) → run e d → P e) → (e : LogEnding) (d : Deeds)
     → Works log_faults rows run e d → P e
 answers_have P [] run give last e d w = last e d w
@@ -60,34 +60,34 @@ answers_have P (Read (Some name) file ∷ rows) run give last e d (inr (inr w)) 
 -- ---- what is found
 
 map_found : (F : LogEnding → Type 0) (which : Which) (mode : Mode) (name : Option (List ℕ)) (file : Option File)
-    (e : LogEnding) → IfNamed name (MapIsRefused which mode file) e → IsFound e F
-map_found F which mode name file e (named, inl missing) = subst (λ x. IsFound x F) (sym missing.1) tt
-map_found F which mode name file e (named, inr refused) = subst (λ x. IsFound x F) (sym refused.2) tt
+    (e : LogEnding) → IfNamed name (MapIsRefused which mode file) e → IsModeAnswer e F
+map_found F which mode name file e (named, inl missing) = subst (λ x. IsModeAnswer x F) (sym missing.1) tt
+map_found F which mode name file e (named, inr refused) = subst (λ x. IsModeAnswer x F) (sym refused.2) tt
 
-named_give : (F : LogEnding → Type 0) (c : Command) (found : Found) → RowsGive (λ e. IsFound e F) (named_rows c found)
+named_give : (F : LogEnding → Type 0) (c : Command) (found : Found) → RowsGive (λ e. IsModeAnswer e F) (named_rows c found)
 named_give F c found =
     (tt, tt, (map_found F _ _ c.other found.other, (tt, tt, (map_found F _ _ c.domain_map found.domain, tt))))
 
-read_give : (F : LogEnding → Type 0) (c : Command) (found : Found) → RowsGive (λ e. IsFound e F) (read_rows c found)
+read_give : (F : LogEnding → Type 0) (c : Command) (found : Found) → RowsGive (λ e. IsModeAnswer e F) (read_rows c found)
 read_give F c found = (tt, tt, (map_found F _ _ (Some c.mapfile) found.mapfile, named_give F c found))
 
-printed_found : (F : LogEnding → Type 0) (e : LogEnding) (d : Deeds) → F Done → EndsPrinted e d → IsFound e F
-printed_found F e d is (inl a) = subst (λ x. IsFound x F) (sym a.0) tt
-printed_found F e d is (inr a) = subst (λ x. IsFound x F) (sym a.0) is
+printed_found : (F : LogEnding → Type 0) (e : LogEnding) (d : Deeds) → F Done → EndsPrinted e d → IsModeAnswer e F
+printed_found F e d is (inl a) = subst (λ x. IsModeAnswer x F) (sym a.0) tt
+printed_found F e d is (inr a) = subst (λ x. IsModeAnswer x F) (sym a.0) is
 
 list_found : (F : LogEnding → Type 0) (c : Command) (list : List ℕ) (e : LogEnding) → ListRefused c.options list e
-    → IsFound e F
-list_found F c list e (inl a) = subst (λ x. IsFound x F) (sym a.1) tt
-list_found F c list e (inr a) = subst (λ x. IsFound x F) (sym a.3) tt
+    → IsModeAnswer e F
+list_found F c list e (inl a) = subst (λ x. IsModeAnswer x F) (sym a.1) tt
+list_found F c list e (inr a) = subst (λ x. IsModeAnswer x F) (sym a.3) tt
 
 created_found : (F : LogEnding → Type 0) (listed rest : Status) (c : Command) (line list : List ℕ) (m : Maps)
-    (e : LogEnding) (d : Deeds) → F Done → EndsCreated listed rest c line list m e d → IsFound e F
-created_found F listed rest c line list m e d is (inl a) = subst (λ x. IsFound x F) (sym a.0) tt
+    (e : LogEnding) (d : Deeds) → F Done → EndsCreated listed rest c line list m e d → IsModeAnswer e F
+created_found F listed rest c line list m e d is (inl a) = subst (λ x. IsModeAnswer x F) (sym a.0) tt
 created_found F listed rest c line list m e d is (inr w) =
-    answers_have (λ x. IsFound x F) (Look (ListRefused c.options list) ∷ []) (Saves listed rest c line list m)
+    answers_have (λ x. IsModeAnswer x F) (Look (ListRefused c.options list) ∷ []) (Saves listed rest c line list m)
     (list_found F c list, tt)
-    (λ x f s. answers_have (λ y. IsFound y F) (Make (save_calls (names_of c.mapfile) s.1) ∷ []) (OnlyAnswers Done)
-    ((λ call made b. tt), tt) (λ y g h. subst (λ z. IsFound z F) (sym h.0) is) x f s.4)
+    (λ x f s. answers_have (λ y. IsModeAnswer y F) (Make (save_calls (names_of c.mapfile) s.1) ∷ []) (OnlyAnswers Done)
+    ((λ call made b. tt), tt) (λ y g h. subst (λ z. IsModeAnswer z F) (sym h.0) is) x f s.4)
     e d w
 
 not_false : (b : Bool) → (b ≡ false → ⊥) → b ≡ true
@@ -102,7 +102,7 @@ done_of c m passed = record {
 }
 
 ends_found : (mode : LogMode) (c : Command) (line list : List ℕ) (m : Maps) (e : LogEnding) (d : Deeds)
-    → EndsAs mode c line list m e d → IsFound e (Finds mode c m)
+    → EndsAs mode c line list m e d → IsModeAnswer e (Finds mode c m)
 ends_found (Change change) c line list m e d w = printed_found (Finds (Change change) c m) e d refl w
 ends_found (Combine op) c line list m e d w = printed_found (Finds (Combine op) c m) e d refl w
 ends_found (Complete status) c line list m e d w = printed_found (Finds (Complete status) c m) e d refl w
@@ -110,53 +110,53 @@ ends_found (ListBlocks types) c line list m e d w = printed_found (Finds (ListBl
 ends_found (Create listed rest) c line list m e d w =
     created_found (Finds (Create listed rest) c m) listed rest c line list m e d refl w
 ends_found (Test true) c line list m e d (inl (r, idle)) =
-    subst (λ x. IsFound x (Finds (Test true) c m)) (sym r.1) (inr (refl, r.0))
+    subst (λ x. IsModeAnswer x (Finds (Test true) c m)) (sym r.1) (inr (refl, r.0))
 ends_found (Test true) c line list m e d (inr (passed, inl b)) =
-    subst (λ x. IsFound x (Finds (Test true) c m)) (sym b.1) tt
+    subst (λ x. IsModeAnswer x (Finds (Test true) c m)) (sym b.1) tt
 ends_found (Test true) c line list m e d (inr (passed, inr w)) =
-    subst (λ x. IsFound x (Finds (Test true) c m)) (sym w.2.0) (inl (refl, done_of c m passed))
+    subst (λ x. IsModeAnswer x (Finds (Test true) c m)) (sym w.2.0) (inl (refl, done_of c m passed))
 ends_found (Test false) c line list m e d (inl a, idle) =
-    subst (λ x. IsFound x (Finds (Test false) c m)) (sym a.0) (inl (refl, a.1))
+    subst (λ x. IsModeAnswer x (Finds (Test false) c m)) (sym a.0) (inl (refl, a.1))
 ends_found (Test false) c line list m e d (inr a, idle) =
-    subst (λ x. IsFound x (Finds (Test false) c m)) (sym a.0) (inr (refl, a.1))
+    subst (λ x. IsModeAnswer x (Finds (Test false) c m)) (sym a.0) (inr (refl, a.1))
 ends_found (Compare false) c line list m e d (inl a, idle) =
-    subst (λ x. IsFound x (Finds (Compare false) c m)) (sym a.0) (inl (refl, a.1))
+    subst (λ x. IsModeAnswer x (Finds (Compare false) c m)) (sym a.0) (inl (refl, a.1))
 ends_found (Compare false) c line list m e d (inr a, idle) =
-    subst (λ x. IsFound x (Finds (Compare false) c m)) (sym a.0) (inr (refl, a.1))
+    subst (λ x. IsModeAnswer x (Finds (Compare false) c m)) (sym a.0) (inr (refl, a.1))
 ends_found (Compare true) c line list m e d (inl a, idle) =
-    subst (λ x. IsFound x (Finds (Compare true) c m)) (sym a.0) (inl (refl, a.1))
+    subst (λ x. IsModeAnswer x (Finds (Compare true) c m)) (sym a.0) (inl (refl, a.1))
 ends_found (Compare true) c line list m e d (inr a, idle) =
-    subst (λ x. IsFound x (Finds (Compare true) c m)) (sym a.0) (inr (refl, a.1))
+    subst (λ x. IsModeAnswer x (Finds (Compare true) c m)) (sym a.0) (inr (refl, a.1))
 ends_found Summarize c line list m e d w = printed_found (Finds Summarize c m) e d refl w
 
 over_found : (c : Command) (line list : List ℕ) (m : Maps) (e : LogEnding) (d : Deeds) → WorksOver c line list m e d
-    → IsFound e (Finds c.mode c m)
+    → IsModeAnswer e (Finds c.mode c m)
 over_found c line list m =
-    answers_have (λ x. IsFound x (Finds c.mode c m)) (Take ∷ Look (PlacesRefused c m) ∷ [])
+    answers_have (λ x. IsModeAnswer x (Finds c.mode c m)) (Take ∷ Look (PlacesRefused c m) ∷ [])
     (EndsAs c.mode c line list m)
-    (tt, ((λ e r. subst (λ x. IsFound x (Finds c.mode c m)) (sym r.is) tt), tt)) (ends_found c.mode c line list m)
+    (tt, ((λ e r. subst (λ x. IsModeAnswer x (Finds c.mode c m)) (sym r.is) tt), tt)) (ends_found c.mode c line list m)
 
 there_found : (F : LogEnding → Type 0) (forced : Bool) (name : List ℕ) (file : Option File)
-    (more : LogEnding → Deeds → Type 0) → ((e : LogEnding) (d : Deeds) → more e d → IsFound e F)
-    → (e : LogEnding) (d : Deeds) → UnlessThere forced name file more e d → IsFound e F
+    (more : LogEnding → Deeds → Type 0) → ((e : LogEnding) (d : Deeds) → more e d → IsModeAnswer e F)
+    → (e : LogEnding) (d : Deeds) → UnlessThere forced name file more e d → IsModeAnswer e F
 there_found F true name file more last e d w = last e d w
-there_found F false name file more last e d (inl b) = subst (λ y. IsFound y F) (sym b.0) tt
-there_found F false name file more last e d (inr (x, r, s, i, inl p)) = subst (λ y. IsFound y F) (sym p.0.1) tt
+there_found F false name file more last e d (inl b) = subst (λ y. IsModeAnswer y F) (sym b.0) tt
+there_found F false name file more last e d (inr (x, r, s, i, inl p)) = subst (λ y. IsModeAnswer y F) (sym p.0.1) tt
 there_found F false name file more last e d (inr (x, r, s, i, inr w)) = last e _ w.1
 
 works_found : (new : Bool) (c : Command) (line list : List ℕ) (found : Found) (m : Maps) (e : LogEnding) (d : Deeds)
-    → WorksAs new c line list found m e d → IsFound e (Finds c.mode c m)
+    → WorksAs new c line list found m e d → IsModeAnswer e (Finds c.mode c m)
 works_found false c line list found m =
-    answers_have (λ x. IsFound x (Finds c.mode c m)) (Take ∷ read_rows c found) (WorksOver c line list m)
+    answers_have (λ x. IsModeAnswer x (Finds c.mode c m)) (Take ∷ read_rows c found) (WorksOver c line list m)
     (tt, read_give (Finds c.mode c m) c found) (over_found c line list m)
 works_found true c line list found m =
-    answers_have (λ x. IsFound x (Finds c.mode c m)) (Take ∷ [])
+    answers_have (λ x. IsModeAnswer x (Finds c.mode c m)) (Take ∷ [])
     (UnlessThere c.options.forced c.mapfile found.mapfile
     (Works log_faults (named_rows c found) (WorksOver c line list m)))
     (tt, tt)
     (there_found (Finds c.mode c m) c.options.forced c.mapfile found.mapfile
     (Works log_faults (named_rows c found) (WorksOver c line list m))
-    (answers_have (λ x. IsFound x (Finds c.mode c m)) (named_rows c found) (WorksOver c line list m)
+    (answers_have (λ x. IsModeAnswer x (Finds c.mode c m)) (named_rows c found) (WorksOver c line list m)
     (named_give (Finds c.mode c m) c found) (over_found c line list m)))
 
 pub answers_are_found : AnswersAreFound

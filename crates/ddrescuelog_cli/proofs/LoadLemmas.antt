@@ -11,7 +11,7 @@ use Rattle.crash_site.specs.declared.site.MapRead.TheVariants.{Bytes, Absent}
 use Rattle.crash_site.specs.Files.{File}
 use Rattle.crash_site.specs.Calls.{Call, Entry, Done as Returned, BrokeAt}
 use Rattle.crash_site.specs.SiteState.{SiteState, files_in}
-use Rattle.save_resume.specs.Loading.{load_reads, IsPiece, BeginsLoad, IsLoad}
+use Rattle.save_resume.specs.Loading.{load_reads, IsReadSize, BeginsLoad, IsLoad}
 use Rattle.save_resume.specs.Resuming.{IsReadAs, IsOfFile, LoadEnded, StarvedInLoad, BrokeInLoad}
 use Rattle.save_resume.proofs.AnswerLemmas.{read_is_not_refused}
 use Rattle.work_steps.proofs.LoadLemmas.{ones_sum, one_is_piece, by_tells}
@@ -33,7 +33,7 @@ begins_by_ones name f n answer within limited =
     record {
       given = replicate n 1;
       answer = answer;
-      pieces = All-replicate IsPiece n 1 one_is_piece;
+      pieces = All-replicate IsReadSize n 1 one_is_piece;
       within = omega (arith, e, within);
       limited = omega (arith, e, limited);
       calls_are = refl;
@@ -50,7 +50,7 @@ load_of_none name = (
     begins = record {
       given = [];
       answer = Some Absent;
-      pieces = All-nil IsPiece;
+      pieces = All-nil IsReadSize;
       within = omega arith;
       limited = omega arith;
       calls_are = refl;
@@ -96,7 +96,7 @@ begins_first : (name : List ℕ) (file : Option File) → BeginsLoad name file (
 begins_first name file = record {
   given = [];
   answer = None;
-  pieces = All-nil IsPiece;
+  pieces = All-nil IsReadSize;
   within = omega arith;
   limited = omega arith;
   calls_are = refl;

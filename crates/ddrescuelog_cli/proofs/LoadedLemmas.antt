@@ -11,12 +11,12 @@ use Rattle.crash_site.specs.Calls.{Entry, Done as Returned}
 use Rattle.crash_site.specs.SiteState.{SiteState, Stays, files_in}
 use Rattle.save_resume.specs.Named.{map_mode}
 use Rattle.save_resume.specs.Resuming.{IsReadAs}
-use Rattle.work_steps.specs.Work.{Step}
+use Rattle.work_steps.specs.Work.{WorkStep}
 use Rattle.log_command.specs.Modes.{creates}
 use Rattle.log_command.specs.Command.{Command}
 use Rattle.ddrescuelog_cli.specs.declared.ending.Which.{Which}
 use Rattle.ddrescuelog_cli.specs.declared.ending.Which.TheVariants.{DomainMap, RunMap, OtherMap}
-use Rattle.ddrescuelog_cli.specs.declared.load.Loaded.{Loaded}
+use Rattle.ddrescuelog_cli.specs.declared.load.LoadedMaps.{LoadedMaps}
 use Rattle.ddrescuelog_cli.specs.declared.ending.LogEnding.{LogEnding}
 use Rattle.ddrescuelog_cli.specs.declared.ending.LogEnding.TheVariants.{NoMemory}
 use Rattle.ddrescuelog_cli.specs.Maps.{Found, file_of, found_in, mapfile_mode, AreMapsOf, AreAskedFor}
@@ -82,13 +82,13 @@ ReadsOther c r old new = ReadsNamed OtherMap Tight c.other r old new
 abbrev pub ReadsDomain : Command → Result (Option Tiled) LogEnding → (old new : SiteState) → Type 0
 ReadsDomain c r old new = ReadsNamed DomainMap (map_mode c.options.loose) c.domain_map r old new
 
-abbrev mapfile_rows : Command → Option File → List (Step LogEnding)
+abbrev mapfile_rows : Command → Option File → List (WorkStep LogEnding)
 mapfile_rows c file = map_rows RunMap (mapfile_mode c.mode) (Some c.mapfile) file
 
-abbrev other_rows : Command → Option File → List (Step LogEnding)
+abbrev other_rows : Command → Option File → List (WorkStep LogEnding)
 other_rows c file = map_rows OtherMap Tight c.other file
 
-abbrev domain_rows : Command → Option File → List (Step LogEnding)
+abbrev domain_rows : Command → Option File → List (WorkStep LogEnding)
 domain_rows c file = map_rows DomainMap (map_mode c.options.loose) c.domain_map file
 
 -- ---- the work stopped at the mapfile
@@ -127,7 +127,7 @@ other_refused c m e old mid new r stays s =
 
 -- ---- or it came to the domain map
 
-abbrev front_rows : Command → Found → List (Step LogEnding)
+abbrev front_rows : Command → Found → List (WorkStep LogEnding)
 front_rows c found = mapfile_rows c found.mapfile ++ other_rows c found.other
 
 -- the other maps were read, and the domain map with this outcome
@@ -236,7 +236,7 @@ read_are c found m other domain a o d = record {
   domain = d.is;
 }
 
-all_loaded : (c : Command) (m : ReadMap) (other domain : Option Tiled) (l : Loaded) (old new : SiteState)
+all_loaded : (c : Command) (m : ReadMap) (other domain : Option Tiled) (l : LoadedMaps) (old new : SiteState)
     → creates c.mode ≡ false → ReadsAll c m other (Ok domain) old new → IsLoadedAs c (maps_read m other domain) l
     → LoadsMaps c (Ok l) old new
 all_loaded c m other domain l old new reads all loaded =
@@ -259,7 +259,7 @@ all_loaded c m other domain l old new reads all loaded =
     }
 
 -- by whether memory sufficed behind the reads
-pub loaded_or_starved : (c : Command) (m : ReadMap) (other domain : Option Tiled) (result : Result Loaded LogEnding)
+pub loaded_or_starved : (c : Command) (m : ReadMap) (other domain : Option Tiled) (result : Result LoadedMaps LogEnding)
     (old mid low new : SiteState) → creates c.mode ≡ false → ReadsMapfile c (Ok m) old mid → Stays old mid
     → ReadsOther c (Ok other) mid low → Stays mid low → ReadsDomain c (Ok domain) low new
     → IfOk result (IsLoadedAs c (maps_read m other domain)) → IfErr result (λ e. e ≡ NoMemory)

@@ -26,7 +26,7 @@ use Rattle.ddrescuelog_cli.specs.declared.ending.LogEnding.TheVariants.{Done, No
 use Rattle.ddrescuelog_cli.specs.Told.{Told, files_of, line_of, only_calls}
 use Rattle.ddrescuelog_cli.specs.Results.{text_of}
 use Rattle.ddrescuelog_cli.specs.Messages.{message}
-use Rattle.ddrescuelog_cli.specs.Answers.{AreAccepted, SaysOfUsage, SaysOfWords, FitsCommand, Takes, is_silent}
+use Rattle.ddrescuelog_cli.specs.Answers.{AreAccepted, SaysOfUsage, SaysOfWords, FitsCommand, TakesFeed, is_silent}
 use Rattle.ddrescuelog_cli.specs.Behind.{SiteBehind}
 use Rattle.ddrescuelog_cli.specs.Stops.{OnlyReads, LeavesFiles, LeavesAll}
 use Rattle.ddrescuelog_cli.specs.Worked.{FeedAfter, MaySay, Worked}
@@ -58,7 +58,7 @@ stands_by c between t keeps w leaves tells =
     )
 
 promised : (c : Command) (between : ConsoleState) (t : Told) → SiteKeeps t.site t.site' → WorkedFor c between t
-    → Takes (creates c.mode) t.answer t.feed t.feed' → Promise c between t
+    → TakesFeed (creates c.mode) t.answer t.feed t.feed' → Promise c between t
 promised c between t keeps w takes = record {
   outside = w.outside;
   agrees = record { found = w.found; calls = w.calls; list = w.list };
@@ -141,7 +141,7 @@ told_still words e s f p p' = record {
   console' = p';
 }
 
-starved_takes : (new : Bool) (f : FeedState) → Takes new NoMemory f f
+starved_takes : (new : Bool) (f : FeedState) → TakesFeed new NoMemory f f
 starved_takes true f = λ tells. ([], refl)
 starved_takes false f = refl
 

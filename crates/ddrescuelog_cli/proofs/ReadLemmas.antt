@@ -9,7 +9,7 @@ use Rattle.crash_site.specs.Folder.{Folder, after, after_entry}
 use Rattle.crash_site.specs.SiteState.{SiteState, files_in}
 use Rattle.crash_site.proofs.LawLemmas.{after-append}
 use Rattle.rescue_rules.specs.Work.{is_map_read, AreMapReads}
-use Rattle.work_steps.specs.Work.{Deeds, Step, Take, Look, Open, Make, Read, Works, with_calls}
+use Rattle.work_steps.specs.Work.{Deeds, WorkStep, Take, Look, Open, Make, Read, Works, with_calls}
 use Rattle.work_steps.proofs.FrontLemmas.{IsMapRead, load_reads}
 use Rattle.ddrescuelog_cli.specs.declared.ending.LogEnding.{LogEnding}
 use Rattle.ddrescuelog_cli.specs.Told.{only_calls}
@@ -51,7 +51,7 @@ then_are front rest calls is reads later =
 -- ---- rows
 
 -- rows that make no other call
-abbrev pub OnlyRead : List (Step LogEnding) → Type 0
+abbrev pub OnlyRead : List (WorkStep LogEnding) → Type 0
 OnlyRead [] = ⊤
 OnlyRead (Take ∷ more) = OnlyRead more
 OnlyRead (Look refuses ∷ more) = OnlyRead more
@@ -60,7 +60,7 @@ OnlyRead (Make calls ∷ more) = AreMapReads calls × OnlyRead more
 OnlyRead (Read name file ∷ more) = OnlyRead more
 
 -- so the calls are reads, where those of the run behind the rows are
-pub work_reads : (rows : List (Step LogEnding)) (run : LogEnding → Deeds → Type 0) → OnlyRead rows
+pub work_reads : (rows : List (WorkStep LogEnding)) (run : LogEnding → Deeds → Type 0) → OnlyRead rows
     → ((e : LogEnding) (d : Deeds) → run e d → AreReads d.gain.calls) → (e : LogEnding) (d : Deeds)
     → Works log_faults rows run e d → AreReads d.gain.calls
 work_reads [] run only last e d w = last e d w
@@ -83,12 +83,12 @@ work_reads (Read (Some name) file ∷ rows) run only last e d (inr (inr w)) =
     then_are w.0 w.1 d.gain.calls w.3 (load_reads name file w.0 w.2.begins)
     (work_reads rows run only last e (with_calls d w.1) w.4)
 
-pub stopped_reads : (rows : List (Step LogEnding)) (e : LogEnding) (calls : List Entry) → OnlyRead rows
+pub stopped_reads : (rows : List (WorkStep LogEnding)) (e : LogEnding) (calls : List Entry) → OnlyRead rows
     → Stopped rows e calls → AreReads calls
 stopped_reads rows e calls only stopped =
     work_reads rows (λ e d. ⊥) only (λ e d never. absurd never) e (only_calls calls) stopped
 
-pub through_reads : (rows : List (Step LogEnding)) (calls : List Entry) → OnlyRead rows → Through rows calls
+pub through_reads : (rows : List (WorkStep LogEnding)) (calls : List Entry) → OnlyRead rows → Through rows calls
     → AreReads calls
 through_reads [] calls only t = none_are calls t
 through_reads (Take ∷ rows) calls only t = through_reads rows calls only t

@@ -16,7 +16,7 @@ use Rattle.log_command.specs.Command.{Command}
 use Rattle.work_steps.proofs.LoadLemmas.{by_tells}
 use Rattle.ddrescuelog_cli.specs.declared.ending.LogEnding.{LogEnding}
 use Rattle.ddrescuelog_cli.specs.declared.ending.LogEnding.TheVariants.{Done, SiteFault}
-use Rattle.ddrescuelog_cli.specs.declared.load.Loaded.{Loaded}
+use Rattle.ddrescuelog_cli.specs.declared.load.LoadedMaps.{LoadedMaps}
 use Rattle.ddrescuelog_cli.specs.Maps.{Maps, domain_of}
 use Rattle.ddrescuelog_cli.specs.Modes.{looks_at_places}
 use Rattle.ddrescuelog_cli.specs.Told.{only_calls}
@@ -38,13 +38,13 @@ not_open domain domain' statuses statuses' same is d o =
     both_ways (is_finished_at statuses' o.position) o.unfinished
     (ap (λ s. is_finished_at s o.position) (sym is) ∙ d.each o.position (same o.position ∙ o.inside))
 
-passes : (c : Command) (m : Maps) (l : Loaded) → IsLoadedAs c m l → IsDoneIn (covers l.domain) l.tiles.statuses
+passes : (c : Command) (m : Maps) (l : LoadedMaps) → IsLoadedAs c m l → IsDoneIn (covers l.domain) l.tiles.statuses
     → (v : LogEnding) → IsNotDone c m v → ⊥
 passes c m l loaded is_done v not_done =
     not_open (covers l.domain) (domain_of c m) l.tiles.statuses m.statuses loaded.domain loaded.statuses is_done
     not_done.0
 
-broke_ends : (c : Command) (m : Maps) (l : Loaded) (at : SiteCall) (calls : List Entry) → IsLoadedAs c m l
+broke_ends : (c : Command) (m : Maps) (l : LoadedMaps) (at : SiteCall) (calls : List Entry) → IsLoadedAs c m l
     → c.mode ≡ Test true → IsDoneIn (covers l.domain) l.tiles.statuses → BrokeAt at (removal_calls c.mapfile) [] calls
     → (line list : List ℕ) → WorksOver c line list m (SiteFault at) (only_calls calls)
 broke_ends c m l at calls loaded mode is_done broke line list =
@@ -54,7 +54,7 @@ broke_ends c m l at calls loaded mode is_done broke line list =
       inl (at, refl, broke, record { opens = refl; reads = refl; times = refl }),
     ))
 
-pub removes_broke : (c : Command) (m : Maps) (l : Loaded) (at : SiteCall) (old new : SiteState) → IsLoadedAs c m l
+pub removes_broke : (c : Command) (m : Maps) (l : LoadedMaps) (at : SiteCall) (old new : SiteState) → IsLoadedAs c m l
     → c.mode ≡ Test true → IsDoneIn (covers l.domain) l.tiles.statuses → IsNameIn at (removal_calls c.mapfile)
     → (IsTrue old.tells → BrokeAt at (removal_calls c.mapfile) old.calls new.calls)
     → RemovesDone c m (SiteFault at) old new
@@ -84,7 +84,7 @@ pub broke_settling : (name : List ℕ) (at : SiteCall) (old mid new : SiteState)
 broke_settling name at old mid new is same removed lost t =
     inr (inl (is, subst (λ r. Lost (map_settle name) r new.calls) (removed t) (lost (subst IsTrue (sym same) t))))
 
-pub removes : (c : Command) (m : Maps) (l : Loaded) (old mid new : SiteState) → IsLoadedAs c m l → c.mode ≡ Test true
+pub removes : (c : Command) (m : Maps) (l : LoadedMaps) (old mid new : SiteState) → IsLoadedAs c m l → c.mode ≡ Test true
     → IsDoneIn (covers l.domain) l.tiles.statuses → mid.tells ≡ old.tells
     → (IsTrue old.tells → mid.calls ≡ old.calls ++ Returned (map_remove c.mapfile) ∷ [])
     → (IsTrue mid.tells → new.calls ≡ mid.calls ++ Returned (map_settle c.mapfile) ∷ [])

@@ -1,7 +1,7 @@
 -- Work that stopped in some rows, or went through them, in front of others.
 use Rattle.std.proofs.Common.{List, [], ◌∷◌, ◌++◌, map, Some, None, sym, inl, inr, subst}
 use Rattle.crash_site.specs.Calls.{Entry, Done as Returned}
-use Rattle.work_steps.specs.Work.{Deeds, Step, Take, Look, Open, Make, Read, Works}
+use Rattle.work_steps.specs.Work.{Deeds, WorkStep, Take, Look, Open, Make, Read, Works}
 use Rattle.work_steps.proofs.PartLemmas.{grown}
 use Rattle.ddrescuelog_cli.specs.declared.ending.LogEnding.{LogEnding}
 use Rattle.ddrescuelog_cli.specs.Told.{only_calls}
@@ -9,7 +9,7 @@ use Rattle.ddrescuelog_cli.specs.Work.{log_faults}
 use Rattle.ddrescuelog_cli.specs.Steps.{Through}
 
 -- what stopped in some rows stopped in front of all that is behind them
-pub stopped_more : (rows more : List (Step LogEnding)) (run : LogEnding → Deeds → Type 0) (e : LogEnding) (d : Deeds)
+pub stopped_more : (rows more : List (WorkStep LogEnding)) (run : LogEnding → Deeds → Type 0) (e : LogEnding) (d : Deeds)
     → Works log_faults rows (λ e d. ⊥) e d → Works log_faults (rows ++ more) run e d
 stopped_more [] more run e d h = absurd h
 stopped_more (Take ∷ rows) more run e d (inl h) = inl h
@@ -28,7 +28,7 @@ stopped_more (Read (Some name) file ∷ rows) more run e d (inr (inr h)) =
     inr (inr (h.0, h.1, h.2, h.3, stopped_more rows more run e _ h.4))
 
 -- what is done behind rows that the work went through is done by all of it
-pub through_then : (rows more : List (Step LogEnding)) (run : LogEnding → Deeds → Type 0) (e : LogEnding)
+pub through_then : (rows more : List (WorkStep LogEnding)) (run : LogEnding → Deeds → Type 0) (e : LogEnding)
     (calls later : List Entry) → Through rows calls → Works log_faults more run e (only_calls later)
     → Works log_faults (rows ++ more) run e (only_calls (calls ++ later))
 through_then [] more run e calls later t w =
@@ -51,7 +51,7 @@ through_then (Read (Some name) file ∷ rows) more run e calls later t w =
     ))
 
 -- rows that the work went through, one behind another
-pub through_both : (rows more : List (Step LogEnding)) (calls later : List Entry) → Through rows calls
+pub through_both : (rows more : List (WorkStep LogEnding)) (calls later : List Entry) → Through rows calls
     → Through more later → Through (rows ++ more) (calls ++ later)
 through_both [] more calls later t u = subst (λ c. Through more (c ++ later)) (sym t) u
 through_both (Take ∷ rows) more calls later t u = through_both rows more calls later t u

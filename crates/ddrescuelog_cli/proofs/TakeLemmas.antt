@@ -7,7 +7,7 @@ use Rattle.work_steps.proofs.LoadLemmas.{by_tells}
 use Rattle.ddrescuelog_cli.specs.declared.ending.LogEnding.{LogEnding}
 use Rattle.ddrescuelog_cli.specs.declared.ending.LogEnding.TheVariants.{ListTooLong, FeedFault, NoMemory}
 use Rattle.ddrescuelog_cli.specs.Behind.{FeedBehind}
-use Rattle.ddrescuelog_cli.specs.Creating.{TakesPiece, HasTaken, StopsTaking}
+use Rattle.ddrescuelog_cli.specs.Creating.{TakesFeedPiece, TookBytes, StopsTaking}
 
 keeps_both : (a b c : FeedState) → Keeps a b → Keeps b c → Keeps a c
 keeps_both a b c k l = record {
@@ -22,8 +22,8 @@ taken_both : (bytes piece now left mid last : List ℕ) → now ≡ bytes ++ pie
 taken_both bytes piece now left mid last grew first second =
     first ∙ ap (λ b. bytes ++ b) second ∙ sym (append_assoc bytes piece last) ∙ ap (λ b. b ++ last) (sym grew)
 
-pub taken_more : (some : Bool) (bytes now : List ℕ) (old mid new : FeedState) → HasTaken bytes old mid
-    → TakesPiece some bytes now mid new → HasTaken now old new
+pub taken_more : (some : Bool) (bytes now : List ℕ) (old mid new : FeedState) → TookBytes bytes old mid
+    → TakesFeedPiece some bytes now mid new → TookBytes now old new
 taken_more some bytes now old mid new h p = record {
   keeps = keeps_both old mid new h.keeps p.keeps;
   kept = p.kept ∙ h.kept;
@@ -31,7 +31,7 @@ taken_more some bytes now old mid new h p = record {
       (p.taken (subst IsTrue (sym h.keeps.tells) t));
 }
 
-pub too_long : (bytes : List ℕ) (old new : FeedState) → HasTaken bytes old new → list_limit < length bytes
+pub too_long : (bytes : List ℕ) (old new : FeedState) → TookBytes bytes old new → list_limit < length bytes
     → StopsTaking ListTooLong old new
 too_long bytes old new h long =
     let behind : FeedBehind ListTooLong old new =
@@ -56,7 +56,7 @@ front_taken : (bytes front left mid last : List ℕ) → left ≡ bytes ++ mid �
 front_taken bytes front left mid last first second =
     first ∙ ap (λ b. bytes ++ b) second ∙ sym (append_assoc bytes front last)
 
-starved_later : (bytes : List ℕ) (old mid new : FeedState) → HasTaken bytes old mid → FeedBehind NoMemory mid new
+starved_later : (bytes : List ℕ) (old mid new : FeedState) → TookBytes bytes old mid → FeedBehind NoMemory mid new
     → FeedBehind NoMemory old new
 starved_later bytes old mid new h b = record {
   keeps = keeps_both old mid new h.keeps b.keeps;
@@ -66,7 +66,7 @@ starved_later bytes old mid new h b = record {
       (bytes ++ w.0, front_taken bytes w.0 old.left mid.left new.left (h.taken t) w.1);
 }
 
-broke_later : (bytes : List ℕ) (old mid new : FeedState) → HasTaken bytes old mid → FeedBehind FeedFault mid new
+broke_later : (bytes : List ℕ) (old mid new : FeedState) → TookBytes bytes old mid → FeedBehind FeedFault mid new
     → FeedBehind FeedFault old new
 broke_later bytes old mid new h b = record {
   keeps = keeps_both old mid new h.keeps b.keeps;
@@ -76,7 +76,7 @@ broke_later bytes old mid new h b = record {
       (bytes ++ w.0, front_taken bytes w.0 old.left mid.left new.left (h.taken t) w.1);
 }
 
-pub taking_stopped : (e : LogEnding) (bytes : List ℕ) (old mid new : FeedState) → HasTaken bytes old mid
+pub taking_stopped : (e : LogEnding) (bytes : List ℕ) (old mid new : FeedState) → TookBytes bytes old mid
     → (e ≡ NoMemory) ⊎ (e ≡ FeedFault) → FeedBehind e mid new → StopsTaking e old new
 taking_stopped e bytes old mid new h (inl is) b = record {
   list = old.left;

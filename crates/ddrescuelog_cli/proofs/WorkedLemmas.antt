@@ -10,7 +10,7 @@ use Rattle.work_steps.specs.Work.{Take}
 use Rattle.log_command.specs.Modes.{creates}
 use Rattle.log_command.specs.Command.{Command}
 use Rattle.save_resume.proofs.FillLemmas.{keeps_self}
-use Rattle.ddrescuelog_cli.specs.declared.load.Loaded.{Loaded}
+use Rattle.ddrescuelog_cli.specs.declared.load.LoadedMaps.{LoadedMaps}
 use Rattle.ddrescuelog_cli.specs.declared.ending.LogEnding.{LogEnding}
 use Rattle.ddrescuelog_cli.specs.declared.ending.LogEnding.TheVariants.{NoMemory}
 use Rattle.ddrescuelog_cli.specs.Modes.{prints, removes_map}
@@ -19,7 +19,7 @@ use Rattle.ddrescuelog_cli.specs.Results.{text_of}
 use Rattle.ddrescuelog_cli.specs.Told.{only_calls}
 use Rattle.ddrescuelog_cli.specs.Work.{read_rows, WorksOver, LogWorks, WorksAs}
 use Rattle.ddrescuelog_cli.specs.Behind.{SiteBehind}
-use Rattle.ddrescuelog_cli.specs.Creating.{Creates}
+use Rattle.ddrescuelog_cli.specs.Creating.{CreatesMap}
 use Rattle.ddrescuelog_cli.specs.Removing.{RemovesDone}
 use Rattle.ddrescuelog_cli.specs.Ddrescuelog.{PutsAs}
 use Rattle.ddrescuelog_cli.specs.Steps.{ReadCause, LoadsMaps, IsLoadedAs, HasFound}
@@ -98,7 +98,7 @@ record Ended (c : Command) (line : List ℕ) (m : Maps) (e : LogEnding) (mid new
   ends : (list : List ℕ) → WorksOver c line list m e (only_calls calls)
   out : PutsAs e (text_of c.mode c line m) console between
 
-load_ended : (c : Command) (line : List ℕ) (l : Loaded) (e : LogEnding) (old mid new : SiteState) (feed : FeedState)
+load_ended : (c : Command) (line : List ℕ) (l : LoadedMaps) (e : LogEnding) (old mid new : SiteState) (feed : FeedState)
     (console between : ConsoleState) → creates c.mode ≡ false → LoadsMaps c (Ok l) old mid → Stays old mid
     → ((m : Maps) → IsLoadedAs c m l → Ended c line m e mid new console between)
     → Worked c line e old new feed console between
@@ -123,7 +123,7 @@ load_ended c line l e old mid new feed console between reads loads stays ends =
     }
 
 -- the mode changed no file
-pub load_found : (c : Command) (line : List ℕ) (l : Loaded) (h : HeadingLines) (e : LogEnding) (old new : SiteState)
+pub load_found : (c : Command) (line : List ℕ) (l : LoadedMaps) (h : HeadingLines) (e : LogEnding) (old new : SiteState)
     (feed : FeedState) (console between : ConsoleState) → creates c.mode ≡ false → LoadsMaps c (Ok l) old new
     → Stays old new → h ≡ heading_of line
     → ((m : Maps) → IsLoadedAs c m l → HasFound c h m e console between) → Worked c line e old new feed console between
@@ -136,7 +136,7 @@ load_found c line l h e old new feed console between reads loads stays heads fin
       out = (finds m is).out line heads;
     })
 
-pub found_behind : (c : Command) (l : Loaded) (h : HeadingLines) (e : LogEnding) (old new : SiteState)
+pub found_behind : (c : Command) (l : LoadedMaps) (h : HeadingLines) (e : LogEnding) (old new : SiteState)
     (console between : ConsoleState) → creates c.mode ≡ false → removes_map c.mode ≡ false
     → LoadsMaps c (Ok l) old new → Stays old new → new.faults ≡ old.faults
     → ((m : Maps) → IsLoadedAs c m l → HasFound c h m e console between) → SiteBehind e old new
@@ -146,7 +146,7 @@ found_behind c l h e old new console between reads keeps loads stays kept finds 
     stays kept
 
 -- the mapfile was to be removed
-pub load_removed : (c : Command) (line : List ℕ) (l : Loaded) (e : LogEnding) (old mid new : SiteState)
+pub load_removed : (c : Command) (line : List ℕ) (l : LoadedMaps) (e : LogEnding) (old mid new : SiteState)
     (feed : FeedState) (console : ConsoleState) → creates c.mode ≡ false → prints c.mode ≡ false
     → LoadsMaps c (Ok l) old mid → Stays old mid
     → ((m : Maps) → IsLoadedAs c m l → RemovesDone c m e mid new) → Worked c line e old new feed console console
@@ -169,7 +169,7 @@ load_removed c line l e old mid new feed console reads off loads stays removes =
 -- ---- a map was to be created
 
 pub creates_worked : (c : Command) (line : List ℕ) (e : LogEnding) (site site' : SiteState) (feed : FeedState)
-    (console : ConsoleState) → creates c.mode ≡ true → prints c.mode ≡ false → Creates c line e site site' feed
+    (console : ConsoleState) → creates c.mode ≡ true → prints c.mode ≡ false → CreatesMap c line e site site' feed
     → Worked c line e site site' feed console console
 creates_worked c line e site site' feed console new off made =
     let went : (m : Maps) → AreAskedFor c m → AreMapsOf c made.found m

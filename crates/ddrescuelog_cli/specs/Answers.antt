@@ -85,10 +85,10 @@ Causes NoMemory t = Rises unchanged unchanged unchanged t
 -- ---- the mode
 
 -- the words name the map that is meant; the mapfile is read in every mode but -c
-abbrev pub IsRead : Which → Command → Type 0
-IsRead RunMap c = creates c.mode ≡ false
-IsRead OtherMap c = is_some c.other ≡ true
-IsRead DomainMap c = is_some c.domain_map ≡ true
+abbrev pub IsNamedMap : Which → Command → Type 0
+IsNamedMap RunMap c = creates c.mode ≡ false
+IsNamedMap OtherMap c = is_some c.other ≡ true
+IsNamedMap DomainMap c = is_some c.domain_map ≡ true
 
 -- which mode makes a call: a read every one may; -c saves; -d removes and settles; none opens, reads or writes an image
 abbrev pub MayCall : SiteCall → Command → Type 0
@@ -120,8 +120,8 @@ FitsCommand NotDone c = tests c.mode ≡ true
 FitsCommand Differ c = compares c.mode ≡ true
 FitsCommand (Usage fault) c = FitsUsage fault c
 FitsCommand Exists c = (creates c.mode ≡ true) × (c.options.forced ≡ false)
-FitsCommand (NoMap which) c = IsRead which c
-FitsCommand (MapRefused which error) c = IsRead which c
+FitsCommand (NoMap which) c = IsNamedMap which c
+FitsCommand (MapRefused which error) c = IsNamedMap which c
 FitsCommand (BadNumber line) c = creates c.mode ≡ true
 FitsCommand ListTooLong c = creates c.mode ≡ true
 FitsCommand (SiteFault call) c = MayCall call c
@@ -136,8 +136,8 @@ abbrev pub Untaken : (old new : FeedState) → Type 0
 Untaken old new = new ≡ old
 
 -- some of it was, from its front on
-abbrev pub Taken : (old new : FeedState) → Type 0
-Taken old new = IsTrue old.tells → (front : List ℕ) × (old.left ≡ front ++ new.left)
+abbrev pub TookFront : (old new : FeedState) → Type 0
+TookFront old new = IsTrue old.tells → (front : List ℕ) × (old.left ≡ front ++ new.left)
 
 -- all of it was
 abbrev pub AllTaken : (old new : FeedState) → Type 0
@@ -174,14 +174,14 @@ TakesAs (MapRefused which error) old new = Untaken old new
 TakesAs (BadNumber line) old new = AllTaken old new
 TakesAs ListTooLong old new = TooMuchTaken old new
 TakesAs (SiteFault call) old new = TakenBefore call old new
-TakesAs FeedFault old new = Taken old new
+TakesAs FeedFault old new = TookFront old new
 TakesAs ConsoleFault old new = ⊥
-TakesAs NoMemory old new = Taken old new
+TakesAs NoMemory old new = TookFront old new
 
 -- only a map to be created takes anything
-abbrev pub Takes : (creates_map : Bool) → LogEnding → (old new : FeedState) → Type 0
-Takes true e old new = TakesAs e old new
-Takes false e old new = Untaken old new
+abbrev pub TakesFeed : (creates_map : Bool) → LogEnding → (old new : FeedState) → Type 0
+TakesFeed true e old new = TakesAs e old new
+TakesFeed false e old new = Untaken old new
 
 -- ---- the draft, the status, and whether anything is said
 

@@ -21,7 +21,7 @@ use Rattle.ddrescuelog_cli.specs.declared.ending.LogEnding.{LogEnding}
 use Rattle.ddrescuelog_cli.specs.declared.ending.LogEnding.TheVariants.{Done, Exists, ListTooLong, FeedFault, NoMemory}
 use Rattle.ddrescuelog_cli.specs.Maps.{Found, Maps, found_in, AreMapsOf, AreAskedFor, shape_of}
 use Rattle.ddrescuelog_cli.specs.Refusals.{MapIsThere, ListRefused}
-use Rattle.ddrescuelog_cli.specs.Results.{EndsAt}
+use Rattle.ddrescuelog_cli.specs.Results.{ListEndsAt}
 use Rattle.ddrescuelog_cli.specs.Told.{only_calls}
 use Rattle.ddrescuelog_cli.specs.Work.{log_faults, OnlyAnswers, SaysIfThere, UnlessThere, WorksOver, WorksAs}
 use Rattle.ddrescuelog_cli.specs.Steps.{HasStatuses, ReadCause, statuses_in}
@@ -89,7 +89,7 @@ pub record Looks (c : Command) (result : Result (Option Tiled) LogEnding) (old n
 -- ---- the list
 
 -- A piece was taken behind a list: it has bytes where the feed had some, and else nothing is left.
-pub record TakesPiece (some : Bool) (before now : List ℕ) (old new : FeedState) : Type 0 where
+pub record TakesFeedPiece (some : Bool) (before now : List ℕ) (old new : FeedState) : Type 0 where
   pub piece : List ℕ
   pub grew : now ≡ before ++ piece
   pub keeps : FeedKeeps old new
@@ -99,14 +99,14 @@ pub record TakesPiece (some : Bool) (before now : List ℕ) (old new : FeedState
   pub ended : some ≡ false → (piece ≡ []) × (IsTrue old.tells → new.left ≡ [])
 
 -- so many bytes were taken, and what is left is behind them
-pub record HasTaken (bytes : List ℕ) (old new : FeedState) : Type 0 where
+pub record TookBytes (bytes : List ℕ) (old new : FeedState) : Type 0 where
   pub keeps : FeedKeeps old new
   pub kept : new.faults ≡ old.faults
   pub taken : IsTrue old.tells → old.left ≡ bytes ++ new.left
 
 -- these bytes are all that there were, and no more than a list may have
 pub record TakesAll (bytes : List ℕ) (old new : FeedState) : Type 0 where
-  pub has : HasTaken bytes old new
+  pub has : TookBytes bytes old new
   pub all : IsTrue old.tells → new.left ≡ []
   pub short : length bytes ≤ list_limit
 
@@ -129,7 +129,7 @@ pub record AreOfList (o : LogOptions) (listed rest : Status) (domain : Option (L
   pub numbers : List ℕ
   pub read : numbers_in (shape_of o) list ≡ Ok numbers
   pub end : ℕ
-  pub ends : EndsAt o.size o numbers end
+  pub ends : ListEndsAt o.size o numbers end
   pub is : statuses ≡ created_map (shape_of o) numbers (in_map (whole_domain o.input_position o.size end) domain)
       listed rest end
 
@@ -141,7 +141,7 @@ DidMake o listed rest domain (Ok tiles) list =
 DidMake o listed rest domain (Err e) list = (e ≡ NoMemory) ⊎ (e ≡ FeedFault) ⊎ ListRefused o list e
 
 -- There is a list, which is the feed's own where it tells.
-pub record Makes (o : LogOptions) (listed rest : Status) (domain : Option (List Status))
+pub record MakesList (o : LogOptions) (listed rest : Status) (domain : Option (List Status))
     (result : Result Tiled LogEnding) (old new : FeedState) : Type 0 where
   pub list : List ℕ
   pub is_own : IsTrue old.tells → list ≡ old.left
@@ -162,7 +162,7 @@ DidCreate c line list found e calls =
     ⊎ ((m : Maps) × AreMapsOf c found m × AreAskedFor c m × WorksAs true c line list found m e (only_calls calls))
 
 -- There are files that were found, a list and calls, which are what files and feed tell, where they do.
-pub record Creates (c : Command) (line : List ℕ) (e : LogEnding) (site site' : SiteState) (feed : FeedState)
+pub record CreatesMap (c : Command) (line : List ℕ) (e : LogEnding) (site site' : SiteState) (feed : FeedState)
     : Type 0 where
   pub found : Found
   pub list : List ℕ

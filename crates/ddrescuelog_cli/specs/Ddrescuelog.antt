@@ -1,7 +1,7 @@
 -- The promise of `ddrescuelog`, field by field. What an object tells is its own: the forms in memory tell all, those
 -- for real files and streams their counts and what is open.
 use Rattle.std.specs.Prelude.{◌≡◌, ◌≢◌, ◌⊎◌, ℕ, true, false, IsTrue, List, []}
-use Rattle.fault_count.specs.Plan.{counted}
+use Rattle.fault_count.specs.Plan.{with_call}
 use Rattle.crash_site.specs.SiteState.{Keeps as SiteKeeps, files_in}
 use Rattle.rescue_console.specs.FeedState.{Keeps as FeedKeeps}
 use Rattle.rescue_console.specs.ConsoleState.{ConsoleState, Puts, PutsPart}
@@ -16,7 +16,7 @@ use Rattle.ddrescuelog_cli.specs.Maps.{Maps, AreMapsOf, AreAskedFor}
 use Rattle.ddrescuelog_cli.specs.Results.{text_of}
 use Rattle.ddrescuelog_cli.specs.Work.{LogWorks}
 use Rattle.ddrescuelog_cli.specs.Stops.{StopsSafely, OnlyReads, LeavesFiles, LeavesAll}
-use Rattle.ddrescuelog_cli.specs.Answers.{SaysOfWords, Causes, FitsCommand, Takes, drafting_left, is_silent}
+use Rattle.ddrescuelog_cli.specs.Answers.{SaysOfWords, Causes, FitsCommand, TakesFeed, drafting_left, is_silent}
 use Rattle.ddrescuelog_cli.specs.Messages.{message}
 
 -- nothing was done on the files, the feed and standard output
@@ -33,7 +33,7 @@ pub data Says (t : Told) (between : ConsoleState) : Type 0 where
   Message : is_silent t.answer ≡ false
       → (AskQuiet t.words → (t.answer ≡ NoMemory) × IsUntouched t between)
       → Puts Err (message t.answer) between t.console' ⊎ PutsPart Err (message t.answer) between t.console'
-      → (IsTrue between.is_planned → t.console'.plan ≡ counted between.plan) → Says t between
+      → (IsTrue between.is_planned → t.console'.plan ≡ with_call between.plan) → Says t between
 
 -- What is put on standard output by the answer: the text of the mode, or where the console failed a beginning of it,
 -- which only a mode that has a text can do; behind every refusal and every other fault nothing.
@@ -70,7 +70,7 @@ pub record Promise (c : Command) (between : ConsoleState) (t : Told) : Type 0 wh
   -- What is put on standard output is what the mode prints of the maps, or where that failed a beginning of it.
   pub out : PutsAs t.answer (text_of c.mode c (line_of t) maps) t.console between
   -- The feed is taken from only to create a map; then, once its numbers are read, nothing of it is left.
-  pub takes : Takes (creates c.mode) t.answer t.feed t.feed'
+  pub takes : TakesFeed (creates c.mode) t.answer t.feed t.feed'
   -- Where the files tell, and the feed if it is taken from: at whatever moment the call is stopped, the mapfile that is
   -- found is one that could be found before, or the created map, whole, or none where it was done and is to be removed;
   -- every other file but the draft is found as it could be before.

@@ -7,7 +7,7 @@ use Rattle.mapfile_text.specs.declared.read.Mode.TheVariants.{Tight}
 use Rattle.crash_site.specs.SiteState.{files_in}
 use Rattle.save_resume.specs.SaveStops.{text_file}
 use Rattle.map_algebra.specs.Create.{created_map}
-use Rattle.work_steps.specs.Work.{Deeds, Step}
+use Rattle.work_steps.specs.Work.{Deeds, WorkStep}
 use Rattle.work_steps.specs.Verdicts.{RefuseNothing}
 use Rattle.log_command.specs.Modes.{creates}
 use Rattle.log_command.specs.Command.{Command, Asks}
@@ -44,25 +44,25 @@ HasOneVerdict = (c : Command) (line list : List ℕ) (found : Found) (m : Maps) 
     → LogWorks c line list found m e d → LogWorks c line list found m e' d' → IsVerdict e → IsVerdict e' → e ≡ e'
 
 -- what a mode itself answers; of other answers nothing is said
-abbrev pub IsFound : LogEnding → (finds : LogEnding → Type 0) → Type 0
-IsFound Done finds = finds Done
-IsFound NotDone finds = finds NotDone
-IsFound Differ finds = finds Differ
-IsFound (Usage fault) finds = ⊤
-IsFound Exists finds = ⊤
-IsFound (NoMap which) finds = ⊤
-IsFound (MapRefused which error) finds = ⊤
-IsFound (BadNumber line) finds = ⊤
-IsFound ListTooLong finds = ⊤
-IsFound (SiteFault call) finds = ⊤
-IsFound FeedFault finds = ⊤
-IsFound ConsoleFault finds = ⊤
-IsFound NoMemory finds = ⊤
+abbrev pub IsModeAnswer : LogEnding → (finds : LogEnding → Type 0) → Type 0
+IsModeAnswer Done finds = finds Done
+IsModeAnswer NotDone finds = finds NotDone
+IsModeAnswer Differ finds = finds Differ
+IsModeAnswer (Usage fault) finds = ⊤
+IsModeAnswer Exists finds = ⊤
+IsModeAnswer (NoMap which) finds = ⊤
+IsModeAnswer (MapRefused which error) finds = ⊤
+IsModeAnswer (BadNumber line) finds = ⊤
+IsModeAnswer ListTooLong finds = ⊤
+IsModeAnswer (SiteFault call) finds = ⊤
+IsModeAnswer FeedFault finds = ⊤
+IsModeAnswer ConsoleFault finds = ⊤
+IsModeAnswer NoMemory finds = ⊤
 
 -- An answer of a mode is what it finds in the maps, whatever the objects tell.
 abbrev pub AnswersAreFound : Type 0
 AnswersAreFound = (c : Command) (line list : List ℕ) (found : Found) (m : Maps) (e : LogEnding) (d : Deeds)
-    → LogWorks c line list found m e d → IsFound e (Finds c.mode c m)
+    → LogWorks c line list found m e d → IsModeAnswer e (Finds c.mode c m)
 
 -- An answer of the work comes only where the words ask for what it speaks of.
 abbrev pub AnswersFit : Type 0
@@ -88,7 +88,7 @@ pub record NothingFailed (t : Told) : Type 0 where
   pub puts_count : t.console.out.faults < 2 ^ 64 - 1
 
 -- the rows of the maps that are read: one that is created isn't
-abbrev pub rows_of_maps : (creates_map : Bool) → Command → Found → List (Step LogEnding)
+abbrev pub rows_of_maps : (creates_map : Bool) → Command → Found → List (WorkStep LogEnding)
 rows_of_maps false c found = read_rows c found
 rows_of_maps true c found = named_rows c found
 

@@ -7,7 +7,7 @@ use Rattle.block_list.specs.declared.types.TypeSet.{TypeSet}
 use Rattle.mapfile_text.specs.declared.heading.Program.TheVariants.{Ddrescuelog}
 use Rattle.mapfile_text.specs.declared.state.MapState.{MapState}
 use Rattle.mapfile_text.specs.declared.state.Current.TheVariants.{Copying}
-use Rattle.mapfile_text.specs.Printed.{ended, printed, current_symbol}
+use Rattle.mapfile_text.specs.Printed.{with_newline, printed, current_symbol}
 use Rattle.block_list.specs.declared.areas.Count.{Count}
 use Rattle.map_algebra.specs.declared.summary.Summary.{Summary}
 use Rattle.map_algebra.specs.Change.{changed_map}
@@ -53,7 +53,7 @@ map_text line shown statuses =
 
 -- a number on a line of its own
 abbrev pub number_line : ℕ → List ℕ
-number_line k = ended (decimal k)
+number_line k = with_newline (decimal k)
 
 -- how a status is called
 abbrev pub status_name : Status → List ℕ
@@ -66,17 +66,17 @@ status_name Finished = codes "finished"
 -- `position 0, status ?, pass 1`: what the mapfile shows
 abbrev pub shown_line : MapState → List ℕ
 shown_line shown =
-    ended (codes "position " ++ decimal shown.pos ++ codes ", status " ++ current_symbol shown.current ∷ []
+    with_newline (codes "position " ++ decimal shown.pos ++ codes ", status " ++ current_symbol shown.current ∷ []
     ++ codes ", pass " ++ decimal shown.pass)
 
 -- `domain 0 B`: how many positions are looked at
 abbrev pub domain_line : ℕ → List ℕ
-domain_line n = ended (codes "domain " ++ decimal n ++ codes " B")
+domain_line n = with_newline (codes "domain " ++ decimal n ++ codes " B")
 
 -- `non-tried 0 B in 0 areas`: how much of them has a status
 abbrev pub count_line : Status → Count → List ℕ
 count_line status k =
-    ended (status_name status ++ codes " " ++ decimal k.bytes ++ codes " B in " ++ decimal k.areas ++ codes " areas")
+    with_newline (status_name status ++ codes " " ++ decimal k.bytes ++ codes " B in " ++ decimal k.areas ++ codes " areas")
 
 -- the line of a status, whose count is the k-th of a summary
 abbrev pub counted_line : Status → Summary → (k : ℕ) → List ℕ
@@ -111,14 +111,14 @@ text_of Summarize c line m = summary_text m.shown (summary_of (domain_of c m) m.
 -- ---- what is saved
 
 -- where a map of listed blocks ends: behind the size, if that is given, else behind the last listed position
-abbrev pub EndsAt : (size : Option ℕ) → LogOptions → (numbers : List ℕ) → (end : ℕ) → Type 0
-EndsAt (Some n) o numbers end = end ≡ o.input_position + n
-EndsAt None o numbers end = IsEndOfBlocks (shape_of o) numbers end
+abbrev pub ListEndsAt : (size : Option ℕ) → LogOptions → (numbers : List ℕ) → (end : ℕ) → Type 0
+ListEndsAt (Some n) o numbers end = end ≡ o.input_position + n
+ListEndsAt None o numbers end = IsEndOfBlocks (shape_of o) numbers end
 
 -- a text is that of the map of listed blocks, at position 0 in the first pass of copying
 pub record IsCreated (c : Command) (listed rest : Status) (line : List ℕ) (m : Maps) (numbers text : List ℕ)
     : Type 0 where
   pub end : ℕ
-  pub ends : EndsAt c.options.size c.options numbers end
+  pub ends : ListEndsAt c.options.size c.options numbers end
   pub is : text ≡ map_text line (record { pos = 0; current = Copying; pass = 1 })
       (created_map (shape_of c.options) numbers (domain_below c.options m end) listed rest end)

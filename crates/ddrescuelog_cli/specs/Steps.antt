@@ -18,10 +18,10 @@ use Rattle.crash_site.specs.SiteState.{SiteState, files_in}
 use Rattle.save_resume.specs.Loading.{IsLoad}
 use Rattle.save_resume.specs.Named.{IsMapOf}
 use Rattle.save_resume.specs.Resuming.{IsReadAs}
-use Rattle.work_steps.specs.Work.{Step, Take, Look, Open, Make, Read, Works}
+use Rattle.work_steps.specs.Work.{WorkStep, Take, Look, Open, Make, Read, Works}
 use Rattle.log_command.specs.Command.{Command}
 use Rattle.ddrescuelog_cli.specs.declared.ending.Which.{Which}
-use Rattle.ddrescuelog_cli.specs.declared.load.Loaded.{Loaded}
+use Rattle.ddrescuelog_cli.specs.declared.load.LoadedMaps.{LoadedMaps}
 use Rattle.ddrescuelog_cli.specs.declared.ending.LogEnding.{LogEnding}
 use Rattle.ddrescuelog_cli.specs.declared.ending.LogEnding.TheVariants.{Done, NoMap, MapRefused, SiteFault, ConsoleFault, NoMemory}
 use Rattle.ddrescuelog_cli.specs.Maps.{Found, Maps, file_of, found_in, AreMapsOf, AreAskedFor, domain_of}
@@ -31,11 +31,11 @@ use Rattle.ddrescuelog_cli.specs.Told.{only_calls}
 use Rattle.ddrescuelog_cli.specs.Work.{log_faults, map_rows, read_rows, WorksOver}
 
 -- the work stopped in one of these rows
-abbrev pub Stopped : List (Step LogEnding) → LogEnding → List Entry → Type 0
+abbrev pub Stopped : List (WorkStep LogEnding) → LogEnding → List Entry → Type 0
 Stopped rows e calls = Works log_faults rows (λ e d. ⊥) e (only_calls calls)
 
 -- it went through all of them, with these calls
-abbrev pub Through : List (Step LogEnding) → List Entry → Type 0
+abbrev pub Through : List (WorkStep LogEnding) → List Entry → Type 0
 Through [] calls = calls ≡ []
 Through (Take ∷ more) calls = Through more calls
 Through (Look refuses ∷ more) calls = ((v : LogEnding) → refuses v → ⊥) × Through more calls
@@ -104,20 +104,20 @@ maps_read m other domain = record {
 }
 
 -- what was loaded is what maps say, and the domain that a command asks for of them
-pub record IsLoadedAs (c : Command) (m : Maps) (l : Loaded) : Type 0 where
+pub record IsLoadedAs (c : Command) (m : Maps) (l : LoadedMaps) : Type 0 where
   pub shown : l.state ≡ m.shown
   pub statuses : l.tiles.statuses ≡ m.statuses
   pub other : l.other.statuses ≡ m.other
   pub domain : (x : ℕ) → covers l.domain x ≡ domain_of c m x
 
 -- The maps were read to the last and are what the files are, or the work stopped at one of them.
-abbrev pub DidLoad : Command → Found → Result Loaded LogEnding → List Entry → Type 0
+abbrev pub DidLoad : Command → Found → Result LoadedMaps LogEnding → List Entry → Type 0
 DidLoad c found (Ok l) calls =
     (m : Maps) × AreMapsOf c found m × AreAskedFor c m × IsLoadedAs c m l × Through (Take ∷ read_rows c found) calls
 DidLoad c found (Err e) calls = Stopped (Take ∷ read_rows c found) e calls
 
 -- There are files that were read, and calls, which are the site's own where it tells.
-pub record LoadsMaps (c : Command) (result : Result Loaded LogEnding) (old new : SiteState) : Type 0 where
+pub record LoadsMaps (c : Command) (result : Result LoadedMaps LogEnding) (old new : SiteState) : Type 0 where
   pub found : Found
   pub calls : List Entry
   pub is_own : IsTrue old.tells → found ≡ found_in c (files_in old)

@@ -16,7 +16,7 @@ use Rattle.save_resume.specs.Named.{map_mode}
 use Rattle.save_resume.specs.Saving.{save_calls}
 use Rattle.map_algebra.specs.Compare.{IsOpenIn}
 use Rattle.map_algebra.specs.Numbers.{numbers_in}
-use Rattle.work_steps.specs.Work.{Deeds, IsIdle, IsOnlyCalls, with_calls, Faults, Step, Take, Look, Make, Read, Works}
+use Rattle.work_steps.specs.Work.{Deeds, IsIdle, IsOnlyCalls, with_calls, Faults, WorkStep, Take, Look, Make, Read, Works}
 use Rattle.log_command.specs.declared.mode.LogMode.{LogMode}
 use Rattle.log_command.specs.declared.mode.LogMode.TheVariants.{Change, Combine, Complete, ListBlocks, Create, Test, Compare, Summarize}
 use Rattle.log_command.specs.Modes.{creates}
@@ -36,17 +36,17 @@ log_faults = record { call = λ call. SiteFault call; memory = NoMemory; input =
 -- ---- the maps
 
 -- A map that is named, if one is, is read, and may be absent or refused.
-abbrev pub map_rows : Which → Mode → (name : Option (List ℕ)) → (file : Option File) → List (Step LogEnding)
+abbrev pub map_rows : Which → Mode → (name : Option (List ℕ)) → (file : Option File) → List (WorkStep LogEnding)
 map_rows which mode name file = Read name file ∷ Look (IfNamed name (MapIsRefused which mode file)) ∷ []
 
 -- behind the mapfile: the other map, and then the domain map
-abbrev pub named_rows : Command → Found → List (Step LogEnding)
+abbrev pub named_rows : Command → Found → List (WorkStep LogEnding)
 named_rows c found =
     map_rows OtherMap Tight c.other found.other
     ++ map_rows DomainMap (map_mode c.options.loose) c.domain_map found.domain
 
 -- the maps, in the order in which they are read
-abbrev pub read_rows : Command → Found → List (Step LogEnding)
+abbrev pub read_rows : Command → Found → List (WorkStep LogEnding)
 read_rows c found = map_rows RunMap (mapfile_mode c.mode) (Some c.mapfile) found.mapfile ++ named_rows c found
 
 -- ---- what a mode does

@@ -10,7 +10,7 @@ use Rattle.ddrescuelog_cli.specs.Maps.{Maps, found_in, AreMapsOf, AreAskedFor}
 use Rattle.ddrescuelog_cli.specs.Results.{text_of}
 use Rattle.ddrescuelog_cli.specs.Told.{Outside, only_calls}
 use Rattle.ddrescuelog_cli.specs.Work.{LogWorks}
-use Rattle.ddrescuelog_cli.specs.Answers.{Takes}
+use Rattle.ddrescuelog_cli.specs.Answers.{TakesFeed}
 use Rattle.ddrescuelog_cli.specs.Behind.{FeedCounts}
 use Rattle.ddrescuelog_cli.specs.Ddrescuelog.{PutsAs}
 
@@ -32,7 +32,7 @@ pub record Worked (c : Command) (line : List ℕ) (e : LogEnding) (site site' : 
 pub record FeedAfter (creates_map : Bool) (e : LogEnding) (old new : FeedState) : Type 0 where
   pub keeps : FeedKeeps old new
   pub counts : FeedCounts e old.faults new.faults
-  pub takes : Takes creates_map e old new
+  pub takes : TakesFeed creates_map e old new
 
 -- Whether something is to be said of an answer; `untouched` says that nothing was done.
 pub record MaySay (words : List (List ℕ)) (e : LogEnding) (quiet : Bool) (untouched : Type 0) : Type 0 where

@@ -11,10 +11,10 @@ ghost use Rattle.log_command.specs.Command.{AreInLimits, told_by};
 ghost use Rattle.ddrescuelog_cli.specs.declared.ending.LogEnding.TheVariants.{NoMemory as OutOfMemory};
 ghost use Rattle.ddrescuelog_cli.specs.Maps.{shape_of};
 ghost use Rattle.ddrescuelog_cli.specs.Refusals.{ListRefused};
-ghost use Rattle.ddrescuelog_cli.specs.Results.{EndsAt};
+ghost use Rattle.ddrescuelog_cli.specs.Results.{ListEndsAt};
 ghost use Rattle.ddrescuelog_cli.specs.Steps.{statuses_in};
 ghost use Rattle.ddrescuelog_cli.specs.Behind.{FeedBehind, SiteBehind};
-ghost use Rattle.ddrescuelog_cli.specs.Creating.{AreOfList, AsksIfThere, Creates, LookCause, Looks, Makes, SavesText, StopsTaking, TakesAll, TakesPiece, ended_as};
+ghost use Rattle.ddrescuelog_cli.specs.Creating.{AreOfList, AsksIfThere, CreatesMap, LookCause, Looks, MakesList, SavesText, StopsTaking, TakesAll, TakesFeedPiece, ended_as};
 
 use crate::ending::{LogEnding, Which};
 use crate::load::{mode_of_domain, read_named};
@@ -85,7 +85,7 @@ fn look<D: Site>(
 /// Takes a piece behind a list, and answers whether any was left. Memory is asked for in front of the take, so that
 /// nothing that was taken is lost for want of it.
 fn take_piece<I: Feed>(feed: &mut I, list: &mut Vec<u8>) -> Result<bool, LogEnding>
-    ensures took { IfOk result (λ some. TakesPiece some list.old.items list.new.items
+    ensures took { IfOk result (λ some. TakesFeedPiece some list.old.items list.new.items
         (I.state feed.old) (I.state feed.new)) }
     ensures cause { IfErr result (λ e. (e ≡ OutOfMemory) ⊎ (e ≡ LogEnding.FeedFault)) }
     ensures feed { IfErr result (λ e. FeedBehind e (I.state feed.old) (I.state feed.new)) }
@@ -125,7 +125,7 @@ fn end_of(options: &LogOptions, numbers: &[u64]) -> u64
     requires shape { IsShape (shape_of options.now) }
     requires limits { All (IsInRange (shape_of options.now)) numbers.now }
     requires size { ends_beyond options.now options.now.size ≡ false }
-    ensures end { EndsAt options.now.size options.now numbers.now result }
+    ensures end { ListEndsAt options.now.size options.now numbers.now result }
     ensures short { result < 2 ^ 63 }
 {
     match options.size {
@@ -178,7 +178,7 @@ fn make_map<I: Feed>(
 ) -> Result<PlainTiles, LogEnding>
     requires shape { IsShape (shape_of options.now) }
     requires size { ends_beyond options.now options.now.size ≡ false }
-    ensures makes { Makes options.now listed rest (statuses_in domain_map.now) result
+    ensures makes { MakesList options.now listed rest (statuses_in domain_map.now) result
         (I.state feed.old) (I.state feed.new) }
     ensures feed { FeedBehind (ended_as result) (I.state feed.old) (I.state feed.new) }
 {
@@ -220,7 +220,7 @@ pub(crate) fn create_map<D: Site, I: Feed>(
     requires mode { (told_by command.now).mode ≡ LogMode.Create listed rest }
     ensures work { (line : List ℕ)
         → heading.now ≡ record { program = Ddrescuelog; line = line; start_s = 0; now_s = 0 }
-        → Creates (told_by command.now) line result (D.state site.old) (D.state site.new) (I.state feed.old) }
+        → CreatesMap (told_by command.now) line result (D.state site.old) (D.state site.new) (I.state feed.old) }
     ensures site { SiteBehind result (D.state site.old) (D.state site.new) }
     ensures feed { FeedBehind result (I.state feed.old) (I.state feed.new) }
 {

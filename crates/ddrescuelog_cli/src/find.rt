@@ -2,7 +2,7 @@
 ghost use Rattle.std.specs.Prelude.{◌≡◌, ℕ, true, false, length};
 ghost use Rattle.rescue_domain.specs.Parts.{covers};
 ghost use Rattle.rescue_domain.specs.Domain.{whole_domain};
-ghost use Rattle.map_algebra.specs.At.{IsWithin};
+ghost use Rattle.map_algebra.specs.At.{IsWithinMap};
 ghost use Rattle.log_command.specs.Modes.{creates, has_other};
 ghost use Rattle.log_command.specs.Command.{AreInLimits, told_by};
 ghost use Rattle.ddrescuelog_cli.specs.Maps.{Maps};
@@ -11,7 +11,7 @@ ghost use Rattle.ddrescuelog_cli.specs.Steps.{IsLoadedAs, HasFound, answer_if};
 
 use crate::ending::LogEnding;
 use crate::list::list_blocks;
-use crate::load::Loaded;
+use crate::load::LoadedMaps;
 use crate::out::{printed, put_rest};
 use crate::print::{print_map, put_map};
 use crate::summary::make_summary;
@@ -37,21 +37,21 @@ pub(crate) fn find<P: Console>(
     alloc: Global,
     command: &Command,
     heading: &Heading,
-    loaded: &Loaded,
+    loaded: &LoadedMaps,
     console: &mut P,
 ) -> LogEnding
     requires limits { AreInLimits (told_by command.now) }
     requires reads { creates (told_by command.now).mode ≡ false }
     requires keeps { removes_map (told_by command.now).mode ≡ false }
     requires within { has_other (told_by command.now).mode ≡ false
-        → IsWithin (covers loaded.now.domain) loaded.now.tiles.statuses }
+        → IsWithinMap (covers loaded.now.domain) loaded.now.tiles.statuses }
     requires inside { has_other (told_by command.now).mode ≡ false → (x : ℕ) → covers loaded.now.domain x ≡ true
         → whole_domain command.now.options.input_position command.now.options.size (length loaded.now.tiles.statuses) x
         ≡ true }
     ensures { (m : Maps) → IsLoadedAs (told_by command.now) m loaded.now
         → HasFound (told_by command.now) heading.now m result (P.state console.old) (P.state console.new) }
 {
-    let Loaded {
+    let LoadedMaps {
         state,
         tiles,
         other,

@@ -5,14 +5,14 @@ ghost use Rattle.rescue_console.specs.ConsoleState.{Puts, PutsPart};
 ghost use Rattle.rescue_domain.specs.Parts.{covers};
 ghost use Rattle.rescue_domain.specs.Domain.{whole_domain};
 ghost use Rattle.rescue_domain.specs.Places.{AreAllPlaced, IsAnyBeyond};
-ghost use Rattle.map_algebra.specs.At.{IsWithin};
+ghost use Rattle.map_algebra.specs.At.{IsWithinMap};
 ghost use Rattle.map_algebra.specs.Listing.{listed, wanted_of};
 ghost use Rattle.ddrescuelog_cli.specs.Maps.{output_from, shape_of};
 ghost use Rattle.ddrescuelog_cli.specs.Results.{number_line};
 ghost use Rattle.ddrescuelog_cli.specs.Ddrescuelog.{PutsAs};
 
 use crate::ending::LogEnding;
-use crate::load::Loaded;
+use crate::load::LoadedMaps;
 use crate::out::{Buffer, add_line, printed, put_rest};
 use crate::places::output_from;
 use block_list::tiles::Tiles;
@@ -42,7 +42,7 @@ fn put_numbers<T: Tiles, P: Console>(
     domain: &Domain,
 ) -> Result<(), ConsoleFault>
     requires begin { listing.old.least ≡ 0 }
-    requires within { IsWithin (covers domain.now) (T.statuses tiles.now) }
+    requires within { IsWithinMap (covers domain.now) (T.statuses tiles.now) }
     requires from { (x : ℕ) → covers domain.now x ≡ true → listing.old.shape.ipos ≤ x }
     requires placed { AreAllPlaced (covers domain.now) listing.old.shape.ipos listing.old.shape.opos }
     ensures put { OnOk result (Puts Out
@@ -68,12 +68,12 @@ fn put_numbers<T: Tiles, P: Console>(
 pub(crate) fn list_blocks<P: Console>(
     options: &LogOptions,
     types: TypeSet,
-    loaded: &Loaded,
+    loaded: &LoadedMaps,
     console: &mut P,
 ) -> LogEnding
     requires block { 0 < options.now.block }
     requires to { output_from options.now < 2 ^ 63 }
-    requires within { IsWithin (covers loaded.now.domain) loaded.now.tiles.statuses }
+    requires within { IsWithinMap (covers loaded.now.domain) loaded.now.tiles.statuses }
     requires inside { (x : ℕ) → covers loaded.now.domain x ≡ true
         → whole_domain options.now.input_position options.now.size (length loaded.now.tiles.statuses) x ≡ true }
     ensures beyond { result ≡ LogEnding.Usage UsageFault.PlaceTooLarge

@@ -91,7 +91,7 @@ pub(crate) fn read_named<D: Site>(
 
 /// What the maps say, and the positions that are looked at.
 #[derive(Drop)]
-pub(crate) struct Loaded {
+pub(crate) struct LoadedMaps {
     /// What the mapfile shows.
     pub state: MapState,
     pub tiles: PlainTiles,
@@ -107,7 +107,7 @@ fn make_loaded(
     map: ReadMap,
     other: Option<PlainTiles>,
     domain_map: &Option<PlainTiles>,
-) -> Result<Loaded, LogEnding>
+) -> Result<LoadedMaps, LogEnding>
     ensures loaded { IfOk result (IsLoadedAs (told_by command.now) (maps_read map other domain_map.now)) }
     ensures starved { IfErr result (λ e. e ≡ OutOfMemory) }
 {
@@ -119,7 +119,7 @@ fn make_loaded(
     let end = tiles.end().max(other.end());
     let from = command.options.input_position;
     match Domain::within(alloc, from, command.options.size, end, domain_map.as_ref()) {
-        Ok(domain) => Ok(Loaded {
+        Ok(domain) => Ok(LoadedMaps {
             state,
             tiles,
             other,
@@ -134,7 +134,7 @@ pub(crate) fn load_maps<D: Site>(
     alloc: Global,
     site: &mut D,
     command: &Command,
-) -> Result<Loaded, LogEnding>
+) -> Result<LoadedMaps, LogEnding>
     requires { creates (told_by command.now).mode ≡ false }
     ensures maps { LoadsMaps (told_by command.now) result (D.state site.old) (D.state site.new) }
     ensures kept { OnOk result ((D.state site.new).faults ≡ (D.state site.old).faults) }

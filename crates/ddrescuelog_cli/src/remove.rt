@@ -1,7 +1,7 @@
 //! Removes a mapfile that is done.
 ghost use Rattle.std.specs.Prelude.{◌≡◌, true};
 ghost use Rattle.rescue_domain.specs.Parts.{covers};
-ghost use Rattle.map_algebra.specs.At.{IsWithin};
+ghost use Rattle.map_algebra.specs.At.{IsWithinMap};
 ghost use Rattle.log_command.specs.Command.{told_by};
 ghost use Rattle.ddrescuelog_cli.specs.Maps.{Maps};
 ghost use Rattle.ddrescuelog_cli.specs.Steps.{IsLoadedAs};
@@ -9,16 +9,20 @@ ghost use Rattle.ddrescuelog_cli.specs.Behind.{SiteBehind};
 ghost use Rattle.ddrescuelog_cli.specs.Removing.{RemovesDone};
 
 use crate::ending::LogEnding;
-use crate::load::Loaded;
+use crate::load::LoadedMaps;
 use crash_site::site::{Site, SiteCall};
 use log_command::command::Command;
 use log_command::mode::LogMode;
 use map_algebra::compare::is_done;
 
 /// Removes the mapfile and settles that, if each position that is looked at is finished.
-pub(crate) fn remove_done<D: Site>(command: &Command, loaded: &Loaded, site: &mut D) -> LogEnding
+pub(crate) fn remove_done<D: Site>(
+    command: &Command,
+    loaded: &LoadedMaps,
+    site: &mut D,
+) -> LogEnding
     requires mode { (told_by command.now).mode ≡ LogMode.Test true }
-    requires within { IsWithin (covers loaded.now.domain) loaded.now.tiles.statuses }
+    requires within { IsWithinMap (covers loaded.now.domain) loaded.now.tiles.statuses }
     ensures work { (m : Maps) → IsLoadedAs (told_by command.now) m loaded.now
         → RemovesDone (told_by command.now) m result (D.state site.old) (D.state site.new) }
     ensures site { SiteBehind result (D.state site.old) (D.state site.new) }

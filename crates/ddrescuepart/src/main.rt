@@ -4,14 +4,14 @@
 use faulty_source::file::FileSource;
 use partition_domain::part::ddrescuepart;
 use program_start::status::status_of;
-use program_start::streams::{Closed, fill_streams};
+use program_start::streams::{ClosedStream, fill_streams};
 use program_start::words::collect_words;
 use rescue_console::system::StdConsole;
 use std::io;
 use std::process::ExitCode;
 
 fn run(rt: HostRuntime) -> io::Result<u8> {
-    fill_streams(&rt, Closed::Faulty)?;
+    fill_streams(&rt, ClosedStream::Faulty)?;
     let words = collect_words(&rt)?;
     let mut source = FileSource::new(rt.clone()?);
     let mut console = StdConsole::new(rt.clone()?);

@@ -3,7 +3,7 @@
 
 use crash_site::folder::FolderSite;
 use program_start::status::status_of;
-use program_start::streams::{Closed, fill_streams};
+use program_start::streams::{ClosedStream, fill_streams};
 use program_start::words::collect_words;
 use rescue_console::system::StdConsole;
 use rescue_plan::plan::ddrescueplan;
@@ -11,7 +11,7 @@ use std::io;
 use std::process::ExitCode;
 
 fn run(rt: HostRuntime) -> io::Result<u8> {
-    fill_streams(&rt, Closed::Faulty)?;
+    fill_streams(&rt, ClosedStream::Faulty)?;
     let words = collect_words(&rt)?;
     let mut site = FolderSite::new(rt.clone()?);
     let mut console = StdConsole::new(rt.clone()?);

@@ -5,7 +5,7 @@ use crash_site::folder::FolderSite;
 use ddrescueverify_cli::verify::ddrescueverify;
 use faulty_source::file::FileSource;
 use program_start::status::status_of;
-use program_start::streams::{Closed, fill_streams};
+use program_start::streams::{ClosedStream, fill_streams};
 use program_start::words::collect_words;
 use real_files::identity::OpenInput;
 use rescue_console::system::StdConsole;
@@ -13,7 +13,7 @@ use std::io;
 use std::process::ExitCode;
 
 fn run(rt: HostRuntime) -> io::Result<u8> {
-    fill_streams(&rt, Closed::Faulty)?;
+    fill_streams(&rt, ClosedStream::Faulty)?;
     let words = collect_words(&rt)?;
     let input = OpenInput::new(rt.alloc())?;
     let mut source = FileSource::new(rt.clone()?);

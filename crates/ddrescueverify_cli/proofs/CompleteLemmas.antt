@@ -20,7 +20,7 @@ use Rattle.ddrescueverify_cli.specs.Asked.{text_of}
 use Rattle.ddrescueverify_cli.specs.Ddrescueverify.{Promise}
 use Rattle.ddrescueverify_cli.specs.Laws.{IsComparedUnless, IsOfLooks, NothingFailed}
 use Rattle.ddrescueverify_cli.specs.Told.{Found, Told, line_of}
-use Rattle.ddrescueverify_cli.specs.Work.{EndsSaved, Halts, Saves, Verifies, answer_of_halt, verify_faults, verify_rows}
+use Rattle.ddrescueverify_cli.specs.Work.{EndsSaved, Halts, Completes, Verifies, answer_of_halt, verify_faults, verify_rows}
 
 -- an answer that isn't for a fault
 abbrev IsVerdict : VerifyEnding → Type 0
@@ -54,7 +54,7 @@ compared_of : (c : Command) (line : List ℕ) (found : Found) (end : ℕ) (looks
 compared_of c line found end looks e d w v =
     elim w.compares.ends [
       | Halts halt answer opens times halts ↦ absurd (halts_never halt (subst IsVerdict answer v))
-      | Saves none works ↦
+      | Completes none works ↦
           let tally : Tally = tally_of looks in
           let ran : (did : Deeds) × EndsSaved c.options.quiet tally e did =
           goes_to_run verify_faults IsVerdict verdicts

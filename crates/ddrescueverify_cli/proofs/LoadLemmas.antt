@@ -21,13 +21,13 @@ use Rattle.work_steps.proofs.BarrierLemmas.{in_load, in_barrier, no_read}
 use Rattle.ddrescueverify_cli.specs.declared.ending.VerifyEnding.{VerifyEnding}
 use Rattle.ddrescueverify_cli.specs.declared.ending.VerifyEnding.TheVariants.{NoMap, MapRefused, SiteFault, NoMemory}
 use Rattle.ddrescueverify_cli.specs.declared.ending.Which.TheVariants.{RunMap}
-use Rattle.ddrescueverify_cli.specs.declared.open.Loaded.{Loaded}
+use Rattle.ddrescueverify_cli.specs.declared.open.LoadedMap.{LoadedMap}
 use Rattle.ddrescueverify_cli.specs.Refusals.{MapfileRefused}
 use Rattle.ddrescueverify_cli.specs.Work.{verify_faults}
 use Rattle.ddrescueverify_cli.specs.Steps.{StandsAs, Loads}
 
 -- what a comparison begins with is what its mapfile stands for
-map_stands : (file : Option File) (end : ℕ) (m : ReadMap) (loaded : Loaded) → IsReadAs file Tight m
+map_stands : (file : Option File) (end : ℕ) (m : ReadMap) (loaded : LoadedMap) → IsReadAs file Tight m
     → loaded.tiles.statuses ≡ extended m.tiles.statuses end → loaded.state ≡ m.state → StandsAs end loaded file
 map_stands file end m loaded read extends shows =
     let P : Option File → Type 0 = λ f. StandsFor f end loaded.tiles.statuses (Some loaded.state) in
@@ -44,7 +44,7 @@ map_stands file end m loaded read extends shows =
     }
 
 -- a load that went on to its end behind the barrier: with a map, or memory ran out for that
-load_stands : (names : MapNames) (end : ℕ) (loaded : Loaded) (P : Option File → Type 0) (old new : SiteState)
+load_stands : (names : MapNames) (end : ℕ) (loaded : LoadedMap) (P : Option File → Type 0) (old new : SiteState)
     → (e : Ended (barrier_calls names) names.map P old new) → ((v : VerifyEnding) → MapfileRefused e.file v → ⊥)
     → StandsAs end loaded e.file → Loads names.map end (Ok loaded) old new
 load_stands names end loaded P old new e pass stands = record {
@@ -109,7 +109,7 @@ map_passes file m read v (inl none) = none_is_not_read file Tight m none.0 read
 map_passes file m read v (inr refused) = read_is_not_refused file Tight m refused.0 read refused.1
 
 -- it is a map
-pub map_loads : (names : MapNames) (end : ℕ) (m : ReadMap) (r : Result Loaded VerifyEnding) (old new : SiteState)
+pub map_loads : (names : MapNames) (end : ℕ) (m : ReadMap) (r : Result LoadedMap VerifyEnding) (old new : SiteState)
     → Resumed names (λ file. IsReadAs file Tight m) old new
     → IsOfFile (files_in old names.map) old.tells (λ file. IsReadAs file Tight m)
     → IfOk r (λ now. now.tiles.statuses ≡ extended m.tiles.statuses end) → IfOk r (λ now. now.state ≡ m.state)

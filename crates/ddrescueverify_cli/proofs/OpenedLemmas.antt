@@ -16,7 +16,7 @@ use Rattle.save_resume.specs.Saving.{save_calls}
 use Rattle.save_resume.specs.Resuming.{barrier_calls}
 use Rattle.rescue_rules.specs.Start.{Stands}
 use Rattle.rescue_rules.specs.Work.{AreMapReads}
-use Rattle.work_steps.specs.Work.{Opened as IsOpened, Unopened, Deeds, Step, Take, Look as LookAt, Make, Works}
+use Rattle.work_steps.specs.Work.{Opened as IsOpened, Unopened, Deeds, WorkStep, Take, Look as LookAt, Make, Works}
 use Rattle.work_steps.specs.Parts.{only_calls, WentThrough}
 use Rattle.work_steps.specs.Holds.{behind_entries, behind_open}
 use Rattle.work_steps.proofs.FrontLemmas.{load_reads, reads_stand}
@@ -29,11 +29,11 @@ use Rattle.verify_command.specs.declared.options.VerifyOptions.{VerifyOptions}
 use Rattle.verify_command.specs.Command.{Command}
 use Rattle.ddrescueverify_cli.specs.declared.ending.VerifyEnding.{VerifyEnding}
 use Rattle.ddrescueverify_cli.specs.declared.ending.VerifyEnding.TheVariants.{NoOutput, SourceFault}
-use Rattle.ddrescueverify_cli.specs.declared.open.Loaded.{Loaded}
+use Rattle.ddrescueverify_cli.specs.declared.open.LoadedMap.{LoadedMap}
 use Rattle.ddrescueverify_cli.specs.Asked.{IsBeyond, heading_of, plan_of, shown_for, text_of}
 use Rattle.ddrescueverify_cli.specs.Refusals.{OutputRefused, PlacesRefused}
 use Rattle.ddrescueverify_cli.specs.Told.{Found, AreOpens, found_in, place_by}
-use Rattle.ddrescueverify_cli.specs.Work.{ComparesOver, EndsBehind, EndsSaved, Halts, IsAnswer, Saves, Verifies, behind_looks, load_rows, opened_rows, output_rows, verify_faults}
+use Rattle.ddrescueverify_cli.specs.Work.{ComparesOver, EndsBehind, EndsSaved, Halts, IsAnswer, Completes, Verifies, behind_looks, load_rows, opened_rows, output_rows, verify_faults}
 use Rattle.ddrescueverify_cli.specs.Steps.{Beyond, DidWork, Halted, Loads, OpensOutput, SavesText, Starved, StopsComparing, Worked}
 
 -- ---- the open of the input
@@ -74,7 +74,7 @@ input_fails c l s0 s1 d same opens = record {
 -- ---- the open of the output
 
 -- what follows the output
-abbrev later_rows : (c : Command) → (mapfile : Option File) → (end : ℕ) → List (Step VerifyEnding)
+abbrev later_rows : (c : Command) → (mapfile : Option File) → (end : ℕ) → List (WorkStep VerifyEnding)
 later_rows c mapfile end = load_rows c.mapfile mapfile ++ LookAt (PlacesRefused c.options end) ∷ Take ∷ []
 
 pub output_fails : (c : Command) (l : List ℕ) (end : ℕ) (e : VerifyEnding) (s0 s1 : SourceState) (d0 d1 : SiteState)
@@ -110,20 +110,20 @@ only_open : (out : List ℕ) (file : Option File) (calls : List Entry) → WentT
 only_open out file calls t = t.1 ∙ ap (λ (r : List Entry). Returned (image_open out false) ∷ r) t.2.1
 
 -- the output was opened, and the mapfile loaded with this outcome
-pub record HasLoaded (c : Command) (n : MapNames) (end : ℕ) (r : Result Loaded VerifyEnding) (d0 d1 d2 : SiteState)
+pub record HasLoaded (c : Command) (n : MapNames) (end : ℕ) (r : Result LoadedMap VerifyEnding) (d0 d1 d2 : SiteState)
     : Type 0 where
   pub names : n ≡ names_of c.mapfile
   pub output : OpensOutput {T = Unit {0}} c.outfile (Ok tt) d0 d1
   pub keeps : Keeps d0 d1
   pub loads : Loads n.map end r d1 d2
 
-own_loads : (c : Command) (n : MapNames) (end : ℕ) (r : Result Loaded VerifyEnding) (d0 d1 d2 : SiteState)
+own_loads : (c : Command) (n : MapNames) (end : ℕ) (r : Result LoadedMap VerifyEnding) (d0 d1 d2 : SiteState)
     → HasLoaded c n end r d0 d1 d2 → Loads c.mapfile end r d1 d2
 own_loads c n end r d0 d1 d2 h =
     subst (λ (name : List ℕ). Loads name end r d1 d2) (ap (λ (m : MapNames). m.map) h.names) h.loads
 
 -- the folder behind the open
-opened_folder : (c : Command) (n : MapNames) (end : ℕ) (r : Result Loaded VerifyEnding) (d0 d1 d2 : SiteState)
+opened_folder : (c : Command) (n : MapNames) (end : ℕ) (r : Result LoadedMap VerifyEnding) (d0 d1 d2 : SiteState)
     → HasLoaded c n end r d0 d1 d2 → IsTrue d0.tells
     → after d1.start d1.calls ≡ opened (after d0.start d0.calls) c.outfile false (files_in d0 c.outfile)
 opened_folder c n end r d0 d1 d2 h tells =
@@ -133,7 +133,7 @@ opened_folder c n end r d0 d1 d2 h tells =
     ∙ after-append d0.start d0.calls (Returned (image_open c.outfile false) ∷ [])
 
 -- the mapfile that was loaded is the one that stood there before
-own_mapfile : (c : Command) (n : MapNames) (end : ℕ) (r : Result Loaded VerifyEnding) (d0 d1 d2 : SiteState)
+own_mapfile : (c : Command) (n : MapNames) (end : ℕ) (r : Result LoadedMap VerifyEnding) (d0 d1 d2 : SiteState)
     → (h : HasLoaded c n end r d0 d1 d2) → (file : Option File) → (IsTrue d1.tells → file ≡ files_in d1 c.mapfile)
     → IsTrue d0.tells → file ≡ files_in d0 c.mapfile
 own_mapfile c n end r d0 d1 d2 h file own tells =
@@ -142,7 +142,7 @@ own_mapfile c n end r d0 d1 d2 h file own tells =
     ∙ ap (λ (files : List ℕ → Option File). files c.mapfile)
     (open_stands (after d0.start d0.calls) c.outfile (files_in d0 c.outfile))
 
-own_found : (c : Command) (n : MapNames) (end : ℕ) (r : Result Loaded VerifyEnding) (d0 d1 d2 : SiteState)
+own_found : (c : Command) (n : MapNames) (end : ℕ) (r : Result LoadedMap VerifyEnding) (d0 d1 d2 : SiteState)
     → (h : HasLoaded c n end r d0 d1 d2) → (p : Loads c.mapfile end r d1 d2) → (tells : IsTrue d0.tells)
     → record { output = h.output.file; mapfile = p.file } ≡ found_in c (files_in d0)
 own_found c n end r d0 d1 d2 h p tells =
@@ -229,7 +229,7 @@ load_stands mapfile file calls d t =
     ∙ ap (λ (f : Folder). after f t.2.1) (reads_stand t.2.0 d reads)
     ∙ ap (after d) t.2.4.1
 
-pub image_of_load : (c : Command) (n : MapNames) (end : ℕ) (r : Result Loaded VerifyEnding) (loaded : Loaded)
+pub image_of_load : (c : Command) (n : MapNames) (end : ℕ) (r : Result LoadedMap VerifyEnding) (loaded : LoadedMap)
     (d0 d1 d2 : SiteState) → r ≡ Ok loaded → (h : HasLoaded c n end r d0 d1 d2) → Keeps d1 d2 → IsTrue d0.tells
     → image_in d2 ≡ files_in d0 c.outfile
 image_of_load c n end (Err e) loaded d0 d1 d2 is h keeps tells = absurd (cc)
@@ -264,7 +264,7 @@ record Behind (c : Command) (l : List ℕ) (end : ℕ) (found : Found) (result :
   opens : s2.opens ≡ s1.opens
   name : IsTrue s1.tells → s2.name ≡ s1.name
 
-all_worked : (c : Command) (l : List ℕ) (n : MapNames) (end : ℕ) (loaded : Loaded) (result : Result Tally VerifyEnding)
+all_worked : (c : Command) (l : List ℕ) (n : MapNames) (end : ℕ) (loaded : LoadedMap) (result : Result Tally VerifyEnding)
     (s0 s1 s2 : SourceState) (d0 d1 d2 d3 : SiteState) → HasInput c.infile end s0 s1
     → (h : HasLoaded c n end (Ok loaded) d0 d1 d2) → d2.tells ≡ d0.tells
     → Behind c l end (record { output = h.output.file; mapfile = (own_loads c n end (Ok loaded) d0 d1 d2 h).file })
@@ -335,7 +335,7 @@ own_looks : (c : Command) (looks : List Look) (image output : Option File) → i
 own_looks c looks image output same are =
     are ∙ ap (λ (f : Option File). map (seen_in (bytes_of f) (place_by c)) (reads_of looks)) same
 
-pub compare_fails : (c : Command) (l : List ℕ) (n : MapNames) (end : ℕ) (loaded : Loaded) (new : List Status)
+pub compare_fails : (c : Command) (l : List ℕ) (n : MapNames) (end : ℕ) (loaded : LoadedMap) (new : List Status)
     (e : VerifyEnding) (s0 s1 s2 : SourceState) (d0 d1 d2 d3 : SiteState) → HasInput c.infile end s0 s1
     → HasLoaded c n end (Ok loaded) d0 d1 d2 → Keeps d1 d2 → SourceStays s1 s2
     → StopsComparing c.options end loaded.tiles.statuses new e s1 s2 d2 d3 → Worked c l (Err e) s0 s2 d0 d3
@@ -457,7 +457,7 @@ did_save c l end found statuses shown tally looks (Err e) old new stands near co
       (EndsSaved c.options.quiet (tally_of looks)) e (only_calls s.calls) s.did))));
 }
 
-pub compare_saves : (c : Command) (l : List ℕ) (n : MapNames) (h : HeadingLines) (end : ℕ) (loaded : Loaded)
+pub compare_saves : (c : Command) (l : List ℕ) (n : MapNames) (h : HeadingLines) (end : ℕ) (loaded : LoadedMap)
     (new : List Status) (tally : Tally) (result : Result (Unit {0}) VerifyEnding) (s0 s1 s2 : SourceState)
     (d0 d1 d2 d3 d4 : SiteState) → HasInput c.infile end s0 s1 → HasLoaded c n end (Ok loaded) d0 d1 d2
     → Keeps d1 d2 → SourceStays s1 s2 → SiteStays d2 d3 → (IsBeyond c.options end → ⊥) → h ≡ heading_of l
@@ -481,7 +481,7 @@ compare_saves c l n h end loaded new tally result s0 s1 s2 d0 d1 d2 d3 d4 input 
       reads = reads_of looks ++ [];
       goes = did_save c l end found old loaded.state tally looks result d3 d4 p.did.0 near
           (λ e d ends. record { asks = compares.asks; rest = d; is = refl; ends = ends })
-          (λ e calls works. Saves compares.ends.0 works) compares.ends.2 s;
+          (λ e calls works. Completes compares.ends.0 works) compares.ends.2 s;
       journal = λ tells. compares.journal tells
           ∙ ap (λ (r : List Reading). s1.journal ++ (reads_of looks ++ r)) compares.ends.3;
       grew = λ tells.

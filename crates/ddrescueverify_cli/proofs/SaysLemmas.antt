@@ -9,7 +9,7 @@ use Rattle.rescue_verify.specs.declared.tally.Tally.{Tally}
 use Rattle.ddrescueverify_cli.specs.declared.ending.VerifyEnding.{VerifyEnding}
 use Rattle.ddrescueverify_cli.specs.declared.ending.VerifyEnding.TheVariants.{Done, Differs, Usage, SameName, NoMap, NoOutput, MapRefused, SourceFault, SourceLost, SiteFault, ConsoleFault, NoMemory}
 use Rattle.ddrescueverify_cli.specs.Answers.{AreAccepted, SaysOfWords, Causes, Rises, MaySay, drafting_left, is_silent, unchanged}
-use Rattle.ddrescueverify_cli.specs.Counting.{Counts, StopCause, WorkCause}
+use Rattle.ddrescueverify_cli.specs.Counting.{CountsRise, StopCause, WorkCause}
 use Rattle.ddrescueverify_cli.specs.Ddrescueverify.{IsUntouched, Message, Nothing, PutsAs, Says}
 use Rattle.ddrescueverify_cli.specs.Messages.{line_of_tally, message}
 use Rattle.ddrescueverify_cli.specs.Reporting.{Reports}
@@ -62,7 +62,7 @@ stop_says (SiteFault call) words t cause ok = ok
 stop_says ConsoleFault words t cause ok = absurd cause
 stop_says NoMemory words t cause ok = tt
 
-rises : (opens reads calls puts : ℕ → ℕ) (t : Told) → Counts opens reads calls t.source t.source' t.site t.site'
+rises : (opens reads calls puts : ℕ → ℕ) (t : Told) → CountsRise opens reads calls t.source t.source' t.site t.site'
     → t.console'.out.faults ≡ puts t.console.out.faults → Rises opens reads calls puts t
 rises opens reads calls puts t c out =
     record { faults = c.faults; losses = c.losses; site_faults = c.site_faults; out_faults = out }
@@ -144,7 +144,7 @@ reports_puts false tally e old new (inr r) =
     subst (λ (v : VerifyEnding). PutsAs v false (line_of_tally tally) old new) (sym r.0) (refl, r.1)
 
 reports_causes : (quiet : Bool) (tally : Tally) (t : Told) (between : ConsoleState)
-    → Counts unchanged unchanged unchanged t.source t.source' t.site t.site'
+    → CountsRise unchanged unchanged unchanged t.source t.source' t.site t.site'
     → t.console'.out ≡ between.out → Reports tally quiet t.answer t.console between → Causes t.answer t
 reports_causes true tally t between c beside r =
     let out : t.console'.out.faults ≡ t.console.out.faults =

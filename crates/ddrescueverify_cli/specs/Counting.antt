@@ -11,7 +11,7 @@ use Rattle.ddrescueverify_cli.specs.declared.ending.VerifyEnding.TheVariants.{Do
 use Rattle.ddrescueverify_cli.specs.Answers.{drafting_left, unchanged}
 
 -- by how much the counts of input and files rose
-pub record Counts (opens reads calls : ℕ → ℕ) (source source' : SourceState) (site site' : SiteState) : Type 0 where
+pub record CountsRise (opens reads calls : ℕ → ℕ) (source source' : SourceState) (site site' : SiteState) : Type 0 where
   pub faults : source'.faults ≡ opens source.faults
   pub losses : source'.losses ≡ reads source.losses
   pub site_faults : site'.faults ≡ calls site.faults
@@ -21,22 +21,22 @@ pub record Counts (opens reads calls : ℕ → ℕ) (source source' : SourceStat
 abbrev pub StopCause : VerifyEnding → (source source' : SourceState) → (site site' : SiteState) → Type 0
 StopCause Done source source' site site' = ⊥
 StopCause (Differs bytes) source source' site site' = ⊥
-StopCause (Usage PlaceTooLarge) source source' site site' = Counts unchanged unchanged unchanged source source' site site'
+StopCause (Usage PlaceTooLarge) source source' site site' = CountsRise unchanged unchanged unchanged source source' site site'
 StopCause (Usage fault) source source' site site' = ⊥
 StopCause (SameName first second) source source' site site' = ⊥
-StopCause NoMap source source' site site' = Counts unchanged unchanged unchanged source source' site site'
-StopCause NoOutput source source' site site' = Counts unchanged unchanged unchanged source source' site site'
+StopCause NoMap source source' site site' = CountsRise unchanged unchanged unchanged source source' site site'
+StopCause NoOutput source source' site site' = CountsRise unchanged unchanged unchanged source source' site site'
 StopCause (MapRefused which error) source source' site site' =
-    (error ≢ NoStatusLine) × (error ≢ OutOfMemory) × Counts unchanged unchanged unchanged source source' site site'
-StopCause SourceFault source source' site site' = Counts raised unchanged unchanged source source' site site'
-StopCause SourceLost source source' site site' = Counts unchanged raised unchanged source source' site site'
-StopCause (SiteFault call) source source' site site' = Counts unchanged unchanged raised source source' site site'
+    (error ≢ NoStatusLine) × (error ≢ OutOfMemory) × CountsRise unchanged unchanged unchanged source source' site site'
+StopCause SourceFault source source' site site' = CountsRise raised unchanged unchanged source source' site site'
+StopCause SourceLost source source' site site' = CountsRise unchanged raised unchanged source source' site site'
+StopCause (SiteFault call) source source' site site' = CountsRise unchanged unchanged raised source source' site site'
 StopCause ConsoleFault source source' site site' = ⊥
-StopCause NoMemory source source' site site' = Counts unchanged unchanged unchanged source source' site site'
+StopCause NoMemory source source' site site' = CountsRise unchanged unchanged unchanged source source' site site'
 
 -- the same by its outcome
 abbrev pub WorkCause : Result Tally VerifyEnding → (source source' : SourceState) → (site site' : SiteState) → Type 0
-WorkCause (Ok tally) source source' site site' = Counts unchanged unchanged unchanged source source' site site'
+WorkCause (Ok tally) source source' site site' = CountsRise unchanged unchanged unchanged source source' site site'
 WorkCause (Err e) source source' site site' = StopCause e source source' site site'
 
 -- whether a draft is left begun

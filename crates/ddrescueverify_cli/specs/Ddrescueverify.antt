@@ -1,7 +1,7 @@
 -- The promise of `ddrescueverify`, field by field. What an object tells is its own: the forms in memory tell all, those
 -- for real files and streams their counts and what is open.
 use Rattle.std.specs.Prelude.{◌≡◌, ◌≢◌, ◌⊎◌, ℕ, Bool, true, false, IsTrue, List}
-use Rattle.fault_count.specs.Plan.{counted}
+use Rattle.fault_count.specs.Plan.{with_call}
 use Rattle.faulty_source.specs.SourceState.{Keeps as SourceKeeps}
 use Rattle.crash_site.specs.SiteState.{Keeps as SiteKeeps, files_in}
 use Rattle.rescue_console.specs.ConsoleState.{ConsoleState, Puts, PutsPart}
@@ -32,7 +32,7 @@ pub data Says (t : Told) (between : ConsoleState) : Type 0 where
   Message : is_silent t.answer ≡ false
       → (AskQuiet t.words → (t.answer ≡ NoMemory) × IsUntouched t between)
       → Puts Err (message t.answer) between t.console' ⊎ PutsPart Err (message t.answer) between t.console'
-      → (IsTrue between.is_planned → t.console'.plan ≡ counted between.plan) → Says t between
+      → (IsTrue between.is_planned → t.console'.plan ≡ with_call between.plan) → Says t between
 
 -- unless nothing is to be said
 abbrev pub UnlessQuiet : (quiet : Bool) → Type 0 → (old new : ConsoleState) → Type 0

@@ -4,7 +4,7 @@ use Rattle.std.specs.Prelude.{ℕ, List, [], ◌++◌, codes}
 use Rattle.std.specs.Fmt.{decimal}
 use Rattle.fault_texts.specs.Texts.{usage_text, error_text, fault_text, message_of}
 use Rattle.mapfile_text.specs.declared.read.MapError.{MapError}
-use Rattle.mapfile_text.specs.Printed.{ended}
+use Rattle.mapfile_text.specs.Printed.{with_newline}
 use Rattle.rescue_verify.specs.declared.tally.Tally.{Tally}
 use Rattle.ddrescueverify_cli.specs.Names.{program_name}
 use Rattle.ddrescueverify_cli.specs.declared.ending.Which.{Which}
@@ -43,5 +43,5 @@ message e = message_of program_name (text_of_ending e)
 -- be read whole
 abbrev pub line_of_tally : Tally → List ℕ
 line_of_tally t =
-    ended (codes "compared " ++ decimal t.compared ++ codes " B, differing " ++ decimal t.differing
+    with_newline (codes "compared " ++ decimal t.compared ++ codes " B, differing " ++ decimal t.differing
     ++ codes " B, unread " ++ decimal t.unread ++ codes " B")

@@ -26,15 +26,15 @@ use Rattle.verify_command.specs.Command.{Command, AreInLimits, told_by}
 use Rattle.ddrescueverify_cli.specs.declared.ending.VerifyEnding.{VerifyEnding}
 use Rattle.ddrescueverify_cli.specs.declared.ending.VerifyEnding.TheVariants.{Usage, NoMap, NoOutput, MapRefused, SiteFault, NoMemory}
 use Rattle.ddrescueverify_cli.specs.declared.ending.Which.TheVariants.{RunMap}
-use Rattle.ddrescueverify_cli.specs.declared.open.Loaded.{Loaded}
-use Rattle.ddrescueverify_cli.specs.declared.plan.Plan.{Plan}
+use Rattle.ddrescueverify_cli.specs.declared.open.LoadedMap.{LoadedMap}
+use Rattle.ddrescueverify_cli.specs.declared.plan.CheckedCommand.{CheckedCommand}
 use Rattle.ddrescueverify_cli.specs.Asked.{IsBeyond, heading_of, plan_of}
 use Rattle.ddrescueverify_cli.specs.Names.{first_same}
 use Rattle.ddrescueverify_cli.specs.Told.{Outside, AreOpens, found_in, place_by}
 use Rattle.ddrescueverify_cli.specs.Work.{IsAnswer, Verifies, answer_of_halt, load_rows, opened_rows, output_rows, verify_faults}
 
 -- what a comparison needs before it opens a file
-pub record IsPlanned (plan : Plan) : Type 0 where
+pub record IsPlanned (plan : CheckedCommand) : Type 0 where
   pub names : plan.names ≡ names_of (told_by plan.command).mapfile
   pub apart : first_same (told_by plan.command).infile (told_by plan.command).outfile plan.names ≡ None
   pub heading : plan.heading ≡ heading_of plan.heading.line
@@ -50,11 +50,11 @@ abbrev pub OutputCause : VerifyEnding → (faults faults' : ℕ) → Type 0
 OutputCause e faults faults' = ((e ≡ NoOutput) × (faults' ≡ faults)) ⊎ ((e ≡ SiteFault ImageOpen) × Rose faults faults')
 
 -- what was loaded is what the mapfile stands for, for an input with this length
-abbrev pub StandsAs : (end : ℕ) → Loaded → Option File → Type 0
+abbrev pub StandsAs : (end : ℕ) → LoadedMap → Option File → Type 0
 StandsAs end loaded file = Stands file end loaded.tiles.statuses (Some loaded.state)
 
 -- what the load of the mapfile did
-abbrev pub Loads : (mapfile : List ℕ) → (end : ℕ) → Result Loaded VerifyEnding → (old new : SiteState) → Type 0
+abbrev pub Loads : (mapfile : List ℕ) → (end : ℕ) → Result LoadedMap VerifyEnding → (old new : SiteState) → Type 0
 Loads mapfile end result old new =
     DidPart verify_faults (load_rows mapfile) (files_in old mapfile) (StandsAs end) result old new
 

@@ -10,7 +10,7 @@ use Rattle.save_resume.specs.MapNames.{names_of}
 use Rattle.save_resume.specs.Saving.{save_calls}
 use Rattle.save_resume.specs.Resuming.{barrier_calls}
 use Rattle.rescue_rules.specs.Start.{Stands}
-use Rattle.work_steps.specs.Work.{Deeds, IsIdle, Faults, Step, Take, Look as LookAt, Open, Make, Read, Works}
+use Rattle.work_steps.specs.Work.{Deeds, IsIdle, Faults, WorkStep, Take, Look as LookAt, Open, Make, Read, Works}
 use Rattle.rescue_verify.specs.declared.halt.Halt.{Halt}
 use Rattle.rescue_verify.specs.declared.halt.Halt.TheVariants.{NoMemory as NoRoom, SourceLost as InputLost, ImageFault}
 use Rattle.rescue_verify.specs.declared.tally.Tally.{Tally}
@@ -29,24 +29,24 @@ abbrev pub verify_faults : Faults VerifyEnding
 verify_faults = record { call = λ call. SiteFault call; memory = NoMemory; input = SourceFault }
 
 -- The output is opened, which isn't made, and has to be there.
-abbrev pub output_rows : (outfile : List ℕ) → (file : Option File) → List (Step VerifyEnding)
+abbrev pub output_rows : (outfile : List ℕ) → (file : Option File) → List (WorkStep VerifyEnding)
 output_rows outfile file = Make (image_open outfile false ∷ []) ∷ LookAt (OutputRefused file) ∷ []
 
 -- The barrier makes durable what stands, and the mapfile is read, and may be refused.
-abbrev pub load_rows : (mapfile : List ℕ) → (file : Option File) → List (Step VerifyEnding)
+abbrev pub load_rows : (mapfile : List ℕ) → (file : Option File) → List (WorkStep VerifyEnding)
 load_rows mapfile file =
     Make (barrier_calls (names_of mapfile)) ∷ Read (Some mapfile) file ∷ LookAt (MapfileRefused file) ∷ []
 
 -- what follows the names: the input is opened first, and behind the mapfile each position that is asked for wants a place
 -- in the output
-abbrev pub opened_rows : Command → Found → (end : ℕ) → List (Step VerifyEnding)
+abbrev pub opened_rows : Command → Found → (end : ℕ) → List (WorkStep VerifyEnding)
 opened_rows c found end =
     Open c.infile
     ∷ (output_rows c.outfile found.output ++ load_rows c.mapfile found.mapfile
     ++ LookAt (PlacesRefused c.options end) ∷ Take ∷ [])
 
 -- The steps before the first piece.
-abbrev pub verify_rows : Command → Found → (end : ℕ) → List (Step VerifyEnding)
+abbrev pub verify_rows : Command → Found → (end : ℕ) → List (WorkStep VerifyEnding)
 verify_rows c found end = Take ∷ LookAt (NamesRefused c) ∷ opened_rows c found end
 
 -- what is answered where the comparison stopped before its last piece
@@ -72,7 +72,7 @@ pub data EndsBehind (c : Command) (p : ComparisonPlan) (text : List ℕ) (looks 
     : Type 0 where
   Halts : (halt : Halt) → e ≡ answer_of_halt halt → d.opens ≡ [] → d.gain.times ≡ []
       → HaltsAt halt p (end_of_reads 0 (reads_of looks)) d.gain.reads d.gain.calls → EndsBehind c p text looks e d
-  Saves : NoneFrom p.compared (end_of_reads 0 (reads_of looks))
+  Completes : NoneFrom p.compared (end_of_reads 0 (reads_of looks))
       → Works verify_faults (Make (save_calls (names_of c.mapfile) text) ∷ [])
       (EndsSaved c.options.quiet (tally_of looks)) e d
       → EndsBehind c p text looks e d

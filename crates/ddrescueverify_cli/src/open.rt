@@ -39,7 +39,7 @@ pub(crate) fn open_output<D: Site>(site: &mut D, outfile: &str) -> Result<(), Ve
 
 /// The map that a comparison begins with, and the state that its mapfile shows.
 #[derive(Drop)]
-pub(crate) struct Loaded {
+pub(crate) struct LoadedMap {
     pub tiles: RunMap,
     pub state: MapState,
 }
@@ -58,7 +58,7 @@ fn extend(tiles: &mut RunMap, end: u64) -> Result<(), NoMemory>
 }
 
 /// What a comparison begins with, by the mapfile's map.
-fn begin_with(map: ReadMap, end: u64) -> Result<Loaded, VerifyEnding>
+fn begin_with(map: ReadMap, end: u64) -> Result<LoadedMap, VerifyEnding>
     requires { end < 2 ^ 63 }
     ensures extended { IfOk result (λ now. now.tiles.statuses ≡ extended map.tiles.statuses end) }
     ensures shown { IfOk result (λ now. now.state ≡ map.state) }
@@ -71,7 +71,7 @@ fn begin_with(map: ReadMap, end: u64) -> Result<Loaded, VerifyEnding>
         ..
     } = map;
     match extend(&mut tiles, end) {
-        Ok(()) => Ok(Loaded { tiles, state }),
+        Ok(()) => Ok(LoadedMap { tiles, state }),
         Err(NoMemory) => Err(VerifyEnding::NoMemory),
     }
 }
@@ -83,7 +83,7 @@ pub(crate) fn load<D: Site>(
     site: &mut D,
     names: &Names,
     end: u64,
-) -> Result<Loaded, VerifyEnding>
+) -> Result<LoadedMap, VerifyEnding>
     requires { end < 2 ^ 63 }
     ensures loaded { Loads names.now.map end result (D.state site.old) (D.state site.new) }
     ensures long { IfOk result (λ now. end ≤ length now.tiles.statuses) }

@@ -49,7 +49,7 @@ fn make_heading(alloc: Global, words: &Words) -> Result<Heading, NoMemory>
 
 /// What a comparison needs before it opens a file.
 #[derive(Drop)]
-pub(crate) struct Plan<'a> {
+pub(crate) struct CheckedCommand<'a> {
     pub command: Command<'a>,
     /// The names of the mapfile and its draft.
     pub names: Names,
@@ -57,11 +57,11 @@ pub(crate) struct Plan<'a> {
 }
 
 /// Refuses two files of one name, and takes the memory that the save wants for names and heading.
-pub(crate) fn make_plan<'a>(
+pub(crate) fn check_command<'a>(
     alloc: Global,
     words: &Words,
     command: Command<'a>,
-) -> Result<Plan<'a>, VerifyEnding>
+) -> Result<CheckedCommand<'a>, VerifyEnding>
     ensures command { IfOk result (λ p. told_by p.command ≡ told_by command.entry) }
     ensures names { IfOk result (λ p. p.names ≡ names_of (told_by command.entry).mapfile) }
     ensures heading { IfOk result (λ p. p.heading ≡ heading_of (command_line program_name words.now)) }
@@ -78,7 +78,7 @@ pub(crate) fn make_plan<'a>(
     let Ok(heading) = make_heading(alloc, words) else {
         return Err(VerifyEnding::NoMemory);
     };
-    Ok(Plan {
+    Ok(CheckedCommand {
         command,
         names,
         heading,

@@ -16,9 +16,9 @@ ghost use Rattle.ddrescueverify_cli.specs.Work.{answer_of_halt};
 
 use crate::ending::VerifyEnding;
 use crate::message::message_of;
-use crate::open::{Loaded, load, open_output};
+use crate::open::{LoadedMap, load, open_output};
 use crate::out::report;
-use crate::plan::{Plan, make_plan};
+use crate::plan::{CheckedCommand, check_command};
 use crate::save::save_map;
 use crash_site::site::{Site, SiteCall};
 use faulty_source::source::Source;
@@ -64,7 +64,7 @@ fn compare_loaded<S: Source, D: Site>(
     alloc: Global,
     options: &VerifyOptions,
     end: u64,
-    loaded: &mut Loaded,
+    loaded: &mut LoadedMap,
     source: &mut S,
     site: &mut D,
 ) -> Result<Tally, VerifyEnding>
@@ -107,7 +107,7 @@ fn compare_loaded<S: Source, D: Site>(
 /// Opens the files, loads the mapfile, compares, and saves the map. Answers what was counted.
 fn verify<S: Source, D: Site>(
     alloc: Global,
-    plan: &Plan<'_>,
+    plan: &CheckedCommand<'_>,
     source: &mut S,
     site: &mut D,
 ) -> Result<Tally, VerifyEnding>
@@ -127,7 +127,7 @@ fn verify<S: Source, D: Site>(
     open_output(site, command.outfile)?;
     let mut loaded = load(alloc, site, &plan.names, end)?;
     let tally = compare_loaded(alloc, &command.options, end, &mut loaded, source, site)?;
-    let Loaded { tiles, state } = loaded;
+    let LoadedMap { tiles, state } = loaded;
     save_map(site, &plan.names, &plan.heading, state, &tiles, tally)?;
     Ok(tally)
 }
@@ -172,7 +172,7 @@ fn work<S: Source, D: Site, P: Console>(
         Err(CommandError::Usage { fault, quiet }) => return (VerifyEnding::Usage(fault), quiet),
     };
     let quiet = command.options.quiet;
-    let plan = match make_plan(alloc, words, command) {
+    let plan = match check_command(alloc, words, command) {
         Ok(plan) => plan,
         Err(refusal) => return (refusal, quiet),
     };

@@ -12,8 +12,8 @@ abbrev pub no_plan : Plan
 no_plan = record { failing = []; made = 0 }
 
 -- the plan after one more call
-abbrev pub counted : Plan → Plan
-counted p = record p { made = raised p.made }
+abbrev pub with_call : Plan → Plan
+with_call p = record p { made = raised p.made }
 
 -- the plan with one more call that is to fail
 abbrev pub with_failing : ℕ → Plan → Plan

@@ -1,5 +1,5 @@
 ghost use Rattle.std.specs.Prelude.{◌≡◌, ◌↔◌, IsTrue, OnOk, OnErr};
-ghost use Rattle.fault_count.specs.Plan.{no_plan, counted, with_failing, FailsNext};
+ghost use Rattle.fault_count.specs.Plan.{no_plan, with_call, with_failing, FailsNext};
 
 use std::alloc::{AllocError, Global};
 use std::marker::Model;
@@ -41,7 +41,7 @@ impl FaultPlan {
 
     /// Counts a call, and answers whether it is to fail.
     pub fn count_call(&mut self) -> bool
-        ensures counted { self.new ≡ counted self.old }
+        ensures counted { self.new ≡ with_call self.old }
         ensures fails { IsTrue result ↔ FailsNext self.old }
     {
         self.made = self.made.saturating_add(1);

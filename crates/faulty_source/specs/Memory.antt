@@ -35,7 +35,7 @@ met bad x = map (λ r. if is_bad_at x r then record r { attempts = one_less r.at
 -- What a read of asked bytes at pos gives, of an input that ends here: one that meets a bad position in front of the
 -- end gives what comes before that; any other gives all that there is, and meets the end where that is less than was
 -- asked for.
-pub record IsGiven (end : ℕ) (bad : List BadRange) (pos asked : ℕ) (got : Got) : Type 0 where
+pub record ReadGives (end : ℕ) (bad : List BadRange) (pos asked : ℕ) (got : Got) : Type 0 where
   pub few : count_of got ≤ asked
   pub good : (x : ℕ) → pos ≤ x → x < pos + count_of got → is_bad bad x ≡ false
   pub there : count_of got ≡ 0 ⊎ (pos + count_of got ≤ end)
@@ -49,9 +49,9 @@ bad_after bad pos asked got =
     if nat_lt (count_of got) asked && not (is_end got) then met bad (pos + count_of got) else bad
 
 -- the ranges ascend, none is empty, and no two meet
-abbrev pub AreApart : ℕ → List BadRange → Type 0
-AreApart low [] = ⊤
-AreApart low (r ∷ rs) = (low ≤ r.from) × (r.from < r.to) × AreApart r.to rs
+abbrev pub AreSeparate : ℕ → List BadRange → Type 0
+AreSeparate low [] = ⊤
+AreSeparate low (r ∷ rs) = (low ≤ r.from) × (r.from < r.to) × AreSeparate r.to rs
 
 -- what an entry of the list of reads says of a read that gave its bytes
 abbrev pub entry_of : Reading → ReadEntry

@@ -6,13 +6,13 @@ use Rattle.rescue_rules.specs.declared.stop.Stop.TheVariants.{SourceLost, Site, 
 use Rattle.rescue_rules.specs.declared.stop.RunEnd.{RunEnd}
 use Rattle.rescue_rules.specs.Setting.{Setting}
 use Rattle.rescue_rules.specs.Work.{end_of}
-use Rattle.rescue_core.specs.Closing.{MayClose, drafting_after}
+use Rattle.rescue_core.specs.Closing.{MayClose, drafting_at_stop}
 use Rattle.sweep_rules.specs.Sweep.{Sweep}
 use Rattle.fill_generate.specs.Sweeping.{drafting_behind}
 use Rattle.fill_generate.specs.Steps.{SavesLast, LastSaved, LastFailed, ClosesFiles}
 
 -- behind a stop the last calls may be made
-pub may_close : (stop : Stop) (site : SiteState) → site.is_drafting ≡ drafting_after stop → MayClose (Some stop) site
+pub may_close : (stop : Stop) (site : SiteState) → site.is_drafting ≡ drafting_at_stop stop → MayClose (Some stop) site
 may_close SourceLost site left = left
 may_close (Site call) site left = tt
 may_close (LimitMet limit) site left = left
@@ -30,7 +30,7 @@ left_whole s m end site site' closes = left_last s m None end site site' refl cl
 
 -- it stopped
 pub left_stopped : (s : Setting) (m : Sweep) (stop : Stop) (end : RunEnd) (site site' : SiteState)
-    → site.is_drafting ≡ drafting_after stop → ClosesFiles s m (Some stop) end site site'
+    → site.is_drafting ≡ drafting_at_stop stop → ClosesFiles s m (Some stop) end site site'
     → site'.is_drafting ≡ drafting_behind end
 left_stopped s m SourceLost end site site' left closes = left_last s m (Some SourceLost) end site site' refl closes
 left_stopped s m (Site call) end site site' left (is, same) =

@@ -27,7 +27,7 @@ use Rattle.fill_generate.specs.declared.sweeping.Piece.{Piece}
 use Rattle.fill_generate.specs.Modes.{current_in}
 use Rattle.fill_generate.specs.SweepState.{SweepState, setting_of, standing, moved}
 use Rattle.fill_generate.specs.Sweeping.{Around}
-use Rattle.fill_generate.specs.Steps.{heard_as, line_behind, save_behind, Passes, EndsPiece, SavesLast, LastSaved, LastFailed}
+use Rattle.fill_generate.specs.Steps.{heard_as, line_behind, save_behind, StepsPastPiece, EndsPiece, SavesLast, LastSaved, LastFailed}
 use Rattle.fill_generate.proofs.TellLemmas.{between}
 
 -- the calls of a save that shows this
@@ -61,14 +61,14 @@ behind_is piece written after line r r1 r2 r3 o b =
     b.hears ∙ ap (λ (q : SweepState). heard_as q r2.heard) b.moves
 
 pub passes : (piece : Piece) (written after : ℕ) (line : Bool) (r r1 r2 r3 : SweepState) (o : Around)
-    → Behind piece written after line r r1 r2 r3 o → Passes piece written after r r3 o
+    → Behind piece written after line r r1 r2 r3 o → StepsPastPiece piece written after r r3 o
 passes piece written after line r r1 r2 r3 o b =
     let m : Sweep = moved (current_in r.mode) r.sweep piece.pos piece.len written after in
     let there : r2 ≡ heard_as (standing r m) r2.heard = behind_is piece written after line r r1 r2 r3 o b in
     let lines : line_if r1 line ≡ line_behind r r2 after =
     ap (λ (q : SweepState). line_if q line) b.moves ∙ ap (line_if (standing r m)) b.due
     ∙ ap (λ (q : SweepState). line_behind r q after) (sym there) in
-    subst (λ (q : SweepState). Passes piece written after r q o) (sym b.stays) (record {
+    subst (λ (q : SweepState). StepsPastPiece piece written after r q o) (sym b.stays) (record {
       timed = b.timed;
       fit = b.fit;
       stands = there;

@@ -8,11 +8,11 @@ use Rattle.rescue_console.specs.ClockState.{ClockState, Keeps as ClockKeeps}
 use Rattle.rescue_console.specs.ConsoleState.{ConsoleState}
 use Rattle.rescue_rules.specs.declared.stop.Stop.{Stop}
 use Rattle.rescue_rules.specs.Setting.{Setting, place}
-use Rattle.rescue_core.specs.Closing.{drafting_after}
+use Rattle.rescue_core.specs.Closing.{drafting_at_stop}
 use Rattle.sweep_rules.specs.Sweep.{Sweeper, Sweep, Swept, generator}
-use Rattle.fill_generate.specs.declared.mode.Mode.TheVariants.{Generate}
+use Rattle.fill_generate.specs.declared.mode.SweepMode.TheVariants.{Generate}
 use Rattle.fill_generate.specs.declared.sweeping.Piece.{Piece}
-use Rattle.fill_generate.specs.Modes.{IsOf, current_in}
+use Rattle.fill_generate.specs.Modes.{IsSweeperOf, current_in}
 use Rattle.fill_generate.specs.SweepState.{SweepState, setting_of, standing, moved}
 use Rattle.fill_generate.specs.Sweeping.{Around}
 use Rattle.fill_generate.specs.Steps.{IsFound, EndsPiece, PieceEnds, ObjectsStay, LooksUp, LooksNot, NoRoom, NoRead, Halted, Starved, IsLookedUp, gone_to, heard_as}
@@ -42,11 +42,11 @@ passes_behind result piece written r r2 o ends =
 
 -- Its call returned.
 pub piece_ends : {T : Type 0} (G : Swept → Type 0) (w : Sweeper) (r r1 r2 : SweepState) (piece : Piece) (got : List ℕ) (written : ℕ)
-    (result : Result T Stop) (a b c : SiteState) (k l : ClockState) (x y : ConsoleState) → b.tells ≡ a.tells → IsOf r.mode w
+    (result : Result T Stop) (a b c : SiteState) (k l : ClockState) (x y : ConsoleState) → b.tells ≡ a.tells → IsSweeperOf r.mode w
     → IsFound r piece → ((t : ℕ) → w.gives (done_at piece got t) ≡ true) → ((t : ℕ) → G (done_at piece got t))
     → ((t : ℕ) → r1 ≡ marked_with w r (done_at piece got t)) → ((t : ℕ) → w.writes (done_at piece got t) ≡ written)
     → ((t : ℕ) → Makes (w.call (done_at piece got t) ∷ []) a b) → EndsPiece result piece written r1 r2 (between b c k l x y)
-    → OnOk result (c.is_drafting ≡ false) → IfErr result (λ stop. c.is_drafting ≡ drafting_after stop)
+    → OnOk result (c.is_drafting ≡ false) → IfErr result (λ stop. c.is_drafting ≡ drafting_at_stop stop)
     → ObjectsStay (between a c k l x y) → PieceEnds G result w piece r r2 (between a c k l x y)
 piece_ends G w r r1 r2 piece got written (Ok v) a b c k l x y tells of found gives given marked writes call ends no_draft left objects = record {
   stands = gone_behind w r r1 r2 (done_at piece got ends.after)
@@ -77,7 +77,7 @@ piece_ends G w r r1 r2 piece got written (Err stop) a b c k l x y tells of found
 pub looks : {T : Type 0} (r r1 r2 : SweepState) (piece : Piece) (result : Result T Stop) (a b c : SiteState) (k l : ClockState)
     (x y : ConsoleState) → r.mode ≡ Generate → IsFound r piece → LooksUp piece r r1 a b → SiteStays a b → SiteKeeps b c
     → c.is_open ≡ b.is_open → a.is_open ≡ true → ClockKeeps k l → EndsPiece result piece 0 r1 r2 (between b c k l x y)
-    → OnOk result (c.is_drafting ≡ false) → IfErr result (λ stop. c.is_drafting ≡ drafting_after stop)
+    → OnOk result (c.is_drafting ≡ false) → IfErr result (λ stop. c.is_drafting ≡ drafting_at_stop stop)
     → PieceEnds (IsLookedUp (setting_of r) a) result (generator (setting_of r)) piece r r2 (between a c k l x y)
 looks r r1 r2 piece result a b c k l x y mode found looked stays keeps same opened clock ends no_draft left =
     let s : Setting = setting_of r in
@@ -98,9 +98,9 @@ looks_nowhere G r r1 piece stop a c k x mode found stands (NoRead is breaks) =
     found (lost_read s piece.pos piece.len) is stands breaks
 
 left_then : (r : SweepState) (piece : Piece) (stop : Stop) (a c : SiteState) → LooksNot stop piece r a c
-    → c.is_drafting ≡ false → c.is_drafting ≡ drafting_after stop
-left_then r piece stop a c (NoRoom is same) no_draft = no_draft ∙ ap drafting_after (sym is)
-left_then r piece stop a c (NoRead is breaks) no_draft = no_draft ∙ ap drafting_after (sym is)
+    → c.is_drafting ≡ false → c.is_drafting ≡ drafting_at_stop stop
+left_then r piece stop a c (NoRoom is same) no_draft = no_draft ∙ ap drafting_at_stop (sym is)
+left_then r piece stop a c (NoRead is breaks) no_draft = no_draft ∙ ap drafting_at_stop (sym is)
 
 pub looks_not : {T : Type 0} (G : Swept → Type 0) (r r1 : SweepState) (piece : Piece) (stop : Stop) (result : Result T Stop)
     (a c : SiteState) (k : ClockState) (x : ConsoleState) → r.mode ≡ Generate → IsFound r piece → r1 ≡ r

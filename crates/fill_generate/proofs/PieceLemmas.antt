@@ -17,14 +17,14 @@ use Rattle.rescue_rules.specs.Step.{save_interval}
 use Rattle.rescue_rules.specs.Said.{is_line_due}
 use Rattle.rescue_rules.specs.Lines.{phase_front, report_text}
 use Rattle.rescue_rules.specs.Deeds.{save_of}
-use Rattle.sweep_rules.specs.Sweep.{Sweeper, Sweep, Swept, swept, due_save, sweep_snapshot, filler, generator}
+use Rattle.sweep_rules.specs.Sweep.{Sweeper, Sweep, Swept, behind_piece, due_save, sweep_snapshot, filler, generator}
 use Rattle.sweep_rules.specs.SweepWork.{piece_lines, lost_call, sweep_report}
 use Rattle.fill_generate.specs.declared.sweeping.Piece.{Piece}
-use Rattle.fill_generate.specs.declared.mode.Mode.TheVariants.{Fill, Generate}
-use Rattle.fill_generate.specs.Modes.{IsOf, current_in}
+use Rattle.fill_generate.specs.declared.mode.SweepMode.TheVariants.{Fill, Generate}
+use Rattle.fill_generate.specs.Modes.{IsSweeperOf, current_in}
 use Rattle.fill_generate.specs.SweepState.{SweepState, setting_of, standing, moved}
 use Rattle.fill_generate.specs.Sweeping.{Around}
-use Rattle.fill_generate.specs.Steps.{IsFound, heard_as, line_behind, save_behind, Takes, Took, Passes, BreaksSave, Halted, Uncalled, Unsaved}
+use Rattle.fill_generate.specs.Steps.{IsFound, heard_as, line_behind, save_behind, DoesPiece, DidPiece, StepsPastPiece, BreaksSave, Halted, Uncalled, Unsaved}
 use Rattle.fill_generate.proofs.TellLemmas.{between, makes_more, breaks_behind}
 
 -- a piece that was done, with what the output gave for it, at this time
@@ -37,8 +37,8 @@ marked_with w r e = standing r (record r.sweep { map = w.marks r.sweep.map e })
 
 -- the state behind it
 stands_behind : (w : Sweeper) (r r1 r2 : SweepState) (piece : Piece) (got : List ℕ) (written after : ℕ) (o : Around)
-    → IsOf r.mode w → r1 ≡ marked_with w r (done_at piece got after) → w.writes (done_at piece got after) ≡ written
-    → Passes piece written after r1 r2 o → r2 ≡ heard_as (standing r (swept w r.sweep (done_at piece got after))) r2.heard
+    → IsSweeperOf r.mode w → r1 ≡ marked_with w r (done_at piece got after) → w.writes (done_at piece got after) ≡ written
+    → StepsPastPiece piece written after r1 r2 o → r2 ≡ heard_as (standing r (behind_piece w r.sweep (done_at piece got after))) r2.heard
 stands_behind w r r1 r2 piece got written after o of marked writes p =
     let e : Swept = done_at piece got after in
     p.stands
@@ -50,18 +50,18 @@ stands_behind w r r1 r2 piece got written after o of marked writes p =
 abbrev lines_with : Setting → Sweeper → Sweep → Swept → Current → List (List ℕ)
 lines_with s w m e current =
     if is_line_due m.said current (e.after / 1000)
-    then report_text (phase_front (swept w m e).shown) (sweep_report s (swept w m e)) ∷ []
+    then report_text (phase_front (behind_piece w m e).shown) (sweep_report s (behind_piece w m e)) ∷ []
     else []
 
 pub takes : (G : Swept → Type 0) (w : Sweeper) (r r1 r2 : SweepState) (piece : Piece) (got : List ℕ) (written after : ℕ) (o : Around)
-    → IsOf r.mode w → IsFound r piece → w.gives (done_at piece got after) ≡ true → G (done_at piece got after)
+    → IsSweeperOf r.mode w → IsFound r piece → w.gives (done_at piece got after) ≡ true → G (done_at piece got after)
     → r1 ≡ marked_with w r (done_at piece got after) → w.writes (done_at piece got after) ≡ written
-    → Passes piece written after r1 r2 o
-    → Takes G (setting_of r) w r.sweep r2.sweep r.heard r2.heard (done_at piece got after) o
+    → StepsPastPiece piece written after r1 r2 o
+    → DoesPiece G (setting_of r) w r.sweep r2.sweep r.heard r2.heard (done_at piece got after) o
 takes G w r r1 r2 piece got written after o of found gives given marked writes p =
     let e : Swept = done_at piece got after in
     let s : Setting = setting_of r in
-    let there : r2 ≡ heard_as (standing r (swept w r.sweep e)) r2.heard =
+    let there : r2 ≡ heard_as (standing r (behind_piece w r.sweep e)) r2.heard =
     stands_behind w r r1 r2 piece got written after o of marked writes p in
     let lines : line_behind r1 r2 after ≡ piece_lines s w r.sweep e =
     ap (λ (q : SweepState). line_behind q r2 after) marked
@@ -86,28 +86,28 @@ save_if s true p = refl
 save_if s false p = refl
 
 pub save_is : (w : Sweeper) (r r1 r2 : SweepState) (piece : Piece) (got : List ℕ) (written after : ℕ) (o : Around)
-    → IsOf r.mode w → r1 ≡ marked_with w r (done_at piece got after) → w.writes (done_at piece got after) ≡ written
-    → Passes piece written after r1 r2 o
+    → IsSweeperOf r.mode w → r1 ≡ marked_with w r (done_at piece got after) → w.writes (done_at piece got after) ≡ written
+    → StepsPastPiece piece written after r1 r2 o
     → save_behind r1 r2 after ≡ save_of (setting_of r) (due_save w r.sweep (done_at piece got after))
 save_is w r r1 r2 piece got written after o of marked writes p =
     let e : Swept = done_at piece got after in
     ap (λ (q : SweepState). save_behind q r2 after) marked
     ∙ ap (λ (q : SweepState). save_behind (marked_with w r e) q after)
     (stands_behind w r r1 r2 piece got written after o of marked writes p)
-    ∙ save_if (setting_of r) (nat_le (r.sweep.due_at + save_interval) after) (sweep_snapshot (swept w r.sweep e))
+    ∙ save_if (setting_of r) (nat_le (r.sweep.due_at + save_interval) after) (sweep_snapshot (behind_piece w r.sweep e))
 
 -- A piece was done, with its call and the save that was due,
 pub took : (G : Swept → Type 0) (w : Sweeper) (r r1 r2 : SweepState) (piece : Piece) (got : List ℕ) (written after : ℕ)
     (a b c : SiteState) (k l : ClockState) (x y : ConsoleState) → b.tells ≡ a.tells
-    → IsOf r.mode w → IsFound r piece → w.gives (done_at piece got after) ≡ true → G (done_at piece got after)
+    → IsSweeperOf r.mode w → IsFound r piece → w.gives (done_at piece got after) ≡ true → G (done_at piece got after)
     → r1 ≡ marked_with w r (done_at piece got after) → w.writes (done_at piece got after) ≡ written
-    → Makes (w.call (done_at piece got after) ∷ []) a b → Passes piece written after r1 r2 (between b c k l x y)
+    → Makes (w.call (done_at piece got after) ∷ []) a b → StepsPastPiece piece written after r1 r2 (between b c k l x y)
     → Makes (save_behind r1 r2 after) b c
-    → Took G (setting_of r) w r.sweep r2.sweep r.heard r2.heard (between a c k l x y)
+    → DidPiece G (setting_of r) w r.sweep r2.sweep r.heard r2.heard (between a c k l x y)
 took G w r r1 r2 piece got written after a b c k l x y tells of found gives given marked writes call p saves =
     let e : Swept = done_at piece got after in
     let s : Setting = setting_of r in
-    let t : Takes G s w r.sweep r2.sweep r.heard r2.heard e (between b c k l x y) =
+    let t : DoesPiece G s w r.sweep r2.sweep r.heard r2.heard e (between b c k l x y) =
     takes G w r r1 r2 piece got written after (between b c k l x y) of found gives given marked writes p in
     record {
       event = e;
@@ -120,15 +120,15 @@ took G w r r1 r2 piece got written after a b c k l x y tells of found gives give
 -- or with a save that broke off
 pub unsaved : (G : Swept → Type 0) (w : Sweeper) (r r1 r2 : SweepState) (piece : Piece) (got : List ℕ) (written after : ℕ)
     (stop : Stop) (a b c : SiteState) (k l : ClockState) (x y : ConsoleState) → b.tells ≡ a.tells
-    → IsOf r.mode w → IsFound r piece → w.gives (done_at piece got after) ≡ true → G (done_at piece got after)
+    → IsSweeperOf r.mode w → IsFound r piece → w.gives (done_at piece got after) ≡ true → G (done_at piece got after)
     → r1 ≡ marked_with w r (done_at piece got after) → w.writes (done_at piece got after) ≡ written
-    → Makes (w.call (done_at piece got after) ∷ []) a b → Passes piece written after r1 r2 (between b c k l x y)
+    → Makes (w.call (done_at piece got after) ∷ []) a b → StepsPastPiece piece written after r1 r2 (between b c k l x y)
     → BreaksSave stop (save_behind r1 r2 after) b c
     → Halted G (setting_of r) w r.sweep r2.sweep r.heard r2.heard stop (between a c k l x y)
 unsaved G w r r1 r2 piece got written after stop a b c k l x y tells of found gives given marked writes call p broke =
     let e : Swept = done_at piece got after in
     let s : Setting = setting_of r in
-    let t : Takes G s w r.sweep r2.sweep r.heard r2.heard e (between b c k l x y) =
+    let t : DoesPiece G s w r.sweep r2.sweep r.heard r2.heard e (between b c k l x y) =
     takes G w r r1 r2 piece got written after (between b c k l x y) of found gives given marked writes p in
     let saves : save_behind r1 r2 after ≡ save_of s (due_save w r.sweep e) =
     save_is w r r1 r2 piece got written after (between b c k l x y) of marked writes p in
@@ -144,7 +144,7 @@ pub size_back : (p n : ℕ) → (p + n) - p ≡ n
 size_back p n = omega arith
 
 pub uncalled : (G : Swept → Type 0) (w : Sweeper) (r r2 : SweepState) (piece : Piece) (stop : Stop) (call : Call) (a c : SiteState)
-    (k : ClockState) (x : ConsoleState) → IsOf r.mode w → IsFound r piece
+    (k : ClockState) (x : ConsoleState) → IsSweeperOf r.mode w → IsFound r piece
     → lost_call w piece.pos (piece.pos + piece.len) ≡ call → stop ≡ Site (call_name call) → r2 ≡ r
     → Breaks (call_name call) (call ∷ []) a c
     → Halted G (setting_of r) w r.sweep r2.sweep r.heard r2.heard stop (between a c k k x x)
@@ -171,8 +171,8 @@ pub lost_read : (s : Setting) (p n : ℕ) → lost_call (generator s) p (p + n) 
 lost_read s p n = ap (λ (k : ℕ). image_read (place s p) k None) (size_back p n)
 
 pub fills_is : (r : SweepState) (s : Setting) (types : TypeSet) (buffer : List ℕ) → r.mode ≡ Fill types
-    → IsOf r.mode (filler s types buffer)
+    → IsSweeperOf r.mode (filler s types buffer)
 fills_is r s types buffer is = rw is (record { takes = λ status. refl; current = refl })
 
-pub generates_is : (r : SweepState) (s : Setting) → r.mode ≡ Generate → IsOf r.mode (generator s)
+pub generates_is : (r : SweepState) (s : Setting) → r.mode ≡ Generate → IsSweeperOf r.mode (generator s)
 generates_is r s is = rw is (record { takes = λ status. refl; current = refl })

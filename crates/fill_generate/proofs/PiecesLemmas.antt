@@ -7,13 +7,13 @@ use Rattle.rescue_rules.specs.declared.stop.Stop.{Stop}
 use Rattle.rescue_rules.specs.Setting.{Setting}
 use Rattle.sweep_rules.specs.Sweep.{Sweeper, Sweep, Swept, IsPiece, IsSweptOut, filler, generator}
 use Rattle.block_list.specs.declared.types.TypeSet.{TypeSet}
-use Rattle.fill_generate.specs.declared.mode.Mode.{Mode}
-use Rattle.fill_generate.specs.declared.mode.Mode.TheVariants.{Fill, Generate}
+use Rattle.fill_generate.specs.declared.mode.SweepMode.{SweepMode}
+use Rattle.fill_generate.specs.declared.mode.SweepMode.TheVariants.{Fill, Generate}
 use Rattle.fill_generate.specs.declared.sweeping.Piece.{Piece}
-use Rattle.fill_generate.specs.Modes.{IsOf}
+use Rattle.fill_generate.specs.Modes.{IsSweeperOf}
 use Rattle.fill_generate.specs.SweepState.{SweepState, setting_of}
 use Rattle.fill_generate.specs.Sweeping.{Around}
-use Rattle.fill_generate.specs.Steps.{IsFound, Takes, Took, Halted, Starved, Uncalled, Unsaved, WentOn, PieceEnds, PiecesEnd, ObjectsStay, IsLookedUp, gone_to}
+use Rattle.fill_generate.specs.Steps.{IsFound, DoesPiece, DidPiece, Halted, Starved, Uncalled, Unsaved, WentOn, PieceEnds, PiecesEnd, ObjectsStay, IsLookedUp, gone_to}
 use Rattle.fill_generate.proofs.TellLemmas.{between, objects_stay}
 use Rattle.fill_generate.proofs.LoopLemmas.{goes_on, halts}
 use Rattle.fill_generate.proofs.ImageLemmas.{looked_before}
@@ -23,11 +23,11 @@ pub gone_on : (r r1 r2 : SweepState) → r1 ≡ gone_to r r1 → r2 ≡ gone_to 
 gone_on r r1 r2 first then_ = then_ ∙ ap (λ (q : SweepState). gone_to q r2) first
 
 -- a sweeper of each mode
-abbrev sweeper_of : Mode → Setting → Sweeper
+abbrev sweeper_of : SweepMode → Setting → Sweeper
 sweeper_of (Fill types) s = filler s types []
 sweeper_of Generate s = generator s
 
-sweeper_is : (mode : Mode) (s : Setting) → IsOf mode (sweeper_of mode s)
+sweeper_is : (mode : SweepMode) (s : Setting) → IsSweeperOf mode (sweeper_of mode s)
 sweeper_is (Fill types) s = record { takes = λ status. refl; current = refl }
 sweeper_is Generate s = record { takes = λ status. refl; current = refl }
 
@@ -37,7 +37,7 @@ pub less_ahead : (r r2 : SweepState) (piece : Piece) → IsFound r piece → r2.
 less_ahead r r2 piece found passed =
     let w : Sweeper = sweeper_of r.mode (setting_of r) in
     let next : IsPiece (setting_of r) w r.sweep piece.pos (piece.pos + piece.len) = found.next w (sweeper_is r.mode (setting_of r)) in
-    omega (arith, next.run.0.after, found.some, found.short, passed)
+    omega (arith, next.range.0.after, found.some, found.short, passed)
 
 -- a piece as the sweep at its beginning sees it
 pub found_since : (r r1 : SweepState) (piece : Piece) → r1 ≡ gone_to r r1 → IsFound r1 piece → IsFound (gone_to r r1) piece
@@ -57,7 +57,7 @@ pieces_more G w r r1 r2 piece v d e f k l n x y z stands objects went ends =
 pub pieces_halt : {T U : Type 0} (G : Swept → Type 0) (w : Sweeper) (r r1 r2 : SweepState) (piece : Piece) (stop : Stop)
     (result : Result T Stop) (d e f : SiteState) (k l n : ClockState) (x y z : ConsoleState)
     → r1 ≡ gone_to r r1 → ObjectsStay (between d e k l x y)
-    → WentOn G (setting_of r) w r.sweep r1.sweep r.heard r1.heard (between d e k l x y) → IsOf r.mode w
+    → WentOn G (setting_of r) w r.sweep r1.sweep r.heard r1.heard (between d e k l x y) → IsSweeperOf r.mode w
     → IsFound (gone_to r r1) piece → PieceEnds {T = U} G (Err stop) w piece (gone_to r r1) r2 (between e f l n y z)
     → result ≡ Err stop → PiecesEnd G result w r r2 (between d f k n x z)
 pieces_halt {T} G w r r1 r2 piece stop result d e f k l n x y z stands objects went of found ends is =
@@ -74,15 +74,15 @@ pieces_halt {T} G w r r1 r2 piece stop result d e f k l n x y z stands objects w
 
 -- none is left
 pub pieces_out : {T : Type 0} (G : Swept → Type 0) (w : Sweeper) (r r1 : SweepState) (v : T) (d e : SiteState) (k l : ClockState)
-    (x y : ConsoleState) → r1 ≡ gone_to r r1 → IsOf r.mode w
-    → ((u : Sweeper) → IsOf r1.mode u → IsSweptOut (setting_of r1) u r1.sweep)
+    (x y : ConsoleState) → r1 ≡ gone_to r r1 → IsSweeperOf r.mode w
+    → ((u : Sweeper) → IsSweeperOf r1.mode u → IsSweptOut (setting_of r1) u r1.sweep)
     → WentOn G (setting_of r) w r.sweep r1.sweep r.heard r1.heard (between d e k l x y) → e.is_drafting ≡ false
     → ObjectsStay (between d e k l x y) → PiecesEnd {T = T} G (Ok v) w r r1 (between d e k l x y)
 pieces_out G w r r1 v d e k l x y stands of none went no_draft objects = record {
   stands = stands;
   went = went;
   out = subst (λ (q : SweepState). IsSweptOut (setting_of q) w q.sweep) stands
-      (none w (subst (λ (q : SweepState). IsOf q.mode w) (sym stands) of));
+      (none w (subst (λ (q : SweepState). IsSweeperOf q.mode w) (sym stands) of));
   halted = tt;
   no_draft = no_draft;
   draft_left = tt;
@@ -91,7 +91,7 @@ pieces_out G w r r1 v d e k l x y stands of none went no_draft objects = record 
 
 -- what holds of a piece's event besides may be weaker
 takes_weaker : (G H : Swept → Type 0) (s : Setting) (w : Sweeper) (m m' : Sweep) (h h' : Bool) (e : Swept) (o : Around)
-    → ((e : Swept) → G e → H e) → Takes G s w m m' h h' e o → Takes H s w m m' h h' e o
+    → ((e : Swept) → G e → H e) → DoesPiece G s w m m' h h' e o → DoesPiece H s w m m' h h' e o
 takes_weaker G H s w m m' h h' e o weaker t = record {
   asks = t.asks;
   gives = t.gives;
@@ -103,7 +103,7 @@ takes_weaker G H s w m m' h h' e o weaker t = record {
 }
 
 took_weaker : (G H : Swept → Type 0) (s : Setting) (w : Sweeper) (m m' : Sweep) (h h' : Bool) (o : Around)
-    → ((e : Swept) → G e → H e) → Took G s w m m' h h' o → Took H s w m m' h h' o
+    → ((e : Swept) → G e → H e) → DidPiece G s w m m' h h' o → DidPiece H s w m m' h h' o
 took_weaker G H s w m m' h h' o weaker t =
     record { event = t.event; takes = takes_weaker G H s w m m' h h' t.event o weaker t.takes; calls = t.calls }
 

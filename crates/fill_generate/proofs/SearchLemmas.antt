@@ -5,7 +5,7 @@ use Rattle.std.proofs.Math.Nat.{suc-mul, div-mul-le_self}
 use Rattle.std.proofs.lemmas.Bool.{cases_lt, and_parts, true≢false}
 use Rattle.std.proofs.lemmas.Option.{slice_get_within}
 use Rattle.block_list.specs.declared.status.Status.{Status}
-use Rattle.block_list.specs.Places.{IsFirst, IsRunUp}
+use Rattle.block_list.specs.Places.{IsFirst, IsRangeUp}
 use Rattle.faulty_source.specs.Journal.{floor}
 use Rattle.rescue_domain.specs.Parts.{covers}
 use Rattle.rescue_core.specs.declared.settings.Settings.{Settings}
@@ -15,8 +15,8 @@ use Rattle.rescue_rules.specs.Setting.{Setting}
 use Rattle.rescue_rules.specs.Counts.{passes, passing}
 use Rattle.sweep_rules.specs.Sweep.{Sweeper, Sweep, IsTaken, IsPiece, IsSweptOut}
 use Rattle.block_list.specs.Map.{Has}
-use Rattle.fill_generate.specs.declared.mode.Mode.{Mode}
-use Rattle.fill_generate.specs.Modes.{takes_in, is_taken, IsTakenIn, IsOf}
+use Rattle.fill_generate.specs.declared.mode.SweepMode.{SweepMode}
+use Rattle.fill_generate.specs.Modes.{takes_in, is_taken, IsTakenIn, IsSweeperOf}
 use Rattle.fill_generate.specs.SweepState.{SweepState, setting_of, IsSweeping}
 use Rattle.fill_generate.specs.Steps.{IsFound}
 use Rattle.fill_generate.proofs.MarkLemmas.{true_or_false}
@@ -41,35 +41,35 @@ passes_alike : (f g : Status → Bool) (o : Option Status) → ((status : Status
 passes_alike f g None alike = refl
 passes_alike f g (Some status) alike = alike status
 
-pub taken_alike : (mode : Mode) (w : Sweeper) (domain : ℕ → Bool) (map : List Status) (x : ℕ) → IsOf mode w
+pub taken_alike : (mode : SweepMode) (w : Sweeper) (domain : ℕ → Bool) (map : List Status) (x : ℕ) → IsSweeperOf mode w
     → passing w.takes domain map x ≡ is_taken mode domain map x
 taken_alike mode w domain map x of =
     ap (λ (b : Bool). domain x && b) (passes_alike w.takes (takes_in mode) (slice_get map x) of.takes)
 
--- the end of the run of positions that pass a test, of which none lies behind a top
+-- the end of the range of positions that pass a test, of which none lies behind a top
 ends_from : (f : ℕ → Bool) (n x top : ℕ) → x + n ≡ top → ((y : ℕ) → f y ≡ true → y < top) → f x ≡ true
-    → (end : ℕ) × IsRunUp (λ y. f y ≡ true) x end
+    → (end : ℕ) × IsRangeUp (λ y. f y ≡ true) x end
 ends_from f zero x top is below holds = absurd (omega (arith, below x holds, is))
 ends_from f (suc n) x top is below holds =
     ⊎_elim
     (λ (next : f (x + 1) ≡ true).
-    let more : (end : ℕ) × IsRunUp (λ y. f y ≡ true) (x + 1) end = ends_from f n (x + 1) top (omega (arith, is)) below next in
-    let run : IsRunUp (λ y. f y ≡ true) x more.0 = record {
+    let more : (end : ℕ) × IsRangeUp (λ y. f y ≡ true) (x + 1) end = ends_from f n (x + 1) top (omega (arith, is)) below next in
+    let range : IsRangeUp (λ y. f y ≡ true) x more.0 = record {
       begun = omega (arith, more.1.begun);
       within = λ y low high. ⊎_elim (λ (lt : x < y). more.1.within y (omega (arith, lt)) high)
           (λ (le : y ≤ x). ap f (omega (arith, le, low)) ∙ holds) (cases_lt x y);
       stops = more.1.stops;
-    } in (more.0, run))
+    } in (more.0, range))
     (λ (next : f (x + 1) ≡ false).
-    let run : IsRunUp (λ y. f y ≡ true) x (x + 1) = record {
+    let range : IsRangeUp (λ y. f y ≡ true) x (x + 1) = record {
       begun = omega arith;
       within = λ y low high. ap f (omega (arith, low, high)) ∙ holds;
       stops = λ on. true≢false (sym on ∙ next);
-    } in (x + 1, run))
+    } in (x + 1, range))
     (true_or_false (f (x + 1)))
 
 -- What was found up to a limit, and up to the map's end, is the next piece.
-pub piece_is : (mode : Mode) (s : Setting) (w : Sweeper) (m : Sweep) (p q limit most : ℕ) → IsOf mode w
+pub piece_is : (mode : SweepMode) (s : Setting) (w : Sweeper) (m : Sweep) (p q limit most : ℕ) → IsSweeperOf mode w
     → IsFirst (IsTakenIn mode s.domain m.map) m.cursor p → limit ≡ floor s.sector (p + s.cluster)
     → most ≡ min limit (length m.map) → p < q → q ≤ most
     → ((y : ℕ) → p ≤ y → y < q → IsTakenIn mode s.domain m.map y)
@@ -86,7 +86,7 @@ piece_is mode s w m p q limit most of first is cut some few within stops =
       least = λ y from on. first.least y from (back y on);
     } in
     let low : p < top = below p start.holds in
-    let found : (end : ℕ) × IsRunUp (λ y. f y ≡ true) p end = ends_from f (top - p) p top (omega (arith, low)) below start.holds in
+    let found : (end : ℕ) × IsRangeUp (λ y. f y ≡ true) p end = ends_from f (top - p) p top (omega (arith, low)) below start.holds in
     let far : q ≤ found.0 =
     ⊎_elim (λ (lt : found.0 < q). absurd (found.1.stops (there found.0 (within found.0 (omega (arith, found.1.begun)) lt))))
     (λ (le : q ≤ found.0). le) (cases_lt found.0 q) in
@@ -100,19 +100,19 @@ piece_is mode s w m p q limit most of first is cut some few within stops =
     let ends : q ≡ min found.0 limit =
     ⊎_elim (λ (lt : q < most). let le : found.0 ≤ q = near lt in omega (arith, le, far, cut, lt))
     (λ (ge : most ≤ q). omega (arith, ge, few, far, last, cut)) (cases_lt q most) in
-    record { end = found.0; run = (start, found.1); ends = ends ∙ ap (min found.0) is }
+    record { end = found.0; range = (start, found.1); ends = ends ∙ ap (min found.0) is }
 
 -- none is left
-pub swept_out : (mode : Mode) (s : Setting) (w : Sweeper) (m : Sweep) → IsOf mode w
+pub swept_out : (mode : SweepMode) (s : Setting) (w : Sweeper) (m : Sweep) → IsSweeperOf mode w
     → ((x : ℕ) → m.cursor ≤ x → IsTakenIn mode s.domain m.map x → ⊥) → IsSweptOut s w m
 swept_out mode s w m of none x from on = none x from (sym (taken_alike mode w s.domain m.map x of) ∙ on)
 
 -- what lies outside the domain isn't taken, and inside it goes by the status
-pub taken_out : (mode : Mode) (domain : ℕ → Bool) (map : List Status) (y : ℕ) → domain y ≡ false
+pub taken_out : (mode : SweepMode) (domain : ℕ → Bool) (map : List Status) (y : ℕ) → domain y ≡ false
     → is_taken mode domain map y ≡ false
 taken_out mode domain map y out = ap (λ (b : Bool). b && passes (takes_in mode) (slice_get map y)) out
 
-pub taken_in : (mode : Mode) (domain : ℕ → Bool) (map : List Status) (y : ℕ) (status : Status) → domain y ≡ true
+pub taken_in : (mode : SweepMode) (domain : ℕ → Bool) (map : List Status) (y : ℕ) (status : Status) → domain y ≡ true
     → Has map status y → is_taken mode domain map y ≡ takes_in mode status
 taken_in mode domain map y status in_domain has =
     ap (λ (b : Bool). b && passes (takes_in mode) (slice_get map y)) in_domain ∙ ap (passes (takes_in mode)) has

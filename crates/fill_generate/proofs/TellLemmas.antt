@@ -10,7 +10,7 @@ use Rattle.save_resume.proofs.FillLemmas.{keeps_self, keeps_more}
 use Rattle.rescue_console.specs.declared.console.Channel.TheVariants.{Out}
 use Rattle.rescue_console.specs.ClockState.{ClockState, Keeps as ClockKeeps, Reads as ReadsClock}
 use Rattle.rescue_console.specs.ConsoleState.{ConsoleState}
-use Rattle.rescue_console.specs.Speaking.{Piece as Said, SpeaksOn, out_pieces}
+use Rattle.rescue_console.specs.Speaking.{SpokenPiece as Said, SpeaksOn, out_pieces}
 use Rattle.rescue_console.proofs.SpeakingLemmas.{speeches_join}
 use Rattle.fill_generate.specs.Sweeping.{Around, BreaksBehind}
 use Rattle.fill_generate.specs.Steps.{ObjectsStay}

@@ -21,14 +21,14 @@ use Rattle.save_resume.specs.Saving.{save_calls, IsNameIn, drafting_after_fault}
 use Rattle.rescue_rules.specs.Laws.{AreTimes}
 use Rattle.rescue_rules.specs.Work.{end_of}
 use Rattle.rescue_rules.specs.Deeds.{Deed, save_of, deed_calls}
-use Rattle.sweep_rules.specs.Sweep.{Sweeper, Sweep, Swept, IsPiece, IsSweep, IsSweptOut, is_generated, swept, swept_by, due_save, sweep_snapshot, sweep_end}
+use Rattle.sweep_rules.specs.Sweep.{Sweeper, Sweep, Swept, IsPiece, IsSweep, IsSweptOut, is_generated, behind_piece, behind_pieces, due_save, sweep_snapshot, sweep_end}
 use Rattle.sweep_rules.specs.SweepWork.{sweep_report, sweep_calls, piece_lines, pieces_lines, lost_call}
 use Rattle.fill_generate.specs.declared.sweeping.Piece.{Piece}
 use Rattle.fill_generate.specs.SweepState.{SweepState, setting_of, standing, moved}
-use Rattle.fill_generate.specs.Modes.{IsOf, current_in}
+use Rattle.fill_generate.specs.Modes.{IsSweeperOf, current_in}
 use Rattle.fill_generate.specs.Sweeping.{Around, BreaksBehind, times_behind, IsApart}
 use Rattle.fill_generate.specs.Marking.{finished_at, piece_at}
-use Rattle.rescue_core.specs.Closing.{drafting_after}
+use Rattle.rescue_core.specs.Closing.{drafting_at_stop}
 
 -- what a piece does on the files
 abbrev pub deed_of : Sweeper → Sweep → Swept → Deed
@@ -37,7 +37,7 @@ deed_of w m e = record { calls = w.call e ∷ []; save = due_save w m e }
 -- A piece as it is found: the next one of each sweeper of its kind. It lies at the input position or behind it, isn't
 -- empty, and has places in the output.
 pub record IsFound (r : SweepState) (p : Piece) : Type 0 where
-  pub next : (w : Sweeper) → IsOf r.mode w → IsPiece (setting_of r) w r.sweep p.pos (p.pos + p.len)
+  pub next : (w : Sweeper) → IsSweeperOf r.mode w → IsPiece (setting_of r) w r.sweep p.pos (p.pos + p.len)
   pub from : r.settings.ipos ≤ p.pos
   pub some : 0 < p.len
   pub few : p.len ≤ r.settings.cluster
@@ -73,21 +73,21 @@ abbrev pub got_at : Piece → List ℕ → Swept
 got_at piece got = piece_at piece.pos piece.len got
 
 -- A piece was done: what holds of its event besides, the state behind it, the reading of the clock, and its line.
-pub record Takes (G : Swept → Type 0) (s : Setting) (w : Sweeper) (m m' : Sweep) (heard heard' : Bool) (e : Swept)
+pub record DoesPiece (G : Swept → Type 0) (s : Setting) (w : Sweeper) (m m' : Sweep) (heard heard' : Bool) (e : Swept)
     (o : Around) : Type 0 where
   pub asks : IsPiece s w m e.pos (e.pos + e.len)
   pub gives : w.gives e ≡ true
   pub given : G e
-  pub steps : m' ≡ swept w m e
+  pub steps : m' ≡ behind_piece w m e
   pub timed : ReadsClock (e.after ∷ []) o.clock o.clock'
   pub fit : e.after < 2 ^ 64
   pub says : SpeaksOn (out_pieces (piece_lines s w m e)) heard heard' o.console o.console'
 
 -- and with its call, and the save that was due
-pub record Took (G : Swept → Type 0) (s : Setting) (w : Sweeper) (m m' : Sweep) (heard heard' : Bool) (o : Around)
+pub record DidPiece (G : Swept → Type 0) (s : Setting) (w : Sweeper) (m m' : Sweep) (heard heard' : Bool) (o : Around)
     : Type 0 where
   pub event : Swept
-  pub takes : Takes G s w m m' heard heard' event o
+  pub takes : DoesPiece G s w m m' heard heard' event o
   pub calls : Makes (deed_calls s (deed_of w m event)) o.site o.site'
 
 -- A sweep stopped at a piece:
@@ -101,16 +101,16 @@ pub data Halted (G : Swept → Type 0) (s : Setting) (w : Sweeper) (m m' : Sweep
       → Breaks (call_name (lost_call w p q)) (lost_call w p q ∷ []) o.site o.site' → o.clock' ≡ o.clock
       → o.console' ≡ o.console → Halted G s w m m' heard heard' stop o
   -- at the save that was due behind it
-  Unsaved : (event : Swept) → Takes G s w m m' heard heard' event o → (call : SiteCall) → stop ≡ Site call
+  Unsaved : (event : Swept) → DoesPiece G s w m m' heard heard' event o → (call : SiteCall) → stop ≡ Site call
       → BreaksBehind call (w.call event ∷ []) (save_of s (due_save w m event)) o.site o.site'
       → Halted G s w m m' heard heard' stop o
 
 -- Pieces one after another, but for their calls.
-pub record Went (G : Swept → Type 0) (s : Setting) (w : Sweeper) (m m' : Sweep) (heard heard' : Bool) (es : List Swept)
+pub record SweepWent (G : Swept → Type 0) (s : Setting) (w : Sweeper) (m m' : Sweep) (heard heard' : Bool) (es : List Swept)
     (o : Around) : Type 0 where
   pub run : IsSweep s w m es
   pub given : All G es
-  pub state : m' ≡ swept_by w m es
+  pub state : m' ≡ behind_pieces w m es
   pub timed : ReadsClock (times_behind es) o.clock o.clock'
   pub fit : AreTimes (times_behind es)
   pub says : SpeaksOn (out_pieces (pieces_lines s w m es)) heard heard' o.console o.console'
@@ -119,29 +119,29 @@ pub record Went (G : Swept → Type 0) (s : Setting) (w : Sweeper) (m m' : Sweep
 pub record WentOn (G : Swept → Type 0) (s : Setting) (w : Sweeper) (m m' : Sweep) (heard heard' : Bool) (o : Around)
     : Type 0 where
   pub events : List Swept
-  pub went : Went G s w m m' heard heard' events o
+  pub went : SweepWent G s w m m' heard heard' events o
   pub made : Makes (sweep_calls s w m events) o.site o.site'
 
 -- The calls of pieces behind which a sweep stopped, for want of memory, at the call of the next one, or at the save that
 -- was due behind the last one.
-pub data Stops (s : Setting) (w : Sweeper) (m : Sweep) (es : List Swept) (stop : Stop) (site site' : SiteState)
+pub data SweepStopsAt (s : Setting) (w : Sweeper) (m : Sweep) (es : List Swept) (stop : Stop) (site site' : SiteState)
     : Type 0 where
-  IsStarved : stop ≡ NoMemory → w.starves ≡ true → (p q : ℕ) → IsPiece s w (swept_by w m es) p q
-      → Makes (sweep_calls s w m es) site site' → Stops s w m es stop site site'
-  IsCut : (p q : ℕ) → IsPiece s w (swept_by w m es) p q → stop ≡ Site (call_name (lost_call w p q))
+  IsStarved : stop ≡ NoMemory → w.starves ≡ true → (p q : ℕ) → IsPiece s w (behind_pieces w m es) p q
+      → Makes (sweep_calls s w m es) site site' → SweepStopsAt s w m es stop site site'
+  IsCut : (p q : ℕ) → IsPiece s w (behind_pieces w m es) p q → stop ≡ Site (call_name (lost_call w p q))
       → BreaksBehind (call_name (lost_call w p q)) (sweep_calls s w m es) (lost_call w p q ∷ []) site site'
-      → Stops s w m es stop site site'
+      → SweepStopsAt s w m es stop site site'
   IsBroken : (before : List Swept) (last : Swept) (call : SiteCall) → es ≡ before ++ last ∷ [] → stop ≡ Site call
       → BreaksBehind call (sweep_calls s w m before ++ w.call last ∷ [])
-      (save_of s (due_save w (swept_by w m before) last)) site site'
-      → Stops s w m es stop site site'
+      (save_of s (due_save w (behind_pieces w m before) last)) site site'
+      → SweepStopsAt s w m es stop site site'
 
 -- pieces up to such a stop
 pub record WentUpTo (G : Swept → Type 0) (s : Setting) (w : Sweeper) (m m' : Sweep) (heard heard' : Bool) (stop : Stop)
     (o : Around) : Type 0 where
   pub events : List Swept
-  pub went : Went G s w m m' heard heard' events o
-  pub stops : Stops s w m events stop o.site o.site'
+  pub went : SweepWent G s w m m' heard heard' events o
+  pub stops : SweepStopsAt s w m events stop o.site o.site'
 
 -- what stays of the objects; the output stays open
 pub record ObjectsStay (o : Around) : Type 0 where
@@ -168,7 +168,7 @@ ClosesFiles s m (Some (LimitMet limit)) end site site' = SavesLast s m (Some (Li
 ClosesFiles s m (Some NoMemory) end site site' = SavesLast s m (Some NoMemory) end site site'
 
 -- Behind a piece of which so many bytes were written, at this time: the reading of the clock, the state, and the line.
-pub record Passes (piece : Piece) (written after : ℕ) (r r' : SweepState) (o : Around) : Type 0 where
+pub record StepsPastPiece (piece : Piece) (written after : ℕ) (r r' : SweepState) (o : Around) : Type 0 where
   pub timed : ReadsClock (after ∷ []) o.clock o.clock'
   pub fit : after < 2 ^ 64
   pub stands : r' ≡ heard_as (standing r
@@ -179,7 +179,7 @@ pub record Passes (piece : Piece) (written after : ℕ) (r r' : SweepState) (o :
 pub record EndsPiece {T : Type 0} (result : Result T Stop) (piece : Piece) (written : ℕ) (r r' : SweepState) (o : Around)
     : Type 0 where
   pub after : ℕ
-  pub passes : Passes piece written after r r' o
+  pub passes : StepsPastPiece piece written after r r' o
   pub made : OnOk result (Makes (save_behind r r' after) o.site o.site')
   pub broke : IfErr result (λ stop. BreaksSave stop (save_behind r r' after) o.site o.site')
 
@@ -215,11 +215,11 @@ gone_to r r' = record r { sweep = r'.sweep; heard = r'.heard }
 pub record PieceEnds {T : Type 0} (G : Swept → Type 0) (result : Result T Stop) (w : Sweeper) (piece : Piece)
     (r r' : SweepState) (o : Around) : Type 0 where
   pub stands : r' ≡ gone_to r r'
-  pub took : OnOk result (Took G (setting_of r) w r.sweep r'.sweep r.heard r'.heard o)
+  pub took : OnOk result (DidPiece G (setting_of r) w r.sweep r'.sweep r.heard r'.heard o)
   pub passed : OnOk result (r'.sweep.cursor ≡ piece.pos + piece.len)
   pub halted : IfErr result (λ stop. Halted G (setting_of r) w r.sweep r'.sweep r.heard r'.heard stop o)
   pub no_draft : OnOk result (o.site'.is_drafting ≡ false)
-  pub draft_left : IfErr result (λ stop. o.site'.is_drafting ≡ drafting_after stop)
+  pub draft_left : IfErr result (λ stop. o.site'.is_drafting ≡ drafting_at_stop stop)
   pub objects : ObjectsStay o
 
 -- all pieces that are left
@@ -230,5 +230,5 @@ pub record PiecesEnd {T : Type 0} (G : Swept → Type 0) (result : Result T Stop
   pub out : OnOk result (IsSweptOut (setting_of r) w r'.sweep)
   pub halted : IfErr result (λ stop. WentUpTo G (setting_of r) w r.sweep r'.sweep r.heard r'.heard stop o)
   pub no_draft : OnOk result (o.site'.is_drafting ≡ false)
-  pub draft_left : IfErr result (λ stop. o.site'.is_drafting ≡ drafting_after stop)
+  pub draft_left : IfErr result (λ stop. o.site'.is_drafting ≡ drafting_at_stop stop)
   pub objects : ObjectsStay o

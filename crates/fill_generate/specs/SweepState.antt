@@ -1,6 +1,6 @@
 -- What is known of a sweep between its pieces.
 use Rattle.std.specs.Prelude.{ℕ, ◌+◌, ◌/◌, Bool, List, length, nat_le, Some, if◌then◌else◌}
-use Rattle.block_list.specs.declared.block.Run.{Run}
+use Rattle.block_list.specs.declared.block.Range.{Range}
 use Rattle.block_list.specs.declared.status.Status.{Status}
 use Rattle.mapfile_text.specs.declared.state.Current.{Current}
 use Rattle.save_resume.specs.MapNames.{MapNames}
@@ -11,22 +11,22 @@ use Rattle.rescue_rules.specs.Step.{save_interval}
 use Rattle.rescue_core.specs.declared.settings.Settings.{Settings}
 use Rattle.rescue_core.specs.RunState.{setting_with, IsSound, Suits, HasPlaces}
 use Rattle.sweep_rules.specs.Sweep.{Sweep}
-use Rattle.fill_generate.specs.declared.mode.Mode.{Mode}
+use Rattle.fill_generate.specs.declared.mode.SweepMode.{SweepMode}
 use Rattle.fill_generate.specs.declared.sweeping.Tally.{Tally}
 
 -- its settings, its domain, the names of its mapfile and of its draft, the command line, what kind of sweep it is and
 -- where it stands; and whether it is heard: lines are asked for, and each was put
 pub record SweepState : Type 0 where
   pub settings : Settings
-  pub domain : List Run
+  pub domain : List Range
   pub names : MapNames
   pub line : List ℕ
-  pub mode : Mode
+  pub mode : SweepMode
   pub sweep : Sweep
   pub heard : Bool
 
 -- what settings, a domain by its intervals, names and a command line ask for
-abbrev pub setting_for : Settings → List Run → MapNames → List ℕ → Setting
+abbrev pub setting_for : Settings → List Range → MapNames → List ℕ → Setting
 setting_for settings domain names line = setting_with settings domain (Some names) line
 
 abbrev pub setting_of : SweepState → Setting
@@ -46,7 +46,7 @@ sweep_at map tally = record {
 }
 
 -- the sweep that these parts make
-abbrev pub state_at : Settings → List Run → MapNames → List ℕ → List Status → Mode → Tally → Bool → SweepState
+abbrev pub state_at : Settings → List Range → MapNames → List ℕ → List Status → SweepMode → Tally → Bool → SweepState
 state_at settings domain names line map mode tally heard = record {
   settings = settings;
   domain = domain;

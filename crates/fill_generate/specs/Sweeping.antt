@@ -20,10 +20,10 @@ use Rattle.rescue_rules.specs.RunCalls.{closing_calls}
 use Rattle.rescue_rules.specs.Laws.{AreTimes}
 use Rattle.rescue_rules.specs.Work.{end_of}
 use Rattle.rescue_rules.specs.Deeds.{save_of, doing_calls}
-use Rattle.rescue_core.specs.Closing.{drafting_after}
-use Rattle.sweep_rules.specs.Sweep.{Sweeper, Sweep, Swept, IsPiece, IsSweep, swept_by, due_save, sweep_end, deeds_of}
+use Rattle.rescue_core.specs.Closing.{drafting_at_stop}
+use Rattle.sweep_rules.specs.Sweep.{Sweeper, Sweep, Swept, IsPiece, IsSweep, behind_pieces, due_save, sweep_end, deeds_of}
 use Rattle.sweep_rules.specs.SweepLaws.{AreGiven}
-use Rattle.sweep_rules.specs.SweepWork.{SweptBy, SweepEnds, sweep_calls, sweep_lines, lost_call}
+use Rattle.sweep_rules.specs.SweepWork.{SweepEndsBy, SweepEnds, sweep_calls, sweep_lines, lost_call}
 
 -- what the objects of a sweep tell before something was done, and behind it
 pub record Around : Type 0 where
@@ -41,36 +41,36 @@ pub record BreaksBehind (at : SiteCall) (made calls : List Call) (old new : Site
   pub rose : Rose old.faults new.faults
 
 -- The end of a sweep by these pieces, by its calls:
-pub data Ends (s : Setting) (w : Sweeper) (m : Sweep) (es : List Swept) (end : RunEnd) (site site' : SiteState)
+pub data EndsSweep (s : Setting) (w : Sweeper) (m : Sweep) (es : List Swept) (end : RunEnd) (site site' : SiteState)
     : Type 0 where
   -- it ended, and its last calls returned
-  Saved : (stop : Option Stop) → SweptBy stop s w (swept_by w m es) → end ≡ end_of stop
-      → Makes (doing_calls s (deeds_of w m es) (sweep_end (is_none stop) (swept_by w m es))) site site'
-      → Ends s w m es end site site'
+  Saved : (stop : Option Stop) → SweepEndsBy stop s w (behind_pieces w m es) → end ≡ end_of stop
+      → Makes (doing_calls s (deeds_of w m es) (sweep_end (is_none stop) (behind_pieces w m es))) site site'
+      → EndsSweep s w m es end site site'
   -- it ended, and one of them failed
-  Unsaved : (stop : Option Stop) (call : SiteCall) → SweptBy stop s w (swept_by w m es) → end ≡ SaveFailed call stop
-      → BreaksBehind call (sweep_calls s w m es) (closing_calls s (sweep_end (is_none stop) (swept_by w m es))) site site'
-      → Ends s w m es end site site'
+  Unsaved : (stop : Option Stop) (call : SiteCall) → SweepEndsBy stop s w (behind_pieces w m es) → end ≡ SaveFailed call stop
+      → BreaksBehind call (sweep_calls s w m es) (closing_calls s (sweep_end (is_none stop) (behind_pieces w m es))) site site'
+      → EndsSweep s w m es end site site'
   -- the call of the next piece failed, which isn't one that was done
-  Cut : (p q : ℕ) → IsPiece s w (swept_by w m es) p q → end ≡ Stopped (Site (call_name (lost_call w p q)))
+  Cut : (p q : ℕ) → IsPiece s w (behind_pieces w m es) p q → end ≡ Stopped (Site (call_name (lost_call w p q)))
       → BreaksBehind (call_name (lost_call w p q)) (sweep_calls s w m es) (lost_call w p q ∷ []) site site'
-      → Ends s w m es end site site'
+      → EndsSweep s w m es end site site'
   -- a call of the save that was due behind the last piece failed
   Broken : (before : List Swept) (last : Swept) (call : SiteCall) → es ≡ before ++ last ∷ [] → end ≡ Stopped (Site call)
       → BreaksBehind call (sweep_calls s w m before ++ w.call last ∷ [])
-      (save_of s (due_save w (swept_by w m before) last)) site site'
-      → Ends s w m es end site site'
+      (save_of s (due_save w (behind_pieces w m before) last)) site site'
+      → EndsSweep s w m es end site site'
 
 -- whether a draft is left begun behind a sweep that ended so
 abbrev pub drafting_behind : RunEnd → Bool
 drafting_behind Finished = false
-drafting_behind (Stopped stop) = drafting_after stop
+drafting_behind (Stopped stop) = drafting_at_stop stop
 drafting_behind (SaveFailed call earlier) = drafting_after_fault call false
 
 -- law: where the site tells, its record goes on with the calls of such a sweep
 abbrev pub EndsAreTold : Type 0
 EndsAreTold = (s : Setting) (w : Sweeper) (m : Sweep) (es : List Swept) (end : RunEnd) (site site' : SiteState)
-    → Ends s w m es end site site' → IsTrue site.tells
+    → EndsSweep s w m es end site site' → IsTrue site.tells
     → (calls : List Entry) × (site'.calls ≡ site.calls ++ calls) × SweepEnds s w m es calls end
 
 -- the readings of the clock behind pieces
@@ -84,7 +84,7 @@ pub record SweepTold (s : Setting) (w : Sweeper) (m : Sweep) (heard heard' : Boo
   pub run : IsSweep s w m events
   pub timed : ReadsClock (times_behind events) o.clock o.clock'
   pub fit : AreTimes (times_behind events)
-  pub ends : Ends s w m events end o.site o.site'
+  pub ends : EndsSweep s w m events end o.site o.site'
   pub says : SpeaksOn (out_pieces (sweep_lines s w m events end)) heard heard' o.console o.console'
 
 -- the open output is neither the mapfile nor its draft

@@ -6,13 +6,13 @@ ghost use Rattle.mapfile_text.specs.declared.heading.Program.TheVariants.{Ddresc
 ghost use Rattle.rescue_domain.specs.Parts.{covers};
 ghost use Rattle.rescue_core.specs.RunState.{IsSound, Suits, HasPlaces};
 ghost use Rattle.sweep_rules.specs.Sweep.{generator, sweep_over};
-ghost use Rattle.fill_generate.specs.declared.mode.Mode.TheVariants.{Generate};
+ghost use Rattle.fill_generate.specs.declared.mode.SweepMode.TheVariants.{Generate};
 ghost use Rattle.fill_generate.specs.SweepState.{setting_for, setting_of};
 ghost use Rattle.fill_generate.specs.Steps.{IsFound, PieceEnds, PiecesEnd, IsLookedUp};
 ghost use Rattle.fill_generate.specs.Sweeping.{LookupTold, drafting_behind};
 
 use crate::job::Job;
-use crate::mode::Mode;
+use crate::mode::SweepMode;
 use crate::sweeping::{Piece, Sweeping};
 use block_list::tiles::Tiles;
 use crash_site::site::Site;
@@ -55,7 +55,7 @@ pub fn run_generate<D: Site, K: Clock, C: Console, T: Tiles>(
     ensures draft { (D.state site.new).is_drafting ≡ drafting_behind result.end }
     ensures clock { ClockKeeps (K.state clock.old) (K.state clock.new) }
 {
-    let mut sweeping = Sweeping::begin(job, Mode::Generate);
+    let mut sweeping = Sweeping::begin(job, SweepMode::Generate);
     match generate_pieces(&mut sweeping, buffer, site, clock, console) {
         Ok(()) => sweeping.close(None, site, console),
         Err(stop) => sweeping.close(Some(stop), site, console),

@@ -36,16 +36,16 @@ pub(crate) fn mark_held<T: Tiles>(tiles: &mut T, sector: u64, pos: u64, bytes: &
     while at < end {
         let to = end.min(at / sector * sector + sector);
         if !has_byte(&bytes[(at - pos) as usize..(to - pos) as usize]) {
-            mark_run(tiles, from, at);
+            mark_range(tiles, from, at);
             from = to;
         }
         at = to;
     }
-    mark_run(tiles, from, at);
+    mark_range(tiles, from, at);
 }
 
 /// Marks positions as finished, if there are any.
-fn mark_run<T: Tiles>(tiles: &mut T, from: u64, to: u64)
+fn mark_range<T: Tiles>(tiles: &mut T, from: u64, to: u64)
     requires order { from ≤ to }
     requires within { to ≤ length (T.statuses tiles.old) }
     requires spare { 2 ≤ T.spare tiles.old }

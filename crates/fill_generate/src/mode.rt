@@ -7,21 +7,21 @@ use mapfile_text::state::Current;
 
 /// What a sweep does with a piece of its map.
 #[derive(Clone, Copy, Debug, PartialEq, Eq)]
-pub(crate) enum Mode {
+pub(crate) enum SweepMode {
     /// Writes a pattern to the output, at positions with one of these statuses.
     Fill(TypeSet),
     /// Looks up in the output whether it holds what wasn't tried.
     Generate,
 }
 
-impl Mode {
+impl SweepMode {
     /// Whether positions with a status are taken.
     pub fn takes(self, status: Status) -> bool
         ensures { result ≡ takes_in self status }
     {
         match self {
-            Mode::Fill(types) => types.has(status),
-            Mode::Generate => matches!(status, Status::NonTried),
+            SweepMode::Fill(types) => types.has(status),
+            SweepMode::Generate => matches!(status, Status::NonTried),
         }
     }
 
@@ -30,8 +30,8 @@ impl Mode {
         ensures { result ≡ current_in self }
     {
         match self {
-            Mode::Fill(_) => Current::Filling,
-            Mode::Generate => Current::Generating,
+            SweepMode::Fill(_) => Current::Filling,
+            SweepMode::Generate => Current::Generating,
         }
     }
 }

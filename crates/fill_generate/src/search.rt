@@ -4,7 +4,7 @@ ghost use Rattle.block_list.specs.Places.{IsFirst};
 ghost use Rattle.rescue_domain.specs.Parts.{covers};
 ghost use Rattle.fill_generate.specs.Modes.{is_taken, IsTakenIn};
 
-use crate::mode::Mode;
+use crate::mode::SweepMode;
 use block_list::near::Near;
 use block_list::tiles::Tiles;
 use rescue_domain::domain::Domain;
@@ -19,7 +19,7 @@ struct Alike {
 /// Whether a sweep takes a position, and up to where those behind it are like it. `part` and `near` say where to look
 /// first, in the domain and in the map.
 fn alike_from<T: Tiles>(
-    mode: Mode,
+    mode: SweepMode,
     domain: &Domain,
     tiles: &T,
     part: &mut usize,
@@ -48,7 +48,7 @@ fn alike_from<T: Tiles>(
 
 /// The first position at or after one that a sweep takes.
 pub(crate) fn first_taken<T: Tiles>(
-    mode: Mode,
+    mode: SweepMode,
     domain: &Domain,
     tiles: &T,
     from: u64,
@@ -74,7 +74,7 @@ pub(crate) fn first_taken<T: Tiles>(
 
 /// Up to where, below a limit, all positions from one on are taken.
 pub(crate) fn taken_to<T: Tiles>(
-    mode: Mode,
+    mode: SweepMode,
     domain: &Domain,
     tiles: &T,
     from: u64,

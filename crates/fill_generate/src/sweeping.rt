@@ -11,17 +11,17 @@ ghost use Rattle.rescue_rules.specs.Said.{is_line_due};
 ghost use Rattle.rescue_rules.specs.Step.{save_interval};
 ghost use Rattle.rescue_rules.specs.Snapshots.{text_of};
 ghost use Rattle.rescue_rules.specs.Lines.{phase_front, last_front, report_text, is_done};
-ghost use Rattle.rescue_core.specs.Closing.{MayClose, drafting_after};
+ghost use Rattle.rescue_core.specs.Closing.{MayClose, drafting_at_stop};
 ghost use Rattle.rescue_core.specs.RunState.{IsSound, Suits, HasPlaces};
 ghost use Rattle.sweep_rules.specs.Sweep.{Sweeper, sweep_over, sweep_from, sweep_snapshot, IsSweptOut};
 ghost use Rattle.sweep_rules.specs.SweepWork.{sweep_report};
-ghost use Rattle.fill_generate.specs.Modes.{current_in, IsOf};
+ghost use Rattle.fill_generate.specs.Modes.{current_in, IsSweeperOf};
 ghost use Rattle.fill_generate.specs.SweepState.{SweepState, setting_of, sweep_at, state_at, standing, moved, IsSweeping};
 ghost use Rattle.fill_generate.specs.Steps.{IsFound, ClosesFiles, SavesLast, EndsPiece, LooksUp, LooksNot};
 
 use crate::job::Job;
 use crate::mark::{mark_held, room_for};
-use crate::mode::Mode;
+use crate::mode::SweepMode;
 use crate::search::{first_taken, taken_to};
 use block_list::tiles::Tiles;
 use crash_site::site::{Site, SiteCall};
@@ -80,7 +80,7 @@ pub(crate) struct Sweeping<T: Tiles> {
     pub tiles: T,
     names: Names,
     heading: Heading,
-    mode: Mode,
+    mode: SweepMode,
     tally: Tally,
     heard: bool,
 }
@@ -175,12 +175,12 @@ impl Tally {
 
 impl<T: Tiles> Sweeping<T> {
     /// A sweep of a kind, as it begins.
-    pub fn begin(job: Job<T>, mode: Mode) -> Sweeping<T>
+    pub fn begin(job: Job<T>, mode: SweepMode) -> Sweeping<T>
         requires sound { IsSound job.settings }
         requires suits { Suits job.settings (covers job.domain) (length (T.statuses job.tiles)) }
         requires places { HasPlaces job.settings (covers job.domain) }
         requires program { job.heading.program ≡ Ddrescue }
-        ensures { (w : Sweeper) → IsOf mode w → result ≡ record {
+        ensures { (w : Sweeper) → IsSweeperOf mode w → result ≡ record {
           settings = job.settings;
           domain = job.domain;
           names = job.names;
@@ -215,7 +215,7 @@ impl<T: Tiles> Sweeping<T> {
     /// The next piece.
     pub fn next_piece(&self) -> Option<Piece>
         ensures some { IfSome result (λ p. IsFound self.now p) }
-        ensures none { IfNone result ((w : Sweeper) → IsOf self.now.mode w
+        ensures none { IfNone result ((w : Sweeper) → IsSweeperOf self.now.mode w
             → IsSweptOut (setting_of self.now) w self.now.sweep) }
     {
         let pos = first_taken(self.mode, &self.domain, &self.tiles, self.tally.cursor)?;
@@ -360,7 +360,7 @@ impl<T: Tiles> Sweeping<T> {
           console' = C.state console.new;
         }) }
         ensures draft { OnOk result ((D.state site.new).is_drafting ≡ false) }
-        ensures draft_left { IfErr result (λ stop. (D.state site.new).is_drafting ≡ drafting_after stop) }
+        ensures draft_left { IfErr result (λ stop. (D.state site.new).is_drafting ≡ drafting_at_stop stop) }
         ensures site { SiteKeeps (D.state site.old) (D.state site.new) }
         ensures image { (D.state site.new).is_open ≡ (D.state site.old).is_open }
         ensures clock { ClockKeeps (K.state clock.old) (K.state clock.new) }

@@ -14,7 +14,7 @@ use option_values::settings::{read_sector_in, read_settings};
 use option_values::values::value_word;
 use option_words::fault::UsageFault;
 use option_words::reader::read_words;
-use option_words::reading::{Item, Reading};
+use option_words::reading::{Item, WordReading};
 use option_words::table::OptionTable;
 use option_words::words::Words;
 use std::alloc::Global;
@@ -79,7 +79,7 @@ fn name_other<'a>(
 fn name_files<'a>(
     table: &OptionTable,
     words: &'a Words,
-    reading: &Reading,
+    reading: &WordReading,
     options: LogOptions,
     mode: LogMode,
 ) -> Result<Command<'a>, UsageFault>
@@ -109,7 +109,7 @@ fn name_files<'a>(
 fn name_mode<'a>(
     table: &OptionTable,
     words: &'a Words,
-    reading: &Reading,
+    reading: &WordReading,
     options: LogOptions,
 ) -> Result<Command<'a>, UsageFault>
     requires table { AreOptions table.now }
@@ -143,7 +143,7 @@ fn find_size_word(table: &OptionTable, words: &Words, items: &[Item]) -> usize
 fn command_of<'a>(
     table: &OptionTable,
     words: &'a Words,
-    reading: &Reading,
+    reading: &WordReading,
 ) -> Result<Command<'a>, UsageFault>
     requires table { AreOptions table.now }
     requires spots { All (HasSpot words.now) reading.now.items.items }

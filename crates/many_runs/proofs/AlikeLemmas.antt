@@ -8,7 +8,7 @@ use Rattle.block_list.specs.Map.{Has, extended}
 use Rattle.block_list.proofs.Places.{slice_get-append_left, slice_get-append_right}
 use Rattle.mapfile_text.specs.declared.state.MapState.{MapState}
 use Rattle.mapfile_text.specs.declared.read.Mode.TheVariants.{Tight}
-use Rattle.mapfile_text.specs.Lines.{Line, said}
+use Rattle.mapfile_text.specs.Lines.{Line, said_lines}
 use Rattle.mapfile_text.specs.MapText.{Blank, AreMapLines}
 use Rattle.mapfile_text.proofs.OneReading.{has_one_reading}
 use Rattle.crash_site.specs.Files.{File}
@@ -25,7 +25,7 @@ some_lines (l ∷ ls) state first listed statuses m none = cc
 not_blank : (text : List ℕ) (end : ℕ) (map : List Status) (state : Option MapState) → IsResumed text end map state
     → Blank text → ⊥
 not_blank text end map state r blank =
-    some_lines (said text) r.shown r.first r.listed r.statuses r.reads.reads blank
+    some_lines (said_lines text) r.shown r.first r.listed r.statuses r.reads.reads blank
 
 -- of positions that weren't tried none is finished
 none_finished : (n x : ℕ) → Has (replicate n NonTried) Finished x → ⊥

@@ -22,7 +22,7 @@ use Rattle.rescue_rules.specs.StopsBy.{IsKeptBy}
 use Rattle.rescue_rules.proofs.CutLemmas.{Cut, cut_past}
 use Rattle.rescue_rules.proofs.MapfileLemmas.{opening_by}
 use Rattle.rescue_core.specs.RunState.{names_in}
-use Rattle.sweep_rules.specs.Sweep.{Sweep, Swept, generator, IsSweep, swept}
+use Rattle.sweep_rules.specs.Sweep.{Sweep, Swept, generator, IsSweep, behind_piece}
 use Rattle.sweep_rules.specs.SweepLaws.{AreGiven}
 use Rattle.sweep_rules.specs.SweepStops.{GeneratePromise, has_swept_out, sweep_saves}
 use Rattle.sweep_rules.specs.SweepWork.{sweep_begins}
@@ -36,7 +36,7 @@ use Rattle.ddrescue_cli.specs.Outside.{Outside}
 use Rattle.ddrescue_cli.specs.Told.{calls_before, files_of, asked_of}
 use Rattle.ddrescue_cli.specs.Modes.{Generates, GenerateStops}
 use Rattle.ddrescue_cli.specs.Ddrescue.{GenerateModePromise}
-use Rattle.ddrescue_cli.specs.ModeLaws.{generating}
+use Rattle.ddrescue_cli.specs.ModeLaws.{promised_generate}
 use Rattle.ddrescue_cli.proofs.words.AskedLemmas.{sensible_in}
 use Rattle.ddrescue_cli.proofs.runs.EarlyCut.{EarlyCut, early_cut}
 use Rattle.ddrescue_cli.proofs.sweeps.SweepGoes.{Unbegun, Begun}
@@ -79,7 +79,7 @@ module _ (s : Setting) (files : List ℕ → Option File) (pieces : List Swept) 
     behind_of ok m (e ∷ es) run =
         All-cons (λ (e : Swept). s.from ≤ e.pos) e es
         (ok.from e.pos (piece_within s (generator s) m e.pos (e.pos + e.len) run.0).some)
-        (behind_of ok (swept (generator s) m e) es run.2)
+        (behind_of ok (behind_piece (generator s) m e) es run.2)
 
     none_behind : pieces ≡ [] → AreBehind s.from pieces
     none_behind none = subst (AreBehind s.from) (sym none) (All-nil (λ (e : Swept). s.from ≤ e.pos))
@@ -195,7 +195,7 @@ module _ (t : Target) (b : Behind) (s : Setting) (g : Gain) (pieces : List Swept
 
 pub generating_owes_on : GeneratingOwesOn
 generating_owes_on t l gave old apart r owed =
-    let p : GenerateModePromise r.command r.told = generating r.promised r.asks in
+    let p : GenerateModePromise r.command r.told = promised_generate r.promised r.asks in
     let o : Outside = p.outside in
     let s : Setting = asked_of r.command r.told o in
     let g : Gain = o.did.gain in

@@ -17,7 +17,7 @@ use Rattle.rescue_rules.specs.Deeds.{Deed, some_save, saves_in}
 use Rattle.rescue_rules.specs.Stops.{IsSave}
 use Rattle.rescue_rules.proofs.MarkLemmas.{slice_get-take}
 use Rattle.rescue_rules.proofs.SnapshotLemmas.{one_of}
-use Rattle.sweep_rules.specs.Sweep.{Sweep, Swept, generator, is_generated, is_there, part_of, swept, swept_by, is_save_due, sweep_snapshot, sweep_end, due_save, deeds_of}
+use Rattle.sweep_rules.specs.Sweep.{Sweep, Swept, generator, is_generated, is_there, part_of, behind_piece, behind_pieces, is_save_due, sweep_snapshot, sweep_end, due_save, deeds_of}
 use Rattle.sweep_rules.specs.SweepLaws.{AreGiven}
 use Rattle.sweep_rules.proofs.EndLemmas.{end_map}
 use Rattle.sweep_rules.proofs.SweepLemmas.{changed_cases}
@@ -60,7 +60,7 @@ gives_generated s e es x is =
 abbrev FinishesGiven : List Status → List Swept → Snapshot → Type 0
 FinishesGiven map es p = (x : ℕ) → Has p.map Finished x → Has map Finished x ⊎ Gives es x
 
-swept_given : (s : Setting) (m : Sweep) (e : Swept) (es : List Swept) (x : ℕ) → Has (swept (generator s) m e).map Finished x
+swept_given : (s : Setting) (m : Sweep) (e : Swept) (es : List Swept) (x : ℕ) → Has (behind_piece (generator s) m e).map Finished x
     → Has m.map Finished x ⊎ Gives (e ∷ es) x
 swept_given s m e es x is =
     ⊎_elim (λ (t : is_generated s e (0 + x) ≡ true).
@@ -90,28 +90,28 @@ dues_given : (s : Setting) (m : Sweep) (es : List Swept)
 dues_given s m [] = All-nil (FinishesGiven m.map [])
 dues_given s m (e ∷ es) =
     All-append (FinishesGiven m.map (e ∷ es)) (some_save (due_save (generator s) m e))
-    (flat_map (λ (d : Deed). some_save d.save) (deeds_of (generator s) (swept (generator s) m e) es))
-    (if_given m.map (e ∷ es) (is_save_due m e) (sweep_snapshot (swept (generator s) m e)) (swept_given s m e es))
-    (all_more m.map (swept (generator s) m e).map e es
-    (flat_map (λ (d : Deed). some_save d.save) (deeds_of (generator s) (swept (generator s) m e) es)) (swept_given s m e es)
-    (dues_given s (swept (generator s) m e) es))
+    (flat_map (λ (d : Deed). some_save d.save) (deeds_of (generator s) (behind_piece (generator s) m e) es))
+    (if_given m.map (e ∷ es) (is_save_due m e) (sweep_snapshot (behind_piece (generator s) m e)) (swept_given s m e es))
+    (all_more m.map (behind_piece (generator s) m e).map e es
+    (flat_map (λ (d : Deed). some_save d.save) (deeds_of (generator s) (behind_piece (generator s) m e) es)) (swept_given s m e es)
+    (dues_given s (behind_piece (generator s) m e) es))
 
 -- and the last one
-last_given_by : (s : Setting) (m : Sweep) (es : List Swept) (x : ℕ) → Has (swept_by (generator s) m es).map Finished x
+last_given_by : (s : Setting) (m : Sweep) (es : List Swept) (x : ℕ) → Has (behind_pieces (generator s) m es).map Finished x
     → Has m.map Finished x ⊎ Gives es x
 last_given_by s m [] x has = inl has
 last_given_by s m (e ∷ es) x has =
-    ⊎_elim (λ (was : Has (swept (generator s) m e).map Finished x). swept_given s m e es x was)
-    (λ (g : Gives es x). inr (gives_later e es x g)) (last_given_by s (swept (generator s) m e) es x has)
+    ⊎_elim (λ (was : Has (behind_piece (generator s) m e).map Finished x). swept_given s m e es x was)
+    (λ (g : Gives es x). inr (gives_later e es x g)) (last_given_by s (behind_piece (generator s) m e) es x has)
 
 saves_given : (s : Setting) (m : Sweep) (es : List Swept) (done : Bool)
-    → All (FinishesGiven m.map es) (saves_in (deeds_of (generator s) m es) (sweep_end done (swept_by (generator s) m es)))
+    → All (FinishesGiven m.map es) (saves_in (deeds_of (generator s) m es) (sweep_end done (behind_pieces (generator s) m es)))
 saves_given s m es done =
     All-append (FinishesGiven m.map es) (flat_map (λ (d : Deed). some_save d.save) (deeds_of (generator s) m es))
-    (sweep_end done (swept_by (generator s) m es) ∷ []) (dues_given s m es)
-    (All-cons (FinishesGiven m.map es) (sweep_end done (swept_by (generator s) m es)) []
+    (sweep_end done (behind_pieces (generator s) m es) ∷ []) (dues_given s m es)
+    (All-cons (FinishesGiven m.map es) (sweep_end done (behind_pieces (generator s) m es)) []
     (λ x has. last_given_by s m es x
-    (subst (λ (l : List Status). Has l Finished x) (end_map done (swept_by (generator s) m es)) has))
+    (subst (λ (l : List Status). Has l Finished x) (end_map done (behind_pieces (generator s) m es)) has))
     (All-nil (FinishesGiven m.map es)))
 
 never_given : (es : List Swept) (x : ℕ) → last_given (looked_at es) x ≡ None → Gives es x → ⊥
@@ -120,13 +120,13 @@ never_given es x none g = let e : None ≡ Some g.byte = sym none ∙ g.is in ab
 -- So what a save finishes that no piece gave was finished before.
 pub save_was_finished : (s : Setting) (old found : Option File) (line : List ℕ) (m : Sweep) (es : List Swept) (done : Bool)
     (number : ℕ) (statuses : List Status) (x : ℕ)
-    → IsSave old m.map line (saves_in (deeds_of (generator s) m es) (sweep_end done (swept_by (generator s) m es))) number
+    → IsSave old m.map line (saves_in (deeds_of (generator s) m es) (sweep_end done (behind_pieces (generator s) m es))) number
     found statuses → last_given (looked_at es) x ≡ None → Has statuses Finished x → Has m.map Finished x
 save_was_finished s old found line m es done zero statuses x is none has =
     subst (λ (l : List Status). Has l Finished x) is.1 has
 save_was_finished s old found line m es done (suc n) statuses x is none has =
     let saves : List Snapshot
-    = saves_in (deeds_of (generator s) m es) (sweep_end done (swept_by (generator s) m es)) in
+    = saves_in (deeds_of (generator s) m es) (sweep_end done (behind_pieces (generator s) m es)) in
     ⊎_elim (λ (was : Has m.map Finished x). was) (λ (g : Gives es x). absurd (never_given es x none g))
     (one_of (FinishesGiven m.map es) saves n is.0 (saves_given s m es done) is.1 x
     (subst (λ (l : List Status). Has l Finished x) is.2 has))

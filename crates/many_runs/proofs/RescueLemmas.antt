@@ -25,13 +25,13 @@ use Rattle.ddrescue_cli.specs.Outside.{Outside}
 use Rattle.ddrescue_cli.specs.Told.{Told, calls_before, files_of, asked_of}
 use Rattle.ddrescue_cli.specs.Ddrescue.{Promise}
 use Rattle.ddrescue_cli.specs.Work.{Rescues, rescue_faults, rescue_rows}
-use Rattle.ddrescue_cli.specs.Laws.{setting, done_by}
+use Rattle.ddrescue_cli.specs.Laws.{setting_promised, done_by}
 use Rattle.ddrescue_cli.proofs.words.AskedLemmas.{sensible_to}
 use Rattle.ddrescue_cli.proofs.promise.GoesLemmas.{work_goes}
 use Rattle.option_words.specs.Words.{command_line}
 use Rattle.work_steps.specs.Work.{Works}
 use Rattle.many_runs.specs.Owed.{Target, pairs_of, Owed, IsOwedIn, IsOwedAt}
-use Rattle.many_runs.specs.Chain.{resting, GoesOnFrom, Stopped, Ended, gave_by}
+use Rattle.many_runs.specs.Chain.{resting, NextRunBegins, Stopped, Ended, gave_by}
 use Rattle.many_runs.specs.Laws.{RescueOwesOn}
 use Rattle.many_runs.proofs.AlikeLemmas.{finishes, StandsAt, At, stands_at}
 use Rattle.many_runs.proofs.RunLemmas.{owed_behind}
@@ -81,7 +81,7 @@ ended_left b g k files left =
 -- so where it is owed at each stop, it is owed where the next run begins
 pub next_owed : (t : Target) (gave : List (ℕ × ℕ)) (old : ℕ → Bool) (b : Behind) (g : Gain) (k : ℕ) (next : Behind)
     → ((files : List ℕ → Option File) → LeftAt b g k files → IsOwedIn t gave old files)
-    → GoesOnFrom b g k next → IsOwedAt t gave old next
+    → NextRunBegins b g k next → IsOwedAt t gave old next
 next_owed t gave old b g k next owed (Stopped files left is) =
     subst (λ (n : Behind). IsOwedAt t gave old n) (sym is) (owed_resting t gave old files (owed files left))
 next_owed t gave old b g k next owed (Ended is) =
@@ -199,7 +199,7 @@ promise_goes c t p tells on =
 
 pub rescue_owes_on : RescueOwesOn
 rescue_owes_on t l gave old apart r owed =
-    let s : Setting = setting r.promised r.asks in
+    let s : Setting = setting_promised r.promised r.asks in
     let g : Gain = done_by r.promised r.asks in
     let b : Behind = calls_before r.told in
     let p : Promise r.command r.told = r.promised.asked_for (Rescue r.command) r.asks in

@@ -10,8 +10,8 @@ use Rattle.rescue_command.specs.Command.{Command, Generate, Asks, AskTask}
 use Rattle.ddrescue_cli.specs.Asked.{output_from}
 use Rattle.ddrescue_cli.specs.Told.{Told, calls_before}
 use Rattle.ddrescue_cli.specs.Ddrescue.{Ddrescue}
-use Rattle.ddrescue_cli.specs.Laws.{setting, done_by}
-use Rattle.ddrescue_cli.specs.ModeLaws.{generating}
+use Rattle.ddrescue_cli.specs.Laws.{setting_promised, done_by}
+use Rattle.ddrescue_cli.specs.ModeLaws.{promised_generate}
 use Rattle.many_runs.specs.Owed.{Target, pairs_of}
 
 -- these files, all durable, on which no call was made yet
@@ -21,9 +21,9 @@ resting files = record { start = record { files = files; image = None; draft = N
 -- Where the next run begins, behind the first k calls of one: the machine was stopped there, and what it left is
 -- durable now; or the program alone ended there, and its site goes on. A stop may come before all calls, between two,
 -- within one, or behind all.
-pub data GoesOnFrom (b : Behind) (g : Gain) (k : ℕ) (next : Behind) : Type 0 where
-  Stopped : (files : List ℕ → Option File) → LeftAt b g k files → next ≡ resting files → GoesOnFrom b g k next
-  Ended : next ≡ record { start = b.start; earlier = b.earlier ++ take k g.calls } → GoesOnFrom b g k next
+pub data NextRunBegins (b : Behind) (g : Gain) (k : ℕ) (next : Behind) : Type 0 where
+  Stopped : (files : List ℕ → Option File) → LeftAt b g k files → next ≡ resting files → NextRunBegins b g k next
+  Ended : next ≡ record { start = b.start; earlier = b.earlier ++ take k g.calls } → NextRunBegins b g k next
 
 -- What a rescue gave that came so far: nothing before its barrier has returned, since nothing is read before. One that
 -- was stopped counts as one whose next call failed, so that it read nothing behind it.
@@ -58,8 +58,8 @@ pub record IsRescue (t : Target) (l : Link) : Type 0 where
   pub moment : ℕ
   pub within : moment ≤ length (done_by promised asks).calls
   pub before : l.before ≡ calls_before told
-  pub next : GoesOnFrom (calls_before told) (done_by promised asks) moment l.next
-  pub gave : l.gave ≡ gave_by (setting promised asks) (done_by promised asks) moment
+  pub next : NextRunBegins (calls_before told) (done_by promised asks) moment l.next
+  pub gave : l.gave ≡ gave_by (setting_promised promised asks) (done_by promised asks) moment
 
 -- the same of a generating, which marks what the output holds
 pub record IsGenerating (t : Target) (l : Link) : Type 0 where
@@ -72,10 +72,10 @@ pub record IsGenerating (t : Target) (l : Link) : Type 0 where
   pub mapfile : command.mapfile ≡ Some t.mapfile
   pub places : command.options.input_position + t.to ≡ t.from + output_from command.options
   pub moment : ℕ
-  pub within : moment ≤ length (generating promised asks).outside.did.gain.calls
+  pub within : moment ≤ length (promised_generate promised asks).outside.did.gain.calls
   pub before : l.before ≡ calls_before told
-  pub next : GoesOnFrom (calls_before told) (generating promised asks).outside.did.gain moment l.next
-  pub gave : l.gave ≡ found_by (generating promised asks).outside.did.gain (generating promised asks).pieces moment
+  pub next : NextRunBegins (calls_before told) (promised_generate promised asks).outside.did.gain moment l.next
+  pub gave : l.gave ≡ found_by (promised_generate promised asks).outside.did.gain (promised_generate promised asks).pieces moment
 
 -- the kinds of runs that a chain may have
 pub data IsLink (t : Target) (l : Link) : Type 0 where

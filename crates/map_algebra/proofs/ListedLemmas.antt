@@ -16,7 +16,7 @@ use Rattle.map_algebra.specs.Blocks.{block_of}
 use Rattle.block_list.specs.Places.{IsFirst}
 use Rattle.rescue_domain.specs.Domain.{IsIn}
 use Rattle.rescue_domain.specs.Places.{AreAllPlaced, place_from}
-use Rattle.map_algebra.specs.Listing.{IsListed, ListingState, Wanted, is_typed, is_wanted, is_listed, wanted_of}
+use Rattle.map_algebra.specs.Listing.{IsListed, ListingState, Wanted, is_typed, has_wanted_type, is_listed, wanted_of}
 use Rattle.map_algebra.specs.BlockLaws.{ListedAre, StandsInOne}
 
 contains_first : {X : Type 0} (y : X) (xs : List X) → Contains (y ∷ xs) y
@@ -83,16 +83,16 @@ pub block_mono : (s : Shape) (x y : ℕ) → x ≤ y → block_of s x ≤ block_
 block_mono s x y h = div_mono (x - s.ipos + s.opos) (y - s.ipos + s.opos) s.size (omega (arith, h))
 
 abbrev pub stands : Wanted → ℕ → ℕ → Bool
-stands w k x = is_wanted w x && nat_eq (block_of w.shape x) k
+stands w k x = has_wanted_type w x && nat_eq (block_of w.shape x) k
 
 abbrev pub IsOne : Wanted → ℕ → Type 0
-IsOne w k = (x : ℕ) × (x < length w.statuses) × (is_wanted w x ≡ true) × (block_of w.shape x ≡ k)
+IsOne w k = (x : ℕ) × (x < length w.statuses) × (has_wanted_type w x ≡ true) × (block_of w.shape x ≡ k)
 
 pub one_from : (w : Wanted) (k : ℕ) → is_listed w k ≡ true → IsOne w k
 one_from w k h =
     let n = length w.statuses in
     let a = Any-from_list_any (stands w k) (range_with_len 0 n) h in
-    let p = and_parts (is_wanted w a.1) (nat_eq (block_of w.shape a.1) k) a.4 in
+    let p = and_parts (has_wanted_type w a.1) (nat_eq (block_of w.shape a.1) k) a.4 in
     let l : a.0 < n = omega (arith, a.2, length-range_with_len 0 n) in
     (a.1, omega (arith, l, a.3, get_or-range_with_len 0 n a.0 a.1 l), p.0, eqb-true (block_of w.shape a.1) k p.1)
 
@@ -105,7 +105,7 @@ listed_from w k o =
       o.0,
       c.1,
       c.2,
-      and_from (is_wanted w o.0) (nat_eq (block_of w.shape o.0) k) o.2
+      and_from (has_wanted_type w o.0) (nat_eq (block_of w.shape o.0) k) o.2
           (eq-eqb (block_of w.shape o.0) k o.3),
     )
 
@@ -138,7 +138,7 @@ Stand s domain = ((x : ℕ) → domain x ≡ true → s.ipos ≤ x) × AreAllPla
 
 -- a wanted position of a block from a number on stands at that place or behind it
 stands_behind : (w : Wanted) (least from x : ℕ) → length w.statuses < 2 ^ 63 → Stand w.shape w.domain
-    → Begins w.shape least from → x < length w.statuses → is_wanted w x ≡ true
+    → Begins w.shape least from → x < length w.statuses → has_wanted_type w x ≡ true
     → (least ≤ block_of w.shape x) ↔ (from ≤ x)
 stands_behind w least from x short stand begins l h =
     let d = (and_parts (w.domain x) (has_type w.types (status_at w.statuses x)) h).0 in

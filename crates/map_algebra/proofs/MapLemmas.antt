@@ -12,7 +12,7 @@ use Rattle.map_algebra.specs.declared.combine.Op.{Op}
 use Rattle.map_algebra.specs.declared.combine.Op.TheVariants.{And, Or, Xor}
 use Rattle.map_algebra.specs.At.{status_at, map_by}
 use Rattle.map_algebra.specs.Combine.{combined, combined_map}
-use Rattle.map_algebra.specs.Laws.{MapHasEach, AndFinishesBoth, OrFinishesEither, OthersStand, XorUndoesItself}
+use Rattle.map_algebra.specs.Laws.{MapHasEach, AndFinishesBoth, OrFinishesEither, OtherPositionsStand, XorUndoesItself}
 
 slice_get-map_range : {X : Type 0} (f : ℕ → X) (a n i : ℕ) → i < n → slice_get (map f (range_with_len a n)) i ≡ Some (f (a + i))
 slice_get-map_range f a zero i h = absurd (omega (arith, h))
@@ -164,7 +164,7 @@ or_finishes_either domain first second x d =
     ∙ sym (ap (λ b. b || is_finished_at second x) (finished_at first x)
     ∙ ap (λ b. is_done (status_at first x) || b) (finished_at second x))
 
-pub others_stand : OthersStand
+pub others_stand : OtherPositionsStand
 others_stand op domain first second x d =
     let end = max (length first) (length second) in
     let both : Status = combined op (status_at first x) (status_at second x) in

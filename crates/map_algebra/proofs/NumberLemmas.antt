@@ -2,7 +2,7 @@
 use Rattle.std.proofs.Common.{◌≡◌, ℕ, ◌+◌, ◌≤◌, Bool, not, eqb, List, [], ◌∷◌, ◌++◌, length, append_assoc, Option, Some, None, Result, Ok, Err, refl, sym, ap, ◌∙◌, arith}
 use Rattle.std.proofs.lemmas.List.Sums.{length-filter, count_by-le-length}
 use Rattle.std.proofs.lemmas.List.Splits.{length-slice_split}
-use Rattle.mapfile_text.specs.Lines.{Line, lines, numbered, filled}
+use Rattle.mapfile_text.specs.Lines.{Line, lines, numbered_lines, filled_lines}
 use Rattle.mapfile_text.specs.Cursor.{OpenLine, line_of}
 use Rattle.mapfile_text.proofs.LineLemmas.{length-numbered}
 use Rattle.map_algebra.specs.declared.shape.Shape.{Shape}
@@ -11,13 +11,13 @@ use Rattle.map_algebra.specs.declared.numbers.NumberError.TheVariants.{BadNumber
 use Rattle.map_algebra.specs.Numbers.{number_in, in_front_of, numbers_of, checked}
 
 -- a text has at most as many lines that aren't blank as newlines, and one
-pub few_filled : (text : List ℕ) → length (filled text) ≤ length text + 1
+pub few_filled : (text : List ℕ) → length (filled_lines text) ≤ length text + 1
 few_filled text =
     let newline : ℕ → Bool = λ b. eqb b 10 in
     omega (
       arith,
-      length-filter (λ (l : Line). not (eqb (length l.fields) 0)) (numbered 1 (lines text)),
-      count_by-le-length (λ (l : Line). not (eqb (length l.fields) 0)) (numbered 1 (lines text)),
+      length-filter (λ (l : Line). not (eqb (length l.fields) 0)) (numbered_lines 1 (lines text)),
+      count_by-le-length (λ (l : Line). not (eqb (length l.fields) 0)) (numbered_lines 1 (lines text)),
       length-numbered 1 (lines text),
       length-slice_split newline text,
       count_by-le-length newline text,

@@ -13,5 +13,5 @@ abbrev pub map_by : (ℕ → Status) → (end : ℕ) → List Status
 map_by status end = map status (range_with_len 0 end)
 
 -- each position of the domain lies below the map's end
-pub record IsWithin (domain : ℕ → Bool) (statuses : List Status) : Type 0 where
+pub record IsWithinMap (domain : ℕ → Bool) (statuses : List Status) : Type 0 where
   pub each : (x : ℕ) → domain x ≡ true → x < length statuses

@@ -8,14 +8,14 @@ use Rattle.block_list.specs.Places.{IsFirst}
 use Rattle.map_algebra.specs.declared.shape.Shape.{Shape}
 use Rattle.map_algebra.specs.Blocks.{block_of, is_in_block}
 use Rattle.map_algebra.specs.Create.{created_map}
-use Rattle.map_algebra.specs.Listing.{IsListed, Wanted, is_wanted, listed, listed_from}
+use Rattle.map_algebra.specs.Listing.{IsListed, Wanted, has_wanted_type, listed, listed_from}
 
 -- the listed numbers ascend, each once, and are those of the blocks in which some wanted position stands
 abbrev pub ListedAre : Type 0
 ListedAre =
     (w : Wanted) → IsStrictlyIncreasing (listed w)
     × ((k : ℕ) → Contains (listed w) k
-    ↔ ((x : ℕ) × (x < length w.statuses) × (is_wanted w x ≡ true) × (block_of w.shape x ≡ k)))
+    ↔ ((x : ℕ) × (x < length w.statuses) × (has_wanted_type w x ≡ true) × (block_of w.shape x ≡ k)))
 
 -- Who takes the first listed number from the least one on, and goes on from the number behind it until there is none,
 -- has taken the listed numbers.

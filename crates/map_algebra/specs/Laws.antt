@@ -2,7 +2,7 @@
 use Rattle.std.specs.Prelude.{◌≡◌, ◌↔◌, ℕ, ◌+◌, ◌<◌, Bool, true, false, ◌&&◌, ◌||◌, List, sum_by}
 use Rattle.block_list.specs.declared.status.Status.{Status}
 use Rattle.block_list.specs.Map.{Has}
-use Rattle.block_list.specs.Places.{IsRunUp}
+use Rattle.block_list.specs.Places.{IsRangeUp}
 use Rattle.rescue_domain.specs.Domain.{IsIn}
 use Rattle.rescue_domain.specs.Finished.{is_finished_at}
 use Rattle.map_algebra.specs.declared.combine.Op.{Op}
@@ -18,12 +18,12 @@ use Rattle.map_algebra.specs.Summary.{summary_of}
 abbrev pub MapHasEach : Type 0
 MapHasEach = (status : ℕ → Status) (end x : ℕ) → x < end → Has (map_by status end) (status x) x
 
--- an area begins where a run of the set begins, and each run begins one
-abbrev pub AreasAreRuns : Type 0
-AreasAreRuns =
+-- an area begins where a range of the set begins, and each range begins one
+abbrev pub AreasAreRanges : Type 0
+AreasAreRanges =
     (set : ℕ → Bool) (bound x : ℕ) → ((y : ℕ) → IsIn set y → y < bound)
     → (begins_area set x ≡ true)
-    ↔ ((end : ℕ) × IsRunUp (IsIn set) x end × ((y : ℕ) → y + 1 ≡ x → IsIn set y → ⊥))
+    ↔ ((end : ℕ) × IsRangeUp (IsIn set) x end × ((y : ℕ) → y + 1 ≡ x → IsIn set y → ⊥))
 
 -- each position of a domain is counted in one line of its summary
 abbrev pub LinesAddUp : Type 0
@@ -43,8 +43,8 @@ OrFinishesEither =
     → is_finished_at (combined_map Or domain first second) x ≡ (is_finished_at first x || is_finished_at second x)
 
 -- and no operation changes a position outside of it
-abbrev pub OthersStand : Type 0
-OthersStand =
+abbrev pub OtherPositionsStand : Type 0
+OtherPositionsStand =
     (op : Op) (domain : ℕ → Bool) (first second : List Status) (x : ℕ) → domain x ≡ false
     → status_at (combined_map op domain first second) x ≡ status_at first x
 

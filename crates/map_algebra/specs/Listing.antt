@@ -20,13 +20,13 @@ abbrev pub is_typed : TypeSet → (domain : ℕ → Bool) → List Status → �
 is_typed types domain statuses x = domain x && has_type types (status_at statuses x)
 
 -- a position is wanted
-abbrev pub is_wanted : Wanted → ℕ → Bool
-is_wanted w x = is_typed w.types w.domain w.statuses x
+abbrev pub has_wanted_type : Wanted → ℕ → Bool
+has_wanted_type w x = is_typed w.types w.domain w.statuses x
 
 -- a number is listed where some position of the map is wanted and stands in its block
 abbrev pub is_listed : Wanted → ℕ → Bool
 is_listed w k =
-    list_any (λ x. is_wanted w x && nat_eq (block_of w.shape x) k) (range_with_len 0 (length w.statuses))
+    list_any (λ x. has_wanted_type w x && nat_eq (block_of w.shape x) k) (range_with_len 0 (length w.statuses))
 
 -- the same as a fact
 abbrev pub IsListed : Wanted → ℕ → Type 0

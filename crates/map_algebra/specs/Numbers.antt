@@ -2,7 +2,7 @@
 use Rattle.std.specs.Prelude.{ℕ, ◌+◌, ◌*◌, ◌^◌, ◌<◌, List, [], ◌∷◌, nat_lt, length, Option, Some, None, Result, Ok, Err, option_and_then, if◌then◌else◌}
 use Rattle.std.specs.Result.{result_ok}
 use Rattle.size_suffixes.specs.Number.{number}
-use Rattle.mapfile_text.specs.Lines.{Line, filled}
+use Rattle.mapfile_text.specs.Lines.{Line, filled_lines}
 use Rattle.map_algebra.specs.declared.shape.Shape.{Shape}
 use Rattle.map_algebra.specs.declared.numbers.NumberError.{NumberError}
 use Rattle.map_algebra.specs.declared.numbers.NumberError.TheVariants.{BadNumber}
@@ -39,7 +39,7 @@ numbers_of s (l ∷ ls) = in_front_of l.number (number_in s l.fields) (numbers_o
 -- the numbers of a text, one a line, in their order, or the first line that isn't blank and has none; a comment is no
 -- number
 abbrev pub numbers_in : Shape → (text : List ℕ) → Result (List ℕ) ℕ
-numbers_in s text = numbers_of s (filled text)
+numbers_in s text = numbers_of s (filled_lines text)
 
 -- how many numbers there are, or the fault of the line that has none
 abbrev pub checked : Result (List ℕ) ℕ → Result ℕ NumberError

@@ -4,17 +4,17 @@ ghost use Rattle.map_algebra.specs.Blocks.{IsEndOfBlocks, IsShape, begin_of, end
 ghost use Rattle.map_algebra.specs.Numbers.{IsInRange};
 
 use crate::shape::Shape;
-use block_list::block::Run;
+use block_list::block::Range;
 
 /// The positions of a block: none where all its places lie in front of that of the first position.
-pub(crate) fn positions_of(number: u64, shape: Shape) -> Run
+pub(crate) fn positions_of(number: u64, shape: Shape) -> Range
     requires shape { IsShape shape }
     requires limit { IsInRange shape number }
     ensures from { result.from ≡ begin_of shape number }
     ensures to { result.to ≡ end_of shape number }
 {
     let place = number * shape.size;
-    Run {
+    Range {
         from: shape.ipos + place.saturating_sub(shape.opos),
         to: shape.ipos + (place + shape.size).saturating_sub(shape.opos),
     }

@@ -5,7 +5,7 @@ ghost use Rattle.block_list.specs.Types.{is_types};
 ghost use Rattle.rescue_domain.specs.Parts.{covers};
 ghost use Rattle.map_algebra.specs.Change.{change_of, change_by, becomes, new_type, changed_by, changed_map, inverting};
 
-use crate::pieces::{Nearby, Piece, piece_at, put};
+use crate::pieces::{DomainPiece, Nearby, piece_at, put};
 use block_list::plain_tiles::PlainTiles;
 use block_list::status::Status;
 use block_list::tiles::{NoMemory, Tiles};
@@ -115,7 +115,7 @@ fn new_type(new: &[u8], place: usize) -> Option<Status>
 }
 
 /// What becomes of the status of a piece.
-fn changed(change: &TypeChange, piece: Piece) -> Status
+fn changed(change: &TypeChange, piece: DomainPiece) -> Status
     ensures { result ≡ if piece.inside then changed_by change.now piece.status else piece.status }
 {
     if piece.inside {

@@ -1,7 +1,7 @@
 //! What is asked of maps in a domain: whether one is finished, and whether two agree.
 ghost use Rattle.std.specs.Prelude.{◌≡◌, true, false};
 ghost use Rattle.rescue_domain.specs.Parts.{covers};
-ghost use Rattle.map_algebra.specs.At.{IsWithin};
+ghost use Rattle.map_algebra.specs.At.{IsWithinMap};
 ghost use Rattle.map_algebra.specs.Compare.{IsDoneIn, IsOpenIn, AgreeIn, DifferIn, FinishAlikeIn, FinishUnlikeIn};
 
 use crate::pieces::{Nearby, PairNearby, is_finished, pair_at, piece_at};
@@ -10,7 +10,7 @@ use rescue_domain::domain::Domain;
 
 /// Whether each position of a domain is finished.
 pub fn is_done<T: Tiles>(tiles: &T, domain: &Domain) -> bool
-    requires { IsWithin (covers domain.now) (T.statuses tiles.now) }
+    requires { IsWithinMap (covers domain.now) (T.statuses tiles.now) }
     ensures done { result ≡ true → IsDoneIn (covers domain.now) (T.statuses tiles.now) }
     ensures open { result ≡ false → IsOpenIn (covers domain.now) (T.statuses tiles.now) }
 {

@@ -8,7 +8,7 @@ ghost use Rattle.map_algebra.specs.Create.{at_mark, created_map, mark_of};
 ghost use Rattle.map_algebra.specs.Numbers.{IsInRange};
 
 use crate::blocks::positions_of;
-use crate::pieces::{Nearby, Piece, piece_at, put};
+use crate::pieces::{DomainPiece, Nearby, piece_at, put};
 use crate::shape::Shape;
 use block_list::plain_tiles::PlainTiles;
 use block_list::status::Status;
@@ -50,7 +50,7 @@ fn marks(alloc: Global, ascending: &[u64], shape: Shape, end: u64) -> Result<Pla
 }
 
 /// What a created map has where a piece of the marks stands.
-fn created_at(piece: &Piece, listed: Status, rest: Status) -> Status
+fn created_at(piece: &DomainPiece, listed: Status, rest: Status) -> Status
     ensures { result ≡ at_mark piece.now.status piece.now.inside listed rest }
 {
     if !piece.inside {

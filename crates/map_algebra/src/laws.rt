@@ -1,5 +1,5 @@
 //! What the definitions mean.
-ghost use Rattle.map_algebra.specs.Laws.{MapHasEach, AndFinishesBoth, OrFinishesEither, OthersStand, XorUndoesItself, AreasAreRuns, LinesAddUp};
+ghost use Rattle.map_algebra.specs.Laws.{MapHasEach, AndFinishesBoth, OrFinishesEither, OtherPositionsStand, XorUndoesItself, AreasAreRanges, LinesAddUp};
 
 /// A map by statuses has each of them.
 pub fn a_map_has_each_status()
@@ -10,13 +10,13 @@ pub fn a_map_has_each_status()
 pub fn combined_maps_finish_alike()
     ensures both { AndFinishesBoth }
     ensures either { OrFinishesEither }
-    ensures stand { OthersStand }
+    ensures stand { OtherPositionsStand }
     ensures undone { XorUndoesItself }
 {}
 
-/// An area begins where a run does.
-pub fn areas_are_runs()
-    ensures { AreasAreRuns }
+/// An area begins where a range does.
+pub fn areas_are_ranges()
+    ensures { AreasAreRanges }
 {}
 
 /// The lines of a summary add up to the domain.

@@ -5,11 +5,11 @@ ghost use Rattle.rescue_domain.specs.Domain.{IsIn};
 ghost use Rattle.rescue_domain.specs.Parts.{covers};
 ghost use Rattle.block_list.specs.Types.{has_type};
 ghost use Rattle.rescue_domain.specs.Places.{AreAllPlaced, place_from};
-ghost use Rattle.map_algebra.specs.At.{IsWithin};
+ghost use Rattle.map_algebra.specs.At.{IsWithinMap};
 ghost use Rattle.map_algebra.specs.Blocks.{block_of};
 ghost use Rattle.map_algebra.specs.Listing.{IsListed, is_typed, wanted_of};
 
-use crate::pieces::{Nearby, Piece, piece_at};
+use crate::pieces::{DomainPiece, Nearby, piece_at};
 use crate::shape::Shape;
 use block_list::tiles::Tiles;
 use block_list::types::TypeSet;
@@ -59,7 +59,7 @@ impl Listing {
     /// The least number that is listed and didn't come yet. Over all calls on one map and one domain it takes time
     /// linear in these and in the numbers that come, and for each number a search in both.
     pub fn next<T: Tiles>(&mut self, tiles: &T, domain: &Domain) -> Option<u64>
-        requires within { IsWithin (covers domain.now) (T.statuses tiles.now) }
+        requires within { IsWithinMap (covers domain.now) (T.statuses tiles.now) }
         requires from { (x : ℕ) → covers domain.now x ≡ true → self.old.shape.ipos ≤ x }
         requires placed { AreAllPlaced (covers domain.now) self.old.shape.ipos self.old.shape.opos }
         ensures least { IfSome result (λ k. IsFirst
@@ -91,7 +91,7 @@ fn first_of(number: u64, shape: Shape) -> u64
 }
 
 /// Whether the positions of a piece are in the domain and have one of some types.
-fn is_typed(piece: &Piece, types: TypeSet) -> bool
+fn is_typed(piece: &DomainPiece, types: TypeSet) -> bool
     ensures { result ≡ (piece.now.inside && has_type types piece.now.status) }
 {
     piece.inside && types.has(piece.status)

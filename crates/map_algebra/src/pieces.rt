@@ -21,7 +21,7 @@ pub(crate) struct Stretch {
 
 /// Positions up to `to` of one status, all of them in a domain, or none.
 #[derive(Clone, Copy)]
-pub(crate) struct Piece {
+pub(crate) struct DomainPiece {
     pub to: u64,
     pub status: Status,
     pub inside: bool,
@@ -97,7 +97,7 @@ pub(crate) fn piece_at<T: Tiles>(
     near: &mut Nearby,
     x: u64,
     limit: u64,
-) -> Piece
+) -> DomainPiece
     requires { x < limit }
     ensures status { IsConstant (status_at (T.statuses tiles.now)) x result.to result.status }
     ensures inside { IsConstant (covers domain.now) x result.to result.inside }
@@ -105,7 +105,7 @@ pub(crate) fn piece_at<T: Tiles>(
 {
     let stretch = status_from(tiles, &mut near.map, x, limit);
     let part = domain.stretch_at(&mut near.part, x, stretch.to);
-    Piece {
+    DomainPiece {
         to: part.to,
         status: stretch.status,
         inside: part.inside,

@@ -3,11 +3,11 @@ ghost use Rattle.std.specs.Prelude.{◌≡◌, ◌+◌, ◌-◌, ◌<◌, ◌^�
 ghost use Rattle.std.specs.List.{list_any};
 ghost use Rattle.block_list.specs.Status.{same};
 ghost use Rattle.rescue_domain.specs.Parts.{covers};
-ghost use Rattle.map_algebra.specs.At.{IsWithin};
+ghost use Rattle.map_algebra.specs.At.{IsWithinMap};
 ghost use Rattle.block_list.specs.Areas.{count_of};
 ghost use Rattle.map_algebra.specs.Summary.{summary_of, count_from, has_one, has_status};
 
-use crate::pieces::{Nearby, Piece, piece_at};
+use crate::pieces::{DomainPiece, Nearby, piece_at};
 use block_list::areas::Count;
 use block_list::status::Status;
 use block_list::tiles::Tiles;
@@ -23,7 +23,7 @@ pub struct Summary {
 impl Summary {
     /// How much of a domain has each status in a map.
     pub fn of<T: Tiles>(tiles: &T, domain: &Domain) -> Summary
-        requires { IsWithin (covers domain.now) (T.statuses tiles.now) }
+        requires { IsWithinMap (covers domain.now) (T.statuses tiles.now) }
         ensures { result ≡ summary_of (covers domain.now) (T.statuses tiles.now) }
     {
         Summary {
@@ -75,7 +75,7 @@ pub fn count_statuses<T: Tiles>(
 }
 
 /// Whether the positions of a piece are in the domain and have one of some statuses.
-fn has_one(piece: Piece, statuses: &[Status]) -> bool
+fn has_one(piece: DomainPiece, statuses: &[Status]) -> bool
     ensures { result ≡ (piece.inside && list_any (λ s. same piece.status s) statuses.now) }
 {
     piece.inside && is_one(piece.status, statuses)

@@ -5,7 +5,7 @@ use Rattle.std.proofs.lemmas.Bool.{cases_lt, le-ltb, ne_eqb}
 use Rattle.std.proofs.lemmas.List.{take_all, drop_all}
 use Rattle.std.proofs.lemmas.List.Sums.{fails_before_first, length-filter, count_by-le-length}
 use Rattle.std.proofs.lemmas.List.Splits.{slice_split_none, slice_split_first, length-slice_split}
-use Rattle.mapfile_text.specs.Lines.{Line, lines, fields, is_newline, numbered, is_comment, filled, said}
+use Rattle.mapfile_text.specs.Lines.{Line, lines, fields, is_newline, numbered_lines, is_comment, filled_lines, said_lines}
 use Rattle.mapfile_text.specs.Cursor.{first_line, behind_line, filled_from, no_comments}
 
 -- a place that passes, or none
@@ -34,11 +34,11 @@ filled-first : (text : List ℕ) (n : ℕ) → filled_from n text ≡ in_front n
 filled-first text n =
     let end = position_or_len is_newline text in
     elim (cases_lt end (length text)) [
-      | inl there ↦ ap (λ ls. filter (λ l. not (eqb (length l.fields) 0)) (numbered n ls)) (slice_split_first is_newline text 0 there)
+      | inl there ↦ ap (λ ls. filter (λ l. not (eqb (length l.fields) 0)) (numbered_lines n ls)) (slice_split_first is_newline text 0 there)
       | inr none ↦
           let fails : All (λ b. is_newline b ≡ false) text = λ i d m. fails_before_first is_newline text i d (omega arith) in
           let nothing : [] ≡ behind_line text = sym (drop_all (end + 1) text (omega arith)) in
-          ap (λ ls. filter (λ l. not (eqb (length l.fields) 0)) (numbered n ls)) (slice_split_none is_newline text fails)
+          ap (λ ls. filter (λ l. not (eqb (length l.fields) 0)) (numbered_lines n ls)) (slice_split_none is_newline text fails)
           ∙ ap (λ l. in_front n (fields l) []) (sym (take_all end text none))
           ∙ ap (λ ys. in_front n (fields (first_line text)) (filled_from (n + 1) ys)) nothing
     ]
@@ -64,20 +64,20 @@ pub says-none : (n : ℕ) (fs : List (List ℕ)) (ls : List Line) → is_comment
     → no_comments (record { number = n; fields = fs } ∷ ls) ≡ no_comments ls
 says-none n fs ls e = ap (λ b. cond (not b) (record { number = n; fields = fs } ∷ no_comments ls) (no_comments ls)) e
 
-pub length-numbered : (n : ℕ) (ls : List (List ℕ)) → length (numbered n ls) ≡ length ls
+pub length-numbered : (n : ℕ) (ls : List (List ℕ)) → length (numbered_lines n ls) ≡ length ls
 length-numbered n [] = refl
 length-numbered n (l ∷ ls) = ap suc (length-numbered (n + 1) ls)
 
 -- a text has at most as many lines that say something as newlines, and one
-pub few_said : (text : List ℕ) → length (said text) ≤ length text + 1
+pub few_said : (text : List ℕ) → length (said_lines text) ≤ length text + 1
 few_said text =
     let newline : ℕ → Bool = λ b. eqb b 10 in
     omega (
       arith,
-      length-filter (λ (l : Line). not (is_comment l.fields)) (filled text),
-      count_by-le-length (λ (l : Line). not (is_comment l.fields)) (filled text),
-      length-filter (λ (l : Line). not (eqb (length l.fields) 0)) (numbered 1 (lines text)),
-      count_by-le-length (λ (l : Line). not (eqb (length l.fields) 0)) (numbered 1 (lines text)),
+      length-filter (λ (l : Line). not (is_comment l.fields)) (filled_lines text),
+      count_by-le-length (λ (l : Line). not (is_comment l.fields)) (filled_lines text),
+      length-filter (λ (l : Line). not (eqb (length l.fields) 0)) (numbered_lines 1 (lines text)),
+      count_by-le-length (λ (l : Line). not (eqb (length l.fields) 0)) (numbered_lines 1 (lines text)),
       length-numbered 1 (lines text),
       length-slice_split newline text,
       count_by-le-length newline text,

@@ -9,7 +9,7 @@ use Rattle.mapfile_text.specs.declared.read.Mode.{Mode}
 use Rattle.mapfile_text.specs.declared.read.Mode.TheVariants.{Tight, Loose}
 use Rattle.mapfile_text.specs.declared.read.MapError.{MapError}
 use Rattle.mapfile_text.specs.declared.read.MapError.TheVariants.{NoStatusLine, BadStatusLine, BadBlockLine, Gap, Overlap, TooLarge}
-use Rattle.mapfile_text.specs.Lines.{Line, said}
+use Rattle.mapfile_text.specs.Lines.{Line, said_lines}
 use Rattle.mapfile_text.specs.Fields.{state_of, block_of}
 use Rattle.mapfile_text.specs.MapText.{IsStateLine, IsBlockLine, IsGap, Continues, Lists, AreMapLines, StateFault, BlockFault, PlaceFault, ContinuesFault, ListsFault, MapLinesFault}
 use Rattle.mapfile_text.specs.Laws.{IsMapOrHasFault}
@@ -104,7 +104,7 @@ lines_or_fault mode (l ∷ ls) =
 
 pub is_map_or_has_fault : IsMapOrHasFault
 is_map_or_has_fault text mode =
-    elim (lines_or_fault mode (said text)) [
+    elim (lines_or_fault mode (said_lines text)) [
       | inl map ↦ inl (map.0, map.1, map.2, map.3, record { reads = map.4 })
       | inr f ↦ inr (f.0, record { breaks = f.1 })
     ]

@@ -7,7 +7,7 @@ use Rattle.mapfile_text.specs.declared.read.Mode.{Mode}
 use Rattle.mapfile_text.specs.declared.read.Mode.TheVariants.{Tight, Loose}
 use Rattle.mapfile_text.specs.declared.read.MapError.{MapError}
 use Rattle.mapfile_text.specs.declared.read.MapError.TheVariants.{NoMemory}
-use Rattle.mapfile_text.specs.Lines.{Line, said}
+use Rattle.mapfile_text.specs.Lines.{Line, said_lines}
 use Rattle.mapfile_text.specs.MapText.{IsStateLine, IsBlockLine, IsGap, Continues, Lists, AreMapLines, StateFault, BlockFault, PlaceFault, ContinuesFault, ListsFault, MapLinesFault}
 use Rattle.mapfile_text.specs.Laws.{MapHasNoFault, HasOneFault}
 use Rattle.mapfile_text.proofs.OneReading.{block_is_one}
@@ -77,7 +77,7 @@ lines_fine mode (l ∷ ls) state first listed s e p f =
     ]
 
 pub map_has_no_fault : MapHasNoFault
-map_has_no_fault text mode state first listed s e p f = lines_fine mode (said text) state first listed s e p.reads f.breaks
+map_has_no_fault text mode state first listed s e p f = lines_fine mode (said_lines text) state first listed s e p.reads f.breaks
 
 state_fault_once : (l : Line) (e e' : MapError) → StateFault l e → StateFault l e' → e ≡ e'
 state_fault_once l e e' f g =
@@ -155,7 +155,7 @@ lines_fault_once mode (l ∷ ls) e e' f g =
     ]
 
 pub has_one_fault : HasOneFault
-has_one_fault text mode e e' f g = lines_fault_once mode (said text) e e' f.breaks g.breaks
+has_one_fault text mode e e' f g = lines_fault_once mode (said_lines text) e e' f.breaks g.breaks
 
 block_has_memory : (l : Line) (e : MapError) → BlockFault l e → e ≡ NoMemory → ⊥
 block_has_memory l e f m = elim f [ inl x ↦ let k = x.0 in cc | inr x ↦ let k = x.0 in cc ]

@@ -5,7 +5,7 @@ use Rattle.block_list.specs.declared.block.Block.{Block}
 use Rattle.mapfile_text.specs.declared.state.MapState.{MapState}
 use Rattle.mapfile_text.specs.declared.read.Mode.{Mode}
 use Rattle.mapfile_text.specs.declared.read.Mode.TheVariants.{Tight, Loose}
-use Rattle.mapfile_text.specs.Lines.{Line, said}
+use Rattle.mapfile_text.specs.Lines.{Line, said_lines}
 use Rattle.mapfile_text.specs.MapText.{IsStateLine, IsBlockLine, IsGap, Continues, Lists, AreMapLines}
 use Rattle.mapfile_text.specs.Laws.{SameReading, HasOneReading, ShapeIsOfReading}
 
@@ -49,7 +49,7 @@ lines_once mode (l ∷ ls) state state' first first' listed listed' s t p q =
 
 pub has_one_reading : HasOneReading
 has_one_reading text mode state state' first first' listed listed' s t p q =
-    lines_once mode (said text) state state' first first' listed listed' s t p.reads q.reads
+    lines_once mode (said_lines text) state state' first first' listed listed' s t p.reads q.reads
 
 pub shape_is_of_reading : ShapeIsOfReading
 shape_is_of_reading text mode shape state first listed statuses is reads =

@@ -9,11 +9,11 @@ use Rattle.block_list.specs.Stretches.{stretches, stretches_from}
 use Rattle.mapfile_text.specs.declared.heading.Program.{Program}
 use Rattle.mapfile_text.specs.declared.heading.Program.TheVariants.{Ddrescue, Ddrescuelog}
 use Rattle.mapfile_text.specs.declared.state.MapState.{MapState}
-use Rattle.mapfile_text.specs.declared.place.Part.{Part}
-use Rattle.mapfile_text.specs.declared.place.Part.TheVariants.{Program as ProgramLine, Label, Words, Newline, Start, Now, StateColumns, State, Columns, Block as BlockLine}
-use Rattle.mapfile_text.specs.declared.place.Place.{Place}
+use Rattle.mapfile_text.specs.declared.text_position.TextPart.{TextPart}
+use Rattle.mapfile_text.specs.declared.text_position.TextPart.TheVariants.{Program as ProgramLine, Label, Words, Newline, Start, Now, StateColumns, State, Columns, Block as BlockLine}
+use Rattle.mapfile_text.specs.declared.text_position.TextPosition.{TextPosition}
 use Rattle.mapfile_text.specs.HeadingLines.{HeadingLines}
-use Rattle.mapfile_text.specs.Printed.{printed, block_line, time_lines, program_line, command_line, heading_text, state_line, state_text, ended, shown_byte}
+use Rattle.mapfile_text.specs.Printed.{printed, block_line, time_lines, program_line, command_heading, heading_text, state_line, state_text, with_newline, shown_byte}
 use Rattle.mapfile_text.specs.LeftOf.{start_line, now_line, heading_parts, number_of, position_of, map_lines, parts_from, left_of, IsAppended}
 use Rattle.mapfile_text.proofs.DigitLemmas.{below_or_not}
 use Rattle.mapfile_text.proofs.TakenOff.{took_none, took_whole, took_some}
@@ -39,18 +39,18 @@ module _ (h : HeadingLines) (s : MapState) (statuses : List Status) where
   begin_is_printed =
       assembled (program_line h.program) (codes "# Command line: ") (map shown_byte h.line) (10 ∷ [])
       (start_line h.program h.start_s) (now_line h.program h.now_s)
-      (ended (codes "# current_pos  current_status  current_pass")) (state_line s)
-      (ended (codes "#      pos        size  status")) (concat (map block_line (stretches statuses)))
-      ∙ ap (λ t. program_line h.program ++ command_line h.line ++ t ++ state_text s
-      ++ ended (codes "#      pos        size  status") ++ concat (map block_line (stretches statuses)))
+      (with_newline (codes "# current_pos  current_status  current_pass")) (state_line s)
+      (with_newline (codes "#      pos        size  status")) (concat (map block_line (stretches statuses)))
+      ∙ ap (λ t. program_line h.program ++ command_heading h.line ++ t ++ state_text s
+      ++ with_newline (codes "#      pos        size  status") ++ concat (map block_line (stretches statuses)))
       (time_lines_are h.program h.start_s h.now_s)
-      ∙ ap (λ t. heading_text h ++ state_text s ++ ended (codes "#      pos        size  status") ++ t) (concat_lines (stretches statuses))
+      ∙ ap (λ t. heading_text h ++ state_text s ++ with_newline (codes "#      pos        size  status") ++ t) (concat_lines (stretches statuses))
 
-  left_is : (place : Place) → left_of place h s statuses ≡ drop place.went (concat (parts_from place.part h s statuses))
+  left_is : (place : TextPosition) → left_of place h s statuses ≡ drop place.went (concat (parts_from place.part h s statuses))
   unfolding left_of
   left_is place = refl
 
-  pub left_past : (place : Place) → ((number_of place.part < 9) ⊎ (position_of place.part < length statuses) → ⊥)
+  pub left_past : (place : TextPosition) → ((number_of place.part < 9) ⊎ (position_of place.part < length statuses) → ⊥)
       → left_of place h s statuses ≡ []
   unfolding parts_from left_of
   left_past place past =
@@ -62,7 +62,7 @@ module _ (h : HeadingLines) (s : MapState) (statuses : List Status) where
       rw (front, lines) (drop_all place.went [] (omega arith))
 
   -- what a part gave and what is left behind it are what was left
-  pub left_behind : (place behind : Place) (next : Part) (t : List ℕ) (len room : ℕ)
+  pub left_behind : (place behind : TextPosition) (next : TextPart) (t : List ℕ) (len room : ℕ)
       → parts_from place.part h s statuses ≡ t ∷ parts_from next h s statuses
       → len ≡ length t
       → (len ≤ place.went → behind ≡ record { part = next; went = place.went - len })
@@ -70,7 +70,7 @@ module _ (h : HeadingLines) (s : MapState) (statuses : List Status) where
       → (place.went + room < len → behind ≡ record { part = place.part; went = place.went + room })
       → take room (drop place.went t) ++ left_of behind h s statuses ≡ left_of place h s statuses
   left_behind place behind next t len room first e past whole cut =
-      let L : Place → List ℕ = λ p. left_of p h s statuses in
+      let L : TextPosition → List ℕ = λ p. left_of p h s statuses in
       let rest : List ℕ = concat (parts_from next h s statuses) in
       let was : L place ≡ drop place.went (t ++ rest) = left_is place ∙ ap (λ ps. drop place.went (concat ps)) first in
       ⊎_elim
@@ -89,7 +89,7 @@ module _ (h : HeadingLines) (s : MapState) (statuses : List Status) where
       (below_or_not place.went len)
 
 -- either there is one part less, or the room is full
-moves_on : (count : Part → ℕ) (place behind : Place) (next : Part) (len room : ℕ) (t before after : List ℕ)
+moves_on : (count : TextPart → ℕ) (place behind : TextPosition) (next : TextPart) (len room : ℕ) (t before after : List ℕ)
     → count place.part ≡ count next + 1 → len ≡ length t → room + length before ≡ 4096
     → after ≡ before ++ take room (drop place.went t)
     → (len ≤ place.went → behind ≡ record { part = next; went = place.went - len })
@@ -98,7 +98,7 @@ moves_on : (count : Part → ℕ) (place behind : Place) (next : Part) (len room
     → (length after ≤ 4096)
     × (0 < room → count behind.part + (4096 - length after) < count place.part + (4096 - length before))
 moves_on count place behind next len room t before after fewer e room_is is past whole cut =
-    let C : Place → ℕ = λ p. count p.part in
+    let C : TextPosition → ℕ = λ p. count p.part in
     let l : length after ≡ length before + length (take room (drop place.went t)) = ap length is ∙ length-append before (take room (drop place.went t)) in
     let m = length-take room (drop place.went t) in
     let k = length-drop place.went t in
@@ -111,14 +111,14 @@ moves_on count place behind next len room t before after fewer e room_is is past
     (below_or_not place.went len)
 
 -- a turn of the loop that fills a piece: what it appended and what is then left are what was left before
-pub record GoesOn (h : HeadingLines) (s : MapState) (statuses : List Status) (place behind : Place) (before after : List ℕ) (room : ℕ) : Type 0 where
+pub record GoesOn (h : HeadingLines) (s : MapState) (statuses : List Status) (place behind : TextPosition) (before after : List ℕ) (room : ℕ) : Type 0 where
   pub fits : length after ≤ 4096
   pub same : after ++ left_of behind h s statuses ≡ before ++ left_of place h s statuses
   pub less : (room ≡ 0 → ⊥)
       → length (parts_from behind.part h s statuses) + (4096 - length after)
       < length (parts_from place.part h s statuses) + (4096 - length before)
 
-pub goes_on : (h : HeadingLines) (s : MapState) (statuses : List Status) (place behind : Place) (before after : List ℕ) (next : Part) (len room : ℕ)
+pub goes_on : (h : HeadingLines) (s : MapState) (statuses : List Status) (place behind : TextPosition) (before after : List ℕ) (next : TextPart) (len room : ℕ)
     → room + length before ≡ 4096
     → IsAppended before after place.went len (parts_from place.part h s statuses) (parts_from next h s statuses)
     → (len ≤ place.went → behind ≡ record { part = next; went = place.went - len })
@@ -142,7 +142,7 @@ goes_on h s statuses place behind before after next len room room_is a past whol
 pub not_there : {A : Type 0} → (b : Bool) → b ≡ false → (A → IsTrue b) → A → ⊥
 not_there b e h a = false≢true (sym e ∙ h a)
 
-pub heading_number : (p : Part) → ((i : ℕ) → p ≡ BlockLine i → ⊥) → number_of p < 9
+pub heading_number : (p : TextPart) → ((i : ℕ) → p ≡ BlockLine i → ⊥) → number_of p < 9
 heading_number ProgramLine h = omega arith
 heading_number Label h = omega arith
 heading_number Words h = omega arith
@@ -154,7 +154,7 @@ heading_number State h = omega arith
 heading_number Columns h = omega arith
 heading_number (BlockLine i) h = absurd (h i refl)
 
-heading_position : (p : Part) → number_of p < 9 → position_of p ≡ 0
+heading_position : (p : TextPart) → number_of p < 9 → position_of p ≡ 0
 heading_position ProgramLine l = refl
 heading_position Label l = refl
 heading_position Words l = refl
@@ -167,7 +167,7 @@ heading_position Columns l = refl
 heading_position (BlockLine pos) l = absurd (omega arith)
 
 -- behind a part of the heading are the parts from the next one on
-pub heading_goes_on : (h : HeadingLines) (s : MapState) (statuses : List Status) (part next : Part) (line : List ℕ)
+pub heading_goes_on : (h : HeadingLines) (s : MapState) (statuses : List Status) (part next : TextPart) (line : List ℕ)
     → number_of part < 9
     → drop (number_of part) (heading_parts h s) ≡ line ∷ drop (number_of part + 1) (heading_parts h s)
     → number_of next ≡ number_of part + 1 → position_of next ≡ 0

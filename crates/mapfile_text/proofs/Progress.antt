@@ -14,7 +14,7 @@ use Rattle.mapfile_text.specs.Lines.{Line}
 use Rattle.mapfile_text.specs.MapText.{IsBlockLine, IsGap, Continues, Lists, BlockFault, PlaceFault, ContinuesFault, ListsFault}
 use Rattle.mapfile_text.specs.declared.state.MapState.{MapState}
 use Rattle.mapfile_text.specs.declared.check.MapShape.{MapShape}
-use Rattle.mapfile_text.specs.Reading.{gap_of, filling}
+use Rattle.mapfile_text.specs.Reading.{gap_of, padding}
 use Rattle.mapfile_text.specs.Checking.{ListsShape}
 
 -- the lines that are left make these of a map that lists these statuses so far
@@ -76,7 +76,7 @@ goes-on : {mode : Mode} {all : List Line} {l : Line} {ls : List Line} (listed : 
     → Goes mode all listed first statuses (l ∷ ls) → IsBlockLine l block
     → (listed ≡ true → IsGap mode (length statuses) block.pos (gap_of mode (length statuses) block.pos))
     → first' ≡ cond listed first block.pos
-    → statuses' ≡ statuses ++ (filling mode listed (length statuses) block.pos ++ covered block)
+    → statuses' ≡ statuses ++ (padding mode listed (length statuses) block.pos ++ covered block)
     → Goes mode all true first' statuses' ls
 goes-on {mode = mode} {l = l} {ls = ls} false first first' statuses statuses' block g b gap f s =
     let none : statuses ≡ [] = (g.blank refl).1 in
@@ -120,7 +120,7 @@ pub goes-next : {mode : Mode} {all : List Line} {l : Line} {ls : List Line} (lis
     → listed' ≡ true → Goes mode all listed first statuses (l ∷ ls) → IsBlockLine l block
     → (listed ≡ true → IsGap mode (length statuses) block.pos (gap_of mode (length statuses) block.pos))
     → first' ≡ cond listed first block.pos
-    → statuses' ≡ statuses ++ (filling mode listed (length statuses) block.pos ++ covered block)
+    → statuses' ≡ statuses ++ (padding mode listed (length statuses) block.pos ++ covered block)
     → Goes mode all listed' first' statuses' ls
 goes-next {mode = mode} {all = all} {ls = ls} listed listed' first first' statuses statuses' block t g b gap f s =
     subst (λ (y : Bool). Goes mode all y first' statuses' ls) (sym t) (goes-on listed first first' statuses statuses' block g b gap f s)
@@ -151,7 +151,7 @@ comes-bad_place {mode = mode} {shape = shape} {l = l} {block = block} e c t b p 
 
 end_behind : (mode : Mode) (listed : Bool) (statuses : List Status) (block : Block) → (listed ≡ false → statuses ≡ [])
     → (listed ≡ true → IsGap mode (length statuses) block.pos (gap_of mode (length statuses) block.pos))
-    → length (statuses ++ (filling mode listed (length statuses) block.pos ++ covered block)) ≡ block.pos + block.size
+    → length (statuses ++ (padding mode listed (length statuses) block.pos ++ covered block)) ≡ block.pos + block.size
 end_behind mode false statuses block none gap =
     ap (λ ss. length (ss ++ (replicate block.pos NonTried ++ covered block))) (none refl)
     ∙ omega (
@@ -168,7 +168,7 @@ pub comes-next : {mode : Mode} {all : List Line} {l : Line} {ls : List Line} (sh
     → (shape.listed ≡ true → IsGap mode shape.end block.pos (gap_of mode shape.end block.pos))
     → Comes mode all shape' ls
 comes-next {mode = mode} {all = all} {ls = ls} shape shape' block e c b gap =
-    let more : List Status = c.statuses ++ (filling mode shape.listed (length c.statuses) block.pos ++ covered block) in
+    let more : List Status = c.statuses ++ (padding mode shape.listed (length c.statuses) block.pos ++ covered block) in
     let gap' = λ (t : shape.listed ≡ true). subst (λ (n : ℕ). IsGap mode n block.pos (gap_of mode n block.pos)) c.end (gap t) in
     subst (λ (s : MapShape). Comes mode all s ls) (sym e) (record {
       statuses = more;

@@ -4,8 +4,8 @@ use Rattle.std.specs.List.{filter, slice_split}
 use Rattle.std.proofs.lemmas.Bool.{ne_eqb}
 use Rattle.std.proofs.lemmas.List.Elements.{All-nil, All-cons}
 use Rattle.std.proofs.lemmas.List.Splits.{slice_split_at, slice_split_none}
-use Rattle.mapfile_text.specs.Lines.{Line, lines, is_blank, fields, is_comment, numbered, said}
-use Rattle.mapfile_text.specs.Printed.{ended}
+use Rattle.mapfile_text.specs.Lines.{Line, lines, is_blank, fields, is_comment, numbered_lines, said_lines}
+use Rattle.mapfile_text.specs.Printed.{with_newline}
 use Rattle.mapfile_text.proofs.PrintedBytes.{AllFrom, no_newlines, no_blanks}
 
 -- a line says nothing that has no field, or that is a comment
@@ -15,7 +15,7 @@ says_nothing (f ∷ fs) = is_comment (f ∷ fs)
 
 -- the lines of a text that say something, where its first line has a number
 abbrev pub said_from : ℕ → List ℕ → List Line
-said_from n text = filter (λ l. not (says_nothing l.fields)) (numbered n (lines text))
+said_from n text = filter (λ l. not (says_nothing l.fields)) (numbered_lines n (lines text))
 
 said-cons : (n : ℕ) (fs : List (List ℕ)) (rest all : List Line) → filter (λ l. not (is_comment l.fields)) rest ≡ all
     → filter (λ l. not (is_comment l.fields)) (cond (not (nat_eq (length fs) 0)) (record { number = n; fields = fs } ∷ rest) rest)
@@ -33,24 +33,24 @@ said-filled (l ∷ ls) =
     said-cons l.number l.fields (filter (λ x. not (nat_eq (length x.fields) 0)) ls) (filter (λ x. not (says_nothing x.fields)) ls) (said-filled ls)
 
 -- what a text says, by the lines that don't say nothing
-pub said_is : (text : List ℕ) → said text ≡ said_from 1 text
-said_is text = said-filled (numbered 1 (lines text))
+pub said_is : (text : List ℕ) → said_lines text ≡ said_from 1 text
+said_is text = said-filled (numbered_lines 1 (lines text))
 
-lines_ended : (x rest : List ℕ) → AllFrom 11 x → lines (ended x ++ rest) ≡ x ∷ lines rest
+lines_ended : (x rest : List ℕ) → AllFrom 11 x → lines (with_newline x ++ rest) ≡ x ∷ lines rest
 lines_ended x rest h = ap lines (append_assoc x (10 ∷ []) rest) ∙ slice_split_at (λ b. nat_eq b 10) x 10 rest (no_newlines x h) refl
 
 -- a line that says nothing is passed over
-pub comment_line : (n : ℕ) (x rest : List ℕ) → AllFrom 11 x → says_nothing (fields x) ≡ true → said_from n (ended x ++ rest) ≡ said_from (n + 1) rest
+pub comment_line : (n : ℕ) (x rest : List ℕ) → AllFrom 11 x → says_nothing (fields x) ≡ true → said_from n (with_newline x ++ rest) ≡ said_from (n + 1) rest
 comment_line n x rest h e =
     let first : List Line = record { number = n; fields = fields x } ∷ said_from (n + 1) rest in
-    ap (λ ls. filter (λ l. not (says_nothing l.fields)) (numbered n ls)) (lines_ended x rest h) ∙ ap (λ v. cond (not v) first (said_from (n + 1) rest)) e
+    ap (λ ls. filter (λ l. not (says_nothing l.fields)) (numbered_lines n ls)) (lines_ended x rest h) ∙ ap (λ v. cond (not v) first (said_from (n + 1) rest)) e
 
 -- a line that says something is the first that does
 pub said_line : (n : ℕ) (x rest : List ℕ) (fs : List (List ℕ)) → AllFrom 11 x → fields x ≡ fs → says_nothing fs ≡ false
-    → said_from n (ended x ++ rest) ≡ record { number = n; fields = fs } ∷ said_from (n + 1) rest
+    → said_from n (with_newline x ++ rest) ≡ record { number = n; fields = fs } ∷ said_from (n + 1) rest
 said_line n x rest fs h e f =
     let with : List (List ℕ) → Bool → List Line = λ fs v. cond (not v) (record { number = n; fields = fs } ∷ said_from (n + 1) rest) (said_from (n + 1) rest) in
-    ap (λ ls. filter (λ l. not (says_nothing l.fields)) (numbered n ls)) (lines_ended x rest h) ∙ ap (λ fs. with fs (says_nothing fs)) e ∙ ap (with fs) f
+    ap (λ ls. filter (λ l. not (says_nothing l.fields)) (numbered_lines n ls)) (lines_ended x rest h) ∙ ap (λ fs. with fs (says_nothing fs)) e ∙ ap (with fs) f
 
 -- a text of which no line says anything
 pub record IsComment (text : List ℕ) : Type 0 where
@@ -59,7 +59,7 @@ pub record IsComment (text : List ℕ) : Type 0 where
 pub no_comment : IsComment []
 no_comment = record { passed = λ n rest. (n, refl) }
 
-pub comment : (x : List ℕ) → AllFrom 11 x → says_nothing (fields x) ≡ true → IsComment (ended x)
+pub comment : (x : List ℕ) → AllFrom 11 x → says_nothing (fields x) ≡ true → IsComment (with_newline x)
 comment x h e = record { passed = λ n rest. (n + 1, comment_line n x rest h e) }
 
 pub comments_join : (a b : List ℕ) → IsComment a → IsComment b → IsComment (a ++ b)

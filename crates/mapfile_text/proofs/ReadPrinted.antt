@@ -22,7 +22,7 @@ use Rattle.mapfile_text.specs.HeadingLines.{HeadingLines}
 use Rattle.mapfile_text.specs.Lines.{Line}
 use Rattle.mapfile_text.specs.Fields.{state_by, block_by}
 use Rattle.mapfile_text.specs.MapText.{IsStateLine, IsBlockLine, IsGap, Continues, Lists, AreMapLines}
-use Rattle.mapfile_text.specs.Printed.{printed, ended, hexadecimal, shown_byte, program_line, command_line, time_lines, heading_text, current_symbol, state_line, block_line}
+use Rattle.mapfile_text.specs.Printed.{printed, with_newline, hexadecimal, shown_byte, program_line, command_heading, time_lines, heading_text, current_symbol, state_line, block_line}
 use Rattle.mapfile_text.specs.Laws.{PrintedIsRead}
 use Rattle.mapfile_text.proofs.PrintedBytes.{AllFrom, from_test, from_lower, decimal_from, hexadecimal_from, shown_line_from}
 use Rattle.mapfile_text.proofs.ReadNumbers.{hexadecimal_is_read, pass_is_read, current_is_read, symbol_from, current_symbol_from}
@@ -47,7 +47,7 @@ program_is_comment Ddrescuelog =
     comment (codes "# Mapfile. Created by " ++ codes "ddrescuelog")
     (from_test 11 (codes "# Mapfile. Created by " ++ codes "ddrescuelog") refl) refl
 
-command_is_comment : (line : List ℕ) → IsComment (command_line line)
+command_is_comment : (line : List ℕ) → IsComment (command_heading line)
 command_is_comment line =
     let name : List ℕ = codes "# Command line: " in
     comment (name ++ map shown_byte line) (joined_from name (map shown_byte line) (from_test 11 name refl) (shown_line_from line)) refl
@@ -57,23 +57,23 @@ times_are_comments Ddrescuelog start now h k = no_comment
 times_are_comments Ddrescue start now h k =
     let s : List ℕ = codes "# Start time:   " in
     let c : List ℕ = codes "# Current time: " in
-    comments_join (ended (s ++ decimal start)) (ended (c ++ decimal now))
+    comments_join (with_newline (s ++ decimal start)) (with_newline (c ++ decimal now))
     (comment (s ++ decimal start) (joined_from s (decimal start) (from_test 11 s refl)
     (from_lower 11 33 (decimal start) (omega arith) (decimal_from start h))) refl)
     (comment (c ++ decimal now) (joined_from c (decimal now) (from_test 11 c refl) (from_lower 11 33 (decimal now) (omega arith) (decimal_from now k))) refl)
 
 heading_is_comment : (h : HeadingLines) → h.start_s < 2 ^ 64 → h.now_s < 2 ^ 64 → IsComment (heading_text h)
 heading_is_comment h p q =
-    comments_join (program_line h.program ++ command_line h.line) (time_lines h.program h.start_s h.now_s)
-    (comments_join (program_line h.program) (command_line h.line) (program_is_comment h.program) (command_is_comment h.line))
+    comments_join (program_line h.program ++ command_heading h.line) (time_lines h.program h.start_s h.now_s)
+    (comments_join (program_line h.program) (command_heading h.line) (program_is_comment h.program) (command_is_comment h.line))
     (times_are_comments h.program h.start_s h.now_s p q)
 
-state_columns_are_comment : IsComment (ended (codes "# current_pos  current_status  current_pass"))
+state_columns_are_comment : IsComment (with_newline (codes "# current_pos  current_status  current_pass"))
 state_columns_are_comment =
     comment (codes "# current_pos  current_status  current_pass")
     (from_test 11 (codes "# current_pos  current_status  current_pass") refl) refl
 
-block_columns_are_comment : IsComment (ended (codes "#      pos        size  status"))
+block_columns_are_comment : IsComment (with_newline (codes "#      pos        size  status"))
 block_columns_are_comment = comment (codes "#      pos        size  status") (from_test 11 (codes "#      pos        size  status") refl) refl
 
 -- the fields of the status line
@@ -212,8 +212,8 @@ text_is_read mode a b c d state listed statuses p q r hp some hq lists =
 pub printed_is_read : PrintedIsRead
 printed_is_read heading state statuses mode start now pos some pass short = record {
   reads = subst (λ ls. AreMapLines mode ls state 0 (not (nat_eq (length statuses) 0)) statuses) (sym (said_is (printed heading state statuses)))
-      (text_is_read mode (heading_text heading) (ended (codes "# current_pos  current_status  current_pass"))
-      (ended (codes "#      pos        size  status"))
+      (text_is_read mode (heading_text heading) (with_newline (codes "# current_pos  current_status  current_pass"))
+      (with_newline (codes "#      pos        size  status"))
       (flat_map block_line (stretches statuses)) state (not (nat_eq (length statuses) 0)) statuses
       (heading_is_comment heading start now) state_columns_are_comment block_columns_are_comment pos some pass (λ n. statuses_are_read mode statuses n short));
 }

@@ -5,7 +5,7 @@ use Rattle.mapfile_text.specs.declared.read.Mode.{Mode}
 use Rattle.mapfile_text.specs.declared.read.MapError.{MapError}
 use Rattle.mapfile_text.specs.declared.read.MapError.TheVariants.{TooLong}
 use Rattle.mapfile_text.specs.declared.check.MapShape.{MapShape}
-use Rattle.mapfile_text.specs.Lines.{Line, said}
+use Rattle.mapfile_text.specs.Lines.{Line, said_lines}
 use Rattle.mapfile_text.specs.MapText.{text_limit, Lists, IsMapText, MapFault}
 
 -- a text is a map of this shape: its state, first position and whether a block is listed are those of the reading, its
@@ -14,7 +14,7 @@ pub record IsMapShape (text : List ℕ) (mode : Mode) (shape : MapShape) : Type 
   pub statuses : List Status
   pub reads : IsMapText text mode shape.state shape.first shape.listed statuses
   pub end : shape.end ≡ length statuses
-  pub lines : shape.lines + 1 ≡ length (said text)
+  pub lines : shape.lines + 1 ≡ length (said_lines text)
 
 -- block lines list statuses of this shape
 pub record ListsShape (mode : Mode) (ls : List Line) (shape : MapShape) : Type 0 where

@@ -1,7 +1,7 @@
 -- A text that is taken line by line, and a line field by field.
 use Rattle.std.specs.Prelude.{ℕ, not, List, ◌∷◌, length, filter, nat_eq}
 use Rattle.std.specs.List.{before_first, after_first}
-use Rattle.mapfile_text.specs.Lines.{Line, lines, numbered, is_newline, is_comment}
+use Rattle.mapfile_text.specs.Lines.{Line, lines, numbered_lines, is_newline, is_comment}
 
 -- the first line of a text
 abbrev pub first_line : List ℕ → List ℕ
@@ -13,7 +13,7 @@ behind_line text = after_first is_newline text
 
 -- the lines that aren't blank, in a text whose first line has this number
 abbrev pub filled_from : ℕ → List ℕ → List Line
-filled_from n text = filter (λ l. not (nat_eq (length l.fields) 0)) (numbered n (lines text))
+filled_from n text = filter (λ l. not (nat_eq (length l.fields) 0)) (numbered_lines n (lines text))
 
 -- the lines among some that are no comments
 abbrev pub no_comments : List Line → List Line

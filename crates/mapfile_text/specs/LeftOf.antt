@@ -6,20 +6,20 @@ use Rattle.block_list.specs.Stretches.{stretches_behind}
 use Rattle.mapfile_text.specs.declared.heading.Program.{Program}
 use Rattle.mapfile_text.specs.declared.heading.Program.TheVariants.{Ddrescue, Ddrescuelog}
 use Rattle.mapfile_text.specs.declared.state.MapState.{MapState}
-use Rattle.mapfile_text.specs.declared.place.Part.{Part}
-use Rattle.mapfile_text.specs.declared.place.Part.TheVariants.{Program as ProgramLine, Label, Words, Newline, Start, Now, StateColumns, State, Columns, Block}
-use Rattle.mapfile_text.specs.declared.place.Place.{Place}
+use Rattle.mapfile_text.specs.declared.text_position.TextPart.{TextPart}
+use Rattle.mapfile_text.specs.declared.text_position.TextPart.TheVariants.{Program as ProgramLine, Label, Words, Newline, Start, Now, StateColumns, State, Columns, Block}
+use Rattle.mapfile_text.specs.declared.text_position.TextPosition.{TextPosition}
 use Rattle.mapfile_text.specs.HeadingLines.{HeadingLines}
-use Rattle.mapfile_text.specs.Printed.{ended, shown_byte, program_line, state_line, block_line}
+use Rattle.mapfile_text.specs.Printed.{with_newline, shown_byte, program_line, state_line, block_line}
 
 -- the line on when the run began, which ddrescue alone prints
 abbrev pub start_line : Program → ℕ → List ℕ
-start_line Ddrescue start_s = ended (codes "# Start time:   " ++ decimal start_s)
+start_line Ddrescue start_s = with_newline (codes "# Start time:   " ++ decimal start_s)
 start_line Ddrescuelog start_s = []
 
 -- the line on when the mapfile is saved, which ddrescue alone prints
 abbrev pub now_line : Program → ℕ → List ℕ
-now_line Ddrescue now_s = ended (codes "# Current time: " ++ decimal now_s)
+now_line Ddrescue now_s = with_newline (codes "# Current time: " ++ decimal now_s)
 now_line Ddrescuelog now_s = []
 
 -- the parts of the text in front of the blocks: a line each, but for the one on the command line, which may have any
@@ -29,11 +29,11 @@ heading_parts h s =
     program_line h.program
     ∷ codes "# Command line: " ∷ map shown_byte h.line ∷ (10 ∷ [])
     ∷ start_line h.program h.start_s ∷ now_line h.program h.now_s
-    ∷ ended (codes "# current_pos  current_status  current_pass") ∷ state_line s
-    ∷ ended (codes "#      pos        size  status") ∷ []
+    ∷ with_newline (codes "# current_pos  current_status  current_pass") ∷ state_line s
+    ∷ with_newline (codes "#      pos        size  status") ∷ []
 
 -- how many of them stand in front of a part: all nine where it is a line of the map
-abbrev pub number_of : Part → ℕ
+abbrev pub number_of : TextPart → ℕ
 number_of ProgramLine = 0
 number_of Label = 1
 number_of Words = 2
@@ -46,7 +46,7 @@ number_of Columns = 8
 number_of (Block pos) = 9
 
 -- the position from which the map's lines go on behind the heading's parts that are left
-abbrev pub position_of : Part → ℕ
+abbrev pub position_of : TextPart → ℕ
 position_of (Block pos) = pos
 position_of part = 0
 
@@ -55,11 +55,11 @@ abbrev pub map_lines : ℕ → List Status → List (List ℕ)
 map_lines pos statuses = map block_line (stretches_behind pos statuses)
 
 -- the parts of a mapfile's text from one on, in order: what is left of the heading's, and of the map's lines
-unfoldable pub parts_from : Part → HeadingLines → MapState → List Status → List (List ℕ)
+unfoldable pub parts_from : TextPart → HeadingLines → MapState → List Status → List (List ℕ)
 parts_from part h s statuses = drop (number_of part) (heading_parts h s) ++ map_lines (position_of part) statuses
 
 -- what is left of a mapfile's text at a place: the parts from one on, less the bytes that went
-unfoldable pub left_of : Place → HeadingLines → MapState → List Status → List ℕ
+unfoldable pub left_of : TextPosition → HeadingLines → MapState → List Status → List ℕ
 left_of place h s statuses = drop place.went (concat (parts_from place.part h s statuses))
 
 -- the first of `parts` was appended to `old`, as far as a piece had room for it, less the bytes of it that went; `len`

@@ -29,14 +29,14 @@ pub record Line : Type 0 where
   pub number : ℕ
   pub fields : List (List ℕ)
 
-abbrev pub numbered : ℕ → List (List ℕ) → List Line
-numbered n [] = []
-numbered n (l ∷ ls) = record { number = n; fields = fields l } ∷ numbered (n + 1) ls
+abbrev pub numbered_lines : ℕ → List (List ℕ) → List Line
+numbered_lines n [] = []
+numbered_lines n (l ∷ ls) = record { number = n; fields = fields l } ∷ numbered_lines (n + 1) ls
 
 -- the lines of a text that aren't blank, in order: those with a field; a comment is one
-abbrev pub filled : List ℕ → List Line
-filled text = filter (λ l. not (nat_eq (length l.fields) 0)) (numbered 1 (lines text))
+abbrev pub filled_lines : List ℕ → List Line
+filled_lines text = filter (λ l. not (nat_eq (length l.fields) 0)) (numbered_lines 1 (lines text))
 
 -- the lines of a text that say something, in order: the filled ones that are no comments
-abbrev pub said : List ℕ → List Line
-said text = filter (λ l. not (is_comment l.fields)) (filled text)
+abbrev pub said_lines : List ℕ → List Line
+said_lines text = filter (λ l. not (is_comment l.fields)) (filled_lines text)

@@ -8,7 +8,7 @@ use Rattle.mapfile_text.specs.declared.read.Mode.{Mode}
 use Rattle.mapfile_text.specs.declared.read.Mode.TheVariants.{Tight, Loose}
 use Rattle.mapfile_text.specs.declared.read.MapError.{MapError}
 use Rattle.mapfile_text.specs.declared.read.MapError.TheVariants.{NoStatusLine, BadStatusLine, BadBlockLine, Gap, Overlap, TooLarge}
-use Rattle.mapfile_text.specs.Lines.{Line, said}
+use Rattle.mapfile_text.specs.Lines.{Line, said_lines}
 use Rattle.mapfile_text.specs.Fields.{state_of, block_of}
 
 -- the most bytes that the text of a mapfile may have: 2^28
@@ -55,11 +55,11 @@ AreMapLines mode (l ∷ ls) state first listed statuses = IsStateLine l state ×
 -- block, and `listed` whether there is one.
 pub record IsMapText (text : List ℕ) (mode : Mode) (state : MapState) (first : ℕ) (listed : Bool)
     (statuses : List Status) : Type 0 where
-  pub reads : AreMapLines mode (said text) state first listed statuses
+  pub reads : AreMapLines mode (said_lines text) state first listed statuses
 
 -- no line of a text says anything
 abbrev pub Blank : List ℕ → Type 0
-Blank text = said text ≡ []
+Blank text = said_lines text ≡ []
 
 -- why a status line is none
 abbrev pub StateFault : Line → MapError → Type 0
@@ -102,4 +102,4 @@ MapLinesFault mode (l ∷ ls) e = StateFault l e ⊎ ((state : MapState) × IsSt
 
 -- why a text is no map: no line says anything, or the first line that breaks a rule
 pub record MapFault (text : List ℕ) (mode : Mode) (e : MapError) : Type 0 where
-  pub breaks : MapLinesFault mode (said text) e
+  pub breaks : MapLinesFault mode (said_lines text) e

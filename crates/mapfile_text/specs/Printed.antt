@@ -13,8 +13,8 @@ use Rattle.mapfile_text.specs.declared.state.MapState.{MapState}
 use Rattle.mapfile_text.specs.HeadingLines.{HeadingLines}
 
 -- a line ends with a newline
-abbrev pub ended : List ℕ → List ℕ
-ended text = text ++ 10 ∷ []
+abbrev pub with_newline : List ℕ → List ℕ
+with_newline text = text ++ 10 ∷ []
 
 -- digits with zeros in front of them, so that they are at least eight
 abbrev pub at_least_eight : List ℕ → List ℕ
@@ -35,19 +35,19 @@ program_name Ddrescuelog = codes "ddrescuelog"
 -- the lines on the times, which ddrescue alone prints
 abbrev pub time_lines : Program → ℕ → ℕ → List ℕ
 time_lines Ddrescue start_s now_s =
-    ended (codes "# Start time:   " ++ decimal start_s) ++ ended (codes "# Current time: " ++ decimal now_s)
+    with_newline (codes "# Start time:   " ++ decimal start_s) ++ with_newline (codes "# Current time: " ++ decimal now_s)
 time_lines Ddrescuelog start_s now_s = []
 
 -- the line on the program that printed the mapfile
 abbrev pub program_line : Program → List ℕ
-program_line program = ended (codes "# Mapfile. Created by " ++ program_name program)
+program_line program = with_newline (codes "# Mapfile. Created by " ++ program_name program)
 
 -- the line on its command line
-abbrev pub command_line : List ℕ → List ℕ
-command_line line = ended (codes "# Command line: " ++ map shown_byte line)
+abbrev pub command_heading : List ℕ → List ℕ
+command_heading line = with_newline (codes "# Command line: " ++ map shown_byte line)
 
 abbrev pub heading_text : HeadingLines → List ℕ
-heading_text h = program_line h.program ++ command_line h.line ++ time_lines h.program h.start_s h.now_s
+heading_text h = program_line h.program ++ command_heading h.line ++ time_lines h.program h.start_s h.now_s
 
 -- the character that a mapfile has for what a program was doing
 abbrev pub current_symbol : Current → ℕ
@@ -62,18 +62,18 @@ current_symbol Finished = 43
 -- the position, five spaces, the current status, fifteen spaces, the pass
 abbrev pub state_line : MapState → List ℕ
 state_line s =
-    ended (hexadecimal s.pos ++ replicate 5 32 ++ current_symbol s.current ∷ [] ++ replicate 15 32 ++ decimal s.pass)
+    with_newline (hexadecimal s.pos ++ replicate 5 32 ++ current_symbol s.current ∷ [] ++ replicate 15 32 ++ decimal s.pass)
 
 -- the state's line, below one with the names of its columns
 abbrev pub state_text : MapState → List ℕ
-state_text s = ended (codes "# current_pos  current_status  current_pass") ++ state_line s
+state_text s = with_newline (codes "# current_pos  current_status  current_pass") ++ state_line s
 
 -- one line of a stretch: position, size and status, two spaces apart
 abbrev pub block_line : Block → List ℕ
-block_line b = ended (hexadecimal b.pos ++ codes "  " ++ hexadecimal b.size ++ codes "  " ++ symbol b.status ∷ [])
+block_line b = with_newline (hexadecimal b.pos ++ codes "  " ++ hexadecimal b.size ++ codes "  " ++ symbol b.status ∷ [])
 
 -- the text of a mapfile: the heading, the state, and a line for each maximal stretch of equal statuses
 abbrev pub printed : HeadingLines → MapState → List Status → List ℕ
 printed h s statuses =
-    heading_text h ++ state_text s ++ ended (codes "#      pos        size  status")
+    heading_text h ++ state_text s ++ with_newline (codes "#      pos        size  status")
     ++ flat_map block_line (stretches statuses)

@@ -27,6 +27,6 @@ gap_of (Loose status) end pos = replicate (pos - end) status
 
 -- what is put in front of a block: non-tried positions in front of the first one, and in front of another what stands
 -- between
-abbrev pub filling : Mode → (listed : Bool) → (end pos : ℕ) → List Status
-filling mode true end pos = gap_of mode end pos
-filling mode false end pos = replicate pos NonTried
+abbrev pub padding : Mode → (listed : Bool) → (end pos : ℕ) → List Status
+padding mode true end pos = gap_of mode end pos
+padding mode false end pos = replicate pos NonTried

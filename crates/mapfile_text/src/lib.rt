@@ -10,7 +10,7 @@ pub mod laws;
 pub mod lines;
 mod made_lines;
 mod numerals;
-mod place;
 pub mod printer;
 pub mod read;
 pub mod state;
+mod text_position;

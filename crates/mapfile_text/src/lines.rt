@@ -1,6 +1,6 @@
 //! The lines of a text, one after another: those that aren't blank, and those of them that are no comments.
 ghost use Rattle.std.specs.Prelude.{◌≡◌, ℕ, ◌+◌, ◌<◌, ◌≤◌, ◌^◌, ◌∷◌, [], length, MatchOption};
-ghost use Rattle.mapfile_text.specs.Lines.{filled, said, is_comment};
+ghost use Rattle.mapfile_text.specs.Lines.{filled_lines, said_lines, is_comment};
 ghost use Rattle.mapfile_text.specs.Cursor.{behind_line, filled_from, line_of, no_comments};
 
 use crate::fields::first_field;
@@ -99,8 +99,8 @@ impl<'a> FilledLines<'a> {
     /// The lines of a text.
     pub fn new(text: &'a [u8]) -> FilledLines<'a>
         requires { length text.now < 2 ^ 63 }
-        ensures filled { result ≡ filled text.now }
-        ensures said { no_comments result ≡ said text.now }
+        ensures filled { result ≡ filled_lines text.now }
+        ensures said { no_comments result ≡ said_lines text.now }
         ensures few { length (no_comments result) ≤ length text.now + 1 }
     {
         FilledLines {

@@ -2,7 +2,7 @@
 ghost use Rattle.std.specs.Prelude.{◌≡◌, ℕ, ◌+◌, ◌≤◌, ◌^◌, ◌<◌, ◌++◌, [], codes, length};
 ghost use Rattle.std.specs.Fmt.{decimal};
 ghost use Rattle.arrayvec.specs.ArrayVec.{array_vec_len};
-ghost use Rattle.mapfile_text.specs.Printed.{ended, program_line, hexadecimal, state_line, block_line};
+ghost use Rattle.mapfile_text.specs.Printed.{with_newline, program_line, hexadecimal, state_line, block_line};
 ghost use Rattle.mapfile_text.specs.LeftOf.{start_line, now_line};
 
 use crate::digits::{short_hexadecimal, write_digits};

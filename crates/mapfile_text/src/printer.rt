@@ -3,7 +3,7 @@ ghost use Rattle.std.specs.Prelude.{◌≡◌, ◌⊎◌, ◌+◌, ◌-◌, ◌<
 ghost use Rattle.block_list.specs.declared.status.Status.{Status};
 ghost use Rattle.arrayvec.specs.ArrayVec.{array_vec_len};
 ghost use Rattle.mapfile_text.specs.declared.state.MapState.{MapState};
-ghost use Rattle.mapfile_text.specs.declared.place.Part.TheVariants.{Words};
+ghost use Rattle.mapfile_text.specs.declared.text_position.TextPart.TheVariants.{Words};
 ghost use Rattle.mapfile_text.specs.HeadingLines.{HeadingLines};
 ghost use Rattle.mapfile_text.specs.Printed.{printed, shown_byte};
 ghost use Rattle.mapfile_text.specs.Pieces.{pieces_of};
@@ -13,8 +13,8 @@ use crate::heading::{Heading, shown};
 use crate::made_lines::{
     Line, append, append_block, append_now, append_program, append_start, append_state,
 };
-use crate::place::{Part, Place};
 use crate::state::MapState;
+use crate::text_position::{TextPart, TextPosition};
 use arrayvec::ArrayVec;
 use block_list::block::Block;
 use block_list::near::Near;
@@ -25,14 +25,14 @@ use std::marker::Model;
 /// the text or its length.
 #[derive(Drop)]
 pub struct MapPrinter {
-    place: Place,
+    place: TextPosition,
     near: Near,
 }
 
 impl Model for MapPrinter {
-    ghost use Rattle.mapfile_text.specs.declared.place.Place.{Place};
+    ghost use Rattle.mapfile_text.specs.declared.text_position.TextPosition.{TextPosition};
 
-    ghost Value = { Place };
+    ghost Value = { TextPosition };
 
     ghost view = { λ p. p.place };
 }
@@ -44,8 +44,8 @@ impl MapPrinter {
             → left_of result heading state statuses ≡ printed heading state statuses }
     {
         MapPrinter {
-            place: Place {
-                part: Part::Program,
+            place: TextPosition {
+                part: TextPart::Program,
                 went: 0,
             },
             near: Near::start(),
@@ -78,13 +78,13 @@ impl MapPrinter {
 
 /// Fills an empty piece from a place on, and returns the place behind it.
 fn fill<T: Tiles>(
-    begun: Place,
+    begun: TextPosition,
     state: MapState,
     heading: &Heading,
     tiles: &T,
     near: &mut Near,
     out: &mut ArrayVec<u8, 4096>,
-) -> Place
+) -> TextPosition
     requires { out.old.items ≡ [] }
     ensures piece { out.new.items ≡ take 4096 (left_of begun heading.now state (T.statuses tiles.now)) }
     ensures rest { left_of result heading.now state (T.statuses tiles.now)
@@ -104,11 +104,11 @@ fn fill<T: Tiles>(
 }
 
 /// Whether the text has a part, by the map's end.
-fn is_there(part: Part, end: u64) -> bool
+fn is_there(part: TextPart, end: u64) -> bool
     ensures { IsTrue result ↔ (number_of part < 9) ⊎ (position_of part < end) }
 {
     match part {
-        Part::Block(pos) => pos < end,
+        TextPart::Block(pos) => pos < end,
         _ => true,
     }
 }
@@ -117,12 +117,12 @@ fn is_there(part: Part, end: u64) -> bool
 /// part behind it.
 fn append_part<T: Tiles>(
     out: &mut ArrayVec<u8, 4096>,
-    place: Place,
+    place: TextPosition,
     state: MapState,
     heading: &Heading,
     tiles: &T,
     near: &mut Near,
-) -> (usize, Part)
+) -> (usize, TextPart)
     requires there { (number_of place.part < 9) ⊎ (position_of place.part < length (T.statuses tiles.now)) }
     requires short { length (T.statuses tiles.now) < 2 ^ 63 }
     ensures { IsAppended out.old.items out.new.items place.went result.0
@@ -130,15 +130,15 @@ fn append_part<T: Tiles>(
         (parts_from result.1 heading.now state (T.statuses tiles.now)) }
 {
     match place.part {
-        Part::Words => {
+        TextPart::Words => {
             append_words(out, heading.line(), place.went);
-            (heading.line().len(), Part::Newline)
+            (heading.line().len(), TextPart::Newline)
         }
-        Part::Block(pos) => {
+        TextPart::Block(pos) => {
             let mut line = Line::new();
             let end = append_rest(&mut line, pos, tiles, near);
             append_line(out, line.as_slice(), place.went);
-            (line.len(), Part::Block(end))
+            (line.len(), TextPart::Block(end))
         }
         _ => {
             let mut line = Line::new();
@@ -168,7 +168,7 @@ fn append_rest<T: Tiles>(line: &mut Line, pos: u64, tiles: &T, near: &mut Near) 
 }
 
 /// Appends a part of the heading that isn't the words of the command line.
-fn append_heading(line: &mut Line, part: Part, state: MapState, heading: &Heading)
+fn append_heading(line: &mut Line, part: TextPart, state: MapState, heading: &Heading)
     requires empty { line.old.items ≡ [] }
     requires there { number_of part < 9 }
     requires other { part ≡ Words → ⊥ }
@@ -176,15 +176,15 @@ fn append_heading(line: &mut Line, part: Part, state: MapState, heading: &Headin
         ≡ line.new.items ∷ drop (number_of part + 1) (heading_parts heading.now state) }
 {
     match part {
-        Part::Program => append_program(line, heading.program()),
-        Part::Label => append(line, b"# Command line: "),
-        Part::Newline => append(line, b"\n"),
-        Part::Start => append_start(line, heading),
-        Part::Now => append_now(line, heading),
-        Part::StateColumns => append(line, b"# current_pos  current_status  current_pass\n"),
-        Part::State => append_state(line, state),
-        Part::Columns => append(line, b"#      pos        size  status\n"),
-        Part::Words | Part::Block(_) => unreachable!(),
+        TextPart::Program => append_program(line, heading.program()),
+        TextPart::Label => append(line, b"# Command line: "),
+        TextPart::Newline => append(line, b"\n"),
+        TextPart::Start => append_start(line, heading),
+        TextPart::Now => append_now(line, heading),
+        TextPart::StateColumns => append(line, b"# current_pos  current_status  current_pass\n"),
+        TextPart::State => append_state(line, state),
+        TextPart::Columns => append(line, b"#      pos        size  status\n"),
+        TextPart::Words | TextPart::Block(_) => unreachable!(),
     }
 }
 

@@ -3,7 +3,7 @@ ghost use Rattle.block_list.specs.Stretches.{covered};
 ghost use Rattle.mapfile_text.specs.MapText.{IsGap, IsMapText, Lists, ListsFault, PlaceFault, text_limit};
 ghost use Rattle.mapfile_text.specs.Checking.{IsMap, IsRefused};
 ghost use Rattle.mapfile_text.specs.Cursor.{line_of, no_comments};
-ghost use Rattle.mapfile_text.specs.Reading.{filling, gap_of};
+ghost use Rattle.mapfile_text.specs.Reading.{padding, gap_of};
 ghost use Rattle.mapfile_text.specs.declared.read.MapError.TheVariants.{NoMemory as OutOfMemory};
 
 use crate::check::{check_map, check_place};
@@ -96,7 +96,7 @@ impl ReadMap {
         ensures first { OnOk result (self.new.first ≡ (if self.old.listed then self.old.first else block.pos)) }
         ensures statuses { OnOk result (self.new.tiles.statuses
             ≡ self.old.tiles.statuses
-            ++ (filling mode self.old.listed (length self.old.tiles.statuses) block.pos ++ covered block)) }
+            ++ (padding mode self.old.listed (length self.old.tiles.statuses) block.pos ++ covered block)) }
         ensures gap { OnOk result (IsTrue self.old.listed
             → IsGap mode (length self.old.tiles.statuses) block.pos
             (gap_of mode (length self.old.tiles.statuses) block.pos)) }

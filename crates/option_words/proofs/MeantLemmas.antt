@@ -9,13 +9,13 @@ use Rattle.option_words.specs.declared.choice.Chosen.{Chosen}
 use Rattle.option_words.specs.declared.form.Form.{Form}
 use Rattle.option_words.specs.declared.form.Form.TheVariants.{Plain, Stop, Name, Letters}
 use Rattle.option_words.specs.declared.reading.Item.{Item}
-use Rattle.option_words.specs.declared.reader.Next.{Next}
-use Rattle.option_words.specs.declared.reader.Next.TheVariants.{Anything, Value, Operand}
+use Rattle.option_words.specs.declared.reader.NextWord.{NextWord}
+use Rattle.option_words.specs.declared.reader.NextWord.TheVariants.{Anything, Value, Operand}
 use Rattle.option_words.specs.declared.fault.WordFault.{WordFault}
 use Rattle.option_words.specs.Forms.{form_of}
 use Rattle.option_words.specs.Rows.{meaning_of_row, is_letter, has_letter, has_name, begins_with, first_row, chosen_of, chosen_by_name}
 use Rattle.option_words.specs.Meanings.{letter_meaning, letters_meaning, equals_sign, name_before, value_after, choice_meaning, name_meaning, form_meaning, meaning}
-use Rattle.option_words.specs.Reading.{Bring, Breaks}
+use Rattle.option_words.specs.Reading.{Bring, HasFault}
 use Rattle.option_words.specs.Laws.{ReadingDependsOnMeanings, FaultDependsOnMeanings}
 
 abbrev Meant : Type 0
@@ -84,20 +84,20 @@ form_same Stop rows rows' e n word = refl
 form_same Name rows rows' e n word = name_same rows rows' e n (drop 2 word)
 form_same Letters rows rows' e n word = letters_same rows rows' e n 1 (chars (drop 1 word))
 
-meaning_same : (rows rows' : List Row) → map meaning_of_row rows ≡ map meaning_of_row rows' → (next : Next) (n : ℕ) (word : List ℕ)
+meaning_same : (rows rows' : List Row) → map meaning_of_row rows ≡ map meaning_of_row rows' → (next : NextWord) (n : ℕ) (word : List ℕ)
     → meaning rows next n word ≡ meaning rows' next n word
 meaning_same rows rows' e Anything n word = form_same (form_of word) rows rows' e n word
 meaning_same rows rows' e (Value wanted) n word = refl
 meaning_same rows rows' e Operand n word = refl
 
-bring_same : (rows rows' : List Row) → map meaning_of_row rows ≡ map meaning_of_row rows' → (next : Next) (n : ℕ)
+bring_same : (rows rows' : List Row) → map meaning_of_row rows ≡ map meaning_of_row rows' → (next : NextWord) (n : ℕ)
     (words : List (List ℕ)) (is : List Item) (os : List ℕ) → Bring rows next n words is os → Bring rows' next n words is os
 bring_same rows rows' e next n [] is os p = p
 bring_same rows rows' e next n (w ∷ ws) is os p =
     (p.0, p.1, p.2, sym (meaning_same rows rows' e next n w) ∙ p.3, p.4, p.5, bring_same rows rows' e p.0.next (n + 1) ws p.1 p.2 p.6)
 
-break_same : (rows rows' : List Row) → map meaning_of_row rows ≡ map meaning_of_row rows' → (next : Next) (n : ℕ)
-    (words : List (List ℕ)) (f : WordFault) → Breaks rows next n words f → Breaks rows' next n words f
+break_same : (rows rows' : List Row) → map meaning_of_row rows ≡ map meaning_of_row rows' → (next : NextWord) (n : ℕ)
+    (words : List (List ℕ)) (f : WordFault) → HasFault rows next n words f → HasFault rows' next n words f
 break_same rows rows' e next n [] f p = p
 break_same rows rows' e next n (w ∷ ws) f p = elim p [
   | inl q ↦ inl (sym (meaning_same rows rows' e next n w) ∙ q)

@@ -12,14 +12,14 @@ use Rattle.option_words.specs.declared.choice.Choice.TheVariants.{One, Unknown, 
 use Rattle.option_words.specs.declared.form.Form.{Form}
 use Rattle.option_words.specs.declared.form.Form.TheVariants.{Plain, Stop, Name, Letters}
 use Rattle.option_words.specs.declared.reading.Spot.{Spot}
-use Rattle.option_words.specs.declared.reader.Next.{Next}
-use Rattle.option_words.specs.declared.reader.Next.TheVariants.{Anything, Value, Operand}
+use Rattle.option_words.specs.declared.reader.NextWord.{NextWord}
+use Rattle.option_words.specs.declared.reader.NextWord.TheVariants.{Anything, Value, Operand}
 use Rattle.option_words.specs.declared.fault.WordFault.{WordFault}
 use Rattle.option_words.specs.declared.fault.WordFault.TheVariants.{UnknownShort, UnknownLong, Ambiguous, MissingValue, UnwantedValue, NoMemory}
 use Rattle.option_words.specs.Forms.{form_of}
 use Rattle.option_words.specs.Rows.{has_letter, first_row, chosen_by_name}
 use Rattle.option_words.specs.Meanings.{Brought, option_meaning, with_flag, value_behind, letter_by, letter_meaning, letters_meaning, equals_sign, name_before, value_after, choice_meaning, form_meaning, meaning}
-use Rattle.option_words.specs.Reading.{IsUnserved, Breaks}
+use Rattle.option_words.specs.Reading.{IsUnserved, HasFault}
 use Rattle.option_words.specs.Laws.{NoWordsLackMemory}
 
 abbrev Lacks : Result Brought WordFault → Type 0
@@ -66,17 +66,17 @@ form_never Name rows n word is =
     choice_never (chosen_by_name rows (name_before (equals_sign text) text)) n (value_after n (equals_sign text)) is
 form_never Letters rows n word is = letters_never rows n 1 (chars (drop 1 word)) is
 
-meaning_never : (rows : List Row) (next : Next) (n : ℕ) (word : List ℕ) → Lacks (meaning rows next n word) → ⊥
+meaning_never : (rows : List Row) (next : NextWord) (n : ℕ) (word : List ℕ) → Lacks (meaning rows next n word) → ⊥
 meaning_never rows Anything n word is = form_never (form_of word) rows n word is
 meaning_never rows (Value wanted) n word is = absurd (cc)
 meaning_never rows Operand n word is = absurd (cc)
 
-unserved_never : (next : Next) → IsUnserved next NoMemory → ⊥
+unserved_never : (next : NextWord) → IsUnserved next NoMemory → ⊥
 unserved_never Anything is = is
 unserved_never (Value wanted) is = absurd (let wrong : NoMemory ≡ MissingValue wanted.word = is in cc)
 unserved_never Operand is = is
 
-break_never : (rows : List Row) (next : Next) (n : ℕ) (words : List (List ℕ)) → Breaks rows next n words NoMemory → ⊥
+break_never : (rows : List Row) (next : NextWord) (n : ℕ) (words : List (List ℕ)) → HasFault rows next n words NoMemory → ⊥
 break_never rows next n [] is = unserved_never next is
 break_never rows next n (w ∷ ws) (inl is) = meaning_never rows next n w is
 break_never rows next n (w ∷ ws) (inr behind) = break_never rows behind.0.next (n + 1) ws behind.2

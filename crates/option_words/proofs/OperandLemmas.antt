@@ -13,8 +13,8 @@ use Rattle.option_words.specs.declared.form.Form.{Form}
 use Rattle.option_words.specs.declared.form.Form.TheVariants.{Plain, Stop, Name, Letters}
 use Rattle.option_words.specs.declared.reading.Item.{Item}
 use Rattle.option_words.specs.declared.reading.Spot.{Spot}
-use Rattle.option_words.specs.declared.reader.Next.{Next}
-use Rattle.option_words.specs.declared.reader.Next.TheVariants.{Anything, Value, Operand}
+use Rattle.option_words.specs.declared.reader.NextWord.{NextWord}
+use Rattle.option_words.specs.declared.reader.NextWord.TheVariants.{Anything, Value, Operand}
 use Rattle.option_words.specs.declared.fault.WordFault.{WordFault}
 use Rattle.option_words.specs.Forms.{form_of}
 use Rattle.option_words.specs.Rows.{has_letter, first_row, chosen_by_name}
@@ -75,7 +75,7 @@ form_brings Name rows n w b e = let text = drop 2 w in
     inl (choice_brings (chosen_by_name rows (name_before (equals_sign text) text)) n (value_after n (equals_sign text)) b e)
 form_brings Letters rows n w b e = inl (letters_bring rows n 1 (chars (drop 1 w)) b e)
 
-word_brings : (rows : List Row) (next : Next) (n : ℕ) (w : List ℕ) (b : Brought) → meaning rows next n w ≡ Ok b → Only n b.operands
+word_brings : (rows : List Row) (next : NextWord) (n : ℕ) (w : List ℕ) (b : Brought) → meaning rows next n w ≡ Ok b → Only n b.operands
 word_brings rows Anything n w b e = form_brings (form_of w) rows n w b e
 word_brings rows (Value wanted) n w b e =
     inl (sym (same_operands (one_item wanted.row wanted.word (Some (record { word = n; from = 0 }))) b e))
@@ -93,7 +93,7 @@ all_only n m operands lt only = elim only [
       (All-cons (Between n m) n [] (record { from = omega arith; below = lt }) (All-nil (Between n m)))
 ]
 
-words_bring : (rows : List Row) (next : Next) (n : ℕ) (words : List (List ℕ)) (is : List Item) (os : List ℕ)
+words_bring : (rows : List Row) (next : NextWord) (n : ℕ) (words : List (List ℕ)) (is : List Item) (os : List ℕ)
     → Bring rows next n words is os → All (Between n (n + length words)) os
 words_bring rows next n [] is os p = subst (All (Between n (n + 0))) (sym p.2) (All-nil (Between n (n + 0)))
 words_bring rows next n (w ∷ ws) is os p =

@@ -5,13 +5,13 @@ use Rattle.std.proofs.lemmas.List.Elements.{All-append, All-same}
 use Rattle.std.specs.Str.{IsUtf8}
 use Rattle.option_words.specs.declared.row.Row.{Row}
 use Rattle.option_words.specs.declared.reading.Item.{Item}
-use Rattle.option_words.specs.declared.reading.Reading.{Reading}
-use Rattle.option_words.specs.declared.reader.Next.{Next}
-use Rattle.option_words.specs.declared.reader.Next.TheVariants.{Anything}
+use Rattle.option_words.specs.declared.reading.WordReading.{WordReading}
+use Rattle.option_words.specs.declared.reader.NextWord.{NextWord}
+use Rattle.option_words.specs.declared.reader.NextWord.TheVariants.{Anything}
 use Rattle.option_words.specs.declared.reader.Reader.{Reader}
 use Rattle.option_words.specs.declared.fault.WordFault.{WordFault}
 use Rattle.option_words.specs.Meanings.{Brought, meaning}
-use Rattle.option_words.specs.Reading.{IsServed, Bring, Breaks, IsReading}
+use Rattle.option_words.specs.Reading.{IsServed, Bring, HasFault, IsReading}
 use Rattle.option_words.specs.Spots.{HasSpot}
 use Rattle.option_words.specs.Taken.{Took}
 use Rattle.option_words.specs.Words.{word}
@@ -23,13 +23,13 @@ use Rattle.option_words.proofs.SpotLemmas.{meaning_spots}
 pub record Read (rows : List Row) (words : List (List ℕ)) (i : ℕ) (reader : Reader) : Type 0 where
   pub brings : (items : List Item) (operands : List ℕ) → Bring rows reader.next (i + 1) (drop i words) items operands
       → Bring rows Anything 1 words (reader.items.items ++ items) (reader.operands.items ++ operands)
-  pub breaks : (fault : WordFault) → Breaks rows reader.next (i + 1) (drop i words) fault → Breaks rows Anything 1 words fault
+  pub breaks : (fault : WordFault) → HasFault rows reader.next (i + 1) (drop i words) fault → HasFault rows Anything 1 words fault
   pub spots : All (HasSpot words) reader.items.items
 
 regroup : {A : Type 0} (xs ys zs new : List A) → new ≡ xs ++ ys → xs ++ (ys ++ zs) ≡ new ++ zs
 regroup xs ys zs new e = sym (append_assoc xs ys zs) ∙ ap (λ v. v ++ zs) (sym e)
 
-bring_same : (rows : List Row) (next : Next) (n : ℕ) (words : List (List ℕ)) (is js : List Item) (os ps : List ℕ)
+bring_same : (rows : List Row) (next : NextWord) (n : ℕ) (words : List (List ℕ)) (is js : List Item) (os ps : List ℕ)
     → is ≡ js → os ≡ ps → Bring rows next n words is os → Bring rows next n words js ps
 bring_same rows next n words is js os ps e d h =
     let P : List Item → Type 0 = λ v. Bring rows next n words v os in
@@ -62,15 +62,15 @@ read_more rows words i old new w within is utf8 read went =
           bring_same rows Anything 1 words _ _ _ _ (regroup _ _ items _ took.items) (regroup _ _ operands _ took.operands)
           (read.brings (b.items ++ items) (b.operands ++ operands) (subst Here (sym here_is) here));
       breaks = λ fault h.
-          let behind : Breaks rows b.next (i + 1 + 1) (drop (i + 1) words) fault = rw took.next at h in
-          let Here : List (List ℕ) → Type 0 = λ ws. Breaks rows old.next (i + 1) ws fault in
+          let behind : HasFault rows b.next (i + 1 + 1) (drop (i + 1) words) fault = rw took.next at h in
+          let Here : List (List ℕ) → Type 0 = λ ws. HasFault rows old.next (i + 1) ws fault in
           read.breaks fault (subst Here (sym here_is) (inr (b, parts.1, behind)));
       spots = All-same (HasSpot words) _ _ took.items
           (All-append (HasSpot words) _ _ read.spots (meaning_spots rows words old.next (i + 1) w b (omega arith) (omega arith) is utf8 parts.1));
     }
 
 -- all words are read
-pub read_all : (result : Result Reading WordFault) (rows : List Row) (words : List (List ℕ)) (i : ℕ) (reader : Reader) → length words ≤ i
+pub read_all : (result : Result WordReading WordFault) (rows : List Row) (words : List (List ℕ)) (i : ℕ) (reader : Reader) → length words ≤ i
     → Read rows words i reader → OnOk result (IsServed reader.next) → IfOk result (λ r. r.items.items ≡ reader.items.items)
     → IfOk result (λ r. r.operands.items ≡ reader.operands.items) → IfOk result (λ r. IsReading rows words r.items.items r.operands.items)
 read_all (Ok r) rows words i reader past read served items_are operands_are =
@@ -82,7 +82,7 @@ read_all (Ok r) rows words i reader past read served items_are operands_are =
 read_all (Err e) rows words i reader past read served items_are operands_are = tt
 
 -- the values of all words stand in them
-pub read_spots : (result : Result Reading WordFault) (rows : List Row) (words : List (List ℕ)) (i : ℕ) (reader : Reader)
+pub read_spots : (result : Result WordReading WordFault) (rows : List Row) (words : List (List ℕ)) (i : ℕ) (reader : Reader)
     → Read rows words i reader → IfOk result (λ r. r.items.items ≡ reader.items.items) → IfOk result (λ r. All (HasSpot words) r.items.items)
 read_spots (Ok r) rows words i reader read items_are = All-same (HasSpot words) _ _ items_are read.spots
 read_spots (Err e) rows words i reader read items_are = tt

@@ -18,8 +18,8 @@ use Rattle.option_words.specs.declared.form.Form.{Form}
 use Rattle.option_words.specs.declared.form.Form.TheVariants.{Plain, Stop, Name, Letters}
 use Rattle.option_words.specs.declared.reading.Item.{Item}
 use Rattle.option_words.specs.declared.reading.Spot.{Spot}
-use Rattle.option_words.specs.declared.reader.Next.{Next}
-use Rattle.option_words.specs.declared.reader.Next.TheVariants.{Anything, Value, Operand}
+use Rattle.option_words.specs.declared.reader.NextWord.{NextWord}
+use Rattle.option_words.specs.declared.reader.NextWord.TheVariants.{Anything, Value, Operand}
 use Rattle.option_words.specs.declared.fault.WordFault.{WordFault}
 use Rattle.option_words.specs.Forms.{form_of}
 use Rattle.option_words.specs.Meanings.{Brought, option_meaning, with_flag, value_behind, letter_by, letter_meaning, letters_meaning, equals_sign, value_after, choice_meaning, form_meaning, meaning}
@@ -138,7 +138,7 @@ form_own Stop rows n w utf8 e = tt
 form_own Name rows n w utf8 e = choice_own _ n _ w (after_own n w (equals_sign (drop 2 w)) utf8 refl)
 form_own Letters rows n w utf8 e = group_own rows n w utf8 e
 
-meaning_own : (rows : List Row) (next : Next) (n : ℕ) (w : List ℕ) → IsUtf8 w → AreOwn n w (meaning rows next n w)
+meaning_own : (rows : List Row) (next : NextWord) (n : ℕ) (w : List ℕ) → IsUtf8 w → AreOwn n w (meaning rows next n w)
 meaning_own rows Anything n w utf8 = form_own (form_of w) rows n w utf8 refl
 meaning_own rows (Value wanted) n w utf8 = (record { word_is = refl; boundary = IsCharBoundary-start w utf8 }, tt)
 meaning_own rows Operand n w utf8 = tt
@@ -159,7 +159,7 @@ all_spots words n w (item ∷ items) low high is own =
     (spot_of_own words n w item low high is item.value own.0, all_spots words n w items low high is own.1)
 
 -- the values that a word brings stand in the words
-pub meaning_spots : (rows : List Row) (words : List (List ℕ)) (next : Next) (n : ℕ) (w : List ℕ) (b : Brought) → 1 ≤ n → n ≤ length words
+pub meaning_spots : (rows : List Row) (words : List (List ℕ)) (next : NextWord) (n : ℕ) (w : List ℕ) (b : Brought) → 1 ≤ n → n ≤ length words
     → w ≡ word words n → IsUtf8 w → meaning rows next n w ≡ Ok b → All (HasSpot words) b.items
 meaning_spots rows words next n w b low high is utf8 e =
     let Own : Result Brought WordFault → Type 0 = λ r. AreOwn n w r in

@@ -14,7 +14,7 @@ use Rattle.option_words.specs.declared.choice.Chosen.{Chosen}
 use Rattle.option_words.specs.declared.reading.Spot.{Spot}
 use Rattle.option_words.specs.declared.reading.Item.{Item}
 use Rattle.option_words.specs.declared.choice.Choice.{Choice}
-use Rattle.option_words.specs.declared.reader.Next.TheVariants.{Anything}
+use Rattle.option_words.specs.declared.reader.NextWord.TheVariants.{Anything}
 use Rattle.option_words.specs.declared.reader.Reader.{Reader}
 use Rattle.option_words.specs.declared.fault.WordFault.{WordFault}
 use Rattle.option_words.specs.declared.fault.WordFault.TheVariants.{UnknownShort}

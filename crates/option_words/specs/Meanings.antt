@@ -11,8 +11,8 @@ use Rattle.option_words.specs.declared.form.Form.{Form}
 use Rattle.option_words.specs.declared.form.Form.TheVariants.{Plain, Stop, Name, Letters}
 use Rattle.option_words.specs.declared.reading.Item.{Item}
 use Rattle.option_words.specs.declared.reading.Spot.{Spot}
-use Rattle.option_words.specs.declared.reader.Next.{Next}
-use Rattle.option_words.specs.declared.reader.Next.TheVariants.{Anything, Value, Operand}
+use Rattle.option_words.specs.declared.reader.NextWord.{NextWord}
+use Rattle.option_words.specs.declared.reader.NextWord.TheVariants.{Anything, Value, Operand}
 use Rattle.option_words.specs.declared.fault.WordFault.{WordFault}
 use Rattle.option_words.specs.declared.fault.WordFault.TheVariants.{UnknownShort, UnknownLong, Ambiguous, UnwantedValue}
 use Rattle.option_words.specs.Forms.{form_of}
@@ -24,7 +24,7 @@ use Rattle.option_words.specs.Rows.{has_letter, first_row, chosen_by_name}
 pub record Brought : Type 0 where
   pub items : List Item
   pub operands : List ℕ
-  pub next : Next
+  pub next : NextWord
 
 -- one option, with its value if it has one
 abbrev pub one_item : (row n : ℕ) → Option Spot → Brought
@@ -36,11 +36,11 @@ abbrev pub wants_next : (row n : ℕ) → Brought
 wants_next row n = record { items = []; operands = []; next = Value (record { row = row; word = n }) }
 
 -- an operand
-abbrev pub one_operand : (n : ℕ) → Next → Brought
+abbrev pub one_operand : (n : ℕ) → NextWord → Brought
 one_operand n next = record { items = []; operands = n ∷ []; next = next }
 
 -- nothing
-abbrev pub nothing : Next → Brought
+abbrev pub nothing : NextWord → Brought
 nothing next = record { items = []; operands = []; next = next }
 
 -- an option of a row with the value that its own word has for it
@@ -113,7 +113,7 @@ form_meaning Name rows n word = name_meaning rows n (drop 2 word)
 form_meaning Letters rows n word = letters_meaning rows n 1 (chars (drop 1 word))
 
 -- a word by how the words before it say that it is read
-abbrev pub meaning : List Row → Next → ℕ → List ℕ → Result Brought WordFault
+abbrev pub meaning : List Row → NextWord → ℕ → List ℕ → Result Brought WordFault
 meaning rows Anything n word = form_meaning (form_of word) rows n word
 meaning rows (Value wanted) n word = Ok (one_item wanted.row wanted.word (Some (record { word = n; from = 0 })))
 meaning rows Operand n word = Ok (one_operand n Operand)

@@ -1,8 +1,8 @@
 use Rattle.std.specs.Prelude.{◌≡◌, ◌⊎◌, ⊤, ℕ, ◌+◌, List, [], ◌∷◌, ◌++◌, Ok, Err}
 use Rattle.option_words.specs.declared.row.Row.{Row}
 use Rattle.option_words.specs.declared.reading.Item.{Item}
-use Rattle.option_words.specs.declared.reader.Next.{Next}
-use Rattle.option_words.specs.declared.reader.Next.TheVariants.{Anything, Value, Operand}
+use Rattle.option_words.specs.declared.reader.NextWord.{NextWord}
+use Rattle.option_words.specs.declared.reader.NextWord.TheVariants.{Anything, Value, Operand}
 use Rattle.option_words.specs.declared.fault.WordFault.{WordFault}
 use Rattle.option_words.specs.declared.fault.WordFault.TheVariants.{MissingValue}
 use Rattle.option_words.specs.Meanings.{Brought, meaning}
@@ -10,19 +10,19 @@ use Rattle.option_words.specs.Meanings.{Brought, meaning}
 -- What the words of a command line mean.
 
 -- no option still wants a value
-abbrev pub IsServed : Next → Type 0
+abbrev pub IsServed : NextWord → Type 0
 IsServed Anything = ⊤
 IsServed (Value wanted) = ⊥
 IsServed Operand = ⊤
 
 -- an option still wants a value, which is a fault of its word
-abbrev pub IsUnserved : Next → WordFault → Type 0
+abbrev pub IsUnserved : NextWord → WordFault → Type 0
 IsUnserved Anything fault = ⊥
 IsUnserved (Value wanted) fault = fault ≡ MissingValue wanted.word
 IsUnserved Operand fault = ⊥
 
 -- the words from number n on bring these options and these operands, each word in its turn
-abbrev pub Bring : List Row → Next → ℕ → List (List ℕ) → List Item → List ℕ → Type 0
+abbrev pub Bring : List Row → NextWord → ℕ → List (List ℕ) → List Item → List ℕ → Type 0
 Bring rows next n [] items operands = IsServed next × (items ≡ []) × (operands ≡ [])
 Bring rows next n (word ∷ words) items operands =
     (b : Brought) × (items' : List Item) × (operands' : List ℕ) × (meaning rows next n word ≡ Ok b)
@@ -30,11 +30,11 @@ Bring rows next n (word ∷ words) items operands =
     × Bring rows b.next (n + 1) words items' operands'
 
 -- the first of the words from number n on that has no meaning has this fault
-abbrev pub Breaks : List Row → Next → ℕ → List (List ℕ) → WordFault → Type 0
-Breaks rows next n [] fault = IsUnserved next fault
-Breaks rows next n (word ∷ words) fault =
+abbrev pub HasFault : List Row → NextWord → ℕ → List (List ℕ) → WordFault → Type 0
+HasFault rows next n [] fault = IsUnserved next fault
+HasFault rows next n (word ∷ words) fault =
     (meaning rows next n word ≡ Err fault)
-    ⊎ ((b : Brought) × (meaning rows next n word ≡ Ok b) × Breaks rows b.next (n + 1) words fault)
+    ⊎ ((b : Brought) × (meaning rows next n word ≡ Ok b) × HasFault rows b.next (n + 1) words fault)
 
 -- the options and the operands that words give
 pub record IsReading (rows : List Row) (words : List (List ℕ)) (items : List Item) (operands : List ℕ) : Type 0 where
@@ -42,4 +42,4 @@ pub record IsReading (rows : List Row) (words : List (List ℕ)) (items : List I
 
 -- why words can't be read
 pub record WordFaultAt (rows : List Row) (words : List (List ℕ)) (fault : WordFault) : Type 0 where
-  pub breaks : Breaks rows Anything 1 words fault
+  pub breaks : HasFault rows Anything 1 words fault

@@ -25,14 +25,14 @@ share_letter (Some c) None = false
 share_letter (Some c) (Some d) = nat_eq c d
 
 -- two rows share neither their letter nor their name
-abbrev pub are_apart : Row → Row → Bool
-are_apart row other = not (share_letter row.short other.short) && not (bytes_eq row.long.now other.long.now)
+abbrev pub share_nothing : Row → Row → Bool
+share_nothing row other = not (share_letter row.short other.short) && not (bytes_eq row.long.now other.long.now)
 
 -- a row has a letter and a name that may be an option's, and shares neither with the rows behind it
-abbrev pub fits : Row → List Row → Bool
-fits row rows = letter_fits row.short && name_fits row.long.now && list_all (are_apart row) rows
+abbrev pub fits_table : Row → List Row → Bool
+fits_table row rows = letter_fits row.short && name_fits row.long.now && list_all (share_nothing row) rows
 
 -- each row fits
 abbrev pub is_table : List Row → Bool
 is_table [] = true
-is_table (row ∷ rows) = fits row rows && is_table rows
+is_table (row ∷ rows) = fits_table row rows && is_table rows

@@ -12,7 +12,7 @@ use crate::choice::{Choice, Chosen, choose, find_letter};
 use crate::fault::WordFault;
 use crate::form::{Form, find_form};
 use crate::long_name::split_name;
-use crate::reading::{Item, Reading, Spot};
+use crate::reading::{Item, Spot, WordReading};
 use crate::row::{Row, Takes};
 use crate::table::OptionTable;
 use crate::words::Words;
@@ -20,18 +20,18 @@ use std::alloc::Global;
 
 /// An option that takes the next word as its value, and the word in which it stands.
 #[derive(Clone, Copy, Debug, PartialEq, Eq)]
-pub(crate) struct Wanted {
+pub(crate) struct WantedValue {
     pub row: usize,
     pub word: usize,
 }
 
 /// How the next word is read.
 #[derive(Clone, Copy, Debug, PartialEq, Eq)]
-pub(crate) enum Next {
+pub(crate) enum NextWord {
     /// By what it looks like.
     Anything,
     /// As a value.
-    Value(Wanted),
+    Value(WantedValue),
     /// As an operand, as all that follow.
     Operand,
 }
@@ -41,7 +41,7 @@ pub(crate) enum Next {
 pub(crate) struct Reader {
     pub items: Vec<Item>,
     pub operands: Vec<usize>,
-    pub next: Next,
+    pub next: NextWord,
 }
 
 impl Reader {
@@ -49,12 +49,12 @@ impl Reader {
     fn new(alloc: Global) -> Reader
         ensures items { result.items.items ≡ [] }
         ensures operands { result.operands.items ≡ [] }
-        ensures next { result.next ≡ Next.Anything }
+        ensures next { result.next ≡ NextWord.Anything }
     {
         Reader {
             items: Vec::new(alloc),
             operands: Vec::new(alloc),
-            next: Next::Anything,
+            next: NextWord::Anything,
         }
     }
 
@@ -66,7 +66,7 @@ impl Reader {
         if self.items.push(item).is_err() {
             return Err(WordFault::NoMemory);
         }
-        self.next = Next::Anything;
+        self.next = NextWord::Anything;
         Ok(())
     }
 
@@ -96,7 +96,7 @@ impl Reader {
         match (chosen.takes, value) {
             (Takes::Never, Some(_)) => Err(WordFault::UnwantedValue { word }),
             (Takes::Always, None) => {
-                self.next = Next::Value(Wanted { row, word });
+                self.next = NextWord::Value(WantedValue { row, word });
                 Ok(())
             }
             (_, value) => self.put_item(Item { row, word, value }),
@@ -105,7 +105,7 @@ impl Reader {
 
     /// Takes the letters of a word.
     fn take_letters(&mut self, rows: &[Row], n: usize, word: &str) -> Result<(), WordFault>
-        requires anything { self.old.next ≡ Next.Anything }
+        requires anything { self.old.next ≡ NextWord.Anything }
         requires form { form_of word.now ≡ IsLetters }
         ensures ok { OnOk result (IsOkAnd (letters_meaning rows.now n 1 (chars (drop 1 word.now)))
             (λ b. Took self.old self.new b)) }
@@ -151,16 +151,16 @@ impl Reader {
         ensures err { IfErr result (λ e. IsFaultOf (meaning rows.now self.old.next n word.now) e) }
     {
         match self.next {
-            Next::Value(wanted) => self.put_item(Item {
+            NextWord::Value(wanted) => self.put_item(Item {
                 row: wanted.row,
                 word: wanted.word,
                 value: Some(Spot { word: n, from: 0 }),
             }),
-            Next::Operand => self.put_operand(n),
-            Next::Anything => match find_form(word) {
+            NextWord::Operand => self.put_operand(n),
+            NextWord::Anything => match find_form(word) {
                 Form::Plain => self.put_operand(n),
                 Form::Stop => {
-                    self.next = Next::Operand;
+                    self.next = NextWord::Operand;
                     Ok(())
                 }
                 Form::Name => self.take_name(rows, n, word),
@@ -170,13 +170,13 @@ impl Reader {
     }
 
     /// What all words have brought.
-    fn finish(self) -> Result<Reading, WordFault>
+    fn finish(self) -> Result<WordReading, WordFault>
         ensures ok { OnOk result (IsServed self.next) }
         ensures items { IfOk result (λ r. r.items.items ≡ self.items.items) }
         ensures operands { IfOk result (λ r. r.operands.items ≡ self.operands.items) }
         ensures err { IfErr result (λ e. IsUnserved self.next e) }
     {
-        if let Next::Value(wanted) = self.next {
+        if let NextWord::Value(wanted) = self.next {
             return Err(WordFault::MissingValue { word: wanted.word });
         }
         let Reader {
@@ -184,7 +184,7 @@ impl Reader {
             operands,
             ..
         } = self;
-        Ok(Reading { items, operands })
+        Ok(WordReading { items, operands })
     }
 }
 
@@ -203,7 +203,7 @@ fn find_value_behind(n: usize, word: &str, rest: &str) -> Option<Spot>
 }
 
 /// Reads words by rows.
-fn read_by_rows(alloc: Global, words: &Words, rows: &[Row]) -> Result<Reading, WordFault>
+fn read_by_rows(alloc: Global, words: &Words, rows: &[Row]) -> Result<WordReading, WordFault>
     ensures reading { IfOk result (λ r. IsReading rows.now words.now r.items.items r.operands.items) }
     ensures spots { IfOk result (λ r. All (HasSpot words.now) r.items.items) }
     ensures fault { IfErr result (λ e. (e ≡ OutOfMemory) ⊎ WordFaultAt rows.now words.now e) }
@@ -222,7 +222,11 @@ fn read_by_rows(alloc: Global, words: &Words, rows: &[Row]) -> Result<Reading, W
 /// longer is a group of letters; the first that takes a value takes the rest of the word. An option that always takes a
 /// value and has none in its own word takes the whole next word, also one that begins with `-`. Every other word is an
 /// operand.
-pub fn read_words(alloc: Global, words: &Words, table: &OptionTable) -> Result<Reading, WordFault>
+pub fn read_words(
+    alloc: Global,
+    words: &Words,
+    table: &OptionTable,
+) -> Result<WordReading, WordFault>
     ensures reading { IfOk result (λ r. IsReading table.now words.now r.items.items r.operands.items) }
     // Each value stands in the words, so that its text can be asked for.
     ensures spots { IfOk result (λ r. All (HasSpot words.now) r.items.items) }

@@ -18,7 +18,7 @@ pub struct Item {
 
 /// Words that were read.
 #[derive(Debug, Drop)]
-pub struct Reading {
+pub struct WordReading {
     /// The options in the order in which they were given.
     pub items: Vec<Item>,
     /// The words that are operands, counted from 1, in ascending order.

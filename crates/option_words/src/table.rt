@@ -1,6 +1,6 @@
 ghost use Rattle.std.specs.Prelude.{◌≡◌, is_some, IfSome};
 ghost use Rattle.std.specs.List.{list_all};
-ghost use Rattle.option_words.specs.Tables.{are_apart, fits, holds_no_sign, is_table, letter_fits, name_fits};
+ghost use Rattle.option_words.specs.Tables.{share_nothing, fits_table, holds_no_sign, is_table, letter_fits, name_fits};
 
 use crate::row::Row;
 use std::marker::Model;
@@ -68,7 +68,7 @@ fn is_name_fit(name: &str) -> bool
 
 /// Whether two rows share neither their letter nor their name.
 fn differ(row: &Row, other: &Row) -> bool
-    ensures { result ≡ are_apart row.now other.now }
+    ensures { result ≡ share_nothing row.now other.now }
 {
     let share_letter = match (row.short, other.short) {
         (Some(letter), Some(other)) => letter == other,
@@ -79,14 +79,14 @@ fn differ(row: &Row, other: &Row) -> bool
 
 /// Whether a row shares neither its letter nor its name with others.
 fn differs_from_all(row: &Row, others: &[Row]) -> bool
-    ensures { result ≡ list_all (are_apart row.now) others.now }
+    ensures { result ≡ list_all (share_nothing row.now) others.now }
 {
     others.iter().all(|other| differ(row, other))
 }
 
 /// Whether a row may stand in front of others.
 fn fits_before(row: &Row, others: &[Row]) -> bool
-    ensures { result ≡ fits row.now others.now }
+    ensures { result ≡ fits_table row.now others.now }
 {
     is_letter_fit(row.short) && is_name_fit(row.long) && differs_from_all(row, others)
 }

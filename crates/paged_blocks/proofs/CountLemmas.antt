@@ -9,8 +9,8 @@ use Rattle.block_list.specs.Status.{same}
 use Rattle.block_list.specs.Stretches.{covered}
 use Rattle.block_list.proofs.TileLemmas.{covered-append}
 use Rattle.block_list.proofs.LookupLemmas.{counted, counted_yes, counted_no, counted_all}
-use Rattle.paged_blocks.specs.declared.entry.Entry.{Entry}
-use Rattle.paged_blocks.specs.Search.{HasNone}
+use Rattle.paged_blocks.specs.declared.entry.PageEntry.{PageEntry}
+use Rattle.paged_blocks.specs.Search.{HasNoneOf}
 use Rattle.paged_blocks.specs.Paging.{blocks_of, flat}
 use Rattle.block_list.proofs.EditLemmas.{no_block}
 
@@ -24,10 +24,10 @@ count_parts s xs ys =
     ∙ sum_by-append (λ z. cond (same z s) 1 0) (flat_map covered xs) (flat_map covered ys)
 
 -- how many positions of the first pages have a status
-abbrev pub paged : List (List Block) → List Entry → Status → ℕ → ℕ
+abbrev pub paged : List (List Block) → List PageEntry → Status → ℕ → ℕ
 paged pages es s i = count_in s (flat pages (take i es))
 
-pub paged_more : (pages : List (List Block)) (es : List Entry) (s : Status) (i : ℕ) (d : Entry) → i < length es
+pub paged_more : (pages : List (List Block)) (es : List PageEntry) (s : Status) (i : ℕ) (d : PageEntry) → i < length es
     → paged pages es s (i + 1) ≡ paged pages es s i + count_in s (blocks_of pages (get_or es i d))
 paged_more pages es s i d h =
     let page : List Block = blocks_of pages (get_or es i d) in
@@ -36,11 +36,11 @@ paged_more pages es s i d h =
     ∙ count_parts s (flat pages (take i es)) (page ++ [])
     ∙ ap (λ r. paged pages es s i + count_in s r) (append-nil page)
 
-pub paged_all : (pages : List (List Block)) (es : List Entry) (s : Status) (i : ℕ) → length es ≤ i
+pub paged_all : (pages : List (List Block)) (es : List PageEntry) (s : Status) (i : ℕ) → length es ≤ i
     → paged pages es s i ≡ count_in s (flat pages es)
 paged_all pages es s i h = ap (λ r. count_in s (flat pages r)) (take_all i es h)
 
-pub paged_end : (pages : List (List Block)) (es : List Entry) (s : Status) (i : ℕ)
+pub paged_end : (pages : List (List Block)) (es : List PageEntry) (s : Status) (i : ℕ)
     → paged pages es s i ≤ length (flat_map covered (flat pages es))
 paged_end pages es s i =
     let front : List Block = flat pages (take i es) in
@@ -59,7 +59,7 @@ none_counted bs s k d z h l e =
     omega (arith, c, p, q)
 
 -- where no block has a status, no position of theirs has it
-counted_to : (bs : List Block) (s : Status) (n : ℕ) → n ≤ length bs → HasNone bs s 0 n → counted bs s n ≡ 0
+counted_to : (bs : List Block) (s : Status) (n : ℕ) → n ≤ length bs → HasNoneOf bs s 0 n → counted bs s n ≡ 0
 counted_to bs s zero h o = refl
 counted_to bs s (suc n) h o =
     let z : suc n ≡ n + 1 = omega arith in
@@ -67,5 +67,5 @@ counted_to bs s (suc n) h o =
     rw z (counted_no bs n s no_block l (o.none n no_block (omega arith) (omega arith))
     ∙ counted_to bs s n (omega arith) (record { none = λ i d u v e. o.none i d u (omega arith) e }))
 
-pub counted_none : (bs : List Block) (s : Status) → HasNone bs s 0 (length bs) → count_in s bs ≡ 0
+pub counted_none : (bs : List Block) (s : Status) → HasNoneOf bs s 0 (length bs) → count_in s bs ≡ 0
 counted_none bs s o = sym (counted_all bs (length bs) s (omega arith)) ∙ counted_to bs s (length bs) (omega arith) o

@@ -8,13 +8,13 @@ use Rattle.block_list.specs.declared.status.Status.{Status}
 use Rattle.block_list.specs.declared.block.Block.{Block}
 use Rattle.block_list.specs.Tiled.{Tiled}
 use Rattle.block_list.specs.Map.{Has}
-use Rattle.block_list.specs.Places.{IsFirst, IsLast, IsRunUp, IsRunDown}
+use Rattle.block_list.specs.Places.{IsFirst, IsLast, IsRangeUp, IsRangeDown}
 use Rattle.block_list.specs.Stretches.{covered, stretches}
 use Rattle.block_list.specs.Tiling.{IsMerged}
 use Rattle.block_list.specs.Edits.{IsTiled, IsPlace, start_of}
 use Rattle.block_list.proofs.TileLemmas.{covered-append, tiled_from_tiles, tile_at, tile_read, start_all, start_mono}
 use Rattle.block_list.proofs.EditLemmas.{no_block, rising}
-use Rattle.block_list.proofs.LookupLemmas.{IsClear, clear_behind, clear_before, found_first, found_run_up, found_last, found_run_down}
+use Rattle.block_list.proofs.LookupLemmas.{IsClear, clear_behind, clear_before, found_first, found_range_up, found_last, found_range_down}
 use Rattle.block_list.proofs.ApartLemmas.{merged_from_apart}
 use Rattle.block_list.proofs.StretchLemmas.{stretches_tiles, stretches_covered, stretches_apart}
 use Rattle.paged_blocks.specs.Search.{IsSearched, IsBare}
@@ -144,13 +144,13 @@ few_first map i from s b h e c u q =
     subst P (stretches_covered 0 map) (λ k. found_first bs i from s b (stretches_tiled map h) (stretches_merged map)
     (few_index map i b e) (block_read bs i b e) k u q) c
 
-pub few_run_up : (map : List Status) (i from : ℕ) (s : Status) (b : Block) → length map < 2 ^ 63
+pub few_range_up : (map : List Status) (i from : ℕ) (s : Status) (b : Block) → length map < 2 ^ 63
     → slice_get (stretches map) i ≡ Some b → from < start_of (stretches map) (i + 1) → b.status ≡ s
-    → IsRunUp (Has map s) (max from b.pos) (b.pos + b.size)
-few_run_up map i from s b h e u q =
+    → IsRangeUp (Has map s) (max from b.pos) (b.pos + b.size)
+few_range_up map i from s b h e u q =
     let bs : List Block = stretches map in
-    let P : List Status → Type 0 = λ m. IsRunUp (Has m s) (max from b.pos) (b.pos + b.size) in
-    subst P (stretches_covered 0 map) (found_run_up bs i from s b (stretches_tiled map h) (stretches_merged map)
+    let P : List Status → Type 0 = λ m. IsRangeUp (Has m s) (max from b.pos) (b.pos + b.size) in
+    subst P (stretches_covered 0 map) (found_range_up bs i from s b (stretches_tiled map h) (stretches_merged map)
     (few_index map i b e) (block_read bs i b e) u q)
 
 pub few_last : (map : List Status) (i to : ℕ) (s : Status) (b : Block) → length map < 2 ^ 63
@@ -162,13 +162,13 @@ few_last map i to s b h e c u q =
     subst P (stretches_covered 0 map) (λ k. found_last bs i to s b (stretches_tiled map h) (stretches_merged map)
     (few_index map i b e) (block_read bs i b e) k u q) c
 
-pub few_run_down : (map : List Status) (i to : ℕ) (s : Status) (b : Block) → length map < 2 ^ 63
+pub few_range_down : (map : List Status) (i to : ℕ) (s : Status) (b : Block) → length map < 2 ^ 63
     → slice_get (stretches map) i ≡ Some b → start_of (stretches map) i < to → b.status ≡ s
-    → IsRunDown (Has map s) b.pos (min to (b.pos + b.size))
-few_run_down map i to s b h e u q =
+    → IsRangeDown (Has map s) b.pos (min to (b.pos + b.size))
+few_range_down map i to s b h e u q =
     let bs : List Block = stretches map in
-    let P : List Status → Type 0 = λ m. IsRunDown (Has m s) b.pos (min to (b.pos + b.size)) in
-    subst P (stretches_covered 0 map) (found_run_down bs i to s b (stretches_tiled map h) (stretches_merged map)
+    let P : List Status → Type 0 = λ m. IsRangeDown (Has m s) b.pos (min to (b.pos + b.size)) in
+    subst P (stretches_covered 0 map) (found_range_down bs i to s b (stretches_tiled map h) (stretches_merged map)
     (few_index map i b e) (block_read bs i b e) u q)
 
 -- what a search hands out that passed the stretches in front of an index

@@ -8,7 +8,7 @@ use Rattle.block_list.specs.Status.{same}
 use Rattle.block_list.specs.Stretches.{covered}
 use Rattle.block_list.proofs.StretchLemmas.{same_self, equal_from_same}
 use Rattle.block_list.proofs.LookupLemmas.{counted_yes, counted_no, counted_end}
-use Rattle.paged_blocks.specs.declared.entry.Tally.{Tally}
+use Rattle.paged_blocks.specs.declared.entry.StatusCounts.{StatusCounts}
 use Rattle.paged_blocks.specs.Tally.{tallied}
 use Rattle.paged_blocks.proofs.CountLemmas.{count_in}
 
@@ -50,7 +50,7 @@ tally_no page i b s r o =
     let e = get_or_from_slice_get page i b b r in
     counted_no page i s b (slice_get_within page i b r) (λ q. o (sym q ∙ ap (λ (y : Block). y.status) e))
 
-pub tally_step : (page : List Block) (i : ℕ) (b : Block) (old new : Tally) → slice_get page i ≡ Some b
+pub tally_step : (page : List Block) (i : ℕ) (b : Block) (old new : StatusCounts) → slice_get page i ≡ Some b
     → ((s : Status) → tallied old s ≡ count_in s (take i page)) → tallied new b.status ≡ tallied old b.status + b.size
     → ((s : Status) → (s ≡ b.status → ⊥) → tallied new s ≡ tallied old s)
     → (s : Status) → tallied new s ≡ count_in s (take (i + 1) page)
@@ -59,7 +59,7 @@ tally_step page i b old new r all more others s =
     (λ (q : s ≡ b.status → ⊥). omega (arith, others s q, all s, tally_no page i b s r q))
     (status_cases s b.status)
 
-pub tally_fits : (page : List Block) (i : ℕ) (b : Block) (old : Tally) → slice_get page i ≡ Some b
+pub tally_fits : (page : List Block) (i : ℕ) (b : Block) (old : StatusCounts) → slice_get page i ≡ Some b
     → ((s : Status) → tallied old s ≡ count_in s (take i page))
     → tallied old b.status + b.size ≤ length (flat_map covered page)
 tally_fits page i b old r all = omega (arith, all b.status, tally_yes page i b r, counted_end page (i + 1) b.status)

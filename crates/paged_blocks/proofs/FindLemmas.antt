@@ -5,23 +5,23 @@ use Rattle.std.proofs.lemmas.Option.{slice_get_within}
 use Rattle.block_list.specs.declared.block.Block.{Block}
 use Rattle.block_list.specs.declared.status.Status.{Status}
 use Rattle.block_list.specs.Map.{Has}
-use Rattle.block_list.specs.Places.{IsFirst, IsLast, IsRunUp, IsRunDown}
+use Rattle.block_list.specs.Places.{IsFirst, IsLast, IsRangeUp, IsRangeDown}
 use Rattle.block_list.specs.Stretches.{covered}
 use Rattle.block_list.specs.Edits.{start_of}
 use Rattle.block_list.proofs.TileLemmas.{tile_at, tile_read, start_mono}
 use Rattle.block_list.proofs.EditLemmas.{no_block, read_there}
-use Rattle.block_list.proofs.LookupLemmas.{stretch_held, clear_behind, clear_before, clear_up, found_first, found_run_up, found_last, found_run_down}
-use Rattle.paged_blocks.specs.declared.entry.Entry.{Entry}
+use Rattle.block_list.proofs.LookupLemmas.{stretch_held, clear_behind, clear_before, clear_up, found_first, found_range_up, found_last, found_range_down}
+use Rattle.paged_blocks.specs.declared.entry.PageEntry.{PageEntry}
 use Rattle.paged_blocks.specs.Tally.{tallied}
-use Rattle.paged_blocks.specs.Search.{AreFilled, HasNone, HasAt, IsFirstBlock, IsLastBlock, IsBare}
+use Rattle.paged_blocks.specs.Search.{AreNonempty, HasNoneOf, HasAt, IsFirstBlock, IsLastBlock, IsBare}
 use Rattle.paged_blocks.specs.Paging.{blocks_of, flat, before, IsEntry, IsPaging, IsHeld}
 use Rattle.paged_blocks.proofs.CountLemmas.{none_counted, counted_none}
 use Rattle.paged_blocks.proofs.PagingLemmas.{no_entry, before_more, before_mono, before_all, page_read, page_index, read_in_page}
 
 -- blocks of a page without a status are passed
-pub bare_page : (pages : List (List Block)) (es : List Entry) (k : ℕ) (e : Entry) (j n : ℕ) (from : ℕ) (s : Status)
+pub bare_page : (pages : List (List Block)) (es : List PageEntry) (k : ℕ) (e : PageEntry) (j n : ℕ) (from : ℕ) (s : Status)
     → IsPaging pages es → k < length es → j + n ≤ length (blocks_of pages (get_or es k e))
-    → HasNone (blocks_of pages (get_or es k e)) s j (j + n)
+    → HasNoneOf (blocks_of pages (get_or es k e)) s j (j + n)
     → IsBare (flat_map covered (flat pages es)) s from (start_of (flat pages es) (before pages es k + j))
     → IsBare (flat_map covered (flat pages es)) s from (start_of (flat pages es) (before pages es k + (j + n)))
 bare_page pages es k e j zero from s p h l o b = let z : j + zero ≡ j = omega arith in rw z b
@@ -40,9 +40,9 @@ bare_page pages es k e j (suc n) from s p h l o b =
     rw z (record { bare = c.clear })
 
 -- a page's blocks from one on have no position of a status
-pub bare_rest : (pages : List (List Block)) (es : List Entry) (k : ℕ) (e : Entry) (j : ℕ) (from : ℕ) (s : Status)
+pub bare_rest : (pages : List (List Block)) (es : List PageEntry) (k : ℕ) (e : PageEntry) (j : ℕ) (from : ℕ) (s : Status)
     → IsPaging pages es → k < length es → j ≤ length (blocks_of pages (get_or es k e))
-    → HasNone (blocks_of pages (get_or es k e)) s j (length (blocks_of pages (get_or es k e)))
+    → HasNoneOf (blocks_of pages (get_or es k e)) s j (length (blocks_of pages (get_or es k e)))
     → IsBare (flat_map covered (flat pages es)) s from (start_of (flat pages es) (before pages es k + j))
     → IsBare (flat_map covered (flat pages es)) s from (start_of (flat pages es) (before pages es (k + 1)))
 bare_rest pages es k e j from s p h l o b =
@@ -52,42 +52,42 @@ bare_rest pages es k e j from s p h l o b =
     rw y (bare_page pages es k e j (m - j) from s p h (omega arith) (rw z o) b)
 
 -- an entry that counts no position of a status names a page without it
-pub none_tallied : (pages : List (List Block)) (e : Entry) (s : Status) (from to : ℕ) → IsEntry pages e
-    → AreFilled (blocks_of pages e) → to ≤ length (blocks_of pages e) → tallied e.tally s ≡ 0
-    → HasNone (blocks_of pages e) s from to
+pub none_tallied : (pages : List (List Block)) (e : PageEntry) (s : Status) (from to : ℕ) → IsEntry pages e
+    → AreNonempty (blocks_of pages e) → to ≤ length (blocks_of pages e) → tallied e.tally s ≡ 0
+    → HasNoneOf (blocks_of pages e) s from to
 none_tallied pages e s from to h f l z = record {
   none = λ i d v u q.
       none_counted (blocks_of pages e) s i d (omega (arith, h.tally s)) (omega arith) (f.filled i d (omega arith)) q;
 }
 
 -- one that counts some names a page with it
-pub some_tallied : (pages : List (List Block)) (e : Entry) (s : Status) → IsEntry pages e
-    → (tallied e.tally s ≡ 0 → ⊥) → HasNone (blocks_of pages e) s 0 (length (blocks_of pages e)) → ⊥
+pub some_tallied : (pages : List (List Block)) (e : PageEntry) (s : Status) → IsEntry pages e
+    → (tallied e.tally s ≡ 0 → ⊥) → HasNoneOf (blocks_of pages e) s 0 (length (blocks_of pages e)) → ⊥
 some_tallied pages e s h z o = z (omega (arith, h.tally s, counted_none (blocks_of pages e) s o))
 
 -- so where nothing is found in a whole page, its blocks weren't looked at
-pub passed_up : (pages : List (List Block)) (e : Entry) (s : Status) (j old new : ℕ) (r : Option Block) → IsEntry pages e
-    → (tallied e.tally s ≡ 0 → ⊥) → IfNone r (HasNone (blocks_of pages e) s j (length (blocks_of pages e)))
+pub passed_up : (pages : List (List Block)) (e : PageEntry) (s : Status) (j old new : ℕ) (r : Option Block) → IsEntry pages e
+    → (tallied e.tally s ≡ 0 → ⊥) → IfNone r (HasNoneOf (blocks_of pages e) s j (length (blocks_of pages e)))
     → IfNone r (j ≡ 0 → new ≡ old)
 passed_up pages e s j old new None h z o = λ q. absurd (some_tallied pages e s h z (rw q at o))
 passed_up pages e s j old new (Some b) h z o = tt
 
-pub passed_down : (pages : List (List Block)) (e : Entry) (s : Status) (j old new : ℕ) (r : Option Block) → IsEntry pages e
-    → (tallied e.tally s ≡ 0 → ⊥) → IfNone r (HasNone (blocks_of pages e) s 0 j)
+pub passed_down : (pages : List (List Block)) (e : PageEntry) (s : Status) (j old new : ℕ) (r : Option Block) → IsEntry pages e
+    → (tallied e.tally s ≡ 0 → ⊥) → IfNone r (HasNoneOf (blocks_of pages e) s 0 j)
     → IfNone r (j ≡ length (blocks_of pages e) → new ≡ old)
 passed_down pages e s j old new None h z o = λ q. absurd (some_tallied pages e s h z (rw q at o))
 passed_down pages e s j old new (Some b) h z o = tt
 
 -- no block of a page is empty
-pub page_filled : (pages : List (List Block)) (es : List Entry) (k : ℕ) (e : Entry) → IsPaging pages es → k < length es
-    → AreFilled (blocks_of pages (get_or es k e))
+pub page_filled : (pages : List (List Block)) (es : List PageEntry) (k : ℕ) (e : PageEntry) → IsPaging pages es → k < length es
+    → AreNonempty (blocks_of pages (get_or es k e))
 page_filled pages es k e p h = record {
   filled = λ i d l.
       let t = tile_at (flat pages es) (before pages es k + i) d p.tiled (page_index pages es k i e h l) in
       rw (page_read pages es k i e d h l) at t.sized;
 }
 
-pub first_found : (pages : List (List Block)) (es : List Entry) (k : ℕ) (e : Entry) (j from : ℕ) (s : Status) (b : Block)
+pub first_found : (pages : List (List Block)) (es : List PageEntry) (k : ℕ) (e : PageEntry) (j from : ℕ) (s : Status) (b : Block)
     → IsPaging pages es → k < length es → IsFirstBlock (blocks_of pages (get_or es k e)) s j b
     → IsBare (flat_map covered (flat pages es)) s from (start_of (flat pages es) (before pages es k + j))
     → from < start_of (flat pages es) (before pages es k + j + 1)
@@ -105,28 +105,28 @@ first_found pages es k e j from s b p h f c u =
     (omega (arith, start_mono (flat pages es) (before pages es k + j + 1) (g + 1) (omega (arith, f.after))))
     f.has
 
-pub first_run : (pages : List (List Block)) (es : List Entry) (k : ℕ) (e : Entry) (j from : ℕ) (s : Status) (b : Block)
+pub first_range : (pages : List (List Block)) (es : List PageEntry) (k : ℕ) (e : PageEntry) (j from : ℕ) (s : Status) (b : Block)
     → IsPaging pages es → k < length es → IsFirstBlock (blocks_of pages (get_or es k e)) s j b
     → from < start_of (flat pages es) (before pages es k + j + 1)
-    → IsRunUp (Has (flat_map covered (flat pages es)) s) (max from b.pos) (b.pos + b.size)
-first_run pages es k e j from s b p h f u =
+    → IsRangeUp (Has (flat_map covered (flat pages es)) s) (max from b.pos) (b.pos + b.size)
+first_range pages es k e j from s b p h f u =
     let i : ℕ = f.index in
     let l : i < length (blocks_of pages (get_or es k e)) = slice_get_within (blocks_of pages (get_or es k e)) i b f.read in
     let g : ℕ = before pages es k + i in
-    found_run_up (flat pages es) g from s b p.tiled p.merged (page_index pages es k i e h l)
+    found_range_up (flat pages es) g from s b p.tiled p.merged (page_index pages es k i e h l)
     (read_in_page pages es k i e b h f.read)
     (omega (arith, start_mono (flat pages es) (before pages es k + j + 1) (g + 1) (omega (arith, f.after))))
     f.has
 
 -- the block that holds a position is the first that may have a status at or behind it
-pub bare_start : (pages : List (List Block)) (es : List Entry) (k j from : ℕ) (s : Status) → IsHeld pages es (from + 1) k j
+pub bare_start : (pages : List (List Block)) (es : List PageEntry) (k j from : ℕ) (s : Status) → IsHeld pages es (from + 1) k j
     → IsBare (flat_map covered (flat pages es)) s from (start_of (flat pages es) (before pages es k + (j - 1)))
 bare_start pages es k j from s h =
     let z : before pages es k + (j - 1) ≡ before pages es k + j - 1 = omega (arith, h.block) in
     record { bare = λ x l u q. absurd (omega (arith, ap (λ n. start_of (flat pages es) n) z, h.place.before (omega (arith, h.block)))) }
 
 -- the page of a later entry lies behind a position
-pub reaches_page : (pages : List (List Block)) (es : List Entry) (k j from m : ℕ) (e : Entry) → IsHeld pages es (from + 1) k j
+pub reaches_page : (pages : List (List Block)) (es : List PageEntry) (k j from m : ℕ) (e : PageEntry) → IsHeld pages es (from + 1) k j
     → k < m → from < start_of (flat pages es) (before pages es m + 0 + 1)
 reaches_page pages es k j from m e h l =
     let a = h.place.reaches in
@@ -138,22 +138,22 @@ reaches_page pages es k j from m e h l =
       start_mono (flat pages es) (before pages es k + j) (before pages es m + 0 + 1) (omega arith),
     )
 
-pub bare_up : (pages : List (List Block)) (es : List Entry) (k from : ℕ) (s : Status) → length es ≤ k
+pub bare_up : (pages : List (List Block)) (es : List PageEntry) (k from : ℕ) (s : Status) → length es ≤ k
     → IsBare (flat_map covered (flat pages es)) s from (start_of (flat pages es) (before pages es k))
     → (x : ℕ) → from ≤ x → Has (flat_map covered (flat pages es)) s x → ⊥
 bare_up pages es k from s h b =
     clear_up (flat pages es) (before pages es k) from s (omega (arith, before_all pages es k h)) (record { clear = b.bare })
 
-pub read_short : (pages : List (List Block)) (es : List Entry) (k i : ℕ) (e : Entry) (b : Block) → IsPaging pages es
+pub read_short : (pages : List (List Block)) (es : List PageEntry) (k i : ℕ) (e : PageEntry) (b : Block) → IsPaging pages es
     → k < length es → slice_get (blocks_of pages (get_or es k e)) i ≡ Some b → b.pos + b.size < 2 ^ 63
 read_short pages es k i e b p h r =
     let l = slice_get_within (blocks_of pages (get_or es k e)) i b r in
     (tile_read (flat pages es) (before pages es k + i) b p.tiled (page_index pages es k i e h l) (read_in_page pages es k i e b h r)).short
 
 -- blocks of a page without a status are passed downwards
-pub bare_down : (pages : List (List Block)) (es : List Entry) (k : ℕ) (e : Entry) (i n to : ℕ) (s : Status)
+pub bare_down : (pages : List (List Block)) (es : List PageEntry) (k : ℕ) (e : PageEntry) (i n to : ℕ) (s : Status)
     → IsPaging pages es → k < length es → i + n ≤ length (blocks_of pages (get_or es k e))
-    → HasNone (blocks_of pages (get_or es k e)) s i (i + n)
+    → HasNoneOf (blocks_of pages (get_or es k e)) s i (i + n)
     → IsBare (flat_map covered (flat pages es)) s (start_of (flat pages es) (before pages es k + (i + n))) to
     → IsBare (flat_map covered (flat pages es)) s (start_of (flat pages es) (before pages es k + i)) to
 bare_down pages es k e i zero to s p h l o b = let z : i + zero ≡ i = omega arith in rw z at b
@@ -171,9 +171,9 @@ bare_down pages es k e i (suc n) to s p h l o b =
     bare_down pages es k e i n to s p h (omega arith) (record { none = λ m d w x q. o.none m d w (omega arith) q })
     (record { bare = c.clear })
 
-pub bare_front : (pages : List (List Block)) (es : List Entry) (k : ℕ) (e : Entry) (j to : ℕ) (s : Status)
+pub bare_front : (pages : List (List Block)) (es : List PageEntry) (k : ℕ) (e : PageEntry) (j to : ℕ) (s : Status)
     → IsPaging pages es → k < length es → j ≤ length (blocks_of pages (get_or es k e))
-    → HasNone (blocks_of pages (get_or es k e)) s 0 j
+    → HasNoneOf (blocks_of pages (get_or es k e)) s 0 j
     → IsBare (flat_map covered (flat pages es)) s (start_of (flat pages es) (before pages es k + j)) to
     → IsBare (flat_map covered (flat pages es)) s (start_of (flat pages es) (before pages es k)) to
 bare_front pages es k e j to s p h l o b =
@@ -181,7 +181,7 @@ bare_front pages es k e j to s p h l o b =
     let y : before pages es k + 0 ≡ before pages es k = omega arith in
     rw y at (bare_down pages es k e 0 j to s p h (omega arith) (rw z o) (rw z b))
 
-pub last_found : (pages : List (List Block)) (es : List Entry) (k : ℕ) (e : Entry) (j to : ℕ) (s : Status) (b : Block)
+pub last_found : (pages : List (List Block)) (es : List PageEntry) (k : ℕ) (e : PageEntry) (j to : ℕ) (s : Status) (b : Block)
     → IsPaging pages es → k < length es → j ≤ length (blocks_of pages (get_or es k e))
     → IsLastBlock (blocks_of pages (get_or es k e)) s j b
     → IsBare (flat_map covered (flat pages es)) s (start_of (flat pages es) (before pages es k + j)) to
@@ -196,22 +196,22 @@ last_found pages es k e j to s b p h l f c u =
     found_last (flat pages es) g to s b p.tiled p.merged (page_index pages es k i e h (omega (arith, f.below)))
     (read_in_page pages es k i e b h f.read) (record { clear = w.bare }) (u i f.below) f.has
 
-pub last_run : (pages : List (List Block)) (es : List Entry) (k : ℕ) (e : Entry) (j to : ℕ) (s : Status) (b : Block)
+pub last_range : (pages : List (List Block)) (es : List PageEntry) (k : ℕ) (e : PageEntry) (j to : ℕ) (s : Status) (b : Block)
     → IsPaging pages es → k < length es → j ≤ length (blocks_of pages (get_or es k e))
     → IsLastBlock (blocks_of pages (get_or es k e)) s j b
     → ((n : ℕ) → n < j → start_of (flat pages es) (before pages es k + n) < to)
-    → IsRunDown (Has (flat_map covered (flat pages es)) s) b.pos (min to (b.pos + b.size))
-last_run pages es k e j to s b p h l f u =
+    → IsRangeDown (Has (flat_map covered (flat pages es)) s) b.pos (min to (b.pos + b.size))
+last_range pages es k e j to s b p h l f u =
     let i : ℕ = f.index in
-    found_run_down (flat pages es) (before pages es k + i) to s b p.tiled p.merged
+    found_range_down (flat pages es) (before pages es k + i) to s b p.tiled p.merged
     (page_index pages es k i e h (omega (arith, f.below))) (read_in_page pages es k i e b h f.read) (u i f.below) f.has
 
 -- behind the blocks that begin before a position there is nothing below it
-pub bare_end : (pages : List (List Block)) (es : List Entry) (k j to : ℕ) (s : Status) → IsHeld pages es to k j
+pub bare_end : (pages : List (List Block)) (es : List PageEntry) (k j to : ℕ) (s : Status) → IsHeld pages es to k j
     → IsBare (flat_map covered (flat pages es)) s (start_of (flat pages es) (before pages es k + j)) to
 bare_end pages es k j to s h = record { bare = λ x l u q. absurd (omega (arith, h.place.reaches)) }
 
-pub begun_below : (pages : List (List Block)) (es : List Entry) (k j to : ℕ) → IsHeld pages es to k j → (n : ℕ) → n < j
+pub begun_below : (pages : List (List Block)) (es : List PageEntry) (k j to : ℕ) → IsHeld pages es to k j → (n : ℕ) → n < j
     → start_of (flat pages es) (before pages es k + n) < to
 begun_below pages es k j to h n l =
     omega (
@@ -221,7 +221,7 @@ begun_below pages es k j to h n l =
     )
 
 -- the page of an entry in front begins before a position
-pub begun_in_front : (pages : List (List Block)) (es : List Entry) (k j to m : ℕ) (e : Entry) → IsHeld pages es to k j → m < k
+pub begun_in_front : (pages : List (List Block)) (es : List PageEntry) (k j to m : ℕ) (e : PageEntry) → IsHeld pages es to k j → m < k
     → (n : ℕ) → n < length (blocks_of pages (get_or es m e)) → start_of (flat pages es) (before pages es m + n) < to
 begun_in_front pages es k j to m e h l n u =
     let b = before_more pages es m e (omega (arith, h.entry)) in
@@ -233,7 +233,7 @@ begun_in_front pages es k j to m e h l n u =
     )
 
 -- where a position has a status, the block that holds it has
-pub held_has : (pages : List (List Block)) (es : List Entry) (k j x : ℕ) (e : Entry) (s : Status) → IsPaging pages es
+pub held_has : (pages : List (List Block)) (es : List PageEntry) (k j x : ℕ) (e : PageEntry) (s : Status) → IsPaging pages es
     → IsHeld pages es (x + 1) k j → Has (flat_map covered (flat pages es)) s x
     → HasAt (blocks_of pages (get_or es k e)) s (j - 1)
 held_has pages es k j x e s p h q =
@@ -253,13 +253,13 @@ held_has pages es k j x e s p h q =
     }
 
 -- the block that holds a position ends behind it, and so do the blocks of later pages
-pub held_behind : (pages : List (List Block)) (es : List Entry) (k j from : ℕ) → IsHeld pages es (from + 1) k j
+pub held_behind : (pages : List (List Block)) (es : List PageEntry) (k j from : ℕ) → IsHeld pages es (from + 1) k j
     → from < start_of (flat pages es) (before pages es k + (j - 1) + 1)
 held_behind pages es k j from h =
     let z : before pages es k + (j - 1) + 1 ≡ before pages es k + j = omega (arith, h.block) in
     rw z (omega (arith, h.place.reaches))
 
-pub held_below : (pages : List (List Block)) (es : List Entry) (k j from m : ℕ) → IsHeld pages es (from + 1) k j → k < m
+pub held_below : (pages : List (List Block)) (es : List PageEntry) (k j from m : ℕ) → IsHeld pages es (from + 1) k j → k < m
     → from < start_of (flat pages es) (before pages es m)
 held_below pages es k j from m h l =
     omega (
@@ -276,7 +276,7 @@ held_below pages es k j from m h l =
       )),
     )
 
-pub begun_front : (pages : List (List Block)) (es : List Entry) (k j to m : ℕ) → IsHeld pages es to k j → m ≤ k
+pub begun_front : (pages : List (List Block)) (es : List PageEntry) (k j to m : ℕ) → IsHeld pages es to k j → m ≤ k
     → start_of (flat pages es) (before pages es m) < to
 begun_front pages es k j to m h l =
     omega (
@@ -286,7 +286,7 @@ begun_front pages es k j to m h l =
           (omega (arith, h.block, before_mono pages es m k l)),
     )
 
-pub held_end : (pages : List (List Block)) (es : List Entry) (k j to : ℕ) (e : Entry) (s : Status) → IsPaging pages es
+pub held_end : (pages : List (List Block)) (es : List PageEntry) (k j to : ℕ) (e : PageEntry) (s : Status) → IsPaging pages es
     → IsHeld pages es to k j → Has (flat_map covered (flat pages es)) s (to - 1)
     → HasAt (blocks_of pages (get_or es k e)) s (j - 1)
 held_end pages es k j to e s p h q =
@@ -294,7 +294,7 @@ held_end pages es k j to e s p h q =
     held_has pages es k j (to - 1) e s p (rw z h) q
 
 -- behind the blocks of a whole page stand those of the next
-pub whole_page : (pages : List (List Block)) (es : List Entry) (k : ℕ) (e : Entry) (len : ℕ) → k < length es
+pub whole_page : (pages : List (List Block)) (es : List PageEntry) (k : ℕ) (e : PageEntry) (len : ℕ) → k < length es
     → len ≡ length (blocks_of pages (get_or es k e)) → before pages es k + len ≡ before pages es (k + 1)
 whole_page pages es k e len h q = omega (arith, before_more pages es k e h)
 

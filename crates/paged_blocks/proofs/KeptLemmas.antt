@@ -12,18 +12,18 @@ use Rattle.block_list.specs.Tiling.{AreTiles}
 use Rattle.block_list.proofs.TileLemmas.{covered-append, length_first, tiled_from_tiles, start_le_end}
 use Rattle.block_list.proofs.ApartLemmas.{merged_from_apart, apart_from_merged}
 use Rattle.block_list.proofs.StretchLemmas.{stretches_of_tiles, stretches_tiles, stretches_covered, stretches_apart}
-use Rattle.paged_blocks.specs.declared.entry.Entry.{Entry}
-use Rattle.paged_blocks.specs.Paging.{blocks_of, flat, before, IsEntryOf, IsEntry, IsAdded, IsKept, IsPaging, short_pages, naming}
+use Rattle.paged_blocks.specs.declared.entry.PageEntry.{PageEntry}
+use Rattle.paged_blocks.specs.Paging.{blocks_of, flat, before, IsEntryOf, IsEntry, IsAdded, IsKeptInPages, IsPaging, short_pages, naming}
 use Rattle.paged_blocks.proofs.PagingLemmas.{no_entry, before_le, before_more, before_all}
 use Rattle.paged_blocks.proofs.FilingLemmas.{naming-push, shorts-push, names_other, names_one, is_long, other_number, number_one, standing-push}
 
 -- an entry means the same where there are more pages
-pub blocks_kept : (pages : List (List Block)) (page : List Block) (e : Entry) → e.page < length pages
+pub blocks_kept : (pages : List (List Block)) (page : List Block) (e : PageEntry) → e.page < length pages
     → blocks_of (pages ++ page ∷ []) e ≡ blocks_of pages e
 blocks_kept pages page e h = get_or_append_left pages (page ∷ []) [] e.page h
 
-pub flat_kept : (pages : List (List Block)) (page : List Block) (es : List Entry)
-    → ((i : ℕ) (d : Entry) → i < length es → (get_or es i d).page < length pages)
+pub flat_kept : (pages : List (List Block)) (page : List Block) (es : List PageEntry)
+    → ((i : ℕ) (d : PageEntry) → i < length es → (get_or es i d).page < length pages)
     → flat (pages ++ page ∷ []) es ≡ flat pages es
 flat_kept pages page [] h = refl
 flat_kept pages page (e ∷ es) h =
@@ -31,10 +31,10 @@ flat_kept pages page (e ∷ es) h =
     ∙ ap (λ r. blocks_of pages e ++ r) (flat_kept pages page es (λ i d l. h (suc i) d (omega arith)))
 
 -- pages that were made from the first blocks of a list
-pub record IsFilling (pages : List (List Block)) (es : List Entry) (bs : List Block) (made : ℕ) : Type 0 where
+pub record IsFilling (pages : List (List Block)) (es : List PageEntry) (bs : List Block) (made : ℕ) : Type 0 where
   pub within : made ≤ length bs
   pub same : flat pages es ≡ take made bs
-  pub each : (i : ℕ) (d : Entry) → i < length es → IsEntry pages (get_or es i d)
+  pub each : (i : ℕ) (d : PageEntry) → i < length es → IsEntry pages (get_or es i d)
   pub once : (n : ℕ) → naming n es ≤ 1
   pub fresh : (n : ℕ) → length pages ≤ n → naming n es ≡ 0
   pub number : length es ≡ length pages
@@ -61,7 +61,7 @@ filling_none bs = record {
   rest = λ h l. absurd (omega arith);
 }
 
-entry_kept : (pages : List (List Block)) (page : List Block) (e : Entry) → IsEntry pages e → IsEntry (pages ++ page ∷ []) e
+entry_kept : (pages : List (List Block)) (page : List Block) (e : PageEntry) → IsEntry pages e → IsEntry (pages ++ page ∷ []) e
 entry_kept pages page e h =
     let q = blocks_kept pages page e h.page in
     record {
@@ -73,7 +73,7 @@ entry_kept pages page e h =
       tally = rw q h.tally;
     }
 
-entry_new : (pages : List (List Block)) (page : List Block) (e : Entry) → 0 < length page → IsEntryOf page (length pages) e
+entry_new : (pages : List (List Block)) (page : List Block) (e : PageEntry) → 0 < length page → IsEntryOf page (length pages) e
     → IsEntry (pages ++ page ∷ []) e
 entry_new pages page e s h =
     let q : blocks_of (pages ++ page ∷ []) e ≡ page = get_or_push pages page [] e.page (sym h.page) in
@@ -87,15 +87,15 @@ entry_new pages page e s h =
     }
 
 -- what holds of each entry holds with one more of which it holds
-each_more : (P : Entry → Type 0) (es : List Entry) (e : Entry) → ((i : ℕ) (d : Entry) → i < length es → P (get_or es i d)) → P e
-    → (i : ℕ) (d : Entry) → i < length (es ++ e ∷ []) → P (get_or (es ++ e ∷ []) i d)
+each_more : (P : PageEntry → Type 0) (es : List PageEntry) (e : PageEntry) → ((i : ℕ) (d : PageEntry) → i < length es → P (get_or es i d)) → P e
+    → (i : ℕ) (d : PageEntry) → i < length (es ++ e ∷ []) → P (get_or (es ++ e ∷ []) i d)
 each_more P es e h new i d l =
     ⊎_elim
     (λ (v : i < length es). rw (get_or_append_left es (e ∷ []) d i v) (h i d v))
     (λ (v : length es ≤ i). rw (get_or_push es e d i (omega (arith, length_push es e))) new)
     (cases_lt i (length es))
 
-pub filling_more : (pages : List (List Block)) (es : List Entry) (bs : List Block) (made to : ℕ) (page : List Block) (e : Entry)
+pub filling_more : (pages : List (List Block)) (es : List PageEntry) (bs : List Block) (made to : ℕ) (page : List Block) (e : PageEntry)
     → IsFilling pages es bs made → page ≡ slice_range bs made to → made < to → to ≤ length bs
     → (length bs - made ≤ 64 → to ≡ length bs) → (64 < length bs - made → made + 32 ≤ to)
     → (64 < length bs - made → to + 32 ≤ length bs) → IsEntryOf page (length pages) e
@@ -144,8 +144,8 @@ filling_more pages es bs made to page e f q l u all half rest new =
     }
 
 -- all of a map's stretches were put into pages
-pub filled : (pages : List (List Block)) (es : List Entry) (map : List Status) (made : ℕ) → length map < 2 ^ 63
-    → IsFilling pages es (stretches map) made → length (stretches map) ≤ made → IsKept pages es []
+pub filled : (pages : List (List Block)) (es : List PageEntry) (map : List Status) (made : ℕ) → length map < 2 ^ 63
+    → IsFilling pages es (stretches map) made → length (stretches map) ≤ made → IsKeptInPages pages es []
 filled pages es map made s f h =
     let e : flat pages es ≡ stretches map = f.same ∙ take_all made (stretches map) h in
     let t : IsTiled (stretches map) = tiled_from_tiles (stretches map) (0 + length map) (stretches_tiles 0 map) (omega arith) in
@@ -162,7 +162,7 @@ filled pages es map made s f h =
       };
     }
 
-pub filled_statuses : (pages : List (List Block)) (es : List Entry) (map : List Status) (made : ℕ)
+pub filled_statuses : (pages : List (List Block)) (es : List PageEntry) (map : List Status) (made : ℕ)
     → IsFilling pages es (stretches map) made → length (stretches map) ≤ made → flat_map covered (flat pages es) ≡ map
 filled_statuses pages es map made f h =
     ap (λ r. flat_map covered r) (f.same ∙ take_all made (stretches map) h) ∙ stretches_covered 0 map
@@ -186,20 +186,20 @@ range_short map made to page q =
       ap length (stretches_covered 0 map),
     )
 
-pub adding : (pages : List (List Block)) (es : List Entry) (bs : List Block) (made to : ℕ) (page : List Block)
-    (new : List (List Block)) (named : List Entry) → IsFilling pages es bs made → page ≡ slice_range bs made to
+pub adding : (pages : List (List Block)) (es : List PageEntry) (bs : List Block) (made to : ℕ) (page : List Block)
+    (new : List (List Block)) (named : List PageEntry) → IsFilling pages es bs made → page ≡ slice_range bs made to
     → made < to → to ≤ length bs → (length bs - made ≤ 64 → to ≡ length bs) → (64 < length bs - made → made + 32 ≤ to)
     → (64 < length bs - made → to + 32 ≤ length bs) → IsAdded pages es page new named → IsFilling new named bs to
 adding pages es bs made to page new named f q l u all half rest a =
     rw (a.grown, a.known.2) (filling_more pages es bs made to page a.known.0 f q l u all half rest a.known.1)
 
-pub block_there : (pages : List (List Block)) (es : List Entry) (k left i : ℕ) → before pages es k + left ≡ i
+pub block_there : (pages : List (List Block)) (es : List PageEntry) (k left i : ℕ) → before pages es k + left ≡ i
     → i < length (flat pages es) → k < length es
 block_there pages es k left i e h =
     ⊎_elim (λ (l : k < length es). l) (λ (l : length es ≤ k). absurd (omega (arith, before_all pages es k l))) (cases_lt k (length es))
 
 -- the blocks of all pages are the map's stretches
-pub stretches_of_paging : (pages : List (List Block)) (es : List Entry) → IsPaging pages es
+pub stretches_of_paging : (pages : List (List Block)) (es : List PageEntry) → IsPaging pages es
     → stretches (flat_map covered (flat pages es)) ≡ flat pages es
 stretches_of_paging pages es p = stretches_of_tiles 0 (flat pages es) (length (flat_map covered (flat pages es))) p.tiled.tiled (apart_from_merged (flat pages es) p.merged)
 
@@ -212,7 +212,7 @@ pub blocks_short : (bs : List Block) → IsTiled bs → length bs < 2 ^ 63
 blocks_short bs t = omega (arith, tiles_len 0 bs (length (flat_map covered bs)) t.tiled, t.short)
 
 -- a map has no more pages than blocks
-entries_few : (pages : List (List Block)) (es : List Entry) (i : ℕ) → IsPaging pages es → i ≤ length es → i ≤ before pages es i
+entries_few : (pages : List (List Block)) (es : List PageEntry) (i : ℕ) → IsPaging pages es → i ≤ length es → i ≤ before pages es i
 entries_few pages es zero p h = omega arith
 entries_few pages es (suc i) p h =
     let z : suc i ≡ i + 1 = omega arith in
@@ -223,7 +223,7 @@ entries_few pages es (suc i) p h =
       entries_few pages es i p (omega arith),
     ))
 
-pub entries_short : (pages : List (List Block)) (es : List Entry) → IsPaging pages es → length es < 2 ^ 63
+pub entries_short : (pages : List (List Block)) (es : List PageEntry) → IsPaging pages es → length es < 2 ^ 63
 entries_short pages es p =
     omega (
       arith,
@@ -233,8 +233,8 @@ entries_short pages es p =
     )
 
 -- one more page, which is free
-pub page_added : (pages : List (List Block)) (es : List Entry) (free : List ℕ) (n : ℕ) (page : List Block) → IsKept pages es free
-    → n ≡ length pages → IsKept (pages ++ page ∷ []) es (free ++ n ∷ [])
+pub page_added : (pages : List (List Block)) (es : List PageEntry) (free : List ℕ) (n : ℕ) (page : List Block) → IsKeptInPages pages es free
+    → n ≡ length pages → IsKeptInPages (pages ++ page ∷ []) es (free ++ n ∷ [])
 page_added pages es free n page k e =
     let q : flat (pages ++ page ∷ []) es ≡ flat pages es = flat_kept pages page es (λ i d l. (k.paging.each i d l).page) in
     record {

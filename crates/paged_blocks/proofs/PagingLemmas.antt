@@ -12,19 +12,19 @@ use Rattle.block_list.specs.Edits.{IsPlace, start_of}
 use Rattle.block_list.proofs.TileLemmas.{tile_at, start_mono, start_all}
 use Rattle.block_list.proofs.EditLemmas.{no_block, rising}
 use Rattle.block_list.proofs.LookupLemmas.{stretch_held, place_held}
-use Rattle.paged_blocks.specs.declared.entry.Entry.{Entry}
+use Rattle.paged_blocks.specs.declared.entry.PageEntry.{PageEntry}
 use Rattle.paged_blocks.specs.Search.{IsSearched}
 use Rattle.paged_blocks.specs.Paging.{blocks_of, flat, before, IsEntryOf, IsPaging, IsHeld}
 use Rattle.paged_blocks.proofs.SearchLemmas.{block_begins}
 
 -- an entry to read a list with
-abbrev pub no_entry : Entry
+abbrev pub no_entry : PageEntry
 no_entry = record { page = 0; pos = 0; len = 0; tally = record { non_tried = 0; non_trimmed = 0; non_scraped = 0; bad_sector = 0; finished = 0 } }
 
-abbrev pub entry_begins : Entry → ℕ
+abbrev pub entry_begins : PageEntry → ℕ
 entry_begins e = e.pos
 
-pub before_le : (pages : List (List Block)) (es : List Entry) (i : ℕ) → before pages es i ≤ length (flat pages es)
+pub before_le : (pages : List (List Block)) (es : List PageEntry) (i : ℕ) → before pages es i ≤ length (flat pages es)
 before_le pages es i =
     omega (
       arith,
@@ -33,33 +33,33 @@ before_le pages es i =
       length-append (flat pages (take i es)) (flat pages (drop i es)),
     )
 
-pub before_mono : (pages : List (List Block)) (es : List Entry) (i j : ℕ) → i ≤ j → before pages es i ≤ before pages es j
+pub before_mono : (pages : List (List Block)) (es : List PageEntry) (i j : ℕ) → i ≤ j → before pages es i ≤ before pages es j
 before_mono pages es i j h = rw (take-take i j es h) at (before_le pages (take j es) i)
 
-pub before_more : (pages : List (List Block)) (es : List Entry) (i : ℕ) (d : Entry) → i < length es
+pub before_more : (pages : List (List Block)) (es : List PageEntry) (i : ℕ) (d : PageEntry) → i < length es
     → before pages es (i + 1) ≡ before pages es i + length (blocks_of pages (get_or es i d))
 before_more pages es i d h =
-    let e : Entry = get_or es i d in
+    let e : PageEntry = get_or es i d in
     ap (λ r. length (flat pages r)) (take_more es i d h)
     ∙ ap length (flat_map-append (blocks_of pages) (take i es) (e ∷ []))
     ∙ length-append (flat pages (take i es)) (blocks_of pages e ++ [])
     ∙ omega (arith, length-append (blocks_of pages e) [])
 
-pub before_all : (pages : List (List Block)) (es : List Entry) (i : ℕ) → length es ≤ i → before pages es i ≡ length (flat pages es)
+pub before_all : (pages : List (List Block)) (es : List PageEntry) (i : ℕ) → length es ≤ i → before pages es i ≡ length (flat pages es)
 before_all pages es i h = ap (λ r. length (flat pages r)) (take_all i es h)
 
 -- a block of a page is one of the map's
-pub page_read : (pages : List (List Block)) (es : List Entry) (i j : ℕ) (e : Entry) (d : Block) → i < length es
+pub page_read : (pages : List (List Block)) (es : List PageEntry) (i j : ℕ) (e : PageEntry) (d : Block) → i < length es
     → j < length (blocks_of pages (get_or es i e))
     → get_or (flat pages es) (before pages es i + j) d ≡ get_or (blocks_of pages (get_or es i e)) j d
 page_read pages es i j e d h l = get_or-flat_map (blocks_of pages) es i j e d h l
 
-pub page_index : (pages : List (List Block)) (es : List Entry) (i j : ℕ) (e : Entry) → i < length es
+pub page_index : (pages : List (List Block)) (es : List PageEntry) (i j : ℕ) (e : PageEntry) → i < length es
     → j < length (blocks_of pages (get_or es i e)) → before pages es i + j < length (flat pages es)
 page_index pages es i j e h l = omega (arith, before_more pages es i e h, before_le pages es (i + 1))
 
 -- an entry begins where the blocks in front of its page end
-pub entry_at : (pages : List (List Block)) (es : List Entry) (i : ℕ) (d : Entry) → IsPaging pages es → i < length es
+pub entry_at : (pages : List (List Block)) (es : List PageEntry) (i : ℕ) (d : PageEntry) → IsPaging pages es → i < length es
     → (get_or es i d).pos ≡ start_of (flat pages es) (before pages es i)
 entry_at pages es i d p h =
     let e = p.each i d h in
@@ -68,7 +68,7 @@ entry_at pages es i d p h =
     let t = tile_at (flat pages es) (before pages es i) no_block p.tiled (rw z at (page_index pages es i 0 d h e.some)) in
     omega (arith, r, t.begins, e.begins no_block)
 
-pub entries_rise : (pages : List (List Block)) (es : List Entry) → IsPaging pages es → IsNonDecreasingBy entry_begins es
+pub entries_rise : (pages : List (List Block)) (es : List PageEntry) → IsPaging pages es → IsNonDecreasingBy entry_begins es
 entries_rise pages es p i j d l u =
     omega (
       arith,
@@ -77,7 +77,7 @@ entries_rise pages es p i j d l u =
       start_mono (flat pages es) (before pages es i) (before pages es j) (before_mono pages es i j l),
     )
 
-pub blocks_rise : (pages : List (List Block)) (es : List Entry) (k : ℕ) (e : Entry) → IsPaging pages es → k < length es
+pub blocks_rise : (pages : List (List Block)) (es : List PageEntry) (k : ℕ) (e : PageEntry) → IsPaging pages es → k < length es
     → IsNonDecreasingBy block_begins (blocks_of pages (get_or es k e))
 blocks_rise pages es k e p h i j d l u =
     let v : i < length (blocks_of pages (get_or es k e)) = omega arith in
@@ -90,7 +90,7 @@ blocks_rise pages es k e p h i j d l u =
     )
 
 -- the blocks of the first pages, and of the last of them those that begin before a position, are those of the map that do
-pub place_in_page : (pages : List (List Block)) (es : List Entry) (at k j : ℕ) (e : Entry) → IsPaging pages es
+pub place_in_page : (pages : List (List Block)) (es : List PageEntry) (at k j : ℕ) (e : PageEntry) → IsPaging pages es
     → 0 < at → at ≤ length (flat_map covered (flat pages es)) → IsSearched entry_begins es at (k + 1)
     → IsSearched block_begins (blocks_of pages (get_or es k e)) at j
     → IsPlace (flat pages es) at (before pages es k + j)
@@ -137,7 +137,7 @@ place_in_page pages es at k j e p z w s t =
     }
 
 -- a map that has a position has a page, and the first one begins before the position's end
-pub some_entry : (pages : List (List Block)) (es : List Entry) (at : ℕ) → 0 < at
+pub some_entry : (pages : List (List Block)) (es : List PageEntry) (at : ℕ) → 0 < at
     → at ≤ length (flat_map covered (flat pages es)) → 0 < length es
 some_entry pages es at z w =
     let bs : List Block = flat pages es in
@@ -149,7 +149,7 @@ some_entry pages es at z w =
     absurd (omega (arith, start_all bs 0 e, start)))
     (cases_lt 0 (length es))
 
-pub first_entry : (pages : List (List Block)) (es : List Entry) (at : ℕ) (d : Entry) → IsPaging pages es → 0 < at
+pub first_entry : (pages : List (List Block)) (es : List PageEntry) (at : ℕ) (d : PageEntry) → IsPaging pages es → 0 < at
     → at ≤ length (flat_map covered (flat pages es)) → (get_or es 0 d).pos < at
 first_entry pages es at d p z w =
     let none : before pages es 0 ≡ 0 = refl in
@@ -157,12 +157,12 @@ first_entry pages es at d p z w =
     omega (arith, rw none at (entry_at pages es 0 d p (some_entry pages es at z w)), start)
 
 -- its page's first block does too
-pub first_block_begins : (pages : List (List Block)) (es : List Entry) (at k : ℕ) (e : Entry) (d : Block) → IsPaging pages es
+pub first_block_begins : (pages : List (List Block)) (es : List PageEntry) (at k : ℕ) (e : PageEntry) (d : Block) → IsPaging pages es
     → IsSearched entry_begins es at (k + 1) → (get_or (blocks_of pages (get_or es k e)) 0 d).pos < at
 first_block_begins pages es at k e d p s =
     omega (arith, (p.each k e (omega (arith, s.within))).begins d, s.before k e (omega arith))
 
-pub some_block : (pages : List (List Block)) (es : List Entry) (at k j : ℕ) (e : Entry) → IsPaging pages es
+pub some_block : (pages : List (List Block)) (es : List PageEntry) (at k j : ℕ) (e : PageEntry) → IsPaging pages es
     → IsSearched entry_begins es at (k + 1) → IsSearched block_begins (blocks_of pages (get_or es k e)) at j → 0 < j
 some_block pages es at k j e p s t =
     let y = p.each k e (omega (arith, s.within)) in
@@ -170,7 +170,7 @@ some_block pages es at k j e p s t =
     (λ (l : j ≤ 0). absurd (omega (arith, t.behind 0 no_block l y.some, y.begins no_block, s.before k e (omega arith))))
     (cases_lt 0 j)
 
-pub held_in_page : (pages : List (List Block)) (es : List Entry) (at k j : ℕ) (e : Entry) (page : List Block)
+pub held_in_page : (pages : List (List Block)) (es : List PageEntry) (at k j : ℕ) (e : PageEntry) (page : List Block)
     → IsPaging pages es → 0 < at → at ≤ length (flat_map covered (flat pages es)) → IsSearched entry_begins es at (k + 1)
     → page ≡ blocks_of pages (get_or es k e) → IsSearched block_begins page at j → IsHeld pages es at k j
 held_in_page pages es at k j e page p z w s q t =
@@ -184,12 +184,12 @@ held_in_page pages es at k j e page p z w s q t =
     }
 
 -- the page that was read is that of the entry
-pub named : (pages : List (List Block)) (es : List Entry) (k : ℕ) (e : Entry) (page : List Block) → IsPaging pages es
+pub named : (pages : List (List Block)) (es : List PageEntry) (k : ℕ) (e : PageEntry) (page : List Block) → IsPaging pages es
     → k < length es → page ≡ get_or pages (get_or es k e).page page → page ≡ blocks_of pages (get_or es k e)
 named pages es k e page p h q = q ∙ get_or_default pages (get_or es k e).page page [] (p.each k e h).page
 
 -- an entry that was read says what its page holds
-pub entry_says : (pages : List (List Block)) (es : List Entry) (k : ℕ) (d e : Entry) (page : List Block) → IsPaging pages es
+pub entry_says : (pages : List (List Block)) (es : List PageEntry) (k : ℕ) (d e : PageEntry) (page : List Block) → IsPaging pages es
     → k < length es → e ≡ get_or es k d → page ≡ get_or pages e.page page → IsEntryOf page e.page e
 entry_says pages es k d e page p h q r =
     let y = p.each k d h in
@@ -197,13 +197,13 @@ entry_says pages es k d e page p h q r =
     rw (v, q) (record { page = refl; len = y.len; fits = y.fits; begins = y.begins; tally = y.tally })
 
 -- a block that was read in its page
-pub read_in_page : (pages : List (List Block)) (es : List Entry) (k j : ℕ) (e : Entry) (b : Block) → k < length es
+pub read_in_page : (pages : List (List Block)) (es : List PageEntry) (k j : ℕ) (e : PageEntry) (b : Block) → k < length es
     → slice_get (blocks_of pages (get_or es k e)) j ≡ Some b → b ≡ get_or (flat pages es) (before pages es k + j) b
 read_in_page pages es k j e b h r =
     sym (get_or_from_slice_get (blocks_of pages (get_or es k e)) j b b r)
     ∙ sym (page_read pages es k j e b h (slice_get_within (blocks_of pages (get_or es k e)) j b r))
 
-pub stretch_in_page : (pages : List (List Block)) (es : List Entry) (x k j : ℕ) (e : Entry) (page : List Block) (b : Block)
+pub stretch_in_page : (pages : List (List Block)) (es : List PageEntry) (x k j : ℕ) (e : PageEntry) (page : List Block) (b : Block)
     → IsPaging pages es → IsHeld pages es (x + 1) k j → page ≡ get_or pages (get_or es k e).page page
     → slice_get page (j - 1) ≡ Some b → IsStretchAt (flat_map covered (flat pages es)) x b
 stretch_in_page pages es x k j e page b p h q r =
@@ -212,7 +212,7 @@ stretch_in_page pages es x k j e page b p h q r =
     stretch_held _ _ _ _ p.tiled p.merged h.place (rw z at w)
 
 -- a block that was read in the page of an entry is the map's
-pub block_in_page : (pages : List (List Block)) (es : List Entry) (k j i : ℕ) (e : Entry) (page : List Block) (b : Block)
+pub block_in_page : (pages : List (List Block)) (es : List PageEntry) (k j i : ℕ) (e : PageEntry) (page : List Block) (b : Block)
     → IsPaging pages es → k < length es → before pages es k + j ≡ i → page ≡ get_or pages (get_or es k e).page page
     → slice_get page j ≡ Some b → slice_get (flat pages es) i ≡ Some b
 block_in_page pages es k j i e page b p h z q r =
@@ -224,7 +224,7 @@ block_in_page pages es k j i e page b p h z q r =
     rw z at v
 
 -- a block of a page that holds a position is the last one that begins at or before it
-pub held_there : (pages : List (List Block)) (es : List Entry) (x k j : ℕ) (e : Entry) (page : List Block) (b : Block)
+pub held_there : (pages : List (List Block)) (es : List PageEntry) (x k j : ℕ) (e : PageEntry) (page : List Block) (b : Block)
     → IsPaging pages es → k < length es → page ≡ get_or pages (get_or es k e).page page → slice_get page j ≡ Some b
     → b.pos ≤ x → x - b.pos < b.size → IsHeld pages es (x + 1) k (j + 1)
 held_there pages es x k j e page b p h q r l u =
@@ -240,20 +240,20 @@ held_there pages es x k j e page b p h q r l u =
     }
 
 -- the block that was read in the page of the last one that begins before a position
-pub held_read : (pages : List (List Block)) (es : List Entry) (at k j : ℕ) (e : Entry) (page : List Block) (b : Block)
+pub held_read : (pages : List (List Block)) (es : List PageEntry) (at k j : ℕ) (e : PageEntry) (page : List Block) (b : Block)
     → IsPaging pages es → IsHeld pages es at k j → page ≡ get_or pages (get_or es k e).page page
     → slice_get page (j - 1) ≡ Some b → b ≡ get_or (flat pages es) (before pages es k + (j - 1)) b
 held_read pages es at k j e page b p h q r =
     read_in_page pages es k (j - 1) e b h.entry (rw (named pages es k e page p h.entry q) at r)
 
-pub last_index : (pages : List (List Block)) (es : List Entry) (d : Entry) → IsPaging pages es → 0 < length es
+pub last_index : (pages : List (List Block)) (es : List PageEntry) (d : PageEntry) → IsPaging pages es → 0 < length es
     → before pages es (length es - 1) + (get_or es (length es - 1) d).len ≡ length (flat pages es)
 last_index pages es d p h =
     let k : ℕ = length es - 1 in
     omega (arith, (p.each k d (omega arith)).len, before_more pages es k d (omega arith), before_all pages es (k + 1) (omega arith))
 
 -- a map with a page has a position
-pub some_position : (pages : List (List Block)) (es : List Entry) → IsPaging pages es → 0 < length es
+pub some_position : (pages : List (List Block)) (es : List PageEntry) → IsPaging pages es → 0 < length es
     → 0 < length (flat_map covered (flat pages es))
 some_position pages es p h =
     let e = p.each 0 no_entry h in

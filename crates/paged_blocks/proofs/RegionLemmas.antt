@@ -7,7 +7,7 @@ use Rattle.std.proofs.Math.Seq.{take-add}
 use Rattle.block_list.specs.declared.block.Block.{Block}
 use Rattle.block_list.specs.Stretches.{covered}
 use Rattle.block_list.proofs.TileLemmas.{covered-append}
-use Rattle.paged_blocks.specs.declared.entry.Entry.{Entry}
+use Rattle.paged_blocks.specs.declared.entry.PageEntry.{PageEntry}
 use Rattle.paged_blocks.specs.Paging.{blocks_of, flat, before, IsPaging}
 use Rattle.paged_blocks.specs.Marks.{spliced, edited, edit_from, edit_to, IsEdit}
 use Rattle.paged_blocks.specs.declared.marks.Edit.{Edit}
@@ -32,13 +32,13 @@ take_on xs from to l =
     sym (take-add from (to - from) xs) ∙ ap (λ k. take k xs) z
 
 -- the blocks of the first pages, and those of the others
-pub flat_parts : (pages : List (List Block)) (es : List Entry) (k : ℕ)
+pub flat_parts : (pages : List (List Block)) (es : List PageEntry) (k : ℕ)
     → flat pages es ≡ flat pages (take k es) ++ flat pages (drop k es)
 flat_parts pages es k =
     ap (λ r. flat pages r) (sym (take-append-drop k es)) ∙ flat_map-append (blocks_of pages) (take k es) (drop k es)
 
 -- the blocks of all pages around those of one
-around_page : (pages : List (List Block)) (es : List Entry) (k : ℕ) (d : Entry) → k < length es
+around_page : (pages : List (List Block)) (es : List PageEntry) (k : ℕ) (d : PageEntry) → k < length es
     → flat pages es ≡ flat pages (take k es) ++ (blocks_of pages (get_or es k d) ++ flat pages (drop (k + 1) es))
 around_page pages es k d h =
     ap (λ r. flat pages r) (sym (take-append-drop k es))
@@ -46,7 +46,7 @@ around_page pages es k d h =
     ∙ ap (λ r. flat pages (take k es) ++ flat pages r) (drop_more es k d h)
 
 -- the blocks in front of one in a page, and those from it on
-pub front_blocks : (pages : List (List Block)) (es : List Entry) (k i : ℕ) (d : Entry) → k < length es
+pub front_blocks : (pages : List (List Block)) (es : List PageEntry) (k i : ℕ) (d : PageEntry) → k < length es
     → i ≤ length (blocks_of pages (get_or es k d))
     → take (before pages es k + i) (flat pages es) ≡ flat pages (take k es) ++ take i (blocks_of pages (get_or es k d))
 front_blocks pages es k i d h l =
@@ -61,7 +61,7 @@ front_blocks pages es k i d h l =
     ∙ take_at (front ++ take i page) back (before pages es k + i)
     (omega (arith, length-append front (take i page), length-take-le i page l))
 
-pub back_blocks : (pages : List (List Block)) (es : List Entry) (k i : ℕ) (d : Entry) → k < length es
+pub back_blocks : (pages : List (List Block)) (es : List PageEntry) (k i : ℕ) (d : PageEntry) → k < length es
     → i ≤ length (blocks_of pages (get_or es k d))
     → drop (before pages es k + i) (flat pages es) ≡ drop i (blocks_of pages (get_or es k d)) ++ flat pages (drop (k + 1) es)
 back_blocks pages es k i d h l =
@@ -77,7 +77,7 @@ back_blocks pages es k i d h l =
     (omega (arith, length-append front (take i page), length-take-le i page l))
 
 -- the blocks that an edit leaves of its first page, its own, and those that it leaves of its last page
-pub touched_same : (pages : List (List Block)) (es : List Entry) (k i l j : ℕ) (d : Entry) (new : List Block)
+pub touched_same : (pages : List (List Block)) (es : List PageEntry) (k i l j : ℕ) (d : PageEntry) (new : List Block)
     → k < length es → i ≤ length (blocks_of pages (get_or es k d)) → l < length es
     → j ≤ length (blocks_of pages (get_or es l d))
     → flat pages (take k es)
@@ -88,7 +88,7 @@ touched_same pages es k i l j d new h u v w =
     rw (front_blocks pages es k i d h u, back_blocks pages es l j d v w) (simp append_assoc)
 
 -- pages hold at most 64 blocks each
-pub pages_hold : (pages : List (List Block)) (es : List Entry) (i n : ℕ) → IsPaging pages es → i + n ≤ length es
+pub pages_hold : (pages : List (List Block)) (es : List PageEntry) (i n : ℕ) → IsPaging pages es → i + n ≤ length es
     → before pages es (i + n) ≤ before pages es i + 64 * n
 pages_hold pages es i zero p l = let z : i + zero ≡ i = omega arith in rw z (omega arith)
 pages_hold pages es i (suc n) p l =
@@ -102,7 +102,7 @@ pages_hold pages es i (suc n) p l =
     ))
 
 -- an edit in the one page that it touches
-pub page_edited : (pages : List (List Block)) (es : List Entry) (e : Edit) (page : List Block) → IsEdit pages es e
+pub page_edited : (pages : List (List Block)) (es : List PageEntry) (e : Edit) (page : List Block) → IsEdit pages es e
     → e.first ≡ e.last → page ≡ spliced (blocks_of pages (get_or es e.first no_entry)) e.from e.to e.new
     → flat pages (take e.first es) ++ page ++ flat pages (drop (e.first + 1) es) ≡ edited pages es e
 page_edited pages es e page i s q =
@@ -114,7 +114,7 @@ page_edited pages es e page i s q =
     ∙ ap (λ k. spliced (flat pages es) (before pages es e.first + e.from) (before pages es k + e.to) e.new) s
 
 -- such a page has as many blocks more as the edit has
-pub page_len : (pages : List (List Block)) (es : List Entry) (e : Edit) (page : List Block) → IsEdit pages es e
+pub page_len : (pages : List (List Block)) (es : List PageEntry) (e : Edit) (page : List Block) → IsEdit pages es e
     → e.first ≡ e.last → page ≡ spliced (blocks_of pages (get_or es e.first no_entry)) e.from e.to e.new
     → length page + e.to ≡ length (blocks_of pages (get_or es e.first no_entry)) + e.from + length e.new
 page_len pages es e page i s q =
@@ -131,7 +131,7 @@ page_len pages es e page i s q =
       u,
     )
 
-pub page_some : (pages : List (List Block)) (es : List Entry) (e : Edit) (page : List Block) → IsEdit pages es e
+pub page_some : (pages : List (List Block)) (es : List PageEntry) (e : Edit) (page : List Block) → IsEdit pages es e
     → e.first ≡ e.last → page ≡ spliced (blocks_of pages (get_or es e.first no_entry)) e.from e.to e.new → 0 < length page
 page_some pages es e page i s q =
     omega (
@@ -155,7 +155,7 @@ middle_short front middle back =
     )
 
 -- a page has no more positions than all
-pub page_short : (pages : List (List Block)) (es : List Entry) (k : ℕ) (d : Entry) → k < length es
+pub page_short : (pages : List (List Block)) (es : List PageEntry) (k : ℕ) (d : PageEntry) → k < length es
     → length (flat_map covered (blocks_of pages (get_or es k d))) ≤ length (flat_map covered (flat pages es))
 page_short pages es k d h =
     let front : List Block = flat pages (take k es) in
@@ -168,7 +168,7 @@ page_short pages es k d h =
     omega (arith, middle_short front page back, ap (λ r. length (flat_map covered r)) e)
 
 -- the blocks of a region are at most two more than its pages hold
-pub region_few : (pages : List (List Block)) (es : List Entry) (r : Region) → IsPaging pages es → IsRegion es r
+pub region_few : (pages : List (List Block)) (es : List PageEntry) (r : Region) → IsPaging pages es → IsRegion es r
     → length (refilled pages es r) ≤ length (flat pages es) + 2 → length r.blocks ≤ 64 * (r.behind - r.first) + 2
 region_few pages es r p i g =
     let z : r.first + (r.behind - r.first) ≡ r.behind = omega (arith, i.order) in
@@ -183,12 +183,12 @@ region_few pages es r p i g =
     )
 
 -- a region with the page behind it, and with the page in front of it
-pub next_same : (pages : List (List Block)) (es : List Entry) (front blocks : List Block) (k : ℕ) (d : Entry) → k < length es
+pub next_same : (pages : List (List Block)) (es : List PageEntry) (front blocks : List Block) (k : ℕ) (d : PageEntry) → k < length es
     → front ++ (blocks ++ blocks_of pages (get_or es k d)) ++ flat pages (drop (k + 1) es)
     ≡ front ++ blocks ++ flat pages (drop k es)
 next_same pages es front blocks k d h = rw (drop_more es k d h) (simp append_assoc)
 
-pub former_same : (pages : List (List Block)) (es : List Entry) (back blocks : List Block) (k i : ℕ) (d : Entry) → i ≡ k + 1 → k < length es
+pub former_same : (pages : List (List Block)) (es : List PageEntry) (back blocks : List Block) (k i : ℕ) (d : PageEntry) → i ≡ k + 1 → k < length es
     → flat pages (take k es) ++ (blocks_of pages (get_or es k d) ++ blocks) ++ back
     ≡ flat pages (take i es) ++ blocks ++ back
 former_same pages es back blocks k i d e h =
@@ -206,7 +206,7 @@ former_blocks none one two page blocks m z a p c =
     ∙ ap (λ x. x ++ blocks) (a ∙ ap (λ x. x ++ slice_range page 0 m) z ∙ ap (λ i. slice_range page 0 i) p ∙ range_whole page)
 
 -- of two places in pages the earlier one is in a page no later
-pub page_order : (pages : List (List Block)) (es : List Entry) (k i l j : ℕ) (d : Entry) → l < length es
+pub page_order : (pages : List (List Block)) (es : List PageEntry) (k i l j : ℕ) (d : PageEntry) → l < length es
     → j ≤ length (blocks_of pages (get_or es l d)) → before pages es k + i < before pages es l + j → k ≤ l
 page_order pages es k i l j d h u o =
     ⊎_elim (λ (v : l < k). absurd (omega (arith, before_more pages es l d h, before_mono pages es (l + 1) k (omega arith))))
@@ -224,12 +224,12 @@ touched_blocks none one two three front new back from to m z a b k c =
     ∙ ap (λ r. take from front ++ new ++ r) (range_back back to)
 
 -- a place in a page is one among all blocks
-place_within : (pages : List (List Block)) (es : List Entry) (k i : ℕ) (d : Entry) → k < length es
+place_within : (pages : List (List Block)) (es : List PageEntry) (k i : ℕ) (d : PageEntry) → k < length es
     → i ≤ length (blocks_of pages (get_or es k d)) → before pages es k + i ≤ length (flat pages es)
 place_within pages es k i d h u = omega (arith, before_more pages es k d h, before_le pages es (k + 1))
 
 -- how many blocks there are after an edit
-pub edit_len : (pages : List (List Block)) (es : List Entry) (e : Edit) → IsEdit pages es e
+pub edit_len : (pages : List (List Block)) (es : List PageEntry) (e : Edit) → IsEdit pages es e
     → length (edited pages es e) + edit_to pages es e ≡ length (flat pages es) + edit_from pages es e + length e.new
 edit_len pages es e h =
     let bs : List Block = flat pages es in

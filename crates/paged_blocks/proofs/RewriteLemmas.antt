@@ -4,10 +4,10 @@ use Rattle.std.proofs.lemmas.List.Elements.{All-append, All-take, All-drop}
 use Rattle.block_list.specs.declared.block.Block.{Block}
 use Rattle.block_list.specs.Tiling.{IsMerged}
 use Rattle.block_list.specs.Edits.{IsTiled}
-use Rattle.paged_blocks.specs.declared.entry.Entry.{Entry}
+use Rattle.paged_blocks.specs.declared.entry.PageEntry.{PageEntry}
 use Rattle.paged_blocks.specs.declared.marks.Edit.{Edit}
 use Rattle.paged_blocks.specs.declared.regions.Region.{Region}
-use Rattle.paged_blocks.specs.Paging.{blocks_of, flat, before, IsEntry, IsKept, AreFiled, IsRewritten}
+use Rattle.paged_blocks.specs.Paging.{blocks_of, flat, before, IsEntry, IsKeptInPages, AreFiled, IsRewritten}
 use Rattle.paged_blocks.specs.Marks.{spliced, edited, IsEdit}
 use Rattle.paged_blocks.specs.Regions.{IsRegion, StaysInPage, refilled}
 use Rattle.paged_blocks.specs.Room.{room_for}
@@ -16,8 +16,8 @@ use Rattle.paged_blocks.proofs.FilingLemmas.{rewritten, rewritten_flat, kept_lon
 use Rattle.paged_blocks.proofs.RegionLemmas.{page_edited, page_len, edit_len, region_few}
 
 -- the blocks of all pages where one was written anew
-pub page_flat : (pages : List (List Block)) (es : List Entry) (free : List ℕ) (e : Edit) (page : List Block)
-    (new : List (List Block)) (named : List Entry) → IsKept pages es free → IsEdit pages es e → e.first ≡ e.last
+pub page_flat : (pages : List (List Block)) (es : List PageEntry) (free : List ℕ) (e : Edit) (page : List Block)
+    (new : List (List Block)) (named : List PageEntry) → IsKeptInPages pages es free → IsEdit pages es e → e.first ≡ e.last
     → page ≡ spliced (blocks_of pages (get_or es e.first no_entry)) e.from e.to e.new → 0 < length page
     → IsRewritten pages es e.first page new named → flat new named ≡ edited pages es e
 page_flat pages es free e page new named k i s q some w =
@@ -27,11 +27,11 @@ page_flat pages es free e page new named k i s q some w =
     ∙ page_edited pages es e page i s q
 
 -- the map is kept where the page of an edit was written anew
-pub page_kept : (pages : List (List Block)) (es : List Entry) (free : List ℕ) (e : Edit) (page : List Block)
-    (new : List (List Block)) (named : List Entry) → IsKept pages es free → IsEdit pages es e → StaysInPage es e
+pub page_kept : (pages : List (List Block)) (es : List PageEntry) (free : List ℕ) (e : Edit) (page : List Block)
+    (new : List (List Block)) (named : List PageEntry) → IsKeptInPages pages es free → IsEdit pages es e → StaysInPage es e
     → page ≡ spliced (blocks_of pages (get_or es e.first no_entry)) e.from e.to e.new → 0 < length page
     → IsTiled (edited pages es e) → IsMerged (edited pages es e)
-    → IsRewritten pages es e.first page new named → IsKept new named free
+    → IsRewritten pages es e.first page new named → IsKeptInPages new named free
 page_kept pages es free e page new named k i s q some t m w =
     let h : e.first < length es = omega (arith, i.order, i.last) in
     let a : AreFiled pages es free = record { each = k.paging.each; numbered = k.numbered } in
@@ -74,18 +74,18 @@ pub one_left : (pages capacity entries blocks total : ℕ) → total ≤ blocks 
 one_left pages capacity entries blocks total l h = omega (arith, h)
 
 -- a region that has an edit's blocks has at most two more than its pages hold
-pub region_size : (pages : List (List Block)) (es : List Entry) (free : List ℕ) (e : Edit) (r : Region) → IsKept pages es free
+pub region_size : (pages : List (List Block)) (es : List PageEntry) (free : List ℕ) (e : Edit) (r : Region) → IsKeptInPages pages es free
     → IsEdit pages es e → IsRegion es r → refilled pages es r ≡ edited pages es e
     → length r.blocks ≤ 64 * (r.behind - r.first) + 2
 region_size pages es free e r k i g q =
     region_few pages es r k.paging g (omega (arith, ap length q, edit_len pages es e i, i.gain))
 
-pub region_room : (pages : List (List Block)) (es : List Entry) (free : List ℕ) (made capacity entries : ℕ) (e : Edit) (r : Region)
-    → IsKept pages es free → IsEdit pages es e → IsRegion es r → refilled pages es r ≡ edited pages es e
+pub region_room : (pages : List (List Block)) (es : List PageEntry) (free : List ℕ) (made capacity entries : ℕ) (e : Edit) (r : Region)
+    → IsKeptInPages pages es free → IsEdit pages es e → IsRegion es r → refilled pages es r ≡ edited pages es e
     → entries ≡ length es → 1 ≤ room_for made capacity entries (length (edited pages es e) - 1)
     → 64 * entries + length r.blocks ≤ 64 * (min made capacity + (r.behind - r.first))
 region_room pages es free made capacity entries e r k i g q n s =
-    let kept : List Entry = take r.first es ++ drop r.behind es in
+    let kept : List PageEntry = take r.first es ++ drop r.behind es in
     let z = kept_long es kept r.first r.behind k.half g.order g.within g.taken refl in
     let each : All (IsEntry pages) kept = All-append (IsEntry pages) (take r.first es) (drop r.behind es)
     (All-take (IsEntry pages) r.first es k.paging.each) (All-drop (IsEntry pages) r.behind es k.paging.each) in

@@ -6,7 +6,7 @@ use Rattle.std.proofs.lemmas.List.{take-append-drop, take-take, drop-drop, lengt
 use Rattle.std.proofs.lemmas.List.Edits.{length-between}
 use Rattle.std.proofs.Math.ListN.{get_or-map}
 use Rattle.paged_blocks.specs.declared.page.Page.TheInside.{Inside}
-use Rattle.paged_blocks.specs.declared.page.Kept.{Kept}
+use Rattle.paged_blocks.specs.declared.page.KeptStatus.{KeptStatus}
 use Rattle.block_list.specs.declared.block.Block.{Block}
 use Rattle.block_list.specs.declared.status.Status.{Status}
 use Rattle.block_list.specs.Stretches.{covered, stretches}
@@ -192,15 +192,15 @@ searched_rows ps ss end at n e s = record {
 
 -- a page has a status for each begin
 pub alike : (p : Inside) → IsPage p → length (statuses_of p.statuses.items) ≡ length p.starts.items
-alike p h = omega (arith, length-map p.statuses.items (λ (k : Kept). k.status), h.alike)
+alike p h = omega (arith, length-map p.statuses.items (λ (k : KeptStatus). k.status), h.alike)
 
 -- a page with one more block
-pub pushed : (ps : List ℕ) (ks : List Kept) (end : ℕ) (b : Block) (self : List Block) → length (statuses_of ks) ≡ length ps
+pub pushed : (ps : List ℕ) (ks : List KeptStatus) (end : ℕ) (b : Block) (self : List Block) → length (statuses_of ks) ≡ length ps
     → rows ps (statuses_of ks) end ≡ self → AreRow (self ++ b ∷ [])
     → rows (ps ++ b.pos ∷ []) (statuses_of (ks ++ record { status = b.status } ∷ [])) (b.pos + b.size) ≡ self ++ b ∷ []
 pushed ps ks end b self e v r =
     let t : AreTiles r.low (rows ps (statuses_of ks) end ++ b ∷ []) r.end = rw v r.tiled in
-    ap (λ ss. rows (ps ++ b.pos ∷ []) ss (b.pos + b.size)) (map-append (λ (k : Kept). k.status) ks (record { status = b.status } ∷ []))
+    ap (λ ss. rows (ps ++ b.pos ∷ []) ss (b.pos + b.size)) (map-append (λ (k : KeptStatus). k.status) ks (record { status = b.status } ∷ []))
     ∙ rows_push r.low r.end ps (statuses_of ks) end b e t
     ∙ ap (λ bs. bs ++ b ∷ []) v
 
@@ -214,7 +214,7 @@ pub page_size : (p : Inside) (self : List Block) → rows_of p ≡ self → IsPa
 page_size p self v h = ap length (sym v) ∙ rows_length p.starts.items (statuses_of p.statuses.items) p.end (alike p h)
 
 -- a block of a page
-pub page_block : (p : Inside) (self : List Block) (i pos size : ℕ) (s : Status) (d : ℕ) (k : Kept) → rows_of p ≡ self → IsPage p
+pub page_block : (p : Inside) (self : List Block) (i pos size : ℕ) (s : Status) (d : ℕ) (k : KeptStatus) → rows_of p ≡ self → IsPage p
     → i < length p.starts.items → pos ≡ get_or p.starts.items i d
     → size ≡ first_or (drop (i + 1) p.starts.items) p.end - pos → s ≡ (get_or p.statuses.items i k).status
     → slice_get self i ≡ Some (record { pos = pos; size = size; status = s })
@@ -222,7 +222,7 @@ page_block p self i pos size s d k v h l a b q =
     let ps : List ℕ = p.starts.items in
     let t : Status = get_or (statuses_of p.statuses.items) i k.status in
     let g = rows_get ps (statuses_of p.statuses.items) p.end i d k.status (alike p h) l in
-    let m : t ≡ (get_or p.statuses.items i k).status = get_or-map (λ (x : Kept). x.status) p.statuses.items i k in
+    let m : t ≡ (get_or p.statuses.items i k).status = get_or-map (λ (x : KeptStatus). x.status) p.statuses.items i k in
     let z : suc i ≡ i + 1 = omega arith in
     let n : first_or (drop (suc i) ps) p.end - pos ≡ size = ap (λ x. first_or (drop x ps) p.end - pos) z ∙ sym b in
     ap (λ r. slice_get r i) (sym v) ∙ g
@@ -257,14 +257,14 @@ row_third none one two front new from to m z a b k r =
     rw (touched_blocks none one two (two ++ slice_range front to m) front new front from to m z a b k refl) r
 
 -- a page with some blocks of another behind its own
-pub copied_rows : (own other : Inside) (self page : List Block) (from to : ℕ) (xs : List ℕ) (ks : List Kept) (end : ℕ)
+pub copied_rows : (own other : Inside) (self page : List Block) (from to : ℕ) (xs : List ℕ) (ks : List KeptStatus) (end : ℕ)
     → rows_of own ≡ self → IsPage own → rows_of other ≡ page → IsPage other → from < to → to ≤ length page
     → xs ≡ other.starts.items → ks ≡ other.statuses.items → end ≡ first_or (drop to other.starts.items) other.end
     → AreRow (self ++ slice_range page from to)
     → rows (own.starts.items ++ slice_range xs from to) (statuses_of (own.statuses.items ++ slice_range ks from to)) end
     ≡ self ++ slice_range page from to
 copied_rows own other self page from to xs ks end u h v k l w xe ke ee r =
-    let f : Kept → Status = λ (x : Kept). x.status in
+    let f : KeptStatus → Status = λ (x : KeptStatus). x.status in
     let ps : List ℕ = own.starts.items in
     let ss : List Status = statuses_of own.statuses.items in
     let qs : List ℕ = slice_range other.starts.items from to in

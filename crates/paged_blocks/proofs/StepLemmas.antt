@@ -1,7 +1,7 @@
 use Rattle.std.proofs.Common.{◌≡◌, ℕ, zero, suc, ◌+◌, ◌-◌, ◌*◌, ◌/◌, ◌<◌, ◌≤◌, ◌^◌, List, length, get_or, arith, ⊎_elim}
 use Rattle.std.proofs.lemmas.Bool.{cases_lt}
 use Rattle.block_list.specs.declared.block.Block.{Block}
-use Rattle.paged_blocks.specs.declared.entry.Entry.{Entry}
+use Rattle.paged_blocks.specs.declared.entry.PageEntry.{PageEntry}
 use Rattle.paged_blocks.specs.Search.{IsWalk}
 use Rattle.paged_blocks.specs.Paging.{blocks_of, flat, before, IsPaging, AreHalfFull}
 use Rattle.paged_blocks.proofs.PagingLemmas.{no_entry, before_more, before_all}
@@ -9,7 +9,7 @@ use Rattle.paged_blocks.proofs.FilingLemmas.{long_at}
 use Rattle.paged_blocks.proofs.HalvingLemmas.{below_power}
 
 -- pages have at least 32 blocks each
-pub half_between : (pages : List (List Block)) (es : List Entry) (i n : ℕ) → IsPaging pages es → AreHalfFull es
+pub half_between : (pages : List (List Block)) (es : List PageEntry) (i n : ℕ) → IsPaging pages es → AreHalfFull es
     → 1 < length es → i + n ≤ length es → before pages es i + 32 * n ≤ before pages es (i + n)
 half_between pages es i zero p f h l = let z : i + zero ≡ i = omega arith in rw z (omega arith)
 half_between pages es i (suc n) p f h l =
@@ -24,7 +24,7 @@ half_between pages es i (suc n) p f h l =
     ))
 
 -- two pages have their blocks, and each of the others at least 32
-pub two_pages : (pages : List (List Block)) (es : List Entry) (k m : ℕ) (e : Entry) → IsPaging pages es → AreHalfFull es
+pub two_pages : (pages : List (List Block)) (es : List PageEntry) (k m : ℕ) (e : PageEntry) → IsPaging pages es → AreHalfFull es
     → k < m → m < length es
     → 32 * (length es - 2) + length (blocks_of pages (get_or es k e)) + length (blocks_of pages (get_or es m e))
     ≤ length (flat pages es)
@@ -43,13 +43,13 @@ two_pages pages es k m e p f h l =
       before_all pages es (length es) (omega arith),
     )
 
-pub two_pages_down : (pages : List (List Block)) (es : List Entry) (k m : ℕ) (e : Entry) → IsPaging pages es
+pub two_pages_down : (pages : List (List Block)) (es : List PageEntry) (k m : ℕ) (e : PageEntry) → IsPaging pages es
     → AreHalfFull es → m < k → k < length es
     → 32 * (length es - 2) + length (blocks_of pages (get_or es k e)) + length (blocks_of pages (get_or es m e))
     ≤ length (flat pages es)
 two_pages_down pages es k m e p f h l = omega (arith, two_pages pages es m k e p f h l)
 
-pub one_page : (pages : List (List Block)) (es : List Entry) → IsPaging pages es → AreHalfFull es → 1 < length es
+pub one_page : (pages : List (List Block)) (es : List PageEntry) → IsPaging pages es → AreHalfFull es → 1 < length es
     → 32 * length es ≤ length (flat pages es)
 one_page pages es p f u =
     let z : 0 + length es ≡ length es = omega arith in

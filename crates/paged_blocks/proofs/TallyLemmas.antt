@@ -6,7 +6,7 @@ use Rattle.block_list.specs.declared.status.Status.{Status}
 use Rattle.block_list.specs.declared.block.Block.{Block}
 use Rattle.block_list.specs.Stretches.{covered}
 use Rattle.block_list.proofs.Places.{slice_get-append_right}
-use Rattle.paged_blocks.specs.declared.entry.Tally.{Tally}
+use Rattle.paged_blocks.specs.declared.entry.StatusCounts.{StatusCounts}
 use Rattle.paged_blocks.specs.Tally.{tallied}
 use Rattle.paged_blocks.specs.Marks.{spliced}
 use Rattle.paged_blocks.proofs.CountLemmas.{count_in, count_parts}
@@ -23,7 +23,7 @@ last_front : (bs : List Block) (b : Block) → take (length bs) (bs ++ b ∷ [])
 last_front bs b = take_at bs (b ∷ []) (length bs) refl
 
 -- a tally of some blocks, with one more counted
-tally_push : (bs : List Block) (b : Block) (old new : Tally) → ((s : Status) → tallied old s ≡ count_in s bs)
+tally_push : (bs : List Block) (b : Block) (old new : StatusCounts) → ((s : Status) → tallied old s ≡ count_in s bs)
     → tallied new b.status ≡ tallied old b.status + b.size
     → ((s : Status) → (s ≡ b.status → ⊥) → tallied new s ≡ tallied old s)
     → (s : Status) → tallied new s ≡ count_in s (bs ++ b ∷ [])
@@ -33,13 +33,13 @@ tally_push bs b old new all more others s =
     tally_step page (length bs) b old new (last_read bs b) (λ t. all t ∙ ap (λ r. count_in t r) (sym (last_front bs b))) more others s
     ∙ ap (λ r. count_in s r) w
 
-push_fits : (bs : List Block) (b : Block) (old : Tally) → ((s : Status) → tallied old s ≡ count_in s bs)
+push_fits : (bs : List Block) (b : Block) (old : StatusCounts) → ((s : Status) → tallied old s ≡ count_in s bs)
     → tallied old b.status + b.size ≤ length (flat_map covered (bs ++ b ∷ []))
 push_fits bs b old all =
     tally_fits (bs ++ b ∷ []) (length bs) b old (last_read bs b) (λ t. all t ∙ ap (λ r. count_in t r) (sym (last_front bs b)))
 
 -- a tally of the blocks from one index up to another, with the next one counted
-pub range_tally : (bs : List Block) (from i : ℕ) (b : Block) (old new : Tally) → from ≤ i → slice_get bs i ≡ Some b
+pub range_tally : (bs : List Block) (from i : ℕ) (b : Block) (old new : StatusCounts) → from ≤ i → slice_get bs i ≡ Some b
     → ((s : Status) → tallied old s ≡ count_in s (slice_range bs from i))
     → tallied new b.status ≡ tallied old b.status + b.size
     → ((s : Status) → (s ≡ b.status → ⊥) → tallied new s ≡ tallied old s)
@@ -47,7 +47,7 @@ pub range_tally : (bs : List Block) (from i : ℕ) (b : Block) (old new : Tally)
 range_tally bs from i b old new h r all more others s =
     tally_push (slice_range bs from i) b old new all more others s ∙ ap (λ x. count_in s x) (range_more bs from i b h r)
 
-pub range_fits : (bs : List Block) (from i : ℕ) (b : Block) (old : Tally) → from ≤ i → slice_get bs i ≡ Some b
+pub range_fits : (bs : List Block) (from i : ℕ) (b : Block) (old : StatusCounts) → from ≤ i → slice_get bs i ≡ Some b
     → ((s : Status) → tallied old s ≡ count_in s (slice_range bs from i))
     → tallied old b.status + b.size ≤ length (flat_map covered bs)
 range_fits bs from i b old h r all =

@@ -6,7 +6,7 @@ use Rattle.block_list.specs.declared.status.Status.{Status}
 use Rattle.block_list.specs.Stretches.{covered}
 use Rattle.block_list.specs.Tiling.{AreTiles, IsMerged}
 use Rattle.block_list.specs.Edits.{IsTiled, start_of}
-use Rattle.paged_blocks.specs.declared.entry.Entry.{Entry}
+use Rattle.paged_blocks.specs.declared.entry.PageEntry.{PageEntry}
 use Rattle.paged_blocks.specs.declared.marks.Edit.{Edit}
 use Rattle.paged_blocks.specs.Paging.{blocks_of, flat, before}
 
@@ -45,25 +45,25 @@ abbrev pub spliced : List Block → ℕ → ℕ → List Block → List Block
 spliced bs from to new = take from bs ++ new ++ drop to bs
 
 -- the indexes among all blocks between which an edit takes out blocks
-abbrev pub edit_from : List (List Block) → List Entry → Edit → ℕ
+abbrev pub edit_from : List (List Block) → List PageEntry → Edit → ℕ
 edit_from pages es e = before pages es e.first + e.from
 
-abbrev pub edit_to : List (List Block) → List Entry → Edit → ℕ
+abbrev pub edit_to : List (List Block) → List PageEntry → Edit → ℕ
 edit_to pages es e = before pages es e.last + e.to
 
 -- an edit puts one to three blocks in the place of others, at most two more than it takes out
-pub record IsEdit (pages : List (List Block)) (es : List Entry) (e : Edit) : Type 0 where
+pub record IsEdit (pages : List (List Block)) (es : List PageEntry) (e : Edit) : Type 0 where
   pub order : e.first ≤ e.last
   pub last : e.last < length es
-  pub from : (d : Entry) → e.from ≤ length (blocks_of pages (slice_index_or es e.first d))
-  pub to : (d : Entry) → e.to ≤ length (blocks_of pages (slice_index_or es e.last d))
+  pub from : (d : PageEntry) → e.from ≤ length (blocks_of pages (slice_index_or es e.first d))
+  pub to : (d : PageEntry) → e.to ≤ length (blocks_of pages (slice_index_or es e.last d))
   pub rising : edit_from pages es e < edit_to pages es e
   pub some : 0 < length e.new
   pub few : length e.new ≤ 3
   pub gain : edit_from pages es e + length e.new ≤ edit_to pages es e + 2
 
 -- the blocks after an edit
-abbrev pub edited : List (List Block) → List Entry → Edit → List Block
+abbrev pub edited : List (List Block) → List PageEntry → Edit → List Block
 edited pages es e = spliced (flat pages es) (edit_from pages es e) (edit_to pages es e) e.new
 
 -- blocks are a map's, with these statuses

@@ -1,24 +1,24 @@
 -- Pages that stand beside each other, and the blocks that come in the place of theirs.
 use Rattle.std.specs.Prelude.{◌≡◌, ◌+◌, ◌-◌, ◌<◌, ◌≤◌, List, ◌++◌, length, take, drop, slice_index_or}
 use Rattle.block_list.specs.declared.block.Block.{Block}
-use Rattle.paged_blocks.specs.declared.entry.Entry.{Entry}
+use Rattle.paged_blocks.specs.declared.entry.PageEntry.{PageEntry}
 use Rattle.paged_blocks.specs.declared.marks.Edit.{Edit}
 use Rattle.paged_blocks.specs.declared.regions.Region.{Region}
 use Rattle.paged_blocks.specs.Paging.{flat}
 
 -- the blocks of all pages, with others in the place of those of the pages from one entry up to another
-abbrev pub refilled : List (List Block) → List Entry → Region → List Block
+abbrev pub refilled : List (List Block) → List PageEntry → Region → List Block
 refilled pages es r = flat pages (take r.first es) ++ r.blocks ++ flat pages (drop r.behind es)
 
 -- a region is of pages that are there, of at least one if there is any, and it has a block
-pub record IsRegion (es : List Entry) (r : Region) : Type 0 where
+pub record IsRegion (es : List PageEntry) (r : Region) : Type 0 where
   pub order : r.first ≤ r.behind
   pub within : r.behind ≤ length es
   pub taken : 0 < length es → r.first < r.behind
   pub some : 0 < length r.blocks
 
 -- a region with fewer than 32 blocks is of all pages
-pub record IsFull (es : List Entry) (r : Region) : Type 0 where
+pub record IsOfAllPages (es : List PageEntry) (r : Region) : Type 0 where
   pub first : length r.blocks < 32 → r.first ≡ 0
   pub behind : length r.blocks < 32 → r.behind ≡ length es
 
@@ -29,7 +29,7 @@ pub record IsOneBlock (r : Region) : Type 0 where
   pub one : length r.blocks ≡ 1
 
 -- an edit touches one page, which has 32 to 64 blocks behind it, or fewer if it is the only one
-pub record StaysInPage (es : List Entry) (e : Edit) : Type 0 where
+pub record StaysInPage (es : List PageEntry) (e : Edit) : Type 0 where
   pub page : e.first ≡ e.last
-  pub fits : (d : Entry) → (slice_index_or es e.first d).len + length e.new ≤ 64 + (e.to - e.from)
-  pub half : 1 < length es → (d : Entry) → 32 + (e.to - e.from) ≤ (slice_index_or es e.first d).len + length e.new
+  pub fits : (d : PageEntry) → (slice_index_or es e.first d).len + length e.new ≤ 64 + (e.to - e.from)
+  pub half : 1 < length es → (d : PageEntry) → 32 + (e.to - e.from) ≤ (slice_index_or es e.first d).len + length e.new

@@ -4,7 +4,7 @@ use Rattle.block_list.specs.declared.block.Block.{Block}
 use Rattle.block_list.specs.declared.status.Status.{Status}
 use Rattle.block_list.specs.Tiling.{AreTiles}
 use Rattle.paged_blocks.specs.declared.page.Page.TheInside.{Inside}
-use Rattle.paged_blocks.specs.declared.page.Kept.{Kept}
+use Rattle.paged_blocks.specs.declared.page.KeptStatus.{KeptStatus}
 
 -- the first of some positions, or an end if there is none
 abbrev pub first_or : List ℕ → ℕ → ℕ
@@ -17,8 +17,8 @@ rows [] ss end = []
 rows (p ∷ ps) [] end = []
 rows (p ∷ ps) (s ∷ ss) end = record { pos = p; size = first_or ps end - p; status = s } ∷ rows ps ss end
 
-abbrev pub statuses_of : List Kept → List Status
-statuses_of ks = map (λ (k : Kept). k.status) ks
+abbrev pub statuses_of : List KeptStatus → List Status
+statuses_of ks = map (λ (k : KeptStatus). k.status) ks
 
 -- the blocks of a page
 abbrev pub rows_of : Inside → List Block

@@ -11,11 +11,11 @@ pub record IsSearched {X : Type 0} (begins : X → ℕ) (xs : List X) (at n : �
   pub behind : (i : ℕ) (d : X) → n ≤ i → i < length xs → at ≤ begins (slice_index_or xs i d)
 
 -- no block from an index up to another has a status
-pub record HasNone (bs : List Block) (s : Status) (from to : ℕ) : Type 0 where
+pub record HasNoneOf (bs : List Block) (s : Status) (from to : ℕ) : Type 0 where
   pub none : (i : ℕ) (d : Block) → from ≤ i → i < to → (slice_index_or bs i d).status ≡ s → ⊥
 
 -- no block is empty
-pub record AreFilled (bs : List Block) : Type 0 where
+pub record AreNonempty (bs : List Block) : Type 0 where
   pub filled : (i : ℕ) (d : Block) → i < length bs → 0 < (slice_index_or bs i d).size
 
 -- the block at an index has a status
@@ -28,7 +28,7 @@ pub record IsFirstBlock (bs : List Block) (s : Status) (from : ℕ) (b : Block) 
   pub index : ℕ
   pub after : from ≤ index
   pub read : slice_get bs index ≡ Some b
-  pub others : HasNone bs s from index
+  pub others : HasNoneOf bs s from index
   pub has : b.status ≡ s
 
 -- the last of the first blocks, up to an index, that has a status
@@ -36,7 +36,7 @@ pub record IsLastBlock (bs : List Block) (s : Status) (to : ℕ) (b : Block) : T
   pub index : ℕ
   pub below : index < to
   pub read : slice_get bs index ≡ Some b
-  pub others : HasNone bs s (index + 1) to
+  pub others : HasNoneOf bs s (index + 1) to
   pub has : b.status ≡ s
 
 -- some blocks of a page were looked at, of which it has at most 64

@@ -2,10 +2,10 @@
 use Rattle.std.specs.Prelude.{ℕ}
 use Rattle.block_list.specs.declared.status.Status.{Status}
 use Rattle.block_list.specs.declared.status.Status.TheVariants.{NonTried, NonTrimmed, NonScraped, BadSector, Finished}
-use Rattle.paged_blocks.specs.declared.entry.Tally.{Tally}
+use Rattle.paged_blocks.specs.declared.entry.StatusCounts.{StatusCounts}
 
 -- how many positions a tally has for a status
-abbrev pub tallied : Tally → Status → ℕ
+abbrev pub tallied : StatusCounts → Status → ℕ
 tallied t NonTried = t.non_tried
 tallied t NonTrimmed = t.non_trimmed
 tallied t NonScraped = t.non_scraped

@@ -5,7 +5,7 @@ ghost use Rattle.block_list.specs.Map.{marked};
 ghost use Rattle.block_list.specs.Stretches.{covered};
 ghost use Rattle.block_list.specs.Tiling.{IsMerged};
 ghost use Rattle.block_list.specs.Edits.{IsTiled};
-ghost use Rattle.paged_blocks.specs.Paging.{flat, IsPaging, IsKept};
+ghost use Rattle.paged_blocks.specs.Paging.{flat, IsPaging, IsKeptInPages};
 ghost use Rattle.paged_blocks.specs.Marks.{IsEdit, edited};
 ghost use Rattle.paged_blocks.specs.Regions.{StaysInPage};
 ghost use Rattle.paged_blocks.specs.Room.{room_for};
@@ -33,13 +33,13 @@ fn stays_in_page(pages: &[Page], entries: &Entries, edit: &Edit) -> bool
 
 /// Makes an edit in the page that it stays in. No other entry moves.
 fn edit_page(pages: &mut Vec<Page>, entries: &mut Entries, edit: &Edit)
-    requires kept { (free : List ℕ) × IsKept pages.old.items entries.old.items free }
+    requires kept { (free : List ℕ) × IsKeptInPages pages.old.items entries.old.items free }
     requires edit { IsEdit pages.old.items entries.old.items edit.now }
     requires stays { StaysInPage entries.old.items edit.now }
     requires tiled { IsTiled (edited pages.old.items entries.old.items edit.now) }
     requires merged { IsMerged (edited pages.old.items entries.old.items edit.now) }
-    ensures kept { (free : List ℕ) → IsKept pages.old.items entries.old.items free
-        → IsKept pages.new.items entries.new.items free }
+    ensures kept { (free : List ℕ) → IsKeptInPages pages.old.items entries.old.items free
+        → IsKeptInPages pages.new.items entries.new.items free }
     ensures flat { flat pages.new.items entries.new.items ≡ edited pages.old.items entries.old.items edit.now }
     ensures len { length entries.new.items ≡ length entries.old.items }
     ensures pages { vec_len pages.new ≡ vec_len pages.old }
@@ -56,14 +56,14 @@ fn edit_page(pages: &mut Vec<Page>, entries: &mut Entries, edit: &Edit)
 #[cold]
 #[inline(never)]
 fn edit_pages(pages: &mut Vec<Page>, entries: &mut Entries, free: &mut Vec<usize>, edit: &Edit)
-    requires kept { IsKept pages.old.items entries.old.items free.old.items }
+    requires kept { IsKeptInPages pages.old.items entries.old.items free.old.items }
     requires edit { IsEdit pages.old.items entries.old.items edit.now }
     requires tiled { IsTiled (edited pages.old.items entries.old.items edit.now) }
     requires merged { IsMerged (edited pages.old.items entries.old.items edit.now) }
     requires spare { 1 ≤ room_for (vec_len pages.old) (entries.old.room) (length entries.old.items)
         (length (edited pages.old.items entries.old.items edit.now) - 1) }
     requires room { vec_len pages.old ≤ vec_capacity free.old }
-    ensures kept { IsKept pages.new.items entries.new.items free.new.items }
+    ensures kept { IsKeptInPages pages.new.items entries.new.items free.new.items }
     ensures flat { flat pages.new.items entries.new.items ≡ edited pages.old.items entries.old.items edit.now }
     ensures few { length entries.new.items ≤ length entries.old.items + 1 }
     ensures pages { vec_len pages.new ≡ vec_len pages.old }
@@ -78,7 +78,7 @@ fn edit_pages(pages: &mut Vec<Page>, entries: &mut Entries, free: &mut Vec<usize
 #[cold]
 #[inline(never)]
 fn edit_none(pages: &mut Vec<Page>, entries: &mut Entries, free: &mut Vec<usize>, block: Block)
-    requires kept { IsKept pages.old.items entries.old.items free.old.items }
+    requires kept { IsKeptInPages pages.old.items entries.old.items free.old.items }
     requires none { length entries.old.items ≡ 0 }
     requires some { 0 < block.size }
     requires begins { block.pos ≡ 0 }
@@ -86,7 +86,7 @@ fn edit_none(pages: &mut Vec<Page>, entries: &mut Entries, free: &mut Vec<usize>
     requires spare { 1 ≤ room_for (vec_len pages.old) (entries.old.room) (length entries.old.items)
         (length (flat pages.old.items entries.old.items)) }
     requires room { vec_len pages.old ≤ vec_capacity free.old }
-    ensures kept { IsKept pages.new.items entries.new.items free.new.items }
+    ensures kept { IsKeptInPages pages.new.items entries.new.items free.new.items }
     ensures marked { flat_map covered (flat pages.new.items entries.new.items)
         ≡ marked (flat_map covered (flat pages.old.items entries.old.items)) block.pos block.size block.status }
     ensures one { length (flat pages.new.items entries.new.items) ≤ 1 }
@@ -107,7 +107,7 @@ pub fn overwrite(
     end: u64,
     block: Block,
 )
-    requires kept { IsKept pages.old.items entries.old.items free.old.items }
+    requires kept { IsKeptInPages pages.old.items entries.old.items free.old.items }
     requires some { 0 < block.size }
     requires end { end ≡ length (flat_map covered (flat pages.old.items entries.old.items)) }
     requires begins { block.pos ≤ end }
@@ -117,7 +117,7 @@ pub fn overwrite(
     requires inner { block.pos + block.size < end → 2 ≤ room_for (vec_len pages.old) (entries.old.room)
         (length entries.old.items) (length (flat pages.old.items entries.old.items)) }
     requires room { vec_len pages.old ≤ vec_capacity free.old }
-    ensures kept { IsKept pages.new.items entries.new.items free.new.items }
+    ensures kept { IsKeptInPages pages.new.items entries.new.items free.new.items }
     ensures marked { flat_map covered (flat pages.new.items entries.new.items)
         ≡ marked (flat_map covered (flat pages.old.items entries.old.items)) block.pos block.size block.status }
     ensures gain { length (flat pages.new.items entries.new.items)

@@ -2,10 +2,10 @@
 ghost use Rattle.std.specs.Prelude.{◌≡◌, ℕ, ◌+◌, ◌<◌, ◌≤◌, ◌^◌, [], ◌++◌, length, take, drop, slice_set, slice_index_or, min, reverse, vec_len, vec_capacity, OnOk};
 ghost use Rattle.std.specs.List.{insert};
 ghost use Rattle.std.specs.List.Sorted.{IsNonDecreasingBy};
-ghost use Rattle.paged_blocks.specs.declared.entry.Entry.{Entry};
+ghost use Rattle.paged_blocks.specs.declared.entry.PageEntry.{PageEntry};
 ghost use Rattle.paged_blocks.specs.Search.{IsSearched};
 
-use crate::entry::Entry;
+use crate::entry::PageEntry;
 use crate::steps::Steps;
 use block_list::tiles::NoMemory;
 use std::alloc::Global;
@@ -16,18 +16,18 @@ use std::sync::ledger::Ledger;
 /// Those behind the gap are kept last first.
 #[derive(Drop)]
 pub struct Entries {
-    front: Vec<Entry>,
-    back: Vec<Entry>,
+    front: Vec<PageEntry>,
+    back: Vec<PageEntry>,
 }
 
 impl Model for Entries {
-    ghost use Rattle.paged_blocks.specs.Listed.{Listed, IsListed, listed};
+    ghost use Rattle.paged_blocks.specs.Listed.{EntryList, HasRoomForAll, listed_entries};
 
-    ghost Value = { Listed };
+    ghost Value = { EntryList };
 
-    ghost view = { listed };
+    ghost view = { listed_entries };
 
-    ghost invariant = { IsListed };
+    ghost invariant = { HasRoomForAll };
 }
 
 impl Entries {
@@ -57,9 +57,9 @@ impl Entries {
     }
 
     /// The entry with an index.
-    pub fn at(&self, k: usize) -> Entry
+    pub fn at(&self, k: usize) -> PageEntry
         requires { k < length self.now.items }
-        ensures { (d : Entry) → result ≡ slice_index_or self.now.items k d }
+        ensures { (d : PageEntry) → result ≡ slice_index_or self.now.items k d }
     {
         let front = self.front.len();
         if k < front {
@@ -72,10 +72,10 @@ impl Entries {
     /// The index of the last that begins before a position, where the first one does. It looks at one, and then among
     /// half as many, till one is left.
     pub fn last_before<L: Ledger>(&self, at: u64, steps: &mut Steps<L>) -> usize
-        requires sorted { IsNonDecreasingBy (λ (e : Entry). e.pos) self.now.items }
+        requires sorted { IsNonDecreasingBy (λ (e : PageEntry). e.pos) self.now.items }
         requires some { 0 < length self.now.items }
-        requires first { (d : Entry) → (slice_index_or self.now.items 0 d).pos < at }
-        ensures place { IsSearched (λ (e : Entry). e.pos) self.now.items at (result + 1) }
+        requires first { (d : PageEntry) → (slice_index_or self.now.items 0 d).pos < at }
+        ensures place { IsSearched (λ (e : PageEntry). e.pos) self.now.items at (result + 1) }
         ensures few { steps.new ≤ steps.old + 64 }
         ensures cost { (n : ℕ) → length self.now.items ≤ 2 ^ n → steps.new ≤ steps.old + n }
     {
@@ -94,7 +94,7 @@ impl Entries {
     }
 
     /// Writes another entry in the place of the one with an index.
-    pub fn put(&mut self, k: usize, entry: Entry)
+    pub fn put(&mut self, k: usize, entry: PageEntry)
         requires { k < length self.old.items }
         ensures items { self.new.items ≡ slice_set self.old.items k entry }
         ensures room { self.new.room ≡ self.old.room }
@@ -121,7 +121,7 @@ impl Entries {
     }
 
     /// Puts an entry in front of the one with an index.
-    pub fn insert(&mut self, k: usize, entry: Entry)
+    pub fn insert(&mut self, k: usize, entry: PageEntry)
         requires index { k ≤ length self.old.items }
         requires room { length self.old.items < self.old.room }
         ensures items { self.new.items ≡ insert self.old.items k entry }
@@ -145,7 +145,7 @@ impl Entries {
 }
 
 /// Makes the front end and the back begin at an index.
-fn part(front: &mut Vec<Entry>, back: &mut Vec<Entry>, k: usize)
+fn part(front: &mut Vec<PageEntry>, back: &mut Vec<PageEntry>, k: usize)
     requires index { k ≤ vec_len front.old + vec_len back.old }
     requires fits { vec_len front.old + vec_len back.old ≤ min (vec_capacity front.old) (vec_capacity back.old) }
     ensures front { front.new.items ≡ take k (front.old.items ++ reverse back.old.items) }
@@ -163,7 +163,7 @@ fn part(front: &mut Vec<Entry>, back: &mut Vec<Entry>, k: usize)
 }
 
 /// Moves the entries from an index on to the end of others, the last one first.
-fn pass(from: &mut Vec<Entry>, to: &mut Vec<Entry>, n: usize)
+fn pass(from: &mut Vec<PageEntry>, to: &mut Vec<PageEntry>, n: usize)
     requires index { n ≤ vec_len from.old }
     requires room { vec_len from.old + vec_len to.old ≤ vec_capacity to.old + n }
     ensures from { from.new.items ≡ take n from.old.items }

@@ -7,7 +7,7 @@ use block_list::status::Status;
 
 /// How many positions have each status.
 #[derive(Clone, Copy, Debug, PartialEq, Eq)]
-pub struct Tally {
+pub struct StatusCounts {
     pub non_tried: u64,
     pub non_trimmed: u64,
     pub non_scraped: u64,
@@ -15,12 +15,12 @@ pub struct Tally {
     pub finished: u64,
 }
 
-impl Tally {
+impl StatusCounts {
     /// No position of any status.
-    pub fn none() -> Tally
+    pub fn none() -> StatusCounts
         ensures { (s : Status) → tallied result s ≡ 0 }
     {
-        Tally {
+        StatusCounts {
             non_tried: 0,
             non_trimmed: 0,
             non_scraped: 0,
@@ -45,12 +45,12 @@ impl Tally {
     }
 
     /// These without some that are among them, and with others.
-    pub fn exchanged(self, gone: Tally, come: Tally) -> Tally
+    pub fn exchanged(self, gone: StatusCounts, come: StatusCounts) -> StatusCounts
         requires among { (s : Status) → tallied gone s ≤ tallied self s }
         requires short { (s : Status) → tallied self s + tallied come s < 2 ^ 64 }
         ensures { (s : Status) → tallied result s + tallied gone s ≡ tallied self s + tallied come s }
     {
-        Tally {
+        StatusCounts {
             non_tried: self.non_tried - gone.non_tried + come.non_tried,
             non_trimmed: self.non_trimmed - gone.non_trimmed + come.non_trimmed,
             non_scraped: self.non_scraped - gone.non_scraped + come.non_scraped,
@@ -76,9 +76,9 @@ impl Tally {
 /// The place of a page in the map: its number, the position at which it begins, how many blocks it has, and how many
 /// positions of each status.
 #[derive(Clone, Copy, Debug, PartialEq, Eq)]
-pub struct Entry {
+pub struct PageEntry {
     pub page: usize,
     pub pos: u64,
     pub len: usize,
-    pub tally: Tally,
+    pub tally: StatusCounts,
 }

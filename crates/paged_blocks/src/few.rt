@@ -1,15 +1,15 @@
 //! Searches in a plain list of a few blocks.
 ghost use Rattle.std.specs.Prelude.{◌≡◌, ℕ, ◌+◌, ◌-◌, ◌<◌, ◌≤◌, ◌^◌, length, slice_get, Some, IfOk, IfSome, IfNone};
 ghost use Rattle.block_list.specs.Map.{Has};
-ghost use Rattle.block_list.specs.Places.{IsFirst, IsLast, IsRunUp, IsRunDown};
+ghost use Rattle.block_list.specs.Places.{IsFirst, IsLast, IsRangeUp, IsRangeDown};
 ghost use Rattle.block_list.specs.Stretches.{stretches};
 ghost use Rattle.block_list.specs.Edits.{IsPlace, start_of};
 ghost use Rattle.block_list.specs.declared.block.Block.{Block};
 ghost use Rattle.paged_blocks.specs.Search.{IsBare};
 
-use crate::lookups::{run_down, run_up};
+use crate::lookups::{range_down, range_up};
 use crate::steps::Steps;
-use block_list::block::Run;
+use block_list::block::Range;
 use block_list::plain_tiles::PlainTiles;
 use block_list::status::Status;
 use block_list::tiles::{NoMemory, Tiles};
@@ -112,10 +112,10 @@ pub fn first_with<L: Ledger>(
     from: u64,
     status: Status,
     steps: &mut Steps<L>,
-) -> Option<Run>
+) -> Option<Range>
     requires few { length (stretches tiles.now.statuses) ≤ 120 }
-    ensures first { IfSome result (λ run. IsFirst (Has tiles.now.statuses status) from run.from) }
-    ensures run { IfSome result (λ run. IsRunUp (Has tiles.now.statuses status) run.from run.to) }
+    ensures first { IfSome result (λ range. IsFirst (Has tiles.now.statuses status) from range.from) }
+    ensures range { IfSome result (λ range. IsRangeUp (Has tiles.now.statuses status) range.from range.to) }
     ensures none { IfNone result ((x : ℕ) → from ≤ x → Has tiles.now.statuses status x → ⊥) }
     ensures cost { steps.new ≤ steps.old + 128 }
 {
@@ -127,14 +127,14 @@ pub fn first_with<L: Ledger>(
     let block = tiles.block(last);
     if block.pos <= from {
         return if block.status.is(status) {
-            Some(run_up(block, from))
+            Some(range_up(block, from))
         } else {
             None
         };
     }
     let i = first_from(tiles, from, status, steps);
     if i < tiles.blocks() {
-        Some(run_up(tiles.block(i), from))
+        Some(range_up(tiles.block(i), from))
     } else {
         None
     }
@@ -146,10 +146,10 @@ pub fn last_with<L: Ledger>(
     before: u64,
     status: Status,
     steps: &mut Steps<L>,
-) -> Option<Run>
+) -> Option<Range>
     requires few { length (stretches tiles.now.statuses) ≤ 120 }
-    ensures last { IfSome result (λ run. IsLast (Has tiles.now.statuses status) before run.to) }
-    ensures run { IfSome result (λ run. IsRunDown (Has tiles.now.statuses status) run.from run.to) }
+    ensures last { IfSome result (λ range. IsLast (Has tiles.now.statuses status) before range.to) }
+    ensures range { IfSome result (λ range. IsRangeDown (Has tiles.now.statuses status) range.from range.to) }
     ensures none { IfNone result ((x : ℕ) → x < before → Has tiles.now.statuses status x → ⊥) }
     ensures cost { steps.new ≤ steps.old + 128 }
 {
@@ -162,7 +162,7 @@ pub fn last_with<L: Ledger>(
         steps.tick();
         let block = tiles.block(i);
         if block.status.is(status) {
-            return Some(run_down(block, to));
+            return Some(range_down(block, to));
         }
     }
     None

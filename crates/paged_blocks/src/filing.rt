@@ -2,15 +2,15 @@
 ghost use Rattle.std.specs.Prelude.{◌≡◌, ℕ, ◌+◌, ◌-◌, ◌*◌, ◌<◌, ◌≤◌, ◌^◌, ◌++◌, length, take, drop, slice_index_or, vec_len, vec_capacity};
 ghost use Rattle.std.specs.List.{flat_map};
 ghost use Rattle.block_list.specs.Stretches.{covered};
-ghost use Rattle.paged_blocks.specs.declared.entry.Entry.{Entry};
-ghost use Rattle.paged_blocks.specs.Paging.{flat, short_pages, naming, standing, AreFiled, IsEntryOf, IsKept, IsRewritten};
+ghost use Rattle.paged_blocks.specs.declared.entry.PageEntry.{PageEntry};
+ghost use Rattle.paged_blocks.specs.Paging.{flat, short_pages, naming, times_free, AreFiled, IsEntryOf, IsKeptInPages, IsRewritten};
 ghost use Rattle.paged_blocks.specs.Rows.{AreRow};
-ghost use Rattle.paged_blocks.specs.Regions.{IsRegion, IsFull, refilled};
+ghost use Rattle.paged_blocks.specs.Regions.{IsRegion, IsOfAllPages, refilled};
 ghost use Rattle.block_list.specs.Tiling.{IsMerged};
 ghost use Rattle.block_list.specs.Edits.{IsTiled};
 
 use crate::entries::Entries;
-use crate::entry::Entry;
+use crate::entry::PageEntry;
 use crate::fill::{entry_of, page_len};
 use crate::gathered::Gathered;
 use crate::page::Page;
@@ -49,8 +49,8 @@ fn release(entries: &mut Entries, free: &mut Vec<usize>, first: usize, behind: u
     requires within { behind ≤ length entries.old.items }
     requires room { length entries.old.items + vec_len free.old ≤ vec_capacity free.old }
     ensures entries { entries.new.items ≡ take first entries.old.items ++ drop behind entries.old.items }
-    ensures numbers { (n : ℕ) → naming n entries.new.items + standing n free.new.items
-        ≡ naming n entries.old.items + standing n free.old.items }
+    ensures numbers { (n : ℕ) → naming n entries.new.items + times_free n free.new.items
+        ≡ naming n entries.old.items + times_free n free.old.items }
     ensures len { length entries.new.items + vec_len free.new ≡ length entries.old.items + vec_len free.old }
     ensures capacity { entries.old.room ≤ entries.new.room }
     ensures free { vec_capacity free.old ≤ vec_capacity free.new }
@@ -100,10 +100,10 @@ fn deal(
 }
 
 /// Puts a page, and the entry that says what it holds, in the place of those with an index.
-pub fn rewrite(pages: &mut Vec<Page>, entries: &mut Entries, k: usize, page: Page, entry: Entry)
+pub fn rewrite(pages: &mut Vec<Page>, entries: &mut Entries, k: usize, page: Page, entry: PageEntry)
     requires index { k < length entries.old.items }
     requires within { entry.page < vec_len pages.old }
-    requires number { (d : Entry) → entry.page ≡ (slice_index_or entries.old.items k d).page }
+    requires number { (d : PageEntry) → entry.page ≡ (slice_index_or entries.old.items k d).page }
     requires says { IsEntryOf page entry.page entry }
     ensures rewritten { IsRewritten pages.old.items entries.old.items k page pages.new.items entries.new.items }
     ensures pages { vec_len pages.new ≡ vec_len pages.old }
@@ -117,9 +117,9 @@ pub fn rewrite(pages: &mut Vec<Page>, entries: &mut Entries, k: usize, page: Pag
 /// Puts blocks in the place of those of some pages. The pages that had those become free before others are taken into
 /// use.
 pub fn refill(pages: &mut Vec<Page>, entries: &mut Entries, free: &mut Vec<usize>, region: &Region)
-    requires kept { IsKept pages.old.items entries.old.items free.old.items }
+    requires kept { IsKeptInPages pages.old.items entries.old.items free.old.items }
     requires region { IsRegion entries.old.items region.now }
-    requires full { IsFull entries.old.items region.now }
+    requires full { IsOfAllPages entries.old.items region.now }
     requires tiled { IsTiled (refilled pages.old.items entries.old.items region.now) }
     requires merged { IsMerged (refilled pages.old.items entries.old.items region.now) }
     requires pages { 64 * length entries.old.items + length region.now.blocks
@@ -127,7 +127,7 @@ pub fn refill(pages: &mut Vec<Page>, entries: &mut Entries, free: &mut Vec<usize
     requires entries { 64 * length entries.old.items + length region.now.blocks
         ≤ 64 * (entries.old.room + (region.now.behind - region.now.first)) }
     requires room { vec_len pages.old ≤ vec_capacity free.old }
-    ensures kept { IsKept pages.new.items entries.new.items free.new.items }
+    ensures kept { IsKeptInPages pages.new.items entries.new.items free.new.items }
     ensures flat { flat pages.new.items entries.new.items ≡ refilled pages.old.items entries.old.items region.now }
     ensures few { 64 * (length entries.new.items + (region.now.behind - region.now.first))
         < 64 * length entries.old.items + length region.now.blocks + 64 }

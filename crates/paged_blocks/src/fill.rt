@@ -9,7 +9,7 @@ ghost use Rattle.paged_blocks.specs.Paging.{IsEntryOf, IsAdded};
 ghost use Rattle.paged_blocks.specs.Tally.{tallied};
 
 use crate::entries::Entries;
-use crate::entry::{Entry, Tally};
+use crate::entry::{PageEntry, StatusCounts};
 use crate::marks::Edit;
 use crate::page::Page;
 use block_list::plain_tiles::PlainTiles;
@@ -52,14 +52,14 @@ pub fn page_of(tiles: &PlainTiles, from: usize, to: usize) -> Page
 }
 
 /// How many positions of the blocks of a page from one index up to another have each status.
-fn tally_of(page: &Page, from: usize, to: usize) -> Tally
+fn tally_of(page: &Page, from: usize, to: usize) -> StatusCounts
     requires order { from ≤ to }
     requires within { to ≤ length page.now }
     requires short { length (flat_map covered page.now) < 2 ^ 63 }
     ensures { (s : Status) → tallied result s
         ≡ count_by (λ z. same z s) (flat_map covered (slice_range page.now from to)) }
 {
-    let mut tally = Tally::none();
+    let mut tally = StatusCounts::none();
     for i in from..to {
         let block = page.block(i);
         tally.add(block.status, block.size);
@@ -68,12 +68,12 @@ fn tally_of(page: &Page, from: usize, to: usize) -> Tally
 }
 
 /// The entry of a page with a number.
-pub fn entry_of(number: usize, page: &Page) -> Entry
+pub fn entry_of(number: usize, page: &Page) -> PageEntry
     requires some { 0 < length page.now }
     requires short { length (flat_map covered page.now) < 2 ^ 63 }
     ensures { IsEntryOf page.now number result }
 {
-    Entry {
+    PageEntry {
         page: number,
         pos: page.block(0).pos,
         len: page.len(),
@@ -82,7 +82,7 @@ pub fn entry_of(number: usize, page: &Page) -> Entry
 }
 
 /// The entry of a page that was another, of which some blocks went and others came in their place. Only those are counted.
-pub fn entry_behind(entry: Entry, old: &Page, edit: &Edit, page: &Page) -> Entry
+pub fn entry_behind(entry: PageEntry, old: &Page, edit: &Edit, page: &Page) -> PageEntry
     requires says { IsEntryOf old.now entry.page entry }
     requires order { edit.now.from ≤ edit.now.to }
     requires within { edit.now.to ≤ length old.now }
@@ -95,7 +95,7 @@ pub fn entry_behind(entry: Entry, old: &Page, edit: &Edit, page: &Page) -> Entry
 {
     let gone = tally_of(old, edit.from, edit.to);
     let come = edit.new.tally();
-    Entry {
+    PageEntry {
         page: entry.page,
         pos: page.block(0).pos,
         len: page.len(),

@@ -3,7 +3,7 @@ ghost use Rattle.std.specs.Prelude.{◌≡◌, ◌+◌, ◌-◌, ◌<◌, ◌≤
 ghost use Rattle.paged_blocks.specs.Rows.{AreRow};
 
 use crate::page::Page;
-use crate::piece::Piece;
+use crate::piece::MarkedBlocks;
 use crate::slot::Slot;
 use arrayvec::ArrayVec;
 use block_list::block::Block;
@@ -74,7 +74,7 @@ impl Gathered {
     }
 
     /// Puts all blocks of a piece behind the last one.
-    pub fn add(&mut self, piece: &Piece)
+    pub fn add(&mut self, piece: &MarkedBlocks)
         requires { length self.old + length piece.now ≤ 192 }
         ensures { self.new ≡ self.old ++ piece.now }
     {

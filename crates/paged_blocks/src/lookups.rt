@@ -3,16 +3,16 @@ ghost use Rattle.std.specs.Prelude.{◌≡◌, ℕ, ◌+◌, ◌-◌, ◌/◌, �
 ghost use Rattle.std.specs.List.{flat_map};
 ghost use Rattle.block_list.specs.Status.{same};
 ghost use Rattle.block_list.specs.Map.{Has, marked};
-ghost use Rattle.block_list.specs.Places.{IsFirst, IsLast, IsRunUp, IsRunDown};
-ghost use Rattle.paged_blocks.specs.Search.{AreFilled, HasNone, HasAt, IsFirstBlock, IsLastBlock, IsWalk};
+ghost use Rattle.block_list.specs.Places.{IsFirst, IsLast, IsRangeUp, IsRangeDown};
+ghost use Rattle.paged_blocks.specs.Search.{AreNonempty, HasNoneOf, HasAt, IsFirstBlock, IsLastBlock, IsWalk};
 ghost use Rattle.block_list.specs.Stretches.{covered, IsStretchAt};
 ghost use Rattle.paged_blocks.specs.Paging.{blocks_of, flat, IsEntry, IsPaging, IsHeld, AreHalfFull};
 
 use crate::entries::Entries;
-use crate::entry::Entry;
+use crate::entry::PageEntry;
 use crate::page::Page;
 use crate::steps::Steps;
-use block_list::block::{Block, Run};
+use block_list::block::{Block, Range};
 use block_list::status::Status;
 use std::marker::Brand;
 use std::sync::ledger::{Blank, Ledger};
@@ -110,16 +110,16 @@ pub fn block_at(pages: &[Page], entries: &Entries, i: usize) -> Block
 /// the entry counts a position of that status.
 fn first_in<L: Ledger>(
     pages: &[Page],
-    entry: Entry,
+    entry: PageEntry,
     j: usize,
     status: Status,
     steps: &mut Steps<L>,
 ) -> Option<Block>
     requires entry { IsEntry pages.now entry }
     requires index { j ≤ length (blocks_of pages.now entry) }
-    requires filled { AreFilled (blocks_of pages.now entry) }
+    requires filled { AreNonempty (blocks_of pages.now entry) }
     ensures found { IfSome result (λ b. IsFirstBlock (blocks_of pages.now entry) status j b) }
-    ensures none { IfNone result (HasNone (blocks_of pages.now entry) status j (length (blocks_of pages.now entry))) }
+    ensures none { IfNone result (HasNoneOf (blocks_of pages.now entry) status j (length (blocks_of pages.now entry))) }
     ensures cost { IsWalk steps.old steps.new (length (blocks_of pages.now entry)) }
     ensures passed { IfNone result (j ≡ 0 → steps.new ≡ steps.old) }
     ensures there { HasAt (blocks_of pages.now entry) status j → steps.new ≤ steps.old + 1 }
@@ -138,12 +138,12 @@ pub fn first_with<L: Ledger>(
     from: u64,
     status: Status,
     steps: &mut Steps<L>,
-) -> Option<Run>
+) -> Option<Range>
     requires paging { IsPaging pages.now entries.now.items }
     requires half { AreHalfFull entries.now.items }
     requires within { from < length (flat_map covered (flat pages.now entries.now.items)) }
-    ensures first { IfSome result (λ run. IsFirst (Has (flat_map covered (flat pages.now entries.now.items)) status) from run.from) }
-    ensures run { IfSome result (λ run. IsRunUp (Has (flat_map covered (flat pages.now entries.now.items)) status) run.from run.to) }
+    ensures first { IfSome result (λ range. IsFirst (Has (flat_map covered (flat pages.now entries.now.items)) status) from range.from) }
+    ensures range { IfSome result (λ range. IsRangeUp (Has (flat_map covered (flat pages.now entries.now.items)) status) range.from range.to) }
     ensures none { IfNone result ((x : ℕ) → from ≤ x
         → Has (flat_map covered (flat pages.now entries.now.items)) status x → ⊥) }
     ensures cost { steps.new ≤ steps.old + length (flat pages.now entries.now.items) / 16 + 130 }
@@ -152,12 +152,12 @@ pub fn first_with<L: Ledger>(
     let (held, begun) = held_counted(pages, entries, from + 1, steps);
     steps.tick();
     if let Some(block) = first_in(pages, entries.at(held), begun - 1, status, steps) {
-        return Some(run_up(block, from));
+        return Some(range_up(block, from));
     }
     for k in held + 1..entries.len() {
         steps.tick();
         if let Some(block) = first_in(pages, entries.at(k), 0, status, steps) {
-            return Some(run_up(block, from));
+            return Some(range_up(block, from));
         }
     }
     None
@@ -167,16 +167,16 @@ pub fn first_with<L: Ledger>(
 /// a position of that status.
 fn last_in<L: Ledger>(
     pages: &[Page],
-    entry: Entry,
+    entry: PageEntry,
     j: usize,
     status: Status,
     steps: &mut Steps<L>,
 ) -> Option<Block>
     requires entry { IsEntry pages.now entry }
     requires index { j ≤ length (blocks_of pages.now entry) }
-    requires filled { AreFilled (blocks_of pages.now entry) }
+    requires filled { AreNonempty (blocks_of pages.now entry) }
     ensures found { IfSome result (λ b. IsLastBlock (blocks_of pages.now entry) status j b) }
-    ensures none { IfNone result (HasNone (blocks_of pages.now entry) status 0 j) }
+    ensures none { IfNone result (HasNoneOf (blocks_of pages.now entry) status 0 j) }
     ensures cost { IsWalk steps.old steps.new (length (blocks_of pages.now entry)) }
     ensures passed { IfNone result (j ≡ length (blocks_of pages.now entry) → steps.new ≡ steps.old) }
     ensures there { HasAt (blocks_of pages.now entry) status (j - 1) → steps.new ≤ steps.old + 1 }
@@ -194,12 +194,12 @@ pub fn last_with<L: Ledger>(
     to: u64,
     status: Status,
     steps: &mut Steps<L>,
-) -> Option<Run>
+) -> Option<Range>
     requires paging { IsPaging pages.now entries.now.items }
     requires half { AreHalfFull entries.now.items }
     requires within { to ≤ length (flat_map covered (flat pages.now entries.now.items)) }
-    ensures last { IfSome result (λ run. IsLast (Has (flat_map covered (flat pages.now entries.now.items)) status) to run.to) }
-    ensures run { IfSome result (λ run. IsRunDown (Has (flat_map covered (flat pages.now entries.now.items)) status) run.from run.to) }
+    ensures last { IfSome result (λ range. IsLast (Has (flat_map covered (flat pages.now entries.now.items)) status) to range.to) }
+    ensures range { IfSome result (λ range. IsRangeDown (Has (flat_map covered (flat pages.now entries.now.items)) status) range.from range.to) }
     ensures none { IfNone result ((x : ℕ) → x < to
         → Has (flat_map covered (flat pages.now entries.now.items)) status x → ⊥) }
     ensures cost { steps.new ≤ steps.old + length (flat pages.now entries.now.items) / 16 + 130 }
@@ -211,35 +211,35 @@ pub fn last_with<L: Ledger>(
     let (held, begun) = held_counted(pages, entries, to, steps);
     steps.tick();
     if let Some(block) = last_in(pages, entries.at(held), begun, status, steps) {
-        return Some(run_down(block, to));
+        return Some(range_down(block, to));
     }
     for k in (0..held).rev() {
         steps.tick();
         let entry = entries.at(k);
         if let Some(block) = last_in(pages, entry, entry.len, status, steps) {
-            return Some(run_down(block, to));
+            return Some(range_down(block, to));
         }
     }
     None
 }
 
 /// The part of a block at or after a position.
-pub fn run_up(block: Block, from: u64) -> Run
+pub fn range_up(block: Block, from: u64) -> Range
     requires { block.pos + block.size < 2 ^ 64 }
     ensures { result ≡ record { from = max from block.pos; to = block.pos + block.size } }
 {
-    Run {
+    Range {
         from: from.max(block.pos),
         to: block.pos + block.size,
     }
 }
 
 /// The part of a block below a position.
-pub fn run_down(block: Block, to: u64) -> Run
+pub fn range_down(block: Block, to: u64) -> Range
     requires { block.pos + block.size < 2 ^ 64 }
     ensures { result ≡ record { from = block.pos; to = min to (block.pos + block.size) } }
 {
-    Run {
+    Range {
         from: block.pos,
         to: to.min(block.pos + block.size),
     }

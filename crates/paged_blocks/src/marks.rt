@@ -3,14 +3,14 @@ ghost use Rattle.std.specs.Prelude.{◌≡◌, ◌+◌, ◌<◌, ◌≤◌, ◌^
 ghost use Rattle.std.specs.List.{flat_map};
 ghost use Rattle.block_list.specs.Map.{marked};
 ghost use Rattle.block_list.specs.Stretches.{covered};
-ghost use Rattle.paged_blocks.specs.declared.entry.Entry.{Entry};
+ghost use Rattle.paged_blocks.specs.declared.entry.PageEntry.{PageEntry};
 ghost use Rattle.paged_blocks.specs.Paging.{blocks_of, flat, before, IsPaging};
 ghost use Rattle.paged_blocks.specs.Marks.{IsJoinedFront, IsJoinedBack, IsEdit, AreOfMap, edited, edit_from, edit_to};
 
 use crate::entries::Entries;
 use crate::lookups::held_before;
 use crate::page::Page;
-use crate::piece::Piece;
+use crate::piece::MarkedBlocks;
 use block_list::block::Block;
 
 /// A block that was joined with a neighbor of its status, and what is left of a neighbor of another. The blocks that stay
@@ -31,7 +31,7 @@ pub struct Edit {
     pub from: usize,
     pub last: usize,
     pub to: usize,
-    pub new: Piece,
+    pub new: MarkedBlocks,
 }
 
 /// A block, joined with the block that holds the position in front of it.
@@ -42,7 +42,7 @@ fn join_front(pages: &[Page], entries: &Entries, block: Block) -> Joined
     requires begins { block.pos ≤ length (flat_map covered (flat pages.now entries.now.items)) }
     requires short { block.pos + block.size < 2 ^ 63 }
     ensures entry { result.entry < length entries.now.items }
-    ensures index { (d : Entry) → result.index
+    ensures index { (d : PageEntry) → result.index
         ≤ length (blocks_of pages.now (slice_index_or entries.now.items result.entry d)) }
     ensures joined { IsJoinedFront (flat pages.now entries.now.items) block
         (before pages.now entries.now.items result.entry + result.index) result.rest result.block }
@@ -92,7 +92,7 @@ fn join_back(pages: &[Page], entries: &Entries, end: u64, block: Block) -> Joine
     requires end { end ≡ length (flat_map covered (flat pages.now entries.now.items)) }
     requires short { block.pos + block.size < 2 ^ 63 }
     ensures entry { result.entry < length entries.now.items }
-    ensures index { (d : Entry) → result.index
+    ensures index { (d : PageEntry) → result.index
         ≤ length (blocks_of pages.now (slice_index_or entries.now.items result.entry d)) }
     ensures joined { IsJoinedBack (flat pages.now entries.now.items) block
         (before pages.now entries.now.items result.entry + result.index) result.rest result.block }
@@ -152,7 +152,7 @@ pub fn mark(pages: &[Page], entries: &Entries, end: u64, block: Block) -> Edit
 {
     let front = join_front(pages, entries, block);
     let back = join_back(pages, entries, end, front.block);
-    let mut new = Piece::new();
+    let mut new = MarkedBlocks::new();
     new.push_some(front.rest);
     new.push(back.block);
     new.push_some(back.rest);

@@ -4,10 +4,10 @@ ghost use Rattle.std.specs.List.Sorted.{IsNonDecreasingBy};
 ghost use Rattle.block_list.specs.declared.block.Block.{Block};
 ghost use Rattle.paged_blocks.specs.Marks.{spliced};
 ghost use Rattle.paged_blocks.specs.Rows.{AreRow, first_or};
-ghost use Rattle.paged_blocks.specs.Search.{IsSearched, HasNone, HasAt, IsFirstBlock, IsLastBlock};
+ghost use Rattle.paged_blocks.specs.Search.{IsSearched, HasNoneOf, HasAt, IsFirstBlock, IsLastBlock};
 
-use crate::piece::Piece;
-use crate::search::{Begins, last_before};
+use crate::piece::MarkedBlocks;
+use crate::search::{Positioned, last_before};
 use crate::steps::Steps;
 use arrayvec::ArrayVec;
 use block_list::block::Block;
@@ -17,19 +17,19 @@ use std::sync::ledger::Ledger;
 
 /// The status of a block.
 #[derive(Clone, Copy, Debug)]
-struct Kept {
+struct KeptStatus {
     status: Status,
 }
 
-impl Default for Kept {
-    fn default() -> Kept {
-        Kept {
+impl Default for KeptStatus {
+    fn default() -> KeptStatus {
+        KeptStatus {
             status: Status::NonTried,
         }
     }
 }
 
-impl Begins for u64 {
+impl Positioned for u64 {
     ghost begin = { λ x. x };
 
     fn pos(&self) -> u64 {
@@ -42,7 +42,7 @@ impl Begins for u64 {
 #[derive(Drop)]
 pub struct Page {
     starts: ArrayVec<u64, 64>,
-    statuses: ArrayVec<Kept, 64>,
+    statuses: ArrayVec<KeptStatus, 64>,
     end: u64,
 }
 
@@ -123,7 +123,7 @@ impl Page {
     ) -> Option<Block>
         requires { from ≤ length self.now }
         ensures found { IfSome result (λ b. IsFirstBlock self.now status from b) }
-        ensures none { IfNone result (HasNone self.now status from (length self.now)) }
+        ensures none { IfNone result (HasNoneOf self.now status from (length self.now)) }
         ensures cost { steps.new ≤ steps.old + (length self.now - from) }
         ensures there { HasAt self.now status from → steps.new ≤ steps.old + 1 }
     {
@@ -146,7 +146,7 @@ impl Page {
     ) -> Option<Block>
         requires { below ≤ length self.now }
         ensures found { IfSome result (λ b. IsLastBlock self.now status below b) }
-        ensures none { IfNone result (HasNone self.now status 0 below) }
+        ensures none { IfNone result (HasNoneOf self.now status 0 below) }
         ensures cost { steps.new ≤ steps.old + below }
         ensures there { HasAt self.now status (below - 1) → steps.new ≤ steps.old + 1 }
     {
@@ -167,7 +167,7 @@ impl Page {
         ensures { self.new ≡ self.old ++ block ∷ [] }
     {
         self.starts.push(block.pos);
-        self.statuses.push(Kept {
+        self.statuses.push(KeptStatus {
             status: block.status,
         });
         self.end = block.pos + block.size;
@@ -193,7 +193,7 @@ impl Page {
     }
 
     /// Puts all blocks of a piece behind the last one.
-    fn add(&mut self, piece: &Piece)
+    fn add(&mut self, piece: &MarkedBlocks)
         requires room { length self.old + length piece.now ≤ 64 }
         requires row { AreRow (self.old ++ piece.now) }
         ensures { self.new ≡ self.old ++ piece.now }
@@ -204,7 +204,7 @@ impl Page {
     }
 
     /// A page like it, with other blocks in the place of those from one index up to another.
-    pub fn spliced(&self, from: usize, to: usize, new: &Piece) -> Page
+    pub fn spliced(&self, from: usize, to: usize, new: &MarkedBlocks) -> Page
         requires order { from ≤ to }
         requires within { to ≤ length self.now }
         requires fits { length self.now + length new.now ≤ 64 + (to - from) }

@@ -1,13 +1,13 @@
 //! The map of a rescue: a plain list of a few blocks, or a map in pages.
 ghost use Rattle.std.specs.Prelude.{◌≡◌, ℕ, ◌+◌, ◌-◌, ◌/◌, ◌<◌, ◌≤◌, length, OnOk, IfOk, IfSome, IfNone};
 ghost use Rattle.block_list.specs.Map.{Has};
-ghost use Rattle.block_list.specs.Places.{IsFirst, IsLast, IsRunUp, IsRunDown};
+ghost use Rattle.block_list.specs.Places.{IsFirst, IsLast, IsRangeUp, IsRangeDown};
 ghost use Rattle.block_list.specs.Stretches.{stretches};
 
 use crate::few;
 use crate::pages::Pages;
 use crate::steps::Steps;
-use block_list::block::{Block, Run};
+use block_list::block::{Block, Range};
 use block_list::near::Near;
 use block_list::plain_tiles::PlainTiles;
 use block_list::status::Status;
@@ -95,9 +95,9 @@ impl PagedTiles {
         from: u64,
         status: Status,
         steps: &mut Steps<L>,
-    ) -> Option<Run>
-        ensures first { IfSome result (λ run. IsFirst (Has self.now.statuses status) from run.from) }
-        ensures run { IfSome result (λ run. IsRunUp (Has self.now.statuses status) run.from run.to) }
+    ) -> Option<Range>
+        ensures first { IfSome result (λ range. IsFirst (Has self.now.statuses status) from range.from) }
+        ensures range { IfSome result (λ range. IsRangeUp (Has self.now.statuses status) range.from range.to) }
         ensures none { IfNone result ((x : ℕ) → from ≤ x → Has self.now.statuses status x → ⊥) }
         ensures cost { steps.new ≤ steps.old + length (stretches self.now.statuses) / 16 + 130 }
         ensures there { Has self.now.statuses status from → steps.new ≤ steps.old + 130 }
@@ -114,9 +114,9 @@ impl PagedTiles {
         before: u64,
         status: Status,
         steps: &mut Steps<L>,
-    ) -> Option<Run>
-        ensures last { IfSome result (λ run. IsLast (Has self.now.statuses status) before run.to) }
-        ensures run { IfSome result (λ run. IsRunDown (Has self.now.statuses status) run.from run.to) }
+    ) -> Option<Range>
+        ensures last { IfSome result (λ range. IsLast (Has self.now.statuses status) before range.to) }
+        ensures range { IfSome result (λ range. IsRangeDown (Has self.now.statuses status) range.from range.to) }
         ensures none { IfNone result ((x : ℕ) → x < before → Has self.now.statuses status x → ⊥) }
         ensures cost { steps.new ≤ steps.old + length (stretches self.now.statuses) / 16 + 130 }
         ensures there { Has self.now.statuses status (before - 1) → steps.new ≤ steps.old + 130 }
@@ -134,12 +134,12 @@ impl PagedTiles {
         from: u64,
         status: Status,
         blank: Blank,
-    ) -> Option<Run>
+    ) -> Option<Range>
         requires name { blank.name ≡ L.name }
         requires parts { blank.parts ≡ L.parts }
         requires one { 0 < blank.parts }
-        ensures first { IfSome result (λ run. IsFirst (Has self.now.statuses status) from run.from) }
-        ensures run { IfSome result (λ run. IsRunUp (Has self.now.statuses status) run.from run.to) }
+        ensures first { IfSome result (λ range. IsFirst (Has self.now.statuses status) from range.from) }
+        ensures range { IfSome result (λ range. IsRangeUp (Has self.now.statuses status) range.from range.to) }
         ensures none { IfNone result ((x : ℕ) → from ≤ x → Has self.now.statuses status x → ⊥) }
     {
         let mut steps = Steps::<L>::new(blank);
@@ -152,12 +152,12 @@ impl PagedTiles {
         before: u64,
         status: Status,
         blank: Blank,
-    ) -> Option<Run>
+    ) -> Option<Range>
         requires name { blank.name ≡ L.name }
         requires parts { blank.parts ≡ L.parts }
         requires one { 0 < blank.parts }
-        ensures last { IfSome result (λ run. IsLast (Has self.now.statuses status) before run.to) }
-        ensures run { IfSome result (λ run. IsRunDown (Has self.now.statuses status) run.from run.to) }
+        ensures last { IfSome result (λ range. IsLast (Has self.now.statuses status) before range.to) }
+        ensures range { IfSome result (λ range. IsRangeDown (Has self.now.statuses status) range.from range.to) }
         ensures none { IfNone result ((x : ℕ) → x < before → Has self.now.statuses status x → ⊥) }
     {
         let mut steps = Steps::<L>::new(blank);
@@ -196,11 +196,11 @@ impl Tiles for PagedTiles {
     }
 
     #[inline(always)]
-    fn find_forward(&self, from: u64, status: Status) -> Option<Run> {
+    fn find_forward(&self, from: u64, status: Status) -> Option<Range> {
         self.find_forward_uncounted::<Brand>(from, status, Blank::new(1))
     }
 
-    fn find_backward(&self, before: u64, status: Status) -> Option<Run> {
+    fn find_backward(&self, before: u64, status: Status) -> Option<Range> {
         self.find_backward_uncounted::<Brand>(before, status, Blank::new(1))
     }
 

@@ -2,7 +2,7 @@
 ghost use Rattle.std.specs.Prelude.{◌≡◌, ℕ, ◌+◌, ◌-◌, ◌/◌, ◌<◌, ◌≤◌, ◌^◌, length, slice_get, count_by, Some, OnOk, IfOk, IfSome, IfNone};
 ghost use Rattle.block_list.specs.Status.{same};
 ghost use Rattle.block_list.specs.Map.{Has, marked, extended};
-ghost use Rattle.block_list.specs.Places.{IsFirst, IsLast, IsRunUp, IsRunDown};
+ghost use Rattle.block_list.specs.Places.{IsFirst, IsLast, IsRangeUp, IsRangeDown};
 ghost use Rattle.block_list.specs.Stretches.{stretches, IsStretchAt};
 
 use crate::entries::Entries;
@@ -10,7 +10,7 @@ use crate::fill::{add, page_len, page_of};
 use crate::page::Page;
 use crate::steps::Steps;
 use crate::{edits, lookups, near, room};
-use block_list::block::{Block, Run};
+use block_list::block::{Block, Range};
 use block_list::near::Near;
 use block_list::plain_tiles::PlainTiles;
 use block_list::status::Status;
@@ -106,9 +106,9 @@ impl Pages {
         from: u64,
         status: Status,
         steps: &mut Steps<L>,
-    ) -> Option<Run>
-        ensures first { IfSome result (λ run. IsFirst (Has self.now.statuses status) from run.from) }
-        ensures run { IfSome result (λ run. IsRunUp (Has self.now.statuses status) run.from run.to) }
+    ) -> Option<Range>
+        ensures first { IfSome result (λ range. IsFirst (Has self.now.statuses status) from range.from) }
+        ensures range { IfSome result (λ range. IsRangeUp (Has self.now.statuses status) range.from range.to) }
         ensures none { IfNone result ((x : ℕ) → from ≤ x → Has self.now.statuses status x → ⊥) }
         ensures cost { steps.new ≤ steps.old + length (stretches self.now.statuses) / 16 + 130 }
         ensures there { Has self.now.statuses status from → steps.new ≤ steps.old + 130 }
@@ -127,9 +127,9 @@ impl Pages {
         before: u64,
         status: Status,
         steps: &mut Steps<L>,
-    ) -> Option<Run>
-        ensures last { IfSome result (λ run. IsLast (Has self.now.statuses status) before run.to) }
-        ensures run { IfSome result (λ run. IsRunDown (Has self.now.statuses status) run.from run.to) }
+    ) -> Option<Range>
+        ensures last { IfSome result (λ range. IsLast (Has self.now.statuses status) before range.to) }
+        ensures range { IfSome result (λ range. IsRangeDown (Has self.now.statuses status) range.from range.to) }
         ensures none { IfNone result ((x : ℕ) → x < before → Has self.now.statuses status x → ⊥) }
         ensures cost { steps.new ≤ steps.old + length (stretches self.now.statuses) / 16 + 130 }
         ensures there { Has self.now.statuses status (before - 1) → steps.new ≤ steps.old + 130 }

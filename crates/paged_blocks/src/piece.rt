@@ -6,7 +6,7 @@ ghost use Rattle.block_list.specs.Status.{same};
 ghost use Rattle.block_list.specs.Stretches.{covered};
 ghost use Rattle.paged_blocks.specs.Tally.{tallied};
 
-use crate::entry::Tally;
+use crate::entry::StatusCounts;
 use crate::slot::Slot;
 use arrayvec::ArrayVec;
 use block_list::block::Block;
@@ -14,11 +14,11 @@ use std::marker::Model;
 
 /// At most three blocks: what is left in front of a mark, the mark, and what is left behind it.
 #[derive(Drop)]
-pub struct Piece {
+pub struct MarkedBlocks {
     slots: ArrayVec<Slot, 3>,
 }
 
-impl Model for Piece {
+impl Model for MarkedBlocks {
     ghost use Rattle.std.specs.Prelude.{◌≤◌, List, length, map};
     ghost use Rattle.block_list.specs.declared.block.Block.{Block as Shown};
 
@@ -29,12 +29,12 @@ impl Model for Piece {
     ghost invariant = { λ p. length p.slots.items ≤ 3 };
 }
 
-impl Piece {
+impl MarkedBlocks {
     /// No block.
-    pub fn new() -> Piece
+    pub fn new() -> MarkedBlocks
         ensures { result ≡ [] }
     {
-        Piece {
+        MarkedBlocks {
             slots: ArrayVec::new(),
         }
     }
@@ -56,11 +56,11 @@ impl Piece {
     }
 
     /// How many positions of its blocks have each status.
-    pub fn tally(&self) -> Tally
+    pub fn tally(&self) -> StatusCounts
         requires { length (flat_map covered self.now) < 2 ^ 63 }
         ensures { (s : Status) → tallied result s ≡ count_by (λ z. same z s) (flat_map covered self.now) }
     {
-        let mut tally = Tally::none();
+        let mut tally = StatusCounts::none();
         for i in 0..self.len() {
             let block = self.block(i);
             tally.add(block.status, block.size);

@@ -3,11 +3,11 @@ ghost use Rattle.std.specs.Prelude.{◌≡◌, ◌+◌, ◌<◌, ◌≤◌, ◌^
 ghost use Rattle.std.specs.List.{flat_map};
 ghost use Rattle.block_list.specs.Map.{marked};
 ghost use Rattle.block_list.specs.Stretches.{covered};
-ghost use Rattle.paged_blocks.specs.declared.entry.Entry.{Entry};
+ghost use Rattle.paged_blocks.specs.declared.entry.PageEntry.{PageEntry};
 ghost use Rattle.block_list.specs.Edits.{IsTiled};
 ghost use Rattle.paged_blocks.specs.Paging.{blocks_of, flat, IsPaging, AreHalfFull};
 ghost use Rattle.paged_blocks.specs.Marks.{AreOfMap, IsEdit, spliced, edited};
-ghost use Rattle.paged_blocks.specs.Regions.{IsRegion, IsFull, IsOneBlock, StaysInPage, refilled};
+ghost use Rattle.paged_blocks.specs.Regions.{IsRegion, IsOfAllPages, IsOneBlock, StaysInPage, refilled};
 
 use crate::entries::Entries;
 use crate::gathered::Gathered;
@@ -30,7 +30,7 @@ pub fn first_region(pages: &[Page], entries: &Entries, block: Block) -> Region
     requires begins { block.pos ≡ 0 }
     requires short { block.pos + block.size < 2 ^ 63 }
     ensures region { IsRegion entries.now.items result }
-    ensures full { IsFull entries.now.items result }
+    ensures full { IsOfAllPages entries.now.items result }
     ensures marked { AreOfMap (refilled pages.now entries.now.items result)
         (marked (flat_map covered (flat pages.now entries.now.items)) block.pos block.size block.status) }
     ensures one { IsOneBlock result }
@@ -50,7 +50,7 @@ pub fn edited_page(pages: &[Page], entries: &Entries, edit: &Edit) -> Page
     requires edit { IsEdit pages.now entries.now.items edit.now }
     requires stays { StaysInPage entries.now.items edit.now }
     requires tiled { IsTiled (edited pages.now entries.now.items edit.now) }
-    ensures { (d : Entry) → result
+    ensures { (d : PageEntry) → result
         ≡ spliced (blocks_of pages.now (slice_index_or entries.now.items edit.now.first d)) edit.now.from edit.now.to
         edit.now.new }
 {
@@ -85,7 +85,7 @@ fn with_next(pages: &[Page], entries: &Entries, mut region: Region) -> Region
     requires there { region.behind < length entries.now.items }
     ensures region { IsRegion entries.now.items result }
     ensures same { refilled pages.now entries.now.items result ≡ refilled pages.now entries.now.items region }
-    ensures full { IsFull entries.now.items result }
+    ensures full { IsOfAllPages entries.now.items result }
 {
     let next = &pages[entries.at(region.behind).page];
     region.blocks.copy(next, 0, next.len());
@@ -102,7 +102,7 @@ fn with_former(pages: &[Page], entries: &Entries, region: Region) -> Region
     requires there { 0 < region.first }
     ensures region { IsRegion entries.now.items result }
     ensures same { refilled pages.now entries.now.items result ≡ refilled pages.now entries.now.items region }
-    ensures full { IsFull entries.now.items result }
+    ensures full { IsOfAllPages entries.now.items result }
 {
     let first = region.first - 1;
     let former = &pages[entries.at(first).page];
@@ -123,7 +123,7 @@ pub fn region_of(pages: &[Page], entries: &Entries, edit: &Edit) -> Region
     requires edit { IsEdit pages.now entries.now.items edit.now }
     ensures region { IsRegion entries.now.items result }
     ensures same { refilled pages.now entries.now.items result ≡ edited pages.now entries.now.items edit.now }
-    ensures full { IsFull entries.now.items result }
+    ensures full { IsOfAllPages entries.now.items result }
 {
     let region = touched(pages, entries, edit);
     if region.blocks.len() >= 32 {

@@ -1,6 +1,6 @@
 //! Room for more blocks.
 ghost use Rattle.std.specs.Prelude.{◌≡◌, ◌≤◌, length, vec_len, vec_capacity, OnOk};
-ghost use Rattle.paged_blocks.specs.Paging.{flat, IsPaging, IsKept};
+ghost use Rattle.paged_blocks.specs.Paging.{flat, IsPaging, IsKeptInPages};
 ghost use Rattle.paged_blocks.specs.Room.{room_for};
 
 use crate::entries::Entries;
@@ -27,9 +27,9 @@ pub fn reserve(
     free: &mut Vec<usize>,
     n: usize,
 ) -> Result<(), NoMemory>
-    requires kept { IsKept pages.old.items entries.old.items free.old.items }
+    requires kept { IsKeptInPages pages.old.items entries.old.items free.old.items }
     requires room { vec_len pages.old ≤ vec_capacity free.old }
-    ensures kept { IsKept pages.new.items entries.new.items free.new.items }
+    ensures kept { IsKeptInPages pages.new.items entries.new.items free.new.items }
     ensures flat { flat pages.new.items entries.new.items ≡ flat pages.old.items entries.old.items }
     ensures spare { OnOk result (n ≤ room_for (vec_len pages.new) (entries.new.room) (length entries.old.items)
         (length (flat pages.old.items entries.old.items))) }
@@ -61,10 +61,10 @@ fn add_pages(
     free: &mut Vec<usize>,
     wanted: usize,
 ) -> Result<(), NoMemory>
-    requires kept { IsKept pages.old.items entries.now.items free.old.items }
+    requires kept { IsKeptInPages pages.old.items entries.now.items free.old.items }
     requires room { vec_len pages.old ≤ vec_capacity free.old }
     requires capacity { wanted ≤ vec_capacity free.old }
-    ensures kept { IsKept pages.new.items entries.now.items free.new.items }
+    ensures kept { IsKeptInPages pages.new.items entries.now.items free.new.items }
     ensures flat { flat pages.new.items entries.now.items ≡ flat pages.old.items entries.now.items }
     ensures made { OnOk result (wanted ≤ vec_len pages.new) }
     ensures more { vec_len pages.old ≤ vec_len pages.new }

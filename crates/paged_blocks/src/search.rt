@@ -7,7 +7,7 @@ use crate::steps::Steps;
 use std::sync::ledger::Ledger;
 
 /// What begins at a position.
-pub trait Begins {
+pub trait Positioned {
     /// The position.
     ghost begin: { Self → ℕ };
 
@@ -18,7 +18,7 @@ pub trait Begins {
 
 /// The index of the last that begins before a position, where the first one does. It looks at one, and
 /// then among half as many, till one is left.
-pub fn last_before<X: Begins, L: Ledger>(xs: &[X], at: u64, steps: &mut Steps<L>) -> usize
+pub fn last_before<X: Positioned, L: Ledger>(xs: &[X], at: u64, steps: &mut Steps<L>) -> usize
     requires sorted { IsNonDecreasingBy X.begin xs.now }
     requires some { 0 < length xs.now }
     requires first { (d : X) → X.begin (slice_index_or xs.now 0 d) < at }

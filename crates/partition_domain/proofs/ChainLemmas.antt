@@ -3,11 +3,11 @@ use Rattle.std.proofs.Common.{◌≡◌, ℕ, ◌-◌, ◌<◌, ◌≤◌, Bool,
 use Rattle.std.specs.List.{list_all}
 use Rattle.std.specs.Option.{option_and_then}
 use Rattle.std.proofs.lemmas.Bool.{and_from, and_parts, and_right, cond-true, cond-false, le-leb, lt-ltb, lt-leb, ltb-true, not_from_false}
-use Rattle.partition_domain.specs.declared.table.Entry.{Entry}
+use Rattle.partition_domain.specs.declared.table.TableEntry.{TableEntry}
 use Rattle.partition_domain.specs.declared.table.Partition.{Partition}
-use Rattle.partition_domain.specs.Table.{extended, is_protected, is_record}
+use Rattle.partition_domain.specs.Table.{extended_entry, is_protected, is_record}
 use Rattle.partition_domain.specs.Chain.{chain_limit, given_by, given_from, linked, links_on, logical_partitions, next_in_chain, sector_behind}
-use Rattle.partition_domain.specs.Part.{are_records, goes_on, is_lacking, is_primary, logical, next, next_of_chain, partition_of, primary}
+use Rattle.partition_domain.specs.Part.{are_records, chain_goes_on, is_lacking, is_primary, logical, next, next_of_chain, partition_of, primary}
 
 -- ---- one more record
 
@@ -58,8 +58,8 @@ pub lacks : (base : ℕ) (chain : List (List ℕ)) (k : ℕ) → length (logical
 lacks base chain k few = le-leb (length (logical_partitions base chain)) (k - 5) few
 
 -- the record behind a chain that goes on
-pub next_on : (main : List ℕ) (chain : List (List ℕ)) (k : ℕ) (e : Entry) → are_records main chain ≡ true
-    → is_primary k ≡ false → extended main ≡ Some e → list_all links_on chain ≡ true
+pub next_on : (main : List ℕ) (chain : List (List ℕ)) (k : ℕ) (e : TableEntry) → are_records main chain ≡ true
+    → is_primary k ≡ false → extended_entry main ≡ Some e → list_all links_on chain ≡ true
     → is_lacking e.first chain k ≡ true → length chain < 128
     → next (main ∷ chain) k ≡ Some (next_in_chain e.first chain)
 next_on main chain k e are logical is links lacking short =
@@ -67,20 +67,20 @@ next_on main chain k e are logical is links lacking short =
     let goes = and_from (list_all links_on chain && is_lacking e.first chain k) (nat_lt (length chain) chain_limit)
     (and_from (list_all links_on chain) (is_lacking e.first chain k) links lacking) short_is in
     cond-true (are_records main chain && not (is_primary k))
-    (option_and_then (λ (e : Entry). next_of_chain e.first chain k) (extended main)) None
+    (option_and_then (λ (e : TableEntry). next_of_chain e.first chain k) (extended_entry main)) None
     (and_from (are_records main chain) (not (is_primary k)) are (not_from_false (is_primary k) logical))
-    ∙ ap (λ (o : Option Entry). option_and_then (λ (e : Entry). next_of_chain e.first chain k) o) is
-    ∙ cond-true (goes_on e.first chain k) (Some (next_in_chain e.first chain)) None goes
+    ∙ ap (λ (o : Option TableEntry). option_and_then (λ (e : TableEntry). next_of_chain e.first chain k) o) is
+    ∙ cond-true (chain_goes_on e.first chain k) (Some (next_in_chain e.first chain)) None goes
 
 -- the partition that a chain gives
-pub part_on : (main : List ℕ) (chain : List (List ℕ)) (k : ℕ) (e : Entry) (p : Partition)
-    → are_records main chain ≡ true → is_primary k ≡ false → extended main ≡ Some e
+pub part_on : (main : List ℕ) (chain : List (List ℕ)) (k : ℕ) (e : TableEntry) (p : Partition)
+    → are_records main chain ≡ true → is_primary k ≡ false → extended_entry main ≡ Some e
     → slice_get (logical_partitions e.first chain) (k - 5) ≡ Some p → partition_of (main ∷ chain) k ≡ Some p
 part_on main chain k e p are logical_is is at =
-    let of = option_and_then (λ (e : Entry). logical e.first chain k) (extended main) in
+    let of = option_and_then (λ (e : TableEntry). logical e.first chain k) (extended_entry main) in
     cond-true (are_records main chain) (cond (is_primary k) (primary main k) of) None are
     ∙ cond-false (is_primary k) (primary main k) of logical_is
-    ∙ ap (λ (o : Option Entry). option_and_then (λ (e : Entry). logical e.first chain k) o) is ∙ at
+    ∙ ap (λ (o : Option TableEntry). option_and_then (λ (e : TableEntry). logical e.first chain k) o) is ∙ at
 
 -- ---- how many records there are in front of one
 
@@ -88,11 +88,11 @@ by_cond : (b : Bool) (x : Option ℕ) (s : ℕ) → cond b x None ≡ Some s →
 by_cond true x s is = (refl, is)
 by_cond false x s is = absurd (cc)
 
-limit_of : (chain : List (List ℕ)) (k s : ℕ) (o : Option Entry)
+limit_of : (chain : List (List ℕ)) (k s : ℕ) (o : Option TableEntry)
     → option_and_then (λ e. next_of_chain e.first chain k) o ≡ Some s → length chain < chain_limit
 limit_of chain k s None is = absurd (cc)
 limit_of chain k s (Some e) is =
-    let on = by_cond (goes_on e.first chain k) (Some (next_in_chain e.first chain)) s is in
+    let on = by_cond (chain_goes_on e.first chain k) (Some (next_in_chain e.first chain)) s is in
     let parts = and_parts (list_all links_on chain && is_lacking e.first chain k) (nat_lt (length chain) chain_limit)
     on.0 in
     ltb-true (length chain) chain_limit parts.1
@@ -101,6 +101,6 @@ pub next_short : (records : List (List ℕ)) (k s : ℕ) → next records k ≡ 
 next_short [] k s is = omega arith
 next_short (main ∷ chain) k s is =
     let on = by_cond (are_records main chain && not (is_primary k))
-    (option_and_then (λ e. next_of_chain e.first chain k) (extended main)) s is in
-    let short = limit_of chain k s (extended main) on.1 in
+    (option_and_then (λ e. next_of_chain e.first chain k) (extended_entry main)) s is in
+    let short = limit_of chain k s (extended_entry main) on.1 in
     omega (arith, short)

@@ -4,24 +4,24 @@ use Rattle.std.specs.List.{list_any}
 use Rattle.std.specs.Option.{option_and_then}
 use Rattle.std.proofs.lemmas.Bool.{and_from, cond-true, le-leb, not_from_false}
 use Rattle.faulty_source.specs.SourceState.{SourceState, Stays}
-use Rattle.partition_domain.specs.declared.table.Entry.{Entry}
+use Rattle.partition_domain.specs.declared.table.TableEntry.{TableEntry}
 use Rattle.partition_domain.specs.declared.table.Partition.{Partition}
 use Rattle.partition_domain.specs.declared.ending.PartEnding.{PartEnding}
 use Rattle.partition_domain.specs.declared.ending.PartEnding.TheVariants.{Protective, NoPartition}
-use Rattle.partition_domain.specs.Table.{entries, entry, extended, is_extended, is_protected, is_protective, is_record, is_used}
+use Rattle.partition_domain.specs.Table.{table_entries, table_entry, extended_entry, is_extended, is_protected, is_protective, is_record, is_used}
 use Rattle.partition_domain.specs.Part.{are_records, is_primary, logical, primary}
 use Rattle.partition_domain.specs.Reads.{AreNext, Unextended, Unused, records_of}
-use Rattle.partition_domain.specs.Steps.{ComesTo, IsLed, ReadsTable, Searches, SearchesBehind, partition_at}
+use Rattle.partition_domain.specs.Steps.{SearchFinds, LeadsToChain, ReadsTable, Searches, SearchesBehind, partition_at}
 use Rattle.partition_domain.proofs.ChainLemmas.{not_primary}
 use Rattle.partition_domain.proofs.ReadLemmas.{gained_more, next_more, one_behind, read_next, records_more, stop_answers}
 
 -- ---- an entry of the first record
 
 -- the entry that no record has
-abbrev no_entry : Entry
+abbrev no_entry : TableEntry
 no_entry = record { kind = 0; first = 0; count = 0 }
 
-entry_there : (main : List ℕ) (n : ℕ) → n < 4 → slice_index_or (entries main) n no_entry ≡ entry main n
+entry_there : (main : List ℕ) (n : ℕ) → n < 4 → slice_index_or (table_entries main) n no_entry ≡ table_entry main n
 entry_there main zero few = refl
 entry_there main (suc zero) few = refl
 entry_there main (suc (suc zero)) few = refl
@@ -29,10 +29,10 @@ entry_there main (suc (suc (suc zero))) few = refl
 entry_there main (suc (suc (suc (suc n)))) few = absurd (omega (arith, few))
 
 -- the partition of an entry, if it is used
-abbrev part_by : Entry → Option Partition
+abbrev part_by : TableEntry → Option Partition
 part_by e = cond (is_used e) (Some (record { first = e.first; count = e.count })) None
 
-primary_is : (main : List ℕ) (k : ℕ) → 1 ≤ k → k ≤ 4 → partition_at (entries main) k ≡ primary main k
+primary_is : (main : List ℕ) (k : ℕ) → 1 ≤ k → k ≤ 4 → partition_at (table_entries main) k ≡ primary main k
 primary_is main k low high = ap part_by (entry_there main (k - 1) (omega (arith, low, high)))
 
 -- ---- the first record
@@ -46,7 +46,7 @@ first_stopped k e s t r = record {
   to = stop_answers k [] 0 refl r.reads e r.as_;
 }
 
-module _ (k : ℕ) (table : List Entry) (s t : SourceState) (r : ReadsTable 0 (Ok table) s t) where
+module _ (k : ℕ) (table : List TableEntry) (s t : SourceState) (r : ReadsTable 0 (Ok table) s t) where
   abbrev main : List ℕ
   main = r.as_.0
 
@@ -57,12 +57,12 @@ module _ (k : ℕ) (table : List Entry) (s t : SourceState) (r : ReadsTable 0 (O
   next_first = read_next k [] 0 refl r.reads (Ok table) r.as_
 
   -- it alone decides
-  decided : (result : Result Partition PartEnding) → ComesTo k (main ∷ []) result → Searches k result s t
+  decided : (result : Result Partition PartEnding) → SearchFinds k (main ∷ []) result → Searches k result s t
   decided result comes = record {
     reads = r.reads;
     gained = r.gained;
     next = next_first;
-    to = subst (λ (rs : List (List ℕ)). ComesTo k rs result) (sym behind) comes;
+    to = subst (λ (rs : List (List ℕ)). SearchFinds k rs result) (sym behind) comes;
   }
 
   pub first_protected : list_any is_protective table ≡ true → Searches k (Err Protective) s t
@@ -70,12 +70,12 @@ module _ (k : ℕ) (table : List Entry) (s t : SourceState) (r : ReadsTable 0 (O
     main = main;
     are = refl;
     readable = r.as_.2;
-    protected = ap (λ (es : List Entry). list_any is_protective es) (sym r.as_.3) ∙ protected;
+    protected = ap (λ (es : List TableEntry). list_any is_protective es) (sym r.as_.3) ∙ protected;
   })
 
   module _ (unprotected : list_any is_protective table ≡ false) where
     unprotected_is : is_protected main ≡ false
-    unprotected_is = ap (λ (es : List Entry). list_any is_protective es) (sym r.as_.3) ∙ unprotected
+    unprotected_is = ap (λ (es : List TableEntry). list_any is_protective es) (sym r.as_.3) ∙ unprotected
 
     are : are_records main [] ≡ true
     are =
@@ -85,11 +85,11 @@ module _ (k : ℕ) (table : List Entry) (s t : SourceState) (r : ReadsTable 0 (O
 
     at_is : (o : Option Partition) → 1 ≤ k → k ≤ 4 → partition_at table k ≡ o → primary main k ≡ o
     at_is o low high is =
-        sym (primary_is main k low high) ∙ ap (λ (es : List Entry). partition_at es k) (sym r.as_.3) ∙ is
+        sym (primary_is main k low high) ∙ ap (λ (es : List TableEntry). partition_at es k) (sym r.as_.3) ∙ is
 
     pub first_found : (p : Partition) → 1 ≤ k → k ≤ 4 → partition_at table k ≡ Some p → Searches k (Ok p) s t
     first_found p low high is =
-        let of = option_and_then (λ (e : Entry). logical e.first [] k) (extended main) in
+        let of = option_and_then (λ (e : TableEntry). logical e.first [] k) (extended_entry main) in
         decided (Ok p)
         (cond-true (are_records main []) (cond (is_primary k) (primary main k) of) None are
         ∙ cond-true (is_primary k) (primary main k) of (le-leb k 4 high) ∙ at_is (Some p) low high is)
@@ -98,17 +98,17 @@ module _ (k : ℕ) (table : List Entry) (s t : SourceState) (r : ReadsTable 0 (O
     first_unused low high is =
         decided (Err NoPartition) (Unused main refl are (le-leb k 4 high) (at_is None low high is))
 
-    extended_is : (o : Option Entry) → find is_extended table ≡ o → extended main ≡ o
-    extended_is o is = ap (λ (es : List Entry). find is_extended es) (sym r.as_.3) ∙ is
+    extended_is : (o : Option TableEntry) → find is_extended table ≡ o → extended_entry main ≡ o
+    extended_is o is = ap (λ (es : List TableEntry). find is_extended es) (sym r.as_.3) ∙ is
 
     pub first_unextended : 5 ≤ k → find is_extended table ≡ None → Searches k (Err NoPartition) s t
     first_unextended low is =
         decided (Err NoPartition) (Unextended main refl are (not_primary k low) (extended_is None is))
 
     -- it leads on to a chain
-    pub first_led : (e : Entry) (u : SourceState) (result : Result Partition PartEnding)
+    pub first_led : (e : TableEntry) (u : SourceState) (result : Result Partition PartEnding)
         → find is_extended table ≡ Some e → Stays s t
-        → ((m : List ℕ) → IsLed m e.first → SearchesBehind k m result t u) → Searches k result s u
+        → ((m : List ℕ) → LeadsToChain m e.first → SearchesBehind k m result t u) → Searches k result s u
     first_led e u result is stays searches =
         let b = searches main (record { e = e; are = are; is_extended = extended_is (Some e) is; base_is = refl }) in
         let all : records_of (r.reads ++ b.reads) ≡ main ∷ records_of b.reads =
@@ -118,5 +118,5 @@ module _ (k : ℕ) (table : List Entry) (s t : SourceState) (r : ReadsTable 0 (O
           gained = gained_more r.reads b.reads s t u stays.keeps.tells stays.keeps.bytes r.gained b.gained;
           next = next_more k [] r.reads b.reads next_first
               (subst (λ (rs : List (List ℕ)). AreNext k rs b.reads) (sym behind) b.next);
-          to = subst (λ (rs : List (List ℕ)). ComesTo k rs result) (sym all) b.to;
+          to = subst (λ (rs : List (List ℕ)). SearchFinds k rs result) (sym all) b.to;
         }

@@ -7,14 +7,14 @@ use Rattle.faulty_source.specs.declared.source.Got.{Got}
 use Rattle.faulty_source.specs.Got.{count_of, is_end}
 use Rattle.faulty_source.specs.Journal.{Reading}
 use Rattle.faulty_source.specs.SourceState.{AnswersRead, SourceState}
-use Rattle.partition_domain.specs.declared.table.Entry.{Entry}
+use Rattle.partition_domain.specs.declared.table.TableEntry.{TableEntry}
 use Rattle.partition_domain.specs.declared.ending.PartEnding.{PartEnding}
 use Rattle.partition_domain.specs.declared.ending.PartEnding.TheVariants.{Done, Usage, SourceFault, SourceLost, Unread, NoSignature, Protective, NoPartition, ChainTooLong, ConsoleFault, NoMemory}
-use Rattle.partition_domain.specs.Table.{entries, has_signature, is_whole}
+use Rattle.partition_domain.specs.Table.{table_entries, has_signature, is_whole_sector}
 use Rattle.partition_domain.specs.Part.{next}
-use Rattle.partition_domain.specs.Reads.{AnswersBy, AreNext, IsReadOf, records_of}
+use Rattle.partition_domain.specs.Reads.{AnswersBy, AreNext, IsSectorRead, records_of}
 use Rattle.partition_domain.specs.Told.{IsFrom}
-use Rattle.partition_domain.specs.Steps.{Gained, ReadsAs, ReadsOne, ReadsTable, StopsAs}
+use Rattle.partition_domain.specs.Steps.{Gained, SectorReadsAs, ReadsOne, ReadsTable, StopsAs}
 use Rattle.partition_domain.proofs.ChainLemmas.{next_short}
 
 -- ---- reads that follow others
@@ -48,7 +48,7 @@ gained_more xs ys a b c tells bytes f g = record {
 
 -- ---- how many there are
 
-read_some : (o : Option ℕ) (r : Reading) → IsReadOf o r → (s : ℕ) × (o ≡ Some s)
+read_some : (o : Option ℕ) (r : Reading) → IsSectorRead o r → (s : ℕ) × (o ≡ Some s)
 read_some None r is = absurd is
 read_some (Some s) r is = (s, refl)
 
@@ -75,7 +75,7 @@ one_behind before sector reads last one =
 module _ (k : ℕ) (before : List (List ℕ)) (sector : ℕ) (is : next before k ≡ Some sector) where
   one_next : (reads : List Reading) (last : List ℕ) → ReadsOne sector reads last → AreNext k before reads
   one_next reads last one =
-      subst (AreNext k before) (sym one.are) (subst (λ o. IsReadOf o one.reading) (sym is) one.is_read, tt)
+      subst (AreNext k before) (sym one.are) (subst (λ o. IsSectorRead o one.reading) (sym is) one.is_read, tt)
 
   stop_next : (reads : List Reading) (e : PartEnding) → StopsAs sector reads e → AreNext k before reads
   stop_next reads Done stop = absurd stop
@@ -90,7 +90,7 @@ module _ (k : ℕ) (before : List (List ℕ)) (sector : ℕ) (is : next before k
   stop_next reads ConsoleFault stop = absurd stop
   stop_next reads NoMemory stop = absurd stop
 
-  pub read_next : (reads : List Reading) (result : Result (List Entry) PartEnding) → ReadsAs sector reads result
+  pub read_next : (reads : List Reading) (result : Result (List TableEntry) PartEnding) → SectorReadsAs sector reads result
       → AreNext k before reads
   read_next reads (Ok table) read = one_next reads read.0 read.1
   read_next reads (Err e) read = stop_next reads e read
@@ -174,7 +174,7 @@ module _ {E : Type 0} (sector : ℕ) (got : Got) (buf : List ℕ) (old new : Sou
     as_ = (buf, read_one buf (whole_is all), refl, eq-eqb (length buf) 512 full, unsigned);
   }
 
-  pub reads_record : (table : List Entry) → 512 ≤ count_of got → has_signature buf ≡ true → table ≡ entries buf
+  pub reads_record : (table : List TableEntry) → 512 ≤ count_of got → has_signature buf ≡ true → table ≡ table_entries buf
       → ReadsTable sector (Ok table) old new
   reads_record table all signed is = record {
     reads = sector_read sector got buf ∷ [];
@@ -182,7 +182,7 @@ module _ {E : Type 0} (sector : ℕ) (got : Got) (buf : List ℕ) (old new : Sou
     as_ = (
       buf,
       read_one buf (whole_is all),
-      and_from (is_whole buf) (has_signature buf) (eq-eqb (length buf) 512 full) signed,
+      and_from (is_whole_sector buf) (has_signature buf) (eq-eqb (length buf) 512 full) signed,
       is,
     );
   }

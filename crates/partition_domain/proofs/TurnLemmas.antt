@@ -3,18 +3,18 @@ use Rattle.std.proofs.Common.{◌≡◌, ℕ, ◌+◌, ◌-◌, ◌<◌, ◌≤�
 use Rattle.std.proofs.lemmas.Bool.{cond_both, cond-true, cond-false, eqb-true, eqb-false}
 use Rattle.faulty_source.specs.Journal.{Reading}
 use Rattle.faulty_source.specs.SourceState.{SourceState, Stays}
-use Rattle.partition_domain.specs.declared.table.Entry.{Entry}
+use Rattle.partition_domain.specs.declared.table.TableEntry.{TableEntry}
 use Rattle.partition_domain.specs.declared.table.Partition.{Partition}
 use Rattle.partition_domain.specs.declared.chain.Chain.{Chain}
 use Rattle.partition_domain.specs.declared.chain.Link.{Link}
 use Rattle.partition_domain.specs.declared.chain.Link.TheVariants.{Found, On, End}
 use Rattle.partition_domain.specs.declared.ending.PartEnding.{PartEnding}
 use Rattle.partition_domain.specs.declared.ending.PartEnding.TheVariants.{NoPartition, ChainTooLong}
-use Rattle.partition_domain.specs.Table.{entry, is_record, is_used}
+use Rattle.partition_domain.specs.Table.{table_entry, is_record, is_used}
 use Rattle.partition_domain.specs.Chain.{given_by, links_on, logical_partitions, next_in_chain}
 use Rattle.partition_domain.specs.Part.{are_records, next, partition_of}
 use Rattle.partition_domain.specs.Reads.{AnswersBy, AreNext, Ended, records_of}
-use Rattle.partition_domain.specs.Steps.{Gained, IsLed, IsNear, ReadsTable, Searched, StandsBehind, Turned, Turns, TurnsTo, leads, passes, passes_by}
+use Rattle.partition_domain.specs.Steps.{Gained, LeadsToChain, IsNear, ReadsTable, Searched, StandsBehind, TookRecord, Turns, TurnsTo, leads, link_past, passes_by}
 use Rattle.partition_domain.proofs.ChainLemmas.{all_more, are_more, given_behind, item_behind, lacks, next_on, not_all, not_primary, part_on, sector_after}
 use Rattle.partition_domain.proofs.ReadLemmas.{gained_more, gained_none, next_more, one_behind, read_next, records_more, stop_answers}
 
@@ -38,7 +38,7 @@ module _ (k : ℕ) (main : List ℕ) (c : Chain) (chain : List (List ℕ)) (last
   before = logical_partitions s.e.first chain
 
   abbrev part : Partition
-  part = record { first = next_in_chain s.e.first chain + (entry last 0).first; count = (entry last 0).count }
+  part = record { first = next_in_chain s.e.first chain + (table_entry last 0).first; count = (table_entry last 0).count }
 
   are_grown : are_records main grown ≡ true
   are_grown = are_more main chain last s.are is
@@ -46,19 +46,19 @@ module _ (k : ℕ) (main : List ℕ) (c : Chain) (chain : List (List ℕ)) (last
   behind : logical_partitions s.e.first grown ≡ before ++ given_by (next_in_chain s.e.first chain) last
   behind = given_behind s.e.first s.e.first chain last
 
-  gives : is_used (entry last 0) ≡ true → logical_partitions s.e.first grown ≡ before ++ part ∷ []
-  gives used = behind ∙ ap (λ (ps : List Partition). before ++ ps) (cond-true (is_used (entry last 0)) _ _ used)
+  gives : is_used (table_entry last 0) ≡ true → logical_partitions s.e.first grown ≡ before ++ part ∷ []
+  gives used = behind ∙ ap (λ (ps : List Partition). before ++ ps) (cond-true (is_used (table_entry last 0)) _ _ used)
 
-  gives_none : is_used (entry last 0) ≡ false → logical_partitions s.e.first grown ≡ before
+  gives_none : is_used (table_entry last 0) ≡ false → logical_partitions s.e.first grown ≡ before
   gives_none unused =
-      behind ∙ ap (λ (ps : List Partition). before ++ ps) (cond-false (is_used (entry last 0)) _ _ unused)
+      behind ∙ ap (λ (ps : List Partition). before ++ ps) (cond-false (is_used (table_entry last 0)) _ _ unused)
       ∙ append-nil before
 
-  counts : is_used (entry last 0) ≡ true → length (logical_partitions s.e.first grown) ≡ c.given + 1
+  counts : is_used (table_entry last 0) ≡ true → length (logical_partitions s.e.first grown) ≡ c.given + 1
   counts used =
       ap length (gives used) ∙ length-append before (part ∷ []) ∙ ap (λ (n : ℕ). n + 1) (sym s.given)
 
-  counts_none : is_used (entry last 0) ≡ false → length (logical_partitions s.e.first grown) ≡ c.given
+  counts_none : is_used (table_entry last 0) ≡ false → length (logical_partitions s.e.first grown) ≡ c.given
   counts_none unused = ap length (gives_none unused) ∙ sym s.given
 
   abbrev To : Link → Type 0
@@ -66,29 +66,29 @@ module _ (k : ℕ) (main : List ℕ) (c : Chain) (chain : List (List ℕ)) (last
 
   -- it gives the partition
   abbrev gave : Link
-  gave = Found (record { first = c.at + (entry last 0).first; count = (entry last 0).count })
+  gave = Found (record { first = c.at + (table_entry last 0).first; count = (table_entry last 0).count })
 
-  found : is_used (entry last 0) ≡ true → c.given ≡ k - 5 → To gave
+  found : is_used (table_entry last 0) ≡ true → c.given ≡ k - 5 → To gave
   found used at =
-      part_on main grown k s.e (record { first = c.at + (entry last 0).first; count = (entry last 0).count }) are_grown
+      part_on main grown k s.e (record { first = c.at + (table_entry last 0).first; count = (table_entry last 0).count }) are_grown
       (not_primary k near.logical) s.is_extended
       (ap (λ (ps : List Partition). slice_get ps (k - 5)) (gives used)
       ∙ ap (λ (n : ℕ). slice_get (before ++ part ∷ []) n) (sym at ∙ s.given) ∙ item_behind before part
-      ∙ ap (λ (n : ℕ). Some (record { first = n + (entry last 0).first; count = (entry last 0).count })) (sym s.at))
+      ∙ ap (λ (n : ℕ). Some (record { first = n + (table_entry last 0).first; count = (table_entry last 0).count })) (sym s.at))
 
   -- it links on, or the chain ends
   led : (given : ℕ) → length (logical_partitions s.e.first grown) ≡ given → given ≤ k - 5
-      → To (leads c given (entry last 1))
+      → To (leads c given (table_entry last 1))
   led given is_given few =
-      cond_both (is_used (entry last 1))
-      (On (record { base = c.base; at = c.base + (entry last 1).first; given = given; read = c.read + 1 })) End To
+      cond_both (is_used (table_entry last 1))
+      (On (record { base = c.base; at = c.base + (table_entry last 1).first; given = given; read = c.read + 1 })) End To
       (λ on. record {
         e = s.e;
         is_extended = s.is_extended;
         base = s.base;
         are = are_grown;
         links = all_more links_on chain last s.links on;
-        at = ap (λ (n : ℕ). n + (entry last 1).first) s.base ∙ sym (sector_after s.e.first s.e.first chain last);
+        at = ap (λ (n : ℕ). n + (table_entry last 1).first) s.base ∙ sym (sector_after s.e.first s.e.first chain last);
         given = sym is_given;
         read = ap (λ (n : ℕ). n + 1) s.read ∙ sym (length-append chain (last ∷ []));
       })
@@ -98,25 +98,25 @@ module _ (k : ℕ) (main : List ℕ) (c : Chain) (chain : List (List ℕ)) (last
   below : (c.given ≡ k - 5 → ⊥) → c.given + 1 ≤ k - 5
   below other = omega (arith, other, near.given)
 
-  passed : To (passes_by k c (entry last 0) (entry last 1))
+  passed : To (passes_by k c (table_entry last 0) (table_entry last 1))
   passed =
-      cond_both (is_used (entry last 0)) (cond (nat_eq c.given (k - 5)) gave (leads c (c.given + 1) (entry last 1)))
-      (leads c c.given (entry last 1)) To
-      (λ used. cond_both (nat_eq c.given (k - 5)) gave (leads c (c.given + 1) (entry last 1)) To
+      cond_both (is_used (table_entry last 0)) (cond (nat_eq c.given (k - 5)) gave (leads c (c.given + 1) (table_entry last 1)))
+      (leads c c.given (table_entry last 1)) To
+      (λ used. cond_both (nat_eq c.given (k - 5)) gave (leads c (c.given + 1) (table_entry last 1)) To
       (λ at. found used (eqb-true c.given (k - 5) at))
       (λ other. led (c.given + 1) (counts used) (below (eqb-false c.given (k - 5) other))))
       (λ unused. led c.given (counts_none unused) near.given)
 
 -- ---- a turn
 
-pub turn_read : (k : ℕ) (main : List ℕ) (c : Chain) (chain : List (List ℕ)) (table : List Entry) (link : Link)
-    (old new : SourceState) → IsNear k c → c.read < 128 → ReadsTable c.at (Ok table) old new → link ≡ passes k c table
+pub turn_read : (k : ℕ) (main : List ℕ) (c : Chain) (chain : List (List ℕ)) (table : List TableEntry) (link : Link)
+    (old new : SourceState) → IsNear k c → c.read < 128 → ReadsTable c.at (Ok table) old new → link ≡ link_past k c table
     → Turns k main c chain (Ok link) old new
 turn_read k main c chain table link old new near more t is = λ s.
     let at = next_stands k main c chain near more s in
     let last : List ℕ = t.as_.0 in
     let behind : chain ++ records_of t.reads ≡ chain ++ last ∷ [] = one_behind chain c.at t.reads last t.as_.1 in
-    let comes : passes_by k c (entry last 0) (entry last 1) ≡ link = ap (passes k c) (sym t.as_.3) ∙ sym is in
+    let comes : passes_by k c (table_entry last 0) (table_entry last 1) ≡ link = ap (link_past k c) (sym t.as_.3) ∙ sym is in
     record {
       reads = t.reads;
       gained = t.gained;
@@ -147,7 +147,7 @@ pub record Searching (k : ℕ) (main : List ℕ) (c : Chain) (old new : SourceSt
   pub next : AreNext k (main ∷ []) reads
   pub stands : StandsBehind main c (records_of reads)
 
-pub search_begun : (k : ℕ) (main : List ℕ) (base : ℕ) (s : SourceState) → IsLed main base
+pub search_begun : (k : ℕ) (main : List ℕ) (base : ℕ) (s : SourceState) → LeadsToChain main base
     → Searching k main (record { base = base; at = base; given = 0; read = 0 }) s s
 search_begun k main base s led = record {
   reads = [];
@@ -173,7 +173,7 @@ record Joined (k : ℕ) (main : List ℕ) (xs ys : List Reading) (old new : Sour
 
 module _ (k : ℕ) (main : List ℕ) (c : Chain) (old mid new : SourceState) (stays : Stays old mid)
     (so_far : Searching k main c old mid) where
-  joined : (result : Result Link PartEnding) (t : Turned k main (records_of so_far.reads) result mid new)
+  joined : (result : Result Link PartEnding) (t : TookRecord k main (records_of so_far.reads) result mid new)
       → Joined k main so_far.reads t.reads old new
   joined result t = record {
     gained = gained_more so_far.reads t.reads old mid new stays.keeps.tells stays.keeps.bytes so_far.gained t.gained;

@@ -4,14 +4,14 @@ use Rattle.std.specs.List.{list_all}
 use Rattle.std.specs.Option.{option_and_then}
 use Rattle.std.proofs.lemmas.Bool.{and_from, and_left, and_parts, and_right, both_ways, cond_both, cond-true, cond-false, false_from_ne_true, le-ltb, leb-true, ne_eqb, not-true}
 use Rattle.faulty_source.specs.Journal.{Reading}
-use Rattle.partition_domain.specs.declared.table.Entry.{Entry}
+use Rattle.partition_domain.specs.declared.table.TableEntry.{TableEntry}
 use Rattle.partition_domain.specs.declared.table.Partition.{Partition}
 use Rattle.partition_domain.specs.declared.ending.PartEnding.{PartEnding}
 use Rattle.partition_domain.specs.declared.ending.PartEnding.TheVariants.{Done, Usage, SourceFault, SourceLost, Unread, NoSignature, Protective, NoPartition, ChainTooLong, ConsoleFault, NoMemory}
-use Rattle.partition_domain.specs.Table.{extended, has_signature, is_protected, is_record, is_whole}
+use Rattle.partition_domain.specs.Table.{extended_entry, has_signature, is_protected, is_record, is_whole_sector}
 use Rattle.partition_domain.specs.Chain.{chain_limit, links_on, logical_partitions, next_in_chain}
-use Rattle.partition_domain.specs.Part.{are_records, goes_on, is_lacking, is_primary, logical, next, next_of_chain, partition_of, primary}
-use Rattle.partition_domain.specs.Reads.{AnswersBy, AreNext, Ended, HasPart, IsLast, IsProtected, IsReadOf, IsTooLong, IsUnread, LacksPartition, LacksSignature, Unextended, Unused, records_of}
+use Rattle.partition_domain.specs.Part.{are_records, chain_goes_on, is_lacking, is_primary, logical, next, next_of_chain, partition_of, primary}
+use Rattle.partition_domain.specs.Reads.{AnswersBy, AreNext, Ended, HasPart, IsLastRecord, IsDiskProtected, IsSectorRead, IsChainTooLong, IsUnread, LacksPartition, LacksSignature, Unextended, Unused, records_of}
 use Rattle.partition_domain.specs.Laws.{AreGivenBy, HasOneVerdict, IsVerdict}
 use Rattle.partition_domain.proofs.ChainLemmas.{not_all}
 use Rattle.partition_domain.proofs.CompleteLemmas.{brings}
@@ -45,7 +45,7 @@ record Is (e : PartEnding) (k : ℕ) (records : List (List ℕ)) (brought : Part
 
 -- the chain is as long as any that is read, by its links, and there is one
 abbrev is_long : (main : List ℕ) (chain : List (List ℕ)) (k : ℕ) → Bool
-is_long main chain k = list_all links_on chain && not (is_primary k) && is_some (extended main)
+is_long main chain k = list_all links_on chain && not (is_primary k) && is_some (extended_entry main)
 
 abbrev brought_by : (k : ℕ) → List (List ℕ) → PartEnding
 brought_by k [] = NoMemory
@@ -62,10 +62,10 @@ module _ (k : ℕ) (main : List ℕ) (chain : List (List ℕ)) where
   part = partition_of (main ∷ chain) k
 
   abbrev of_chain : Option Partition
-  of_chain = option_and_then (λ (e : Entry). logical e.first chain k) (extended main)
+  of_chain = option_and_then (λ (e : TableEntry). logical e.first chain k) (extended_entry main)
 
   abbrev next_chain : Option ℕ
-  next_chain = option_and_then (λ (e : Entry). next_of_chain e.first chain k) (extended main)
+  next_chain = option_and_then (λ (e : TableEntry). next_of_chain e.first chain k) (extended_entry main)
 
   stops_primary : is_primary k ≡ true → next (main ∷ chain) k ≡ None
   stops_primary p =
@@ -77,11 +77,11 @@ module _ (k : ℕ) (main : List ℕ) (chain : List (List ℕ)) where
       cond_both (are_records main chain && not (is_primary k)) next_chain None (λ (o : Option ℕ). o ≡ None)
       (λ on. none) (λ off. refl)
 
-  stops_extended : (e : Entry) → extended main ≡ Some e → goes_on e.first chain k ≡ false
+  stops_extended : (e : TableEntry) → extended_entry main ≡ Some e → chain_goes_on e.first chain k ≡ false
       → next (main ∷ chain) k ≡ None
   stops_extended e is off = stops_chain
-      (ap (λ (o : Option Entry). option_and_then (λ (e : Entry). next_of_chain e.first chain k) o) is
-      ∙ cond-false (goes_on e.first chain k) (Some (next_in_chain e.first chain)) None off)
+      (ap (λ (o : Option TableEntry). option_and_then (λ (e : TableEntry). next_of_chain e.first chain k) o) is
+      ∙ cond-false (chain_goes_on e.first chain k) (Some (next_in_chain e.first chain)) None off)
 
   module _ (are : are_records main chain ≡ true) where
     rest_is : part ≡ cond (is_primary k) (primary main k) of_chain
@@ -93,10 +93,10 @@ module _ (k : ℕ) (main : List ℕ) (chain : List (List ℕ)) where
     logical_is : is_primary k ≡ false → part ≡ of_chain
     logical_is p = rest_is ∙ cond-false (is_primary k) (primary main k) of_chain p
 
-    of_extended : (e : Entry) → is_primary k ≡ false → extended main ≡ Some e
+    of_extended : (e : TableEntry) → is_primary k ≡ false → extended_entry main ≡ Some e
         → part ≡ slice_get (logical_partitions e.first chain) (k - 5)
     of_extended e p is =
-        logical_is p ∙ ap (λ (o : Option Entry). option_and_then (λ (e : Entry). logical e.first chain k) o) is
+        logical_is p ∙ ap (λ (o : Option TableEntry). option_and_then (λ (e : TableEntry). logical e.first chain k) o) is
 
     open_is : brought_by k (main ∷ chain)
         ≡ cond (is_some part) Done (cond (is_long main chain k) ChainTooLong NoPartition)
@@ -153,8 +153,8 @@ not_none ps n p some =
     let clash : None ≡ Some p = sym none ∙ some in absurd (cc))
 
 -- the partition of a chain
-chain_stops : (k : ℕ) (main : List ℕ) (chain : List (List ℕ)) (p : Partition) (o : Option Entry) → extended main ≡ o
-    → option_and_then (λ (e : Entry). logical e.first chain k) o ≡ Some p → next (main ∷ chain) k ≡ None
+chain_stops : (k : ℕ) (main : List ℕ) (chain : List (List ℕ)) (p : Partition) (o : Option TableEntry) → extended_entry main ≡ o
+    → option_and_then (λ (e : TableEntry). logical e.first chain k) o ≡ Some p → next (main ∷ chain) k ≡ None
 chain_stops k main chain p None is some = absurd (cc)
 chain_stops k main chain p (Some e) is some =
     stops_extended k main chain e is
@@ -163,21 +163,21 @@ chain_stops k main chain p (Some e) is some =
     (not_none (logical_partitions e.first chain) (k - 5) p some)))
 
 part_stops : (k : ℕ) (main : List ℕ) (chain : List (List ℕ)) (p : Partition) (b : Bool) → is_primary k ≡ b
-    → cond b (primary main k) (option_and_then (λ (e : Entry). logical e.first chain k) (extended main)) ≡ Some p
+    → cond b (primary main k) (option_and_then (λ (e : TableEntry). logical e.first chain k) (extended_entry main)) ≡ Some p
     → next (main ∷ chain) k ≡ None
 part_stops k main chain p true is some = stops_primary k main chain is
-part_stops k main chain p false is some = chain_stops k main chain p (extended main) refl some
+part_stops k main chain p false is some = chain_stops k main chain p (extended_entry main) refl some
 
 done_is : (k : ℕ) (records : List (List ℕ)) → HasPart k records → IsOf Done k records
 done_is k [] h =
     let none : partition_of [] k ≡ Some (record { first = h.first; count = h.count }) = h.part in absurd (cc)
 done_is k (main ∷ chain) h =
     let p : Partition = record { first = h.first; count = h.count } in
-    let of = option_and_then (λ (e : Entry). logical e.first chain k) (extended main) in
+    let of = option_and_then (λ (e : TableEntry). logical e.first chain k) (extended_entry main) in
     let on = chosen (are_records main chain) (cond (is_primary k) (primary main k) of) p h.part in
     found_is k main chain on.0 p h.part (part_stops k main chain p (is_primary k) refl on.1)
 
-protective_is : (k : ℕ) (records : List (List ℕ)) → IsProtected records → IsOf Protective k records
+protective_is : (k : ℕ) (records : List (List ℕ)) → IsDiskProtected records → IsOf Protective k records
 protective_is k records h =
     let main = h.main in
     let refused : are_records main [] ≡ false =
@@ -195,35 +195,35 @@ lacks_is k records (Unused main is are primary_k none) =
     let links = list_all links_on [] in
     subst (λ (rs : List (List ℕ)). IsOf NoPartition k rs) (sym is)
     (short_is k main [] are (primary_is k main [] are primary_k ∙ none)
-    (and_left (links && not (is_primary k)) (is_some (extended main))
+    (and_left (links && not (is_primary k)) (is_some (extended_entry main))
     (and_right links (not (is_primary k)) (ap not primary_k)))
     (stops_primary k main [] primary_k))
 lacks_is k records (Unextended main is are logical_k none) =
     subst (λ (rs : List (List ℕ)). IsOf NoPartition k rs) (sym is)
     (short_is k main [] are
     (logical_is k main [] are logical_k
-    ∙ ap (λ (o : Option Entry). option_and_then (λ (e : Entry). logical e.first [] k) o) none)
-    (and_right (list_all links_on [] && not (is_primary k)) (is_some (extended main)) (ap is_some none))
+    ∙ ap (λ (o : Option TableEntry). option_and_then (λ (e : TableEntry). logical e.first [] k) o) none)
+    (and_right (list_all links_on [] && not (is_primary k)) (is_some (extended_entry main)) (ap is_some none))
     (stops_chain k main []
-    (ap (λ (o : Option Entry). option_and_then (λ (e : Entry). next_of_chain e.first [] k) o) none)))
+    (ap (λ (o : Option TableEntry). option_and_then (λ (e : TableEntry). next_of_chain e.first [] k) o) none)))
 lacks_is k records (Ended main chain e is are logical_k found lacking unlinked) =
     let links = list_all links_on chain in
     subst (λ (rs : List (List ℕ)). IsOf NoPartition k rs) (sym is)
     (short_is k main chain are
     (of_extended k main chain are e logical_k found ∙ none_there e.first chain k lacking)
-    (and_left (links && not (is_primary k)) (is_some (extended main)) (and_left links (not (is_primary k)) unlinked))
+    (and_left (links && not (is_primary k)) (is_some (extended_entry main)) (and_left links (not (is_primary k)) unlinked))
     (stops_extended k main chain e found
     (and_left (links && is_lacking e.first chain k) (nat_lt (length chain) chain_limit)
     (and_left links (is_lacking e.first chain k) unlinked))))
 
-long_chain_is : (k : ℕ) (records : List (List ℕ)) → IsTooLong k records → IsOf ChainTooLong k records
+long_chain_is : (k : ℕ) (records : List (List ℕ)) → IsChainTooLong k records → IsOf ChainTooLong k records
 long_chain_is k records h =
     let chain = h.chain in
     let links = list_all links_on chain in
     subst (λ (rs : List (List ℕ)). IsOf ChainTooLong k rs) (sym h.are)
     (long_is k h.main chain h.readable
     (of_extended k h.main chain h.readable h.e h.logical h.is_extended ∙ none_there h.e.first chain k h.lacking)
-    (and_from (links && not (is_primary k)) (is_some (extended h.main))
+    (and_from (links && not (is_primary k)) (is_some (extended_entry h.main))
     (and_from links (not (is_primary k)) h.links (ap not h.logical)) (ap is_some h.is_extended))
     (stops_extended k h.main chain h.e h.is_extended
     (and_right (links && is_lacking h.e.first chain k) (nat_lt (length chain) chain_limit)
@@ -232,26 +232,26 @@ long_chain_is k records h =
 -- ---- the answers behind a last record that isn't one
 
 abbrev refusal : (sector : ℕ) → (last : List ℕ) → PartEnding
-refusal sector last = cond (is_whole last) (NoSignature sector) (Unread sector)
+refusal sector last = cond (is_whole_sector last) (NoSignature sector) (Unread sector)
 
 record IsRefusal (e : PartEnding) (k : ℕ) (records : List (List ℕ)) : Type 0 where
   sector : ℕ
   last : List ℕ
-  is_last : IsLast k records sector last
+  is_last : IsLastRecord k records sector last
   none : is_record last ≡ false
   is : e ≡ refusal sector last
 
 unread_is : (k : ℕ) (records : List (List ℕ)) (sector : ℕ) → IsUnread k records sector
     → IsRefusal (Unread sector) k records
 unread_is k records sector h =
-    let short : is_whole h.last ≡ false =
+    let short : is_whole_sector h.last ≡ false =
     ne_eqb (length h.last) 512 (λ same. omega (arith, same, h.short)) in
     record {
       sector = sector;
       last = h.last;
       is_last = h.is_last;
-      none = and_left (is_whole h.last) (has_signature h.last) short;
-      is = sym (cond-false (is_whole h.last) (NoSignature sector) (Unread sector) short);
+      none = and_left (is_whole_sector h.last) (has_signature h.last) short;
+      is = sym (cond-false (is_whole_sector h.last) (NoSignature sector) (Unread sector) short);
     }
 
 unsigned_is : (k : ℕ) (records : List (List ℕ)) (sector : ℕ) → LacksSignature k records sector
@@ -260,8 +260,8 @@ unsigned_is k records sector h = record {
   sector = sector;
   last = h.last;
   is_last = h.is_last;
-  none = and_right (is_whole h.last) (has_signature h.last) h.unsigned;
-  is = sym (cond-true (is_whole h.last) (NoSignature sector) (Unread sector) h.whole);
+  none = and_right (is_whole_sector h.last) (has_signature h.last) h.unsigned;
+  is = sym (cond-true (is_whole_sector h.last) (NoSignature sector) (Unread sector) h.whole);
 }
 
 refused_is : (e : PartEnding) (k : ℕ) (records : List (List ℕ)) → IsRefusal e k records
@@ -333,7 +333,7 @@ one_of k records e e' (inr r) (inr q) =
 
 -- ---- the same records of one disk
 
-same_pos : (o : Option ℕ) (x y : Reading) → IsReadOf o x → IsReadOf o y → x.pos ≡ y.pos
+same_pos : (o : Option ℕ) (x y : Reading) → IsSectorRead o x → IsSectorRead o y → x.pos ≡ y.pos
 same_pos None x y a b = absurd a
 same_pos (Some s) x y a b = a.0 ∙ sym b.0
 
@@ -344,10 +344,10 @@ module _ (k : ℕ) (disk : ℕ → List ℕ) where
   same_reads before [] [] a b f g s t = refl
   same_reads before [] (y ∷ ys) a b f g s t =
       let none = ap (λ (rs : List (List ℕ)). next rs k) (sym (append-nil before)) ∙ s in
-      absurd (subst (λ (o : Option ℕ). IsReadOf o y) none b.0)
+      absurd (subst (λ (o : Option ℕ). IsSectorRead o y) none b.0)
   same_reads before (x ∷ xs) [] a b f g s t =
       let none = ap (λ (rs : List (List ℕ)). next rs k) (sym (append-nil before)) ∙ t in
-      absurd (subst (λ (o : Option ℕ). IsReadOf o x) none a.0)
+      absurd (subst (λ (o : Option ℕ). IsSectorRead o x) none a.0)
   same_reads before (x ∷ xs) (y ∷ ys) a b f g s t =
       let given : x.given ≡ y.given = f.0 ∙ ap disk (same_pos (next before k) x y a.0 b.0) ∙ sym g.0 in
       let rest =

@@ -2,7 +2,7 @@
 -- they give.
 use Rattle.std.specs.Prelude.{ℕ, ◌+◌, Bool, List, [], ◌∷◌, ◌++◌, if◌then◌else◌}
 use Rattle.partition_domain.specs.declared.table.Partition.{Partition}
-use Rattle.partition_domain.specs.Table.{entry, is_used}
+use Rattle.partition_domain.specs.Table.{table_entry, is_used}
 
 -- how many records of a chain are read at most
 abbrev pub chain_limit : ℕ
@@ -10,11 +10,11 @@ chain_limit = 128
 
 -- a record of a chain links to a further one: its second entry is used
 abbrev pub links_on : List ℕ → Bool
-links_on r = is_used (entry r 1)
+links_on r = is_used (table_entry r 1)
 
 -- the sector of the record to which one links, which is relative to the base
 abbrev pub linked : (base : ℕ) → List ℕ → ℕ
-linked base r = base + (entry r 1).first
+linked base r = base + (table_entry r 1).first
 
 -- the sector behind records that begin at one: each lies where the one before links to
 abbrev pub sector_behind : (base at : ℕ) → List (List ℕ) → ℕ
@@ -25,7 +25,7 @@ sector_behind base at (r ∷ chain) = sector_behind base (linked base r) chain
 -- record's own sector
 abbrev pub given_by : (at : ℕ) → List ℕ → List Partition
 given_by at r =
-    if is_used (entry r 0) then record { first = at + (entry r 0).first; count = (entry r 0).count } ∷ [] else []
+    if is_used (table_entry r 0) then record { first = at + (table_entry r 0).first; count = (table_entry r 0).count } ∷ [] else []
 
 -- the partitions that records give, in order, of which the first lies at a sector
 abbrev pub given_from : (base at : ℕ) → List (List ℕ) → List Partition

@@ -1,7 +1,7 @@
 -- The promise of `ddrescuepart`, field by field. What an object tells is its own: the forms in memory tell all, those
 -- for real files and streams their counts and what is open.
 use Rattle.std.specs.Prelude.{◌≡◌, ◌⊎◌, ℕ, ◌≤◌, true, false, IsTrue, List, [], length, Option, Some, None}
-use Rattle.fault_count.specs.Plan.{counted}
+use Rattle.fault_count.specs.Plan.{with_call}
 use Rattle.faulty_source.specs.SourceState.{Keeps as SourceKeeps}
 use Rattle.rescue_console.specs.ConsoleState.{ConsoleState, Puts, PutsPart}
 use Rattle.rescue_console.specs.declared.console.Channel.TheVariants.{Out, Err}
@@ -58,7 +58,7 @@ pub data Says (t : Told) (between : ConsoleState) : Type 0 where
   Message : is_silent t.answer ≡ false
       → (AskQuiet t.words → (t.answer ≡ NoMemory) × IsUntouched t between)
       → Puts Err (message t.answer) between t.console' ⊎ PutsPart Err (message t.answer) between t.console'
-      → (IsTrue between.is_planned → t.console'.plan ≡ counted between.plan) → Says t between
+      → (IsTrue between.is_planned → t.console'.plan ≡ with_call between.plan) → Says t between
 
 -- What `ddrescuepart` promises of a call whose words ask for this. `between` is the console once standard output was
 -- put.

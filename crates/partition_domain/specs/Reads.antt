@@ -2,10 +2,10 @@
 use Rattle.std.specs.Prelude.{◌≡◌, ⊤, ℕ, ◌*◌, ◌<◌, true, false, List, [], ◌∷◌, ◌++◌, length, map, Option, Some, None, is_some}
 use Rattle.std.specs.List.{list_all}
 use Rattle.faulty_source.specs.Journal.{Reading}
-use Rattle.partition_domain.specs.declared.table.Entry.{Entry}
+use Rattle.partition_domain.specs.declared.table.TableEntry.{TableEntry}
 use Rattle.partition_domain.specs.declared.ending.PartEnding.{PartEnding}
 use Rattle.partition_domain.specs.declared.ending.PartEnding.TheVariants.{Done, Usage, SourceFault, SourceLost, Unread, NoSignature, Protective, NoPartition, ChainTooLong, ConsoleFault, NoMemory}
-use Rattle.partition_domain.specs.Table.{extended, has_signature, is_protected, is_record, is_whole, sector_size}
+use Rattle.partition_domain.specs.Table.{extended_entry, has_signature, is_protected, is_record, is_whole_sector, sector_size}
 use Rattle.partition_domain.specs.Chain.{chain_limit, links_on}
 use Rattle.partition_domain.specs.Part.{are_records, is_lacking, is_primary, next, Part, primary}
 
@@ -16,19 +16,19 @@ abbrev pub records_of : List Reading → List (List ℕ)
 records_of reads = map (λ r. r.given) reads
 
 -- a read asks for the one sector that has to be read next, and for no more
-abbrev pub IsReadOf : Option ℕ → Reading → Type 0
-IsReadOf None r = ⊥
-IsReadOf (Some sector) r = (r.pos ≡ sector * sector_size) × (r.asked ≡ sector_size)
+abbrev pub IsSectorRead : Option ℕ → Reading → Type 0
+IsSectorRead None r = ⊥
+IsSectorRead (Some sector) r = (r.pos ≡ sector * sector_size) × (r.asked ≡ sector_size)
 
 -- the reads behind these records are those that have to be made next, in order
 abbrev pub AreNext : (k : ℕ) → (before : List (List ℕ)) → List Reading → Type 0
 AreNext k before [] = ⊤
-AreNext k before (r ∷ reads) = IsReadOf (next before k) r × AreNext k (before ++ r.given ∷ []) reads
+AreNext k before (r ∷ reads) = IsSectorRead (next before k) r × AreNext k (before ++ r.given ∷ []) reads
 
 -- ---- the answers behind them, one a row
 
 -- the last record, which was read at this sector
-pub record IsLast (k : ℕ) (records : List (List ℕ)) (sector : ℕ) (last : List ℕ) : Type 0 where
+pub record IsLastRecord (k : ℕ) (records : List (List ℕ)) (sector : ℕ) (last : List ℕ) : Type 0 where
   pub before : List (List ℕ)
   pub are : records ≡ before ++ last ∷ []
   pub sector_is : next before k ≡ Some sector
@@ -36,18 +36,18 @@ pub record IsLast (k : ℕ) (records : List (List ℕ)) (sector : ℕ) (last : L
 -- a record wasn't read whole
 pub record IsUnread (k : ℕ) (records : List (List ℕ)) (sector : ℕ) : Type 0 where
   pub last : List ℕ
-  pub is_last : IsLast k records sector last
+  pub is_last : IsLastRecord k records sector last
   pub short : length last < sector_size
 
 -- it was, and isn't one
 pub record LacksSignature (k : ℕ) (records : List (List ℕ)) (sector : ℕ) : Type 0 where
   pub last : List ℕ
-  pub is_last : IsLast k records sector last
-  pub whole : is_whole last ≡ true
+  pub is_last : IsLastRecord k records sector last
+  pub whole : is_whole_sector last ≡ true
   pub unsigned : has_signature last ≡ false
 
 -- the record at sector 0 has a protective entry
-pub record IsProtected (records : List (List ℕ)) : Type 0 where
+pub record IsDiskProtected (records : List (List ℕ)) : Type 0 where
   pub main : List ℕ
   pub are : records ≡ main ∷ []
   pub readable : is_record main ≡ true
@@ -59,20 +59,20 @@ pub data LacksPartition (k : ℕ) (records : List (List ℕ)) : Type 0 where
   Unused : (main : List ℕ) → records ≡ main ∷ [] → are_records main [] ≡ true → is_primary k ≡ true
       → primary main k ≡ None → LacksPartition k records
   Unextended : (main : List ℕ) → records ≡ main ∷ [] → are_records main [] ≡ true → is_primary k ≡ false
-      → extended main ≡ None → LacksPartition k records
-  Ended : (main : List ℕ) (chain : List (List ℕ)) (e : Entry) → records ≡ main ∷ chain
-      → are_records main chain ≡ true → is_primary k ≡ false → extended main ≡ Some e
+      → extended_entry main ≡ None → LacksPartition k records
+  Ended : (main : List ℕ) (chain : List (List ℕ)) (e : TableEntry) → records ≡ main ∷ chain
+      → are_records main chain ≡ true → is_primary k ≡ false → extended_entry main ≡ Some e
       → is_lacking e.first chain k ≡ true → list_all links_on chain ≡ false → LacksPartition k records
 
 -- as many records of a chain were read as may be, and each links on, but they don't give partition k
-pub record IsTooLong (k : ℕ) (records : List (List ℕ)) : Type 0 where
+pub record IsChainTooLong (k : ℕ) (records : List (List ℕ)) : Type 0 where
   pub main : List ℕ
   pub chain : List (List ℕ)
-  pub e : Entry
+  pub e : TableEntry
   pub are : records ≡ main ∷ chain
   pub readable : are_records main chain ≡ true
   pub logical : is_primary k ≡ false
-  pub is_extended : extended main ≡ Some e
+  pub is_extended : extended_entry main ≡ Some e
   pub lacking : is_lacking e.first chain k ≡ true
   pub links : list_all links_on chain ≡ true
   pub full : length chain ≡ chain_limit
@@ -91,8 +91,8 @@ AnswersBy SourceFault k records = ⊥
 AnswersBy SourceLost k records = is_some (next records k) ≡ true
 AnswersBy (Unread sector) k records = IsUnread k records sector
 AnswersBy (NoSignature sector) k records = LacksSignature k records sector
-AnswersBy Protective k records = IsProtected records
+AnswersBy Protective k records = IsDiskProtected records
 AnswersBy NoPartition k records = LacksPartition k records
-AnswersBy ChainTooLong k records = IsTooLong k records
+AnswersBy ChainTooLong k records = IsChainTooLong k records
 AnswersBy ConsoleFault k records = HasPart k records
 AnswersBy NoMemory k records = ⊥

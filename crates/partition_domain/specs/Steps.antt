@@ -6,17 +6,17 @@ use Rattle.faulty_source.specs.Journal.{Reading}
 use Rattle.faulty_source.specs.SourceState.{SourceState}
 use Rattle.rescue_console.specs.ConsoleState.{ConsoleState, Puts, PutsPart}
 use Rattle.rescue_console.specs.declared.console.Channel.TheVariants.{Out}
-use Rattle.partition_domain.specs.declared.table.Entry.{Entry}
+use Rattle.partition_domain.specs.declared.table.TableEntry.{TableEntry}
 use Rattle.partition_domain.specs.declared.table.Partition.{Partition}
 use Rattle.partition_domain.specs.declared.chain.Chain.{Chain}
 use Rattle.partition_domain.specs.declared.chain.Link.{Link}
 use Rattle.partition_domain.specs.declared.chain.Link.TheVariants.{Found, On, End}
 use Rattle.partition_domain.specs.declared.ending.PartEnding.{PartEnding}
 use Rattle.partition_domain.specs.declared.ending.PartEnding.TheVariants.{Done, Usage, SourceFault, SourceLost, Unread, NoSignature, Protective, NoPartition, ChainTooLong, ConsoleFault, NoMemory}
-use Rattle.partition_domain.specs.Table.{entries, extended, has_signature, is_record, is_used, is_whole, sector_size}
+use Rattle.partition_domain.specs.Table.{table_entries, extended_entry, has_signature, is_record, is_used, is_whole_sector, sector_size}
 use Rattle.partition_domain.specs.Chain.{links_on, logical_partitions, next_in_chain}
 use Rattle.partition_domain.specs.Part.{are_records, partition_of}
-use Rattle.partition_domain.specs.Reads.{AnswersBy, AreNext, IsReadOf, records_of}
+use Rattle.partition_domain.specs.Reads.{AnswersBy, AreNext, IsSectorRead, records_of}
 use Rattle.partition_domain.specs.Told.{IsFrom}
 
 -- the source's journal gained these reads, which gave its own bytes
@@ -44,7 +44,7 @@ StopCounts NoMemory losses losses' = ⊥
 pub record ReadsOne (sector : ℕ) (reads : List Reading) (last : List ℕ) : Type 0 where
   pub reading : Reading
   pub are : reads ≡ reading ∷ []
-  pub is_read : IsReadOf (Some sector) reading
+  pub is_read : IsSectorRead (Some sector) reading
   pub gave : reading.given ≡ last
 
 -- why there are no entries: the record was lost, or is refused by itself
@@ -56,7 +56,7 @@ StopsAs sector reads SourceLost = reads ≡ []
 StopsAs sector reads (Unread s) =
     (last : List ℕ) × ReadsOne sector reads last × (s ≡ sector) × (length last < sector_size)
 StopsAs sector reads (NoSignature s) =
-    (last : List ℕ) × ReadsOne sector reads last × (s ≡ sector) × (is_whole last ≡ true) × (has_signature last ≡ false)
+    (last : List ℕ) × ReadsOne sector reads last × (s ≡ sector) × (is_whole_sector last ≡ true) × (has_signature last ≡ false)
 StopsAs sector reads Protective = ⊥
 StopsAs sector reads NoPartition = ⊥
 StopsAs sector reads ChainTooLong = ⊥
@@ -64,16 +64,16 @@ StopsAs sector reads ConsoleFault = ⊥
 StopsAs sector reads NoMemory = ⊥
 
 -- the entries of a record that was read, or why there are none
-abbrev pub ReadsAs : (sector : ℕ) → List Reading → Result (List Entry) PartEnding → Type 0
-ReadsAs sector reads (Ok table) =
-    (last : List ℕ) × ReadsOne sector reads last × (is_record last ≡ true) × (table ≡ entries last)
-ReadsAs sector reads (Err e) = StopsAs sector reads e
+abbrev pub SectorReadsAs : (sector : ℕ) → List Reading → Result (List TableEntry) PartEnding → Type 0
+SectorReadsAs sector reads (Ok table) =
+    (last : List ℕ) × ReadsOne sector reads last × (is_record last ≡ true) × (table ≡ table_entries last)
+SectorReadsAs sector reads (Err e) = StopsAs sector reads e
 
 -- what a read of a record did, by its outcome
-pub record ReadsTable (sector : ℕ) (result : Result (List Entry) PartEnding) (old new : SourceState) : Type 0 where
+pub record ReadsTable (sector : ℕ) (result : Result (List TableEntry) PartEnding) (old new : SourceState) : Type 0 where
   pub reads : List Reading
   pub gained : Gained reads old new
-  pub as_ : ReadsAs sector reads result
+  pub as_ : SectorReadsAs sector reads result
 
 -- ---- the chain
 
@@ -91,28 +91,28 @@ LeadsNear k c (On n) = IsNear k n × (n.read ≡ c.read + 1)
 LeadsNear k c End = ⊤
 
 -- the chain behind a record with this second entry, if that is used
-abbrev pub leads : (c : Chain) → (given : ℕ) → (second : Entry) → Link
+abbrev pub leads : (c : Chain) → (given : ℕ) → (second : TableEntry) → Link
 leads c given second =
     if is_used second
     then On (record { base = c.base; at = c.base + second.first; given = given; read = c.read + 1 }) else End
 
 -- what comes of a record with these first two entries
-abbrev pub passes_by : (k : ℕ) → (c : Chain) → (first second : Entry) → Link
+abbrev pub passes_by : (k : ℕ) → (c : Chain) → (first second : TableEntry) → Link
 passes_by k c first second =
     if is_used first
     then (if nat_eq c.given (k - 5) then Found (record { first = c.at + first.first; count = first.count })
     else leads c (c.given + 1) second)
     else leads c c.given second
 
-abbrev pub passes : (k : ℕ) → (c : Chain) → List Entry → Link
-passes k c [] = End
-passes k c (first ∷ []) = End
-passes k c (first ∷ second ∷ more) = passes_by k c first second
+abbrev pub link_past : (k : ℕ) → (c : Chain) → List TableEntry → Link
+link_past k c [] = End
+link_past k c (first ∷ []) = End
+link_past k c (first ∷ second ∷ more) = passes_by k c first second
 
 -- how far a chain was read, by the records that were read of it: each is one, and links on
 pub record StandsBehind (main : List ℕ) (c : Chain) (chain : List (List ℕ)) : Type 0 where
-  pub e : Entry
-  pub is_extended : extended main ≡ Some e
+  pub e : TableEntry
+  pub is_extended : extended_entry main ≡ Some e
   pub base : c.base ≡ e.first
   pub are : are_records main chain ≡ true
   pub links : list_all links_on chain ≡ true
@@ -128,7 +128,7 @@ TurnsTo k main chain (Ok End) = AnswersBy NoPartition k (main ∷ chain)
 TurnsTo k main chain (Err e) = AnswersBy e k (main ∷ chain)
 
 -- the next record was read, or lost
-pub record Turned (k : ℕ) (main : List ℕ) (chain : List (List ℕ)) (result : Result Link PartEnding)
+pub record TookRecord (k : ℕ) (main : List ℕ) (chain : List (List ℕ)) (result : Result Link PartEnding)
     (old new : SourceState) : Type 0 where
   pub reads : List Reading
   pub gained : Gained reads old new
@@ -138,14 +138,14 @@ pub record Turned (k : ℕ) (main : List ℕ) (chain : List (List ℕ)) (result 
 -- what a turn does, wherever the chain stands
 abbrev pub Turns : (k : ℕ) → (main : List ℕ) → (c : Chain) → (chain : List (List ℕ)) → Result Link PartEnding
     → (old new : SourceState) → Type 0
-Turns k main c chain result old new = StandsBehind main c chain → Turned k main chain result old new
+Turns k main c chain result old new = StandsBehind main c chain → TookRecord k main chain result old new
 
 -- ---- the whole search
 
 -- what a search comes to, by the records that were read
-abbrev pub ComesTo : (k : ℕ) → (records : List (List ℕ)) → Result Partition PartEnding → Type 0
-ComesTo k records (Ok p) = partition_of records k ≡ Some p
-ComesTo k records (Err e) = AnswersBy e k records
+abbrev pub SearchFinds : (k : ℕ) → (records : List (List ℕ)) → Result Partition PartEnding → Type 0
+SearchFinds k records (Ok p) = partition_of records k ≡ Some p
+SearchFinds k records (Err e) = AnswersBy e k records
 
 -- what a search did behind these records
 pub record Searched (k : ℕ) (before : List (List ℕ)) (result : Result Partition PartEnding) (old new : SourceState)
@@ -153,13 +153,13 @@ pub record Searched (k : ℕ) (before : List (List ℕ)) (result : Result Partit
   pub reads : List Reading
   pub gained : Gained reads old new
   pub next : AreNext k before reads
-  pub to : ComesTo k (before ++ records_of reads) result
+  pub to : SearchFinds k (before ++ records_of reads) result
 
 -- behind the first record, which leads on to a chain
-pub record IsLed (main : List ℕ) (base : ℕ) : Type 0 where
-  pub e : Entry
+pub record LeadsToChain (main : List ℕ) (base : ℕ) : Type 0 where
+  pub e : TableEntry
   pub are : are_records main [] ≡ true
-  pub is_extended : extended main ≡ Some e
+  pub is_extended : extended_entry main ≡ Some e
   pub base_is : e.first ≡ base
 
 abbrev pub SearchesBehind : (k : ℕ) → (main : List ℕ) → Result Partition PartEnding → (old new : SourceState) → Type 0
@@ -170,7 +170,7 @@ abbrev pub Searches : (k : ℕ) → Result Partition PartEnding → (old new : S
 Searches k result old new = Searched k [] result old new
 
 -- the partition of one of the entries of the first record, counted from 1, if it is used
-abbrev pub partition_at : List Entry → (k : ℕ) → Option Partition
+abbrev pub partition_at : List TableEntry → (k : ℕ) → Option Partition
 partition_at table k =
     let e = slice_index_or table (k - 1) (record { kind = 0; first = 0; count = 0 }) in
     if is_used e then Some (record { first = e.first; count = e.count }) else None

@@ -1,7 +1,7 @@
 -- The work of `ddrescuepart`, as rows of the fold that all programs share: memory is taken, the input is opened, and then
 -- records are read.
 use Rattle.std.specs.Prelude.{◌≡◌, List, [], ◌∷◌}
-use Rattle.work_steps.specs.Work.{Deeds, Faults, Step, Take, Open, Works}
+use Rattle.work_steps.specs.Work.{Deeds, Faults, WorkStep, Take, Open, Works}
 use Rattle.partition_domain.specs.declared.ending.PartEnding.{PartEnding}
 use Rattle.partition_domain.specs.declared.ending.PartEnding.TheVariants.{SourceFault, NoMemory}
 use Rattle.partition_domain.specs.Command.{Command}
@@ -12,7 +12,7 @@ abbrev pub part_faults : Faults PartEnding
 part_faults = record { call = λ call. NoMemory; memory = NoMemory; input = SourceFault }
 
 -- the rows in front of the first read: all memory is taken before the input is opened
-abbrev pub part_rows : Command → List (Step PartEnding)
+abbrev pub part_rows : Command → List (WorkStep PartEnding)
 part_rows c = Take ∷ Open c.infile ∷ []
 
 -- What was done behind them: reads, each of the record that had to be read next; and the answer is what these gave.

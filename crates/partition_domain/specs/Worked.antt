@@ -19,27 +19,27 @@ pub record Worked (c : Command) (line : List ℕ) (e : PartEnding) (source sourc
   pub out : PutsAs e (text_of c line outside) console between
 
 -- by how much the source's counts rose: of opens that failed, and of losses
-pub record Raised (opens losses : ℕ → ℕ) (source source' : SourceState) : Type 0 where
+pub record CountsRose (opens losses : ℕ → ℕ) (source source' : SourceState) : Type 0 where
   pub faults : source'.faults ≡ opens source.faults
   pub lost : source'.losses ≡ losses source.losses
 
 -- a count that stands
-abbrev pub stands : ℕ → ℕ
-stands n = n
+abbrev pub count_stands : ℕ → ℕ
+count_stands n = n
 
 -- the counts of the source by the answer: one rose exactly where its fault is answered
 abbrev pub SourceCounts : PartEnding → (source source' : SourceState) → Type 0
-SourceCounts Done source source' = Raised stands stands source source'
-SourceCounts (Usage fault) source source' = Raised stands stands source source'
-SourceCounts SourceFault source source' = Raised raised stands source source'
-SourceCounts SourceLost source source' = Raised stands raised source source'
-SourceCounts (Unread sector) source source' = Raised stands stands source source'
-SourceCounts (NoSignature sector) source source' = Raised stands stands source source'
-SourceCounts Protective source source' = Raised stands stands source source'
-SourceCounts NoPartition source source' = Raised stands stands source source'
-SourceCounts ChainTooLong source source' = Raised stands stands source source'
-SourceCounts ConsoleFault source source' = Raised stands stands source source'
-SourceCounts NoMemory source source' = Raised stands stands source source'
+SourceCounts Done source source' = CountsRose count_stands count_stands source source'
+SourceCounts (Usage fault) source source' = CountsRose count_stands count_stands source source'
+SourceCounts SourceFault source source' = CountsRose raised count_stands source source'
+SourceCounts SourceLost source source' = CountsRose count_stands raised source source'
+SourceCounts (Unread sector) source source' = CountsRose count_stands count_stands source source'
+SourceCounts (NoSignature sector) source source' = CountsRose count_stands count_stands source source'
+SourceCounts Protective source source' = CountsRose count_stands count_stands source source'
+SourceCounts NoPartition source source' = CountsRose count_stands count_stands source source'
+SourceCounts ChainTooLong source source' = CountsRose count_stands count_stands source source'
+SourceCounts ConsoleFault source source' = CountsRose count_stands count_stands source source'
+SourceCounts NoMemory source source' = CountsRose count_stands count_stands source source'
 
 -- Whether something is to be said of an answer; `untouched` says that nothing was done.
 pub record MaySay (words : List (List ℕ)) (e : PartEnding) (quiet : Bool) (untouched : Type 0) : Type 0 where

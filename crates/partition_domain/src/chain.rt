@@ -1,11 +1,11 @@
 //! The chain of records within an extended partition.
 ghost use Rattle.std.specs.Prelude.{◌≡◌, ℕ, ◌-◌, ◌<◌, ◌≤◌, ◌^◌, List, true, OnOk, IfOk, IfErr};
 ghost use Rattle.faulty_source.specs.SourceState.{Stays};
-ghost use Rattle.partition_domain.specs.Steps.{IsLed, IsNear, LeadsNear, SearchesBehind, StopCounts, Turns, leads, passes};
+ghost use Rattle.partition_domain.specs.Steps.{LeadsToChain, IsNear, LeadsNear, SearchesBehind, StopCounts, Turns, leads, link_past};
 
 use crate::ending::PartEnding;
 use crate::read::read_table;
-use crate::table::{Entry, Partition, Table};
+use crate::table::{Partition, Table, TableEntry};
 use faulty_source::source::Source;
 
 /// How many records of a chain are read at most.
@@ -39,7 +39,7 @@ pub enum Link {
 }
 
 /// Where the second entry of a record leads to, behind so many partitions.
-fn lead(chain: Chain, given: u64, second: Entry, k: u64) -> Link
+fn lead(chain: Chain, given: u64, second: TableEntry, k: u64) -> Link
     requires near { IsNear k chain }
     requires more { chain.read < 128 }
     requires given { given ≤ k - 5 }
@@ -61,7 +61,7 @@ fn lead(chain: Chain, given: u64, second: Entry, k: u64) -> Link
 fn pass(chain: Chain, table: &Table, k: u64) -> Link
     requires near { IsNear k chain }
     requires more { chain.read < 128 }
-    ensures passes { result ≡ passes k chain table.now }
+    ensures passes { result ≡ link_past k chain table.now }
     ensures near { LeadsNear k chain result }
 {
     let [first, second, ..] = *table;
@@ -100,7 +100,7 @@ pub(crate) fn follow_chain<S: Source>(
 ) -> Result<Partition, PartEnding>
     requires opened { (S.state source.old).is_open ≡ true }
     requires logical { 5 ≤ k }
-    ensures searches { (main : List ℕ) → IsLed main base
+    ensures searches { (main : List ℕ) → LeadsToChain main base
         → SearchesBehind k main result (S.state source.old) (S.state source.new) }
     ensures stays { Stays (S.state source.old) (S.state source.new) }
     ensures kept { OnOk result ((S.state source.new).losses ≡ (S.state source.old).losses) }

@@ -8,7 +8,7 @@ use option_values::given::is_given;
 use option_values::values::{number_by, within_range};
 use option_words::fault::UsageFault;
 use option_words::reader::read_words;
-use option_words::reading::Reading;
+use option_words::reading::WordReading;
 use option_words::row::{Row, Takes};
 use option_words::table::OptionTable;
 use option_words::words::Words;
@@ -86,7 +86,7 @@ fn name_operands<'a>(
 fn command_of<'a>(
     table: &OptionTable,
     words: &'a Words,
-    reading: &Reading,
+    reading: &WordReading,
 ) -> Result<Command<'a>, UsageFault>
     requires table { AreOptions table.now }
     requires operands { All (IsWord words.now) reading.now.operands.items }

@@ -8,7 +8,7 @@ ghost use Rattle.partition_domain.specs.Steps.{Searches, StopCounts, partition_a
 use crate::chain::follow_chain;
 use crate::ending::PartEnding;
 use crate::read::read_table;
-use crate::table::{Entry, Partition, Table};
+use crate::table::{Partition, Table, TableEntry};
 use faulty_source::source::Source;
 
 /// How many partitions are entries of the first record.
@@ -22,7 +22,7 @@ fn is_protected(table: &Table) -> bool
 }
 
 /// The first entry of an extended partition.
-fn find_extended(table: &Table) -> Option<Entry>
+fn find_extended(table: &Table) -> Option<TableEntry>
     ensures { result ≡ find_first is_extended table.now }
 {
     for entry in table {

@@ -1,6 +1,6 @@
 //! The records of a partition table.
 ghost use Rattle.std.specs.Prelude.{◌≡◌, ◌+◌, ◌<◌, ◌≤◌, ◌^◌, length};
-ghost use Rattle.partition_domain.specs.Table.{entries, entry_at, has_signature, is_extended, is_protective, is_used, number_at};
+ghost use Rattle.partition_domain.specs.Table.{table_entries, entry_at, has_signature, is_extended, is_protective, is_used, number_at};
 
 /// How many bytes a sector has, and so a record.
 pub(crate) const SECTOR: usize = 512;
@@ -24,7 +24,7 @@ const PROTECTIVE: u8 = 0xEE;
 
 /// One entry of a record: which type of partition it is for, and where that lies, in sectors.
 #[derive(Clone, Copy, Debug, PartialEq, Eq)]
-pub struct Entry {
+pub struct TableEntry {
     /// The type; 0 for an entry that isn't used.
     pub kind: u8,
     /// The first sector, as the record has it.
@@ -41,9 +41,9 @@ pub struct Partition {
 }
 
 /// What a record says: its four entries, in order.
-pub(crate) type Table = [Entry; 4];
+pub(crate) type Table = [TableEntry; 4];
 
-impl Entry {
+impl TableEntry {
     /// Whether it is used.
     pub(crate) fn is_used(self) -> bool
         ensures { result ≡ is_used self }
@@ -108,11 +108,11 @@ fn number_at(record: &[u8], at: usize) -> u32
 }
 
 /// The entry that begins at a byte.
-fn entry_at(record: &[u8], at: usize) -> Entry
+fn entry_at(record: &[u8], at: usize) -> TableEntry
     requires { at + 16 ≤ length record.now }
     ensures { result ≡ entry_at record.now at }
 {
-    Entry {
+    TableEntry {
         kind: record[at + 4],
         first: number_at(record, at + 8),
         count: number_at(record, at + 12),
@@ -122,7 +122,7 @@ fn entry_at(record: &[u8], at: usize) -> Entry
 /// The entries of a record.
 pub(crate) fn read_entries(record: &[u8]) -> Table
     requires { length record.now ≡ 512 }
-    ensures { result ≡ entries record.now }
+    ensures { result ≡ table_entries record.now }
 {
     [
         entry_at(record, ENTRIES),

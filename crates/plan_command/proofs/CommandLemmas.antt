@@ -1,6 +1,5 @@
 -- What a reading asks for is within limits.
-use Rattle.std.proofs.Common.{◌≡◌, ℕ, ◌<◌, ◌≤◌, Bool, true, false, cond, nat_lt, List, [], ◌∷◌, Option, Some, None, Result, Ok, Err, IfSome, refl, sym, ◌∙◌, ap, subst, arith}
-use Rattle.std.proofs.lemmas.Bool.Decides.{nat_tests}
+use Rattle.std.proofs.Common.{◌≡◌, ℕ, ◌≤◌, Bool, true, false, cond, List, [], ◌∷◌, Option, Some, None, Result, Ok, Err, refl, sym, ◌∙◌, ap, subst}
 use Rattle.option_words.specs.Words.{word}
 use Rattle.option_words.specs.declared.row.Row.{Row}
 use Rattle.option_words.specs.declared.reading.Item.{Item}
@@ -11,9 +10,10 @@ use Rattle.option_values.specs.Values.{is_empty_text, size_by}
 use Rattle.option_values.proofs.MeaningLemmas.{reading_asks as asked_only}
 use Rattle.option_values.proofs.ValueLemmas.{in_range}
 use Rattle.rescue_command.specs.declared.options.Options.{Options}
-use Rattle.rescue_command.specs.Options.{cluster_limit, cluster_of, sectors_of}
+use Rattle.rescue_command.specs.Options.{cluster_limit, cluster_of}
 use Rattle.rescue_command.specs.Command.{AreInLimits as AreRescueLimits, is_too_large}
 use Rattle.rescue_command.proofs.OptionLemmas.{AreInRange}
+use Rattle.rescue_command.proofs.CommandLemmas.{some_sectors, not_above}
 use Rattle.plan_command.specs.declared.options.PlanOptions.{PlanOptions}
 use Rattle.plan_command.specs.Options.{options_in}
 use Rattle.plan_command.specs.Command.{Command, AreInLimits, AreOptions, IsAsked, cluster_word, command_with, command_by, command_in, length_by, length_limit, with_length, plan_grammar}
@@ -80,13 +80,6 @@ options_by words items (Ok o) os c e =
       small = ap (λ (x : PlanOptions). is_too_large x.rescue) k.options ∙ p.0;
       length = k.length;
     }
-
-some_sectors : (o : Options) (n : Option ℕ) → IfSome n (λ k. 0 < k) → 0 < sectors_of o n
-some_sectors o None h = omega arith
-some_sectors o (Some k) h = h
-
-not_above : (m n : ℕ) → nat_lt m n ≡ false → n ≤ m
-not_above m n e = grind (arith, nat_tests)
 
 in_limits : (o : Options) → AreInRange o.sector o → is_too_large o ≡ false → AreRescueLimits o
 in_limits o h e = record {

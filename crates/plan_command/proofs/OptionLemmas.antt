@@ -1,6 +1,5 @@
 -- What options set, one after the other, is within limits, and plain.
-use Rattle.std.proofs.Common.{◌≡◌, ℕ, zero, suc, ◌+◌, ◌-◌, ◌*◌, ◌/◌, ◌^◌, ◌<◌, ◌≤◌, Bool, true, false, cond, ◌||◌, List, [], ◌∷◌, slice_get, Option, Some, None, Result, Ok, Err, IfSome, refl, sym, ◌∙◌, ap, subst, arith}
-use Rattle.std.proofs.lemmas.Nat.{div-add-mod'}
+use Rattle.std.proofs.Common.{◌≡◌, ℕ, zero, suc, ◌^◌, ◌<◌, ◌≤◌, Bool, true, false, cond, ◌||◌, List, [], ◌∷◌, slice_get, Option, Some, None, Result, Ok, Err, IfSome, refl, sym, ◌∙◌, ap, subst, arith}
 use Rattle.std.proofs.lemmas.Option.{same_Some}
 use Rattle.std.specs.Option.{option_map, option_and_then}
 use Rattle.option_words.specs.Rows.{is_letter}
@@ -13,7 +12,7 @@ use Rattle.option_values.proofs.QuietLemmas.{or_false, or_true}
 use Rattle.rescue_command.specs.declared.options.Options.{Options}
 use Rattle.rescue_command.specs.Options.{skips_of, option_rows as rescue_rows, no_options as no_rescue_options}
 use Rattle.rescue_command.proofs.SkipLemmas.{AreSkips, skips_of_are}
-use Rattle.rescue_command.proofs.OptionLemmas.{AreInRange}
+use Rattle.rescue_command.proofs.OptionLemmas.{AreInRange, within_count, default_fits}
 use Rattle.plan_command.specs.declared.options.PlanOptions.{PlanOptions}
 use Rattle.plan_command.specs.Options.{of_rescue, no_options, rescue_places, option_meanings, option_rows, options_in, quiet_letter, sector_letter}
 use Rattle.plan_command.specs.Command.{ArePlain}
@@ -24,9 +23,6 @@ pub record Keeps (sector : ℕ) (o : Options) (quiet : Bool) (o' : Options) : Ty
   pub range : AreInRange sector o → AreInRange sector o'
   pub quiet_is : o'.quiet ≡ (o.quiet || quiet)
   pub plain : ArePlain o → ArePlain o'
-
-within_count : (m : Option ℕ) (n : ℕ) → option_and_then (within_range 1 65536) m ≡ Some n → 0 < n
-within_count m n e = let p = in_range 1 65536 m n e in omega arith
 
 -- plain options stay so with what options of a plan set
 still_plain : (o o' : Options) → o'.min_rate ≡ o.min_rate → o'.output_position ≡ o.output_position
@@ -291,9 +287,6 @@ items_keep sector words (i ∷ is) o o' e =
           ∙ or_assoc o.rescue.quiet (is_of option_meanings quiet_letter i) given;
       plain = λ h. rest.plain (k.plain h);
     }
-
-default_fits : (n : ℕ) → IsSector n → (2 ^ 30 + (n - 1)) / n * n < 2 ^ 63
-default_fits n h = omega (arith, div-add-mod' (2 ^ 30 + (n - 1)) n, h.high)
 
 none_in_range : (n : ℕ) → IsSector n → AreInRange n (no_rescue_options n)
 none_in_range n h = record {

@@ -3,7 +3,7 @@ use Rattle.std.specs.Prelude.{◌≡◌, ◌↔◌, ℕ, ◌^◌, ◌≤◌, tru
 use Rattle.option_words.specs.Words.{word}
 use Rattle.option_words.specs.declared.row.Row.{Row}
 use Rattle.option_words.specs.declared.reading.Item.{Item}
-use Rattle.option_words.specs.declared.reading.Reading.{Reading}
+use Rattle.option_words.specs.declared.reading.WordReading.{WordReading}
 use Rattle.option_words.specs.declared.fault.UsageFault.{UsageFault}
 use Rattle.option_words.specs.declared.fault.UsageFault.TheVariants.{BadValue, Operands}
 use Rattle.option_values.specs.declared.command_error.CommandError.{CommandError}
@@ -63,7 +63,7 @@ abbrev pub command_in : List (List ℕ) → List Item → (operands : List ℕ) 
 command_in words items operands = command_by words items (options_in words items) operands
 
 -- the same of a reading that the code has
-abbrev pub command_read : List (List ℕ) → Reading → Result Command UsageFault
+abbrev pub command_read : List (List ℕ) → WordReading → Result Command UsageFault
 command_read words r = command_in words r.items.items r.operands.items
 
 -- the grammar of `ddrescueplan`

@@ -13,7 +13,7 @@ use option_values::settings::{read_sector_in, read_settings};
 use option_values::values::{size_by, within_range};
 use option_words::fault::UsageFault;
 use option_words::reader::read_words;
-use option_words::reading::{Item, Reading};
+use option_words::reading::{Item, WordReading};
 use option_words::table::OptionTable;
 use option_words::words::Words;
 use rescue_command::options::Options;
@@ -103,7 +103,7 @@ fn name_operands<'a>(
 fn command_of<'a>(
     table: &OptionTable,
     words: &'a Words,
-    reading: &Reading,
+    reading: &WordReading,
 ) -> Result<Command<'a>, UsageFault>
     requires table { AreOptions table.now }
     requires spots { All (HasSpot words.now) reading.now.items.items }

@@ -12,7 +12,7 @@ use Rattle.faulty_source.specs.Got.{count_of, is_end}
 use Rattle.faulty_source.specs.Journal.{Reading}
 use Rattle.faulty_source.specs.SourceState.{AnswersRead}
 use Rattle.rescue_domain.proofs.TestingLemmas.{front_is}
-use Rattle.plan_source.specs.Answering.{IsSeenIn, there, given_at, ends_at, got_at, reading_of, source_state}
+use Rattle.plan_source.specs.Answering.{IsSeenIn, there, given_at, meets_end, got_at, reading_of, plan_source_state}
 
 either_count : (b : Bool) (n : ℕ) → count_of (cond b (End n) (Read n)) ≡ n
 either_count true n = refl
@@ -41,10 +41,10 @@ zeros_in n pos count few =
 
 module _ (len : ℕ) (test : List Status) (pos asked : ℕ) where
   pub count_is : count_of (got_at len test pos asked) ≡ given_at len test pos asked
-  count_is = either_count (ends_at len test pos asked) (given_at len test pos asked)
+  count_is = either_count (meets_end len test pos asked) (given_at len test pos asked)
 
-  pub end_is : is_end (got_at len test pos asked) ≡ ends_at len test pos asked
-  end_is = either_end (ends_at len test pos asked) (given_at len test pos asked)
+  pub end_is : is_end (got_at len test pos asked) ≡ meets_end len test pos asked
+  end_is = either_end (meets_end len test pos asked) (given_at len test pos asked)
 
   given_few : given_at len test pos asked ≤ there len pos asked
   given_few = (front_is test pos (there len pos asked)).few
@@ -88,8 +88,8 @@ pub read_answers : {E : Type 0} (len : ℕ) (test : List Status) (reference : �
     → got ≡ got_at len test pos asked
     → e ≡ record { pos = pos; asked = asked; given = count_of got; ended = is_end got }
     → take (count_of got) buf ≡ replicate (count_of got) 0
-    → AnswersRead {E = E} pos asked buf (Ok got) (source_state len test reference es name opened opens faults losses)
-    (source_state len test reference (es ++ e ∷ []) name opened opens faults losses)
+    → AnswersRead {E = E} pos asked buf (Ok got) (plan_source_state len test reference es name opened opens faults losses)
+    (plan_source_state len test reference (es ++ e ∷ []) name opened opens faults losses)
 read_answers len test reference es name opened opens faults losses pos asked buf got e is entry zeros =
     let few : count_of got ≤ len - pos = subst (λ (g : Got). count_of g ≤ len - pos) (sym is) (count_within len test pos asked) in
     record {
@@ -134,8 +134,8 @@ pub read_answers_by : {E : Type 0} (len : ℕ) (test : List Status) (reference :
     → got ≡ got_at len test pos asked
     → e ≡ record { pos = pos; asked = asked; given = count_of got; ended = is_end got }
     → length buf ≡ asked → buf' ≡ replicate (length buf) 0 → es' ≡ es → es'' ≡ es' ++ e ∷ [] → is ≡ was
-    → AnswersRead {E = E} pos asked buf' (Ok got) (source_state len test reference es name was opens faults losses)
-    (source_state len test reference es'' name is opens faults losses)
+    → AnswersRead {E = E} pos asked buf' (Ok got) (plan_source_state len test reference es name was opens faults losses)
+    (plan_source_state len test reference es'' name is opens faults losses)
 read_answers_by {E} len test reference es es' es'' name was is opens faults losses pos asked buf buf' got e got_is entry
     size filled same more on =
     let few : count_of got ≤ length buf = subst (λ (g : Got). count_of g ≤ length buf) (sym got_is)
@@ -143,10 +143,10 @@ read_answers_by {E} len test reference es es' es'' name was is opens faults loss
     let zeros : take (count_of got) buf' ≡ replicate (count_of got) 0 =
     ap (take (count_of got)) filled ∙ take-replicate (count_of got) (length buf) 0 few in
     subst (λ (b : Bool). AnswersRead {E = E} pos asked buf' (Ok got)
-    (source_state len test reference es name was opens faults losses)
-    (source_state len test reference es'' name b opens faults losses)) (sym on)
+    (plan_source_state len test reference es name was opens faults losses)
+    (plan_source_state len test reference es'' name b opens faults losses)) (sym on)
     (subst (λ (xs : List ReadEntry). AnswersRead {E = E} pos asked buf' (Ok got)
-    (source_state len test reference es name was opens faults losses)
-    (source_state len test reference xs name was opens faults losses))
+    (plan_source_state len test reference es name was opens faults losses)
+    (plan_source_state len test reference xs name was opens faults losses))
     (sym (more ∙ ap (λ (xs : List ReadEntry). xs ++ e ∷ []) same))
     (read_answers len test reference es name was opens faults losses pos asked buf' got e got_is entry zeros))

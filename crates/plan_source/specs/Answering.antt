@@ -18,19 +18,19 @@ abbrev pub given_at : (length : ℕ) → List Status → (pos asked : ℕ) → �
 given_at length statuses pos asked = finished_front statuses pos (there length pos asked)
 
 -- it meets the end where all that there is is given, and is less than was asked for
-abbrev pub ends_at : (length : ℕ) → List Status → (pos asked : ℕ) → Bool
-ends_at length statuses pos asked =
+abbrev pub meets_end : (length : ℕ) → List Status → (pos asked : ℕ) → Bool
+meets_end length statuses pos asked =
     nat_eq (given_at length statuses pos asked) (there length pos asked) && nat_lt (there length pos asked) asked
 
 abbrev pub got_at : (length : ℕ) → List Status → (pos asked : ℕ) → Got
 got_at length statuses pos asked =
-    if ends_at length statuses pos asked then End (given_at length statuses pos asked)
+    if meets_end length statuses pos asked then End (given_at length statuses pos asked)
     else Read (given_at length statuses pos asked)
 
 -- an entry of the journal is of such a read
 pub record IsSeenIn (length : ℕ) (statuses : List Status) (e : ReadEntry) : Type 0 where
   pub given : e.given ≡ given_at length statuses e.pos e.asked
-  pub ended : e.ended ≡ ends_at length statuses e.pos e.asked
+  pub ended : e.ended ≡ meets_end length statuses e.pos e.asked
 
 -- the read that an entry stands for, which gave zeros
 abbrev pub reading_of : ReadEntry → Reading
@@ -38,9 +38,9 @@ reading_of e = record { pos = e.pos; asked = e.asked; given = replicate e.given 
 
 -- What such a source tells: its length, its test map, the reference to the console that it prints on, its journal, the
 -- name of its open input, whether that is open, and its counts.
-abbrev pub source_state : (length : ℕ) → List Status → (reference : ℕ) → List ReadEntry → (name : List ℕ)
+abbrev pub plan_source_state : (length : ℕ) → List Status → (reference : ℕ) → List ReadEntry → (name : List ℕ)
     → (opened : Bool) → (opens faults losses : ℕ) → SourceState
-source_state length statuses reference entries name opened opens faults losses = record {
+plan_source_state length statuses reference entries name opened opens faults losses = record {
   tells = true;
   bytes = replicate length 0;
   ends_at = length;

@@ -21,10 +21,10 @@ unknown = record {
 }
 
 -- reads are lost since a line couldn't be put
-abbrev pub is_broken : Option PlanLoss → Bool
-is_broken None = false
-is_broken (Some Memory) = false
-is_broken (Some Console) = true
+abbrev pub is_line_lost : Option PlanLoss → Bool
+is_line_lost None = false
+is_line_lost (Some Memory) = false
+is_line_lost (Some Console) = true
 
 -- no read was lost without a reason, and one was, at least, where there was no memory for it
 pub record AreCounted (lost : Option PlanLoss) (losses : ℕ) : Type 0 where
@@ -57,8 +57,8 @@ pub record BreaksLast (entries : List ReadEntry) (start now : ConsoleState) : Ty
 -- what a console got of a journal's lines, by why further reads are lost: each, whole and in order, or the last one's
 -- put failed
 pub record HasPrinted (start now : ConsoleState) (entries : List ReadEntry) (lost : Option PlanLoss) : Type 0 where
-  pub whole : is_broken lost ≡ false → Puts Out (lines_of_entries entries) start now
-  pub broken : is_broken lost ≡ true → BreaksLast entries start now
+  pub whole : is_line_lost lost ≡ false → Puts Out (lines_of_entries entries) start now
+  pub broken : is_line_lost lost ≡ true → BreaksLast entries start now
 
 -- a text was put on standard output, and a beginning of a piece behind it; and then a put failed, of which nothing stands
 -- where it failed by a plan

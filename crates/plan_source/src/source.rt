@@ -1,17 +1,16 @@
 //! A source that says each of its reads on a console.
 ghost use Rattle.std.specs.Prelude.{◌≡◌, ◌+◌, ◌<◌, ◌≤◌, ◌^◌, true, IsTrue, [], ◌∷◌, All};
-ghost use Rattle.rescue_domain.specs.Testing.{finished_front};
 ghost use Rattle.plan_source.specs.Printing.{HasPrinted, AreCounted};
 ghost use Rattle.plan_source.specs.Answering.{IsSeenIn, got_at};
 
 use crate::line::line_of;
 use crate::loss::PlanLoss;
-use block_list::status::Status;
 use block_list::tiles::Tiles;
 use fault_count::FaultCount;
 use faulty_source::memory::ReadEntry;
 use faulty_source::source::{Got, Source, SourceFault, SourceLost};
 use rescue_console::console::{Channel, Console, ConsoleFault};
+use rescue_domain::test_source::count_finished;
 use std::alloc::Global;
 use std::marker::{Brand, PhantomData};
 
@@ -60,17 +59,6 @@ pub struct PlanSource<'a, C: Console, T: Tiles, O: Origin = Brand> {
     ghost counted: { AreCounted lost losses },
 }
 
-/// How many of so many positions from one on come before the first that isn't finished.
-fn count_finished<T: Tiles>(tiles: &T, pos: u64, count: usize) -> usize
-    requires { pos + count < 2 ^ 63 }
-    ensures { result ≡ finished_front (T.statuses tiles.now) pos count }
-{
-    match tiles.find_forward(pos, Status::Finished) {
-        Some(run) if run.from == pos => count.min((run.to - pos) as usize),
-        _ => 0,
-    }
-}
-
 /// What a read of an input with a length gives.
 fn got_at<T: Tiles>(length: u64, tiles: &T, pos: u64, asked: usize) -> Got
     requires { pos + asked < 2 ^ 63 }
@@ -97,21 +85,21 @@ fn say<C: Console>(console: &mut C, entry: &ReadEntry) -> Option<PlanLoss>
 }
 
 impl<'a, C: Console, T: Tiles> PlanSource<'a, C, T> {
-    ghost use Rattle.plan_source.specs.Answering.{source_state};
+    ghost use Rattle.plan_source.specs.Answering.{plan_source_state};
 
     /// A source of so many bytes.
     pub fn new(alloc: Global, length: u64, tiles: T, console: &'a mut C) -> PlanSource<'a, C, T>
         requires { length < 2 ^ 63 }
         ensures reference { result.console.ghost_name ≡ console.entry.ghost_name }
         ensures state { ⟦<PlanSource<'a, C, T> as Source>⟧.state result
-            ≡ source_state length (T.statuses tiles) console.entry.ghost_name [] [] true 0 0 0 }
+            ≡ plan_source_state length (T.statuses tiles) console.entry.ghost_name [] [] true 0 0 0 }
     {
         PlanSource::since(alloc, length, tiles, console)
     }
 }
 
 impl<'a, C: Console, T: Tiles, O: Origin> PlanSource<'a, C, T, O> {
-    ghost use Rattle.plan_source.specs.Answering.{source_state};
+    ghost use Rattle.plan_source.specs.Answering.{plan_source_state};
 
     /// The same on a console of which it is known what it tells now.
     pub fn since(
@@ -124,7 +112,7 @@ impl<'a, C: Console, T: Tiles, O: Origin> PlanSource<'a, C, T, O> {
         requires start { IsTrue O.is_known → O.start ≡ C.state console.old }
         ensures reference { result.console.ghost_name ≡ console.entry.ghost_name }
         ensures state { ⟦<PlanSource<'a, C, T, O> as Source>⟧.state result
-            ≡ source_state length (T.statuses tiles) console.entry.ghost_name [] [] true 0 0 0 }
+            ≡ plan_source_state length (T.statuses tiles) console.entry.ghost_name [] [] true 0 0 0 }
     {
         PlanSource {
             length,
@@ -181,9 +169,9 @@ impl<'a, C: Console, T: Tiles, O: Origin> PlanSource<'a, C, T, O> {
 
 impl<C: Console, T: Tiles, O: Origin> Source for PlanSource<'_, C, T, O> {
     ghost use Rattle.std.specs.Prelude.{◌&&◌};
-    ghost use Rattle.plan_source.specs.Answering.{source_state};
+    ghost use Rattle.plan_source.specs.Answering.{plan_source_state};
 
-    ghost state = { λ s. source_state s.length (T.statuses s.tiles) s.console.ghost_name s.entries.items s.name.items
+    ghost state = { λ s. plan_source_state s.length (T.statuses s.tiles) s.console.ghost_name s.entries.items s.name.items
         (s.opened && s.idle) s.opens s.faults s.losses };
 
     /// Every name opens. It faults for want of memory alone, since the name is kept.

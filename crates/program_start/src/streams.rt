@@ -13,7 +13,7 @@ const NOWHERE: &str = "/dev/null";
 
 /// What a standard stream is taken for that was closed when the program began.
 #[derive(Clone, Copy, Debug, PartialEq, Eq)]
-pub enum Closed {
+pub enum ClosedStream {
     /// It leads nowhere: nothing comes in, and what is put is dropped.
     Silent,
     /// Each take and each put fails.
@@ -34,7 +34,7 @@ fn open_stream(rt: &HostRuntime, reads: bool, writes: bool) -> io::Result<File> 
 /// # Errors
 ///
 /// Where `/dev/null` can't be opened.
-pub fn fill_streams(rt: &HostRuntime, closed: Closed) -> io::Result<()> {
+pub fn fill_streams(rt: &HostRuntime, closed: ClosedStream) -> io::Result<()> {
     for _ in 0..STREAMS {
         let null = open_stream(rt, true, true)?;
         let number = null.as_raw_fd();
@@ -42,10 +42,10 @@ pub fn fill_streams(rt: &HostRuntime, closed: Closed) -> io::Result<()> {
             break;
         }
         match closed {
-            Closed::Silent => {
+            ClosedStream::Silent => {
                 let _ = null.into_raw_fd();
             }
-            Closed::Faulty => {
+            ClosedStream::Faulty => {
                 drop(null);
                 let stream = open_stream(rt, number != INPUT, number == INPUT)?;
                 let _ = stream.into_raw_fd();

@@ -2,6 +2,6 @@
 //! reaches.
 #![tactic(auto)]
 
+pub mod file_cursor;
 pub mod identity;
 pub mod outcome;
-pub mod place;

@@ -149,11 +149,11 @@ options_by words items (Ok o) os t e =
       made = made_of words items o o.sample os t refl named;
     }
 
-some_sectors : (o : Options) (n : Option ℕ) → IfSome n (λ k. 0 < k) → 0 < sectors_of o n
+pub some_sectors : (o : Options) (n : Option ℕ) → IfSome n (λ k. 0 < k) → 0 < sectors_of o n
 some_sectors o None h = omega arith
 some_sectors o (Some k) h = h
 
-not_above : (m n : ℕ) → nat_lt m n ≡ false → n ≤ m
+pub not_above : (m n : ℕ) → nat_lt m n ≡ false → n ≤ m
 not_above m n e = grind (arith, nat_tests)
 
 in_limits : (o : Options) → AreInRange o.sector o → is_too_large o ≡ false → AreInLimits o

@@ -42,7 +42,7 @@ pub record Keeps (sector : ℕ) (o : Options) (quiet : Bool) (o' : Options) : Ty
   pub quiet_is : o'.quiet ≡ (o.quiet || quiet)
 
 -- what a value that was read is
-within_count : (m : Option ℕ) (n : ℕ) → option_and_then (within_range 1 65536) m ≡ Some n → 0 < n
+pub within_count : (m : Option ℕ) (n : ℕ) → option_and_then (within_range 1 65536) m ≡ Some n → 0 < n
 within_count m n e = let p = in_range 1 65536 m n e in omega arith
 
 module _ (sector : ℕ) (o : Options) (h : AreInRange sector o) where
@@ -348,7 +348,7 @@ items_keep sector words (i ∷ is) o o' e =
           ∙ or_assoc o.quiet (is_of option_meanings quiet_letter i) given;
     }
 
-default_fits : (n : ℕ) → IsSector n → (2 ^ 30 + (n - 1)) / n * n < 2 ^ 63
+pub default_fits : (n : ℕ) → IsSector n → (2 ^ 30 + (n - 1)) / n * n < 2 ^ 63
 default_fits n h = omega (arith, div-add-mod' (2 ^ 30 + (n - 1)) n, h.high)
 
 none_in_range : (n : ℕ) → IsSector n → AreInRange n (no_options n)

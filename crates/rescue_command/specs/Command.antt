@@ -4,7 +4,7 @@ use Rattle.block_list.specs.declared.types.TypeSet.{TypeSet}
 use Rattle.option_words.specs.Words.{word}
 use Rattle.option_words.specs.declared.row.Row.{Row}
 use Rattle.option_words.specs.declared.reading.Item.{Item}
-use Rattle.option_words.specs.declared.reading.Reading.{Reading}
+use Rattle.option_words.specs.declared.reading.WordReading.{WordReading}
 use Rattle.option_words.specs.declared.fault.UsageFault.{UsageFault}
 use Rattle.option_words.specs.declared.fault.UsageFault.TheVariants.{BadValue, Conflict, Operands}
 use Rattle.option_values.specs.declared.command_error.CommandError.{CommandError}
@@ -199,7 +199,7 @@ abbrev pub task_in : List (List ℕ) → List Item → (operands : List ℕ) →
 task_in words items operands = task_from words items (options_in words items) operands
 
 -- the same of a reading that the code has
-abbrev pub task_read : List (List ℕ) → Reading → Result Task UsageFault
+abbrev pub task_read : List (List ℕ) → WordReading → Result Task UsageFault
 task_read words r = task_in words r.items.items r.operands.items
 
 -- the grammar of a rescue

@@ -16,7 +16,7 @@ use option_values::operands::find_empty;
 use option_values::settings::{read_sector_in, read_settings};
 use option_words::fault::UsageFault;
 use option_words::reader::read_words;
-use option_words::reading::{Item, Reading};
+use option_words::reading::{Item, WordReading};
 use option_words::table::OptionTable;
 use option_words::words::Words;
 use std::alloc::Global;
@@ -85,7 +85,7 @@ fn read_options(table: &OptionTable, words: &Words, items: &[Item]) -> Result<Op
 fn name_files<'a>(
     table: &OptionTable,
     words: &'a Words,
-    reading: &Reading,
+    reading: &WordReading,
     options: Options,
 ) -> Result<Command<'a>, UsageFault>
     requires table { AreOptions table.now }
@@ -233,7 +233,7 @@ fn mode_task(command: Command<'_>) -> Task<'_>
 fn name_task<'a>(
     table: &OptionTable,
     words: &'a Words,
-    reading: &Reading,
+    reading: &WordReading,
     options: Options,
 ) -> Result<Task<'a>, UsageFault>
     requires table { AreOptions table.now }
@@ -254,7 +254,7 @@ fn name_task<'a>(
 fn task_of<'a>(
     table: &OptionTable,
     words: &'a Words,
-    reading: &Reading,
+    reading: &WordReading,
 ) -> Result<Task<'a>, UsageFault>
     requires table { AreOptions table.now }
     requires spots { All (HasSpot words.now) reading.now.items.items }

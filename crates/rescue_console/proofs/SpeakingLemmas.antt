@@ -4,13 +4,13 @@ use Rattle.std.proofs.lemmas.List.{append-nil}
 use Rattle.rescue_console.specs.declared.console.Channel.{Channel}
 use Rattle.rescue_console.specs.declared.console.Channel.TheVariants.{Out, Err}
 use Rattle.rescue_console.specs.ConsoleState.{ConsoleState, channel_of, Puts}
-use Rattle.rescue_console.specs.Speaking.{Piece, PutsBroken, SpeaksOn, SpeechesJoin, HeardSpeak, OnePieceIsSaid, SpokenIsPut, text_on, texts_on}
+use Rattle.rescue_console.specs.Speaking.{SpokenPiece, PutsBroken, SpeaksOn, SpeechesJoin, HeardSpeak, OnePieceIsSaid, SpokenIsPut, text_on, texts_on}
 
-unheard : (qs : List Piece) (h' : Bool) (a b : ConsoleState) → SpeaksOn qs false h' a b → (h' ≡ false) × (b ≡ a)
+unheard : (qs : List SpokenPiece) (h' : Bool) (a b : ConsoleState) → SpeaksOn qs false h' a b → (h' ≡ false) × (b ≡ a)
 unheard [] h' a b is = is
 unheard (q ∷ qs) h' a b is = is
 
-unheard_behind : (qs : List Piece) (h' h'' : Bool) (b c : ConsoleState) → h' ≡ false → SpeaksOn qs h' h'' b c
+unheard_behind : (qs : List SpokenPiece) (h' h'' : Bool) (b c : ConsoleState) → h' ≡ false → SpeaksOn qs h' h'' b c
     → (h'' ≡ false) × (c ≡ b)
 unheard_behind qs h' h'' b c f is = unheard qs h'' b c (subst (λ (h : Bool). SpeaksOn qs h h'' b c) f is)
 

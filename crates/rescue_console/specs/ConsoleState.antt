@@ -1,7 +1,7 @@
 -- What a console tells of itself, and what a put does to that.
 use Rattle.std.specs.Prelude.{◌≡◌, ◌⊎◌, ℕ, ◌≤◌, Bool, IsTrue, List, ◌++◌, Result, OnOk, OnErr, IsErr}
 use Rattle.fault_count.specs.Counts.{Rose, raised}
-use Rattle.fault_count.specs.Plan.{Plan, counted, FailsNext}
+use Rattle.fault_count.specs.Plan.{Plan, with_call, FailsNext}
 use Rattle.rescue_console.specs.declared.console.Channel.{Channel}
 use Rattle.rescue_console.specs.declared.console.Channel.TheVariants.{Out, Err}
 
@@ -64,7 +64,7 @@ pub record PutsPart (channel : Channel) (text : List ℕ) (old new : ConsoleStat
 -- one that fails nothing is put
 pub record PlansPut {T E : Type 0} (channel : Channel) (result : Result T E)
     (old new : ConsoleState) : Type 0 where
-  pub plan : new.plan ≡ counted old.plan
+  pub plan : new.plan ≡ with_call old.plan
   pub fails : FailsNext old.plan → IsErr result
   pub why : OnErr result ((FailsNext old.plan × (new.starved ≡ old.starved)) ⊎ (new.starved ≡ raised old.starved))
   pub unput : OnErr result ((channel_of channel new).text ≡ (channel_of channel old).text)

@@ -1,7 +1,7 @@
 -- What a feed tells of itself, and what a take does to that.
 use Rattle.std.specs.Prelude.{◌≡◌, ◌↔◌, ℕ, ◌≤◌, min, Bool, IsTrue, List, [], ◌++◌, length, take, Result, IfOk, OnOk, OnErr, IsErr}
 use Rattle.fault_count.specs.Counts.{Rose}
-use Rattle.fault_count.specs.Plan.{Plan, counted, FailsNext}
+use Rattle.fault_count.specs.Plan.{Plan, with_call, FailsNext}
 
 -- whether a feed tells its bytes, and those that weren't taken yet; how often a take failed; and whether it fails by a
 -- plan, and this
@@ -21,7 +21,7 @@ pub record Keeps (old new : FeedState) : Type 0 where
 -- by its plan a take fails exactly where its number is one of those that fail; else it takes as many bytes as there are
 -- and as the buffer holds
 pub record PlansTake {E : Type 0} (room : ℕ) (result : Result ℕ E) (old new : FeedState) : Type 0 where
-  pub plan : new.plan ≡ counted old.plan
+  pub plan : new.plan ≡ with_call old.plan
   pub fails : IsErr result ↔ FailsNext old.plan
   pub takes : IfOk result (λ n. n ≡ min room (length old.left))
 

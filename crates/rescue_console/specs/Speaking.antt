@@ -1,38 +1,38 @@
 -- What is said on a console, piece by piece, up to the first put that fails.
 use Rattle.std.specs.Prelude.{◌≡◌, ◌⊎◌, ℕ, Bool, true, false, IsTrue, List, [], ◌∷◌, ◌++◌, map}
-use Rattle.fault_count.specs.Plan.{counted}
+use Rattle.fault_count.specs.Plan.{with_call}
 use Rattle.rescue_console.specs.declared.console.Channel.{Channel}
 use Rattle.rescue_console.specs.declared.console.Channel.TheVariants.{Out, Err}
 use Rattle.rescue_console.specs.ConsoleState.{ConsoleState, channel_of, Puts, PutsPart}
 
 -- a text for a channel
-pub record Piece : Type 0 where
+pub record SpokenPiece : Type 0 where
   pub channel : Channel
   pub text : List ℕ
 
 -- texts for standard output
-abbrev pub out_pieces : List (List ℕ) → List Piece
+abbrev pub out_pieces : List (List ℕ) → List SpokenPiece
 out_pieces texts = map (λ t. record { channel = Out; text = t }) texts
 
 -- a piece was put whole, by one put
-pub record PutsWhole (p : Piece) (old new : ConsoleState) : Type 0 where
+pub record PutsWhole (p : SpokenPiece) (old new : ConsoleState) : Type 0 where
   pub puts : Puts p.channel p.text old new
-  pub one : IsTrue old.is_planned → new.plan ≡ counted old.plan
+  pub one : IsTrue old.is_planned → new.plan ≡ with_call old.plan
 
 -- a beginning of a piece was put, by one put that failed
-pub record PutsBroken (p : Piece) (old new : ConsoleState) : Type 0 where
+pub record PutsBroken (p : SpokenPiece) (old new : ConsoleState) : Type 0 where
   pub puts : PutsPart p.channel p.text old new
-  pub one : IsTrue old.is_planned → new.plan ≡ counted old.plan
+  pub one : IsTrue old.is_planned → new.plan ≡ with_call old.plan
 
 -- Pieces are put in order, each by one put. One that fails is the last: behind it nothing is put, on neither channel.
-abbrev pub Speaks : List Piece → (old new : ConsoleState) → Type 0
+abbrev pub Speaks : List SpokenPiece → (old new : ConsoleState) → Type 0
 Speaks [] old new = new ≡ old
 Speaks (p ∷ ps) old new =
     ((between : ConsoleState) × PutsWhole p old between × Speaks ps between new) ⊎ PutsBroken p old new
 
 -- The same of one who has been heard so far, or not: who isn't heard says nothing; who is heard stays so while each put
 -- succeeds.
-abbrev pub SpeaksOn : List Piece → (heard heard' : Bool) → (old new : ConsoleState) → Type 0
+abbrev pub SpeaksOn : List SpokenPiece → (heard heard' : Bool) → (old new : ConsoleState) → Type 0
 SpeaksOn ps false heard' old new = (heard' ≡ false) × (new ≡ old)
 SpeaksOn [] true heard' old new = (heard' ≡ true) × (new ≡ old)
 SpeaksOn (p ∷ ps) true heard' old new =
@@ -47,24 +47,24 @@ text_on Err Out text = []
 text_on Err Err text = text
 
 -- the texts of pieces on a channel, joined
-abbrev pub texts_on : Channel → List Piece → List ℕ
+abbrev pub texts_on : Channel → List SpokenPiece → List ℕ
 texts_on channel [] = []
 texts_on channel (p ∷ ps) = text_on channel p.channel p.text ++ texts_on channel ps
 
 -- What is said in two parts, one behind the other, is said together.
 abbrev pub SpeechesJoin : Type 0
-SpeechesJoin = (ps qs : List Piece) (h h' h'' : Bool) (a b c : ConsoleState) → SpeaksOn ps h h' a b
+SpeechesJoin = (ps qs : List SpokenPiece) (h h' h'' : Bool) (a b c : ConsoleState) → SpeaksOn ps h h' a b
     → SpeaksOn qs h' h'' b c → SpeaksOn (ps ++ qs) h h'' a c
 
 -- Who is heard at first speaks.
 abbrev pub HeardSpeak : Type 0
-HeardSpeak = (ps : List Piece) (h' : Bool) (a b : ConsoleState) → SpeaksOn ps true h' a b → Speaks ps a b
+HeardSpeak = (ps : List SpokenPiece) (h' : Bool) (a b : ConsoleState) → SpeaksOn ps true h' a b → Speaks ps a b
 
 -- One piece is said by one put.
 abbrev pub OnePieceIsSaid : Type 0
-OnePieceIsSaid = (p : Piece) (a b : ConsoleState) → PutsWhole p a b → SpeaksOn (p ∷ []) true true a b
+OnePieceIsSaid = (p : SpokenPiece) (a b : ConsoleState) → PutsWhole p a b → SpeaksOn (p ∷ []) true true a b
 
 -- Who is heard at last has put all of it: behind what stood on a channel stand the texts for it.
 abbrev pub SpokenIsPut : Type 0
-SpokenIsPut = (ps : List Piece) (a b : ConsoleState) → SpeaksOn ps true true a b → IsTrue a.tells
+SpokenIsPut = (ps : List SpokenPiece) (a b : ConsoleState) → SpeaksOn ps true true a b → IsTrue a.tells
     → (channel : Channel) → (channel_of channel b).text ≡ (channel_of channel a).text ++ texts_on channel ps

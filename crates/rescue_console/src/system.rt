@@ -10,14 +10,14 @@ use crate::clock::Clock;
 use crate::console::{Channel, Console, ConsoleFault};
 use crate::feed::{Feed, FeedFault};
 use fault_count::FaultCount;
-use real_files::place;
+use real_files::file_cursor;
 use std::io::{self, ErrorKind, Read, Stderr, Stdin, Stdout, Write};
 use std::time::{Clock as SystemClocks, Duration, SystemTime, UNIX_EPOCH};
 
 /// Where a clock began: the time of day then, in milliseconds since 1970, and what the clock that isn't set back read, in
 /// whole milliseconds.
 #[derive(Clone, Copy)]
-struct Start {
+struct ClockStart {
     time: u64,
     at: u64,
 }
@@ -28,7 +28,7 @@ struct Start {
 #[derive(Drop)]
 pub struct SystemClock {
     rt: HostRuntime,
-    start: Option<Start>,
+    start: Option<ClockStart>,
     last: u64,
     /// The last reading stands until the clock that isn't set back comes to this, the end of its millisecond.
     until: Duration,
@@ -106,7 +106,7 @@ fn milliseconds(time: SystemTime) -> u64
 }
 
 /// Where a clock begins that reads this time of day as the other clock reads `at`. A time before 1970 is invalid data.
-fn start_of(day: io::Result<SystemTime>, at: u64) -> Option<Start>
+fn start_of(day: io::Result<SystemTime>, at: u64) -> Option<ClockStart>
     ensures read { IfOk day (λ time. result
         ≡ Some (record { time = min (system_time_nanos time / 1_000_000) (2 ^ 64 - 1); at = at })) }
     ensures early { IfErr day (λ e. error_kind e ≡ ErrorKind.InvalidData
@@ -118,12 +118,12 @@ fn start_of(day: io::Result<SystemTime>, at: u64) -> Option<Start>
         Err(error) if error.kind() == ErrorKind::InvalidData => 0,
         Err(_) => return None,
     };
-    Some(Start { time, at })
+    Some(ClockStart { time, at })
 }
 
 /// What a clock that began there reads as the other clock reads `now`, but not below the last reading. All in
 /// milliseconds.
-fn reading_at(start: Start, now: u64, last: u64) -> u64
+fn reading_at(start: ClockStart, now: u64, last: u64) -> u64
     ensures { result ≡ max last
         (min (start.time + (now - start.at)) (2 ^ 64 - 1)) }
 {
@@ -178,7 +178,7 @@ impl<W: Write> Stream<W> {
         ensures whole { OnOk result (Appends (W.contents self.old.to) (W.contents self.new.to) piece.now) }
         ensures cause { HasCause self.old.faults self.new.faults result }
     {
-        if place::put(&mut self.to, piece).is_err() {
+        if file_cursor::put(&mut self.to, piece).is_err() {
             self.faults.raise();
             return Err(ConsoleFault);
         }

@@ -4,7 +4,7 @@ use Rattle.std.specs.List.{slice_get}
 use Rattle.std.proofs.Math.Bool.{and-true}
 use Rattle.std.proofs.Math.Path.{fun_ext}
 use Rattle.std.proofs.lemmas.Bool.{cond-true, not-true, eq-eqb}
-use Rattle.block_list.specs.declared.block.Run.{Run}
+use Rattle.block_list.specs.declared.block.Range.{Range}
 use Rattle.block_list.specs.declared.status.Status.{Status}
 use Rattle.mapfile_text.specs.declared.state.MapState.{MapState}
 use Rattle.faulty_source.specs.Ends.{is_before}
@@ -19,13 +19,13 @@ use Rattle.rescue_rules.specs.Machine.{Machine, start_of, is_live}
 use Rattle.rescue_rules.specs.Beginning.{first_pass, first_cursor}
 use Rattle.rescue_domain.specs.Parts.{covers}
 use Rattle.rescue_core.specs.declared.settings.Settings.{Settings}
-use Rattle.rescue_core.specs.declared.state.Place.{Place}
+use Rattle.rescue_core.specs.declared.state.Progress.{Progress}
 use Rattle.rescue_core.specs.declared.state.Tally.{Tally}
 use Rattle.rescue_rules.specs.declared.report.Counts.{Counts}
 use Rattle.rescue_rules.specs.Counts.{counts_of}
 use Rattle.rescue_rules.proofs.FitLemmas.{first_few, first_there, start_there}
 use Rattle.rescue_rules.proofs.ReadyLemmas.{order_lead}
-use Rattle.rescue_core.specs.RunState.{RunState, setting_with, setting_in, IsSound, Suits, run_at, IsRunning, Counted, passed}
+use Rattle.rescue_core.specs.RunState.{RunState, setting_with, setting_in, IsSound, Suits, run_at, IsRunning, HasCounts, passed}
 use Rattle.rescue_core.proofs.RequestLemmas.{start_up}
 use Rattle.rescue_core.proofs.PassLemmas.{next_passes, IsOn, next_on, copying_leads}
 
@@ -70,22 +70,22 @@ at_pass r phase pass passes cursor mode skip = record r {
   machine = record r.machine { passes = passes; cursor = cursor; mode = mode; skip = skip };
 }
 
-pub passed_is : (settings : Settings) (domain : List Run) (names : Option MapNames) (line : List ℕ) (map : List Status) (phase : Phase)
-    (place : Place) (tally : Tally) (heard : Bool) (phase' : Phase) (pass : ℕ) (place' : Place)
-    → slice_get (passes_from (setting_with settings domain names line) phase place.pass) 1 ≡ Some (numbered phase' pass)
-    → place'.pass ≡ pass → place'.cursor ≡ start_of (setting_with settings domain names line) (numbered phase' pass) map
-    → place'.mode ≡ Lead → place'.skip ≡ settings.skip
-    → run_at settings domain names line map phase' place' tally heard
-    ≡ passed (run_at settings domain names line map phase place tally heard) phase' pass
-passed_is settings domain names line map phase place tally heard phase' pass place' next is begins lead skip =
+pub passed_is : (settings : Settings) (domain : List Range) (names : Option MapNames) (line : List ℕ) (map : List Status) (phase : Phase)
+    (progress : Progress) (tally : Tally) (heard : Bool) (phase' : Phase) (pass : ℕ) (progress' : Progress)
+    → slice_get (passes_from (setting_with settings domain names line) phase progress.pass) 1 ≡ Some (numbered phase' pass)
+    → progress'.pass ≡ pass → progress'.cursor ≡ start_of (setting_with settings domain names line) (numbered phase' pass) map
+    → progress'.mode ≡ Lead → progress'.skip ≡ settings.skip
+    → run_at settings domain names line map phase' progress' tally heard
+    ≡ passed (run_at settings domain names line map phase progress tally heard) phase' pass
+passed_is settings domain names line map phase progress tally heard phase' pass progress' next is begins lead skip =
     let s : Setting = setting_with settings domain names line in
-    let r : RunState = run_at settings domain names line map phase place tally heard in
-    ap (λ (n : ℕ). at_pass r phase' n (passes_from s phase' n) place'.cursor place'.mode place'.skip) is
-    ∙ ap (λ (ps : List Pass). at_pass r phase' pass ps place'.cursor place'.mode place'.skip)
-    (next_passes s phase place.pass (numbered phase' pass) next)
-    ∙ ap (λ (n : ℕ). at_pass r phase' pass (numbered phase' pass ∷ drop 2 r.machine.passes) n place'.mode place'.skip) begins
+    let r : RunState = run_at settings domain names line map phase progress tally heard in
+    ap (λ (n : ℕ). at_pass r phase' n (passes_from s phase' n) progress'.cursor progress'.mode progress'.skip) is
+    ∙ ap (λ (ps : List Pass). at_pass r phase' pass ps progress'.cursor progress'.mode progress'.skip)
+    (next_passes s phase progress.pass (numbered phase' pass) next)
+    ∙ ap (λ (n : ℕ). at_pass r phase' pass (numbered phase' pass ∷ drop 2 r.machine.passes) n progress'.mode progress'.skip) begins
     ∙ ap (λ (mode : TrimMode). at_pass r phase' pass (numbered phase' pass ∷ drop 2 r.machine.passes)
-    (start_of s (numbered phase' pass) map) mode place'.skip) lead
+    (start_of s (numbered phase' pass) map) mode progress'.skip) lead
     ∙ ap (λ (n : ℕ). at_pass r phase' pass (numbered phase' pass ∷ drop 2 r.machine.passes)
     (start_of s (numbered phase' pass) map) Lead n) skip
 
@@ -105,15 +105,15 @@ first_last s loaded state map pass cursor is least last begins =
     (eq-eqb (min state.pass 5) 5 (sym least ∙ last)))
     ∙ ap (λ (o : Option MapState). first_cursor s o map) (sym is)
 
-pub running_started : (settings : Settings) (domain : List Run) (names : Option MapNames) (line : List ℕ) (map : List Status)
-    (loaded : Option MapState) (place : Place) (tally : Tally) (heard : Bool) (room : ℕ) → IsSound settings
-    → Suits settings (covers domain) (length map) → length map < 2 ^ 63 → place.pass ≡ first_pass loaded
-    → place.cursor ≡ first_cursor (setting_with settings domain names line) loaded map → place.mode ≡ Lead
-    → place.skip ≡ settings.skip → room ≡ settings.cluster
-    → IsRunning (run_at settings domain names line map Copying place tally heard) room
-running_started settings domain names line map loaded place tally heard room sound suits short pass cursor lead skip size =
+pub running_started : (settings : Settings) (domain : List Range) (names : Option MapNames) (line : List ℕ) (map : List Status)
+    (loaded : Option MapState) (progress : Progress) (tally : Tally) (heard : Bool) (room : ℕ) → IsSound settings
+    → Suits settings (covers domain) (length map) → length map < 2 ^ 63 → progress.pass ≡ first_pass loaded
+    → progress.cursor ≡ first_cursor (setting_with settings domain names line) loaded map → progress.mode ≡ Lead
+    → progress.skip ≡ settings.skip → room ≡ settings.cluster
+    → IsRunning (run_at settings domain names line map Copying progress tally heard) room
+running_started settings domain names line map loaded progress tally heard room sound suits short pass cursor lead skip size =
     let s : Setting = setting_with settings domain names line in
-    let m : Machine = (run_at settings domain names line map Copying place tally heard).machine in
+    let m : Machine = (run_at settings domain names line map Copying progress tally heard).machine in
     record {
       sound = sound;
       suits = suits;
@@ -121,7 +121,7 @@ running_started settings domain names line map loaded place tally heard room sou
       cursor = omega (arith, cursor, first_there s loaded map);
       skip = omega (arith, skip, sound.skip);
       order = order_lead s m lead;
-      pass = copying_leads s place.pass (omega (arith, pass, first_few loaded));
+      pass = copying_leads s progress.pass (omega (arith, pass, first_few loaded));
       trims = λ is. absurd (cc);
       scrapes = λ is. absurd (cc);
       led = λ is. absurd (cc);
@@ -132,11 +132,11 @@ running_started settings domain names line map loaded place tally heard room sou
 all_live : (s : Setting) (m : Machine) → m.over ≡ None → is_live s m ≡ s.domain
 all_live s m none = fun_ext (λ x. ap (λ (o : Option ℕ). s.domain x && is_before o x) none ∙ and-true (s.domain x))
 
-pub counted_started : (settings : Settings) (domain : List Run) (names : Option MapNames) (line : List ℕ) (map : List Status)
-    (place : Place) (tally : Tally) (heard : Bool) (counts : Counts) → tally.over ≡ None
+pub counted_started : (settings : Settings) (domain : List Range) (names : Option MapNames) (line : List ℕ) (map : List Status)
+    (progress : Progress) (tally : Tally) (heard : Bool) (counts : Counts) → tally.over ≡ None
     → counts ≡ counts_of (covers domain) map
-    → Counted (run_at settings domain names line map Copying place tally heard) counts
-counted_started settings domain names line map place tally heard counts none is =
-    let r : RunState = run_at settings domain names line map Copying place tally heard in record {
+    → HasCounts (run_at settings domain names line map Copying progress tally heard) counts
+counted_started settings domain names line map progress tally heard counts none is =
+    let r : RunState = run_at settings domain names line map Copying progress tally heard in record {
       counts_are = is ∙ ap (λ (set : ℕ → Bool). counts_of set map) (sym (all_live (setting_in r) r.machine none));
     }

@@ -22,7 +22,7 @@ use Rattle.rescue_rules.proofs.StatusLemmas.{wanted_taken}
 use Rattle.rescue_rules.proofs.StepLemmas.{asks_back, tail_trims, trims_is}
 
 -- A position that was asked for is finished, or was missed by a read that failed, or stands and isn't left of the domain
--- any more. One that wasn't asked for lies between the front and the back of a run that is trimmed, and is left for
+-- any more. One that wasn't asked for lies between the front and the back of a range that is trimmed, and is left for
 -- scraping, or it stands.
 pub data Change (s : Setting) (m : Machine) (r : Reading) (map : List Status) (x : ℕ) : Type 0 where
   Kept : AsksFor r x → Has map Finished x → Change s m r map x
@@ -33,7 +33,7 @@ pub data Change (s : Setting) (m : Machine) (r : Reading) (map : List Status) (x
       → Change s m r map x
   Stands : (AsksFor r x → ⊥) → slice_get map x ≡ slice_get m.map x → Change s m r map x
 
--- what is marked for scraping at a run's back lies before the read,
+-- what is marked for scraping at a range's back lies before the read,
 pub scraped_behind : (mode : TrimMode) (p : ℕ) (map : List Status) (x : ℕ) → p ≤ length map
     → ((low : ℕ) → mode ≡ Tail low → low ≤ p) → p ≤ x → slice_get (scraped mode p map) x ≡ slice_get map x
 scraped_behind Lead p map x there back from = refl
@@ -41,7 +41,7 @@ scraped_behind (Tail low) p map x there back from =
     let le : low ≤ p = back low refl in
     marked_outside map low (p - low) NonScraped x (omega arith) (inr (omega arith))
 
--- and not before the run's beginning
+-- and not before the range's beginning
 scraped_before : (mode : TrimMode) (p : ℕ) (map : List Status) (x : ℕ) → p ≤ length map
     → ((low : ℕ) → mode ≡ Tail low → low ≤ p) → x < p → (slice_get (scraped mode p map) x ≡ slice_get map x)
     ⊎ ((low : ℕ) × (mode ≡ Tail low) × (low ≤ x) × Has (scraped mode p map) NonScraped x)
@@ -58,7 +58,7 @@ scraped_before (Tail low) p map x there back to =
     ))
     (cases_lt x low)
 
--- what was asked for, and what lies before it as far as the beginning of a run that is trimmed
+-- what was asked for, and what lies before it as far as the beginning of a range that is trimmed
 record Asked (s : Setting) (m : Machine) (r : Reading) : Type 0 where
   there : r.pos + r.asked ≤ length m.map
   few : kept s.sector r ≤ r.asked
@@ -189,7 +189,7 @@ changes s m e x ok order request by =
     (cases_lt x r.pos))
     (λ good. change_good s m r x a good)
 
--- behind a failed read at a run's back all that lies between its front and its back is for scraping
+-- behind a failed read at a range's back all that lies between its front and its back is for scraping
 pub change_between : (s : Setting) (m : Machine) (e : Event) (low x : ℕ) → IsSensible s → IsInOrder s m
     → IsRequest s m e.reading.pos (e.reading.pos + e.reading.asked) → StepsBy s m e → is_failed e.reading ≡ true
     → m.mode ≡ Tail low → low ≤ x → x < e.reading.pos → Has (step s m e).map NonScraped x

@@ -5,7 +5,7 @@ use Rattle.std.proofs.Math.Path.{fun_ext}
 use Rattle.std.proofs.lemmas.Bool.{cases_lt, cases_Bool, and_right, cond-true, cond-false}
 use Rattle.std.proofs.lemmas.Option.{same_Some, slice_get_past}
 use Rattle.block_list.specs.declared.areas.Count.{Count}
-use Rattle.block_list.specs.declared.block.Run.{Run}
+use Rattle.block_list.specs.declared.block.Range.{Range}
 use Rattle.block_list.specs.declared.status.Status.{Status}
 use Rattle.block_list.specs.declared.status.Status.TheVariants.{NonTried, NonTrimmed, NonScraped, BadSector, Finished}
 use Rattle.block_list.specs.Status.{same}
@@ -30,7 +30,7 @@ use Rattle.rescue_rules.proofs.SetLemmas.{begins_is, begins_same, below_within, 
 use Rattle.rescue_rules.proofs.StepLemmas.{move_steps}
 use Rattle.rescue_core.specs.declared.turn.Turn.{Turn}
 use Rattle.rescue_core.specs.Counting.{IsMarkedRead, failed_in, finished_in, counts_within}
-use Rattle.rescue_core.specs.RunState.{RunState, setting_in, Counted}
+use Rattle.rescue_core.specs.RunState.{RunState, setting_in, HasCounts}
 use Rattle.rescue_core.specs.Turning.{stepped}
 use Rattle.rescue_core.specs.TurnParts.{end_met}
 use Rattle.rescue_core.proofs.StageLemmas.{running_sensible}
@@ -144,7 +144,7 @@ reads_of r e phase request turn live map is =
     let at_domain : MarksCount s m e.reading (passing has_failed (λ x. covers live.domain.now x && is_before m.over x) map) old
     (counts_of (is_live s m) map)
     = subst
-    (λ (d : List Run). MarksCount s m e.reading (passing has_failed (λ x. covers d x && is_before m.over x) map) old
+    (λ (d : List Range). MarksCount s m e.reading (passing has_failed (λ x. covers d x && is_before m.over x) map) old
     (counts_of (is_live s m) map))
     (sym is.domain_is) at_map in
     record {
@@ -193,7 +193,7 @@ goes_at set p k q p' k' q' old old' new e f g h c =
 
 -- The counts behind the marks of a read, from those in front of it.
 pub marked_is : (r : RunState) (e : Event) (phase : Phase) (request : Request) (turn : Turn) (live : Live)
-    (map : List Status) (counts got : Counts) → Counted r counts → IsMarkedRead r e phase request turn live map
+    (map : List Status) (counts got : Counts) → HasCounts r counts → IsMarkedRead r e phase request turn live map
     → got.rescued ≡ min (counts.rescued + turn.kept) (2 ^ 64 - 1)
     → got.failed ≡ (counts_of (is_live (setting_in r) r.machine) map).failed
     → got ≡ counts_of (is_live (setting_in r) r.machine) map
@@ -230,7 +230,7 @@ met_at r end some =
 
 pub counted_on : (r : RunState) (e : Event) (heard : Bool) (phase : Phase) (request : Request) (turn : Turn) (live : Live)
     (map : List Status) (got : Counts) → IsMarkedRead r e phase request turn live map
-    → got ≡ counts_of (is_live (setting_in r) r.machine) map → None ≡ end_met e.reading → Counted (stepped r e heard) got
+    → got ≡ counts_of (is_live (setting_in r) r.machine) map → None ≡ end_met e.reading → HasCounts (stepped r e heard) got
 counted_on r e heard phase request turn live map got is marked none = record {
   counts_are = marked ∙ ap (λ (l : List Status). counts_of (is_live (setting_in r) r.machine) l) is.map_is
       ∙ sym (on_counts (setting_in r) r.machine e (no_end e.reading none));
@@ -258,7 +258,7 @@ ends_at r e phase request turn live map got end is marked some =
     (subst (λ (l : List Status). Ends (e.reading.pos + length e.reading.given) l (counts_of (is_live s m) l) (is_live s m))
     (sym is.map_is) counted) in
     let domain : Ends end map (counts_of (is_live s m) map) (λ x. covers live.domain.now x && is_before m.over x)
-    = subst (λ (d : List Run). Ends end map (counts_of (is_live s m) map) (λ x. covers d x && is_before m.over x))
+    = subst (λ (d : List Range). Ends end map (counts_of (is_live s m) map) (λ x. covers d x && is_before m.over x))
     (sym is.domain_is) at in
     subst (λ (c : Counts). Ends end map c (lives live)) (sym marked)
     (subst (λ (o : Option ℕ). Ends end map (counts_of (is_live s m) map) (λ x. covers live.domain.now x && is_before o x))

@@ -10,7 +10,7 @@ pub mod TurnEndLemmas
 mod BeginLemmas
 mod ClosingLemmas
 mod LineLemmas
-mod PlaceLemmas
+mod ProgressLemmas
 mod RequestLemmas
 mod RoomLemmas
 mod RunningLemmas

@@ -8,7 +8,7 @@ use Rattle.block_list.specs.declared.status.Status.{Status}
 use Rattle.block_list.specs.declared.status.Status.TheVariants.{NonTried, NonTrimmed, NonScraped, BadSector, Finished}
 use Rattle.block_list.specs.Status.{same}
 use Rattle.block_list.specs.Map.{Has, marked}
-use Rattle.block_list.specs.Places.{IsFirst, IsRunUp}
+use Rattle.block_list.specs.Places.{IsFirst, IsRangeUp}
 use Rattle.block_list.proofs.Places.{length-marked}
 use Rattle.block_list.proofs.StretchLemmas.{equal_from_same}
 use Rattle.rescue_rules.specs.Preparation.{if_asked, prepared_status, changed_from, IsChanged}
@@ -160,16 +160,16 @@ module _ (domain : ℕ → Bool) (from to : Status) (at : ℕ) (old mid : List S
         (cases_lt x at);
   }
 
-  module _ (start stop : ℕ) (first : IsFirst (IsMarked domain mid from) at start) (up : IsRunUp (IsMarked domain mid from) start stop) where
-    pub run_within : stop ≤ length mid
-    run_within =
+  module _ (start stop : ℕ) (first : IsFirst (IsMarked domain mid from) at start) (up : IsRangeUp (IsMarked domain mid from) start stop) where
+    pub range_within : stop ≤ length mid
+    range_within =
         let last = up.within (stop - 1) (omega (arith, up.begun)) (omega (arith, up.begun)) in
         omega (arith, slice_get_within mid (stop - 1) from last.has, up.begun)
 
     pub replaced_more : (new : List Status) → new ≡ marked mid start (stop - start) to
         → IsChanged (below domain stop) (replaced from to) old new
     replaced_more new is =
-        let there : start + (stop - start) ≤ length mid = omega (arith, run_within, up.begun) in
+        let there : start + (stop - start) ≤ length mid = omega (arith, range_within, up.begun) in
         let ends : start + (stop - start) ≡ stop = omega (arith, up.begun) in
         rw is (record {
           size = length-marked mid start (stop - start) to there ∙ i.size;

@@ -10,7 +10,7 @@ use Rattle.rescue_rules.specs.declared.stop.TrimMode.TheVariants.{Lead}
 use Rattle.rescue_rules.specs.Setting.{Setting}
 use Rattle.rescue_rules.specs.Passes.{Pass, is_up, numbered, passes_from}
 use Rattle.rescue_rules.specs.Machine.{Machine, Search, pass_of, start_of, search_in, search_of}
-use Rattle.rescue_core.specs.declared.state.Place.{Place}
+use Rattle.rescue_core.specs.declared.state.Progress.{Progress}
 use Rattle.rescue_core.specs.declared.state.Tally.{Tally}
 use Rattle.rescue_core.specs.RunState.{machine_at}
 use Rattle.rescue_core.specs.Requesting.{StandsAt}
@@ -29,12 +29,12 @@ leads_by s phase number [] are is =
     let some : passes_from s Copying 1 ≡ [] = ap (λ (p : Pass). passes_from s p.phase p.number) is ∙ sym are in absurd (cc)
 leads_by s phase number (p ∷ ps) are is = ap (λ (q : Pass). q ∷ ps) is
 
-pub stands : (s : Setting) (map : List Status) (phase : Phase) (place : Place) (tally : Tally)
-    → pass_of (machine_at s map phase place tally) ≡ numbered phase place.pass
-    → StandsAt (machine_at s map phase place tally) phase place map tally.over
-stands s map phase place tally pass =
+pub stands : (s : Setting) (map : List Status) (phase : Phase) (progress : Progress) (tally : Tally)
+    → pass_of (machine_at s map phase progress tally) ≡ numbered phase progress.pass
+    → StandsAt (machine_at s map phase progress tally) phase progress map tally.over
+stands s map phase progress tally pass =
     record {
-      passes = leads_by s phase place.pass (passes_from s phase place.pass) refl pass;
+      passes = leads_by s phase progress.pass (passes_from s phase progress.pass) refl pass;
       cursor = refl;
       mode = refl;
       map = refl;
@@ -42,43 +42,43 @@ stands s map phase place tally pass =
     }
 
 -- the pass of a machine that stands at a place
-pub pass_is : (m : Machine) (phase : Phase) (place : Place) (map : List Status) {over : Option ℕ}
-    → StandsAt m phase place map over
-    → pass_of m ≡ numbered phase place.pass
-pass_is m phase place map stands = ap (λ (ps : List Pass). slice_index_or ps 0 (numbered Copying 1)) stands.passes
+pub pass_is : (m : Machine) (phase : Phase) (progress : Progress) (map : List Status) {over : Option ℕ}
+    → StandsAt m phase progress map over
+    → pass_of m ≡ numbered phase progress.pass
+pass_is m phase progress map stands = ap (λ (ps : List Pass). slice_index_or ps 0 (numbered Copying 1)) stands.passes
 
--- its search: from its cursor, or before a run in trimming
+-- its search: from its cursor, or before a range in trimming
 abbrev from_cursor : Bool → (cursor size : ℕ) → Search
 from_cursor up cursor size = record { up = up; from = cursor; front = up; size = size }
 
 abbrev from_start : Bool → (start size : ℕ) → Search
 from_start up start size = record { up = up; from = start; front = true; size = size }
 
-search_is : (s : Setting) (m : Machine) (phase at : Phase) (place : Place) (map : List Status) {over : Option ℕ}
-    → StandsAt m phase place map over
-    → phase ≡ at → search_of s m ≡ search_in s m at place.mode
-search_is s m phase at place map stands is =
-    ap (λ (p : Pass). search_in s m p.phase m.mode) (pass_is m phase place map stands)
+search_is : (s : Setting) (m : Machine) (phase at : Phase) (progress : Progress) (map : List Status) {over : Option ℕ}
+    → StandsAt m phase progress map over
+    → phase ≡ at → search_of s m ≡ search_in s m at progress.mode
+search_is s m phase at progress map stands is =
+    ap (λ (p : Pass). search_in s m p.phase m.mode) (pass_is m phase progress map stands)
     ∙ ap (λ (mode : TrimMode). search_in s m phase mode) stands.mode
-    ∙ ap (λ (p : Phase). search_in s m p place.mode) is
+    ∙ ap (λ (p : Phase). search_in s m p progress.mode) is
 
-pub cursor_search : (s : Setting) (m : Machine) (phase at : Phase) (place : Place) (map : List Status) (most : ℕ) (up : Bool)
-    {over : Option ℕ} → StandsAt m phase place map over → phase ≡ at
-    → search_in s m at place.mode ≡ from_cursor (is_up s (pass_of m)) m.cursor most
-    → up ≡ is_up s (numbered phase place.pass) → from_cursor up place.cursor most ≡ search_of s m
-cursor_search s m phase at place map most up stands is found goes =
-    ap (λ (b : Bool). from_cursor b place.cursor most) (goes ∙ ap (is_up s) (sym (pass_is m phase place map stands)))
+pub cursor_search : (s : Setting) (m : Machine) (phase at : Phase) (progress : Progress) (map : List Status) (most : ℕ) (up : Bool)
+    {over : Option ℕ} → StandsAt m phase progress map over → phase ≡ at
+    → search_in s m at progress.mode ≡ from_cursor (is_up s (pass_of m)) m.cursor most
+    → up ≡ is_up s (numbered phase progress.pass) → from_cursor up progress.cursor most ≡ search_of s m
+cursor_search s m phase at progress map most up stands is found goes =
+    ap (λ (b : Bool). from_cursor b progress.cursor most) (goes ∙ ap (is_up s) (sym (pass_is m phase progress map stands)))
     ∙ ap (λ (x : ℕ). from_cursor (is_up s (pass_of m)) x most) (sym stands.cursor)
     ∙ sym found
-    ∙ sym (search_is s m phase at place map stands is)
+    ∙ sym (search_is s m phase at progress map stands is)
 
-pub lead_search : (s : Setting) (m : Machine) (phase : Phase) (place : Place) (map : List Status) (start : ℕ) (up : Bool)
-    {over : Option ℕ} → StandsAt m phase place map over → phase ≡ Trimming → place.mode ≡ Lead → up ≡ is_up s (numbered phase place.pass)
-    → start ≡ start_of s (numbered phase place.pass) map → from_start up start s.sector ≡ search_of s m
-lead_search s m phase place map start up stands is lead goes begins =
-    ap (λ (b : Bool). from_start b start s.sector) (goes ∙ ap (is_up s) (sym (pass_is m phase place map stands)))
+pub lead_search : (s : Setting) (m : Machine) (phase : Phase) (progress : Progress) (map : List Status) (start : ℕ) (up : Bool)
+    {over : Option ℕ} → StandsAt m phase progress map over → phase ≡ Trimming → progress.mode ≡ Lead → up ≡ is_up s (numbered phase progress.pass)
+    → start ≡ start_of s (numbered phase progress.pass) map → from_start up start s.sector ≡ search_of s m
+lead_search s m phase progress map start up stands is lead goes begins =
+    ap (λ (b : Bool). from_start b start s.sector) (goes ∙ ap (is_up s) (sym (pass_is m phase progress map stands)))
     ∙ ap (λ (x : ℕ). from_start (is_up s (pass_of m)) x s.sector)
-    (begins ∙ ap (λ (statuses : List Status). start_of s (numbered phase place.pass) statuses) (sym stands.map)
-    ∙ ap (λ (p : Pass). start_of s p m.map) (sym (pass_is m phase place map stands)))
+    (begins ∙ ap (λ (statuses : List Status). start_of s (numbered phase progress.pass) statuses) (sym stands.map)
+    ∙ ap (λ (p : Pass). start_of s p m.map) (sym (pass_is m phase progress map stands)))
     ∙ ap (λ (mode : TrimMode). search_in s m Trimming mode) (sym lead)
-    ∙ sym (search_is s m phase Trimming place map stands is)
+    ∙ sym (search_is s m phase Trimming progress map stands is)

@@ -1,4 +1,4 @@
--- How many runs a change has to make, and how much room they take.
+-- How many ranges a change has to make, and how much room they take.
 use Rattle.std.proofs.Common.{◌≡◌, ◌≢◌, ℕ, zero, suc, ◌+◌, ◌*◌, ◌≤◌, ◌<◌, Bool, true, false, if◌then◌else◌, List, length, Option, Some, None, Ok, refl, sym, ◌∙◌, ap, subst, arith, ⊎_elim}
 use Rattle.std.specs.List.{slice_get}
 use Rattle.std.specs.Option.{SomeIff, ok_or}
@@ -8,11 +8,11 @@ use Rattle.block_list.specs.declared.status.Status.{Status}
 use Rattle.block_list.specs.declared.status.Status.TheVariants.{NonTrimmed, NonScraped, BadSector}
 use Rattle.block_list.specs.Status.{same}
 use Rattle.block_list.specs.Map.{Has}
-use Rattle.block_list.specs.Places.{IsFirst, IsRunUp}
+use Rattle.block_list.specs.Places.{IsFirst, IsRangeUp}
 use Rattle.rescue_rules.specs.Preparation.{if_asked, prepared_status, IsChanged}
 use Rattle.rescue_core.specs.Search.{IsMarked}
 use Rattle.rescue_core.proofs.PrepareLemmas.{below, as_it_was}
-use Rattle.rescue_core.specs.Preparing.{replaced, HasRuns, HasChanges, TakesRoom}
+use Rattle.rescue_core.specs.Preparing.{replaced, HasRanges, HasChanges, TakesRoom}
 
 -- two properties that hold at the same positions
 module _ (P Q : ℕ → Type 0) where
@@ -24,46 +24,46 @@ module _ (P Q : ℕ → Type 0) where
     least = λ y le q. h.least y le (back y le q);
   }
 
-  pub run_alike : (from start end : ℕ) → from ≤ start → ((x : ℕ) → from ≤ x → P x → Q x)
-      → ((x : ℕ) → from ≤ x → Q x → P x) → IsRunUp P start end → IsRunUp Q start end
-  run_alike from start end le to back h = record {
+  pub range_alike : (from start end : ℕ) → from ≤ start → ((x : ℕ) → from ≤ x → P x → Q x)
+      → ((x : ℕ) → from ≤ x → Q x → P x) → IsRangeUp P start end → IsRangeUp Q start end
+  range_alike from start end le to back h = record {
     begun = h.begun;
     within = λ y a b. to y (omega (arith, le, a)) (h.within y a b);
     stops = λ q. h.stops (back end (omega (arith, le, h.begun)) q);
   }
 
-  pub runs_alike : (from count : ℕ) → ((x : ℕ) → from ≤ x → P x → Q x) → ((x : ℕ) → from ≤ x → Q x → P x)
-      → HasRuns P from count → HasRuns Q from count
-  runs_alike from zero to back h = λ x le q. h x le (back x le q)
-  runs_alike from (suc count) to back h = (
+  pub ranges_alike : (from count : ℕ) → ((x : ℕ) → from ≤ x → P x → Q x) → ((x : ℕ) → from ≤ x → Q x → P x)
+      → HasRanges P from count → HasRanges Q from count
+  ranges_alike from zero to back h = λ x le q. h x le (back x le q)
+  ranges_alike from (suc count) to back h = (
     h.0,
     h.1,
     first_alike from h.0 to back h.2,
-    run_alike from h.0 h.1 h.2.after to back h.3,
-    runs_alike h.1 count (λ x le p. to x (omega (arith, le, h.2.after, h.3.begun)) p)
+    range_alike from h.0 h.1 h.2.after to back h.3,
+    ranges_alike h.1 count (λ x le p. to x (omega (arith, le, h.2.after, h.3.begun)) p)
         (λ x le q. back x (omega (arith, le, h.2.after, h.3.begun)) q) h.4,
   )
 
--- a first run is the first of them all
-module _ (P : ℕ → Type 0) (from start end : ℕ) (first : IsFirst P from start) (run : IsRunUp P start end) where
+-- a first range is the first of them all
+module _ (P : ℕ → Type 0) (from start end : ℕ) (first : IsFirst P from start) (range : IsRangeUp P start end) where
   same_start : (start' : ℕ) → IsFirst P from start' → start' ≡ start
   same_start start' f =
       omega (arith, f.least start first.after first.holds, first.least start' f.after f.holds)
 
-  same_end : (start' end' : ℕ) → start' ≡ start → IsRunUp P start' end' → end' ≡ end
+  same_end : (start' end' : ℕ) → start' ≡ start → IsRangeUp P start' end' → end' ≡ end
   same_end start' end' is u = ⊎_elim
-      (λ (l : end' < end). absurd (u.stops (run.within end' (omega (arith, is, u.begun)) l)))
+      (λ (l : end' < end). absurd (u.stops (range.within end' (omega (arith, is, u.begun)) l)))
       (λ (le : end ≤ end'). ⊎_elim
-      (λ (l : end < end'). absurd (run.stops (u.within end (omega (arith, is, run.begun)) l)))
+      (λ (l : end < end'). absurd (range.stops (u.within end (omega (arith, is, range.begun)) l)))
       (λ (le' : end' ≤ end). omega (arith, le, le'))
       (cases_lt end end'))
       (cases_lt end' end)
 
-  pub runs_behind : (count : ℕ) → HasRuns P from count → (rest : ℕ) × (count ≡ suc rest) × HasRuns P end rest
-  runs_behind zero h = absurd (h start first.after first.holds)
-  runs_behind (suc count) h =
+  pub ranges_behind : (count : ℕ) → HasRanges P from count → (rest : ℕ) × (count ≡ suc rest) × HasRanges P end rest
+  ranges_behind zero h = absurd (h start first.after first.holds)
+  ranges_behind (suc count) h =
       let is : h.1 ≡ end = same_end h.0 h.1 (same_start h.0 h.2) h.3 in
-      (count, refl, subst (λ (e : ℕ). HasRuns P e count) is h.4)
+      (count, refl, subst (λ (e : ℕ). HasRanges P e count) is h.4)
 
 none_within : (map : List Status) (x : ℕ) (s : Status) → slice_get map x ≡ None → x < length map → ⊥
 none_within map x s none l =
@@ -90,10 +90,10 @@ module _ (domain : ℕ → Bool) (change : Status → Status) (status : Status) 
       ∙ same_Some (if_asked (domain x) change s) status (sym becomes ∙ m.has) in
       record { within = m.within; has = is ∙ ap (λ (t : Status). Some t) (alone s same) }
 
-  pub changes_still : (to : Status) (runs : ℕ) → HasChanges domain old status to runs
-      → HasChanges domain new status to runs
-  changes_still to runs h = record {
-    some = λ apart. runs_alike (IsMarked domain old status) (IsMarked domain new status) 0 runs
+  pub changes_still : (to : Status) (ranges : ℕ) → HasChanges domain old status to ranges
+      → HasChanges domain new status to ranges
+  changes_still to ranges h = record {
+    some = λ apart. ranges_alike (IsMarked domain old status) (IsMarked domain new status) 0 ranges
         (λ x le m. marked_still x m)
         (λ x le m. was_marked x (slice_get old x) refl
         (omega (arith, slice_get_within new x status m.has, c.size)) m) (h.some apart);
@@ -126,16 +126,16 @@ scraped_good false true = λ e. cc
 scraped_good true false = λ e. cc
 scraped_good true true = λ e. cc
 
--- so many runs lie in front of a position, for which so much room is taken
+-- so many ranges lie in front of a position, for which so much room is taken
 pub record Counted (domain : ℕ → Bool) (map : List Status) (from : Status) (at others room : ℕ) : Type 0 where
-  pub runs : ℕ
-  pub front : (rest : ℕ) → HasRuns (IsMarked domain map from) at rest → HasRuns (IsMarked domain map from) 0 (runs + rest)
-  pub total : room ≡ others + 2 * runs
+  pub ranges : ℕ
+  pub front : (rest : ℕ) → HasRanges (IsMarked domain map from) at rest → HasRanges (IsMarked domain map from) 0 (ranges + rest)
+  pub total : room ≡ others + 2 * ranges
 
 pub counted_none : (domain : ℕ → Bool) (map : List Status) (from : Status) (others : ℕ)
     → Counted domain map from 0 others others
 counted_none domain map from others = record {
-  runs = 0;
+  ranges = 0;
   front = λ rest h. let same : 0 + rest ≡ rest = omega arith in rw same h;
   total = omega arith;
 }
@@ -149,21 +149,21 @@ found_sum P (Some m) sum n e h is = let same : m ≡ sum = h.1 in cc
 module _ (domain : ℕ → Bool) (map : List Status) (from : Status) (at others room : ℕ)
     (h : Counted domain map from at others room) where
   pub counted_more : (start end room' : ℕ) → IsFirst (IsMarked domain map from) at start
-      → IsRunUp (IsMarked domain map from) start end → room' ≡ room + 2 → Counted domain map from end others room'
-  counted_more start end room' first run more = record {
-    runs = h.runs + 1;
+      → IsRangeUp (IsMarked domain map from) start end → room' ≡ room + 2 → Counted domain map from end others room'
+  counted_more start end room' first range more = record {
+    ranges = h.ranges + 1;
     front = λ rest r.
-        let same : h.runs + 1 + rest ≡ h.runs + suc rest = omega arith in
-        rw same (h.front (suc rest) (start, end, first, run, r));
+        let same : h.ranges + 1 + rest ≡ h.ranges + suc rest = omega arith in
+        rw same (h.front (suc rest) (start, end, first, range, r));
     total = omega (arith, h.total, more);
   }
 
   pub counted_all : (to : Status) → from ≢ to → ((x : ℕ) → at ≤ x → IsMarked domain map from x → ⊥)
       → TakesRoom domain map from to others room
   counted_all to apart none = record {
-    runs = h.runs;
+    ranges = h.ranges;
     changes = record {
-      some = λ off. let same : h.runs ≡ h.runs + 0 = omega arith in rw same (h.front 0 none);
+      some = λ off. let same : h.ranges ≡ h.ranges + 0 = omega arith in rw same (h.front 0 none);
       none = λ is. absurd (apart is);
     };
     total = h.total;
@@ -172,20 +172,20 @@ module _ (domain : ℕ → Bool) (map : List Status) (from : Status) (at others 
 pub takes_none : (domain : ℕ → Bool) (map : List Status) (from to : Status) (others : ℕ) → from ≡ to
     → TakesRoom domain map from to others others
 takes_none domain map from to others is = record {
-  runs = 0;
+  ranges = 0;
   changes = record { some = λ apart. absurd (apart is); none = λ e. refl };
   total = omega arith;
 }
 
--- what is spare behind some of the changes, by how many runs are left
+-- what is spare behind some of the changes, by how many ranges are left
 abbrev pub Spends : (domain : ℕ → Bool) → (old : List Status) → (from : Status) → (at before now : ℕ) → Type 0
 Spends domain old from at before now =
-    (runs : ℕ) → HasRuns (IsMarked domain old from) 0 runs
-    → (left : ℕ) × HasRuns (IsMarked domain old from) at left × (before + 2 * left ≤ now + 2 * runs)
+    (ranges : ℕ) → HasRanges (IsMarked domain old from) 0 ranges
+    → (left : ℕ) × HasRanges (IsMarked domain old from) at left × (before + 2 * left ≤ now + 2 * ranges)
 
 pub spends_none : (domain : ℕ → Bool) (old : List Status) (from : Status) (before : ℕ)
     → Spends domain old from 0 before before
-spends_none domain old from before = λ runs h. (runs, h, omega arith)
+spends_none domain old from before = λ ranges h. (ranges, h, omega arith)
 
 -- of a domain, the positions in front of one have a status replaced; those behind it are as they were
 module _ (domain : ℕ → Bool) (from to : Status) (at : ℕ) (old mid : List Status)
@@ -205,30 +205,30 @@ module _ (domain : ℕ → Bool) (from to : Status) (at : ℕ) (old mid : List S
   were_ahead x le m =
       found_ahead x (slice_get old x) refl (omega (arith, slice_get_within mid x from m.has, i.size)) le m
 
-  pub spends_all : (before now runs : ℕ) → Spends domain old from at before now
-      → HasRuns (IsMarked domain old from) 0 runs → before ≤ now + 2 * runs
-  spends_all before now runs h r = omega (arith, (h runs r).2)
+  pub spends_all : (before now ranges : ℕ) → Spends domain old from at before now
+      → HasRanges (IsMarked domain old from) 0 ranges → before ≤ now + 2 * ranges
+  spends_all before now ranges h r = omega (arith, (h ranges r).2)
 
   module _ (start end : ℕ) (first : IsFirst (IsMarked domain mid from) at start)
-      (run : IsRunUp (IsMarked domain mid from) start end) where
-    one_less : (left : ℕ) → HasRuns (IsMarked domain old from) at left
-        → (rest : ℕ) × (left ≡ suc rest) × HasRuns (IsMarked domain old from) end rest
+      (range : IsRangeUp (IsMarked domain mid from) start end) where
+    one_less : (left : ℕ) → HasRanges (IsMarked domain old from) at left
+        → (rest : ℕ) × (left ≡ suc rest) × HasRanges (IsMarked domain old from) end rest
     one_less left h =
-        runs_behind (IsMarked domain old from) at start end
+        ranges_behind (IsMarked domain old from) at start end
         (first_alike (IsMarked domain mid from) (IsMarked domain old from) at start were_ahead marked_ahead first)
-        (run_alike (IsMarked domain mid from) (IsMarked domain old from) at start end first.after were_ahead
-        marked_ahead run) left h
+        (range_alike (IsMarked domain mid from) (IsMarked domain old from) at start end first.after were_ahead
+        marked_ahead range) left h
 
-    pub spare_left : (before now runs : ℕ) → Spends domain old from at before now
-        → HasRuns (IsMarked domain old from) 0 runs → 2 * runs ≤ before → 2 ≤ now
-    spare_left before now runs h r le =
-        let s = h runs r in
+    pub spare_left : (before now ranges : ℕ) → Spends domain old from at before now
+        → HasRanges (IsMarked domain old from) 0 ranges → 2 * ranges ≤ before → 2 ≤ now
+    spare_left before now ranges h r le =
+        let s = h ranges r in
         let l = one_less s.0 s.1 in
         omega (arith, s.2, l.1, le)
 
     pub spends_more : (before now now' : ℕ) → now ≤ now' + 2 → Spends domain old from at before now
         → Spends domain old from end before now'
-    spends_more before now now' more h = λ runs r.
-        let s = h runs r in
+    spends_more before now now' more h = λ ranges r.
+        let s = h ranges r in
         let l = one_less s.0 s.1 in
         (l.0, l.2, omega (arith, s.2, l.1, more))

@@ -13,7 +13,7 @@ use Rattle.rescue_rules.specs.declared.stop.TrimMode.{TrimMode}
 use Rattle.rescue_rules.specs.declared.stop.TrimMode.TheVariants.{Lead, Tail}
 use Rattle.rescue_rules.specs.Setting.{Setting}
 use Rattle.rescue_rules.specs.Passes.{Pass, is_up, numbered}
-use Rattle.rescue_rules.specs.Machine.{Machine, Search, pass_of, has_taken, is_live, is_wanted, IsWanted, search_in, search_of, IsNextRun, cut_start, IsRequest}
+use Rattle.rescue_rules.specs.Machine.{Machine, Search, pass_of, has_taken, is_live, is_wanted, IsWanted, search_in, search_of, IsNextRange, cut_start, IsRequest}
 use Rattle.rescue_rules.specs.Step.{Event, copies, trims, is_copying, is_trimming, is_slow, reach, is_jump, mode_after, cursor_after, skip_after, rest_status, over_after, step}
 use Rattle.rescue_rules.specs.MachineLaws.{StepsBy, AsksFor}
 use Rattle.rescue_rules.proofs.OverLemmas.{live_was}
@@ -48,7 +48,7 @@ skip_within s m e first now =
     (λ other. cond_both (is_failed e.reading || is_slow s e) m.skip s.skip (λ (x : ℕ). x ≤ s.skip_max)
     (λ bad. now) (λ good. first))
 
--- how far trimming upwards comes by a read before a run, and by one at its back
+-- how far trimming upwards comes by a read before a range, and by one at its back
 lead_after : (good more : Bool) (p q x : ℕ) → x < led_from (mode_after Lead good more p q) p
     → (x < p) ⊎ ((good ≡ false) × (x < q))
 lead_after true more p q x lt = inl lt
@@ -123,7 +123,7 @@ trims_wanted r room e x t live has =
     ∙ and_from (is_live s m x) (has_taken (numbered Trimming 1 ∷ []) (slice_get m.map x)) live
     (ap (has_taken (numbered Trimming 1 ∷ [])) has)
 
--- before a run nothing is left before the request,
+-- before a range nothing is left before the request,
 none_before : (r : RunState) (room : ℕ) (e : Event) (x : ℕ) → Trims r room e → r.machine.mode ≡ Lead
     → x < e.reading.pos → is_wanted (setting_in r) r.machine x ≡ true → ⊥
 none_before r room e x t lead below wanted =
@@ -135,11 +135,11 @@ none_before r room e x t lead below wanted =
     let at : search_in s m Trimming Lead ≡ record { up = true; from = 0; front = true; size = s.sector }
     = ap (λ (b : Bool). record (search_in s m Trimming Lead) { up = b }) up
     ∙ ap (λ (n : ℕ). record { up = true; from = n; front = true; size = s.sector }) (start_up s (pass_of m) m.map up) in
-    let run : IsNextRun true (IsWanted s m) 0 t.request.start t.request.end
-    = subst (λ (f : Search). IsNextRun f.up (IsWanted s m) f.from t.request.start t.request.end) (is ∙ at) t.request.run in
+    let range : IsNextRange true (IsWanted s m) 0 t.request.start t.request.end
+    = subst (λ (f : Search). IsNextRange f.up (IsWanted s m) f.from t.request.start t.request.end) (is ∙ at) t.request.range in
     let starts : e.reading.pos ≡ t.request.start
     = t.request.starts ∙ ap (λ (f : Search). cut_start f s.sector t.request.start t.request.end) (is ∙ at) in
-    omega (arith, below, starts, run.0.least x (omega arith) wanted)
+    omega (arith, below, starts, range.0.least x (omega arith) wanted)
 
 led_lead : (r : RunState) (room : ℕ) (e : Event) (x : ℕ) → Trims r room e → r.machine.mode ≡ Lead
     → is_live (setting_in r) r.machine x ≡ true → IsUntrimmed r e x
@@ -153,7 +153,7 @@ led_lead r room e x t lead live left far =
     (cases_lt x e.reading.pos))
     far
 
--- and at its back nothing before that run's front, nor behind a failed read what lies between them.
+-- and at its back nothing before that range's front, nor behind a failed read what lies between them.
 led_tail : (r : RunState) (room : ℕ) (e : Event) (low x : ℕ) → Trims r room e → r.machine.mode ≡ Tail low
     → is_live (setting_in r) r.machine x ≡ true → Has (step (setting_in r) r.machine e).map NonTrimmed x → IsUntrimmed r e x
     → (x < low) ⊎ ((not (is_failed e.reading) ≡ false) × (x < e.reading.pos)) → ⊥

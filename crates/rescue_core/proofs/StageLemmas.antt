@@ -69,7 +69,7 @@ never_copies r room e t gone on =
     never_asked r room e t
     (subst (λ (phase : Phase). IsGone (taken phase) r) (sym (copies_is (pass_of r.machine).phase on)) gone)
 
--- trimming is on where it is at a run's back
+-- trimming is on where it is at a range's back
 tail_trims : (r : RunState) (room : ℕ) (low : ℕ) → IsRunning r room → r.machine.mode ≡ Tail low
     → (pass_of r.machine).phase ≡ Trimming
 tail_trims r room low is at =

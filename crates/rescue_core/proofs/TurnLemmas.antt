@@ -3,7 +3,7 @@ use Rattle.std.proofs.Common.{◌≡◌, ℕ, ◌+◌, ◌-◌, ◌*◌, ◌^◌
 use Rattle.std.specs.List.{slice_get, slice_index_or}
 use Rattle.std.proofs.Math.Nat.{div-mul-le_self, mul-le-mul_right}
 use Rattle.std.proofs.lemmas.Bool.{and_parts}
-use Rattle.block_list.specs.declared.block.Run.{Run}
+use Rattle.block_list.specs.declared.block.Range.{Range}
 use Rattle.block_list.specs.declared.status.Status.{Status}
 use Rattle.block_list.specs.Status.{same}
 use Rattle.faulty_source.specs.Journal.{floor}
@@ -20,11 +20,11 @@ use Rattle.rescue_rules.specs.Step.{Event, map_after, step}
 use Rattle.rescue_rules.proofs.RoundLemmas.{ceiling_above}
 use Rattle.rescue_rules.proofs.StepLemmas.{Asks, request_asks, wanted_domain, asks_back}
 use Rattle.rescue_core.specs.declared.settings.Settings.{Settings}
-use Rattle.rescue_core.specs.declared.state.Place.{Place}
+use Rattle.rescue_core.specs.declared.state.Progress.{Progress}
 use Rattle.rescue_core.specs.declared.state.Tally.{Tally}
 use Rattle.rescue_core.specs.RunState.{RunState, setting_in, HasPlaces, IsRunning, run_at}
 use Rattle.rescue_core.specs.Turning.{stepped}
-use Rattle.rescue_core.specs.TurnParts.{place_of, tally_of, IsBackOf}
+use Rattle.rescue_core.specs.TurnParts.{progress_of, tally_of, IsBackOf}
 use Rattle.rescue_core.proofs.StageLemmas.{running_sensible}
 
 -- no search asks for more than a cluster
@@ -110,16 +110,16 @@ wanted_in s m map phase n k pos x wanted pass =
     (and_parts (is_live s m pos) (has_taken m.passes (slice_get m.map pos)) wanted).1 pass)
 
 -- a run behind an event, by its parts
-pub run_steps : (settings : Settings) (domain : List Run) (names : Option MapNames) (line : List ℕ) (map map' : List Status)
-    (phase : Phase) (place place' : Place) (tally tally' : Tally) (heard : Bool) (e : Event)
-    → let r : RunState = run_at settings domain names line map phase place tally heard in
+pub run_steps : (settings : Settings) (domain : List Range) (names : Option MapNames) (line : List ℕ) (map map' : List Status)
+    (phase : Phase) (progress progress' : Progress) (tally tally' : Tally) (heard : Bool) (e : Event)
+    → let r : RunState = run_at settings domain names line map phase progress tally heard in
     map' ≡ map_after (setting_in r) r.machine e.reading
-    → place' ≡ place_of place.pass (step (setting_in r) r.machine e)
+    → progress' ≡ progress_of progress.pass (step (setting_in r) r.machine e)
     → tally' ≡ tally_of (step (setting_in r) r.machine e)
-    → run_at settings domain names line map' phase place' tally' heard ≡ stepped r e heard
-run_steps settings domain names line map map' phase place place' tally tally' heard e map_is place_is tally_is =
-    let r : RunState = run_at settings domain names line map phase place tally heard in
+    → run_at settings domain names line map' phase progress' tally' heard ≡ stepped r e heard
+run_steps settings domain names line map map' phase progress progress' tally tally' heard e map_is place_is tally_is =
+    let r : RunState = run_at settings domain names line map phase progress tally heard in
     let n : Machine = step (setting_in r) r.machine e in
-    ap (λ (l : List Status). run_at settings domain names line l phase place' tally' heard) map_is
-    ∙ ap (λ (p : Place). run_at settings domain names line n.map phase p tally' heard) place_is
-    ∙ ap (λ (t : Tally). run_at settings domain names line n.map phase (place_of place.pass n) t heard) tally_is
+    ap (λ (l : List Status). run_at settings domain names line l phase progress' tally' heard) map_is
+    ∙ ap (λ (p : Progress). run_at settings domain names line n.map phase p tally' heard) place_is
+    ∙ ap (λ (t : Tally). run_at settings domain names line n.map phase (progress_of progress.pass n) t heard) tally_is

@@ -1,7 +1,7 @@
 -- The map behind a read, by the parts that the read was cut into.
 use Rattle.std.proofs.Common.{◌≡◌, ℕ, ◌+◌, ◌-◌, List, [], ◌++◌, take, drop, ap, ◌∙◌, subst, arith, append-nil}
 use Rattle.std.proofs.lemmas.List.{take-append-drop}
-use Rattle.block_list.specs.declared.block.Run.{Run}
+use Rattle.block_list.specs.declared.block.Range.{Range}
 use Rattle.block_list.specs.declared.status.Status.{Status}
 use Rattle.block_list.specs.declared.status.Status.TheVariants.{Finished}
 use Rattle.block_list.specs.Map.{marked}
@@ -13,7 +13,7 @@ use Rattle.rescue_rules.specs.Step.{map_after, rest_status, scraped}
 use Rattle.rescue_core.specs.declared.landing.Kept.{Kept}
 use Rattle.rescue_core.specs.declared.landing.Kept.TheVariants.{Part as PartKept, Nothing as NothingKept}
 use Rattle.rescue_core.specs.declared.settings.Settings.{Settings}
-use Rattle.rescue_core.specs.declared.state.Place.{Place}
+use Rattle.rescue_core.specs.declared.state.Progress.{Progress}
 use Rattle.rescue_core.specs.RunState.{RunState, setting_in}
 use Rattle.rescue_core.specs.TurnParts.{RunsAt, fetched_of}
 
@@ -25,39 +25,39 @@ marked_none map pos t =
     ap (λ (l : List Status). l ++ drop (pos + 0) map) front ∙ ap (λ n. take pos map ++ drop n map) here
     ∙ take-append-drop pos map
 
-pub part_map : (settings : Settings) (phase : Phase) (place : Place) (r : RunState) (reading : Reading) (map : List Status)
-    (pos : ℕ) (kept : Kept) (landed missed : Run) → RunsAt settings phase place r → r.machine.map ≡ map
+pub part_map : (settings : Settings) (phase : Phase) (progress : Progress) (r : RunState) (reading : Reading) (map : List Status)
+    (pos : ℕ) (kept : Kept) (landed missed : Range) → RunsAt settings phase progress r → r.machine.map ≡ map
     → reading.pos ≡ pos → IsCut settings.sector reading (fetched_of kept) → kept ≡ PartKept landed missed
     → map_after (setting_in r) r.machine reading
-    ≡ scraped place.mode pos (marked (marked map landed.from (size_of landed) Finished) missed.from (size_of missed)
+    ≡ scraped progress.mode pos (marked (marked map landed.from (size_of landed) Finished) missed.from (size_of missed)
     (rest_status (setting_in r) r.machine (size_of missed)))
-part_map settings phase place r reading map pos cut landed missed at is from h cut_is =
+part_map settings phase progress r reading map pos cut landed missed at is from h cut_is =
     let k : ℕ = kept settings.sector reading in
     let parts : IsCut settings.sector reading (Part landed missed)
     = subst (λ (c : Kept). IsCut settings.sector reading (fetched_of c)) cut_is h in
     let part = parts.0 in
-    let a : landed.from ≡ reading.pos = ap (λ (x : Run). x.from) parts.2 in
-    let b : landed.to ≡ reading.pos + k = ap (λ (x : Run). x.to) parts.2 in
-    let c : missed.from ≡ reading.pos + k = ap (λ (x : Run). x.from) parts.3 in
-    let d : missed.to ≡ reading.pos + reading.asked = ap (λ (x : Run). x.to) parts.3 in
+    let a : landed.from ≡ reading.pos = ap (λ (x : Range). x.from) parts.2 in
+    let b : landed.to ≡ reading.pos + k = ap (λ (x : Range). x.to) parts.2 in
+    let c : missed.from ≡ reading.pos + k = ap (λ (x : Range). x.from) parts.3 in
+    let d : missed.to ≡ reading.pos + reading.asked = ap (λ (x : Range). x.to) parts.3 in
     let m : size_of landed ≡ k = omega arith in
     let n : size_of missed ≡ reading.asked - k = omega arith in
     cc
 
-pub nothing_map : (settings : Settings) (phase : Phase) (place : Place) (r : RunState) (reading : Reading)
-    (map : List Status) (pos : ℕ) (kept : Kept) (missed : Run) → RunsAt settings phase place r → r.machine.map ≡ map
+pub nothing_map : (settings : Settings) (phase : Phase) (progress : Progress) (r : RunState) (reading : Reading)
+    (map : List Status) (pos : ℕ) (kept : Kept) (missed : Range) → RunsAt settings phase progress r → r.machine.map ≡ map
     → reading.pos ≡ pos → IsCut settings.sector reading (fetched_of kept) → kept ≡ NothingKept missed
     → map_after (setting_in r) r.machine reading
-    ≡ scraped place.mode pos (marked map missed.from (size_of missed)
+    ≡ scraped progress.mode pos (marked map missed.from (size_of missed)
     (rest_status (setting_in r) r.machine (size_of missed)))
-nothing_map settings phase place r reading map pos cut missed at is from h cut_is =
+nothing_map settings phase progress r reading map pos cut missed at is from h cut_is =
     let k : ℕ = kept settings.sector reading in
     let parts : IsCut settings.sector reading (Nothing missed)
     = subst (λ (c : Kept). IsCut settings.sector reading (fetched_of c)) cut_is h in
     let part = parts.0 in
     let none = parts.1 in
-    let c : missed.from ≡ reading.pos = ap (λ (x : Run). x.from) parts.2 in
-    let d : missed.to ≡ reading.pos + reading.asked = ap (λ (x : Run). x.to) parts.2 in
+    let c : missed.from ≡ reading.pos = ap (λ (x : Range). x.from) parts.2 in
+    let d : missed.to ≡ reading.pos + reading.asked = ap (λ (x : Range). x.to) parts.2 in
     let n : size_of missed ≡ reading.asked - k = omega arith in
     let p : missed.from ≡ reading.pos + k = omega arith in
     let z : marked map reading.pos 0 Finished ≡ map = marked_none map reading.pos Finished in

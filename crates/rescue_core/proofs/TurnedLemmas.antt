@@ -1,7 +1,7 @@
 -- What a turn makes of a run, by what its parts say.
 use Rattle.std.proofs.Common.{◌≡◌, ℕ, ◌+◌, ◌/◌, Bool, ◌&&◌, Option, List, [], ◌∷◌, length, take, drop, ◌++◌, refl, sym, ap, subst, ◌∙◌, arith, length-append, length-drop, length-take-le}
 use Rattle.std.specs.List.{slice_get}
-use Rattle.block_list.specs.declared.block.Run.{Run}
+use Rattle.block_list.specs.declared.block.Range.{Range}
 use Rattle.block_list.specs.declared.status.Status.{Status}
 use Rattle.faulty_source.specs.SourceState.{SourceState}
 use Rattle.crash_site.specs.SiteState.{SiteState}
@@ -23,15 +23,15 @@ use Rattle.rescue_rules.proofs.StepLemmas.{move_steps}
 use Rattle.rescue_core.specs.declared.gather.Gathered.{Gathered}
 use Rattle.rescue_core.specs.declared.running.Running.TheInside.{Inside}
 use Rattle.rescue_core.specs.declared.settings.Settings.{Settings}
-use Rattle.rescue_core.specs.declared.state.Place.{Place}
+use Rattle.rescue_core.specs.declared.state.Progress.{Progress}
 use Rattle.rescue_core.specs.declared.state.Tally.{Tally}
 use Rattle.rescue_core.specs.declared.turn.Turn.{Turn}
 use Rattle.rescue_core.specs.declared.turn.Advanced.{Advanced}
 use Rattle.rescue_core.specs.Across.{Across}
-use Rattle.rescue_core.specs.RunState.{RunState, setting_in, run_at, HasPlaces, IsRunning, Counted}
+use Rattle.rescue_core.specs.RunState.{RunState, setting_in, run_at, HasPlaces, IsRunning, HasCounts}
 use Rattle.rescue_core.specs.Turning.{turn_of, stepped, Halted}
-use Rattle.rescue_core.specs.TurnParts.{place_of, tally_of, RunsAt, IsReadOf, Gathers, Advances}
-use Rattle.rescue_core.specs.Behind.{Marks, GoesOn}
+use Rattle.rescue_core.specs.TurnParts.{progress_of, tally_of, RunsAt, IsReadOf, Gathers, Advances}
+use Rattle.rescue_core.specs.Behind.{Marks, GoesOnBehind}
 use Rattle.rescue_core.proofs.TurnLemmas.{Fits, request_fits, wanted_in, run_steps}
 use Rattle.rescue_core.proofs.RunningLemmas.{running_steps}
 use Rattle.rescue_core.proofs.StageLemmas.{running_sensible}
@@ -39,12 +39,12 @@ use Rattle.rescue_core.proofs.StageLemmas.{running_sensible}
 -- the parts of a run before a turn, and behind it
 pub record Parts : Type 0 where
   pub settings : Settings
-  pub domain : List Run
+  pub domain : List Range
   pub names : Option MapNames
   pub line : List ℕ
   pub map : List Status
   pub phase : Phase
-  pub place : Place
+  pub progress : Progress
   pub tally : Tally
   pub heard : Bool
 
@@ -56,17 +56,17 @@ parts_of T statuses r = record {
   line = r.heading.line;
   map = statuses r.tiles;
   phase = r.phase;
-  place = r.place;
+  progress = r.progress;
   tally = r.tally;
   heard = r.heard;
 }
 
 abbrev pub run_of : Parts → RunState
-run_of p = run_at p.settings p.domain p.names p.line p.map p.phase p.place p.tally p.heard
+run_of p = run_at p.settings p.domain p.names p.line p.map p.phase p.progress p.tally p.heard
 
 -- the parts behind the marks of a turn
-abbrev pub parts_behind : Parts → List Status → Place → Tally → Parts
-parts_behind p map place tally = record p { map = map; place = place; tally = tally }
+abbrev pub parts_behind : Parts → List Status → Progress → Tally → Parts
+parts_behind p map progress tally = record p { map = map; progress = progress; tally = tally }
 
 -- a turn begins with this run, in which it has a request
 pub record Begins (p : Parts) (r : RunState) (room : ℕ) (request : Request) : Type 0 where
@@ -76,11 +76,11 @@ pub record Begins (p : Parts) (r : RunState) (room : ℕ) (request : Request) : 
   pub asks : IsRequest (setting_in r) r.machine request.pos (request.pos + request.len)
 
 -- a turn that found room, and goes on behind its read
-pub record Does (p : Parts) (request : Request) (got : Gathered) (map' : List Status) (place' : Place) (tally' : Tally)
+pub record Does (p : Parts) (request : Request) (got : Gathered) (map' : List Status) (progress' : Progress) (tally' : Tally)
     (counts counts' : Counts) (advanced : Advanced) : Type 0 where
   pub old : List Status
   pub old_is : old ≡ p.map
-  pub goes : GoesOn p.settings p.domain p.phase request got old map' p.place place' p.tally tally' counts counts' advanced
+  pub goes : GoesOnBehind p.settings p.domain p.phase request got old map' p.progress progress' p.tally tally' counts counts' advanced
 
 pub begins_of : (T : Type 0) (statuses : T → List Status) (was : Inside T) (r : RunState) (request : Request)
     → run_of (parts_of T statuses was) ≡ r → IsRunning (run_of (parts_of T statuses was)) (length was.buf.items)
@@ -125,14 +125,14 @@ event_steps p r room request got source source' site site' clock clock' b g =
     (omega (arith, g.is.few, g.is.asked))
 
 stands_at : (p : Parts) (r : RunState) (room : ℕ) (request : Request) → Begins p r room request
-    → RunsAt p.settings p.phase p.place (run_of p)
+    → RunsAt p.settings p.phase p.progress (run_of p)
 stands_at p r room request b = record { settings_are = refl; pass = b.running.pass; mode = refl; skip = refl }
 
 -- the marks of a turn are those of its event, and leave the map's length
 marks_map : (p : Parts) (r : RunState) (room : ℕ) (request : Request) (got : Gathered) (old map' : List Status)
     (source source' : SourceState) (site site' : SiteState) (clock clock' : ClockState) → Begins p r room request
     → (g : Gathers request p.settings got source source' site site' clock clock') → old ≡ p.map
-    → Marks p.settings p.phase p.place request got.kept old map'
+    → Marks p.settings p.phase p.progress request got.kept old map'
     → map' ≡ (step (setting_in (run_of p)) (run_of p).machine g.event).map
 marks_map p r room request got old map' source source' site site' clock clock' b g old_is marks =
     marks (run_of p) g.event.reading (stands_at p r room request b) (sym old_is) g.is.pos g.cut
@@ -140,7 +140,7 @@ marks_map p r room request got old map' source source' site site' clock clock' b
 pub marks_size : (p : Parts) (r : RunState) (room : ℕ) (request : Request) (got : Gathered) (old map' : List Status)
     (source source' : SourceState) (site site' : SiteState) (clock clock' : ClockState) → Begins p r room request
     → Gathers request p.settings got source source' site site' clock clock' → old ≡ p.map
-    → Marks p.settings p.phase p.place request got.kept old map' → length map' ≡ length p.map
+    → Marks p.settings p.phase p.progress request got.kept old map' → length map' ≡ length p.map
 marks_size p r room request got old map' source source' site site' clock clock' b g old_is marks =
     ap (λ (l : List Status). length l)
     (marks_map p r room request got old map' source source' site site' clock clock' b g old_is marks)
@@ -160,19 +160,19 @@ read_of p request got source source' site site' clock clock' g =
 
 -- the run behind the marks of a turn is the one behind its event
 pub does_step : (p : Parts) (r : RunState) (room : ℕ) (request : Request) (got : Gathered) (map' : List Status)
-    (place' : Place) (tally' : Tally) (counts counts' : Counts) (advanced : Advanced) (source source' : SourceState)
+    (progress' : Progress) (tally' : Tally) (counts counts' : Counts) (advanced : Advanced) (source source' : SourceState)
     (site site' : SiteState) (clock clock' : ClockState) → Begins p r room request
     → (g : Gathers request p.settings got source source' site site' clock clock')
-    → Does p request got map' place' tally' counts counts' advanced
-    → run_of (parts_behind p map' place' tally') ≡ stepped (run_of p) g.event p.heard
-does_step p r room request got map' place' tally' counts counts' advanced source source' site site' clock clock' b g d =
+    → Does p request got map' progress' tally' counts counts' advanced
+    → run_of (parts_behind p map' progress' tally') ≡ stepped (run_of p) g.event p.heard
+does_step p r room request got map' progress' tally' counts counts' advanced source source' site site' clock clock' b g d =
     let before : RunState = run_of p in
     let e : Event = g.event in
     let s : Setting = setting_in before in
     let m : Machine = before.machine in
     let n : Machine = step s m e in
     let turn : got.turn ≡ turn_of before e = g.turn before refl in
-    let at : RunsAt p.settings p.phase p.place before = stands_at p r room request b in
+    let at : RunsAt p.settings p.phase p.progress before = stands_at p r room request b in
     let read : IsReadOf request got.turn.given got.turn.ended e.reading
     = read_of p request got source source' site site' clock clock' g in
     let map_is : map' ≡ n.map
@@ -181,29 +181,29 @@ does_step p r room request got map' place' tally' counts counts' advanced source
     let more : p.phase ≡ Trimming → d.goes.more ≡ is_wanted s (record m { map = n.map }) x
     = λ trims. d.goes.more_is trims
     ∙ ap (λ (l : List Status). is_live s m x && has_taken (numbered p.phase 1 ∷ []) (slice_get l x)) map_is
-    ∙ wanted_in s m n.map p.phase p.place.pass 1 request.pos x (begins_fits p r room request b).wanted b.running.pass in
+    ∙ wanted_in s m n.map p.phase p.progress.pass 1 request.pos x (begins_fits p r room request b).wanted b.running.pass in
     let size : length m.map ≡ length d.old = ap (λ (l : List Status). length l) (sym d.old_is) in
-    let place_is : place' ≡ place_of p.place.pass n = d.goes.places before e at read turn size more in
+    let place_is : progress' ≡ progress_of p.progress.pass n = d.goes.places before e at read turn size more in
     let shown : d.goes.shown ≡ n.shown
     = d.goes.shown_is
-    ∙ ap (λ (q : Place). record { pos = q.cursor; current = current_of p.phase; pass = q.pass }) place_is
+    ∙ ap (λ (q : Progress). record { pos = q.cursor; current = current_of p.phase; pass = q.pass }) place_is
     ∙ ap (λ (q : Pass). record { pos = n.cursor; current = current_of q.phase; pass = q.number }) (sym b.running.pass) in
     let tally_is : tally' ≡ tally_of n
     = d.goes.tallies before e refl turn g.after shown (d.goes.meets e.reading g.cut) in
-    run_steps p.settings p.domain p.names p.line p.map map' p.phase p.place place' p.tally tally' p.heard e map_is
+    run_steps p.settings p.domain p.names p.line p.map map' p.phase p.progress progress' p.tally tally' p.heard e map_is
     place_is tally_is
 
 -- it stands as between any turns
 pub does_running : (p : Parts) (r : RunState) (room : ℕ) (request : Request) (got : Gathered) (map' : List Status)
-    (place' : Place) (tally' : Tally) (counts counts' : Counts) (advanced : Advanced) (source source' : SourceState)
+    (progress' : Progress) (tally' : Tally) (counts counts' : Counts) (advanced : Advanced) (source source' : SourceState)
     (site site' : SiteState) (clock clock' : ClockState) → Begins p r room request
     → Gathers request p.settings got source source' site site' clock clock'
-    → Does p request got map' place' tally' counts counts' advanced → IsRunning (run_of (parts_behind p map' place' tally')) room
-does_running p r room request got map' place' tally' counts counts' advanced source source' site site' clock clock' b g d =
+    → Does p request got map' progress' tally' counts counts' advanced → IsRunning (run_of (parts_behind p map' progress' tally')) room
+does_running p r room request got map' progress' tally' counts counts' advanced source source' site site' clock clock' b g d =
     let before : RunState = run_of p in
     let e : Event = g.event in
     subst (λ (x : RunState). IsRunning x room)
-    (sym (does_step p r room request got map' place' tally' counts counts' advanced source source' site site' clock clock' b g d))
+    (sym (does_step p r room request got map' progress' tally' counts counts' advanced source source' site site' clock clock' b g d))
     (running_steps before room e p.heard b.running
     (event_asks (setting_in before) before.machine e request.pos request.len g.is.pos g.is.asked
     (begins_asks p r room request b))
@@ -211,14 +211,14 @@ does_running p r room request got map' place' tally' counts counts' advanced sou
 
 -- and its counts are those of its map
 pub does_counted : (p : Parts) (r : RunState) (room : ℕ) (request : Request) (got : Gathered) (map' : List Status)
-    (place' : Place) (tally' : Tally) (counts counts' : Counts) (advanced : Advanced) (source source' : SourceState)
+    (progress' : Progress) (tally' : Tally) (counts counts' : Counts) (advanced : Advanced) (source source' : SourceState)
     (site site' : SiteState) (clock clock' : ClockState) → Begins p r room request
     → Gathers request p.settings got source source' site site' clock clock'
-    → Does p request got map' place' tally' counts counts' advanced → Counted (run_of p) counts
-    → Counted (run_of (parts_behind p map' place' tally')) counts'
-does_counted p r room request got map' place' tally' counts counts' advanced source source' site site' clock clock' b g d were =
-    subst (λ (x : RunState). Counted x counts')
-    (sym (does_step p r room request got map' place' tally' counts counts' advanced source source' site site' clock clock' b g d))
+    → Does p request got map' progress' tally' counts counts' advanced → HasCounts (run_of p) counts
+    → HasCounts (run_of (parts_behind p map' progress' tally')) counts'
+does_counted p r room request got map' progress' tally' counts counts' advanced source source' site site' clock clock' b g d were =
+    subst (λ (x : RunState). HasCounts x counts')
+    (sym (does_step p r room request got map' progress' tally' counts counts' advanced source source' site site' clock clock' b g d))
     (d.goes.recounts (run_of p) g.event p.heard were (record {
       room = room;
       running = b.running;
@@ -234,15 +234,15 @@ does_counted p r room request got map' place' tally' counts counts' advanced sou
 
 -- a turn up to its marks
 pub does_advance : (p : Parts) (r : RunState) (room : ℕ) (request : Request) (got : Gathered) (map' : List Status)
-    (place' : Place) (tally' : Tally) (counts counts' : Counts) (advanced : Advanced) (source source' : SourceState)
+    (progress' : Progress) (tally' : Tally) (counts counts' : Counts) (advanced : Advanced) (source source' : SourceState)
     (site site' : SiteState) (clock clock' : ClockState) → Begins p r room request
     → Gathers request p.settings got source source' site site' clock clock'
-    → Does p request got map' place' tally' counts counts' advanced
-    → Advances request advanced r (run_of (parts_behind p map' place' tally')) source source' site site' clock clock'
-does_advance p r room request got map' place' tally' counts counts' advanced source source' site site' clock clock' b g d =
-    let behind : RunState = run_of (parts_behind p map' place' tally') in
+    → Does p request got map' progress' tally' counts counts' advanced
+    → Advances request advanced r (run_of (parts_behind p map' progress' tally')) source source' site site' clock clock'
+does_advance p r room request got map' progress' tally' counts counts' advanced source source' site site' clock clock' b g d =
+    let behind : RunState = run_of (parts_behind p map' progress' tally') in
     let is : behind ≡ stepped (run_of p) g.event p.heard
-    = does_step p r room request got map' place' tally' counts counts' advanced source source' site site' clock clock' b g d in
+    = does_step p r room request got map' progress' tally' counts counts' advanced source source' site site' clock clock' b g d in
     subst (λ (x : RunState). Advances request advanced x behind source source' site site' clock clock') b.is (record {
       event = g.event;
       is = g.is;
@@ -270,10 +270,10 @@ holds_same p room room' map' map_is size running =
     subst (λ (n : ℕ). IsRunning (run_of (record p { map = map' })) n) (sym size)
     (subst (λ (l : List Status). IsRunning (run_of (record p { map = l })) room) (sym map_is) running)
 
-pub counted_same : (p : Parts) (map' : List Status) (counts : Counts) → map' ≡ p.map → Counted (run_of p) counts
-    → Counted (run_of (record p { map = map' })) counts
+pub counted_same : (p : Parts) (map' : List Status) (counts : Counts) → map' ≡ p.map → HasCounts (run_of p) counts
+    → HasCounts (run_of (record p { map = map' })) counts
 counted_same p map' counts map_is counted =
-    subst (λ (l : List Status). Counted (run_of (record p { map = l })) counts) (sym map_is) counted
+    subst (λ (l : List Status). HasCounts (run_of (record p { map = l })) counts) (sym map_is) counted
 
 -- a buffer keeps its room
 pub room_same : (len : ℕ) (new now items : List ℕ) → length now ≡ len → now ≡ items → length new ≡ length now

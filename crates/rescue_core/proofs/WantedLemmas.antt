@@ -13,9 +13,9 @@ use Rattle.rescue_rules.specs.declared.stop.TrimMode.TheVariants.{Lead}
 use Rattle.faulty_source.specs.Ends.{is_before}
 use Rattle.rescue_rules.specs.Setting.{Setting}
 use Rattle.rescue_rules.specs.Passes.{Pass, taken, is_up, numbered}
-use Rattle.rescue_rules.specs.Machine.{Machine, Search, has_taken, is_live, is_wanted, IsWanted, search_of, IsNextRun, cut_start, cut_end, IsRequest, is_ahead, has_request}
+use Rattle.rescue_rules.specs.Machine.{Machine, Search, has_taken, is_live, is_wanted, IsWanted, search_of, IsNextRange, cut_start, cut_end, IsRequest, is_ahead, has_request}
 use Rattle.rescue_rules.proofs.SearchLemmas.{request_found}
-use Rattle.rescue_core.specs.declared.state.Place.{Place}
+use Rattle.rescue_core.specs.declared.state.Progress.{Progress}
 use Rattle.rescue_core.specs.RunState.{RunState, setting_in, led_from, IsLed}
 use Rattle.rescue_core.specs.Search.{IsMarked}
 use Rattle.rescue_core.specs.Requesting.{StandsAt, IsCutOf}
@@ -47,10 +47,10 @@ wanted_marked s m p x begins wanted =
       has = taken_is p (drop 1 m.passes) (slice_get m.map x) (ap (λ (ps : List Pass). has_taken ps (slice_get m.map x)) (sym begins) ∙ both.1);
     }
 
--- a run of one property is a run of another that means the same
-run_alike : (up : Bool) (P Q : ℕ → Type 0) (from start end : ℕ) → ((x : ℕ) → P x → Q x) → ((x : ℕ) → Q x → P x)
-    → IsNextRun up P from start end → IsNextRun up Q from start end
-run_alike true P Q from start end there back r = (
+-- a range of one property is a range of another that means the same
+range_alike : (up : Bool) (P Q : ℕ → Type 0) (from start end : ℕ) → ((x : ℕ) → P x → Q x) → ((x : ℕ) → Q x → P x)
+    → IsNextRange up P from start end → IsNextRange up Q from start end
+range_alike true P Q from start end there back r = (
   record {
     after = r.0.after;
     holds = there start r.0.holds;
@@ -62,7 +62,7 @@ run_alike true P Q from start end there back r = (
     stops = λ holds. r.1.stops (back end holds);
   },
 )
-run_alike false P Q from start end there back r = (
+range_alike false P Q from start end there back r = (
   record {
     below = r.0.below;
     some = r.0.some;
@@ -76,123 +76,123 @@ run_alike false P Q from start end there back r = (
   },
 )
 
--- a run that was found lies in the map
+-- a range that was found lies in the map
 last_marked : (up : Bool) (domain : ℕ → Bool) (map : List Status) (status : Status) (from start end : ℕ)
-    → IsNextRun up (IsMarked domain map status) from start end → (start < end) × IsMarked domain map status (end - 1)
+    → IsNextRange up (IsMarked domain map status) from start end → (start < end) × IsMarked domain map status (end - 1)
 last_marked true domain map status from start end r =
     (r.1.begun, r.1.within (end - 1) (omega (arith, r.1.begun)) (omega (arith, r.1.begun)))
 last_marked false domain map status from start end r =
     (r.1.begun, r.1.within (end - 1) (omega (arith, r.1.begun)) (omega (arith, r.1.begun)))
 
-pub run_there : (up : Bool) (domain : ℕ → Bool) (map : List Status) (status : Status) (from start end : ℕ)
-    → IsNextRun up (IsMarked domain map status) from start end → end ≤ length map
-run_there up domain map status from start end r =
+pub range_there : (up : Bool) (domain : ℕ → Bool) (map : List Status) (status : Status) (from start end : ℕ)
+    → IsNextRange up (IsMarked domain map status) from start end → end ≤ length map
+range_there up domain map status from start end r =
     let last = last_marked up domain map status from start end r in
     omega (arith, last.0, slice_get_within map (end - 1) status last.1.has)
 
--- what is cut from a run that a machine's search finds is its request
-pub request_is : (s : Setting) (m : Machine) (phase : Phase) (place : Place) (map : List Status) (over : Option ℕ)
-    (status : Status) (f : Search) (start end pos to : ℕ) → StandsAt m phase place map over → status ≡ taken phase
-    → f ≡ search_of s m → IsNextRun f.up (IsMarked (left_in s over) map status) f.from start end → pos ≡ cut_start f s.sector start end
+-- what is cut from a range that a machine's search finds is its request
+pub request_is : (s : Setting) (m : Machine) (phase : Phase) (progress : Progress) (map : List Status) (over : Option ℕ)
+    (status : Status) (f : Search) (start end pos to : ℕ) → StandsAt m phase progress map over → status ≡ taken phase
+    → f ≡ search_of s m → IsNextRange f.up (IsMarked (left_in s over) map status) f.from start end → pos ≡ cut_start f s.sector start end
     → to ≡ cut_end f s.sector start end → IsRequest s m pos to
-request_is s m phase place map over status f start end pos to stands asks is run starts ends =
-    let p : Pass = numbered phase place.pass in
-    let marked : IsNextRun f.up (IsMarked (is_live s m) m.map (taken phase)) f.from start end
-    = subst (λ (o : Option ℕ). IsNextRun f.up (IsMarked (left_in s o) m.map (taken phase)) f.from start end) (sym stands.over)
-    (subst (λ (statuses : List Status). IsNextRun f.up (IsMarked (left_in s over) statuses (taken phase)) f.from start end)
+request_is s m phase progress map over status f start end pos to stands asks is range starts ends =
+    let p : Pass = numbered phase progress.pass in
+    let marked : IsNextRange f.up (IsMarked (is_live s m) m.map (taken phase)) f.from start end
+    = subst (λ (o : Option ℕ). IsNextRange f.up (IsMarked (left_in s o) m.map (taken phase)) f.from start end) (sym stands.over)
+    (subst (λ (statuses : List Status). IsNextRange f.up (IsMarked (left_in s over) statuses (taken phase)) f.from start end)
     (sym stands.map)
-    (subst (λ (t : Status). IsNextRun f.up (IsMarked (left_in s over) map t) f.from start end) asks run)) in
-    let wanted : IsNextRun f.up (IsWanted s m) f.from start end
-    = run_alike f.up (IsMarked (is_live s m) m.map (taken phase)) (IsWanted s m) f.from start end
+    (subst (λ (t : Status). IsNextRange f.up (IsMarked (left_in s over) map t) f.from start end) asks range)) in
+    let wanted : IsNextRange f.up (IsWanted s m) f.from start end
+    = range_alike f.up (IsMarked (is_live s m) m.map (taken phase)) (IsWanted s m) f.from start end
     (λ x holds. marked_wanted s m p x stands.passes holds) (λ x holds. wanted_marked s m p x stands.passes holds) marked in
     record {
       start = start;
       end = end;
-      run = subst (λ (g : Search). IsNextRun g.up (IsWanted s m) g.from start end) is wanted;
+      range = subst (λ (g : Search). IsNextRange g.up (IsWanted s m) g.from start end) is wanted;
       starts = starts ∙ ap (λ (g : Search). cut_start g s.sector start end) is;
       ends = ends ∙ ap (λ (g : Search). cut_end g s.sector start end) is;
     }
 
--- where a run is, something lies ahead
-some_ahead : (up : Bool) (P : ℕ → Type 0) (from start end : ℕ) → IsNextRun up P from start end
+-- where a range is, something lies ahead
+some_ahead : (up : Bool) (P : ℕ → Type 0) (from start end : ℕ) → IsNextRange up P from start end
     → ((x : ℕ) → P x → (if up then nat_le from x else nat_lt x from) ≡ true → ⊥) → ⊥
 some_ahead true P from start end r none = none start r.0.holds (le-leb from start r.0.after)
 some_ahead false P from start end r none =
     none (end - 1) r.0.holds (lt-ltb (end - 1) from (omega (arith, r.0.some, r.0.below)))
 
 -- where nothing that is marked lies ahead a machine has no request
-pub no_request : (s : Setting) (m : Machine) (phase : Phase) (place : Place) (map : List Status) (over : Option ℕ)
-    (status : Status) (f : Search) → StandsAt m phase place map over → status ≡ taken phase → f ≡ search_of s m
+pub no_request : (s : Setting) (m : Machine) (phase : Phase) (progress : Progress) (map : List Status) (over : Option ℕ)
+    (status : Status) (f : Search) → StandsAt m phase progress map over → status ≡ taken phase → f ≡ search_of s m
     → ((x : ℕ) → is_ahead f x ≡ true → IsMarked (left_in s over) map status x → ⊥) → has_request s m ≡ false
-no_request s m phase place map over status f stands asks is none =
+no_request s m phase progress map over status f stands asks is none =
     false_from_ne_true (has_request s m) (λ has.
     let found = request_found s m has in
     let g : Search = search_of s m in
-    some_ahead g.up (IsWanted s m) g.from found.2.start found.2.end found.2.run (λ x wanted ahead.
+    some_ahead g.up (IsWanted s m) g.from found.2.start found.2.end found.2.range (λ x wanted ahead.
     none x (subst (λ (h : Search). is_ahead h x ≡ true) (sym is) ahead)
     (subst (λ (t : Status). IsMarked (left_in s over) map t x) (sym asks)
     (subst (λ (statuses : List Status). IsMarked (left_in s over) statuses (taken phase) x) stands.map
     (subst (λ (o : Option ℕ). IsMarked (left_in s o) m.map (taken phase) x) stands.over
-    (wanted_marked s m (numbered phase place.pass) x stands.passes wanted))))))
+    (wanted_marked s m (numbered phase progress.pass) x stands.passes wanted))))))
 
--- what is cut of the next run of a machine's search is its request
-pub cut_is : (s : Setting) (m : Machine) (phase : Phase) (place : Place) (map : List Status) (over : Option ℕ)
-    (status : Status) (f : Search) (pos to : ℕ) → StandsAt m phase place map over → status ≡ taken phase
+-- what is cut of the next range of a machine's search is its request
+pub cut_is : (s : Setting) (m : Machine) (phase : Phase) (progress : Progress) (map : List Status) (over : Option ℕ)
+    (status : Status) (f : Search) (pos to : ℕ) → StandsAt m phase progress map over → status ≡ taken phase
     → f ≡ search_of s m → IsCutOf f s.sector (left_in s over) map status pos to → IsRequest s m pos to
-cut_is s m phase place map over status f pos to stands asks is cut =
-    request_is s m phase place map over status f cut.start cut.end pos to stands asks is cut.run cut.starts cut.ends
+cut_is s m phase progress map over status f pos to stands asks is cut =
+    request_is s m phase progress map over status f cut.start cut.end pos to stands asks is cut.range cut.starts cut.ends
 
--- before a run, upwards, trimming finds the same from where nothing is left before
+-- before a range, upwards, trimming finds the same from where nothing is left before
 abbrev upwards : ℕ → ℕ → Search
 upwards from size = record { up = true; from = from; front = true; size = size }
 
 abbrev IsClear : (domain : ℕ → Bool) → List Status → ℕ → Type 0
 IsClear domain map from = (x : ℕ) → x < from → IsMarked domain map NonTrimmed x → ⊥
 
-clear_run : (domain : ℕ → Bool) (map : List Status) (from start end : ℕ) → IsClear domain map from
-    → IsNextRun true (IsMarked domain map NonTrimmed) from start end
-    → IsNextRun true (IsMarked domain map NonTrimmed) 0 start end
-clear_run domain map from start end clear run = (
+clear_range : (domain : ℕ → Bool) (map : List Status) (from start end : ℕ) → IsClear domain map from
+    → IsNextRange true (IsMarked domain map NonTrimmed) from start end
+    → IsNextRange true (IsMarked domain map NonTrimmed) 0 start end
+clear_range domain map from start end clear range = (
   record {
     after = omega arith;
-    holds = run.0.holds;
+    holds = range.0.holds;
     least = λ y after holds. ⊎_elim (λ (lt : y < from). absurd (clear y lt holds))
-        (λ (ge : from ≤ y). run.0.least y ge holds) (cases_lt y from);
+        (λ (ge : from ≤ y). range.0.least y ge holds) (cases_lt y from);
   },
-  run.1,
+  range.1,
 )
 
-from_front : (s : Setting) (m : Machine) (place : Place) (map : List Status) {over : Option ℕ}
-    → StandsAt m Trimming place map over → place.mode ≡ Lead → is_up s (numbered Trimming place.pass) ≡ true → upwards 0 s.sector ≡ search_of s m
-from_front s m place map stands lead up =
-    lead_search s m Trimming place map 0 true stands refl lead (sym up)
-    (sym (start_up s (numbered Trimming place.pass) map up))
+from_front : (s : Setting) (m : Machine) (progress : Progress) (map : List Status) {over : Option ℕ}
+    → StandsAt m Trimming progress map over → progress.mode ≡ Lead → is_up s (numbered Trimming progress.pass) ≡ true → upwards 0 s.sector ≡ search_of s m
+from_front s m progress map stands lead up =
+    lead_search s m Trimming progress map 0 true stands refl lead (sym up)
+    (sym (start_up s (numbered Trimming progress.pass) map up))
 
-pub lead_is : (s : Setting) (m : Machine) (place : Place) (map : List Status) (over : Option ℕ) (pos to : ℕ)
-    → StandsAt m Trimming place map over → place.mode ≡ Lead → is_up s (numbered Trimming place.pass) ≡ true
-    → IsClear (left_in s over) map place.cursor
-    → IsCutOf (upwards place.cursor s.sector) s.sector (left_in s over) map NonTrimmed pos to → IsRequest s m pos to
-lead_is s m place map over pos to stands lead up clear cut =
-    request_is s m Trimming place map over NonTrimmed (upwards 0 s.sector) cut.start cut.end pos to stands refl
-    (from_front s m place map stands lead up)
-    (clear_run (left_in s over) map place.cursor cut.start cut.end clear cut.run) cut.starts cut.ends
+pub lead_is : (s : Setting) (m : Machine) (progress : Progress) (map : List Status) (over : Option ℕ) (pos to : ℕ)
+    → StandsAt m Trimming progress map over → progress.mode ≡ Lead → is_up s (numbered Trimming progress.pass) ≡ true
+    → IsClear (left_in s over) map progress.cursor
+    → IsCutOf (upwards progress.cursor s.sector) s.sector (left_in s over) map NonTrimmed pos to → IsRequest s m pos to
+lead_is s m progress map over pos to stands lead up clear cut =
+    request_is s m Trimming progress map over NonTrimmed (upwards 0 s.sector) cut.start cut.end pos to stands refl
+    (from_front s m progress map stands lead up)
+    (clear_range (left_in s over) map progress.cursor cut.start cut.end clear cut.range) cut.starts cut.ends
 
-pub lead_none : (s : Setting) (m : Machine) (place : Place) (map : List Status) (over : Option ℕ)
-    → StandsAt m Trimming place map over → place.mode ≡ Lead → is_up s (numbered Trimming place.pass) ≡ true
-    → IsClear (left_in s over) map place.cursor
-    → ((x : ℕ) → is_ahead (upwards place.cursor s.sector) x ≡ true → IsMarked (left_in s over) map NonTrimmed x → ⊥)
+pub lead_none : (s : Setting) (m : Machine) (progress : Progress) (map : List Status) (over : Option ℕ)
+    → StandsAt m Trimming progress map over → progress.mode ≡ Lead → is_up s (numbered Trimming progress.pass) ≡ true
+    → IsClear (left_in s over) map progress.cursor
+    → ((x : ℕ) → is_ahead (upwards progress.cursor s.sector) x ≡ true → IsMarked (left_in s over) map NonTrimmed x → ⊥)
     → has_request s m ≡ false
-lead_none s m place map over stands lead up clear none =
-    no_request s m Trimming place map over NonTrimmed (upwards 0 s.sector) stands refl
-    (from_front s m place map stands lead up)
-    (λ x ahead marked. ⊎_elim (λ (lt : x < place.cursor). clear x lt marked)
-    (λ (ge : place.cursor ≤ x). none x (le-leb place.cursor x ge) marked) (cases_lt x place.cursor))
+lead_none s m progress map over stands lead up clear none =
+    no_request s m Trimming progress map over NonTrimmed (upwards 0 s.sector) stands refl
+    (from_front s m progress map stands lead up)
+    (λ x ahead marked. ⊎_elim (λ (lt : x < progress.cursor). clear x lt marked)
+    (λ (ge : progress.cursor ≤ x). none x (le-leb progress.cursor x ge) marked) (cases_lt x progress.cursor))
 
 pub if_none : {X P Q : Type 0} (o : Option X) → (P → Q) → IfNone o P → IfNone o Q
 if_none None next holds = next holds
 if_none (Some x) next holds = holds
 
--- nothing is left to trim before the cursor of a run that trims upwards, before a run
+-- nothing is left to trim before the cursor of a run that trims upwards, before a range
 pub led_clear : (r : RunState) → r.phase ≡ Trimming → is_up (setting_in r) (numbered r.phase r.pass) ≡ true
     → r.machine.mode ≡ Lead → IsLed r
     → IsClear (is_live (setting_in r) r.machine) r.machine.map r.machine.cursor

@@ -1,6 +1,6 @@
 -- What is made of a run behind a read that was gathered, by its parts.
 use Rattle.std.specs.Prelude.{◌≡◌, ℕ, ◌+◌, ◌/◌, Bool, ◌&&◌, List, [], ◌∷◌, length, slice_get, Option}
-use Rattle.block_list.specs.declared.block.Run.{Run}
+use Rattle.block_list.specs.declared.block.Range.{Range}
 use Rattle.block_list.specs.declared.status.Status.{Status}
 use Rattle.mapfile_text.specs.declared.state.MapState.{MapState}
 use Rattle.faulty_source.specs.Ends.{is_before}
@@ -19,19 +19,19 @@ use Rattle.rescue_rules.specs.Step.{Event, is_timely, map_after, step}
 use Rattle.rescue_core.specs.declared.gather.Gathered.{Gathered}
 use Rattle.rescue_core.specs.declared.landing.Kept.{Kept}
 use Rattle.rescue_core.specs.declared.settings.Settings.{Settings}
-use Rattle.rescue_core.specs.declared.state.Place.{Place}
+use Rattle.rescue_core.specs.declared.state.Progress.{Progress}
 use Rattle.rescue_core.specs.declared.state.Tally.{Tally}
 use Rattle.rescue_core.specs.declared.turn.Turn.{Turn}
 use Rattle.rescue_core.specs.declared.turn.Advanced.{Advanced}
-use Rattle.rescue_core.specs.RunState.{RunState, setting_in, Counted}
+use Rattle.rescue_core.specs.RunState.{RunState, setting_in, HasCounts}
 use Rattle.rescue_core.specs.Turning.{turn_of, stepped}
-use Rattle.rescue_core.specs.TurnParts.{RunsAt, IsReadOf, place_of, tally_of, fetched_of, end_met}
+use Rattle.rescue_core.specs.TurnParts.{RunsAt, IsReadOf, progress_of, tally_of, fetched_of, end_met}
 use Rattle.rescue_core.specs.Counting.{IsMarkedRead}
 
 -- the marks of what was kept
-abbrev pub Marks : Settings → Phase → Place → Request → Kept → List Status → List Status → Type 0
-Marks settings phase place request kept map map' =
-    (r : RunState) (reading : Reading) → RunsAt settings phase place r → r.machine.map ≡ map
+abbrev pub Marks : Settings → Phase → Progress → Request → Kept → List Status → List Status → Type 0
+Marks settings phase progress request kept map map' =
+    (r : RunState) (reading : Reading) → RunsAt settings phase progress r → r.machine.map ≡ map
     → reading.pos ≡ request.pos → IsCut settings.sector reading (fetched_of kept)
     → map' ≡ map_after (setting_in r) r.machine reading
 
@@ -40,13 +40,13 @@ abbrev pub Meets : Settings → Kept → Option ℕ → Type 0
 Meets settings kept end = (reading : Reading) → IsCut settings.sector reading (fetched_of kept) → end ≡ end_met reading
 
 -- where the run stands then
-abbrev pub Places : Settings → Phase → Place → Request → Turn → (top : ℕ) → (more : Bool) → Place → Type 0
-Places settings phase place request turn top more place' =
-    (r : RunState) (e : Event) → RunsAt settings phase place r → IsReadOf request turn.given turn.ended e.reading
+abbrev pub Places : Settings → Phase → Progress → Request → Turn → (top : ℕ) → (more : Bool) → Progress → Type 0
+Places settings phase progress request turn top more progress' =
+    (r : RunState) (e : Event) → RunsAt settings phase progress r → IsReadOf request turn.given turn.ended e.reading
     → turn ≡ turn_of r e → length r.machine.map ≡ top
     → (phase ≡ Trimming → more ≡ is_wanted (setting_in r)
     (record r.machine { map = map_after (setting_in r) r.machine e.reading }) (request.pos + request.len))
-    → place' ≡ place_of place.pass (step (setting_in r) r.machine e)
+    → progress' ≡ progress_of progress.pass (step (setting_in r) r.machine e)
 
 -- what it has come to
 abbrev pub Tallies : Tally → Turn → (after : ℕ) → MapState → (end : Option ℕ) → Tally → Type 0
@@ -58,23 +58,23 @@ Tallies tally turn after shown end tally' =
 -- its counts
 abbrev pub Recounts : Counts → Live → List Status → Phase → Request → Turn → (end : Option ℕ) → Counts → Type 0
 Recounts counts live map' phase request turn end counts' =
-    (r : RunState) (e : Event) (heard : Bool) → Counted r counts → IsMarkedRead r e phase request turn live map'
-    → end ≡ end_met e.reading → Counted (stepped r e heard) counts'
+    (r : RunState) (e : Event) (heard : Bool) → HasCounts r counts → IsMarkedRead r e phase request turn live map'
+    → end ≡ end_met e.reading → HasCounts (stepped r e heard) counts'
 
 -- all of these, and what is due
-pub record GoesOn (settings : Settings) (domain : List Run) (phase : Phase) (request : Request) (got : Gathered)
-    (map map' : List Status) (place place' : Place) (tally tally' : Tally) (counts counts' : Counts)
+pub record GoesOnBehind (settings : Settings) (domain : List Range) (phase : Phase) (request : Request) (got : Gathered)
+    (map map' : List Status) (progress progress' : Progress) (tally tally' : Tally) (counts counts' : Counts)
     (advanced : Advanced) : Type 0 where
-  pub marks : Marks settings phase place request got.kept map map'
+  pub marks : Marks settings phase progress request got.kept map map'
   pub end : Option ℕ
   pub meets : Meets settings got.kept end
   pub more : Bool
   pub more_is : phase ≡ Trimming → more
       ≡ ((covers domain (request.pos + request.len) && is_before tally.over (request.pos + request.len))
       && has_taken (numbered phase 1 ∷ []) (slice_get map' (request.pos + request.len)))
-  pub places : Places settings phase place request got.turn (length map) more place'
+  pub places : Places settings phase progress request got.turn (length map) more progress'
   pub shown : MapState
-  pub shown_is : shown ≡ record { pos = place'.cursor; current = current_of phase; pass = place'.pass }
+  pub shown_is : shown ≡ record { pos = progress'.cursor; current = current_of phase; pass = progress'.pass }
   pub tallies : Tallies tally got.turn got.after shown end tally'
   pub left : Live
   pub domain_is : left.domain.now ≡ domain

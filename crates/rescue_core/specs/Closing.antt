@@ -10,15 +10,15 @@ use Rattle.rescue_rules.specs.declared.stop.RunEnd.TheVariants.{Done, Stopped, S
 use Rattle.rescue_rules.specs.Snapshots.{Snapshot, snapshot_of, finished_snapshot}
 use Rattle.rescue_rules.specs.RunCalls.{closing_calls}
 use Rattle.rescue_rules.specs.Lines.{is_done, last_line}
-use Rattle.rescue_console.specs.Speaking.{Piece, out_pieces}
+use Rattle.rescue_console.specs.Speaking.{SpokenPiece, out_pieces}
 use Rattle.rescue_core.specs.RunState.{RunState, setting_in}
 
 -- whether a draft is left begun behind a stop
-abbrev pub drafting_after : Stop → Bool
-drafting_after SourceLost = false
-drafting_after (Site call) = drafting_after_fault call false
-drafting_after (LimitMet limit) = false
-drafting_after NoMemory = false
+abbrev pub drafting_at_stop : Stop → Bool
+drafting_at_stop SourceLost = false
+drafting_at_stop (Site call) = drafting_after_fault call false
+drafting_at_stop (LimitMet limit) = false
+drafting_at_stop NoMemory = false
 
 -- what is saved: a run without a stop is finished
 abbrev pub closing_snapshot : Option Stop → RunState → Snapshot
@@ -62,5 +62,5 @@ MayClose (Some (LimitMet limit)) site = site.is_drafting ≡ false
 MayClose (Some NoMemory) site = site.is_drafting ≡ false
 
 -- what is said last
-abbrev pub last_pieces : RunState → RunEnd → List Piece
+abbrev pub last_pieces : RunState → RunEnd → List SpokenPiece
 last_pieces r end = out_pieces (last_line (setting_in r) (is_done end) r.machine ∷ [])

@@ -2,32 +2,32 @@
 use Rattle.std.specs.Prelude.{◌≡◌, ◌≢◌, ℕ, zero, suc, ◌+◌, ◌*◌, ◌≤◌, Bool, List, if◌then◌else◌}
 use Rattle.block_list.specs.declared.status.Status.{Status}
 use Rattle.block_list.specs.Status.{same}
-use Rattle.block_list.specs.Places.{IsFirst, IsRunUp}
+use Rattle.block_list.specs.Places.{IsFirst, IsRangeUp}
 use Rattle.rescue_core.specs.Search.{IsMarked}
 
 -- one status in the place of another
 abbrev pub replaced : (from to : Status) → Status → Status
 replaced from to status = if same status from then to else status
 
--- from a place on, the positions that have a property make so many runs
-abbrev pub HasRuns : (ℕ → Type 0) → (from count : ℕ) → Type 0
-HasRuns P from zero = (x : ℕ) → from ≤ x → P x → ⊥
-HasRuns P from (suc count) =
-    (start : ℕ) × (end : ℕ) × IsFirst P from start × IsRunUp P start end × HasRuns P end count
+-- from a place on, the positions that have a property make so many ranges
+abbrev pub HasRanges : (ℕ → Type 0) → (from count : ℕ) → Type 0
+HasRanges P from zero = (x : ℕ) → from ≤ x → P x → ⊥
+HasRanges P from (suc count) =
+    (start : ℕ) × (end : ℕ) × IsFirst P from start × IsRangeUp P start end × HasRanges P end count
 
--- the positions of a domain whose status is to be replaced by another one make so many runs
-pub record HasChanges (domain : ℕ → Bool) (map : List Status) (from to : Status) (runs : ℕ) : Type 0 where
-  pub some : from ≢ to → HasRuns (IsMarked domain map from) 0 runs
-  pub none : from ≡ to → runs ≡ 0
+-- the positions of a domain whose status is to be replaced by another one make so many ranges
+pub record HasChanges (domain : ℕ → Bool) (map : List Status) (from to : Status) (ranges : ℕ) : Type 0 where
+  pub some : from ≢ to → HasRanges (IsMarked domain map from) 0 ranges
+  pub none : from ≡ to → ranges ≡ 0
 
 -- there is spare for two blocks more for each of them
 pub record HasRoom (domain : ℕ → Bool) (map : List Status) (from to : Status) (spare : ℕ) : Type 0 where
-  pub runs : ℕ
-  pub changes : HasChanges domain map from to runs
-  pub enough : 2 * runs ≤ spare
+  pub ranges : ℕ
+  pub changes : HasChanges domain map from to ranges
+  pub enough : 2 * ranges ≤ spare
 
 -- so many blocks, and two more for each of them
 pub record TakesRoom (domain : ℕ → Bool) (map : List Status) (from to : Status) (others room : ℕ) : Type 0 where
-  pub runs : ℕ
-  pub changes : HasChanges domain map from to runs
-  pub total : room ≡ others + 2 * runs
+  pub ranges : ℕ
+  pub changes : HasChanges domain map from to ranges
+  pub total : room ≡ others + 2 * ranges

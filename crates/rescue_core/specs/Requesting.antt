@@ -3,9 +3,9 @@ use Rattle.std.specs.Prelude.{◌≡◌, ℕ, Bool, List, ◌∷◌, drop, Optio
 use Rattle.block_list.specs.declared.status.Status.{Status}
 use Rattle.rescue_rules.specs.declared.phase.Phase.{Phase}
 use Rattle.rescue_rules.specs.Passes.{numbered}
-use Rattle.rescue_rules.specs.Machine.{Machine, Search as RulesSearch, IsNextRun, cut_start, cut_end}
+use Rattle.rescue_rules.specs.Machine.{Machine, Search as RulesSearch, IsNextRange, cut_start, cut_end}
 use Rattle.rescue_core.specs.declared.request.Search.{Search}
-use Rattle.rescue_core.specs.declared.state.Place.{Place}
+use Rattle.rescue_core.specs.declared.state.Progress.{Progress}
 use Rattle.rescue_core.specs.Search.{IsMarked}
 
 -- a search, as the rules have it
@@ -13,19 +13,19 @@ abbrev pub search_by : Search → RulesSearch
 search_by f = record { up = f.up; from = f.from; front = f.front; size = f.size }
 
 -- a machine stands at a place of a phase, over a map, and this is where the input was found to end, if it was
-pub record StandsAt (m : Machine) (phase : Phase) (place : Place) (statuses : List Status) (end : Option ℕ)
+pub record StandsAt (m : Machine) (phase : Phase) (progress : Progress) (statuses : List Status) (end : Option ℕ)
     : Type 0 where
-  pub passes : m.passes ≡ numbered phase place.pass ∷ drop 1 m.passes
-  pub cursor : m.cursor ≡ place.cursor
-  pub mode : m.mode ≡ place.mode
+  pub passes : m.passes ≡ numbered phase progress.pass ∷ drop 1 m.passes
+  pub cursor : m.cursor ≡ progress.cursor
+  pub mode : m.mode ≡ progress.mode
   pub map : m.map ≡ statuses
   pub over : m.over ≡ end
 
--- what is cut of the next run of a search, from p up to q: a run of positions of a domain that have a status
+-- what is cut of the next range of a search, from p up to q: a range of positions of a domain that have a status
 pub record IsCutOf (f : RulesSearch) (sector : ℕ) (domain : ℕ → Bool) (map : List Status) (status : Status)
     (p q : ℕ) : Type 0 where
   pub start : ℕ
   pub end : ℕ
-  pub run : IsNextRun f.up (IsMarked domain map status) f.from start end
+  pub range : IsNextRange f.up (IsMarked domain map status) f.from start end
   pub starts : p ≡ cut_start f sector start end
   pub ends : q ≡ cut_end f sector start end

@@ -1,6 +1,6 @@
 -- What is known of a run between its turns.
 use Rattle.std.specs.Prelude.{◌≡◌, ℕ, ◌+◌, ◌-◌, ◌*◌, ◌^◌, ◌<◌, ◌≤◌, Bool, true, false, not, List, [], length, drop, Option, Some, None, is_some}
-use Rattle.block_list.specs.declared.block.Run.{Run}
+use Rattle.block_list.specs.declared.block.Range.{Range}
 use Rattle.block_list.specs.declared.status.Status.{Status}
 use Rattle.block_list.specs.declared.status.Status.TheVariants.{NonTrimmed}
 use Rattle.block_list.specs.Map.{Has}
@@ -20,14 +20,14 @@ use Rattle.rescue_rules.specs.Counts.{counts_of}
 use Rattle.rescue_rules.specs.Beginning.{first_pass, nothing_shown, machine_of}
 use Rattle.rescue_domain.specs.Parts.{covers}
 use Rattle.rescue_core.specs.declared.settings.Settings.{Settings}
-use Rattle.rescue_core.specs.declared.state.Place.{Place}
+use Rattle.rescue_core.specs.declared.state.Progress.{Progress}
 use Rattle.rescue_core.specs.declared.state.Tally.{Tally}
 
 -- its settings, its domain, the names of its mapfile and its draft if there is a mapfile, the command line, the phase
 -- and the pass that it is in, and where it stands; and whether it is heard: lines are asked for, and each was put
 pub record RunState : Type 0 where
   pub settings : Settings
-  pub domain : List Run
+  pub domain : List Range
   pub names : Option MapNames
   pub line : List ℕ
   pub phase : Phase
@@ -43,7 +43,7 @@ names_in (Some names) = names
 -- what settings, a domain by its intervals, names and a command line ask for. A run knows neither the names of the
 -- input and of the output nor the input's length, nor what the output may be, nor how its map was prepared, nor whether
 -- more is said before it.
-abbrev pub setting_with : Settings → List Run → Option MapNames → List ℕ → Setting
+abbrev pub setting_with : Settings → List Range → Option MapNames → List ℕ → Setting
 setting_with settings domain names line = record {
   infile = [];
   outfile = [];
@@ -101,13 +101,13 @@ pub record HasPlaces (settings : Settings) (domain : ℕ → Bool) : Type 0 wher
   pub low : (x : ℕ) → domain x ≡ true → x - settings.ipos + settings.opos < 2 ^ 63 - 1
 
 -- the machine's state, from its parts
-abbrev pub machine_at : Setting → List Status → Phase → Place → Tally → Machine
-machine_at s map phase place tally = record {
+abbrev pub machine_at : Setting → List Status → Phase → Progress → Tally → Machine
+machine_at s map phase progress tally = record {
   map = map;
-  passes = passes_from s phase place.pass;
-  cursor = place.cursor;
-  mode = place.mode;
-  skip = place.skip;
+  passes = passes_from s phase progress.pass;
+  cursor = progress.cursor;
+  mode = progress.mode;
+  skip = progress.skip;
   failed = tally.failed;
   began = tally.began;
   now = tally.now;
@@ -121,16 +121,16 @@ machine_at s map phase place tally = record {
 }
 
 -- the run that these parts make
-abbrev pub run_at : Settings → List Run → Option MapNames → List ℕ → List Status → Phase → Place → Tally → Bool
+abbrev pub run_at : Settings → List Range → Option MapNames → List ℕ → List Status → Phase → Progress → Tally → Bool
     → RunState
-run_at settings domain names line map phase place tally heard = record {
+run_at settings domain names line map phase progress tally heard = record {
   settings = settings;
   domain = domain;
   names = names;
   line = line;
   phase = phase;
-  pass = place.pass;
-  machine = machine_at (setting_with settings domain names line) map phase place tally;
+  pass = progress.pass;
+  machine = machine_at (setting_with settings domain names line) map phase progress tally;
   heard = heard;
 }
 
@@ -138,7 +138,7 @@ run_at settings domain names line map phase place tally heard = record {
 abbrev pub IsGone : Status → RunState → Type 0
 IsGone status r = (x : ℕ) → is_live (setting_in r) r.machine x ≡ true → Has r.machine.map status x → ⊥
 
--- how far trimming upwards has come: to its last read, or at a run's back to what is left of that run
+-- how far trimming upwards has come: to its last read, or at a range's back to what is left of that range
 abbrev pub led_from : TrimMode → (cursor : ℕ) → ℕ
 led_from Lead cursor = cursor
 led_from (Tail low) cursor = low
@@ -167,7 +167,7 @@ pub record IsRunning (r : RunState) (room : ℕ) : Type 0 where
   pub room_is : room ≡ r.settings.cluster
 
 -- counts are those of what is left of the domain
-pub record Counted (r : RunState) (counts : Counts) : Type 0 where
+pub record HasCounts (r : RunState) (counts : Counts) : Type 0 where
   pub counts_are : counts ≡ counts_of (is_live (setting_in r) r.machine) r.machine.map
 
 -- what a run shows at first: what a mapfile showed that it goes on from, or a rescue that has done nothing
@@ -176,7 +176,7 @@ first_shown None = nothing_shown
 first_shown (Some state) = state
 
 -- a run at its start
-abbrev pub started : Settings → List Run → Option MapNames → List ℕ → List Status → Option MapState → (moment : ℕ)
+abbrev pub started : Settings → List Range → Option MapNames → List ℕ → List Status → Option MapState → (moment : ℕ)
     → (heard : Bool) → RunState
 started settings domain names line map loaded moment heard = record {
   settings = settings;
@@ -198,5 +198,5 @@ passed r phase pass = record r {
 }
 
 -- a run that shows another state
-abbrev pub showing : RunState → MapState → RunState
-showing r state = record r { machine = record r.machine { shown = state } }
+abbrev pub run_showing : RunState → MapState → RunState
+run_showing r state = record r { machine = record r.machine { shown = state } }

@@ -22,7 +22,7 @@ use Rattle.rescue_core.specs.declared.gather.Gathered.{Gathered}
 use Rattle.rescue_core.specs.declared.landing.Kept.{Kept}
 use Rattle.rescue_core.specs.declared.landing.Kept.TheVariants.{Whole as WholeKept, Part as PartKept, Nothing as NothingKept, Ended as EndedKept, Empty as EmptyKept}
 use Rattle.rescue_core.specs.declared.settings.Settings.{Settings}
-use Rattle.rescue_core.specs.declared.state.Place.{Place}
+use Rattle.rescue_core.specs.declared.state.Progress.{Progress}
 use Rattle.rescue_core.specs.declared.state.Tally.{Tally}
 use Rattle.rescue_core.specs.declared.timed.Timed.{Timed}
 use Rattle.rescue_core.specs.declared.turn.Advanced.{Advanced}
@@ -30,8 +30,8 @@ use Rattle.rescue_core.specs.RunState.{RunState, setting_in}
 use Rattle.rescue_core.specs.Turning.{IsEvent, turn_of, stepped, move_by}
 
 -- where a state stands, in a pass with this number
-abbrev pub place_of : (pass : ℕ) → Machine → Place
-place_of pass m = record { pass = pass; cursor = m.cursor; mode = m.mode; skip = m.skip }
+abbrev pub progress_of : (pass : ℕ) → Machine → Progress
+progress_of pass m = record { pass = pass; cursor = m.cursor; mode = m.mode; skip = m.skip }
 
 -- what it has come to
 abbrev pub tally_of : Machine → Tally
@@ -49,11 +49,11 @@ tally_of m = record {
 }
 
 -- a run with these settings, in this phase and at this place
-pub record RunsAt (settings : Settings) (phase : Phase) (place : Place) (r : RunState) : Type 0 where
+pub record RunsAt (settings : Settings) (phase : Phase) (progress : Progress) (r : RunState) : Type 0 where
   pub settings_are : r.settings ≡ settings
-  pub pass : pass_of r.machine ≡ numbered phase place.pass
-  pub mode : r.machine.mode ≡ place.mode
-  pub skip : r.machine.skip ≡ place.skip
+  pub pass : pass_of r.machine ≡ numbered phase progress.pass
+  pub mode : r.machine.mode ≡ progress.mode
+  pub skip : r.machine.skip ≡ progress.skip
 
 -- a read of what was requested, which gave so many bytes, and met the input's end or didn't
 pub record IsReadOf (request : Request) (given : ℕ) (ended : Bool) (reading : Reading) : Type 0 where
@@ -93,7 +93,7 @@ pub record IsCutAt (fetched : Fetched) (buf : List ℕ) (at : ℕ) (s : Setting)
   pub front : take (length r.given) buf ≡ r.given
   pub at_is : at ≡ place s r.pos
 
--- at a run's back a position isn't below the run
+-- at a range's back a position isn't below the range
 abbrev pub IsBackOf : TrimMode → (pos : ℕ) → Type 0
 IsBackOf Lead pos = ⊤
 IsBackOf (Tail low) pos = low ≤ pos

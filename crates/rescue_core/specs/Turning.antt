@@ -9,7 +9,7 @@ use Rattle.crash_site.specs.Calls.{Done, BrokeAt}
 use Rattle.crash_site.specs.SiteState.{Makes, Breaks}
 use Rattle.save_resume.specs.Saving.{save_calls, IsNameIn}
 use Rattle.rescue_console.specs.ClockState.{ClockState, Reads as ReadsClock}
-use Rattle.rescue_console.specs.Speaking.{Piece, SpeaksOn, out_pieces}
+use Rattle.rescue_console.specs.Speaking.{SpokenPiece, SpeaksOn, out_pieces}
 use Rattle.transfer_token.specs.declared.token.Request.{Request}
 use Rattle.rescue_rules.specs.declared.stop.Stop.{Stop}
 use Rattle.rescue_rules.specs.declared.stop.Stop.TheVariants.{SourceLost, Site, LimitMet, NoMemory}
@@ -58,7 +58,7 @@ turn_of r e = record {
 }
 
 -- what is said of an event: its line, if one is due
-abbrev pub move_pieces : RunState → Event → List Piece
+abbrev pub move_pieces : RunState → Event → List SpokenPiece
 move_pieces r e = out_pieces (move_lines (setting_in r) (move_by r e))
 
 -- A whole turn: one event of the request, its step, its write, its line, and the save that is due behind it; it meets no

@@ -3,15 +3,15 @@ ghost use Rattle.std.specs.Prelude.{◌+◌, ◌≤◌, length};
 ghost use Rattle.transfer_token.specs.Tokens.{Spans};
 ghost use Rattle.rescue_core.specs.RunState.{IsSound};
 ghost use Rattle.rescue_core.specs.TurnParts.{IsBackOf, fetched_of};
-ghost use Rattle.rescue_core.specs.Behind.{GoesOn};
+ghost use Rattle.rescue_core.specs.Behind.{GoesOnBehind};
 
 use crate::counts::count_behind;
 use crate::gather::Gathered;
 use crate::landing::Kept;
 use crate::mark::mark;
-use crate::place::place_behind;
+use crate::progress::progress_behind;
 use crate::settings::Settings;
-use crate::state::{Place, Tally};
+use crate::state::{Progress, Tally};
 use crate::tally::{Due, shown_at, tally_behind};
 use crate::turn::{Advanced, Turn};
 use crate::wanted::trims_on;
@@ -29,7 +29,7 @@ pub(crate) fn go_on_by_kind<T: Tiles>(
     settings: &Settings,
     domain: &Domain,
     tiles: &mut T,
-    place: &mut Place,
+    progress: &mut Progress,
     tally: &mut Tally,
     counts: &mut Counts,
     phase: Phase,
@@ -39,12 +39,12 @@ pub(crate) fn go_on_by_kind<T: Tiles>(
     requires sound { IsSound settings.now }
     requires spans { Spans request (fetched_of gathered.kept) }
     requires within { request.pos + request.len ≤ length (T.statuses tiles.old) }
-    requires back { IsBackOf place.old.mode request.pos }
+    requires back { IsBackOf progress.old.mode request.pos }
     requires spare { 6 ≤ T.spare tiles.old }
-    requires skip { place.old.skip ≤ settings.now.skip_max }
+    requires skip { progress.old.skip ≤ settings.now.skip_max }
     requires given { gathered.turn.given ≤ request.len }
-    ensures { GoesOn settings.now domain.now phase request gathered (T.statuses tiles.old) (T.statuses tiles.new)
-        place.old place.new tally.old tally.new counts.old counts.new result }
+    ensures { GoesOnBehind settings.now domain.now phase request gathered (T.statuses tiles.old) (T.statuses tiles.new)
+        progress.old progress.new tally.old tally.new counts.old counts.new result }
 {
     let Gathered { kept, turn, after } = gathered;
     match kept {
@@ -59,13 +59,13 @@ pub(crate) fn go_on_by_kind<T: Tiles>(
             let gathered = Gathered { kept, turn, after };
             let phase = Phase::Copying;
             go_on(
-                settings, domain, tiles, place, tally, counts, phase, request, gathered,
+                settings, domain, tiles, progress, tally, counts, phase, request, gathered,
             )
         }
         kept => {
             let gathered = Gathered { kept, turn, after };
             go_on(
-                settings, domain, tiles, place, tally, counts, phase, request, gathered,
+                settings, domain, tiles, progress, tally, counts, phase, request, gathered,
             )
         }
     }
@@ -77,7 +77,7 @@ fn go_on<T: Tiles>(
     settings: &Settings,
     domain: &Domain,
     tiles: &mut T,
-    place: &mut Place,
+    progress: &mut Progress,
     tally: &mut Tally,
     counts: &mut Counts,
     phase: Phase,
@@ -87,25 +87,25 @@ fn go_on<T: Tiles>(
     requires sound { IsSound settings.now }
     requires spans { Spans request (fetched_of gathered.kept) }
     requires within { request.pos + request.len ≤ length (T.statuses tiles.old) }
-    requires back { IsBackOf place.old.mode request.pos }
+    requires back { IsBackOf progress.old.mode request.pos }
     requires spare { 6 ≤ T.spare tiles.old }
-    requires skip { place.old.skip ≤ settings.now.skip_max }
+    requires skip { progress.old.skip ≤ settings.now.skip_max }
     requires given { gathered.turn.given ≤ request.len }
-    ensures { GoesOn settings.now domain.now phase request gathered (T.statuses tiles.old) (T.statuses tiles.new)
-        place.old place.new tally.old tally.new counts.old counts.new result }
+    ensures { GoesOnBehind settings.now domain.now phase request gathered (T.statuses tiles.old) (T.statuses tiles.new)
+        progress.old progress.new tally.old tally.new counts.old counts.new result }
 {
     let Gathered { kept, turn, after } = gathered;
     let top = tiles.end();
     let end = request.pos + request.len as u64;
-    let met = mark(tiles, kept, request, settings, phase, *place);
+    let met = mark(tiles, kept, request, settings, phase, *progress);
     let live = Live {
         domain,
         over: tally.over,
     };
     count_behind(counts, live, tiles, phase, request, turn, met);
     let more = trims_on(live, tiles, phase, end);
-    place_behind(settings, phase, place, top, request, turn, more);
-    let shown = shown_at(phase, *place);
+    progress_behind(settings, phase, progress, top, request, turn, more);
+    let shown = shown_at(phase, *progress);
     let Due { speaks, saves } = tally_behind(tally, turn, after, shown, met);
     Advanced {
         turn,

@@ -7,7 +7,7 @@ ghost use Rattle.rescue_rules.specs.Machine.{is_live};
 ghost use Rattle.rescue_rules.specs.Recounts.{ComesIn, EndsAt, GoesOut, is_in_front};
 ghost use Rattle.rescue_rules.specs.Step.{Event, copies};
 ghost use Rattle.rescue_core.specs.Counting.{IsMarkedRead, counts_within, failed_in, finished_in};
-ghost use Rattle.rescue_core.specs.RunState.{RunState, setting_in, Counted};
+ghost use Rattle.rescue_core.specs.RunState.{RunState, setting_in, HasCounts};
 ghost use Rattle.rescue_core.specs.Turning.{stepped};
 ghost use Rattle.rescue_core.specs.TurnParts.{end_met};
 
@@ -41,9 +41,9 @@ pub(crate) fn count_behind<T: Tiles>(
     turn: Turn,
     end: Option<u64>,
 )
-    ensures { (r : RunState) (e : Event) (heard : Bool) → Counted r counts.old
+    ensures { (r : RunState) (e : Event) (heard : Bool) → HasCounts r counts.old
         → IsMarkedRead r e phase request turn live.entry (T.statuses tiles.now) → end ≡ end_met e.reading
-        → Counted (stepped r e heard) counts.new }
+        → HasCounts (stepped r e heard) counts.new }
 {
     counts.rescued = counts.rescued.saturating_add(turn.kept);
     fail_behind(&mut counts.failed, live, tiles, phase, request, turn);

@@ -7,7 +7,7 @@ ghost use Rattle.rescue_console.specs.ConsoleState.{ConsoleState};
 ghost use Rattle.transfer_token.specs.Tokens.{Spans};
 ghost use Rattle.rescue_core.specs.RunState.{RunState, IsSound};
 ghost use Rattle.rescue_core.specs.Turning.{Halted};
-ghost use Rattle.rescue_core.specs.Closing.{drafting_after};
+ghost use Rattle.rescue_core.specs.Closing.{drafting_at_stop};
 ghost use Rattle.rescue_core.specs.TurnParts.{fetched_of, Gathers};
 
 use crate::landing::{Kept, land_kept};
@@ -62,7 +62,7 @@ pub(crate) fn gather<S: Source, D: Site, K: Clock>(
           console = console;
           console' = console;
         })) }
-    ensures draft { IfErr result (λ stop. drafting_after stop ≡ false) }
+    ensures draft { IfErr result (λ stop. drafting_at_stop stop ≡ false) }
     ensures same { length buf.new ≡ length buf.old }
     ensures source { SourceStays (S.state source.old) (S.state source.new) }
     ensures site { SiteStays (D.state site.old) (D.state site.new) }

@@ -30,8 +30,8 @@ impl Kept {
     {
         match self {
             Kept::Whole(landed) | Kept::Part(landed, _) | Kept::Ended(landed, _) => {
-                let run = landed.range();
-                run.to - run.from
+                let range = landed.range();
+                range.to - range.from
             }
             Kept::Nothing(_) | Kept::Empty(_) => 0,
         }

@@ -1,8 +1,8 @@
 //! The limits that are set to a run.
 ghost use Rattle.std.specs.Prelude.{◌≡◌, ◌-◌, Some, None, if◌then◌else◌};
 ghost use Rattle.rescue_rules.specs.declared.stop.Limit.TheVariants.{TimedOut};
-ghost use Rattle.rescue_rules.specs.Step.{areas_allowed, is_beyond, limit_met, time_allowed};
-ghost use Rattle.rescue_core.specs.RunState.{RunState, Counted, setting_in};
+ghost use Rattle.rescue_rules.specs.Step.{areas_allowed, exceeds, limit_met, time_allowed};
+ghost use Rattle.rescue_core.specs.RunState.{RunState, HasCounts, setting_in};
 ghost use Rattle.rescue_core.specs.TurnParts.{tally_of};
 
 use crate::settings::Settings;
@@ -11,8 +11,8 @@ use rescue_rules::report::Counts;
 use rescue_rules::stop::Limit;
 
 /// Whether a number is beyond a limit, if there is one.
-fn is_beyond(limit: Option<u64>, number: u64) -> bool
-    ensures { result ≡ is_beyond limit number }
+fn exceeds(limit: Option<u64>, number: u64) -> bool
+    ensures { result ≡ exceeds limit number }
 {
     match limit {
         None => false,
@@ -23,7 +23,7 @@ fn is_beyond(limit: Option<u64>, number: u64) -> bool
 /// Whether more areas have failed than may.
 fn has_too_many(settings: &Settings, tally: Tally, areas: u64) -> bool
     ensures { (r : RunState) → r.settings ≡ settings.now → tally ≡ tally_of r.machine
-        → result ≡ is_beyond (areas_allowed (setting_in r) r.machine) areas }
+        → result ≡ exceeds (areas_allowed (setting_in r) r.machine) areas }
 {
     match settings.max_areas {
         None => false,
@@ -35,7 +35,7 @@ fn has_too_many(settings: &Settings, tally: Tally, areas: u64) -> bool
 /// The limit of a run that had no read but failed ones for longer than may be.
 fn late(settings: &Settings, tally: Tally) -> Option<Limit>
     ensures { (r : RunState) → r.settings ≡ settings.now → tally ≡ tally_of r.machine
-        → result ≡ (if is_beyond (time_allowed (setting_in r)) (r.machine.now - r.machine.whole_at)
+        → result ≡ (if exceeds (time_allowed (setting_in r)) (r.machine.now - r.machine.whole_at)
         then Some (TimedOut (r.machine.now - r.machine.whole_at)) else None) }
 {
     let seconds = settings.timeout?;
@@ -49,12 +49,12 @@ fn late(settings: &Settings, tally: Tally) -> Option<Limit>
 
 /// The limit that a run has met, if it has, by what it has come to and its counts: none before its first event.
 pub(crate) fn limit_met(settings: &Settings, tally: Tally, counts: Counts) -> Option<Limit>
-    ensures { (r : RunState) → r.settings ≡ settings.now → tally ≡ tally_of r.machine → Counted r counts
+    ensures { (r : RunState) → r.settings ≡ settings.now → tally ≡ tally_of r.machine → HasCounts r counts
         → result ≡ limit_met (setting_in r) r.machine }
 {
     if tally.said.is_none() {
         None
-    } else if is_beyond(settings.max_errors, tally.failed) {
+    } else if exceeds(settings.max_errors, tally.failed) {
         Some(Limit::TooManyErrors(tally.failed))
     } else if has_too_many(settings, tally, counts.failed.areas) {
         Some(Limit::TooManyAreas(counts.failed.areas))

@@ -11,7 +11,7 @@ ghost use Rattle.rescue_core.specs.TurnParts.{RunsAt, fetched_of, end_met, IsBac
 
 use crate::landing::Kept;
 use crate::settings::Settings;
-use crate::state::Place;
+use crate::state::Progress;
 use block_list::status::Status;
 use block_list::tiles::Tiles;
 use rescue_rules::phase::Phase;
@@ -27,13 +27,13 @@ pub(crate) fn mark<T: Tiles>(
     request: Request,
     settings: &Settings,
     phase: Phase,
-    place: Place,
+    progress: Progress,
 ) -> Option<u64>
     requires spans { Spans request (fetched_of kept) }
     requires within { request.pos + request.len ≤ length (T.statuses tiles.old) }
-    requires back { IsBackOf place.mode request.pos }
+    requires back { IsBackOf progress.mode request.pos }
     requires spare { 6 ≤ T.spare tiles.old }
-    ensures map { (r : RunState) (reading : Reading) → RunsAt settings.now phase place r
+    ensures map { (r : RunState) (reading : Reading) → RunsAt settings.now phase progress r
         → r.machine.map ≡ T.statuses tiles.old → reading.pos ≡ request.pos
         → IsCut settings.now.sector reading (fetched_of kept)
         → T.statuses tiles.new ≡ map_after (setting_in r) r.machine reading }
@@ -47,12 +47,12 @@ pub(crate) fn mark<T: Tiles>(
         Kept::Part(landed, missed) => {
             book(tiles, landed);
             mark_missed(tiles, missed, settings, phase);
-            mark_between(tiles, place.mode, request.pos);
+            mark_between(tiles, progress.mode, request.pos);
             None
         }
         Kept::Nothing(missed) => {
             mark_missed(tiles, missed, settings, phase);
-            mark_between(tiles, place.mode, request.pos);
+            mark_between(tiles, progress.mode, request.pos);
             None
         }
         Kept::Ended(landed, over) => {
@@ -73,8 +73,8 @@ fn mark_missed<T: Tiles>(tiles: &mut T, missed: Missed, settings: &Settings, pha
     ensures size { length (T.statuses tiles.new) ≡ length (T.statuses tiles.old) }
     ensures spare { T.spare tiles.old ≤ T.spare tiles.new + 2 }
 {
-    let run = missed.range();
-    let status = if phase == Phase::Copying && settings.sector < run.to - run.from {
+    let range = missed.range();
+    let status = if phase == Phase::Copying && settings.sector < range.to - range.from {
         Status::NonTrimmed
     } else {
         Status::BadSector
@@ -82,7 +82,7 @@ fn mark_missed<T: Tiles>(tiles: &mut T, missed: Missed, settings: &Settings, pha
     book_missed(tiles, missed, status);
 }
 
-/// At a run's back, marks what lies between its front and a position for scraping.
+/// At a range's back, marks what lies between its front and a position for scraping.
 fn mark_between<T: Tiles>(tiles: &mut T, mode: TrimMode, pos: u64)
     requires back { IsBackOf mode pos }
     requires within { pos ≤ length (T.statuses tiles.old) }

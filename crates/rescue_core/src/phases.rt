@@ -7,11 +7,11 @@ ghost use Rattle.block_list.specs.declared.status.Status.TheVariants.{NonTried, 
 ghost use Rattle.rescue_rules.specs.Passes.{numbered};
 ghost use Rattle.rescue_rules.specs.Machine.{IsRequest, has_request};
 ghost use Rattle.rescue_rules.specs.Moves.{ready, no_pass_left};
-ghost use Rattle.rescue_core.specs.RunState.{RunState, setting_in, IsSound, Suits, HasPlaces, started, passed, showing, IsGone};
+ghost use Rattle.rescue_core.specs.RunState.{RunState, setting_in, IsSound, Suits, HasPlaces, started, passed, run_showing, IsGone};
 ghost use Rattle.rescue_domain.specs.Parts.{covers};
 ghost use Rattle.rescue_core.specs.Turning.{Turned, Halted};
 ghost use Rattle.rescue_console.specs.Speaking.{SpeaksOn};
-ghost use Rattle.rescue_core.specs.Closing.{Closes, MayClose, drafting_after, last_pieces};
+ghost use Rattle.rescue_core.specs.Closing.{Closes, MayClose, drafting_at_stop, last_pieces};
 ghost use Rattle.rescue_core.specs.Stages.{Reached, Begun, Copied, Trimmed, Scraped, Over};
 
 use crate::closing::Closed;
@@ -133,7 +133,7 @@ impl<T: Tiles> Rescue<Copying, T> {
     pub fn show_loaded(&mut self, state: MapState)
         requires pos { state.pos < 2 ^ 63 }
         requires pass { 0 < state.pass }
-        ensures { self.new ≡ showing self.old state }
+        ensures { self.new ≡ run_showing self.old state }
     {
         self.running.show_loaded(state);
     }
@@ -306,7 +306,7 @@ impl<P: Stage, T: Tiles> Rescue<P, T> {
           console' = C.state console.new;
         })) }
         ensures draft { OnOk result ((D.state site.new).is_drafting ≡ false) }
-        ensures draft_left { IfErr result (λ stop. (D.state site.new).is_drafting ≡ drafting_after stop) }
+        ensures draft_left { IfErr result (λ stop. (D.state site.new).is_drafting ≡ drafting_at_stop stop) }
         ensures image { (D.state site.new).is_open ≡ true }
         ensures source { SourceStays (S.state source.old) (S.state source.new) }
         ensures site { SiteKeeps (D.state site.old) (D.state site.new) }

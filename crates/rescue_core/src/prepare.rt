@@ -1,14 +1,14 @@
 //! What is made of a map before a run.
 ghost use Rattle.std.specs.Prelude.{◌≡◌, ℕ, ◌+◌, ◌*◌, ◌≤◌, Bool, List, OnOk, OnErr, IfOk, IfSome, IfNone};
 ghost use Rattle.block_list.specs.declared.status.Status.{Status};
-ghost use Rattle.block_list.specs.Places.{IsFirst, IsRunUp};
+ghost use Rattle.block_list.specs.Places.{IsFirst, IsRangeUp};
 ghost use Rattle.rescue_domain.specs.Parts.{covers};
 ghost use Rattle.rescue_rules.specs.Preparation.{prepared_status, prepared, IsChanged};
 ghost use Rattle.rescue_core.specs.Search.{IsMarked};
 ghost use Rattle.rescue_core.specs.Preparing.{replaced, HasChanges, HasRoom, TakesRoom};
 
 use crate::search::find_up;
-use block_list::block::Run;
+use block_list::block::Range;
 use block_list::status::Status;
 use block_list::tiles::{NoMemory, Tiles};
 use rescue_domain::domain::Domain;
@@ -56,12 +56,12 @@ fn prepared_to(again: bool, retrim: bool, status: Status) -> Status
     }
 }
 
-/// The first run, at or after a position, of positions of a domain that have a status.
-fn find_in<T: Tiles>(domain: &Domain, tiles: &T, from: u64, status: Status) -> Option<Run>
-    ensures first { IfSome result (λ run.
-        IsFirst (IsMarked (covers domain.now) (T.statuses tiles.now) status) from run.from) }
-    ensures run { IfSome result (λ run.
-        IsRunUp (IsMarked (covers domain.now) (T.statuses tiles.now) status) run.from run.to) }
+/// The first range, at or after a position, of positions of a domain that have a status.
+fn find_in<T: Tiles>(domain: &Domain, tiles: &T, from: u64, status: Status) -> Option<Range>
+    ensures first { IfSome result (λ range.
+        IsFirst (IsMarked (covers domain.now) (T.statuses tiles.now) status) from range.from) }
+    ensures range { IfSome result (λ range.
+        IsRangeUp (IsMarked (covers domain.now) (T.statuses tiles.now) status) range.from range.to) }
     ensures none { IfNone result ((x : ℕ) → from ≤ x
         → IsMarked (covers domain.now) (T.statuses tiles.now) status x → ⊥) }
 {
@@ -84,9 +84,9 @@ fn room_behind<T: Tiles>(
     }
     let mut room = others;
     let mut at = 0;
-    while let Some(run) = find_in(domain, tiles, at, from) {
+    while let Some(range) = find_in(domain, tiles, at, from) {
         room = room.checked_add(2).ok_or(NoMemory)?;
-        at = run.to;
+        at = range.to;
     }
     Ok(room)
 }
@@ -95,15 +95,15 @@ fn room_behind<T: Tiles>(
 fn replace<T: Tiles>(tiles: &mut T, domain: &Domain, from: Status, to: Status)
     requires room { HasRoom (covers domain.now) (T.statuses tiles.old) from to (T.spare tiles.old) }
     ensures changed { IsChanged (covers domain.now) (replaced from to) (T.statuses tiles.old) (T.statuses tiles.new) }
-    ensures spare { (runs : ℕ) → HasChanges (covers domain.now) (T.statuses tiles.old) from to runs
-        → T.spare tiles.old ≤ T.spare tiles.new + 2 * runs }
+    ensures spare { (ranges : ℕ) → HasChanges (covers domain.now) (T.statuses tiles.old) from to ranges
+        → T.spare tiles.old ≤ T.spare tiles.new + 2 * ranges }
 {
     if from.is(to) {
         return;
     }
     let mut at = 0;
-    while let Some(run) = find_in(domain, tiles, at, from) {
-        tiles.set(run.from, run.to - run.from, to);
-        at = run.to;
+    while let Some(range) = find_in(domain, tiles, at, from) {
+        tiles.set(range.from, range.to - range.from, to);
+        at = range.to;
     }
 }

@@ -1,6 +1,6 @@
 //! How a run comes to its next request: the direction of its pass, the search that it makes, and what that finds.
 ghost use Rattle.std.specs.Prelude.{◌≡◌, ℕ, ◌+◌, ◌<◌, ◌≤◌, ◌^◌, true, false, List, length, Option, IfSome, IfNone};
-ghost use Rattle.block_list.specs.declared.block.Run.{Run};
+ghost use Rattle.block_list.specs.declared.block.Range.{Range};
 ghost use Rattle.block_list.specs.declared.status.Status.{Status};
 ghost use Rattle.block_list.specs.declared.status.Status.TheVariants.{NonTrimmed};
 ghost use Rattle.save_resume.specs.MapNames.{MapNames};
@@ -9,15 +9,15 @@ ghost use Rattle.rescue_rules.specs.declared.phase.Phase.{Phase};
 ghost use Rattle.rescue_rules.specs.declared.phase.Phase.TheVariants.{Trimming};
 ghost use Rattle.rescue_rules.specs.declared.stop.TrimMode.TheVariants.{Lead};
 ghost use Rattle.rescue_rules.specs.Passes.{taken, is_up, numbered};
-ghost use Rattle.rescue_rules.specs.Machine.{Machine, start_of, search_of, IsNextRun, is_ahead, cut_start, cut_end, IsRequest, has_request};
+ghost use Rattle.rescue_rules.specs.Machine.{Machine, start_of, search_of, IsNextRange, is_ahead, cut_start, cut_end, IsRequest, has_request};
 ghost use Rattle.rescue_core.specs.RunState.{setting_with, IsSound};
 ghost use Rattle.rescue_core.specs.Search.{IsMarked};
 ghost use Rattle.rescue_core.specs.Requesting.{search_by, StandsAt, IsCutOf};
 
 use crate::search::{find_down, find_up};
 use crate::settings::Settings;
-use crate::state::Place;
-use block_list::block::Run;
+use crate::state::Progress;
+use block_list::block::Range;
 use block_list::status::Status;
 use block_list::tiles::Tiles;
 use rescue_domain::live::Live;
@@ -28,10 +28,10 @@ use transfer_token::token::Request;
 /// How a request is found. Sizes and positions are in bytes.
 #[derive(Clone, Copy, Debug, PartialEq, Eq)]
 struct Search {
-    /// Upwards: the first run at or behind `from`. Downwards: the last one that ends at or before it.
+    /// Upwards: the first range at or behind `from`. Downwards: the last one that ends at or before it.
     pub up: bool,
     pub from: u64,
-    /// Whether it is cut from the run's front, or else from its back.
+    /// Whether it is cut from the range's front, or else from its back.
     pub front: bool,
     /// How much is asked for at most.
     pub size: u64,
@@ -39,7 +39,7 @@ struct Search {
 
 /// Whether a pass goes upwards.
 pub(crate) fn is_up(settings: &Settings, pass: u32) -> bool
-    ensures { (domain : List Run) (names : Option MapNames) (line : List ℕ) (phase : Phase)
+    ensures { (domain : List Range) (names : Option MapNames) (line : List ℕ) (phase : Phase)
         → result ≡ is_up (setting_with settings.now domain names line) (numbered phase pass) }
 {
     let odd = settings.one_way || pass % 2 == 1;
@@ -48,7 +48,7 @@ pub(crate) fn is_up(settings: &Settings, pass: u32) -> bool
 
 /// Where a pass begins in a map that ends at `end`.
 pub(crate) fn start_of(settings: &Settings, pass: u32, end: u64) -> u64
-    ensures { (domain : List Run) (names : Option MapNames) (line : List ℕ) (phase : Phase) (map : List Status)
+    ensures { (domain : List Range) (names : Option MapNames) (line : List ℕ) (phase : Phase) (map : List Status)
         → length map ≡ end → result ≡ start_of (setting_with settings.now domain names line) (numbered phase pass) map }
 {
     if is_up(settings, pass) { 0 } else { end }
@@ -67,27 +67,27 @@ pub(crate) fn status_of(phase: Phase) -> Status
 }
 
 /// The search of a phase at a place, in a map that ends at `end`.
-fn search_at(settings: &Settings, phase: Phase, place: &Place, end: u64) -> Search
+fn search_at(settings: &Settings, phase: Phase, progress: &Progress, end: u64) -> Search
     requires sound { IsSound settings.now }
-    ensures is { (domain : List Run) (names : Option MapNames) (line : List ℕ) (m : Machine) (map : List Status)
-        (over : Option ℕ) → length map ≡ end → StandsAt m phase place.now map over
+    ensures is { (domain : List Range) (names : Option MapNames) (line : List ℕ) (m : Machine) (map : List Status)
+        (over : Option ℕ) → length map ≡ end → StandsAt m phase progress.now map over
         → search_by result ≡ search_of (setting_with settings.now domain names line) m }
     ensures least { settings.now.sector ≤ result.size }
     ensures most { result.size ≤ settings.now.cluster }
 {
-    let up = is_up(settings, place.pass);
+    let up = is_up(settings, progress.pass);
     let size = settings.sector;
     match phase {
         Phase::Copying => Search {
             up,
-            from: place.cursor,
+            from: progress.cursor,
             front: up,
             size: settings.cluster,
         },
-        Phase::Trimming => match place.mode {
+        Phase::Trimming => match progress.mode {
             TrimMode::Lead => Search {
                 up,
-                from: start_of(settings, place.pass, end),
+                from: start_of(settings, progress.pass, end),
                 front: true,
                 size,
             },
@@ -100,18 +100,18 @@ fn search_at(settings: &Settings, phase: Phase, place: &Place, end: u64) -> Sear
         },
         Phase::Scraping | Phase::Retrying => Search {
             up,
-            from: place.cursor,
+            from: progress.cursor,
             front: up,
             size,
         },
     }
 }
 
-/// The next run of positions left of a domain that have a status, by a search.
+/// The next range of positions left of a domain that have a status, by a search.
 #[inline(always)]
-fn next_run<T: Tiles>(live: Live<'_>, tiles: &T, search: Search, status: Status) -> Option<Run>
-    ensures run { IfSome result (λ run. IsNextRun search.up (IsMarked (lives live.entry) (T.statuses tiles.now) status)
-        search.from run.from run.to) }
+fn next_range<T: Tiles>(live: Live<'_>, tiles: &T, search: Search, status: Status) -> Option<Range>
+    ensures range { IfSome result (λ range. IsNextRange search.up (IsMarked (lives live.entry) (T.statuses tiles.now) status)
+        search.from range.from range.to) }
     ensures none { IfNone result ((x : ℕ) → is_ahead (search_by search) x ≡ true
         → IsMarked (lives live.entry) (T.statuses tiles.now) status x → ⊥) }
 {
@@ -122,26 +122,26 @@ fn next_run<T: Tiles>(live: Live<'_>, tiles: &T, search: Search, status: Status)
     }
 }
 
-/// The part of a run that a search asks for.
-fn cut(search: Search, sector: u64, run: Run) -> Request
+/// The part of a range that a search asks for.
+fn cut(search: Search, sector: u64, range: Range) -> Request
     requires sector { 0 < sector }
     requires least { sector ≤ search.size }
     requires most { search.size ≤ 16777216 }
-    requires some { run.from < run.to }
-    requires short { run.to < 2 ^ 63 }
-    ensures starts { result.pos ≡ cut_start (search_by search) sector run.from run.to }
-    ensures ends { result.pos + result.len ≡ cut_end (search_by search) sector run.from run.to }
+    requires some { range.from < range.to }
+    requires short { range.to < 2 ^ 63 }
+    ensures starts { result.pos ≡ cut_start (search_by search) sector range.from range.to }
+    ensures ends { result.pos + result.len ≡ cut_end (search_by search) sector range.from range.to }
     ensures some { 0 < result.len }
     ensures few { result.len ≤ search.size }
-    ensures within { result.pos + result.len ≤ run.to }
+    ensures within { result.pos + result.len ≤ range.to }
     ensures short { result.pos + result.len < 2 ^ 63 }
 {
     let (pos, end) = if search.front {
-        let boundary = (run.from + search.size) / sector * sector;
-        (run.from, run.to.min(boundary))
+        let boundary = (range.from + search.size) / sector * sector;
+        (range.from, range.to.min(boundary))
     } else {
-        let boundary = (run.to.saturating_sub(search.size) + (sector - 1)) / sector * sector;
-        (run.from.max(boundary), run.to)
+        let boundary = (range.to.saturating_sub(search.size) + (sector - 1)) / sector * sector;
+        (range.from.max(boundary), range.to)
     };
     Request {
         pos,
@@ -149,7 +149,7 @@ fn cut(search: Search, sector: u64, run: Run) -> Request
     }
 }
 
-/// What is cut of the next run that a search finds.
+/// What is cut of the next range that a search finds.
 #[inline(always)]
 fn request_by<T: Tiles>(
     settings: &Settings,
@@ -171,8 +171,8 @@ fn request_by<T: Tiles>(
     ensures within { IfSome result (λ q. q.pos + q.len ≤ length (T.statuses tiles.now)) }
     ensures short { IfSome result (λ q. q.pos + q.len < 2 ^ 63) }
 {
-    let run = next_run(live, tiles, search, status)?;
-    Some(cut(search, settings.sector, run))
+    let range = next_range(live, tiles, search, status)?;
+    Some(cut(search, settings.sector, range))
 }
 
 /// The next request of a phase at a place, of a machine that stands there.
@@ -182,56 +182,56 @@ pub(crate) fn next_request<T: Tiles>(
     live: Live<'_>,
     tiles: &T,
     phase: Phase,
-    place: &Place,
+    progress: &Progress,
 ) -> Option<Request>
     requires sound { IsSound settings.now }
     ensures some { IfSome result (λ q. (names : Option MapNames) (line : List ℕ) (m : Machine)
-        → StandsAt m phase place.now (T.statuses tiles.now) live.entry.over
+        → StandsAt m phase progress.now (T.statuses tiles.now) live.entry.over
         → IsRequest (setting_with settings.now live.entry.domain.now names line) m q.pos (q.pos + q.len)) }
     ensures none { IfNone result ((names : Option MapNames) (line : List ℕ) (m : Machine)
-        → StandsAt m phase place.now (T.statuses tiles.now) live.entry.over
+        → StandsAt m phase progress.now (T.statuses tiles.now) live.entry.over
         → has_request (setting_with settings.now live.entry.domain.now names line) m ≡ false) }
     ensures len { IfSome result (λ q. 0 < q.len) }
     ensures most { IfSome result (λ q. q.len ≤ settings.now.cluster) }
     ensures within { IfSome result (λ q. q.pos + q.len ≤ length (T.statuses tiles.now)) }
     ensures short { IfSome result (λ q. q.pos + q.len < 2 ^ 63) }
 {
-    let search = search_at(settings, phase, place, tiles.end());
+    let search = search_at(settings, phase, progress, tiles.end());
     request_by(settings, live, tiles, search, status_of(phase))
 }
 
-/// Whether a phase at a place trims upwards, and stands before a run.
-pub(crate) fn leads_up(settings: &Settings, phase: Phase, place: &Place) -> bool
+/// Whether a phase at a place trims upwards, and stands before a range.
+pub(crate) fn leads_up(settings: &Settings, phase: Phase, progress: &Progress) -> bool
     ensures phase { result ≡ true → phase ≡ Trimming }
-    ensures mode { result ≡ true → place.now.mode ≡ Lead }
-    ensures up { result ≡ true → (domain : List Run) (names : Option MapNames) (line : List ℕ)
-        → is_up (setting_with settings.now domain names line) (numbered phase place.now.pass) ≡ true }
+    ensures mode { result ≡ true → progress.now.mode ≡ Lead }
+    ensures up { result ≡ true → (domain : List Range) (names : Option MapNames) (line : List ℕ)
+        → is_up (setting_with settings.now domain names line) (numbered phase progress.now.pass) ≡ true }
 {
-    match (phase, place.mode) {
-        (Phase::Trimming, TrimMode::Lead) => is_up(settings, place.pass),
+    match (phase, progress.mode) {
+        (Phase::Trimming, TrimMode::Lead) => is_up(settings, progress.pass),
         _ => false,
     }
 }
 
-/// The next request of trimming upwards, before a run, where nothing is left to trim before the cursor.
+/// The next request of trimming upwards, before a range, where nothing is left to trim before the cursor.
 pub(crate) fn next_lead<T: Tiles>(
     settings: &Settings,
     live: Live<'_>,
     tiles: &T,
-    place: &Place,
+    progress: &Progress,
 ) -> Option<Request>
     requires sound { IsSound settings.now }
-    requires mode { place.now.mode ≡ Lead }
+    requires mode { progress.now.mode ≡ Lead }
     requires up { (names : Option MapNames) (line : List ℕ)
-        → is_up (setting_with settings.now live.domain.now names line) (numbered Trimming place.now.pass) ≡ true }
-    requires clear { (x : ℕ) → x < place.now.cursor
+        → is_up (setting_with settings.now live.domain.now names line) (numbered Trimming progress.now.pass) ≡ true }
+    requires clear { (x : ℕ) → x < progress.now.cursor
         → IsMarked (lives live) (T.statuses tiles.now) NonTrimmed x → ⊥ }
     requires short { length (T.statuses tiles.now) < 2 ^ 63 }
     ensures some { IfSome result (λ q. (names : Option MapNames) (line : List ℕ) (m : Machine)
-        → StandsAt m Trimming place.now (T.statuses tiles.now) live.entry.over
+        → StandsAt m Trimming progress.now (T.statuses tiles.now) live.entry.over
         → IsRequest (setting_with settings.now live.entry.domain.now names line) m q.pos (q.pos + q.len)) }
     ensures none { IfNone result ((names : Option MapNames) (line : List ℕ) (m : Machine)
-        → StandsAt m Trimming place.now (T.statuses tiles.now) live.entry.over
+        → StandsAt m Trimming progress.now (T.statuses tiles.now) live.entry.over
         → has_request (setting_with settings.now live.entry.domain.now names line) m ≡ false) }
     ensures len { IfSome result (λ q. 0 < q.len) }
     ensures most { IfSome result (λ q. q.len ≤ settings.now.cluster) }
@@ -240,7 +240,7 @@ pub(crate) fn next_lead<T: Tiles>(
 {
     let search = Search {
         up: true,
-        from: place.cursor,
+        from: progress.cursor,
         front: true,
         size: settings.sector,
     };

@@ -12,10 +12,10 @@ ghost use Rattle.rescue_rules.specs.Machine.{IsRequest, has_request};
 ghost use Rattle.rescue_rules.specs.Step.{limit_met as limit_by};
 ghost use Rattle.rescue_rules.specs.Snapshots.{text_of, snapshot_of};
 ghost use Rattle.rescue_rules.specs.Lines.{phase_front, report_of, report_text};
-ghost use Rattle.rescue_core.specs.RunState.{names_in, setting_in, IsRunning, IsSound, Suits, HasPlaces, started, passed, showing};
+ghost use Rattle.rescue_core.specs.RunState.{names_in, setting_in, IsRunning, IsSound, Suits, HasPlaces, started, passed, run_showing};
 ghost use Rattle.rescue_core.specs.Turning.{Turned, Halted};
 ghost use Rattle.rescue_core.specs.TurnParts.{Advances};
-ghost use Rattle.rescue_core.specs.Closing.{Closes, MayClose, LastSave, drafting_after, last_pieces};
+ghost use Rattle.rescue_core.specs.Closing.{Closes, MayClose, LastSave, drafting_at_stop, last_pieces};
 
 use crate::behind::go_on_by_kind;
 use crate::closing::{Closed, end_saved, last_shown};
@@ -26,7 +26,7 @@ use crate::line::{say_last, say_phase};
 use crate::request::{leads_up, next_lead, next_request};
 use crate::save_now::{save_now, save_or_sync};
 use crate::settings::Settings;
-use crate::state::{Place, Tally};
+use crate::state::{Progress, Tally};
 use crate::turn::{Advanced, Turn};
 use block_list::tiles::Tiles;
 use crash_site::site::Site;
@@ -58,7 +58,7 @@ pub(crate) struct Running<T: Tiles> {
     names: Option<Names>,
     heading: Heading,
     phase: Phase,
-    place: Place,
+    progress: Progress,
     tally: Tally,
     counts: Counts,
     heard: bool,
@@ -67,16 +67,16 @@ pub(crate) struct Running<T: Tiles> {
 impl<T: Tiles> Model for Running<T> {
     ghost use Rattle.std.specs.Prelude.{◌≡◌, length};
     ghost use Rattle.mapfile_text.specs.declared.heading.Program.TheVariants.{Ddrescue};
-    ghost use Rattle.rescue_core.specs.RunState.{RunState, run_at, IsRunning, Counted};
+    ghost use Rattle.rescue_core.specs.RunState.{RunState, run_at, IsRunning, HasCounts};
 
     ghost Value = { RunState };
 
     ghost view = { λ r. run_at r.settings r.domain r.names r.heading.line (T.statuses r.tiles) r.phase
-        r.place r.tally r.heard };
+        r.progress r.tally r.heard };
 
     ghost invariant = { λ r. IsRunning (run_at r.settings r.domain r.names r.heading.line (T.statuses r.tiles) r.phase
-        r.place r.tally r.heard) (length r.buf.items) × (r.heading.program ≡ Ddrescue)
-        × Counted (run_at r.settings r.domain r.names r.heading.line (T.statuses r.tiles) r.phase r.place r.tally
+        r.progress r.tally r.heard) (length r.buf.items) × (r.heading.program ≡ Ddrescue)
+        × HasCounts (run_at r.settings r.domain r.names r.heading.line (T.statuses r.tiles) r.phase r.progress r.tally
         r.heard) r.counts };
 }
 
@@ -103,7 +103,7 @@ impl<T: Tiles> Running<T> {
         requires pass { IfSome loaded (λ state. 0 < state.pass) }
         ensures { result ≡ started settings domain names heading.line (T.statuses tiles) loaded moment heard }
     {
-        let place = Place::first(&settings, loaded, tiles.end());
+        let progress = Progress::first(&settings, loaded, tiles.end());
         let counts = counts_at_first(&domain, &tiles);
         let tally = Tally::first(loaded, moment, counts.failed.areas);
         Running {
@@ -114,7 +114,7 @@ impl<T: Tiles> Running<T> {
             names,
             heading,
             phase: Phase::Copying,
-            place,
+            progress,
             tally,
             counts,
             heard,
@@ -148,7 +148,7 @@ impl<T: Tiles> Running<T> {
     pub fn pass(&self) -> u32
         ensures { result ≡ self.now.pass }
     {
-        self.place.pass
+        self.progress.pass
     }
 
     /// The next request of this pass.
@@ -165,10 +165,16 @@ impl<T: Tiles> Running<T> {
             domain: &self.domain,
             over: self.tally.over,
         };
-        if leads_up(&self.settings, self.phase, &self.place) {
-            next_lead(&self.settings, live, &self.tiles, &self.place)
+        if leads_up(&self.settings, self.phase, &self.progress) {
+            next_lead(&self.settings, live, &self.tiles, &self.progress)
         } else {
-            next_request(&self.settings, live, &self.tiles, self.phase, &self.place)
+            next_request(
+                &self.settings,
+                live,
+                &self.tiles,
+                self.phase,
+                &self.progress,
+            )
         }
     }
 
@@ -179,14 +185,14 @@ impl<T: Tiles> Running<T> {
         ensures { self.new ≡ passed self.old phase pass }
     {
         self.phase = phase;
-        self.place = Place::at_start(&self.settings, pass, self.tiles.end());
+        self.progress = Progress::at_start(&self.settings, pass, self.tiles.end());
     }
 
     /// Shows a state until the first event.
     pub fn show_loaded(&mut self, state: MapState)
         requires pos { state.pos < 2 ^ 63 }
         requires pass { 0 < state.pass }
-        ensures { self.new ≡ showing self.old state }
+        ensures { self.new ≡ run_showing self.old state }
     {
         self.tally.shown = state;
     }
@@ -230,7 +236,7 @@ impl<T: Tiles> Running<T> {
           console' = C.state console.new;
         })) }
         ensures draft { OnOk result ((D.state site.new).is_drafting ≡ false) }
-        ensures draft_left { IfErr result (λ stop. (D.state site.new).is_drafting ≡ drafting_after stop) }
+        ensures draft_left { IfErr result (λ stop. (D.state site.new).is_drafting ≡ drafting_at_stop stop) }
         ensures image { (D.state site.new).is_open ≡ true }
         ensures source { SourceStays (S.state source.old) (S.state source.new) }
         ensures site { SiteKeeps (D.state site.old) (D.state site.new) }
@@ -278,7 +284,7 @@ impl<T: Tiles> Running<T> {
               console = console;
               console' = console;
             })) }
-        ensures draft { IfErr result (λ stop. drafting_after stop ≡ false) }
+        ensures draft { IfErr result (λ stop. drafting_at_stop stop ≡ false) }
         ensures source { SourceStays (S.state source.old) (S.state source.new) }
         ensures site { SiteStays (D.state site.old) (D.state site.new) }
         ensures clock { ClockKeeps (K.state clock.old) (K.state clock.new) }
@@ -292,7 +298,7 @@ impl<T: Tiles> Running<T> {
             &self.settings,
             &self.domain,
             &mut self.tiles,
-            &mut self.place,
+            &mut self.progress,
             &mut self.tally,
             &mut self.counts,
             self.phase,
@@ -415,7 +421,7 @@ impl<T: Tiles> Running<T> {
             names,
             mut heading,
             phase: _,
-            place: _,
+            progress: _,
             tally,
             counts: _,
             heard: _,

@@ -1,21 +1,21 @@
 //! Where the next positions lie that are left of a domain and have a status, in both directions.
 ghost use Rattle.std.specs.Prelude.{ℕ, ◌<◌, ◌≤◌, IfSome, IfNone};
-ghost use Rattle.block_list.specs.Places.{IsFirst, IsLast, IsRunUp, IsRunDown};
+ghost use Rattle.block_list.specs.Places.{IsFirst, IsLast, IsRangeUp, IsRangeDown};
 ghost use Rattle.rescue_domain.specs.Live.{lives};
 ghost use Rattle.rescue_core.specs.Search.{IsMarked};
 
-use block_list::block::Run;
+use block_list::block::Range;
 use block_list::status::Status;
 use block_list::tiles::Tiles;
 use rescue_domain::live::Live;
 
-/// The first run, at or after a position, of positions left of a domain that have a status.
+/// The first range, at or after a position, of positions left of a domain that have a status.
 #[inline(always)]
-pub fn find_up<T: Tiles>(live: Live<'_>, tiles: &T, from: u64, status: Status) -> Option<Run>
-    ensures first { IfSome result (λ run.
-        IsFirst (IsMarked (lives live.entry) (T.statuses tiles.now) status) from run.from) }
-    ensures run { IfSome result (λ run.
-        IsRunUp (IsMarked (lives live.entry) (T.statuses tiles.now) status) run.from run.to) }
+pub fn find_up<T: Tiles>(live: Live<'_>, tiles: &T, from: u64, status: Status) -> Option<Range>
+    ensures first { IfSome result (λ range.
+        IsFirst (IsMarked (lives live.entry) (T.statuses tiles.now) status) from range.from) }
+    ensures range { IfSome result (λ range.
+        IsRangeUp (IsMarked (lives live.entry) (T.statuses tiles.now) status) range.from range.to) }
     ensures none { IfNone result ((x : ℕ) → from ≤ x
         → IsMarked (lives live.entry) (T.statuses tiles.now) status x → ⊥) }
 {
@@ -23,7 +23,7 @@ pub fn find_up<T: Tiles>(live: Live<'_>, tiles: &T, from: u64, status: Status) -
     let part = live.next_in(from)?;
     let found = tiles.find_forward(part.from, status)?;
     if found.from < part.to {
-        return Some(Run {
+        return Some(Range {
             from: found.from,
             to: found.to.min(part.to),
         });
@@ -33,11 +33,11 @@ pub fn find_up<T: Tiles>(live: Live<'_>, tiles: &T, from: u64, status: Status) -
 
 /// Does so part by part.
 #[inline(never)]
-fn find_further_up<T: Tiles>(live: Live<'_>, tiles: &T, from: u64, status: Status) -> Option<Run>
-    ensures first { IfSome result (λ run.
-        IsFirst (IsMarked (lives live.entry) (T.statuses tiles.now) status) from run.from) }
-    ensures run { IfSome result (λ run.
-        IsRunUp (IsMarked (lives live.entry) (T.statuses tiles.now) status) run.from run.to) }
+fn find_further_up<T: Tiles>(live: Live<'_>, tiles: &T, from: u64, status: Status) -> Option<Range>
+    ensures first { IfSome result (λ range.
+        IsFirst (IsMarked (lives live.entry) (T.statuses tiles.now) status) from range.from) }
+    ensures range { IfSome result (λ range.
+        IsRangeUp (IsMarked (lives live.entry) (T.statuses tiles.now) status) range.from range.to) }
     ensures none { IfNone result ((x : ℕ) → from ≤ x
         → IsMarked (lives live.entry) (T.statuses tiles.now) status x → ⊥) }
 {
@@ -45,7 +45,7 @@ fn find_further_up<T: Tiles>(live: Live<'_>, tiles: &T, from: u64, status: Statu
     while let Some(part) = live.next_in(at) {
         let found = tiles.find_forward(part.from, status)?;
         if found.from < part.to {
-            return Some(Run {
+            return Some(Range {
                 from: found.from,
                 to: found.to.min(part.to),
             });
@@ -55,13 +55,13 @@ fn find_further_up<T: Tiles>(live: Live<'_>, tiles: &T, from: u64, status: Statu
     None
 }
 
-/// The last run that ends at or before a position, of positions left of a domain that have a status.
+/// The last range that ends at or before a position, of positions left of a domain that have a status.
 #[inline(always)]
-pub fn find_down<T: Tiles>(live: Live<'_>, tiles: &T, before: u64, status: Status) -> Option<Run>
-    ensures last { IfSome result (λ run.
-        IsLast (IsMarked (lives live.entry) (T.statuses tiles.now) status) before run.to) }
-    ensures run { IfSome result (λ run.
-        IsRunDown (IsMarked (lives live.entry) (T.statuses tiles.now) status) run.from run.to) }
+pub fn find_down<T: Tiles>(live: Live<'_>, tiles: &T, before: u64, status: Status) -> Option<Range>
+    ensures last { IfSome result (λ range.
+        IsLast (IsMarked (lives live.entry) (T.statuses tiles.now) status) before range.to) }
+    ensures range { IfSome result (λ range.
+        IsRangeDown (IsMarked (lives live.entry) (T.statuses tiles.now) status) range.from range.to) }
     ensures none { IfNone result ((x : ℕ) → x < before
         → IsMarked (lives live.entry) (T.statuses tiles.now) status x → ⊥) }
 {
@@ -69,7 +69,7 @@ pub fn find_down<T: Tiles>(live: Live<'_>, tiles: &T, before: u64, status: Statu
     while let Some(part) = live.last_in(at) {
         let found = tiles.find_backward(part.to, status)?;
         if part.from < found.to {
-            return Some(Run {
+            return Some(Range {
                 from: found.from.max(part.from),
                 to: found.to,
             });

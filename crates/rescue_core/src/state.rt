@@ -9,7 +9,7 @@ const COPYING_PASSES: u32 = 5;
 
 /// Where a run stands in its map.
 #[derive(Clone, Copy, Debug, PartialEq, Eq)]
-pub(crate) struct Place {
+pub(crate) struct Progress {
     /// The pass, counted from 1 within its phase.
     pub pass: u32,
     pub cursor: u64,
@@ -18,9 +18,9 @@ pub(crate) struct Place {
     pub skip: u64,
 }
 
-impl Place {
+impl Progress {
     ghost use Rattle.std.specs.Prelude.{◌≡◌, ℕ, List, length, Option};
-    ghost use Rattle.block_list.specs.declared.block.Run.{Run};
+    ghost use Rattle.block_list.specs.declared.block.Range.{Range};
     ghost use Rattle.block_list.specs.declared.status.Status.{Status};
     ghost use Rattle.save_resume.specs.MapNames.{MapNames};
     ghost use Rattle.rescue_rules.specs.declared.phase.Phase.{Phase};
@@ -31,15 +31,15 @@ impl Place {
     ghost use Rattle.rescue_core.specs.RunState.{setting_with};
 
     /// The start of a pass over a map that ends at `end`.
-    pub fn at_start(settings: &Settings, pass: u32, end: u64) -> Place
+    pub fn at_start(settings: &Settings, pass: u32, end: u64) -> Progress
         ensures pass { result.pass ≡ pass }
-        ensures cursor { (domain : List Run) (names : Option MapNames) (line : List ℕ) (phase : Phase)
+        ensures cursor { (domain : List Range) (names : Option MapNames) (line : List ℕ) (phase : Phase)
             (map : List Status) → length map ≡ end
             → result.cursor ≡ start_of (setting_with settings.now domain names line) (numbered phase pass) map }
         ensures mode { result.mode ≡ Lead }
         ensures skip { result.skip ≡ settings.now.skip }
     {
-        Place {
+        Progress {
             pass,
             cursor: start_of(settings, pass, end),
             mode: TrimMode::Lead,
@@ -48,24 +48,24 @@ impl Place {
     }
 
     /// Where a run over a map that ends at `end` begins, which may go on from a state that a mapfile showed.
-    pub fn first(settings: &Settings, loaded: Option<MapState>, end: u64) -> Place
+    pub fn first(settings: &Settings, loaded: Option<MapState>, end: u64) -> Progress
         ensures pass { result.pass ≡ first_pass loaded }
-        ensures cursor { (domain : List Run) (names : Option MapNames) (line : List ℕ) (map : List Status)
+        ensures cursor { (domain : List Range) (names : Option MapNames) (line : List ℕ) (map : List Status)
             → length map ≡ end → result.cursor ≡ first_cursor (setting_with settings.now domain names line) loaded map }
         ensures mode { result.mode ≡ Lead }
         ensures skip { result.skip ≡ settings.now.skip }
     {
         let Some(state) = loaded else {
-            return Place::at_start(settings, 1, end);
+            return Progress::at_start(settings, 1, end);
         };
         let pass = state.pass.min(COPYING_PASSES);
-        let place = Place::at_start(settings, pass, end);
+        let progress = Progress::at_start(settings, pass, end);
         if pass == COPYING_PASSES {
-            place
+            progress
         } else {
-            Place {
+            Progress {
                 cursor: state.pos.min(end),
-                ..place
+                ..progress
             }
         }
     }

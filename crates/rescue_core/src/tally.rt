@@ -12,7 +12,7 @@ ghost use Rattle.rescue_core.specs.TurnParts.{IsReadOf, end_met, tally_of};
 
 use crate::due::{is_line_due, is_save_due};
 use crate::settings::Settings;
-use crate::state::{Place, Tally};
+use crate::state::{Progress, Tally};
 use crate::turn::Turn;
 use faulty_source::source::Got;
 use mapfile_text::state::{Current, MapState};
@@ -110,17 +110,17 @@ fn earlier(over: Option<u64>, end: u64) -> u64
 }
 
 /// What a mapfile shows of a place in a phase.
-pub(crate) fn shown_at(phase: Phase, place: Place) -> MapState
-    ensures { result ≡ record { pos = place.cursor; current = current_of phase; pass = place.pass } }
+pub(crate) fn shown_at(phase: Phase, progress: Progress) -> MapState
+    ensures { result ≡ record { pos = progress.cursor; current = current_of phase; pass = progress.pass } }
 {
     MapState {
-        pos: place.cursor,
+        pos: progress.cursor,
         current: match phase {
             Phase::Copying => Current::Copying,
             Phase::Trimming => Current::Trimming,
             Phase::Scraping => Current::Scraping,
             Phase::Retrying => Current::Retrying,
         },
-        pass: place.pass,
+        pass: progress.pass,
     }
 }

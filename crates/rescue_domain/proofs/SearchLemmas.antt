@@ -4,22 +4,22 @@ use Rattle.std.specs.List.{slice_get}
 use Rattle.std.proofs.lemmas.Bool.{cases_lt}
 use Rattle.std.proofs.lemmas.List.{length-take-le, get_or-take}
 use Rattle.std.proofs.lemmas.Option.{slice_get_within, slice_get-get_or, get_or_from_slice_get}
-use Rattle.block_list.specs.declared.block.Run.{Run}
-use Rattle.block_list.specs.Places.{IsFirst, IsLast, IsRunUp, IsRunDown}
+use Rattle.block_list.specs.declared.block.Range.{Range}
+use Rattle.block_list.specs.Places.{IsFirst, IsLast, IsRangeUp, IsRangeDown}
 use Rattle.rescue_domain.specs.Domain.{IsIn}
 use Rattle.rescue_domain.specs.Parts.{covers, AreParts}
 use Rattle.rescue_domain.proofs.PartsLemmas.{part_at, part_covers, part_with, gap_between}
 
 -- where a covered position lies as seen from one interval: in one in front of it, in it, or in one behind it
-data Placed (parts : List Run) (n : ℕ) (part : Run) (x : ℕ) : Type 0 where
-  in_front : (i : ℕ) (other : Run) → i < n → slice_get parts i ≡ Some other → x < other.to → other.to < part.from
+data Placed (parts : List Range) (n : ℕ) (part : Range) (x : ℕ) : Type 0 where
+  in_front : (i : ℕ) (other : Range) → i < n → slice_get parts i ≡ Some other → x < other.to → other.to < part.from
       → Placed parts n part x
   inside : part.from ≤ x → x < part.to → Placed parts n part x
-  behind : (i : ℕ) (other : Run) → n < i → slice_get parts i ≡ Some other → other.from ≤ x → part.to < other.from
+  behind : (i : ℕ) (other : Range) → n < i → slice_get parts i ≡ Some other → other.from ≤ x → part.to < other.from
       → Placed parts n part x
 
 -- of the interval with an index
-module _ (parts : List Run) (n : ℕ) (part : Run) (t : AreParts 0 parts) (there : slice_get parts n ≡ Some part) where
+module _ (parts : List Range) (n : ℕ) (part : Range) (t : AreParts 0 parts) (there : slice_get parts n ≡ Some part) where
   seen_from : (x : ℕ) → covers parts x ≡ true → Placed parts n part x
   seen_from x c =
       let k = part_with parts x c in
@@ -37,7 +37,7 @@ module _ (parts : List Run) (n : ℕ) (part : Run) (t : AreParts 0 parts) (there
       (cases_lt n k.index))
       (cases_lt k.index n)
 
-  pub found_first : (from : ℕ) → ((i : ℕ) (other : Run) → i < n → slice_get parts i ≡ Some other → other.to ≤ from)
+  pub found_first : (from : ℕ) → ((i : ℕ) (other : Range) → i < n → slice_get parts i ≡ Some other → other.to ≤ from)
       → from < part.to → IsFirst (IsIn (covers parts)) from (max from part.from)
   found_first from ended l =
       let k = part_at 0 parts n part t there in
@@ -51,8 +51,8 @@ module _ (parts : List Run) (n : ℕ) (part : Run) (t : AreParts 0 parts) (there
         ];
       }
 
-  pub found_run_up : (from : ℕ) → from < part.to → IsRunUp (IsIn (covers parts)) (max from part.from) part.to
-  found_run_up from l =
+  pub found_range_up : (from : ℕ) → from < part.to → IsRangeUp (IsIn (covers parts)) (max from part.from) part.to
+  found_range_up from l =
       let k = part_at 0 parts n part t there in
       record {
         begun = omega (arith, k.some);
@@ -65,7 +65,7 @@ module _ (parts : List Run) (n : ℕ) (part : Run) (t : AreParts 0 parts) (there
       }
 
   pub found_last : (before : ℕ)
-      → ((i : ℕ) (other : Run) → n < i → slice_get parts i ≡ Some other → before ≤ other.from)
+      → ((i : ℕ) (other : Range) → n < i → slice_get parts i ≡ Some other → before ≤ other.from)
       → part.from < before → IsLast (IsIn (covers parts)) before (min before part.to)
   found_last before others l =
       let k = part_at 0 parts n part t there in
@@ -80,9 +80,9 @@ module _ (parts : List Run) (n : ℕ) (part : Run) (t : AreParts 0 parts) (there
         ];
       }
 
-  pub found_run_down : (before : ℕ) → part.from < before
-      → IsRunDown (IsIn (covers parts)) part.from (min before part.to)
-  found_run_down before l =
+  pub found_range_down : (before : ℕ) → part.from < before
+      → IsRangeDown (IsIn (covers parts)) part.from (min before part.to)
+  found_range_down before l =
       let k = part_at 0 parts n part t there in
       record {
         begun = omega (arith, k.some);
@@ -94,16 +94,16 @@ module _ (parts : List Run) (n : ℕ) (part : Run) (t : AreParts 0 parts) (there
         ];
       }
 
-pub none_from : (parts : List Run) (from n : ℕ)
-    → ((i : ℕ) (other : Run) → i < n → slice_get parts i ≡ Some other → other.to ≤ from)
+pub none_from : (parts : List Range) (from n : ℕ)
+    → ((i : ℕ) (other : Range) → i < n → slice_get parts i ≡ Some other → other.to ≤ from)
     → length parts ≤ n → (x : ℕ) → from ≤ x → IsIn (covers parts) x → ⊥
 none_from parts from n ended l x m c =
     let k = part_with parts x c in
     let u : k.index < n = omega (arith, slice_get_within parts k.index k.part k.there) in
     omega (arith, ended k.index k.part u k.there, k.ends)
 
-pub none_below : (parts : List Run) (before n : ℕ)
-    → ((i : ℕ) (other : Run) → n ≤ i → slice_get parts i ≡ Some other → before ≤ other.from)
+pub none_below : (parts : List Range) (before n : ℕ)
+    → ((i : ℕ) (other : Range) → n ≤ i → slice_get parts i ≡ Some other → before ≤ other.from)
     → n ≤ length parts → length (take n parts) ≤ 0 → (x : ℕ) → x < before → IsIn (covers parts) x → ⊥
 none_below parts before n others h l x m c =
     let k = part_with parts x c in
@@ -111,11 +111,11 @@ none_below parts before n others h l x m c =
     omega (arith, others k.index k.part u k.there, k.begun)
 
 -- the last interval of the first n
-pub record IsLastOf (parts : List Run) (n : ℕ) (part : Run) : Type 0 where
+pub record IsLastOf (parts : List Range) (n : ℕ) (part : Range) : Type 0 where
   pub some : 0 < n
   pub there : slice_get parts (n - 1) ≡ Some part
 
-pub last_of_front : (parts : List Run) (n : ℕ) (part : Run) → n ≤ length parts
+pub last_of_front : (parts : List Range) (n : ℕ) (part : Range) → n ≤ length parts
     → Some part ≡ slice_get (take n parts) (length (take n parts) - 1) → IsLastOf parts n part
 last_of_front parts n part h e =
     let len = length-take-le n parts h in

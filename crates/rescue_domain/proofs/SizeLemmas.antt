@@ -5,17 +5,17 @@ use Rattle.std.proofs.lemmas.Bool.{cases_lt}
 use Rattle.std.proofs.lemmas.Bool.Decides.{nat_tests}
 use Rattle.std.proofs.lemmas.List.Sums.{sum_by-cons}
 use Rattle.std.proofs.lemmas.Option.{slice_get_within, get_or_from_slice_get}
-use Rattle.block_list.specs.declared.block.Run.{Run}
+use Rattle.block_list.specs.declared.block.Range.{Range}
 use Rattle.rescue_domain.specs.Domain.{IsSize}
 use Rattle.rescue_domain.specs.Parts.{covers, AreParts}
 use Rattle.rescue_domain.proofs.PartsLemmas.{parts_from_lower, part_at, part_covers, part_with, clear_below}
 
 -- how many positions an interval has
-abbrev pub width : Run → ℕ
+abbrev pub width : Range → ℕ
 width part = part.to - part.from
 
 -- the intervals in front of one have no more positions than lie in front of it
-pub sum_before : (low : ℕ) (parts : List Run) (i : ℕ) (part : Run) → AreParts low parts → slice_get parts i ≡ Some part
+pub sum_before : (low : ℕ) (parts : List Range) (i : ℕ) (part : Range) → AreParts low parts → slice_get parts i ≡ Some part
     → low + sum_by width (take i parts) ≤ part.from
 sum_before low [] i part t e = cc
 sum_before low (first ∷ parts) zero part t e = omega (arith, (part_at low (first ∷ parts) 0 part t e).begins)
@@ -83,7 +83,7 @@ counted_same domain other from (suc n) h =
     let k = counted_same domain other (from + 1) n (λ x l. h x (omega arith)) in
     omega (arith, counted_more domain from n, counted_more other from n, here, k)
 
-counted_parts : (low n : ℕ) (parts : List Run) → AreParts low parts → ((x : ℕ) → covers parts x ≡ true → x < low + n)
+counted_parts : (low n : ℕ) (parts : List Range) → AreParts low parts → ((x : ℕ) → covers parts x ≡ true → x < low + n)
     → counted (covers parts) low n ≡ sum_by width parts
 counted_parts low n [] t h =
     let e : n ≡ n + 0 = omega arith in
@@ -116,26 +116,26 @@ counted_parts low n (part ∷ parts) t h =
       ap (λ k. counted all k rest) y,
     )
 
-pub parts_size : (parts : List Run) → AreParts 0 parts → IsSize (covers parts) (sum_by width parts)
+pub parts_size : (parts : List Range) → AreParts 0 parts → IsSize (covers parts) (sum_by width parts)
 parts_size parts t = record { counts = λ end h. sym (counted_parts 0 end parts t (λ x c. omega (arith, h x c))) }
 
 -- the first n intervals end below 2^64
-pub record AreShort (parts : List Run) (n : ℕ) : Type 0 where
-  pub short : (i : ℕ) (part : Run) → i < n → slice_get parts i ≡ Some part → part.to < 2 ^ 64
+pub record AreShort (parts : List Range) (n : ℕ) : Type 0 where
+  pub short : (i : ℕ) (part : Range) → i < n → slice_get parts i ≡ Some part → part.to < 2 ^ 64
 
-pub short_more : (parts : List Run) (n : ℕ) (d : Run) → AreShort parts n → (get_or parts n d).to < 2 ^ 64
+pub short_more : (parts : List Range) (n : ℕ) (d : Range) → AreShort parts n → (get_or parts n d).to < 2 ^ 64
     → AreShort parts (n + 1)
 short_more parts n d s h = record {
   short = λ i part u e. ⊎_elim
       (λ (v : i < n). s.short i part v e)
       (λ (v : n ≤ i).
       let z : n ≡ i = omega arith in
-      let read = ap (λ (r : Run). r.to) (get_or_from_slice_get parts i part d e) in
+      let read = ap (λ (r : Range). r.to) (get_or_from_slice_get parts i part d e) in
       omega (arith, ap (λ k. (get_or parts k d).to) z, read))
       (cases_lt i n);
 }
 
-pub covered_short : (parts : List Run) (n x : ℕ) → AreShort parts n → length parts ≤ n → covers parts x ≡ true → x < 2 ^ 64
+pub covered_short : (parts : List Range) (n x : ℕ) → AreShort parts n → length parts ≤ n → covers parts x ≡ true → x < 2 ^ 64
 covered_short parts n x s l c =
     let k = part_with parts x c in
     let u : k.index < n = omega (arith, slice_get_within parts k.index k.part k.there) in

@@ -3,31 +3,31 @@ use Rattle.std.proofs.Common.{◌≡◌, ℕ, ◌-◌, ◌<◌, ◌≤◌, true,
 use Rattle.std.specs.List.{slice_get}
 use Rattle.std.proofs.lemmas.Bool.{false_from_ne_true}
 use Rattle.std.proofs.lemmas.Option.{slice_get_within, get_or_from_slice_get}
-use Rattle.block_list.specs.declared.block.Run.{Run}
+use Rattle.block_list.specs.declared.block.Range.{Range}
 use Rattle.rescue_domain.specs.Parts.{covers, AreParts, EndBy}
 use Rattle.rescue_domain.specs.Stretch.{IsStretchFrom}
 use Rattle.rescue_domain.proofs.PartsLemmas.{no_part, part_at, part_covers, ends_ascend}
-use Rattle.rescue_domain.proofs.SearchLemmas.{found_first, found_run_up, none_from}
+use Rattle.rescue_domain.proofs.SearchLemmas.{found_first, found_range_up, none_from}
 
 -- the intervals in front of one that ends at or before a position do so too, and those behind one that doesn't don't
-module _ (parts : List Run) (t : AreParts 0 parts) (n x : ℕ) where
+module _ (parts : List Range) (t : AreParts 0 parts) (n x : ℕ) where
   pub end_in_front : 0 < n → n ≤ length parts → (get_or parts (n - 1) no_part).to ≤ x
-      → (i : ℕ) (part : Run) → i < n → slice_get parts i ≡ Some part → part.to ≤ x
+      → (i : ℕ) (part : Range) → i < n → slice_get parts i ≡ Some part → part.to ≤ x
   end_in_front some short ends i part l e =
       let up = ends_ascend parts t i (n - 1) no_part (omega arith) (omega arith) in
-      omega (arith, up, ends, ap (λ (r : Run). r.to) (get_or_from_slice_get parts i part no_part e))
+      omega (arith, up, ends, ap (λ (r : Range). r.to) (get_or_from_slice_get parts i part no_part e))
 
-  pub end_behind : x < (get_or parts n no_part).to → (i : ℕ) (part : Run) → n ≤ i → slice_get parts i ≡ Some part
+  pub end_behind : x < (get_or parts n no_part).to → (i : ℕ) (part : Range) → n ≤ i → slice_get parts i ≡ Some part
       → x < part.to
   end_behind ahead i part l e =
       let up = ends_ascend parts t n i no_part l (slice_get_within parts i part e) in
-      omega (arith, up, ahead, ap (λ (r : Run). r.to) (get_or_from_slice_get parts i part no_part e))
+      omega (arith, up, ahead, ap (λ (r : Range). r.to) (get_or_from_slice_get parts i part no_part e))
 
-  pub none_behind : n ≡ length parts → (i : ℕ) (part : Run) → n ≤ i → slice_get parts i ≡ Some part → x < part.to
+  pub none_behind : n ≡ length parts → (i : ℕ) (part : Range) → n ≤ i → slice_get parts i ≡ Some part → x < part.to
   none_behind all i part l e = absurd (omega (arith, slice_get_within parts i part e))
 
 -- of a position, by how many intervals end at or before it
-module _ (parts : List Run) (t : AreParts 0 parts) (n x limit : ℕ) (k : EndBy parts n x) (some : x < limit) where
+module _ (parts : List Range) (t : AreParts 0 parts) (n x limit : ℕ) (k : EndBy parts n x) (some : x < limit) where
   pub stretch_behind : length parts ≤ n → IsStretchFrom (covers parts) x limit false limit
   stretch_behind none = record {
     alike = record {
@@ -38,20 +38,20 @@ module _ (parts : List Run) (t : AreParts 0 parts) (n x limit : ℕ) (k : EndBy 
     ends = λ l. absurd (omega (arith, l));
   }
 
-  pub stretch_within : (part : Run) → slice_get parts n ≡ Some part → part.from ≤ x → (to : ℕ) → to ≡ min limit part.to
+  pub stretch_within : (part : Range) → slice_get parts n ≡ Some part → part.from ≤ x → (to : ℕ) → to ≡ min limit part.to
       → IsStretchFrom (covers parts) x limit true to
   stretch_within part there begun to is =
       let ahead : x < part.to = k.others n part (omega arith) there in
-      let run = found_run_up parts n part t there x ahead in
+      let range = found_range_up parts n part t there x ahead in
       record {
-        alike = record { some = omega arith; each = λ y l u. run.within y (omega (arith, l, begun)) (omega (arith, u, is)) };
+        alike = record { some = omega arith; each = λ y l u. range.within y (omega (arith, l, begun)) (omega (arith, u, is)) };
         within = omega arith;
         ends = λ l.
             let at : to ≡ part.to = omega (arith, l, is) in
-            ap (covers parts) at ∙ false_from_ne_true (covers parts part.to) run.stops;
+            ap (covers parts) at ∙ false_from_ne_true (covers parts part.to) range.stops;
       }
 
-  pub stretch_before : (part : Run) → slice_get parts n ≡ Some part → x < part.from → (to : ℕ) → to ≡ min limit part.from
+  pub stretch_before : (part : Range) → slice_get parts n ≡ Some part → x < part.from → (to : ℕ) → to ≡ min limit part.from
       → IsStretchFrom (covers parts) x limit false to
   stretch_before part there later to is =
       let ahead : x < part.to = k.others n part (omega arith) there in

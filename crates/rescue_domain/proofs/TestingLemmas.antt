@@ -6,7 +6,7 @@ use Rattle.block_list.specs.declared.status.Status.{Status}
 use Rattle.std.proofs.lemmas.List.{length-take-le, take-take, map-append, append_cancel_left}
 use Rattle.block_list.specs.declared.status.Status.TheVariants.{NonTried, NonTrimmed, NonScraped, BadSector, Finished}
 use Rattle.block_list.specs.Map.{Has}
-use Rattle.block_list.specs.Places.{IsRunUp}
+use Rattle.block_list.specs.Places.{IsRangeUp}
 use Rattle.faulty_source.specs.declared.source.Got.{Got}
 use Rattle.faulty_source.specs.declared.source.Got.TheVariants.{Read}
 use Rattle.faulty_source.specs.Got.{count_of, is_end}
@@ -64,9 +64,9 @@ some_finished (Some BadSector) e = cc
 some_finished (Some Finished) e = refl
 
 -- where finished positions go on up to an end, so many of n are in front
-pub front_of_run : (statuses : List Status) (pos end n : ℕ) → IsRunUp (Has statuses Finished) pos end
+pub front_of_range : (statuses : List Status) (pos end n : ℕ) → IsRangeUp (Has statuses Finished) pos end
     → min n (end - pos) ≡ finished_front statuses pos n
-front_of_run statuses pos end n u = fronts_agree statuses pos n _ _ (record {
+front_of_range statuses pos end n u = fronts_agree statuses pos n _ _ (record {
   few = omega arith;
   finished = λ x l v. ap is_finished (u.within x l (omega arith));
   stops = λ v.

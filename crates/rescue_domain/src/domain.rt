@@ -1,11 +1,11 @@
 ghost use Rattle.std.specs.Prelude.{◌≡◌, ℕ, ◌<◌, ◌≤◌, ◌^◌, min, max, Some, slice_get, length, false, ◌&&◌, nat_lt, option_map, IsTrue, IsOk, IfOk, OnOk, OnErr, IfSome, IfNone};
-ghost use Rattle.block_list.specs.declared.block.Run.{Run};
-ghost use Rattle.block_list.specs.Places.{IsFirst, IsLast, IsRunUp, IsRunDown};
+ghost use Rattle.block_list.specs.declared.block.Range.{Range};
+ghost use Rattle.block_list.specs.Places.{IsFirst, IsLast, IsRangeUp, IsRangeDown};
 ghost use Rattle.rescue_domain.specs.Domain.{IsIn, is_below, whole_domain, finished_in, in_map, listed_in, IsSize};
 ghost use Rattle.rescue_domain.specs.Parts.{covers, AreParts, EndBy};
 ghost use Rattle.rescue_domain.specs.Stretch.{IsStretchFrom};
 
-use block_list::block::Run;
+use block_list::block::Range;
 use block_list::status::Status;
 use block_list::tiles::{NoMemory, Tiles};
 use std::alloc::Global;
@@ -23,15 +23,15 @@ pub struct Stretch {
 /// A set of positions, as intervals that ascend with a gap between each two.
 #[derive(Drop)]
 pub struct Domain {
-    parts: Vec<Run>,
+    parts: Vec<Range>,
 }
 
 impl Model for Domain {
     ghost use Rattle.std.specs.Prelude.{List};
-    ghost use Rattle.block_list.specs.declared.block.Run.{Run};
+    ghost use Rattle.block_list.specs.declared.block.Range.{Range};
     ghost use Rattle.rescue_domain.specs.Parts.{AreParts};
 
-    ghost Value = { List Run };
+    ghost Value = { List Range };
 
     ghost view = { λ d. d.parts.items };
 
@@ -49,7 +49,7 @@ impl Domain {
         let mut parts = Vec::new(alloc);
         if pos < end {
             parts
-                .push(Run { from: pos, to: end })
+                .push(Range { from: pos, to: end })
                 .map_err(|_| NoMemory)?;
         }
         Ok(Domain { parts })
@@ -96,20 +96,20 @@ impl Domain {
         ensures { result ≡ covers self.now x }
     {
         match self.next_in(x) {
-            Some(run) => run.from == x,
+            Some(range) => range.from == x,
             None => false,
         }
     }
 
     /// The first position of the domain at or after `from`, and the end of its positions there.
-    pub fn next_in(&self, from: u64) -> Option<Run>
-        ensures first { IfSome result (λ run. IsFirst (IsIn (covers self.now)) from run.from) }
-        ensures run { IfSome result (λ run. IsRunUp (IsIn (covers self.now)) run.from run.to) }
+    pub fn next_in(&self, from: u64) -> Option<Range>
+        ensures first { IfSome result (λ range. IsFirst (IsIn (covers self.now)) from range.from) }
+        ensures range { IfSome result (λ range. IsRangeUp (IsIn (covers self.now)) range.from range.to) }
         ensures none { IfNone result ((x : ℕ) → from ≤ x → IsIn (covers self.now) x → ⊥) }
     {
         let ended = ended_by(&self.parts, from);
         let part = self.parts.get(ended)?;
-        Some(Run {
+        Some(Range {
             from: from.max(part.from),
             to: part.to,
         })
@@ -117,14 +117,14 @@ impl Domain {
 
     /// The greatest end at or before `before` right below which a position is in the domain, and the start of its
     /// positions there.
-    pub fn last_in(&self, before: u64) -> Option<Run>
-        ensures last { IfSome result (λ run. IsLast (IsIn (covers self.now)) before run.to) }
-        ensures run { IfSome result (λ run. IsRunDown (IsIn (covers self.now)) run.from run.to) }
+    pub fn last_in(&self, before: u64) -> Option<Range>
+        ensures last { IfSome result (λ range. IsLast (IsIn (covers self.now)) before range.to) }
+        ensures range { IfSome result (λ range. IsRangeDown (IsIn (covers self.now)) range.from range.to) }
         ensures none { IfNone result ((x : ℕ) → x < before → IsIn (covers self.now) x → ⊥) }
     {
         let begun = begun_before(&self.parts, before);
         let part = self.parts[..begun].last()?;
-        Some(Run {
+        Some(Range {
             from: part.from,
             to: before.min(part.to),
         })
@@ -166,7 +166,7 @@ pub(crate) fn end_of(pos: u64, size: Option<u64>, limit: u64) -> u64
 }
 
 /// Cuts an interval to the positions from `first` on and below `end`, and says whether any is left.
-fn cut_to(part: &mut Run, first: u64, end: u64) -> bool
+fn cut_to(part: &mut Range, first: u64, end: u64) -> bool
     ensures from { part.new.from ≡ max part.old.from first }
     ensures to { part.new.to ≡ min part.old.to end }
     ensures left { result ≡ nat_lt part.new.from part.new.to }
@@ -177,26 +177,26 @@ fn cut_to(part: &mut Run, first: u64, end: u64) -> bool
 }
 
 /// The intervals of the positions of a domain that are finished in a map.
-fn finished_parts<T: Tiles>(domain: &Domain, tiles: &T) -> Result<Vec<Run>, NoMemory>
+fn finished_parts<T: Tiles>(domain: &Domain, tiles: &T) -> Result<Vec<Range>, NoMemory>
     ensures apart { IfOk result (λ parts. AreParts 0 parts.items) }
     ensures positions { IfOk result (λ parts. (x : ℕ)
         → covers parts.items x ≡ finished_in (covers domain.now) (T.statuses tiles.now) x) }
 {
     let mut parts = Vec::new(*domain.parts.allocator());
     let mut at = 0;
-    while let Some(run) = next_finished(domain, tiles, at) {
-        parts.push(run).map_err(|_| NoMemory)?;
-        at = run.to;
+    while let Some(range) = next_finished(domain, tiles, at) {
+        parts.push(range).map_err(|_| NoMemory)?;
+        at = range.to;
     }
     Ok(parts)
 }
 
 /// The first positions of a domain, at or after one, that are finished in a map, up to where they end.
-fn next_finished<T: Tiles>(domain: &Domain, tiles: &T, from: u64) -> Option<Run>
-    ensures first { IfSome result (λ run. IsFirst (IsIn (finished_in (covers domain.now) (T.statuses tiles.now)))
-        from run.from) }
-    ensures run { IfSome result (λ run. IsRunUp (IsIn (finished_in (covers domain.now) (T.statuses tiles.now)))
-        run.from run.to) }
+fn next_finished<T: Tiles>(domain: &Domain, tiles: &T, from: u64) -> Option<Range>
+    ensures first { IfSome result (λ range. IsFirst (IsIn (finished_in (covers domain.now) (T.statuses tiles.now)))
+        from range.from) }
+    ensures range { IfSome result (λ range. IsRangeUp (IsIn (finished_in (covers domain.now) (T.statuses tiles.now)))
+        range.from range.to) }
     ensures none { IfNone result ((x : ℕ) → from ≤ x
         → IsIn (finished_in (covers domain.now) (T.statuses tiles.now)) x → ⊥) }
 {
@@ -204,7 +204,7 @@ fn next_finished<T: Tiles>(domain: &Domain, tiles: &T, from: u64) -> Option<Run>
     while let Some(part) = domain.next_in(at) {
         let found = tiles.find_forward(part.from, Status::Finished)?;
         if found.from < part.to {
-            return Some(Run {
+            return Some(Range {
                 from: found.from,
                 to: found.to.min(part.to),
             });
@@ -215,7 +215,7 @@ fn next_finished<T: Tiles>(domain: &Domain, tiles: &T, from: u64) -> Option<Run>
 }
 
 /// How many intervals end at or before a position.
-fn ended_by(parts: &[Run], x: u64) -> usize
+fn ended_by(parts: &[Range], x: u64) -> usize
     requires { AreParts 0 parts.now }
     ensures { EndBy parts.now result x }
 {
@@ -223,7 +223,7 @@ fn ended_by(parts: &[Run], x: u64) -> usize
 }
 
 /// Whether so many intervals end at or before a position, and no more.
-fn are_ended(parts: &[Run], count: usize, x: u64) -> bool
+fn are_ended(parts: &[Range], count: usize, x: u64) -> bool
     requires { AreParts 0 parts.now }
     ensures { IsTrue result → EndBy parts.now count x }
 {
@@ -237,7 +237,7 @@ fn are_ended(parts: &[Run], count: usize, x: u64) -> bool
 }
 
 /// How many intervals end at or before a position; it looks first whether these many do, or one more.
-fn ended_near(parts: &[Run], near: usize, x: u64) -> usize
+fn ended_near(parts: &[Range], near: usize, x: u64) -> usize
     requires { AreParts 0 parts.now }
     ensures { EndBy parts.now result x }
 {
@@ -252,7 +252,7 @@ fn ended_near(parts: &[Run], near: usize, x: u64) -> usize
 }
 
 /// The stretch from a position on, by how many intervals end at or before it.
-fn stretch_in(parts: &[Run], ended: usize, x: u64, limit: u64) -> Stretch
+fn stretch_in(parts: &[Range], ended: usize, x: u64, limit: u64) -> Stretch
     requires parts { AreParts 0 parts.now }
     requires ended { EndBy parts.now ended x }
     requires limit { x < limit }
@@ -278,11 +278,11 @@ fn stretch_in(parts: &[Run], ended: usize, x: u64, limit: u64) -> Stretch
 }
 
 /// How many intervals begin before a position.
-fn begun_before(parts: &[Run], x: u64) -> usize
+fn begun_before(parts: &[Range], x: u64) -> usize
     requires { AreParts 0 parts.now }
     ensures index { result ≤ length parts.now }
-    ensures begun { (i : ℕ) (part : Run) → i < result → slice_get parts.now i ≡ Some part → part.from < x }
-    ensures others { (i : ℕ) (part : Run) → result ≤ i → slice_get parts.now i ≡ Some part → x ≤ part.from }
+    ensures begun { (i : ℕ) (part : Range) → i < result → slice_get parts.now i ≡ Some part → part.from < x }
+    ensures others { (i : ℕ) (part : Range) → result ≤ i → slice_get parts.now i ≡ Some part → x ≤ part.from }
 {
     parts.partition_point(|part| part.from < x)
 }

@@ -1,10 +1,10 @@
 //! What is left of a domain whose input was found to end.
 ghost use Rattle.std.specs.Prelude.{◌≡◌, ℕ, ◌<◌, ◌≤◌, IfSome, IfNone};
-ghost use Rattle.block_list.specs.Places.{IsFirst, IsLast, IsRunUp, IsRunDown};
+ghost use Rattle.block_list.specs.Places.{IsFirst, IsLast, IsRangeUp, IsRangeDown};
 ghost use Rattle.rescue_domain.specs.Domain.{IsIn};
 
 use crate::domain::Domain;
-use block_list::block::Run;
+use block_list::block::Range;
 
 /// The positions of a domain that lie before an end, if one was met. The domain itself stands, since what was read of
 /// it before is still promised.
@@ -30,26 +30,26 @@ impl Live<'_> {
     }
 
     /// The first of them at or after `from`, and the end of those that follow it there.
-    pub fn next_in(self, from: u64) -> Option<Run>
-        ensures first { IfSome result (λ run. IsFirst (IsIn (lives self.entry)) from run.from) }
-        ensures run { IfSome result (λ run. IsRunUp (IsIn (lives self.entry)) run.from run.to) }
+    pub fn next_in(self, from: u64) -> Option<Range>
+        ensures first { IfSome result (λ range. IsFirst (IsIn (lives self.entry)) from range.from) }
+        ensures range { IfSome result (λ range. IsRangeUp (IsIn (lives self.entry)) range.from range.to) }
         ensures none { IfNone result ((x : ℕ) → from ≤ x → IsIn (lives self.entry) x → ⊥) }
     {
-        let run = self.domain.next_in(from)?;
+        let range = self.domain.next_in(from)?;
         match self.over {
-            Some(end) if end <= run.from => None,
-            Some(end) => Some(Run {
-                from: run.from,
-                to: run.to.min(end),
+            Some(end) if end <= range.from => None,
+            Some(end) => Some(Range {
+                from: range.from,
+                to: range.to.min(end),
             }),
-            None => Some(run),
+            None => Some(range),
         }
     }
 
     /// The greatest end at or before `before` right below which one of them lies, and the start of those there.
-    pub fn last_in(self, before: u64) -> Option<Run>
-        ensures last { IfSome result (λ run. IsLast (IsIn (lives self.entry)) before run.to) }
-        ensures run { IfSome result (λ run. IsRunDown (IsIn (lives self.entry)) run.from run.to) }
+    pub fn last_in(self, before: u64) -> Option<Range>
+        ensures last { IfSome result (λ range. IsLast (IsIn (lives self.entry)) before range.to) }
+        ensures range { IfSome result (λ range. IsRangeDown (IsIn (lives self.entry)) range.from range.to) }
         ensures none { IfNone result ((x : ℕ) → x < before → IsIn (lives self.entry) x → ⊥) }
     {
         let before = match self.over {

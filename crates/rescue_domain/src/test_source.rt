@@ -49,12 +49,12 @@ impl<S: Source, T: Tiles> Source for TestSource<'_, S, T> {
 }
 
 /// How many of so many positions from one on come before the first that isn't finished.
-fn count_finished<T: Tiles>(tiles: &T, pos: u64, count: usize) -> usize
+pub fn count_finished<T: Tiles>(tiles: &T, pos: u64, count: usize) -> usize
     requires { pos + count < 2 ^ 63 }
     ensures { result ≡ finished_front (T.statuses tiles.now) pos count }
 {
     match tiles.find_forward(pos, Status::Finished) {
-        Some(run) if run.from == pos => count.min((run.to - pos) as usize),
+        Some(range) if range.from == pos => count.min((range.to - pos) as usize),
         _ => 0,
     }
 }

@@ -9,7 +9,7 @@ use Rattle.plan_source.specs.Lines.{PlannedRead, line_of, lines_of}
 use Rattle.rescue_plan.specs.declared.ending.PlanEnding.{PlanEnding}
 use Rattle.rescue_plan.specs.declared.ending.PlanEnding.TheVariants.{Done, Usage, NoMap, MapRefused, SiteFault, ConsoleFault, NoMemory}
 use Rattle.rescue_plan.specs.Plan.{IsPlan, plan_setting}
-use Rattle.rescue_plan.specs.Running.{PutsPlan, PutsFirst, PutsBroken}
+use Rattle.rescue_plan.specs.Running.{PutsPlan, PutsFirst, PutsPlanBroken}
 use Rattle.rescue_plan.specs.Laws.{PlanIsBegun}
 use Rattle.rescue_plan.proofs.PlanLemmas.{begin_with, plan_is_one}
 
@@ -32,7 +32,7 @@ module _ (c : Command) (test : List Status) (old new : ConsoleState) (reads : Li
         is = p.puts.whole tells;
       }
 
-  broken_begun : PutsBroken c test old new → Begun
+  broken_begun : PutsPlanBroken c test old new → Begun
   broken_begun p =
       let b = begin_with c.options.rescue c.length test (p.reads ++ p.next ∷ []) reads plain p.first plan in
       let g = p.puts.part tells in

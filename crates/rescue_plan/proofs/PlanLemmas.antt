@@ -19,11 +19,12 @@ use Rattle.rescue_rules.proofs.MoveLemmas.{run_first, run_rest}
 use Rattle.rescue_rules.proofs.RequestLemmas.{one_request}
 use Rattle.rescue_rules.proofs.SearchLemmas.{wanted_found, request_seen}
 use Rattle.rescue_command.specs.declared.options.Options.{Options}
+use Rattle.rescue_command.proofs.CommandLemmas.{not_above}
 use Rattle.rescue_sample.specs.Line.{IsStill}
 use Rattle.ddrescue_cli.specs.Asked.{setting_of}
 use Rattle.plan_command.specs.Command.{ArePlain}
 use Rattle.plan_source.specs.Lines.{PlannedRead, planned}
-use Rattle.rescue_plan.specs.Plan.{IsPlannedIn, BeginsPlan, IsPlan, blank, plan_setting, plan_start}
+use Rattle.rescue_plan.specs.Plan.{IsPlannedIn, BeginsPlan, IsPlan, untried_map, plan_setting, plan_start}
 use Rattle.rescue_plan.specs.Laws.{BeginWith, PlanIsOne, RescuesArePlanned}
 use Rattle.rescue_plan.proofs.SimilarLemmas.{IsUnlimited, SameShape, SameShapes, plain, quiet, ready_alike, request_alike, after_alike, run_alike, state_alike, ended_alike}
 
@@ -45,7 +46,7 @@ are_still (e ∷ es) = All-cons IsStill (still e) (map still es) (record { befor
 
 -- the state in which a rescue begins over a map that wasn't tried
 abbrev start_of_run : Setting → (n time : ℕ) → Machine
-start_of_run s n time = machine_over s (blank n) None time
+start_of_run s n time = machine_over s (untried_map n) None time
 
 -- The reads of a run, at whatever times, in which each gives what is finished, are the first ones of a plan,
 module _ (s : Setting) (u : IsUnlimited s) (n time : ℕ) (test : List Status) (es : List Event)
@@ -168,9 +169,6 @@ plan_is_one o n test reads are p = record {
 passed_eq : (m n : ℕ) → nat_eq m n ≡ true → m ≡ n
 passed_eq m n e = grind (arith, nat_tests)
 
-not_less : (m n : ℕ) → nat_lt m n ≡ false → n ≤ m
-not_less m n e = grind (arith, nat_tests)
-
 -- a whole read is seen as one of a plan
 seen_planned : (test : List Status) (r : Reading) → is_whole r ≡ true → r.ended ≡ false → IsPlannedIn test (seen test r)
 seen_planned test r whole on =
@@ -185,7 +183,7 @@ seen_planned test r whole on =
     })
     (λ more. record {
       given =
-          let is : n ≡ front = omega (arith, not_less front n more, few) in
+          let is : n ≡ front = omega (arith, not_above front n more, few) in
           is ∙ ap (finished_front test r.pos) all;
       ended = on;
     })

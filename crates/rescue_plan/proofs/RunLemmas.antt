@@ -44,14 +44,14 @@ use Rattle.plan_source.specs.declared.loss.PlanLoss.{PlanLoss}
 use Rattle.plan_source.specs.declared.loss.PlanLoss.TheVariants.{Memory, Console}
 use Rattle.plan_source.specs.Lines.{PlannedRead, planned, planned_entry, line_of, lines_of, line_of_entry, lines_of_entries}
 use Rattle.plan_source.specs.Printing.{BreaksLast, HasPrinted, PutsBehind}
-use Rattle.plan_source.specs.Answering.{IsSeenIn, there, given_at, ends_at, reading_of, source_state}
-use Rattle.rescue_plan.specs.Plan.{IsPlannedIn, BeginsPlan, IsPlan, blank, plan_setting, plan_start}
-use Rattle.rescue_plan.specs.Running.{Begins, PutsPlan, PutsWhole, PutsFirst, PutsBroken, ending_by}
+use Rattle.plan_source.specs.Answering.{IsSeenIn, there, given_at, meets_end, reading_of, plan_source_state}
+use Rattle.rescue_plan.specs.Plan.{IsPlannedIn, BeginsPlan, IsPlan, untried_map, plan_setting, plan_start}
+use Rattle.rescue_plan.specs.Running.{BeginsPlannedRun, PutsPlan, PutsPlanWhole, PutsFirst, PutsPlanBroken, ending_by}
 use Rattle.plan_source.proofs.PrintingLemmas.{ends_with, puts_broken}
 use Rattle.rescue_plan.proofs.PlanLemmas.{begins_by, plan_by, unlimited}
 
 -- the setting of a plan's run is the plan's, but for names
-setting_is : (c : Command) (r : RunState) → Begins c r → setting_in r ≡ nameless (plan_setting c.options.rescue c.length)
+setting_is : (c : Command) (r : RunState) → BeginsPlannedRun c r → setting_in r ≡ nameless (plan_setting c.options.rescue c.length)
 setting_is c r is =
     let o : Options = c.options.rescue in
     let domain : ℕ → Bool = domain_asked o c.length no_maps in
@@ -63,17 +63,17 @@ setting_is c r is =
     ap S is.settings_are ∙ ap D positions ∙ ap N is.names_are ∙ ap L is.line_is
 
 -- and so is its machine
-machine_is : (c : Command) (r : RunState) → Begins c r
+machine_is : (c : Command) (r : RunState) → BeginsPlannedRun c r
     → r.machine ≡ plan_start (plan_setting c.options.rescue c.length) c.length
 machine_is c r is =
     let o : Options = c.options.rescue in
     let s : Setting = plan_setting o c.length in
     let positions : covers r.domain ≡ s.domain = fun_ext is.domain in
     let M : (ℕ → Bool) → Setting → Machine = λ inside t.
-    machine_of t (prepared inside o.try_again o.retrim (blank c.length)) (goes_on_from o.try_again None) (shown_at_first None) 0 in
+    machine_of t (prepared inside o.try_again o.retrim (untried_map c.length)) (goes_on_from o.try_again None) (shown_at_first None) 0 in
     is.machine ∙ ap (λ (inside : ℕ → Bool). M inside (setting_in r)) positions ∙ ap (M s.domain) (setting_is c r is)
 
-run_is : (c : Command) (r : RunState) (es : List Event) → Begins c r → IsRun (setting_in r) r.machine es
+run_is : (c : Command) (r : RunState) (es : List Event) → BeginsPlannedRun c r → IsRun (setting_in r) r.machine es
     → IsRun (plan_setting c.options.rescue c.length) (plan_start (plan_setting c.options.rescue c.length) c.length) es
 run_is c r es is run =
     let s : Setting = plan_setting c.options.rescue c.length in
@@ -81,7 +81,7 @@ run_is c r es is run =
     (subst (λ (m : Machine). IsRun (nameless s) m es) (machine_is c r is)
     (subst (λ (t : Setting). IsRun t r.machine es) (setting_is c r is) run))
 
-ended_is : (c : Command) (r : RunState) (es : List Event) → Begins c r
+ended_is : (c : Command) (r : RunState) (es : List Event) → BeginsPlannedRun c r
     → has_ended (setting_in r) (state_after (setting_in r) r.machine es) ≡ true
     → has_ended (plan_setting c.options.rescue c.length) (state_after (plan_setting c.options.rescue c.length)
     (plan_start (plan_setting c.options.rescue c.length) c.length) es) ≡ true
@@ -90,7 +90,7 @@ ended_is c r es is over =
     subst (λ (m : Machine). has_ended (nameless s) (state_after (nameless s) m es) ≡ true) (machine_is c r is)
     (subst (λ (t : Setting). has_ended t (state_after t r.machine es) ≡ true) (setting_is c r is) over)
 
-sensible_is : (c : Command) (r : RunState) → Begins c r → IsSensible (plan_setting c.options.rescue c.length)
+sensible_is : (c : Command) (r : RunState) → BeginsPlannedRun c r → IsSensible (plan_setting c.options.rescue c.length)
 sensible_is c r is =
     let s : Setting = plan_setting c.options.rescue c.length in
     let k : IsSensible (nameless s) = subst IsSensible (setting_is c r is) is.copying.sensible in
@@ -176,10 +176,10 @@ done_over s m es spare calls (IsBroken before last call split none is broke) = a
 
 blank_size : (s : Setting) (n : ℕ) → length (plan_start s n).map ≡ n
 blank_size s n =
-    (change_is_made s.domain (prepared_status s.again s.retrim) (blank n)).size ∙ length-replicate n NonTried
+    (change_is_made s.domain (prepared_status s.again s.retrim) (untried_map n)).size ∙ length-replicate n NonTried
 
 -- What such a run put, by the journal that it kept and what the console got of it.
-module _ (c : Command) (limits : AreInLimits c) (r : RunState) (is : Begins c r) (es : List Event)
+module _ (c : Command) (limits : AreInLimits c) (r : RunState) (is : BeginsPlannedRun c r) (es : List Event)
     (run : IsRun (setting_in r) r.machine es) (test : List Status) (entries : List ReadEntry)
     (seen : All (IsSeenIn c.length test) entries) (journal : map reading_of entries ≡ reads_of es)
     (start now : ConsoleState) where
@@ -190,7 +190,7 @@ module _ (c : Command) (limits : AreInLimits c) (r : RunState) (is : Begins c r)
   planned_all =
       let inside : All (IsWithin c.length) (reads_of es) =
       events_within s (plan_start s c.length) c.length es (sensible_is c r is)
-      (order_over s (blank c.length) None 0) (run_is c r es is run) (blank_size s c.length) in
+      (order_over s (untried_map c.length) None 0) (run_is c r es is run) (blank_size s c.length) in
       subst (λ (rs : List Reading). All (IsPlannedIn test) rs) journal
       (entries_planned c.length test entries seen
       (subst (λ (rs : List Reading). All (IsWithin c.length) rs) (sym journal) inside))
@@ -203,7 +203,7 @@ module _ (c : Command) (limits : AreInLimits c) (r : RunState) (is : Begins c r)
       planned_all
 
   put_whole : Puts Out (lines_of_entries entries) start now
-      → has_ended (setting_in r) (state_after (setting_in r) r.machine es) ≡ true → PutsWhole c test start now
+      → has_ended (setting_in r) (state_after (setting_in r) r.machine es) ≡ true → PutsPlanWhole c test start now
   put_whole puts over = record {
     reads = map planned (reads_of es);
     plan = plan_by s (unlimited c.options.rescue c.length limits.plain) c.length 0 test es (run_is c r es is run) planned_all
@@ -218,7 +218,7 @@ module _ (c : Command) (limits : AreInLimits c) (r : RunState) (is : Begins c r)
     puts = subst (λ (t : List ℕ). Puts Out t start now) lines_same puts;
   }
 
-  put_broken : BreaksLast entries start now → PutsBroken c test start now
+  put_broken : BreaksLast entries start now → PutsPlanBroken c test start now
   put_broken b =
       let end = ends_with entries b.some in
       let reads : List PlannedRead = map planned (map reading_of end.before) in
@@ -255,13 +255,13 @@ record IsBehind (len len' : ℕ) (test test' : List Status) (opened : Bool) (ent
 
 is_behind : (len len' : ℕ) (test test' : List Status) (reference reference' : ℕ) (entries : List ReadEntry)
     (name : List ℕ) (opened : Bool) (opens faults losses : ℕ) (old : SourceState) (reads : List Reading)
-    → old ≡ source_state len test reference [] [] true 0 0 0
-    → Stays old (source_state len' test' reference' entries name opened opens faults losses)
+    → old ≡ plan_source_state len test reference [] [] true 0 0 0
+    → Stays old (plan_source_state len' test' reference' entries name opened opens faults losses)
     → (IsTrue old.tells → map reading_of entries ≡ old.journal ++ reads)
     → IsBehind len len' test test' opened entries reads
 is_behind len len' test test' reference reference' entries name opened opens faults losses old reads was stays read =
-    let first : SourceState = source_state len test reference [] [] true 0 0 0 in
-    let new : SourceState = source_state len' test' reference' entries name opened opens faults losses in
+    let first : SourceState = plan_source_state len test reference [] [] true 0 0 0 in
+    let new : SourceState = plan_source_state len' test' reference' entries name opened opens faults losses in
     let st : Stays first new = subst (λ (s : SourceState). Stays s new) was stays in
     let journal : IsTrue first.tells → map reading_of entries ≡ first.journal ++ reads =
     subst (λ (s : SourceState). IsTrue s.tells → map reading_of entries ≡ s.journal ++ reads) was read in
@@ -275,13 +275,13 @@ is_behind len len' test test' reference reference' entries name opened opens fau
     }
 
 -- What the run of a plan put, by all that is told of it.
-pub run_puts : (c : Command) (limits : AreInLimits c) (r : RunState) (is : Begins c r) (end : RunEnd) (es : List Event)
+pub run_puts : (c : Command) (limits : AreInLimits c) (r : RunState) (is : BeginsPlannedRun c r) (end : RunEnd) (es : List Event)
     (run : IsRun (setting_in r) r.machine es) (spare : ℕ) (calls : List Entry)
     → Ends (setting_in r) r.machine es spare calls end
     → (len len' : ℕ) → c.length ≡ len → (test test' : List Status) (reference reference' : ℕ) (entries : List ReadEntry)
     (name : List ℕ) (opened idle : Bool) (opens faults losses : ℕ) (lost : Option PlanLoss) (old : SourceState)
-    → old ≡ source_state len test reference [] [] true 0 0 0
-    → Stays old (source_state len' test' reference' entries name (opened && idle) opens faults losses)
+    → old ≡ plan_source_state len test reference [] [] true 0 0 0
+    → Stays old (plan_source_state len' test' reference' entries name (opened && idle) opens faults losses)
     → (IsTrue old.tells → map reading_of entries ≡ old.journal ++ reads_of es)
     → All (IsSeenIn len' test') entries → (start now : ConsoleState) → (idle ≡ true → HasPrinted start now entries lost)
     → PutsPlan c test (ending_by lost end) start now

@@ -16,7 +16,7 @@ use Rattle.rescue_rules.specs.Setting.{Setting}
 use Rattle.rescue_rules.specs.Passes.{Pass, is_up}
 use Rattle.rescue_rules.specs.Beginning.{nothing_shown}
 use Rattle.rescue_rules.specs.Machine.{Machine, pass_of, is_wanted, IsRequest, has_request}
-use Rattle.rescue_rules.specs.Step.{Event, is_copying, is_trimming, is_slow, rest_status, scraped, earlier, mode_after, step, limit_met, is_beyond, areas_allowed, areas_of, time_allowed}
+use Rattle.rescue_rules.specs.Step.{Event, is_copying, is_trimming, is_slow, rest_status, scraped, earlier, mode_after, step, limit_met, exceeds, areas_allowed, areas_of, time_allowed}
 use Rattle.rescue_rules.specs.Moves.{Move, begun, ended, at_next, ready, move_of, moves, state_after, IsMove, IsRun, no_pass_left, has_ended}
 use Rattle.rescue_rules.specs.Events.{reads_of}
 use Rattle.rescue_rules.proofs.MoveLemmas.{run_first, run_rest}
@@ -50,7 +50,7 @@ quiet m = record m {
 
 -- ---- no limit is met
 
-beyond_none : (limit : Option ℕ) (n : ℕ) → limit ≡ None → is_beyond limit n ≡ false
+beyond_none : (limit : Option ℕ) (n : ℕ) → limit ≡ None → exceeds limit n ≡ false
 beyond_none None n is = refl
 beyond_none (Some k) n is = absurd (cc)
 
@@ -64,23 +64,23 @@ unmet false false false false a b c e f g = refl
 
 pub no_limit : (s : Setting) (m : Machine) → IsUnlimited s → limit_met s m ≡ None
 no_limit s m u =
-    let errors : is_beyond s.max_errors m.failed ≡ false = beyond_none s.max_errors m.failed u.errors in
+    let errors : exceeds s.max_errors m.failed ≡ false = beyond_none s.max_errors m.failed u.errors in
     let allowed : areas_allowed s m ≡ None = rw u.areas refl in
-    let areas : is_beyond (areas_allowed s m) (areas_of s m) ≡ false =
+    let areas : exceeds (areas_allowed s m) (areas_of s m) ≡ false =
     beyond_none (areas_allowed s m) (areas_of s m) allowed in
-    let time : is_beyond (time_allowed s) (m.now - m.whole_at) ≡ false =
+    let time : exceeds (time_allowed s) (m.now - m.whole_at) ≡ false =
     beyond_none (time_allowed s) (m.now - m.whole_at) (rw u.time refl) in
-    unmet (is_none m.said) (is_beyond s.max_errors m.failed) (is_beyond (areas_allowed s m) (areas_of s m))
-    (is_beyond (time_allowed s) (m.now - m.whole_at)) (TooManyErrors m.failed) (TooManyAreas (areas_of s m))
+    unmet (is_none m.said) (exceeds s.max_errors m.failed) (exceeds (areas_allowed s m) (areas_of s m))
+    (exceeds (time_allowed s) (m.now - m.whole_at)) (TooManyErrors m.failed) (TooManyAreas (areas_of s m))
     (TimedOut (m.now - m.whole_at)) errors areas time
 
 -- ---- requests
 
 request_quiet : (s : Setting) (m : Machine) (p q : ℕ) → IsRequest s m p q → IsRequest (plain s) (quiet m) p q
-request_quiet s m p q r = record { start = r.start; end = r.end; run = r.run; starts = r.starts; ends = r.ends }
+request_quiet s m p q r = record { start = r.start; end = r.end; range = r.range; starts = r.starts; ends = r.ends }
 
 request_loud : (s : Setting) (m : Machine) (p q : ℕ) → IsRequest (plain s) (quiet m) p q → IsRequest s m p q
-request_loud s m p q r = record { start = r.start; end = r.end; run = r.run; starts = r.starts; ends = r.ends }
+request_loud s m p q r = record { start = r.start; end = r.end; range = r.range; starts = r.starts; ends = r.ends }
 
 has_quiet : (s : Setting) (m : Machine) → has_request (plain s) (quiet m) ≡ has_request s m
 has_quiet s m = refl

@@ -1,7 +1,7 @@
 -- The promise of `ddrescueplan`, field by field. What an object tells is its own: the forms in memory tell all, those for
 -- real files and streams their counts and what is open.
 use Rattle.std.specs.Prelude.{◌≡◌, ◌⊎◌, ℕ, Bool, true, false, IsTrue, List}
-use Rattle.fault_count.specs.Plan.{counted}
+use Rattle.fault_count.specs.Plan.{with_call}
 use Rattle.crash_site.specs.SiteState.{Stays as SiteStays}
 use Rattle.rescue_console.specs.declared.console.Channel.TheVariants.{Err}
 use Rattle.rescue_console.specs.ConsoleState.{ConsoleState, Puts, PutsPart}
@@ -33,7 +33,7 @@ pub data Says (t : Told) (between : ConsoleState) : Type 0 where
   Message : is_silent t.answer ≡ false
       → (AskQuiet t.words → (t.answer ≡ NoMemory) × IsUntouched t between)
       → Puts Err (message t.answer) between t.console' ⊎ PutsPart Err (message t.answer) between t.console'
-      → (IsTrue between.is_planned → t.console'.plan ≡ counted between.plan) → Says t between
+      → (IsTrue between.is_planned → t.console'.plan ≡ with_call between.plan) → Says t between
 
 -- What `ddrescueplan` promises of a call, by all that is told of it
 pub record Ddrescueplan (t : Told) : Type 0 where

@@ -21,7 +21,7 @@ use Rattle.rescue_plan.specs.Told.{Told}
 use Rattle.rescue_plan.specs.Ddrescueplan.{Ddrescueplan}
 use Rattle.rescue_plan.specs.Running.{PutsPlan}
 use Rattle.plan_source.specs.Lines.{PlannedRead, planned, lines_of}
-use Rattle.rescue_plan.specs.Plan.{blank, plan_setting, BeginsPlan, IsPlan}
+use Rattle.rescue_plan.specs.Plan.{untried_map, plan_setting, BeginsPlan, IsPlan}
 
 -- reads begin with others
 pub record BeginWith (first reads : List PlannedRead) : Type 0 where
@@ -62,7 +62,7 @@ pub record RescueIsPlanned (c : RescueCommand) (line : List ℕ) (length time : 
   pub first : BeginsPlan (plan_setting c.options length) length test (map planned (reads_of events))
   pub all : has_ended (setting_of c line length no_maps)
       (state_after (setting_of c line length no_maps)
-      (machine_over (setting_of c line length no_maps) (blank length) None time) events) ≡ true
+      (machine_over (setting_of c line length no_maps) (untried_map length) None time) events) ≡ true
       → IsPlan (plan_setting c.options length) length test (map planned (reads_of events))
 
 abbrev pub RescuesArePlanned : Type 0

@@ -18,8 +18,8 @@ use Rattle.ddrescue_cli.specs.Sampled.{no_maps}
 use Rattle.plan_source.specs.Lines.{PlannedRead, planned}
 
 -- the map of an input that wasn't tried
-abbrev pub blank : (length : ℕ) → List Status
-blank length = replicate length NonTried
+abbrev pub untried_map : (length : ℕ) → List Status
+untried_map length = replicate length NonTried
 
 -- what options ask for of an input with a length, where no file has a name and nothing is saved
 abbrev pub plan_setting : Options → (length : ℕ) → Setting
@@ -27,7 +27,7 @@ plan_setting o length = setting_asked [] [] None [] o length no_maps
 
 -- the state of a rescue that begins at the time 0, with no mapfile
 abbrev pub plan_start : Setting → (length : ℕ) → Machine
-plan_start s length = machine_over s (blank length) None 0
+plan_start s length = machine_over s (untried_map length) None 0
 
 -- A read gives the bytes before the first position that isn't finished in a test map, and meets no end.
 pub record IsPlannedIn (test : List Status) (r : Reading) : Type 0 where

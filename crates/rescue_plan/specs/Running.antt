@@ -16,18 +16,18 @@ use Rattle.plan_source.specs.declared.loss.PlanLoss.TheVariants.{Memory, Console
 use Rattle.plan_source.specs.Lines.{PlannedRead, line_of, lines_of}
 use Rattle.plan_source.specs.Printing.{PutsBehind}
 use Rattle.rescue_plan.specs.Plan.{plan_setting, BeginsPlan, IsPlan}
-pub use Rattle.rescue_plan.specs.Plan.{blank}
+pub use Rattle.rescue_plan.specs.Plan.{untried_map}
 
 -- a run at its start over a map of the input's length that wasn't tried, which a command asks for; it isn't heard
-abbrev pub Begins : Command → RunState → Type 0
-Begins c r = IsRunOver None [] c.options.rescue c.length no_maps (blank c.length) None 0 false r
+abbrev pub BeginsPlannedRun : Command → RunState → Type 0
+BeginsPlannedRun c r = IsRunOver None [] c.options.rescue c.length no_maps (untried_map c.length) None 0 false r
 
 -- some command asks for it, of an input with this length
 pub record IsBegun (length : ℕ) (r : RunState) : Type 0 where
   pub command : Command
   pub limits : AreInLimits command
   pub length_is : command.length ≡ length
-  pub begins : Begins command r
+  pub begins : BeginsPlannedRun command r
 
 -- how a plan ended, by why reads behind its run are lost, if they are, and by how that ended
 abbrev pub ending_by : Option PlanLoss → RunEnd → PlanEnding
@@ -38,7 +38,7 @@ ending_by (Some Memory) end = NoMemory
 ending_by (Some Console) end = ConsoleFault
 
 -- the whole plan that a command asks for over a test map was put, line by line
-pub record PutsWhole (c : Command) (test : List Status) (old new : ConsoleState) : Type 0 where
+pub record PutsPlanWhole (c : Command) (test : List Status) (old new : ConsoleState) : Type 0 where
   pub reads : List PlannedRead
   pub plan : IsPlan (plan_setting c.options.rescue c.length) c.length test reads
   pub puts : Puts Out (lines_of reads) old new
@@ -50,7 +50,7 @@ pub record PutsFirst (c : Command) (test : List Status) (old new : ConsoleState)
   pub puts : Puts Out (lines_of reads) old new
 
 -- the lines of its first reads were put, but the last one's put failed: a beginning of that line may stand
-pub record PutsBroken (c : Command) (test : List Status) (old new : ConsoleState) : Type 0 where
+pub record PutsPlanBroken (c : Command) (test : List Status) (old new : ConsoleState) : Type 0 where
   pub reads : List PlannedRead
   pub next : PlannedRead
   pub first : BeginsPlan (plan_setting c.options.rescue c.length) c.length test (reads ++ next ∷ [])
@@ -58,10 +58,10 @@ pub record PutsBroken (c : Command) (test : List Status) (old new : ConsoleState
 
 -- what is put on standard output by the answer of a run
 abbrev pub PutsPlan : Command → List Status → PlanEnding → (old new : ConsoleState) → Type 0
-PutsPlan c test Done old new = PutsWhole c test old new
+PutsPlan c test Done old new = PutsPlanWhole c test old new
 PutsPlan c test (Usage fault) old new = ⊥
 PutsPlan c test NoMap old new = ⊥
 PutsPlan c test (MapRefused error) old new = ⊥
 PutsPlan c test (SiteFault call) old new = ⊥
-PutsPlan c test ConsoleFault old new = PutsBroken c test old new
+PutsPlan c test ConsoleFault old new = PutsPlanBroken c test old new
 PutsPlan c test NoMemory old new = PutsFirst c test old new

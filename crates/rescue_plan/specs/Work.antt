@@ -29,7 +29,7 @@ AnswersBy c (Err fault) e console console' = (e ≡ refusal_of fault) × (consol
 
 -- Behind words that ask for something: there is a file that is the site's own where it tells; its load answers for this file alone, by
 -- reads up to its end or to one that failed; and by that the plan is put.
-pub record Went (c : Command) (e : PlanEnding) (site site' : SiteState) (console console' : ConsoleState)
+pub record PlanWent (c : Command) (e : PlanEnding) (site site' : SiteState) (console console' : ConsoleState)
     : Type 0 where
   pub found : Result ReadMap NamedFault
   pub file : IsOfFile (files_in site c.test_map) site.tells (IsNamedAs Tight found)
@@ -41,4 +41,4 @@ pub record Went (c : Command) (e : PlanEnding) (site site' : SiteState) (console
 -- What a command did: memory ran out before anything was done, or it went on.
 pub data Worked (c : Command) (e : PlanEnding) (site site' : SiteState) (console console' : ConsoleState) : Type 0 where
   Starving : e ≡ NoMemory → site' ≡ site → console' ≡ console → Worked c e site site' console console'
-  Going : Went c e site site' console console' → Worked c e site site' console console'
+  Going : PlanWent c e site site' console console' → Worked c e site site' console console'

@@ -3,7 +3,7 @@ ghost use Rattle.std.specs.Prelude.{◌≡◌, ◌<◌, ◌^◌, IfOk};
 ghost use Rattle.rescue_command.specs.Command.{AreInLimits as AreOptionsInLimits};
 ghost use Rattle.ddrescue_cli.specs.Running.{settings_by};
 ghost use Rattle.plan_command.specs.Command.{AreInLimits, told_by};
-ghost use Rattle.rescue_plan.specs.Running.{Begins, blank};
+ghost use Rattle.rescue_plan.specs.Running.{BeginsPlannedRun, untried_map};
 
 use block_list::plain_tiles::PlainTiles;
 use block_list::tiles::{NoMemory, Tiles};
@@ -46,7 +46,7 @@ fn settings_for(options: &Options) -> Settings
 /// The map of an input that wasn't tried.
 fn blank_map(alloc: Global, length: u64) -> Result<RunMap, NoMemory>
     requires { length < 2 ^ 63 }
-    ensures { IfOk result (λ t. t.statuses ≡ blank length) }
+    ensures { IfOk result (λ t. t.statuses ≡ untried_map length) }
 {
     let mut tiles = PlainTiles::new(alloc);
     tiles.reserve(1)?;
@@ -61,7 +61,7 @@ pub(crate) fn make_rescue(
     command: &Command<'_>,
 ) -> Result<Rescue<Copying, RunMap>, NoMemory>
     requires { AreInLimits (told_by command.now) }
-    ensures { IfOk result (λ r. Begins (told_by command.now) r) }
+    ensures { IfOk result (λ r. BeginsPlannedRun (told_by command.now) r) }
 {
     let options = command.options.rescue;
     let heading = Heading::new(alloc, Program::Ddrescue, "")?;

@@ -1,7 +1,7 @@
 //! The run of a plan: a rescue whose reads are said, and which writes nothing.
 ghost use Rattle.std.specs.Prelude.{◌≡◌, ◌≤◌, ◌^◌, ◌<◌, IsTrue, option_map};
 ghost use Rattle.plan_command.specs.Command.{Command, AreInLimits};
-ghost use Rattle.rescue_plan.specs.Running.{Begins, IsBegun, PutsPlan, ending_by};
+ghost use Rattle.rescue_plan.specs.Running.{BeginsPlannedRun, IsBegun, PutsPlan, ending_by};
 
 use crate::ending::PlanEnding;
 use block_list::tiles::Tiles;
@@ -39,7 +39,7 @@ pub(crate) fn put_plan<C: Console, T: Tiles, O: Origin>(
     requires begun { IsBegun length rescue }
     requires known { IsTrue O.is_known }
     requires start { O.start ≡ C.state console.old }
-    ensures puts { (c : Command) → AreInLimits c → c.length ≡ length → Begins c rescue
+    ensures puts { (c : Command) → AreInLimits c → c.length ≡ length → BeginsPlannedRun c rescue
         → PutsPlan c (T.statuses tiles) result (C.state console.old) (C.state console.new) }
 {
     let mut source = PlanSource::<C, T, O>::since(alloc, length, tiles, console);

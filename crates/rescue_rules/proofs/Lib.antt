@@ -33,9 +33,9 @@ pub mod RunDeedLemmas
 pub mod SnapshotLemmas
 pub mod SetLemmas
 pub mod CountLemmas
+pub mod RunStopLemmas
 -- These are the crate's own.
 mod SafeLemmas
 mod UnwrittenLemmas
 mod PromiseLemmas
-mod RunStopLemmas
 mod LimitLemmas

@@ -9,7 +9,7 @@ use Rattle.rescue_rules.specs.Nameless.{nameless, RunNeedsNoNames}
 
 -- What is so without the names is so with them,
 pub request_named : (s : Setting) (m : Machine) (p q : ℕ) → IsRequest (nameless s) m p q → IsRequest s m p q
-request_named s m p q r = record { start = r.start; end = r.end; run = r.run; starts = r.starts; ends = r.ends }
+request_named s m p q r = record { start = r.start; end = r.end; range = r.range; starts = r.starts; ends = r.ends }
 
 pub move_named : (s : Setting) (v : Move) → IsMove (nameless s) v → IsMove s v
 move_named s v is = record {
@@ -24,7 +24,7 @@ run_named s m es run =
 
 -- and the other way round.
 pub request_nameless : (s : Setting) (m : Machine) (p q : ℕ) → IsRequest s m p q → IsRequest (nameless s) m p q
-request_nameless s m p q r = record { start = r.start; end = r.end; run = r.run; starts = r.starts; ends = r.ends }
+request_nameless s m p q r = record { start = r.start; end = r.end; range = r.range; starts = r.starts; ends = r.ends }
 
 pub move_nameless : (s : Setting) (v : Move) → IsMove s v → IsMove (nameless s) v
 move_nameless s v is = record {

@@ -136,7 +136,7 @@ taken_has : (s : Setting) (map : List Status) (p : Pass) (ps : List Pass) (o : O
 taken_has s map p ps None is = absurd (cc)
 taken_has s map p ps (Some status) is = ap (λ (t : Status). Some t) (equal_from_same status (taken p.phase) is)
 
-request_none : (s : Setting) (m : Machine) (p : Pass) (ps : List Pass) → m.passes ≡ p ∷ ps → HasNone s m p
+pub request_none : (s : Setting) (m : Machine) (p : Pass) (ps : List Pass) → m.passes ≡ p ∷ ps → HasNone s m p
     → has_request s m ≡ false
 request_none s m p ps is none =
     false_from_ne_true (has_request s m) (λ on.

@@ -72,7 +72,7 @@ either_map : (over : Bool) (m : Machine) → (if over then finished_snapshot m e
 either_map true m = refl
 either_map false m = refl
 
-last_map : (s : Setting) (m : Machine) → (last_snapshot s m).map ≡ m.map
+pub last_map : (s : Setting) (m : Machine) → (last_snapshot s m).map ≡ m.map
 last_map s m = either_map (has_ended s m) m
 
 -- what a write that may be none makes of an output, and where it writes

@@ -17,7 +17,7 @@ use Rattle.rescue_rules.proofs.DeedStages.{Kept, deeds_stop_safely}
 use Rattle.rescue_rules.proofs.KeepLemmas.{saved_map_is, Promise, Free, keeps_up}
 use Rattle.rescue_rules.proofs.RunDeedLemmas.{run_is_deeds, Holding, Writable, run_outlasts, run_first, run_keeps_up}
 
-comes_cut : (calls : List Call) (es : List Entry) → ComesTo calls es → Cut calls es
+pub comes_cut : (calls : List Call) (es : List Entry) → ComesTo calls es → Cut calls es
 comes_cut calls [] h = tt
 comes_cut [] (e ∷ es) h = absurd h
 comes_cut (c ∷ cs) (Done x ∷ es) h = (h.0, comes_cut cs es h.1)

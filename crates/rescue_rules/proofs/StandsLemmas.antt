@@ -8,7 +8,7 @@ use Rattle.block_list.specs.Map.{extended}
 use Rattle.mapfile_text.specs.declared.state.MapState.{MapState}
 use Rattle.std.proofs.Math.Nat.{div-mul-le_self}
 use Rattle.mapfile_text.specs.declared.read.Mode.TheVariants.{Tight}
-use Rattle.mapfile_text.specs.Lines.{Line, said}
+use Rattle.mapfile_text.specs.Lines.{Line, said_lines}
 use Rattle.mapfile_text.specs.MapText.{IsMapText, Continues, Lists, AreMapLines}
 use Rattle.mapfile_text.proofs.OneReading.{has_one_reading}
 use Rattle.mapfile_text.proofs.ReadPrinted.{printed_is_read}
@@ -132,7 +132,7 @@ fresh_small end map state small x =
 resumed_small : (text : List ℕ) (end : ℕ) (map : List Status) (state : Option MapState) → end < 2 ^ 63
     → IsResumed text end map state → IsSmall end map state
 resumed_small text end map state small x =
-    let few = lines_small (said text) x.shown x.first x.listed x.statuses x.reads.reads in
+    let few = lines_small (said_lines text) x.shown x.first x.listed x.statuses x.reads.reads in
     let size : length map ≡ length x.statuses + (end - length x.statuses)
     = ap length x.map_is ∙ length-extended x.statuses end in
     record {

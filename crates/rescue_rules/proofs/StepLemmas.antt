@@ -17,7 +17,7 @@ use Rattle.rescue_rules.specs.declared.phase.Phase.{Phase}
 use Rattle.rescue_rules.specs.declared.phase.Phase.TheVariants.{Copying, Trimming, Scraping, Retrying}
 use Rattle.rescue_rules.specs.Setting.{Setting, IsSensible}
 use Rattle.rescue_rules.specs.Passes.{Pass, taken}
-use Rattle.rescue_rules.specs.Machine.{Machine, pass_of, has_taken, is_live, is_wanted, IsWanted, Search, search_in, search_of, IsNextRun, cut_start, cut_end, IsRequest}
+use Rattle.rescue_rules.specs.Machine.{Machine, pass_of, has_taken, is_live, is_wanted, IsWanted, Search, search_in, search_of, IsNextRange, cut_start, cut_end, IsRequest}
 use Rattle.rescue_rules.specs.Step.{Event, trims, is_copying, is_trimming, rest_status, scraped, over_after, map_after, mode_after, step}
 use Rattle.rescue_rules.specs.MachineLaws.{IsInOrder, MoveSteps}
 use Rattle.rescue_rules.proofs.MarkLemmas.{marked_inside, marked_outside}
@@ -31,7 +31,7 @@ record Stretch (P : ℕ → Type 0) (start end : ℕ) : Type 0 where
   begun : start < end
   within : (x : ℕ) → start ≤ x → x < end → P x
 
-next_stretch : (up : Bool) (P : ℕ → Type 0) (from start end : ℕ) → IsNextRun up P from start end → Stretch P start end
+next_stretch : (up : Bool) (P : ℕ → Type 0) (from start end : ℕ) → IsNextRange up P from start end → Stretch P start end
 next_stretch true P from start end r = record { begun = r.1.begun; within = r.1.within }
 next_stretch false P from start end r = record { begun = r.1.begun; within = r.1.within }
 
@@ -45,12 +45,12 @@ size_in s ok m Trimming (Tail low) = omega arith
 size_in s ok m Scraping mode = omega arith
 size_in s ok m Retrying mode = omega arith
 
--- a request lies inside the run that it is taken from
+-- a request lies inside the range that it is taken from
 request_inside : (s : Setting) (ok : IsSensible s) (m : Machine) (p q : ℕ) (r : IsRequest s m p q)
     → Inside r.start r.end p q
 request_inside s ok m p q r =
     let f : Search = search_of s m in
-    let begun : r.start < r.end = (next_stretch f.up (IsWanted s m) f.from r.start r.end r.run).begun in
+    let begun : r.start < r.end = (next_stretch f.up (IsWanted s m) f.from r.start r.end r.range).begun in
     let i : Inside r.start r.end (cut_start f s.sector r.start r.end) (cut_end f s.sector r.start r.end)
     = cut_inside f.front s.sector f.size r.start r.end ok.sector (size_in s ok m (pass_of m).phase m.mode) begun in
     subst (λ (x : ℕ). Inside r.start r.end x q) (sym r.starts)
@@ -65,10 +65,10 @@ pub record Asks (s : Setting) (m : Machine) (p q : ℕ) : Type 0 where
 pub request_asks : (s : Setting) (ok : IsSensible s) (m : Machine) (p q : ℕ) → IsRequest s m p q → Asks s m p q
 request_asks s ok m p q r =
     let f : Search = search_of s m in
-    let run : Stretch (IsWanted s m) r.start r.end = next_stretch f.up (IsWanted s m) f.from r.start r.end r.run in
+    let range : Stretch (IsWanted s m) r.start r.end = next_stretch f.up (IsWanted s m) f.from r.start r.end r.range in
     let i : Inside r.start r.end p q = request_inside s ok m p q r in
     let wanted : (x : ℕ) → p ≤ x → x < q → is_wanted s m x ≡ true
-    = λ x from to. run.within x (omega (arith, i.from)) (omega (arith, i.to)) in
+    = λ x from to. range.within x (omega (arith, i.from)) (omega (arith, i.to)) in
     let last : q - 1 < length m.map = wanted_within s m (q - 1) (wanted (q - 1) (omega (arith, i.some)) (omega (arith, i.some))) in
     record { some = i.some; there = omega (arith, i.some); wanted = wanted }
 
@@ -94,7 +94,7 @@ wanted_domain s m x wanted =
     (and_parts (s.domain x) (is_before m.over x)
     (and_parts (is_live s m x) (has_taken m.passes (slice_get m.map x)) wanted).0).0
 
--- in the mode of a run's back, trimming asks for the back of the run that begins there
+-- in the mode of a range's back, trimming asks for the back of the range that begins there
 pub trims_is : (phase : Phase) → trims phase ≡ true → phase ≡ Trimming
 trims_is Copying is = absurd (cc)
 trims_is Trimming is = refl
@@ -113,9 +113,9 @@ tail_search s m low order is =
 tail_start : (s : Setting) (m : Machine) (p q low : ℕ) → IsInOrder s m → m.mode ≡ Tail low → (r : IsRequest s m p q)
     → r.start ≡ low
 tail_start s m p q low order is r =
-    let run : IsNextRun true (IsWanted s m) low r.start r.end
-    = subst (λ (f : Search). IsNextRun f.up (IsWanted s m) f.from r.start r.end) (tail_search s m low order is) r.run in
-    omega (arith, run.0.after, run.0.least low (omega arith) (order.tail low is))
+    let range : IsNextRange true (IsWanted s m) low r.start r.end
+    = subst (λ (f : Search). IsNextRange f.up (IsWanted s m) f.from r.start r.end) (tail_search s m low order is) r.range in
+    omega (arith, range.0.after, range.0.least low (omega arith) (order.tail low is))
 
 -- and what lies before the request from there on is wanted too
 pub record AsksBack (s : Setting) (m : Machine) (p low : ℕ) : Type 0 where
@@ -126,15 +126,15 @@ pub asks_back : (s : Setting) (ok : IsSensible s) (m : Machine) (p q low : ℕ) 
     → m.mode ≡ Tail low → AsksBack s m p low
 asks_back s ok m p q low order r is =
     let f : Search = search_of s m in
-    let run : Stretch (IsWanted s m) r.start r.end = next_stretch f.up (IsWanted s m) f.from r.start r.end r.run in
+    let range : Stretch (IsWanted s m) r.start r.end = next_stretch f.up (IsWanted s m) f.from r.start r.end r.range in
     let i : Inside r.start r.end p q = request_inside s ok m p q r in
     let at : r.start ≡ low = tail_start s m p q low order is r in
     record {
       after = omega (arith, i.from, at);
-      wanted = λ x from to. run.within x (omega (arith, at)) (omega (arith, i.to, i.some));
+      wanted = λ x from to. range.within x (omega (arith, at)) (omega (arith, i.to, i.some));
     }
 
--- what lies between a run's front and its back is marked, and nothing else, and not as finished
+-- what lies between a range's front and its back is marked, and nothing else, and not as finished
 length-scraped : (mode : TrimMode) (p : ℕ) (map : List Status) → p ≤ length map → ((low : ℕ) → mode ≡ Tail low → low ≤ p)
     → length (scraped mode p map) ≡ length map
 length-scraped Lead p map there back = refl
@@ -234,7 +234,7 @@ rest_apart s m r x t apart =
     (⊎_elim (λ (lt : x < r.pos). inl (omega arith)) (λ (ge : r.pos + r.asked ≤ x). inr (omega (arith, t.few))) apart)
     ∙ kept_apart s m r x t apart
 
--- a read leaves what is outside, but for what lies between a run's front and its back
+-- a read leaves what is outside, but for what lies between a range's front and its back
 after_apart : (s : Setting) (m : Machine) (r : Reading) (x : ℕ) → Taking s m r → Apart r x
     → ((low : ℕ) → m.mode ≡ Tail low → (x < low) ⊎ (r.pos ≤ x)) → slice_get (map_after s m r) x ≡ slice_get m.map x
 after_apart s m r x t apart off =
@@ -337,7 +337,7 @@ finished_off s m r x t has low is =
     (cases_lt x r.pos))
     (cases_lt x low)
 
--- the mode behind a read is at a run's back only where it failed and that run has more, or where it was there
+-- the mode behind a read is at a range's back only where it failed and that range has more, or where it was there
 tail_after : (mode : TrimMode) (whole more : Bool) (p q low : ℕ) (P : ℕ → Type 0) → (whole ≡ false → more ≡ true → P q)
     → ((at : ℕ) → mode ≡ Tail at → whole ≡ true → at < p → P at) → mode_after mode whole more p q ≡ Tail low → P low
 tail_after Lead true more p q low P new old is = absurd (cc)

@@ -57,7 +57,7 @@ event_at pos asked given =
 abbrev pub trail : Setting → Machine → List Event → List (Pass × ℕ)
 trail s m events = map (λ v. (pass_of v.before, v.after.cursor)) (moves s m events)
 
--- a bad sector in the middle: copying finds it, and trimming takes its run from the front and then from the back
+-- a bad sector in the middle: copying finds it, and trimming takes its range from the front and then from the back
 abbrev pub trimmed : List Event
 trimmed = event_at 0 6 2 ∷ event_at 2 2 0 ∷ event_at 4 2 2 ∷ []
 

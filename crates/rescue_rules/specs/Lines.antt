@@ -84,31 +84,31 @@ is_done (Stopped stop) = false
 is_done (SaveFailed call earlier) = false
 
 -- a call is a write to the output
-abbrev pub is_write : SiteCall → Bool
-is_write ImageOpen = false
-is_write ImageRead = false
-is_write ImageWrite = true
-is_write ImageSync = false
-is_write MapRead = false
-is_write DraftBegin = false
-is_write DraftAppend = false
-is_write DraftSync = false
-is_write DraftPublish = false
-is_write MapSettle = false
-is_write MapRemove = false
+abbrev pub is_image_write : SiteCall → Bool
+is_image_write ImageOpen = false
+is_image_write ImageRead = false
+is_image_write ImageWrite = true
+is_image_write ImageSync = false
+is_image_write MapRead = false
+is_image_write DraftBegin = false
+is_image_write DraftAppend = false
+is_image_write DraftSync = false
+is_image_write DraftPublish = false
+is_image_write MapSettle = false
+is_image_write MapRemove = false
 
 -- a run ended at a write of what was kept of its last read, which then isn't marked
-abbrev pub is_unwritten : RunEnd → Bool
-is_unwritten Done = false
-is_unwritten (Stopped SourceLost) = false
-is_unwritten (Stopped (Site call)) = is_write call
-is_unwritten (Stopped (LimitMet limit)) = false
-is_unwritten (Stopped NoMemory) = false
-is_unwritten (SaveFailed call earlier) = false
+abbrev pub ends_at_write : RunEnd → Bool
+ends_at_write Done = false
+ends_at_write (Stopped SourceLost) = false
+ends_at_write (Stopped (Site call)) = is_image_write call
+ends_at_write (Stopped (LimitMet limit)) = false
+ends_at_write (Stopped NoMemory) = false
+ends_at_write (SaveFailed call earlier) = false
 
 -- the events that were marked, by how a run ended
 abbrev pub marked_events : RunEnd → List Event → List Event
-marked_events end events = if is_unwritten end then take (length events - 1) events else events
+marked_events end events = if ends_at_write end then take (length events - 1) events else events
 
 -- All lines of a run: those behind the events that were marked, and the last one.
 abbrev pub lines_of : Setting → Machine → List Event → RunEnd → List (List ℕ)

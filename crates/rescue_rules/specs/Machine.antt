@@ -3,7 +3,7 @@ use Rattle.std.specs.Prelude.{◌≡◌, ℕ, ◌+◌, ◌-◌, ◌*◌, ◌/◌
 use Rattle.std.specs.List.{list_any, range_with_len}
 use Rattle.block_list.specs.declared.status.Status.{Status}
 use Rattle.block_list.specs.Status.{same}
-use Rattle.block_list.specs.Places.{IsFirst, IsLast, IsRunUp, IsRunDown}
+use Rattle.block_list.specs.Places.{IsFirst, IsLast, IsRangeUp, IsRangeDown}
 use Rattle.mapfile_text.specs.declared.state.MapState.{MapState}
 use Rattle.faulty_source.specs.Ends.{is_before}
 use Rattle.faulty_source.specs.Journal.{floor}
@@ -63,7 +63,7 @@ is_wanted s m x = is_live s m x && has_taken m.passes (slice_get m.map x)
 abbrev pub IsWanted : Setting → Machine → ℕ → Type 0
 IsWanted s m x = is_wanted s m x ≡ true
 
--- How a request is found: upwards or downwards, from where, cut from the front of the run that is found or from its
+-- How a request is found: upwards or downwards, from where, cut from the front of the range that is found or from its
 -- back, and how long at most
 pub record Search : Type 0 where
   pub up : Bool
@@ -71,7 +71,7 @@ pub record Search : Type 0 where
   pub front : Bool
   pub size : ℕ
 
--- Trimming takes the front of a run, and then the back of the same run; all else goes on from the cursor.
+-- Trimming takes the front of a range, and then the back of the same range; all else goes on from the cursor.
 abbrev pub search_in : Setting → Machine → Phase → TrimMode → Search
 search_in s m Copying mode =
     record { up = is_up s (pass_of m); from = m.cursor; front = is_up s (pass_of m); size = s.cluster }
@@ -86,16 +86,16 @@ search_in s m Retrying mode =
 abbrev pub search_of : Setting → Machine → Search
 search_of s m = search_in s m (pass_of m).phase m.mode
 
--- upwards the first run of wanted positions at or behind a place; downwards the last one that ends there or before
-abbrev pub IsNextRun : (up : Bool) → (ℕ → Type 0) → ℕ → (start end : ℕ) → Type 0
-IsNextRun true P from start end = IsFirst P from start × IsRunUp P start end
-IsNextRun false P from start end = IsLast P from end × IsRunDown P start end
+-- upwards the first range of wanted positions at or behind a place; downwards the last one that ends there or before
+abbrev pub IsNextRange : (up : Bool) → (ℕ → Type 0) → ℕ → (start end : ℕ) → Type 0
+IsNextRange true P from start end = IsFirst P from start × IsRangeUp P start end
+IsNextRange false P from start end = IsLast P from end × IsRangeDown P start end
 
 -- x rounded up to a multiple of b
 abbrev pub ceiling : ℕ → ℕ → ℕ
 ceiling b x = (x + (b - 1)) / b * b
 
--- at most so many bytes of a run, up to a sector's boundary: from its front, or from its back
+-- at most so many bytes of a range, up to a sector's boundary: from its front, or from its back
 abbrev pub cut_start : Search → (sector start end : ℕ) → ℕ
 cut_start f sector start end = if f.front then start else max start (ceiling sector (end - f.size))
 
@@ -106,7 +106,7 @@ cut_end f sector start end = if f.front then min end (floor sector (start + f.si
 pub record IsRequest (s : Setting) (m : Machine) (p q : ℕ) : Type 0 where
   pub start : ℕ
   pub end : ℕ
-  pub run : IsNextRun (search_of s m).up (IsWanted s m) (search_of s m).from start end
+  pub range : IsNextRange (search_of s m).up (IsWanted s m) (search_of s m).from start end
   pub starts : p ≡ cut_start (search_of s m) s.sector start end
   pub ends : q ≡ cut_end (search_of s m) s.sector start end
 

@@ -47,7 +47,7 @@ is_slow s e = is_whole e.reading && nat_lt (length e.reading.given * 1000) (s.mi
 abbrev pub rest_status : Setting → Machine → ℕ → Status
 rest_status s m size = if is_copying m && nat_lt s.sector size then NonTrimmed else BadSector
 
--- behind a failed read at a run's back, what lies between its front and its back is for scraping
+-- behind a failed read at a range's back, what lies between its front and its back is for scraping
 abbrev pub scraped : TrimMode → ℕ → List Status → List Status
 scraped Lead p map = map
 scraped (Tail low) p map = marked map low (p - low) NonScraped
@@ -70,8 +70,8 @@ map_after s m r =
     then scraped m.mode r.pos (marked good (r.pos + kept s.sector r) rest (rest_status s m rest))
     else good
 
--- Trimming goes from a run's front to its back where a read failed and there is more of the run; it stays there until
--- the run has no more or a read fails.
+-- Trimming goes from a range's front to its back where a read failed and there is more of it; it stays there until
+-- the range has no more or a read fails.
 abbrev pub mode_after : TrimMode → (good more : Bool) → (p q : ℕ) → TrimMode
 mode_after Lead true more p q = Lead
 mode_after Lead false more p q = if more then Tail q else Lead
@@ -129,9 +129,9 @@ step s m e =
       said = said_after m.said (current_of (pass_of m).phase) (e.after / 1000);
     }
 
-abbrev pub is_beyond : Option ℕ → ℕ → Bool
-is_beyond None n = false
-is_beyond (Some limit) n = nat_lt limit n
+abbrev pub exceeds : Option ℕ → ℕ → Bool
+exceeds None n = false
+exceeds (Some limit) n = nat_lt limit n
 
 -- in how many areas what is left of the domain has failed
 abbrev pub areas_of : Setting → Machine → ℕ
@@ -150,7 +150,7 @@ time_allowed s = option_map (λ n. n * 1000) s.timeout
 abbrev pub limit_met : Setting → Machine → Option Limit
 limit_met s m =
     if is_none m.said then None
-    else if is_beyond s.max_errors m.failed then Some (TooManyErrors m.failed)
-    else if is_beyond (areas_allowed s m) (areas_of s m) then Some (TooManyAreas (areas_of s m))
-    else if is_beyond (time_allowed s) (m.now - m.whole_at) then Some (TimedOut (m.now - m.whole_at))
+    else if exceeds s.max_errors m.failed then Some (TooManyErrors m.failed)
+    else if exceeds (areas_allowed s m) (areas_of s m) then Some (TooManyAreas (areas_of s m))
+    else if exceeds (time_allowed s) (m.now - m.whole_at) then Some (TimedOut (m.now - m.whole_at))
     else None

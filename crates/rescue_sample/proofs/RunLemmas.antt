@@ -15,13 +15,13 @@ use Rattle.rescue_rules.proofs.RequestLemmas.{one_request}
 use Rattle.rescue_rules.proofs.ReadyLemmas.{spent_request}
 use Rattle.rescue_rules.proofs.SearchLemmas.{request_seen}
 use Rattle.rescue_sample.specs.declared.source.Answered.{Answered}
-use Rattle.rescue_sample.specs.Sample.{sample_bytes, sample_size, is_bad, IsAnswer, IsSampleRead}
+use Rattle.rescue_sample.specs.Sample.{sample_bytes, sample_size, is_bad, IsSampleAnswer, IsSampleRead}
 use Rattle.rescue_sample.specs.Line.{IsStill, IsSampleLine, sample_text}
 use Rattle.rescue_sample.specs.Laws.{HasOneLine}
 
 -- a read that asks for as much at one place gives as much, and meets the end or not
 module _ (kib pos asked : ℕ) where
-  not_less : (g h : ℕ) (b c : Bool) → IsAnswer kib pos asked g b → IsAnswer kib pos asked h c → g < h → ⊥
+  not_less : (g h : ℕ) (b c : Bool) → IsSampleAnswer kib pos asked g b → IsSampleAnswer kib pos asked h c → g < h → ⊥
   not_less g h true c p q less =
       let over = p.over refl in
       let within : pos + h ≤ sample_size kib = q.there (omega (arith, less)) in
@@ -32,7 +32,7 @@ module _ (kib pos asked : ℕ) where
       let never : true ≡ false = sym met.1 ∙ good in
       cc
 
-  same_count : (g h : ℕ) (b c : Bool) → IsAnswer kib pos asked g b → IsAnswer kib pos asked h c → g ≡ h
+  same_count : (g h : ℕ) (b c : Bool) → IsSampleAnswer kib pos asked g b → IsSampleAnswer kib pos asked h c → g ≡ h
   same_count g h b c p q = elim (cases_order g h) [
     | inl same ↦ same
     | inr other ↦ elim other [
@@ -41,7 +41,7 @@ module _ (kib pos asked : ℕ) where
     ]
   ]
 
-  same_end : (g : ℕ) (b c : Bool) → IsAnswer kib pos asked g b → IsAnswer kib pos asked g c → b ≡ c
+  same_end : (g : ℕ) (b c : Bool) → IsSampleAnswer kib pos asked g b → IsSampleAnswer kib pos asked g c → b ≡ c
   same_end g true true p q = refl
   same_end g false false p q = refl
   same_end g true false p q =
@@ -60,14 +60,14 @@ read_as pos asked given ended = record { pos = pos; asked = asked; given = given
 same_read : (kib : ℕ) (r q : Reading) → IsSampleRead kib r → IsSampleRead kib q → r.pos ≡ q.pos → r.asked ≡ q.asked
     → r ≡ q
 same_read kib r q a b at much =
-    let there : IsAnswer kib r.pos r.asked (length q.given) q.ended =
-    subst (λ (n : ℕ). IsAnswer kib n r.asked (length q.given) q.ended) (sym at)
-    (subst (λ (n : ℕ). IsAnswer kib q.pos n (length q.given) q.ended) (sym much) b.answer) in
+    let there : IsSampleAnswer kib r.pos r.asked (length q.given) q.ended =
+    subst (λ (n : ℕ). IsSampleAnswer kib n r.asked (length q.given) q.ended) (sym at)
+    (subst (λ (n : ℕ). IsSampleAnswer kib q.pos n (length q.given) q.ended) (sym much) b.answer) in
     let long : length r.given ≡ length q.given =
     same_count kib r.pos r.asked (length r.given) (length q.given) r.ended q.ended a.answer there in
     let over : r.ended ≡ q.ended =
     same_end kib r.pos r.asked (length q.given) r.ended q.ended
-    (subst (λ (n : ℕ). IsAnswer kib r.pos r.asked n r.ended) long a.answer) there in
+    (subst (λ (n : ℕ). IsSampleAnswer kib r.pos r.asked n r.ended) long a.answer) there in
     let given : r.given ≡ q.given =
     a.from ∙ ap (λ (n : ℕ). slice_range (sample_bytes kib) r.pos (r.pos + n)) long
     ∙ ap (λ (n : ℕ). slice_range (sample_bytes kib) n (n + length q.given)) at ∙ sym b.from in

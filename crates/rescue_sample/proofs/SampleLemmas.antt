@@ -10,7 +10,7 @@ use Rattle.faulty_source.specs.declared.memory.ReadEntry.{ReadEntry}
 use Rattle.faulty_source.specs.Journal.{Reading, is_failed}
 use Rattle.faulty_source.specs.Memory.{reading_of}
 use Rattle.rescue_sample.specs.declared.source.Answered.{Answered}
-use Rattle.rescue_sample.specs.Sample.{drawn, next_drawn, sector_meant, sample_byte, sample_bytes, sample_size, entry_failed, AreSampleReads, IsAnswer, IsSampleRead}
+use Rattle.rescue_sample.specs.Sample.{drawn, next_drawn, sector_meant, sample_byte, sample_bytes, sample_size, entry_failed, AreSampleReads, IsSampleAnswer, IsSampleRead}
 
 -- the sectors that were drawn so far, and the last value
 pub record AreDrawn (kib value : ℕ) (sectors : List ℕ) : Type 0 where
@@ -78,7 +78,7 @@ same_size kib kib' same =
 
 -- what an entry of the list of reads says
 abbrev pub EntryAnswers : (kib : ℕ) → ReadEntry → Type 0
-EntryAnswers kib e = IsAnswer kib e.pos e.asked e.given e.ended
+EntryAnswers kib e = IsSampleAnswer kib e.pos e.asked e.given e.ended
 
 -- as many bytes are given as the entry says
 given_length : (kib : ℕ) (e : ReadEntry) → EntryAnswers kib e
@@ -91,7 +91,7 @@ read_of_entry kib e is =
     let long = given_length kib e is in
     record {
       from = ap (λ (n : ℕ). slice_range (sample_bytes kib) e.pos (e.pos + n)) (sym long);
-      answer = subst (λ (n : ℕ). IsAnswer kib e.pos e.asked n e.ended) (sym long) is;
+      answer = subst (λ (n : ℕ). IsSampleAnswer kib e.pos e.asked n e.ended) (sym long) is;
     }
 
 pub journal_reads : (kib : ℕ) (entries : List ReadEntry) → All (EntryAnswers kib) entries

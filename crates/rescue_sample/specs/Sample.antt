@@ -43,7 +43,7 @@ is_bad kib x = is_in_one (bad_sectors kib) x
 
 -- What a read of asked bytes at pos is answered: one that meets a bad position in front of the sample's end gives what
 -- comes before that; any other gives all that there is, and meets the end where that is less than was asked for.
-pub record IsAnswer (kib pos asked given : ℕ) (ended : Bool) : Type 0 where
+pub record IsSampleAnswer (kib pos asked given : ℕ) (ended : Bool) : Type 0 where
   pub few : given ≤ asked
   pub good : (x : ℕ) → pos ≤ x → x < pos + given → is_bad kib x ≡ false
   pub there : 0 < given → pos + given ≤ sample_size kib
@@ -53,7 +53,7 @@ pub record IsAnswer (kib pos asked given : ℕ) (ended : Bool) : Type 0 where
 -- a read of a sample: it gave the sample's bytes, and as many as it has to
 pub record IsSampleRead (kib : ℕ) (r : Reading) : Type 0 where
   pub from : r.given ≡ slice_range (sample_bytes kib) r.pos (r.pos + length r.given)
-  pub answer : IsAnswer kib r.pos r.asked (length r.given) r.ended
+  pub answer : IsSampleAnswer kib r.pos r.asked (length r.given) r.ended
 
 -- an entry of the list of reads says that its read failed
 abbrev pub entry_failed : ReadEntry → Bool

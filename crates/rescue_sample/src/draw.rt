@@ -2,7 +2,7 @@
 ghost use Rattle.std.specs.Prelude.{◌≡◌, ℕ, ◌+◌, ◌*◌, ◌<◌, ◌≤◌, ◌^◌, true, false, nat_eq, map, length, take, IfOk, ◌/◌};
 ghost use Rattle.std.specs.List.{range_with_len};
 ghost use Rattle.faulty_source.specs.Got.{count_of, is_end};
-ghost use Rattle.rescue_sample.specs.Sample.{IsAnswer, bad_sectors, is_in_one, next_drawn, sample_byte, sector_meant};
+ghost use Rattle.rescue_sample.specs.Sample.{IsSampleAnswer, bad_sectors, is_in_one, next_drawn, sample_byte, sector_meant};
 
 use block_list::tiles::NoMemory;
 use faulty_source::source::Got;
@@ -80,7 +80,7 @@ pub(crate) fn answer(kib: u64, sectors: &[u64], pos: u64, asked: usize) -> Got
     requires place { pos + asked < 2 ^ 63 }
     requires small { kib ≤ 65536 }
     requires drawn { sectors.now ≡ bad_sectors kib }
-    ensures { IsAnswer kib pos asked (count_of result) (is_end result) }
+    ensures { IsSampleAnswer kib pos asked (count_of result) (is_end result) }
 {
     let end = (pos + asked as u64).min(kib * 1024).max(pos);
     let stop = first_bad(sectors, pos, end);

@@ -1,6 +1,6 @@
 //! A sample as an input.
 ghost use Rattle.std.specs.Prelude.{◌≡◌, ℕ, ◌+◌, ◌<◌, ◌≤◌, ◌^◌, [], length, take, slice_range, All, count_by, IfOk};
-ghost use Rattle.rescue_sample.specs.Sample.{IsAnswer, bad_sectors, entry_failed};
+ghost use Rattle.rescue_sample.specs.Sample.{IsSampleAnswer, bad_sectors, entry_failed};
 
 use crate::draw::{answer, draw_sectors, fill};
 use block_list::tiles::NoMemory;
@@ -30,7 +30,7 @@ pub struct SampleSource {
     losses: FaultCount,
     ghost small: { kib ≤ 65536 },
     ghost drawn: { sectors.items ≡ bad_sectors kib },
-    ghost answered: { All (λ e. IsAnswer kib e.pos e.asked e.given e.ended) entries.items },
+    ghost answered: { All (λ e. IsSampleAnswer kib e.pos e.asked e.given e.ended) entries.items },
 }
 
 /// Whether a read failed.

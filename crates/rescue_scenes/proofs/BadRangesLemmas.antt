@@ -1,10 +1,10 @@
 use Rattle.std.proofs.Common.{◌≡◌, ◌≤◌, ◌<◌, ℕ, List, [], ◌∷◌, ◌++◌, refl, arith}
 use Rattle.faulty_source.specs.declared.memory.BadRange.{BadRange}
-use Rattle.faulty_source.specs.Memory.{AreApart}
+use Rattle.faulty_source.specs.Memory.{AreSeparate}
 use Rattle.rescue_scenes.specs.BadRanges.{end_of}
 
-AreApart-append : (low : ℕ) (xs : List BadRange) (r : BadRange) → AreApart low xs
-    → end_of low xs ≤ r.from → r.from < r.to → AreApart low (xs ++ r ∷ [])
+AreApart-append : (low : ℕ) (xs : List BadRange) (r : BadRange) → AreSeparate low xs
+    → end_of low xs ≤ r.from → r.from < r.to → AreSeparate low (xs ++ r ∷ [])
 AreApart-append low [] r apart behind some = (behind, some, tt)
 AreApart-append low (x ∷ xs) r (here, filled, apart) behind some =
     (here, filled, AreApart-append x.to xs r apart behind some)
@@ -14,8 +14,8 @@ end_of-append low [] r = refl
 end_of-append low (x ∷ xs) r = end_of-append x.to xs r
 
 -- one more range behind the others
-pub AreApart-push : (xs ys : List BadRange) (r : BadRange) (end : ℕ) → ys ≡ xs ++ r ∷ [] → AreApart 0 xs
-    → end_of 0 xs ≡ end → end ≤ r.from → r.from < r.to → AreApart 0 ys × (end_of 0 ys ≡ r.to)
+pub AreApart-push : (xs ys : List BadRange) (r : BadRange) (end : ℕ) → ys ≡ xs ++ r ∷ [] → AreSeparate 0 xs
+    → end_of 0 xs ≡ end → end ≤ r.from → r.from < r.to → AreSeparate 0 ys × (end_of 0 ys ≡ r.to)
 AreApart-push xs ys r end grown apart last behind some =
     let below : end_of 0 xs ≤ r.from = omega arith in
     rw grown (AreApart-append 0 xs r apart below some, end_of-append 0 xs r)

@@ -91,7 +91,7 @@ fn read_quoted(alloc: Global, behind: &[u8]) -> Result<(Field, usize), Refusal>
 {
     let mut text = Quoted {
         bytes: Vec::new(alloc),
-        place: Place::Text,
+        place: NextByte::Text,
     };
     for (i, byte) in behind.iter().enumerate() {
         if text.take(*byte)? {
@@ -119,7 +119,7 @@ fn close(bytes: Vec<u8>, behind: &[u8], quote: usize) -> Result<(Field, usize), 
 
 /// What the next byte of a quoted field belongs to.
 #[derive(Clone, Copy)]
-enum Place {
+enum NextByte {
     Text,
     /// A backslash stands before it.
     Escape,
@@ -133,20 +133,20 @@ enum Place {
 #[derive(Drop)]
 struct Quoted {
     bytes: Vec<u8>,
-    place: Place,
+    place: NextByte,
 }
 
 impl Quoted {
     /// Takes the next byte. Answers whether it is the quote that ends the field.
     fn take(&mut self, byte: u8) -> Result<bool, Refusal> {
         match self.place {
-            Place::Text if byte == b'"' => return Ok(true),
-            Place::Text if byte == b'\\' => self.place = Place::Escape,
-            Place::Text => self.bytes.push(byte)?,
-            Place::Escape if byte == b'x' => self.place = Place::FirstDigit,
-            Place::Escape => self.put(escaped(byte)?)?,
-            Place::FirstDigit => self.place = Place::SecondDigit(byte),
-            Place::SecondDigit(first) => self.put(byte_of_digits(first, byte)?)?,
+            NextByte::Text if byte == b'"' => return Ok(true),
+            NextByte::Text if byte == b'\\' => self.place = NextByte::Escape,
+            NextByte::Text => self.bytes.push(byte)?,
+            NextByte::Escape if byte == b'x' => self.place = NextByte::FirstDigit,
+            NextByte::Escape => self.put(escaped(byte)?)?,
+            NextByte::FirstDigit => self.place = NextByte::SecondDigit(byte),
+            NextByte::SecondDigit(first) => self.put(byte_of_digits(first, byte)?)?,
         }
         Ok(false)
     }
@@ -154,7 +154,7 @@ impl Quoted {
     /// Adds the byte for which an escape stands.
     fn put(&mut self, byte: u8) -> Result<(), Refusal> {
         self.bytes.push(byte)?;
-        self.place = Place::Text;
+        self.place = NextByte::Text;
         Ok(())
     }
 }

@@ -23,18 +23,18 @@ pub(crate) struct BadRanges {
 impl Model for BadRanges {
     ghost use Rattle.std.specs.Prelude.{List, ◌≡◌};
     ghost use Rattle.faulty_source.specs.declared.memory.BadRange.{BadRange};
-    ghost use Rattle.faulty_source.specs.Memory.{AreApart};
+    ghost use Rattle.faulty_source.specs.Memory.{AreSeparate};
     ghost use Rattle.rescue_scenes.specs.BadRanges.{end_of};
 
     ghost Value = { List BadRange };
 
     ghost view = { λ b. b.ranges.items };
 
-    ghost invariant = { λ b. AreApart 0 b.ranges.items × (end_of 0 b.ranges.items ≡ b.end) };
+    ghost invariant = { λ b. AreSeparate 0 b.ranges.items × (end_of 0 b.ranges.items ≡ b.end) };
 }
 
 impl BadRanges {
-    ghost use Rattle.faulty_source.specs.Memory.{AreApart};
+    ghost use Rattle.faulty_source.specs.Memory.{AreSeparate};
 
     fn new(alloc: Global) -> BadRanges
         ensures { result ≡ [] }
@@ -61,7 +61,7 @@ impl BadRanges {
     /// The ranges, once more.
     fn copy(&self, alloc: Global) -> Result<Vec<BadRange>, Refusal>
         ensures same { IfOk result (λ ranges. ranges.items ≡ self.now) }
-        ensures apart { IfOk result (λ ranges. AreApart 0 ranges.items) }
+        ensures apart { IfOk result (λ ranges. AreSeparate 0 ranges.items) }
     {
         Ok(Vec::from_slice(alloc, self.ranges.as_slice())?)
     }

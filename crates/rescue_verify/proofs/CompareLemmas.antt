@@ -24,7 +24,7 @@ use Rattle.rescue_verify.specs.Pieces.{IsPiece, AskForPieces, end_of_reads}
 use Rattle.rescue_verify.specs.Looks.{Look, reads_of, differs, seen_at, seen_in, look_call, look_calls}
 use Rattle.rescue_verify.specs.Looking.{SeesPiece, HaltsLooking}
 use Rattle.rescue_verify.specs.Verified.{judged, judged_by}
-use Rattle.rescue_verify.specs.Comparing.{ComparisonPlan, Counts, place_in, tally_of, counted, TakesPiece, HaltsAt, HasLooked, Compares}
+use Rattle.rescue_verify.specs.Comparing.{ComparisonPlan, LossesRise, place_in, tally_of, tally_with, TakesPiece, HaltsAt, HasLooked, Compares}
 
 -- ---- one more look
 
@@ -54,7 +54,7 @@ calls_push place (k ∷ looks) l =
 reads_push : (looks : List Look) (l : Look) → reads_of (looks ++ l ∷ []) ≡ reads_of looks ++ l.read ∷ []
 reads_push looks l = map_push (λ (k : Look). k.read) looks l
 
-tally_push : (looks : List Look) (l : Look) → tally_of (looks ++ l ∷ []) ≡ counted (tally_of looks) l
+tally_push : (looks : List Look) (l : Look) → tally_of (looks ++ l ∷ []) ≡ tally_with (tally_of looks) l
 tally_push looks l =
     let compared = sum_by_push (λ (k : Look). if is_whole k.read then k.read.asked else 0) looks l in
     let differing = sum_by_push (λ (k : Look). if differs k then k.read.asked else 0) looks l in
@@ -96,7 +96,7 @@ pub one_more : (p : ComparisonPlan) (from pos size : ℕ) (tally : Tally) (old n
     (source s1 s2 : SourceState) (site d1 d2 : SiteState) → UpTo p from tally old new source s1 site d1
     → s1.tells ≡ source.tells → SameImage site d1
     → IsPiece p.compared p.sector from pos (pos + size) → SeesPiece pos size (place_in p pos) l s1 s2 d1 d2
-    → UpTo p (pos + size) (counted tally l) old (judged new l) source s2 site d2
+    → UpTo p (pos + size) (tally_with tally l) old (judged new l) source s2 site d2
 one_more p from pos size tally old new l source s1 s2 site d1 d2 u told image piece sees =
     let looks : List Look = u.looks in
     let at : place_in p l.read.pos ≡ place_in p pos = ap (place_in p) sees.pos_is in
@@ -131,7 +131,7 @@ one_more p from pos size tally old new l source s1 s2 site d1 d2 u told image pi
       };
       ends = ap (end_of_reads 0) (reads_push looks l) ∙ end_push 0 (reads_of looks) l.read
           ∙ ap (λ (n : ℕ). n + l.read.asked) sees.pos_is ∙ ap (λ (n : ℕ). pos + n) sees.size_is;
-      counts = ap (λ (t : Tally). counted t l) u.counts ∙ sym (tally_push looks l);
+      counts = ap (λ (t : Tally). tally_with t l) u.counts ∙ sym (tally_push looks l);
       map_is = ap (λ (m : List Status). judged m l) u.map_is ∙ sym (judged_push old looks l);
     }
 
@@ -178,10 +178,10 @@ takes_one p from pos to tally tally' old new new' source s1 s2 site d1 d2 u stay
     let end : pos + (to - pos) ≡ to = omega arith in
     let own : IsPiece p.compared p.sector from pos (pos + (to - pos)) =
     subst (IsPiece p.compared p.sector from pos) (sym end) piece in
-    let more : UpTo p (pos + (to - pos)) (counted tally takes.look) old (judged new takes.look) source s2 site d2 =
+    let more : UpTo p (pos + (to - pos)) (tally_with tally takes.look) old (judged new takes.look) source s2 site d2 =
     one_more p from pos (to - pos) tally old new takes.look source s1 s2 site d1 d2 u stays.keeps.tells
     (same_image p from tally old new source s1 site d1 u site_stays) own takes.sees in
-    rw (takes.counts, takes.map_is) (subst (λ (n : ℕ). UpTo p n (counted tally takes.look) old (judged new takes.look)
+    rw (takes.counts, takes.map_is) (subst (λ (n : ℕ). UpTo p n (tally_with tally takes.look) old (judged new takes.look)
     source s2 site d2) end more)
 
 length_judged_by : (b : Bool) (map : List Status) (pos size : ℕ) → pos + size ≤ length map
@@ -311,7 +311,7 @@ came_to_halt halt p from pos size tally old new now source s1 s2 site d1 d2 u to
 -- what is counted of a look that halted, behind looks that counted nothing
 pub halted_counts : (halt : Halt) (pos size place : ℕ) (s0 s s' : SourceState) (d0 d d' : SiteState)
     → s.losses ≡ s0.losses → d.faults ≡ d0.faults → HaltsLooking halt pos size place s s' d d'
-    → Counts (Err halt) s0 s' d0 d'
+    → LossesRise (Err halt) s0 s' d0 d'
 halted_counts NoMemory pos size place s0 s s' d0 d d' losses faults h =
     (ap (λ (x : SourceState). x.losses) h.0 ∙ losses, ap (λ (x : SiteState). x.faults) h.1 ∙ faults)
 halted_counts SourceLost pos size place s0 s s' d0 d d' losses faults h =
@@ -325,7 +325,7 @@ halted_counts ImageFault pos size place s0 s s' d0 d d' losses faults h =
 pub piece_holds : (compared : ℕ → Bool) (sector from pos end : ℕ) → pos < end → IsPiece compared sector from pos end
     → IsIn compared (end - 1)
 piece_holds compared sector from pos end some piece =
-    piece.run.within (end - 1) (omega (arith, some)) (omega (arith, some, piece.ends))
+    piece.range.within (end - 1) (omega (arith, some)) (omega (arith, some, piece.ends))
 
 -- it is as long as what is between its ends
 pub long_piece : (compared : ℕ → Bool) (sector from pos end : ℕ) → pos < end → IsPiece compared sector from pos end

@@ -11,8 +11,8 @@ use Rattle.faulty_source.specs.SourceState.{SourceState, Reads}
 use Rattle.crash_site.specs.Calls.{Call, Done, image_read}
 use Rattle.crash_site.specs.Files.{bytes_of, IsImageRead}
 use Rattle.crash_site.specs.SiteState.{SiteState, image_in}
-use Rattle.rescue_verify.specs.declared.look.Seen.{Seen}
-use Rattle.rescue_verify.specs.declared.look.Seen.TheVariants.{Unread, Same, Different}
+use Rattle.rescue_verify.specs.declared.look.LookResult.{LookResult}
+use Rattle.rescue_verify.specs.declared.look.LookResult.TheVariants.{Unread, Same, Different}
 use Rattle.rescue_verify.specs.Looks.{Look, differs, seen_at, look_call}
 use Rattle.rescue_verify.specs.Looking.{SeesPiece, seen_by}
 
@@ -106,7 +106,7 @@ module _ (r : Reading) (there : List ℕ) (whole : is_whole r ≡ true) where
   differs_by same is =
       ap (λ (w : Bool). w && not (bytes_eq r.given there)) whole ∙ ap not (sym is)
 
-  read_seen : (b : Bool) (seen : Seen) → differs read_look ≡ b → seen ≡ (if b then Different else Same)
+  read_seen : (b : Bool) (seen : LookResult) → differs read_look ≡ b → seen ≡ (if b then Different else Same)
       → seen ≡ seen_by read_look
   read_seen b seen is are =
       are ∙ ap (λ (x : Bool). if x then Different else Same) (sym is)
@@ -121,7 +121,7 @@ module _ (r : Reading) (there : List ℕ) (whole : is_whole r ≡ true) where
       (is ∙ sym (cond-true (is_whole r) (slice_range image at (at + r.asked)) [] whole))
 
 -- what a look found whose piece was read whole, by whether the image has the same
-pub sees_read : (pos place asked n : ℕ) (buf image : List ℕ) (got : Got) (same : Bool) (seen : Seen)
+pub sees_read : (pos place asked n : ℕ) (buf image : List ℕ) (got : Got) (same : Bool) (seen : LookResult)
     (source source' : SourceState) (site site' : SiteState) → length buf ≡ asked → length image ≡ asked
     → count_of got ≡ asked → n ≤ asked → same ≡ bytes_eq buf (take n image)
     → seen ≡ (if not same then Different else Same) → Reads (reading pos asked buf got ∷ []) source source'

@@ -41,8 +41,8 @@ tally_of looks = record {
 }
 
 -- what one more look counts
-abbrev pub counted : Tally → Look → Tally
-counted t l = record {
+abbrev pub tally_with : Tally → Look → Tally
+tally_with t l = record {
   compared = t.compared + (if is_whole l.read then l.read.asked else 0);
   differing = t.differing + (if differs l then l.read.asked else 0);
   unread = t.unread + (if not (is_whole l.read) then l.read.asked else 0);
@@ -53,7 +53,7 @@ pub record TakesPiece (p : ComparisonPlan) (from to : ℕ) (tally tally' : Tally
     (source source' : SourceState) (site site' : SiteState) : Type 0 where
   pub look : Look
   pub sees : SeesPiece from (to - from) (place_in p from) look source source' site site'
-  pub counts : tally' ≡ counted tally look
+  pub counts : tally' ≡ tally_with tally look
   pub map_is : new ≡ judged old look
 
 -- Why a comparison stopped in front of a piece, or within it, and what it read of input and files meanwhile: room in the
@@ -75,11 +75,11 @@ EndsComparing p old new (Ok tally) looks reads calls =
 EndsComparing p old new (Err halt) looks reads calls = HaltsAt halt p (end_of_reads 0 (reads_of looks)) reads calls
 
 -- A count rises by one where a read was lost or one of the image failed, and no other does.
-abbrev pub Counts : Result Tally Halt → (source source' : SourceState) → (site site' : SiteState) → Type 0
-Counts (Ok tally) source source' site site' = (source'.losses ≡ source.losses) × (site'.faults ≡ site.faults)
-Counts (Err NoMemory) source source' site site' = (source'.losses ≡ source.losses) × (site'.faults ≡ site.faults)
-Counts (Err SourceLost) source source' site site' = Rose source.losses source'.losses × (site'.faults ≡ site.faults)
-Counts (Err ImageFault) source source' site site' = (source'.losses ≡ source.losses) × Rose site.faults site'.faults
+abbrev pub LossesRise : Result Tally Halt → (source source' : SourceState) → (site site' : SiteState) → Type 0
+LossesRise (Ok tally) source source' site site' = (source'.losses ≡ source.losses) × (site'.faults ≡ site.faults)
+LossesRise (Err NoMemory) source source' site site' = (source'.losses ≡ source.losses) × (site'.faults ≡ site.faults)
+LossesRise (Err SourceLost) source source' site site' = Rose source.losses source'.losses × (site'.faults ≡ site.faults)
+LossesRise (Err ImageFault) source source' site site' = (source'.losses ≡ source.losses) × Rose site.faults site'.faults
 
 -- Looks at the first pieces, in order: they are reads of the input and calls on the files, where these tell; and what the
 -- image gave is what it has there, where the files tell.

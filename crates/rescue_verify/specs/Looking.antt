@@ -8,12 +8,12 @@ use Rattle.crash_site.specs.Files.{bytes_of}
 use Rattle.crash_site.specs.SiteState.{SiteState, image_in, Makes, Breaks}
 use Rattle.rescue_verify.specs.declared.halt.Halt.{Halt}
 use Rattle.rescue_verify.specs.declared.halt.Halt.TheVariants.{NoMemory, SourceLost, ImageFault}
-use Rattle.rescue_verify.specs.declared.look.Seen.{Seen}
-use Rattle.rescue_verify.specs.declared.look.Seen.TheVariants.{Unread, Same, Different}
+use Rattle.rescue_verify.specs.declared.look.LookResult.{LookResult}
+use Rattle.rescue_verify.specs.declared.look.LookResult.TheVariants.{Unread, Same, Different}
 use Rattle.rescue_verify.specs.Looks.{Look, differs, seen_at, look_call}
 
 -- what a look found
-abbrev pub seen_by : Look → Seen
+abbrev pub seen_by : Look → LookResult
 seen_by l = if is_whole l.read then (if differs l then Different else Same) else Unread
 
 -- The piece from a position on, of so many bytes, was read once, and if that was whole the image at a place; and what the

@@ -1,7 +1,7 @@
--- The pieces of a comparison: the sector parts of the runs of positions that are to be compared, from the front on.
+-- The pieces of a comparison: the sector parts of the ranges of positions that are to be compared, from the front on.
 use Rattle.std.specs.Prelude.{◌≡◌, ⊤, ℕ, ◌+◌, ◌≤◌, min, Bool, List, [], ◌∷◌}
 use Rattle.block_list.specs.declared.status.Status.{Status}
-use Rattle.block_list.specs.Places.{IsFirst, IsRunUp}
+use Rattle.block_list.specs.Places.{IsFirst, IsRangeUp}
 use Rattle.faulty_source.specs.Journal.{Reading, floor}
 use Rattle.rescue_domain.specs.Domain.{IsIn, finished_in}
 
@@ -12,10 +12,10 @@ compared_in domain map = finished_in domain map
 -- The first piece from a place on, with its end. It begins at the first position that is to be compared, and goes on as
 -- far as such positions do, but not over a multiple of the sector's size.
 pub record IsPiece (compared : ℕ → Bool) (sector from pos end : ℕ) : Type 0 where
-  pub run_end : ℕ
+  pub range_end : ℕ
   pub first : IsFirst (IsIn compared) from pos
-  pub run : IsRunUp (IsIn compared) pos run_end
-  pub ends : end ≡ min run_end (floor sector (pos + sector))
+  pub range : IsRangeUp (IsIn compared) pos range_end
+  pub ends : end ≡ min range_end (floor sector (pos + sector))
 
 -- no position from a place on is to be compared
 abbrev pub NoneFrom : (compared : ℕ → Bool) → (from : ℕ) → Type 0

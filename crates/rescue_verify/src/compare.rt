@@ -5,14 +5,14 @@ ghost use Rattle.crash_site.specs.SiteState.{Stays as SiteStays};
 ghost use Rattle.rescue_domain.specs.Domain.{IsIn};
 ghost use Rattle.rescue_domain.specs.Parts.{covers};
 ghost use Rattle.rescue_domain.specs.Places.{AreAllPlaced, place_from};
-ghost use Rattle.rescue_verify.specs.Comparing.{Compares, Counts, TakesPiece, place_in, plan_by};
+ghost use Rattle.rescue_verify.specs.Comparing.{Compares, LossesRise, TakesPiece, place_in, plan_by};
 ghost use Rattle.rescue_verify.specs.Looking.{HaltsLooking};
 
 use crate::halt::Halt;
-use crate::look::{Seen, look};
+use crate::look::{LookResult, look};
 use crate::piece::Comparison;
 use crate::tally::Tally;
-use block_list::block::Run;
+use block_list::block::Range;
 use block_list::status::Status;
 use block_list::tiles::Tiles;
 use crash_site::site::Site;
@@ -23,7 +23,7 @@ use std::alloc::Global;
 /// no read is lost for want of it.
 fn compare_piece<S: Source, D: Site, T: Tiles>(
     comparison: Comparison<'_>,
-    piece: Run,
+    piece: Range,
     tally: &mut Tally,
     tiles: &mut T,
     given: &mut [u8],
@@ -61,9 +61,9 @@ fn compare_piece<S: Source, D: Site, T: Tiles>(
     let given = &mut given[..size as usize];
     let there = &mut there[..size as usize];
     match look(piece.from, place, given, there, source, site) {
-        Ok(Seen::Unread) => tally.unread += size,
-        Ok(Seen::Same) => tally.compared += size,
-        Ok(Seen::Different) => {
+        Ok(LookResult::Unread) => tally.unread += size,
+        Ok(LookResult::Same) => tally.compared += size,
+        Ok(LookResult::Different) => {
             tally.compared += size;
             tally.differing += size;
             tiles.set(piece.from, size, Status::NonTried);
@@ -92,7 +92,7 @@ pub fn compare<S: Source, D: Site, T: Tiles>(
     requires image { (D.state site.old).is_open ≡ true }
     ensures compares { Compares (plan_by comparison.entry) (T.statuses tiles.old) (T.statuses tiles.new) result
         (S.state source.old) (S.state source.new) (D.state site.old) (D.state site.new) }
-    ensures counts { Counts result (S.state source.old) (S.state source.new) (D.state site.old) (D.state site.new) }
+    ensures counts { LossesRise result (S.state source.old) (S.state source.new) (D.state site.old) (D.state site.new) }
     ensures source { SourceStays (S.state source.old) (S.state source.new) }
     ensures site { SiteStays (D.state site.old) (D.state site.new) }
 {

@@ -11,7 +11,7 @@ use faulty_source::source::Source;
 
 /// What a look at a piece found.
 #[derive(Clone, Copy, Debug, PartialEq, Eq)]
-pub enum Seen {
+pub enum LookResult {
     /// The input didn't give all of it.
     Unread,
     /// The image has what the input gave.
@@ -29,7 +29,7 @@ pub(crate) fn look<S: Source, D: Site>(
     there: &mut [u8],
     source: &mut S,
     site: &mut D,
-) -> Result<Seen, Halt>
+) -> Result<LookResult, Halt>
     requires input { (S.state source.old).is_open ≡ true }
     requires image { (D.state site.old).is_open ≡ true }
     requires some { 0 < length given.old }
@@ -48,15 +48,15 @@ pub(crate) fn look<S: Source, D: Site>(
         Err(_) => return Err(Halt::SourceLost),
     };
     if got.count() < given.len() {
-        return Ok(Seen::Unread);
+        return Ok(LookResult::Unread);
     }
     let count = match site.image_read(place, there) {
         Ok(count) => count,
         Err(_) => return Err(Halt::ImageFault),
     };
     if &*given == &there[..count] {
-        Ok(Seen::Same)
+        Ok(LookResult::Same)
     } else {
-        Ok(Seen::Different)
+        Ok(LookResult::Different)
     }
 }

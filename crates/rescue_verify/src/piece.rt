@@ -5,7 +5,7 @@ ghost use Rattle.rescue_domain.specs.Parts.{covers};
 ghost use Rattle.rescue_domain.specs.Places.{place_from};
 ghost use Rattle.rescue_verify.specs.Pieces.{IsPiece, NoneFrom};
 
-use block_list::block::Run;
+use block_list::block::Range;
 use rescue_domain::domain::Domain;
 
 /// What is compared, in sectors of this size in bytes, and where it stands in the image: the position `from` at `to`.
@@ -19,7 +19,7 @@ pub struct Comparison<'a> {
 
 impl Comparison<'_> {
     /// The first piece at or behind a position.
-    pub(crate) fn next_piece(self, from: u64) -> Option<Run>
+    pub(crate) fn next_piece(self, from: u64) -> Option<Range>
         requires sector { 0 < self.sector }
         requires small { self.sector ≤ 1048576 }
         requires short { (x : ℕ) → IsIn (covers self.compared.now) x → x < 2 ^ 63 }
@@ -29,11 +29,11 @@ impl Comparison<'_> {
         ensures few { IfSome result (λ p. p.to ≤ p.from + self.entry.sector) }
         ensures none { IfNone result (NoneFrom (covers self.entry.compared.now) from) }
     {
-        let run = self.compared.next_in(from)?;
-        let boundary = (run.from + self.sector) / self.sector * self.sector;
-        Some(Run {
-            from: run.from,
-            to: run.to.min(boundary),
+        let range = self.compared.next_in(from)?;
+        let boundary = (range.from + self.sector) / self.sector * self.sector;
+        Some(Range {
+            from: range.from,
+            to: range.to.min(boundary),
         })
     }
 

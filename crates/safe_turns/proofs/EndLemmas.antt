@@ -4,9 +4,6 @@ use Rattle.std.proofs.Math.Bool.{and-false}
 use Rattle.std.specs.List.{flat_map}
 use Rattle.std.proofs.lemmas.Grind.{flat_map-append}
 use Rattle.std.proofs.lemmas.List.{map-append}
-use Rattle.block_list.specs.declared.status.Status.{Status}
-use Rattle.mapfile_text.specs.declared.state.Current.TheVariants.{Finished}
-use Rattle.mapfile_text.specs.declared.state.MapState.{MapState}
 use Rattle.fault_count.specs.Plan.{no_plan}
 use Rattle.crash_site.specs.Calls.{Call, Entry, Done, image_sync}
 use Rattle.crash_site.specs.Disk.{Disk, only, at_rest, disk_after}
@@ -36,18 +33,19 @@ use Rattle.rescue_rules.specs.Nameless.{nameless}
 use Rattle.rescue_rules.specs.Work.{EndsBy, end_of, Ends, IsSaved as RunSaved, IsUnsaved, IsBroken}
 use Rattle.rescue_rules.proofs.MoveLemmas.{moves_more}
 use Rattle.rescue_rules.proofs.NamelessLemmas.{run_named}
+use Rattle.rescue_rules.proofs.RunDeedLemmas.{last_map}
 use Rattle.rescue_core.specs.Across.{Across}
 use Rattle.rescue_core.specs.RunState.{RunState, setting_in}
 use Rattle.rescue_core.specs.Closing.{LastSave, Saved, Unsaved}
-use Rattle.copy_passes.specs.Turns.{IsAlike, Went}
+use Rattle.copy_passes.specs.Turns.{Went}
 use Rattle.ddrescue_cli.specs.Running.{WentToEnd}
-use Rattle.ddrescue_cli.proofs.runs.EndLemmas.{behind_over}
+use Rattle.ddrescue_cli.proofs.runs.EndLemmas.{behind_over, finished_alike}
 use Rattle.ddrescue_cli.proofs.runs.LastLemmas.{behind_all}
+use Rattle.ddrescue_cli.proofs.runs.DoneLemmas.{last_finished}
 use Rattle.safe_turns.specs.UnderWay.{StillComes, Now, Later, IsUnderWay}
 use Rattle.safe_turns.specs.Ended.{IsLastSaved, IsWellEnded}
 use Rattle.safe_turns.specs.EndLaws.{PhasesEndWell, DoneEndsWell, StoppedIsSaved, WholeRunIsHeld}
 use Rattle.safe_turns.specs.PhaseLaws.{is_at_call}
-use Rattle.safe_turns.proofs.LastLemmas.{last_map}
 use Rattle.safe_turns.proofs.SafeLemmas.{comes_all, comes_past, comes_more}
 use Rattle.safe_turns.proofs.SiteLemmas.{Grew, broke_grew, left_within}
 use Rattle.safe_turns.proofs.PhaseLemmas.{TurnsRun, turns_run}
@@ -129,19 +127,6 @@ all_made_ends s m es site site' ok w run tells keeps made = record {
   well = under_way_ends_well s m es ok w run made.over;
   saved = closed_saved s m es (finished_snapshot (state_after s m es)) site site' tells keeps made.calls;
 }
-
-last_finished : (s : Setting) (m : Machine) → has_ended s m ≡ true → last_snapshot s m ≡ finished_snapshot m
-last_finished s m over = ap (λ (b : Bool). if b then finished_snapshot m else snapshot_of m) over
-
--- Alike states are saved alike.
-finished_alike : (s : Setting) (m n : Machine) → IsAlike s m n → finished_snapshot n ≡ finished_snapshot m
-finished_alike s m n alike =
-    let P : List Status → MapState → ℕ → ℕ → Snapshot = λ map shown began now.
-    record { map = map; shown = record shown { current = Finished; pass = 1 }; began = began; now = now } in
-    ap (λ (map : List Status). P map n.shown n.began n.now) alike.map
-    ∙ ap (λ (shown : MapState). P m.map shown n.began n.now) alike.shown
-    ∙ ap (λ (began : ℕ). P m.map m.shown began n.now) alike.began
-    ∙ ap (P m.map m.shown m.began) alike.now
 
 -- What is so of a run without the names of its files is so with them.
 comes_named : (s : Setting) (m : Machine) (p : Pass) (x : ℕ) → StillComes (nameless s) m p x → StillComes s m p x

@@ -1,18 +1,18 @@
 -- A run whose last save shows anything of the map that it has come to keeps its promise at whatever moment it is stopped.
-use Rattle.std.proofs.Common.{◌≡◌, ℕ, suc, ◌+◌, Bool, true, false, if◌then◌else◌, List, [], ◌∷◌, ◌++◌, take, Option, Some, None, refl, sym, ap, subst, ◌∙◌, inl}
+use Rattle.std.proofs.Common.{◌≡◌, ℕ, suc, ◌+◌, true, false, List, [], ◌∷◌, ◌++◌, take, Option, Some, None, refl, sym, ap, subst, ◌∙◌}
 use Rattle.std.specs.List.{count_by}
 use Rattle.block_list.specs.declared.status.Status.{Status}
 use Rattle.faulty_source.specs.Journal.{Reading}
 use Rattle.crash_site.specs.Files.{File, bytes_of, kind_of}
-use Rattle.crash_site.specs.Calls.{Call, Entry, Done, Failed}
+use Rattle.crash_site.specs.Calls.{Call, Entry}
 use Rattle.crash_site.specs.Disk.{Disk, disk_after}
 use Rattle.crash_site.specs.Left.{Leaves, until}
 use Rattle.rescue_rules.specs.Setting.{Setting, IsSensible}
 use Rattle.rescue_rules.specs.Machine.{Machine}
 use Rattle.rescue_rules.specs.Step.{Event}
-use Rattle.rescue_rules.specs.Moves.{moves, state_after, has_ended, IsRun}
+use Rattle.rescue_rules.specs.Moves.{moves, state_after, IsRun}
 use Rattle.rescue_rules.specs.Events.{reads_of}
-use Rattle.rescue_rules.specs.Snapshots.{Snapshot, snapshot_of, finished_snapshot, last_snapshot}
+use Rattle.rescue_rules.specs.Snapshots.{Snapshot, last_snapshot}
 use Rattle.rescue_rules.specs.RunCalls.{run_calls, closing_calls}
 use Rattle.rescue_rules.specs.RunStops.{ComesTo, Rests}
 use Rattle.rescue_rules.specs.Stops.{is_settle, is_publish, is_write, IsSave}
@@ -26,7 +26,8 @@ use Rattle.rescue_rules.proofs.CutLemmas.{Cut}
 use Rattle.rescue_rules.proofs.SaveStages.{Doing}
 use Rattle.rescue_rules.proofs.DeedStages.{Kept, deeds_stop_safely}
 use Rattle.rescue_rules.proofs.KeepLemmas.{saved_map_is, SavesOn, KeepsMaps, Promise, Free, keeps_up}
-use Rattle.rescue_rules.proofs.RunDeedLemmas.{calls_alike, Holding, Writable, run_outlasts, run_first, run_keeps_up}
+use Rattle.rescue_rules.proofs.RunDeedLemmas.{calls_alike, Holding, Writable, run_outlasts, run_first, run_keeps_up, last_map}
+use Rattle.rescue_rules.proofs.RunStopLemmas.{comes_cut}
 
 -- what a last save promises, it promises by its map alone
 saves_by : (promise : ℕ → List Status → List ℕ → Type 0) (free : ℕ → List Status → ℕ → Type 0) (n : ℕ)
@@ -48,19 +49,6 @@ keeps_last promise free n map image (d ∷ ds) p q same h = (
       (λ k t. KeepsMaps promise free k t (image_after image d.calls) ds q)
       (λ k t keeps. keeps_last promise free k t (image_after image d.calls) ds p q same keeps) h.1,
 )
-
-either_map : (over : Bool) (m : Machine) → m.map ≡ (if over then finished_snapshot m else snapshot_of m).map
-either_map true m = refl
-either_map false m = refl
-
-pub last_map : (s : Setting) (m : Machine) → (last_snapshot s m).map ≡ m.map
-last_map s m = sym (either_map (has_ended s m) m)
-
-comes_cut : (calls : List Call) (es : List Entry) → ComesTo calls es → Cut calls es
-comes_cut calls [] h = tt
-comes_cut [] (e ∷ es) h = absurd h
-comes_cut (c ∷ cs) (Done x ∷ es) h = (h.0, comes_cut cs es h.1)
-comes_cut (c ∷ cs) (Failed x ∷ es) h = (inl h.0, h.1)
 
 -- such a run, its saves and its calls
 abbrev pub saves_with : Setting → Machine → List Event → (last : Snapshot) → List Snapshot

@@ -1,47 +1,30 @@
 -- A run comes to a phase over passes that are spent.
-use Rattle.std.proofs.Common.{◌≡◌, ℕ, zero, suc, ◌+◌, ◌-◌, ◌<◌, ◌≤◌, Bool, true, false, not, if◌then◌else◌, All, Contains, List, [], ◌∷◌, ◌++◌, map, drop, Option, Some, None, refl, sym, ap, subst, ◌∙◌, arith, append_assoc, append-nil, ⊎_elim}
+use Rattle.std.proofs.Common.{◌≡◌, ℕ, zero, suc, ◌+◌, ◌-◌, ◌<◌, ◌≤◌, true, false, if◌then◌else◌, All, Contains, List, [], ◌∷◌, ◌++◌, map, drop, refl, sym, ap, subst, ◌∙◌, arith, append_assoc, append-nil, ⊎_elim}
 use Rattle.std.specs.List.{slice_get, slice_index_or, range_with_len}
-use Rattle.std.proofs.lemmas.Bool.{and_parts, cases_lt, cond_both, false_from_ne_true, true≢false}
+use Rattle.std.proofs.lemmas.Bool.{cases_lt, cond_both, true≢false}
 use Rattle.std.proofs.lemmas.List.Elements.{All-append, All-cons, All-contains, All-drop, All-head, All-nil, All-tail, Contains-append_left}
-use Rattle.block_list.specs.declared.status.Status.{Status}
 use Rattle.block_list.specs.declared.status.Status.TheVariants.{NonTried, NonTrimmed, NonScraped}
 use Rattle.block_list.specs.Map.{Has}
-use Rattle.block_list.proofs.StretchLemmas.{equal_from_same}
 use Rattle.rescue_rules.specs.declared.phase.Phase.{Phase}
 use Rattle.rescue_rules.specs.declared.phase.Phase.TheVariants.{Copying, Trimming, Scraping, Retrying}
 use Rattle.rescue_rules.specs.Setting.{Setting}
 use Rattle.rescue_rules.specs.Passes.{Pass, taken, numbered, copying_passes, passes_in, passes_behind, passes_from}
-use Rattle.rescue_rules.specs.Machine.{Machine, pass_of, has_taken, is_live, is_wanted, search_of, is_ahead, has_request}
+use Rattle.rescue_rules.specs.Machine.{Machine, pass_of, is_live, search_of, is_ahead}
 use Rattle.rescue_rules.specs.MachineLaws.{HasNone}
 use Rattle.rescue_rules.specs.Step.{trims, is_trimming}
 use Rattle.rescue_rules.proofs.OverLemmas.{wanted_live}
-use Rattle.rescue_rules.proofs.ReadyLemmas.{order_lead}
-use Rattle.rescue_rules.proofs.SearchLemmas.{wanted_found}
+use Rattle.rescue_rules.proofs.ReadyLemmas.{order_lead, request_none}
+use Rattle.rescue_rules.proofs.SearchLemmas.{not_true}
 use Rattle.rescue_rules.proofs.StatusLemmas.{wanted_taken}
 use Rattle.rescue_core.specs.RunState.{RunState, setting_in, passed, IsGone}
 use Rattle.rescue_core.specs.Stages.{Known, IsTrimmed}
 use Rattle.copy_passes.proofs.AlikeLemmas.{alike_by, alike_on, next_pass_is_alike}
-use Rattle.copy_passes.specs.Copying.{IsCopying}
+use Rattle.copy_passes.specs.Copying.{MayCopy}
 use Rattle.copy_passes.proofs.CopyingLemmas.{first_of, wanted_here}
 use Rattle.trim_scrape.specs.Behind.{IsBehind}
 use Rattle.trim_scrape.proofs.OrderLemmas.{Follows, AreOrdered, ordered_from, never_follows, behind_contains, has_last, has_trimming, has_scraping}
 use Rattle.safe_turns.specs.UnderWay.{StillComes, Now, Later}
 use Rattle.safe_turns.specs.PassLaws.{passed_over, LeadsBehind, SpentLeadsBehind, passes_up_to, known_behind, TypedLeadsBehind, UnderWayMayCopy, CopyingIsUnderWay, BehindIsUnderWay}
-
--- a pass that has no position to ask for has no request
-taken_has : (p : Pass) (ps : List Pass) (o : Option Status) → has_taken (p ∷ ps) o ≡ true → o ≡ Some (taken p.phase)
-taken_has p ps None is = absurd (cc)
-taken_has p ps (Some status) is = ap (λ (t : Status). Some t) (equal_from_same status (taken p.phase) is)
-
-none_requested : (s : Setting) (m : Machine) (p : Pass) (ps : List Pass) → m.passes ≡ p ∷ ps → HasNone s m p
-    → has_request s m ≡ false
-none_requested s m p ps is none =
-    false_from_ne_true (has_request s m) (λ on.
-    let w : (x : ℕ) × (is_wanted s m x ≡ true) = wanted_found s m on in
-    let both : (is_live s m w.0 ≡ true) × (has_taken m.passes (slice_get m.map w.0) ≡ true)
-    = and_parts (is_live s m w.0) (has_taken m.passes (slice_get m.map w.0)) w.1 in
-    none w.0 both.0 (taken_has p ps (slice_get m.map w.0)
-    (subst (λ (qs : List Pass). has_taken qs (slice_get m.map w.0) ≡ true) is both.1)))
 
 -- the next pass, and those behind it
 two_by : (ps : List Pass) (p : Pass) (qs : List Pass) → drop 1 ps ≡ p ∷ qs → (c : Pass) × (ps ≡ c ∷ p ∷ qs)
@@ -66,7 +49,7 @@ spent_leads_behind r phase (p ∷ spent) ok within off left none =
     let first : HasNone s q.machine p = All-head (HasNone s m) p spent none in
     let later : All (HasNone s q.machine) spent = All-tail (HasNone s m) p spent none in
     let l : LeadsBehind phase q spent
-    = spent_leads_behind q phase spent ok within (none_requested s q.machine p (drop 2 m.passes) refl first) rest later in
+    = spent_leads_behind q phase spent ok within (request_none s q.machine p (drop 2 m.passes) refl first) rest later in
     record {
       may = (ap (λ (ps : List Pass). slice_get ps 1) are, off, l.may);
       behind = l.behind;
@@ -127,10 +110,6 @@ all_in P phase number (suc few) each =
     All-cons P (numbered phase number) (map (numbered phase) (range_with_len (number + 1) few)) (each number)
     (all_in P phase (number + 1) few each)
 
-not_off : (off : Bool) → not off ≡ true → off ≡ false
-not_off true on = absurd (cc)
-not_off false on = refl
-
 none_copies : (r : RunState) (number : ℕ) → IsGone NonTried r
     → All (HasNone (setting_in r) r.machine) (passes_in (setting_in r) Copying number)
 none_copies r number gone =
@@ -144,7 +123,7 @@ none_trims r number known =
     All-append P (passes_in s Copying number) (if s.trims then passes_in s Trimming 1 else [])
     (none_copies r number known.tried)
     (cond_both s.trims (passes_in s Trimming 1) [] (All P)
-    (λ on. all_in P Trimming 1 1 (λ n. known.trimmed (not_off r.settings.no_trim on))) (λ off. All-nil P))
+    (λ on. all_in P Trimming 1 1 (λ n. known.trimmed (not_true r.settings.no_trim on))) (λ off. All-nil P))
 
 none_up_to : (r : RunState) (phase : Phase) (number : ℕ) → (phase ≡ Retrying → ⊥) → Known (known_behind phase) r
     → All (HasNone (setting_in r) r.machine) (passes_up_to (setting_in r) phase number)
@@ -156,7 +135,7 @@ none_up_to r Scraping number other known =
     All-append P (passes_up_to s Trimming number) (if s.scrapes then passes_in s Scraping 1 else [])
     (none_trims r number known.trimmed)
     (cond_both s.scrapes (passes_in s Scraping 1) [] (All P)
-    (λ on. all_in P Scraping 1 1 (λ n. known.scraped (not_off r.settings.no_scrape on))) (λ off. All-nil P))
+    (λ on. all_in P Scraping 1 1 (λ n. known.scraped (not_true r.settings.no_scrape on))) (λ off. All-nil P))
 none_up_to r Retrying number other known = absurd (other refl)
 
 pub typed_leads_behind : TypedLeadsBehind
@@ -171,7 +150,7 @@ typed_leads_behind r phase other ok within few passes known =
     let first : HasNone s m (numbered Copying r.pass)
     = All-head (HasNone s m) (numbered Copying r.pass) (drop 1 front) (subst (All (HasNone s m)) are none) in
     spent_leads_behind r phase (drop 1 front) ok within
-    (none_requested s m (numbered Copying r.pass) (drop 1 front ++ passes_behind s phase) all first)
+    (request_none s m (numbered Copying r.pass) (drop 1 front ++ passes_behind s phase) all first)
     (ap (λ (ps : List Pass). drop 1 ps) all) (All-drop (HasNone s m) 1 front none)
 
 -- a pass doesn't come again
@@ -215,7 +194,7 @@ under_way_may_copy r ok within phase few passes w =
     }
 
 -- what is non-tried, the last pass of copying still comes to
-last_comes : (r : RunState) (x : ℕ) → IsCopying r → is_live (setting_in r) r.machine x ≡ true
+last_comes : (r : RunState) (x : ℕ) → MayCopy r → is_live (setting_in r) r.machine x ≡ true
     → Has r.machine.map NonTried x → StillComes (setting_in r) r.machine (numbered Copying copying_passes) x
 last_comes r x c live has =
     let s : Setting = setting_in r in
@@ -230,7 +209,7 @@ last_comes r x c live has =
     Now (passes_behind s Copying) are (λ off. (c.last last).ahead x (wanted_here r x c live has)))
     (cases_lt r.pass copying_passes)
 
-behind_comes : (r : RunState) (p : Pass) (x : ℕ) → IsCopying r → Contains (passes_behind (setting_in r) Copying) p
+behind_comes : (r : RunState) (p : Pass) (x : ℕ) → MayCopy r → Contains (passes_behind (setting_in r) Copying) p
     → StillComes (setting_in r) r.machine p x
 behind_comes r p x c has =
     Later (subst (λ (ps : List Pass). Contains (drop 1 ps) p) (sym c.passes) (behind_contains (setting_in r) r.pass p c.few has))
@@ -265,11 +244,11 @@ trimmed_behind : (r : RunState) (phase : Phase) (x : ℕ) → IsBehind phase r �
 trimmed_behind r Copying x b known on live has =
     Later (subst (λ (ps : List Pass). Contains ps (numbered Trimming 1)) (sym b.left) (has_trimming (setting_in r) on))
 trimmed_behind r Trimming x b known on live has =
-    absurd (known.trimmed (not_off r.settings.no_trim on) x live has)
+    absurd (known.trimmed (not_true r.settings.no_trim on) x live has)
 trimmed_behind r Scraping x b known on live has =
-    absurd (known.trimmed.trimmed (not_off r.settings.no_trim on) x live has)
+    absurd (known.trimmed.trimmed (not_true r.settings.no_trim on) x live has)
 trimmed_behind r Retrying x b known on live has =
-    absurd (known.scraped.trimmed.trimmed (not_off r.settings.no_trim on) x live has)
+    absurd (known.scraped.trimmed.trimmed (not_true r.settings.no_trim on) x live has)
 
 scraped_behind : (r : RunState) (phase : Phase) (x : ℕ) → IsBehind phase r → Known (known_behind phase) r
     → (setting_in r).scrapes ≡ true → is_live (setting_in r) r.machine x ≡ true → Has r.machine.map NonScraped x
@@ -279,9 +258,9 @@ scraped_behind r Copying x b known on live has =
 scraped_behind r Trimming x b known on live has =
     Later (subst (λ (ps : List Pass). Contains ps (numbered Scraping 1)) (sym b.left) (has_scraping_next (setting_in r) on))
 scraped_behind r Scraping x b known on live has =
-    absurd (known.scraped (not_off r.settings.no_scrape on) x live has)
+    absurd (known.scraped (not_true r.settings.no_scrape on) x live has)
 scraped_behind r Retrying x b known on live has =
-    absurd (known.scraped.scraped (not_off r.settings.no_scrape on) x live has)
+    absurd (known.scraped.scraped (not_true r.settings.no_scrape on) x live has)
 
 pub behind_is_under_way : BehindIsUnderWay
 behind_is_under_way r phase first past order passes b known = record {

@@ -14,7 +14,7 @@ use Rattle.rescue_rules.specs.Setting.{Setting}
 use Rattle.rescue_rules.specs.Passes.{Pass, taken, is_up, numbered, copying_passes, passes_in, passes_behind, passes_from}
 use Rattle.rescue_rules.specs.Machine.{Machine, pass_of, is_live, IsWanted, search_in, search_of, is_ahead, has_request}
 use Rattle.rescue_rules.specs.MachineLaws.{IsInOrder, AsksFor}
-use Rattle.rescue_rules.specs.Step.{Event, copies, trims, is_copying, is_trimming, rest_status}
+use Rattle.rescue_rules.specs.Step.{Event, trims, is_copying, is_trimming, rest_status}
 use Rattle.rescue_rules.specs.Moves.{begun, at_next, ready, move_of}
 use Rattle.rescue_rules.proofs.MoveLemmas.{run_first, run_rest}
 use Rattle.rescue_rules.proofs.OverLemmas.{live_before, live_was}
@@ -26,6 +26,7 @@ use Rattle.trim_scrape.proofs.CursorLemmas.{LiesAhead, JumpsNever, left_on, left
 use Rattle.trim_scrape.proofs.OrderLemmas.{order, Follows, AreOrdered, follows_from, ordered_from, contains_cases, has_trimming, has_scraping}
 use Rattle.trim_scrape.proofs.OwedLemmas.{Owes, Now as OwedNow, Later as OwedLater, owes_ready, wanted_in, passes_are}
 use Rattle.trim_scrape.proofs.RunLemmas.{MayRun, Moves, moves_by, has_unready}
+use Rattle.trim_scrape.proofs.FailLemmas.{copies_first, trims_second}
 use Rattle.safe_turns.specs.UnderWay.{StillComes, Now, Later, IsToCome, IsUnderWay}
 use Rattle.safe_turns.specs.EndLaws.{RunStaysUnderWay, NextPassIsUnderWay}
 
@@ -169,19 +170,6 @@ stands_to_come s m e p x by never come live apart has =
           (live_before s n x live) apart left))
       | OwedLater has ↦ Later has
     ]
-
--- and what it leaves for a later phase, one of its passes still comes to.
-copies_first : (phase : Phase) → copies phase ≡ true → order phase ≡ 0
-copies_first Copying is = refl
-copies_first Trimming is = absurd (cc)
-copies_first Scraping is = absurd (cc)
-copies_first Retrying is = absurd (cc)
-
-trims_second : (phase : Phase) → trims phase ≡ true → order phase ≡ 1
-trims_second Copying is = absurd (cc)
-trims_second Trimming is = refl
-trims_second Scraping is = absurd (cc)
-trims_second Retrying is = absurd (cc)
 
 left_later : (s : Setting) (m : Machine) (e : Event) (q : Pass) (x : ℕ) → Moves s m e → IsUnderWay s (ready s m)
     → order (pass_of (ready s m)).phase < order q.phase → Contains (passes_behind s Copying) q

@@ -1,7 +1,6 @@
 -- What a run leaves that goes on to its end from wherever it is under way.
-use Rattle.std.proofs.Common.{◌≡◌, ℕ, ◌<◌, ◌≤◌, min, Bool, true, false, nat_eq, Contains, List, [], ◌∷◌, length, get_or, Option, Some, None, is_none, refl, sym, ap, subst, ◌∙◌, arith, ⊎_elim}
-use Rattle.std.specs.List.{slice_index_or}
-use Rattle.std.proofs.lemmas.Bool.{and_parts, cases_lt, cases_Bool, cond-true, eq-eqb}
+use Rattle.std.proofs.Common.{◌≡◌, ℕ, ◌<◌, true, false, Contains, List, [], length, get_or, Option, is_none, refl, arith, ⊎_elim}
+use Rattle.std.proofs.lemmas.Bool.{and_parts, cases_Bool}
 use Rattle.std.proofs.lemmas.Option.{slice_get-get_or, slice_get_within}
 use Rattle.block_list.specs.declared.status.Status.{Status}
 use Rattle.block_list.specs.declared.status.Status.TheVariants.{NonTried, NonTrimmed, NonScraped, BadSector, Finished}
@@ -10,66 +9,28 @@ use Rattle.mapfile_text.specs.declared.state.MapState.{MapState}
 use Rattle.faulty_source.specs.Ends.{is_before}
 use Rattle.rescue_rules.specs.declared.phase.Phase.TheVariants.{Copying, Trimming, Scraping, Retrying}
 use Rattle.rescue_rules.specs.Setting.{Setting, IsSensible}
-use Rattle.rescue_rules.specs.Passes.{Pass, taken, is_up, numbered, copying_passes, passes_behind, passes_from}
-use Rattle.rescue_rules.specs.Machine.{Machine, pass_of, start_of, is_live}
+use Rattle.rescue_rules.specs.Passes.{Pass, taken, numbered, copying_passes, passes_behind}
+use Rattle.rescue_rules.specs.Machine.{Machine, is_live}
 use Rattle.rescue_rules.specs.Step.{Event, limit_met}
 use Rattle.rescue_rules.specs.Moves.{ready, no_pass_left, state_after, IsRun}
-use Rattle.rescue_rules.specs.Beginning.{first_pass, first_cursor, machine_of}
-use Rattle.rescue_rules.proofs.FitLemmas.{run_size}
+use Rattle.rescue_rules.specs.Beginning.{first_pass, machine_of}
+use Rattle.rescue_rules.proofs.FitLemmas.{run_size, first_few}
 use Rattle.rescue_rules.proofs.OverLemmas.{live_before}
 use Rattle.rescue_rules.proofs.ReadyLemmas.{order_begins}
 use Rattle.trim_scrape.specs.Endings.{IsLeftWell, Rescued as RescuedAll, Untrimmed as UntrimmedAll, Unscraped as UnscrapedAll, Bad as BadAll}
-use Rattle.trim_scrape.proofs.CursorLemmas.{LiesAhead, IsLeft, start_by}
-use Rattle.trim_scrape.proofs.FailLemmas.{owed_fails}
-use Rattle.trim_scrape.proofs.OrderLemmas.{behind_contains, has_last, has_trimming, has_scraping, has_retrying}
-use Rattle.trim_scrape.proofs.OwedLemmas.{Owes, Now as OwedNow, Later as OwedLater, owes_ready, owes_contains}
+use Rattle.trim_scrape.proofs.FailLemmas.{owed_fails, none_owed}
+use Rattle.trim_scrape.proofs.OrderLemmas.{behind_contains, has_trimming, has_scraping, has_retrying}
+use Rattle.trim_scrape.proofs.OwedLemmas.{Owes, owes_ready, owes_contains}
 use Rattle.trim_scrape.proofs.RunLemmas.{MayRun, run_live}
+use Rattle.trim_scrape.proofs.EndingLemmas.{owes_last}
 use Rattle.safe_turns.specs.UnderWay.{StillComes, Later, IsUnderWay, IsLeftWellSince, Rescued, Untrimmed, Unscraped, Bad}
 use Rattle.safe_turns.specs.EndLaws.{StartIsUnderWay, UnderWayEndsWell, SinceStartIsWell}
 use Rattle.safe_turns.proofs.WayLemmas.{owes_by, comes_by, may_run, run_stays_under_way}
 
-few_passes : (from : Option MapState) → first_pass from ≤ 5
-few_passes None = omega arith
-few_passes (Some state) = omega arith
-
--- copying's last pass begins at its own start, so that each position lies ahead
-last_cursor : (s : Setting) (from : Option MapState) (map : List Status) → first_pass from ≡ 5
-    → first_cursor s from map ≡ start_of s (numbered Copying 5) map
-last_cursor s None map last = absurd (omega (arith, last))
-last_cursor s (Some state) map last =
-    cond-true (nat_eq (min state.pass copying_passes) copying_passes) (start_of s (numbered Copying copying_passes) map)
-    (min state.pos (length map)) (eq-eqb (min state.pass copying_passes) copying_passes last)
-
-left_at_start : (s : Setting) (m : Machine) (p : Pass) (x : ℕ) → pass_of m ≡ p → m.cursor ≡ start_of s p m.map
-    → x < length m.map → is_before m.over x ≡ true → IsLeft s m x
-left_at_start s m p x is starts within before =
-    let at : m.cursor ≡ start_of s (pass_of m) m.map
-    = starts ∙ ap (λ (q : Pass). start_of s q m.map) (sym is) in
-    let up : Bool = is_up s (pass_of m) in
-    record {
-      before = before;
-      ahead = λ off. subst (λ (n : ℕ). LiesAhead up n x) (sym at) (start_by up (length m.map) x within);
-    }
-
-owes_last : (s : Setting) (map : List Status) (from : Option MapState) (shown : MapState) (time x : ℕ) → x < length map
-    → Owes s (machine_of s map from shown time) (numbered Copying 5) x
-owes_last s map from shown time x within =
-    let m : Machine = machine_of s map from shown time in
-    let few : first_pass from ≤ 5 = few_passes from in
-    ⊎_elim (λ (less : first_pass from < 5). OwedLater (has_last s (first_pass from) less))
-    (λ (ge : 5 ≤ first_pass from).
-    let last : first_pass from ≡ 5 = omega (arith, few, ge) in
-    let are : m.passes ≡ numbered Copying 5 ∷ passes_behind s Copying = ap (passes_from s Copying) last in
-    let here : pass_of m ≡ numbered Copying 5
-    = ap (λ (ps : List Pass). slice_index_or ps 0 (numbered Copying 1)) are in
-    OwedNow (passes_behind s Copying) are
-    (left_at_start s m (numbered Copying 5) x here (last_cursor s from map last) within refl))
-    (cases_lt (first_pass from) 5)
-
 -- the passes behind copying come to each
 comes_behind : (s : Setting) (map : List Status) (from : Option MapState) (shown : MapState) (time : ℕ) (p : Pass)
     (x : ℕ) → Contains (passes_behind s Copying) p → StillComes s (machine_of s map from shown time) p x
-comes_behind s map from shown time p x has = Later (behind_contains s (first_pass from) p (few_passes from) has)
+comes_behind s map from shown time p x has = Later (behind_contains s (first_pass from) p (first_few from) has)
 
 pub start_is_under_way : StartIsUnderWay
 start_is_under_way s map from shown time = record {
@@ -82,11 +43,6 @@ start_is_under_way s map from shown time = record {
   trimmed = λ on x live has. comes_behind s map from shown time (numbered Trimming 1) x (has_trimming s on);
   scraped = λ on x live has. comes_behind s map from shown time (numbered Scraping 1) x (has_scraping s on);
 }
-
--- no pass comes to a position where none is left that has a request
-none_owed : (ps : List Pass) (p : Pass) → no_pass_left ps ≡ true → Contains ps p → ⊥
-none_owed [] p none has = omega (arith, has.1)
-none_owed (q ∷ ps) p none has = absurd (cc)
 
 none_comes : (s : Setting) (m : Machine) (p : Pass) (x : ℕ) → MayRun s m → no_pass_left (ready s m).passes ≡ true
     → is_live s m x ≡ true → Has m.map (taken p.phase) x → StillComes s m p x → ⊥

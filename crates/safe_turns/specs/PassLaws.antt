@@ -10,7 +10,7 @@ use Rattle.rescue_rules.specs.Step.{limit_met}
 use Rattle.rescue_core.specs.RunState.{RunState, setting_in, passed}
 use Rattle.rescue_core.specs.Stages.{Reached, Copied, Trimmed, Scraped, Over, Known}
 use Rattle.copy_passes.specs.Turns.{IsAlike}
-use Rattle.copy_passes.specs.Copying.{IsCopying}
+use Rattle.copy_passes.specs.Copying.{MayCopy}
 use Rattle.trim_scrape.specs.Behind.{IsBehind}
 use Rattle.safe_turns.specs.UnderWay.{IsUnderWay}
 
@@ -68,11 +68,11 @@ TypedLeadsBehind = (r : RunState) (phase : Phase) → phase ≢ Retrying → IsS
 abbrev pub UnderWayMayCopy : Type 0
 UnderWayMayCopy = (r : RunState) → IsSensible (setting_in r) → limit_met (setting_in r) r.machine ≡ None
     → r.phase ≡ Copying → r.pass ≤ copying_passes → r.machine.passes ≡ passes_from (setting_in r) Copying r.pass
-    → IsUnderWay (setting_in r) r.machine → IsCopying r
+    → IsUnderWay (setting_in r) r.machine → MayCopy r
 
 -- And each run that copying takes is under way.
 abbrev pub CopyingIsUnderWay : Type 0
-CopyingIsUnderWay = (r : RunState) → IsCopying r → IsUnderWay (setting_in r) r.machine
+CopyingIsUnderWay = (r : RunState) → MayCopy r → IsUnderWay (setting_in r) r.machine
 
 -- So is one that is behind a phase, by what its type knows, and may be handed to the next.
 abbrev pub BehindIsUnderWay : Type 0

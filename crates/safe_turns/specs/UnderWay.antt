@@ -9,7 +9,7 @@ use Rattle.rescue_rules.specs.Machine.{Machine, is_live, search_of, is_ahead}
 use Rattle.rescue_rules.specs.MachineLaws.{IsInOrder}
 use Rattle.rescue_rules.specs.Step.{Event, is_trimming}
 use Rattle.rescue_rules.specs.Moves.{moves, state_after}
-use Rattle.trim_scrape.specs.Endings.{FailedIn}
+use Rattle.trim_scrape.specs.Endings.{FailedInPass}
 
 -- A pass still comes to a position: it is the present one and the position lies ahead (in trimming each does, since that
 -- goes back to the map's start), or it is a later one.
@@ -40,7 +40,7 @@ pub data IsLeftWellSince (s : Setting) (m : Machine) (events : List Event) (x : 
   Untrimmed : s.trims ≡ false → Has (state_after s m events).map NonTrimmed x → IsLeftWellSince s m events x
   Unscraped : s.scrapes ≡ false → Has (state_after s m events).map NonScraped x → IsLeftWellSince s m events x
   Bad : Has (state_after s m events).map BadSector x
-      → ((n : ℕ) → StillComes s m (numbered Retrying n) x → FailedIn (numbered Retrying n) (moves s m events) x)
+      → ((n : ℕ) → StillComes s m (numbered Retrying n) x → FailedInPass (numbered Retrying n) (moves s m events) x)
       → IsLeftWellSince s m events x
 
 -- each position is left so that is still in the domain

@@ -6,7 +6,7 @@ use Rattle.mapfile_text.specs.declared.read.ReadMap.{ReadMap}
 use Rattle.mapfile_text.specs.declared.read.MapError.{MapError}
 use Rattle.mapfile_text.specs.declared.read.MapError.TheVariants.{NoStatusLine, TooLong}
 use Rattle.mapfile_text.specs.MapText.{text_limit}
-use Rattle.mapfile_text.specs.Lines.{Line, said}
+use Rattle.mapfile_text.specs.Lines.{Line, said_lines}
 use Rattle.mapfile_text.specs.MapText.{IsMapText, MapFault, Blank}
 use Rattle.mapfile_text.proofs.OneReading.{has_one_reading}
 use Rattle.mapfile_text.proofs.OneFault.{map_has_no_fault, has_one_fault}
@@ -94,7 +94,7 @@ has_answer (Some f) mode =
           let other : TooLong ≢ NoStatusLine = λ e. cc in
           inr (inr (TooLong, other, record { there = f; is = refl; why = inl (refl, long) }))
       | inr short ↦
-          elim (blank_or_not (said f.bytes)) [
+          elim (blank_or_not (said_lines f.bytes)) [
             | inl blank ↦ inl (Silent f refl short blank)
             | inr says ↦
                 elim (is_map_or_has_fault f.bytes mode) [

@@ -15,7 +15,7 @@ use Rattle.crash_site.specs.Calls.{Entry, Done, Made, Lost, map_read}
 use Rattle.crash_site.specs.Folder.{Folder, after}
 use Rattle.save_resume.specs.declared.load.ResumeFault.{ResumeFault}
 use Rattle.save_resume.specs.declared.load.ResumeFault.TheVariants.{Site, Map as Refused, NoMemory}
-use Rattle.save_resume.specs.Loading.{piece_size, piece_reads, load_reads, IsPiece, BeginsLoad, EndsLoad}
+use Rattle.save_resume.specs.Loading.{piece_size, piece_reads, load_reads, IsReadSize, BeginsLoad, EndsLoad}
 use Rattle.save_resume.specs.Resuming.{LoadEnded, BrokeInLoad}
 use Rattle.save_resume.specs.Text.{IsTextOf, TextStop}
 use Rattle.crash_site.proofs.LawLemmas.{after-append}
@@ -24,7 +24,7 @@ use Rattle.save_resume.proofs.CallLemmas.{made_more, broke_back}
 -- the text is a file's beginning, read in pieces
 pub record Pieces (name : List ℕ) (file : Option File) (text : List ℕ) (calls calls' : List Entry) : Type 0 where
   pub given : List ℕ
-  pub pieces : All IsPiece given
+  pub pieces : All IsReadSize given
   pub counted : sum given ≡ length text
   pub within : length text ≤ length (bytes_of file)
   pub limited : length text ≤ text_limit
@@ -122,7 +122,7 @@ all_text name (Some f) text calls calls' pos buf n p at r nothing = record {
 }
 
 -- one piece by itself
-one_piece : (n : ℕ) → 0 < n → n ≤ piece_size → All IsPiece (n ∷ [])
+one_piece : (n : ℕ) → 0 < n → n ≤ piece_size → All IsReadSize (n ∷ [])
 one_piece n some few zero d h = (some, few)
 one_piece n some few (suc k) d h = absurd (omega arith)
 
@@ -151,7 +151,7 @@ more_pieces name (Some f) text text' calls calls' calls'' pos asked buf n p at s
     in
     record {
       given = p.given ++ n ∷ [];
-      pieces = All-append IsPiece p.given (n ∷ []) p.pieces (one_piece n some (rw (← size) few));
+      pieces = All-append IsReadSize p.given (n ∷ []) p.pieces (one_piece n some (rw (← size) few));
       counted = omega (arith, sum_by-append (λ x. x) p.given (n ∷ []), p.counted, long);
       within = omega arith;
       limited = short;

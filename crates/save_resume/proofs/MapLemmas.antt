@@ -10,7 +10,7 @@ use Rattle.mapfile_text.specs.declared.read.MapError.{MapError}
 use Rattle.mapfile_text.specs.declared.read.MapError.TheVariants.{NoStatusLine, BadStatusLine, BadBlockLine, Gap, Overlap, TooLarge}
 use Rattle.mapfile_text.specs.declared.read.ReadMap.{ReadMap}
 use Rattle.mapfile_text.specs.Fields.{numeral, begins_with_digit, above_zero, pass_of, current_of_field, state_by, state_of}
-use Rattle.mapfile_text.specs.Lines.{Line, said}
+use Rattle.mapfile_text.specs.Lines.{Line, said_lines}
 use Rattle.mapfile_text.specs.MapText.{IsMapText, AreMapLines, MapFault, Blank, StateFault, BlockFault, PlaceFault, ContinuesFault, ListsFault, MapLinesFault}
 use Rattle.save_resume.specs.Resuming.{IsWithinLimits}
 
@@ -66,7 +66,7 @@ lines_within mode (l ∷ ls) state first listed statuses m = (m.0.pos, state_abo
 -- the state of a map that was read
 pub within_limits : (text : List ℕ) (mode : Mode) (m : ReadMap) → IsMapText text mode m.state m.first m.listed m.tiles.statuses → IsWithinLimits m
 within_limits text mode m is =
-    let known = lines_within mode (said text) m.state m.first m.listed m.tiles.statuses is.reads in
+    let known = lines_within mode (said_lines text) m.state m.first m.listed m.tiles.statuses is.reads in
     record { pos = known.0; pass = known.1 }
 
 -- an error that names a line is none of want of a status line
@@ -115,7 +115,7 @@ no_lines mode (l ∷ ls) f = absurd (lines_said mode l ls NoStatusLine f refl)
 
 -- a text without a status line says nothing
 pub fault_is_blank : (text : List ℕ) (mode : Mode) → MapFault text mode NoStatusLine → Blank text
-fault_is_blank text mode f = no_lines mode (said text) f.breaks
+fault_is_blank text mode f = no_lines mode (said_lines text) f.breaks
 
 -- and one that says nothing has no status line
 blank_lines : (mode : Mode) (ls : List Line) → ls ≡ [] → MapLinesFault mode ls NoStatusLine
@@ -123,7 +123,7 @@ blank_lines mode [] is = refl
 blank_lines mode (l ∷ ls) is = absurd (cc)
 
 pub blank_fault : (text : List ℕ) (mode : Mode) → Blank text → MapFault text mode NoStatusLine
-blank_fault text mode blank = record { breaks = blank_lines mode (said text) blank }
+blank_fault text mode blank = record { breaks = blank_lines mode (said_lines text) blank }
 
 -- a map says something
 some_lines : (mode : Mode) (ls : List Line) (state : MapState) (first : ℕ) (listed : Bool) (statuses : List Status)
@@ -133,4 +133,4 @@ some_lines mode (l ∷ ls) state first listed statuses m e = cc
 
 pub map_is_not_blank : (text : List ℕ) (mode : Mode) (state : MapState) (first : ℕ) (listed : Bool) (statuses : List Status)
     → IsMapText text mode state first listed statuses → Blank text → ⊥
-map_is_not_blank text mode state first listed statuses m e = some_lines mode (said text) state first listed statuses m.reads e
+map_is_not_blank text mode state first listed statuses m e = some_lines mode (said_lines text) state first listed statuses m.reads e

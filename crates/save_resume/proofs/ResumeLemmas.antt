@@ -15,7 +15,7 @@ use Rattle.save_resume.specs.declared.load.ResumeFault.{ResumeFault}
 use Rattle.save_resume.specs.declared.load.ResumeFault.TheVariants.{Site, Map as Refused, NoMemory}
 use Rattle.save_resume.specs.MapNames.{MapNames}
 use Rattle.save_resume.specs.SaveStops.{disk_of}
-use Rattle.save_resume.specs.Resuming.{IsRefusedFor, IsLikeNone, NoFile, Silent, LoadEnded, Loads, refused_as, resumed_of, barrier_calls, Resumes, NothingPending, SettlesAll, IsOfFile, ReadsAs, ResumesAs}
+use Rattle.save_resume.specs.Resuming.{IsRefusedFor, IsLikeNone, NoFile, Silent, LoadEnded, LoadAnswers, refused_as, resumed_of, barrier_calls, Resumes, NothingPending, SettlesAll, IsOfFile, ReadsAs, ResumesAs}
 use Rattle.save_resume.proofs.CallLemmas.{made_more, broke_back}
 use Rattle.save_resume.proofs.MapLemmas.{fault_is_blank}
 use Rattle.save_resume.proofs.BarrierLemmas.{idle_load, made_idle, broke_idle, nothing_pending, barrier_reads}
@@ -46,7 +46,7 @@ resumes_refused names file TooLong calls mid calls' made r = (r.0, λ is. cc, lo
 resumes_refused names file OutOfMemory calls mid calls' made r = (r.0, λ is. cc, load_behind_barrier names file calls mid calls' made r.1)
 
 load_resumes : (names : MapNames) (file : Option File) (read : Result (Option ReadMap) ResumeFault) (calls mid calls' : List Entry)
-    → Made (barrier_calls names) calls mid → Loads names.map Tight file read mid calls' → Resumes names file (resumed_of read) calls calls'
+    → Made (barrier_calls names) calls mid → LoadAnswers names.map Tight file read mid calls' → Resumes names file (resumed_of read) calls calls'
 load_resumes names file (Ok None) calls mid calls' made l = (NoFile l.0, load_behind_barrier names file calls mid calls' made l.1)
 load_resumes names file (Ok (Some m)) calls mid calls' made l = (l.0, load_behind_barrier names file calls mid calls' made l.1)
 load_resumes names file (Err (Site call)) calls mid calls' made l =
@@ -56,16 +56,16 @@ load_resumes names file (Err NoMemory) calls mid calls' made l = (l.0, l.1, made
 
 -- what is told of a resume
 pub resumed_told : (names : MapNames) (read : Result (Option ReadMap) ResumeFault) (old mid new : SiteState) → IsTrue old.tells → Keeps old mid
-    → Makes (barrier_calls names) old mid → (IsTrue mid.tells → Loads names.map Tight (files_in mid names.map) read mid.calls new.calls)
+    → Makes (barrier_calls names) old mid → (IsTrue mid.tells → LoadAnswers names.map Tight (files_in mid names.map) read mid.calls new.calls)
     → Resumes names (files_in old names.map) (resumed_of read) old.calls new.calls
 resumed_told names read old mid new tells keeps made l =
     let reads : files_in mid names.map ≡ files_in old names.map = ap (λ f. f names.map) (barrier_reads names old mid tells keeps made) in
     load_resumes names (files_in old names.map) read old.calls mid.calls new.calls (made.made tells)
-    (subst (λ file. Loads names.map Tight file read mid.calls new.calls) reads (l (rw keeps.tells tells)))
+    (subst (λ file. LoadAnswers names.map Tight file read mid.calls new.calls) reads (l (rw keeps.tells tells)))
 
 -- a load leaves the disk
 load_idle : (name : List ℕ) (mode : Mode) (file : Option File) (read : Result (Option ReadMap) ResumeFault) (mid new : SiteState)
-    → Loads name mode file read mid.calls new.calls → disk_after (at_rest mid.start) new.calls ≡ disk_after (at_rest mid.start) mid.calls
+    → LoadAnswers name mode file read mid.calls new.calls → disk_after (at_rest mid.start) new.calls ≡ disk_after (at_rest mid.start) mid.calls
 load_idle name mode file (Ok None) mid new l =
     made_idle (at_rest mid.start) l.1.0 mid.calls new.calls (idle_load name file l.1.0 l.1.1.begins) l.1.2
 load_idle name mode file (Ok (Some m)) mid new l =
@@ -100,7 +100,7 @@ answer_settles names (Err NoMemory) old new h = h
 -- nothing is pending behind a resume
 pub resumed_settled : (names : MapNames) (read : Result (Option ReadMap) ResumeFault) (old mid new : SiteState) → IsTrue old.tells → Keeps old mid
     → Keeps mid new → Makes (barrier_calls names) old mid
-    → (IsTrue mid.tells → Loads names.map Tight (files_in mid names.map) read mid.calls new.calls)
+    → (IsTrue mid.tells → LoadAnswers names.map Tight (files_in mid names.map) read mid.calls new.calls)
     → SettlesAll names (resumed_of read) old new
 resumed_settled names read old mid new tells keeps keeps' made l =
     answer_settles names read old new

@@ -21,14 +21,14 @@ abbrev pub load_reads : (name : List ℕ) → (given : List ℕ) → (answer : O
 load_reads name given answer = piece_reads name 0 given ++ map_read name (sum given) piece_size answer ∷ []
 
 -- how many bytes a read that finds some may give
-abbrev pub IsPiece : ℕ → Type 0
-IsPiece n = (0 < n) × (n ≤ piece_size)
+abbrev pub IsReadSize : ℕ → Type 0
+IsReadSize n = (0 < n) × (n ≤ piece_size)
 
 -- the first reads of a file; the last of them may have failed, and then has no answer
 pub record BeginsLoad (name : List ℕ) (file : Option File) (calls : List Call) : Type 0 where
   pub given : List ℕ
   pub answer : Option MapRead
-  pub pieces : All IsPiece given
+  pub pieces : All IsReadSize given
   pub within : sum given ≤ length (bytes_of file)
   pub limited : sum given ≤ text_limit
   pub calls_are : calls ≡ load_reads name given answer
@@ -39,7 +39,7 @@ EndsLoad file taken None = ⊥
 EndsLoad file taken (Some Absent) = file ≡ None
 EndsLoad file taken (Some (Bytes n)) =
     ((n ≡ 0) × (taken ≡ length (bytes_of file)))
-    ⊎ (IsPiece n × (text_limit < taken + n) × (taken + n ≤ length (bytes_of file)))
+    ⊎ (IsReadSize n × (text_limit < taken + n) × (taken + n ≤ length (bytes_of file)))
 
 -- all reads of a file, up to the one that ends the load
 pub record IsLoad (name : List ℕ) (file : Option File) (calls : List Call) : Type 0 where

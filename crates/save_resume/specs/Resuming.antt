@@ -56,12 +56,12 @@ BrokeInLoad before name file calls calls' =
     (load : List Call) × BeginsLoad name file load × BrokeAt MapRead (before ++ load) calls calls'
 
 -- What a load answers of a file, and its calls.
-abbrev pub Loads : List ℕ → Mode → Option File → Result (Option ReadMap) ResumeFault → List Entry → List Entry → Type 0
-Loads name mode file (Ok None) calls calls' = (file ≡ None) × LoadEnded [] name file calls calls'
-Loads name mode file (Ok (Some m)) calls calls' = IsReadAs file mode m × LoadEnded [] name file calls calls'
-Loads name mode file (Err (Site call)) calls calls' = (call ≡ MapRead) × BrokeInLoad [] name file calls calls'
-Loads name mode file (Err (Refused e)) calls calls' = IsRefusedFor file mode e × LoadEnded [] name file calls calls'
-Loads name mode file (Err NoMemory) calls calls' = StarvedInLoad [] name file calls calls'
+abbrev pub LoadAnswers : List ℕ → Mode → Option File → Result (Option ReadMap) ResumeFault → List Entry → List Entry → Type 0
+LoadAnswers name mode file (Ok None) calls calls' = (file ≡ None) × LoadEnded [] name file calls calls'
+LoadAnswers name mode file (Ok (Some m)) calls calls' = IsReadAs file mode m × LoadEnded [] name file calls calls'
+LoadAnswers name mode file (Err (Site call)) calls calls' = (call ≡ MapRead) × BrokeInLoad [] name file calls calls'
+LoadAnswers name mode file (Err (Refused e)) calls calls' = IsRefusedFor file mode e × LoadEnded [] name file calls calls'
+LoadAnswers name mode file (Err NoMemory) calls calls' = StarvedInLoad [] name file calls calls'
 
 -- The barrier: the mapfile is settled and the image synced, so that nothing of an earlier run is pending.
 abbrev pub barrier_calls : MapNames → List Call
@@ -109,9 +109,9 @@ FaultCounts (Refused e) faults faults' = (faults' ≡ faults) × (e ≢ OutOfMem
 FaultCounts NoMemory faults faults' = faults' ≡ faults
 
 -- the same by what was answered
-abbrev pub Counts : {T : Type 0} → Result T ResumeFault → (faults faults' : ℕ) → Type 0
-Counts (Ok x) faults faults' = faults' ≡ faults
-Counts (Err e) faults faults' = FaultCounts e faults faults'
+abbrev pub CountsFaults : {T : Type 0} → Result T ResumeFault → (faults faults' : ℕ) → Type 0
+CountsFaults (Ok x) faults faults' = faults' ≡ faults
+CountsFaults (Err e) faults faults' = FaultCounts e faults faults'
 
 -- a state that was read is within the limits
 pub record IsWithinLimits (m : ReadMap) : Type 0 where

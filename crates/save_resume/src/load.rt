@@ -6,7 +6,7 @@ ghost use Rattle.mapfile_text.specs.declared.read.MapError.{MapError as Error};
 ghost use Rattle.mapfile_text.specs.declared.read.MapError.TheVariants.{TooLong as LongText};
 ghost use Rattle.crash_site.specs.SiteState.{files_in, Stays};
 ghost use Rattle.save_resume.specs.declared.load.ResumeFault.TheVariants.{Map as Refused, NoMemory as OutOfMemory};
-ghost use Rattle.save_resume.specs.Resuming.{LoadEnded, Loads, Counts, IsOfFile, ReadsAs, IsWithinLimits};
+ghost use Rattle.save_resume.specs.Resuming.{LoadEnded, LoadAnswers, CountsFaults, IsOfFile, ReadsAs, IsWithinLimits};
 ghost use Rattle.save_resume.specs.Text.{IsTextOf, TextStop, NoMapIn};
 
 use crash_site::site::{MapRead, Site, SiteCall};
@@ -59,7 +59,7 @@ fn read_text<D: Site>(
     ensures stop { IfErr result (λ e. IsTrue (D.state site.old).tells
         → TextStop name.now (files_in (D.state site.old) name.now) e
         (D.state site.old).calls (D.state site.new).calls) }
-    ensures counts { Counts result (D.state site.old).faults (D.state site.new).faults }
+    ensures counts { CountsFaults result (D.state site.old).faults (D.state site.new).faults }
     ensures stays { Stays (D.state site.old) (D.state site.new) }
 {
     let mut text = Vec::new(alloc);
@@ -98,10 +98,10 @@ pub fn load_map<D: Site>(
     name: &str,
     mode: Mode,
 ) -> Result<Option<ReadMap>, ResumeFault>
-    ensures told { IsTrue (D.state site.old).tells → Loads name.now mode (files_in (D.state site.old) name.now) result
+    ensures told { IsTrue (D.state site.old).tells → LoadAnswers name.now mode (files_in (D.state site.old) name.now) result
         (D.state site.old).calls (D.state site.new).calls }
     ensures read { IsOfFile (files_in (D.state site.old) name.now) (D.state site.old).tells (ReadsAs mode result) }
-    ensures counts { Counts result (D.state site.old).faults (D.state site.new).faults }
+    ensures counts { CountsFaults result (D.state site.old).faults (D.state site.new).faults }
     ensures limits { IfOk result (λ found. IfSome found IsWithinLimits) }
     ensures stays { Stays (D.state site.old) (D.state site.new) }
 {

@@ -3,7 +3,7 @@ ghost use Rattle.std.specs.Prelude.{◌≡◌, ◌≢◌, IsTrue, OnOk, IfErr};
 ghost use Rattle.mapfile_text.specs.declared.read.MapError.TheVariants.{NoStatusLine as Nothing};
 ghost use Rattle.crash_site.specs.SiteState.{files_in, Makes, Breaks, Stays};
 ghost use Rattle.save_resume.specs.declared.load.ResumeFault.TheVariants.{Map as Refused};
-ghost use Rattle.save_resume.specs.Resuming.{barrier_calls, IsResumeCall, resumed_of, IsOfFile, ResumesAs, Resumes, Counts, SettlesAll, ResumedWithinLimits};
+ghost use Rattle.save_resume.specs.Resuming.{barrier_calls, IsResumeCall, resumed_of, IsOfFile, ResumesAs, Resumes, CountsFaults, SettlesAll, ResumedWithinLimits};
 
 use crate::load::{ResumeFault, load_map};
 use crate::names::Names;
@@ -56,7 +56,7 @@ pub fn resume<D: Site>(alloc: Global, site: &mut D, names: &Names) -> Result<Res
     ensures read { IsOfFile (files_in (D.state site.old) names.now.map) (D.state site.old).tells (ResumesAs result) }
     ensures settled { IsTrue (D.state site.old).tells
         → SettlesAll names.now result (D.state site.old) (D.state site.new) }
-    ensures counts { Counts result (D.state site.old).faults (D.state site.new).faults }
+    ensures counts { CountsFaults result (D.state site.old).faults (D.state site.new).faults }
     ensures says { IfErr result (λ e. e ≢ Refused Nothing) }
     ensures limits { ResumedWithinLimits result }
     ensures stays { Stays (D.state site.old) (D.state site.new) }

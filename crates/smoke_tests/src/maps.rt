@@ -1,7 +1,7 @@
 //! A map in pages, beside a plain list.
 ghost use Rattle.std.specs.Prelude.{◌≡◌, ◌<◌, ◌^◌};
 
-use block_list::block::{Block, Run};
+use block_list::block::{Block, Range};
 use block_list::near::Near;
 use block_list::plain_tiles::PlainTiles;
 use block_list::status::Status;
@@ -34,7 +34,7 @@ fn in_turn(alloc: Global, blocks: u64) -> Result<PlainTiles, Fail> {
 }
 
 /// A search whose steps are counted by a ledger that nobody reads.
-fn find_counted<L: Ledger>(tiles: &PagedTiles, status: Status, blank: Blank) -> Option<Run>
+fn find_counted<L: Ledger>(tiles: &PagedTiles, status: Status, blank: Blank) -> Option<Range>
     requires name { blank.name ≡ L.name }
     requires parts { blank.parts ≡ L.parts }
     requires one { 0 < blank.parts }
@@ -83,7 +83,7 @@ fn is_found(tiles: &PagedTiles, number: u64) -> bool
     requires { number < 2 ^ 32 }
 {
     let pos = 512 * number;
-    let run = Run {
+    let run = Range {
         from: pos,
         to: pos + 512,
     };

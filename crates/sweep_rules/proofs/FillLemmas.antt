@@ -16,7 +16,7 @@ use Rattle.rescue_rules.proofs.WriteLemmas.{written_inside, written_outside}
 use Rattle.rescue_rules.proofs.MarkLemmas.{slice_get-take}
 use Rattle.rescue_rules.proofs.HoldLemmas.{loose_same}
 use Rattle.rescue_rules.proofs.KeepLemmas.{SavesOn, KeepsMaps, Promise, Free}
-use Rattle.sweep_rules.specs.Sweep.{Sweeper, Sweep, Swept, IsSweep, filler, swept, swept_by, is_save_due, sweep_snapshot, deeds_of}
+use Rattle.sweep_rules.specs.Sweep.{Sweeper, Sweep, Swept, IsSweep, filler, behind_piece, behind_pieces, is_save_due, sweep_snapshot, deeds_of}
 use Rattle.sweep_rules.specs.SweepWork.{sweep_begins}
 use Rattle.sweep_rules.specs.SweepStops.{pieces_before, AreFilled, FillPromise, sweep_saves, FillsSafely}
 use Rattle.sweep_rules.proofs.SweepLemmas.{Within, piece_within}
@@ -41,8 +41,8 @@ before_all : (P : Swept → Type 0) (w : Sweeper) (es : List Swept) (m : Sweep) 
 before_all P w [] m n all = All-nil P
 before_all P w (e ∷ es) m zero all = All-nil P
 before_all P w (e ∷ es) m (suc n) all =
-    All-cons P e (pieces_before w (swept w m e) es (if is_save_due m e then n else suc n)) (All-head P e es all)
-    (before_all P w es (swept w m e) (if is_save_due m e then n else suc n) (All-tail P e es all))
+    All-cons P e (pieces_before w (behind_piece w m e) es (if is_save_due m e then n else suc n)) (All-head P e es all)
+    (before_all P w es (behind_piece w m e) (if is_save_due m e then n else suc n) (All-tail P e es all))
 
 -- what was filled outlasts writes elsewhere
 filled_outlasts : (s : Setting) (buffer : List ℕ) (before : List Swept) (was now : File) (loose : List (ℕ × ℕ))
@@ -119,7 +119,7 @@ module _ (s : Setting) (types : TypeSet) (buffer : List ℕ) (ok : IsSensible s)
   pieces_few m (e ∷ es) sweep =
       All-cons (λ (e : Swept). e.len ≤ length buffer) e es
       (piece_few m e.pos e.len (piece_within s (filler s types buffer) m e.pos (e.pos + e.len) sweep.0))
-      (pieces_few (swept (filler s types buffer) m e) es sweep.2)
+      (pieces_few (behind_piece (filler s types buffer) m e) es sweep.2)
 
   module _ (began : List Status) (pieces : ℕ → List Swept) where
     abbrev Filling : ℕ → List Status → List ℕ → Type 0
@@ -173,17 +173,17 @@ module _ (s : Setting) (types : TypeSet) (buffer : List ℕ) (ok : IsSensible s)
         )
 
     fill_due : (due : Bool) (done : List Swept) (n : ℕ) (map : List Status) (m : Sweep) (e : Swept) (es : List Swept)
-        (image : List ℕ) → is_save_due m e ≡ due → (swept (filler s types buffer) m e).map ≡ began
+        (image : List ℕ) → is_save_due m e ≡ due → (behind_piece (filler s types buffer) m e).map ≡ began
         → All (IsBelow (e.pos + e.len)) (done ++ e ∷ []) → All (IsBelow (e.pos + e.len)) (pieces n)
         → AreFilled s buffer (done ++ e ∷ []) image
         → ((k j : ℕ) → k ≡ n + suc j → pieces k ≡ done ++ pieces_before (filler s types buffer) m (e ∷ es) (suc j))
         → (next : ℕ → List Status → Type 0)
-        → ((k : ℕ) (t : List Status) → Filled (done ++ e ∷ []) k (swept (filler s types buffer) m e) es image → next k t)
+        → ((k : ℕ) (t : List Status) → Filled (done ++ e ∷ []) k (behind_piece (filler s types buffer) m e) es image → next k t)
         → SavesOn Filling Open n map image
-        (if due then Some (sweep_snapshot (swept (filler s types buffer) m e)) else None) next
+        (if due then Some (sweep_snapshot (behind_piece (filler s types buffer) m e)) else None) next
     fill_due true done n map m e es image is kept low saved holds goes next go =
         let w : Sweeper = filler s types buffer in
-        let m' : Sweep = swept w m e in
+        let m' : Sweep = behind_piece w m e in
         let later : (k j : ℕ) → k ≡ n + suc j → pieces k ≡ (done ++ e ∷ []) ++ pieces_before w m' es j
         = λ k j at. goes k j at
         ∙ ap (λ (b : Bool). done ++ e ∷ pieces_before w m' es (if b then j else suc j)) is
@@ -202,7 +202,7 @@ module _ (s : Setting) (types : TypeSet) (buffer : List ℕ) (ok : IsSensible s)
         )
     fill_due false done n map m e es image is kept low saved holds goes next go =
         let w : Sweeper = filler s types buffer in
-        let m' : Sweep = swept w m e in
+        let m' : Sweep = behind_piece w m e in
         go n map (record {
           kept = kept;
           low = low;
@@ -215,13 +215,13 @@ module _ (s : Setting) (types : TypeSet) (buffer : List ℕ) (ok : IsSensible s)
 
     fill_keeps : (es : List Swept) (done : List Swept) (n : ℕ) (map : List Status) (m : Sweep) (image : List ℕ)
         (tail : List Deed) (last : Snapshot) → IsSweep s (filler s types buffer) m es → Filled done n m es image
-        → IsTail s (filler s types buffer) (swept_by (filler s types buffer) m es) tail
-        → last.map ≡ (swept_by (filler s types buffer) m es).map
+        → IsTail s (filler s types buffer) (behind_pieces (filler s types buffer) m es) tail
+        → last.map ≡ (behind_pieces (filler s types buffer) m es).map
         → KeepsMaps Filling Open n map image (deeds_of (filler s types buffer) m es ++ tail) last
     fill_keeps [] done n map m image tail last sweep h is_tail same = fill_tail done n map m image tail last h is_tail same
     fill_keeps (e ∷ es) done n map m image tail last sweep h is_tail same =
         let w : Sweeper = filler s types buffer in
-        let m' : Sweep = swept w m e in
+        let m' : Sweep = behind_piece w m e in
         let in_it : Within s m e.pos (e.pos + e.len) = piece_within s w m e.pos (e.pos + e.len) sweep.0 in
         let few : e.len ≤ length buffer = piece_few m e.pos e.len in_it in
         let on : m.cursor ≤ e.pos + e.len = omega (arith, in_it.behind) in
@@ -258,7 +258,7 @@ fills_safely b s types buffer g statuses state ok on three low times size o =
     (record {
       deeds = deeds_of w m es ++ t.tail;
       last = last;
-      saves_are = saves_tailed s w (swept_by w m es) (deeds_of w m es) t.tail last t.is_tail;
+      saves_are = saves_tailed s w (behind_pieces w m es) (deeds_of w m es) t.tail last t.is_tail;
       outlasts = fill_outlasts s types buffer ok size statuses pieces (sweep_saves w statuses state g es o.end) old
           (λ n. before_all (λ (e : Swept). e.len ≤ length buffer) w es m n
           (pieces_few s types buffer ok size m es o.sweeps.run));
@@ -275,6 +275,6 @@ fills_safely b s types buffer g statuses state ok on three low times size o =
             holds = nothing;
             goes = λ k j at. ap pieces (let e : k ≡ suc j = omega (arith, at) in e);
           })
-          t.is_tail (end_map _ (swept_by w m es));
+          t.is_tail (end_map _ (behind_pieces w m es));
       course = course b s w g statuses state on o;
     })

@@ -8,7 +8,7 @@ use Rattle.std.proofs.lemmas.Option.{slice_get-get_or, slice_get_within}
 use Rattle.block_list.specs.declared.status.Status.{Status}
 use Rattle.block_list.specs.declared.status.Status.TheVariants.{Finished}
 use Rattle.block_list.specs.Map.{Has}
-use Rattle.block_list.specs.Places.{IsFirst, IsRunUp}
+use Rattle.block_list.specs.Places.{IsFirst, IsRangeUp}
 use Rattle.block_list.proofs.HeldLemmas.{slice_get-drop}
 use Rattle.faulty_source.specs.Journal.{floor}
 use Rattle.rescue_rules.specs.Counts.{passes}
@@ -16,7 +16,7 @@ use Rattle.rescue_rules.specs.Preparation.{changed_from, if_asked}
 use Rattle.rescue_rules.specs.Machine.{cut_end}
 use Rattle.rescue_rules.specs.Setting.{Setting, place}
 use Rattle.rescue_rules.proofs.MarkLemmas.{slice_get-take}
-use Rattle.sweep_rules.specs.Sweep.{Sweeper, Sweep, Swept, IsTaken, IsPiece, sweep_search, filler, generator, swept, is_generated, is_there, part_of}
+use Rattle.sweep_rules.specs.Sweep.{Sweeper, Sweep, Swept, IsTaken, IsPiece, sweep_search, filler, generator, behind_piece, is_generated, is_there, part_of}
 use Rattle.sweep_rules.specs.SweepLaws.{PieceIsOne, GeneratesWhatIsHeld, FilledMapStands}
 
 -- a position that a change finishes, or that was finished
@@ -60,7 +60,7 @@ generated_there s image e x given is =
 
 -- so what is finished behind a piece was finished, or has a byte there
 pub swept_held : (s : Setting) (image : List ℕ) (m : Sweep) (e : Swept) (x : ℕ)
-    → e.got ≡ take e.len (drop (place s e.pos) image) → Has (swept (generator s) m e).map Finished x
+    → e.got ≡ take e.len (drop (place s e.pos) image) → Has (behind_piece (generator s) m e).map Finished x
     → Has m.map Finished x ⊎ ((b : ℕ) × (slice_get image (place s x) ≡ Some b))
 swept_held s image m e x given is =
     ⊎_elim (λ (t : is_generated s e (0 + x) ≡ true).
@@ -73,31 +73,31 @@ pub generates_what_is_held : GeneratesWhatIsHeld
 generates_what_is_held s image m [] all x is = inl is
 generates_what_is_held s image m (e ∷ es) all x is =
     ⊎_elim
-    (λ (was : Has (swept (generator s) m e).map Finished x). swept_held s image m e x
+    (λ (was : Has (behind_piece (generator s) m e).map Finished x). swept_held s image m e x
     (All-head (λ e. e.got ≡ take e.len (drop (place s e.pos) image)) e es all) was)
     (λ (there : (b : ℕ) × (slice_get image (place s x) ≡ Some b)). inr there)
-    (generates_what_is_held s image (swept (generator s) m e) es
+    (generates_what_is_held s image (behind_piece (generator s) m e) es
     (All-tail (λ e. e.got ≡ take e.len (drop (place s e.pos) image)) e es all) x is)
 
 pub filled_map_stands : FilledMapStands
 filled_map_stands s types buffer m [] = refl
-filled_map_stands s types buffer m (e ∷ es) = filled_map_stands s types buffer (swept (filler s types buffer) m e) es
+filled_map_stands s types buffer m (e ∷ es) = filled_map_stands s types buffer (behind_piece (filler s types buffer) m e) es
 
 first_one : (P : ℕ → Type 0) (from p p' : ℕ) → IsFirst P from p → IsFirst P from p' → p ≡ p'
 first_one P from p p' a b = omega (arith, a.least p' b.after b.holds, b.least p a.after a.holds)
 
-no_less : (P : ℕ → Type 0) (p e e' : ℕ) → IsRunUp P p e → IsRunUp P p e' → e' ≤ e
+no_less : (P : ℕ → Type 0) (p e e' : ℕ) → IsRangeUp P p e → IsRangeUp P p e' → e' ≤ e
 no_less P p e e' a b =
     ⊎_elim (λ (lt : e < e'). absurd (a.stops (b.within e (omega (arith, a.begun)) lt))) (λ (le : e' ≤ e). le) (cases_lt e e')
 
-ends_one : (P : ℕ → Type 0) (p e e' : ℕ) → IsRunUp P p e → IsRunUp P p e' → e ≡ e'
+ends_one : (P : ℕ → Type 0) (p e e' : ℕ) → IsRangeUp P p e → IsRangeUp P p e' → e ≡ e'
 ends_one P p e e' a b = omega (arith, no_less P p e e' a b, no_less P p e' e b a)
 
 pub piece_is_one : PieceIsOne
 piece_is_one s w m p q p' q' a b =
-    let start : p ≡ p' = first_one (IsTaken s w m) m.cursor p p' a.run.0 b.run.0 in
-    let run : IsRunUp (IsTaken s w m) p b.end = subst (λ (x : ℕ). IsRunUp (IsTaken s w m) x b.end) (sym start) b.run.1 in
-    let end : a.end ≡ b.end = ends_one (IsTaken s w m) p a.end b.end a.run.1 run in (
+    let start : p ≡ p' = first_one (IsTaken s w m) m.cursor p p' a.range.0 b.range.0 in
+    let range : IsRangeUp (IsTaken s w m) p b.end = subst (λ (x : ℕ). IsRangeUp (IsTaken s w m) x b.end) (sym start) b.range.1 in
+    let end : a.end ≡ b.end = ends_one (IsTaken s w m) p a.end b.end a.range.1 range in (
       start,
       a.ends ∙ ap (λ (e : ℕ). cut_end (sweep_search s m) s.sector p e) end
           ∙ ap (λ (x : ℕ). cut_end (sweep_search s m) s.sector x b.end) start ∙ sym b.ends,
@@ -129,10 +129,10 @@ floor_below sector n = omega (arith, div-mul-le_self n sector)
 pub piece_within : (s : Setting) (w : Sweeper) (m : Sweep) (p q : ℕ) → IsPiece s w m p q → Within s m p q
 piece_within s w m p q h =
     let last : IsTaken s w m (h.end - 1)
-    = h.run.1.within (h.end - 1) (omega (arith, h.run.1.begun)) (omega (arith, h.run.1.begun)) in
+    = h.range.1.within (h.end - 1) (omega (arith, h.range.1.begun)) (omega (arith, h.range.1.begun)) in
     record {
-      behind = h.run.0.after;
-      inside = omega (arith, h.ends, h.run.1.begun, taken_within s w m (h.end - 1) last);
+      behind = h.range.0.after;
+      inside = omega (arith, h.ends, h.range.1.begun, taken_within s w m (h.end - 1) last);
       few = omega (arith, h.ends, floor_below s.sector (p + s.cluster));
-      some = taken_domain s w m p h.run.0.holds;
+      some = taken_domain s w m p h.range.0.holds;
     }

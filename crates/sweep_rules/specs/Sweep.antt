@@ -15,7 +15,7 @@ use Rattle.crash_site.specs.Calls.{Call, image_read, image_write}
 use Rattle.rescue_rules.specs.declared.report.Said.{Said}
 use Rattle.rescue_rules.specs.Setting.{Setting, place}
 use Rattle.rescue_rules.specs.Counts.{passing}
-use Rattle.rescue_rules.specs.Machine.{IsNextRun, cut_end, Search}
+use Rattle.rescue_rules.specs.Machine.{IsNextRange, cut_end, Search}
 use Rattle.rescue_rules.specs.Step.{save_interval}
 use Rattle.rescue_rules.specs.Preparation.{changed_from}
 use Rattle.rescue_rules.specs.Beginning.{shown_at_first}
@@ -125,14 +125,14 @@ sweep_over w map state time = record {
 abbrev pub IsTaken : Setting → Sweeper → Sweep → ℕ → Type 0
 IsTaken s w m x = passing w.takes s.domain m.map x ≡ true
 
--- its next piece, from p up to q: the front of the next run of such positions, at most a cluster, up to a sector's
+-- its next piece, from p up to q: the front of the next range of such positions, at most a cluster, up to a sector's
 -- boundary (the same cut as copying's, upwards)
 abbrev pub sweep_search : Setting → Sweep → Search
 sweep_search s m = record { up = true; from = m.cursor; front = true; size = s.cluster }
 
 pub record IsPiece (s : Setting) (w : Sweeper) (m : Sweep) (p q : ℕ) : Type 0 where
   pub end : ℕ
-  pub run : IsNextRun true (IsTaken s w m) m.cursor p end
+  pub range : IsNextRange true (IsTaken s w m) m.cursor p end
   pub ends : q ≡ cut_end (sweep_search s m) s.sector p end
 
 -- a save is due behind a piece that comes long enough after the last due one
@@ -140,8 +140,8 @@ abbrev pub is_save_due : Sweep → Swept → Bool
 is_save_due m e = nat_le (m.due_at + save_interval) e.after
 
 -- the state behind a piece
-abbrev pub swept : Sweeper → Sweep → Swept → Sweep
-swept w m e = record {
+abbrev pub behind_piece : Sweeper → Sweep → Swept → Sweep
+behind_piece w m e = record {
   map = w.marks m.map e;
   cursor = e.pos + e.len;
   written = more_written m.written (w.writes e);
@@ -152,14 +152,14 @@ swept w m e = record {
   said = said_after m.said w.current (e.after / 1000);
 }
 
-abbrev pub swept_by : Sweeper → Sweep → List Swept → Sweep
-swept_by w m [] = m
-swept_by w m (e ∷ es) = swept_by w (swept w m e) es
+abbrev pub behind_pieces : Sweeper → Sweep → List Swept → Sweep
+behind_pieces w m [] = m
+behind_pieces w m (e ∷ es) = behind_pieces w (behind_piece w m e) es
 
 -- the pieces are a sweep from a state
 abbrev pub IsSweep : Setting → Sweeper → Sweep → List Swept → Type 0
 IsSweep s w m [] = ⊤
-IsSweep s w m (e ∷ es) = IsPiece s w m e.pos (e.pos + e.len) × (w.gives e ≡ true) × IsSweep s w (swept w m e) es
+IsSweep s w m (e ∷ es) = IsPiece s w m e.pos (e.pos + e.len) × (w.gives e ≡ true) × IsSweep s w (behind_piece w m e) es
 
 -- no piece is left
 abbrev pub IsSweptOut : Setting → Sweeper → Sweep → Type 0
@@ -176,9 +176,9 @@ sweep_end done m =
 
 -- the save that is due behind a piece, if one is
 abbrev pub due_save : Sweeper → Sweep → Swept → Option Snapshot
-due_save w m e = if is_save_due m e then Some (sweep_snapshot (swept w m e)) else None
+due_save w m e = if is_save_due m e then Some (sweep_snapshot (behind_piece w m e)) else None
 
 -- what each piece does on the files: its call, and the save that is due behind it
 abbrev pub deeds_of : Sweeper → Sweep → List Swept → List Deed
 deeds_of w m [] = []
-deeds_of w m (e ∷ es) = record { calls = w.call e ∷ []; save = due_save w m e } ∷ deeds_of w (swept w m e) es
+deeds_of w m (e ∷ es) = record { calls = w.call e ∷ []; save = due_save w m e } ∷ deeds_of w (behind_piece w m e) es

@@ -17,7 +17,7 @@ use Rattle.rescue_rules.specs.Deeds.{saves_in}
 use Rattle.rescue_rules.specs.Stops.{Behind, files_before}
 use Rattle.rescue_rules.specs.StopsBy.{StopsBy}
 use Rattle.rescue_rules.specs.Laws.{AreThreeNames, AreTimes}
-use Rattle.sweep_rules.specs.Sweep.{Sweeper, Sweep, Swept, filler, generator, swept, swept_by, is_save_due, sweep_end, deeds_of}
+use Rattle.sweep_rules.specs.Sweep.{Sweeper, Sweep, Swept, filler, generator, behind_piece, behind_pieces, is_save_due, sweep_end, deeds_of}
 use Rattle.sweep_rules.specs.SweepLaws.{AreGiven}
 use Rattle.sweep_rules.specs.SweepWork.{Sweeps, sweep_begins, sweep_opening}
 
@@ -25,7 +25,7 @@ use Rattle.sweep_rules.specs.SweepWork.{Sweeps, sweep_begins, sweep_opening}
 abbrev pub pieces_before : Sweeper → Sweep → List Swept → (number : ℕ) → List Swept
 pieces_before w m [] number = []
 pieces_before w m (e ∷ es) zero = []
-pieces_before w m (e ∷ es) (suc n) = e ∷ pieces_before w (swept w m e) es (if is_save_due m e then n else suc n)
+pieces_before w m (e ∷ es) (suc n) = e ∷ pieces_before w (behind_piece w m e) es (if is_save_due m e then n else suc n)
 
 -- each of these pieces holds the buffer's front
 abbrev pub AreFilled : Setting → (buffer : List ℕ) → (pieces : List Swept) → (image : List ℕ) → Type 0
@@ -66,7 +66,7 @@ has_swept_out (SaveFailed call earlier) = is_none earlier
 abbrev pub sweep_saves : Sweeper → List Status → Option MapState → Gain → List Swept → RunEnd → List Snapshot
 sweep_saves w statuses state g es end =
     saves_in (deeds_of w (sweep_begins w statuses state g) es)
-    (sweep_end (has_swept_out end) (swept_by w (sweep_begins w statuses state g) es))
+    (sweep_end (has_swept_out end) (behind_pieces w (sweep_begins w statuses state g) es))
 
 -- law: a filling stops safely
 abbrev pub FillsSafely : Type 0

@@ -3,7 +3,7 @@ use Rattle.std.proofs.Common.{◌≡◌, ℕ, ◌+◌, ◌-◌, ◌<◌, ◌≤�
 use Rattle.std.proofs.lemmas.Bool.{cond-true, cond-false}
 use Rattle.std.proofs.lemmas.List.{take-append-le}
 use Rattle.std.proofs.Math.Nat.{div-mul-le_self}
-use Rattle.block_list.specs.declared.block.Run.{Run}
+use Rattle.block_list.specs.declared.block.Range.{Range}
 use Rattle.faulty_source.specs.declared.source.Got.{Got}
 use Rattle.faulty_source.specs.Got.{count_of, is_end}
 use Rattle.faulty_source.specs.Journal.{Reading, is_whole, floor, kept}
@@ -14,7 +14,7 @@ use Rattle.transfer_token.specs.declared.fetch.Fetched.TheVariants.{Whole, Part,
 use Rattle.transfer_token.specs.Tokens.{between, size_of, IsCut, Spans, IfLoaded, HoldsLoaded, Fetches}
 
 -- the range is the part of the read that is kept
-abbrev IsKept : ℕ → Reading → Run → Type 0
+abbrev IsKept : ℕ → Reading → Range → Type 0
 IsKept sector r loaded = loaded ≡ between r.pos (r.pos + kept sector r)
 
 -- no more is kept than was given
@@ -38,7 +38,7 @@ loaded_is_kept sector r (Ended loaded over) cut =
 loaded_is_kept sector r (Empty over) cut = tt
 
 -- what follows of each range follows of the loaded one
-if_loaded : (fetched : Fetched) (P Q : Run → Type 0) → ((loaded : Run) → P loaded → Q loaded) → IfLoaded fetched P → IfLoaded fetched Q
+if_loaded : (fetched : Fetched) (P Q : Range → Type 0) → ((loaded : Range) → P loaded → Q loaded) → IfLoaded fetched P → IfLoaded fetched Q
 if_loaded (Whole loaded) P Q step h = step loaded h
 if_loaded (Part loaded missed) P Q step h = step loaded h
 if_loaded (Nothing missed) P Q step h = tt
@@ -46,28 +46,28 @@ if_loaded (Ended loaded over) P Q step h = step loaded h
 if_loaded (Empty over) P Q step h = tt
 
 -- the buffer's front has that part of what the read gave
-front_given : (sector : ℕ) (r : Reading) (buf : List ℕ) (loaded : Run) → take (length r.given) buf ≡ r.given → IsKept sector r loaded
+front_given : (sector : ℕ) (r : Reading) (buf : List ℕ) (loaded : Range) → take (length r.given) buf ≡ r.given → IsKept sector r loaded
     → take (size_of loaded) buf ≡ take (kept sector r) r.given
 front_given sector r buf loaded front is =
     let size : size_of loaded ≡ kept sector r = ap size_of is ∙ omega arith in
     ap (λ n. take n buf) size ∙ sym (take-take (kept sector r) (length r.given) buf (kept_few sector r)) ∙ ap (take (kept sector r)) front
 
 -- and it is the input's own
-kept_right : (sector : ℕ) (r : Reading) (bytes : List ℕ) (loaded : Run) → r.given ≡ slice_range bytes r.pos (r.pos + length r.given) → IsKept sector r loaded
+kept_right : (sector : ℕ) (r : Reading) (bytes : List ℕ) (loaded : Range) → r.given ≡ slice_range bytes r.pos (r.pos + length r.given) → IsKept sector r loaded
     → take (kept sector r) r.given ≡ slice_range bytes loaded.from loaded.to
 kept_right sector r bytes loaded right is =
     let few : kept sector r ≤ r.pos + length r.given - r.pos = omega (arith, kept_few sector r) in
     let all : take (kept sector r) r.given ≡ take (kept sector r) (drop r.pos bytes) =
     ap (take (kept sector r)) right ∙ take-take (kept sector r) (r.pos + length r.given - r.pos) (drop r.pos bytes) few in
     let size : kept sector r ≡ r.pos + kept sector r - r.pos = omega arith in
-    all ∙ ap (λ n. take n (drop r.pos bytes)) size ∙ sym (ap (λ (run : Run). slice_range bytes run.from run.to) is)
+    all ∙ ap (λ n. take n (drop r.pos bytes)) size ∙ sym (ap (λ (range : Range). slice_range bytes range.from range.to) is)
 
 -- so the buffer's front holds what was loaded
 loaded_holds : (sector : ℕ) (r : Reading) (fetched : Fetched) (buf : List ℕ) (source : SourceState) → IsCut sector r fetched
     → take (length r.given) buf ≡ r.given → (IsTrue source.tells → r.given ≡ slice_range source.bytes r.pos (r.pos + length r.given))
     → IfLoaded fetched (HoldsLoaded sector r source buf)
 loaded_holds sector r fetched buf source cut front right =
-    let holds : (loaded : Run) → IsKept sector r loaded → HoldsLoaded sector r source buf loaded = λ loaded is. record {
+    let holds : (loaded : Range) → IsKept sector r loaded → HoldsLoaded sector r source buf loaded = λ loaded is. record {
       given = front_given sector r buf loaded front is;
       own = λ tells. front_given sector r buf loaded front is ∙ kept_right sector r source.bytes loaded (right tells) is;
     } in

@@ -1,6 +1,6 @@
 -- What a read is cut into, and what becomes of its parts.
 use Rattle.std.specs.Prelude.{◌≡◌, ⊤, ℕ, ◌+◌, ◌-◌, ◌<◌, ◌≤◌, true, false, IsTrue, List, [], ◌∷◌, length, take, slice_range}
-use Rattle.block_list.specs.declared.block.Run.{Run}
+use Rattle.block_list.specs.declared.block.Range.{Range}
 use Rattle.block_list.specs.declared.status.Status.{Status}
 use Rattle.block_list.specs.declared.status.Status.TheVariants.{NonTried, NonTrimmed, NonScraped, BadSector, Finished}
 use Rattle.faulty_source.specs.declared.source.Got.{Got}
@@ -12,11 +12,11 @@ use Rattle.transfer_token.specs.declared.fetch.Fetched.{Fetched}
 use Rattle.transfer_token.specs.declared.fetch.Fetched.TheVariants.{Whole, Part, Nothing, Ended, Empty}
 
 -- the positions from p up to q
-abbrev pub between : ℕ → ℕ → Run
+abbrev pub between : ℕ → ℕ → Range
 between p q = record { from = p; to = q }
 
 -- how many positions a range has
-abbrev pub size_of : Run → ℕ
+abbrev pub size_of : Range → ℕ
 size_of r = r.to - r.from
 
 -- What a read is cut into: its kept part, and the rest. A whole read has no rest, and one that failed may have no kept
@@ -56,7 +56,7 @@ Spans request (Ended loaded over) =
 Spans request (Empty over) = over ≡ request.pos
 
 -- if something was loaded, its range has this property
-abbrev pub IfLoaded : Fetched → (Run → Type 0) → Type 0
+abbrev pub IfLoaded : Fetched → (Range → Type 0) → Type 0
 IfLoaded (Whole loaded) holds = holds loaded
 IfLoaded (Part loaded missed) holds = holds loaded
 IfLoaded (Nothing missed) holds = ⊤
@@ -65,7 +65,7 @@ IfLoaded (Empty over) holds = ⊤
 
 -- At the buffer's front stand the bytes of the loaded range: those that the read gave first, as many as are kept, and
 -- so the input's own.
-pub record HoldsLoaded (sector : ℕ) (r : Reading) (source : SourceState) (buf : List ℕ) (loaded : Run) : Type 0 where
+pub record HoldsLoaded (sector : ℕ) (r : Reading) (source : SourceState) (buf : List ℕ) (loaded : Range) : Type 0 where
   pub given : take (size_of loaded) buf ≡ take (kept sector r) r.given
   pub own : IsTrue source.tells → take (size_of loaded) buf ≡ slice_range source.bytes loaded.from loaded.to
 
@@ -88,9 +88,9 @@ pub record Fetches (request : Request) (sector : ℕ) (got : Got) (fetched : Fet
   pub loaded : IfLoaded fetched (HoldsLoaded sector reading old buf)
 
 -- a status of what a read failed at
-abbrev pub IsFailed : Status → Type 0
-IsFailed NonTried = ⊥
-IsFailed NonTrimmed = ⊤
-IsFailed NonScraped = ⊤
-IsFailed BadSector = ⊤
-IsFailed Finished = ⊥
+abbrev pub IsFailedStatus : Status → Type 0
+IsFailedStatus NonTried = ⊥
+IsFailedStatus NonTrimmed = ⊤
+IsFailedStatus NonScraped = ⊤
+IsFailedStatus BadSector = ⊤
+IsFailedStatus Finished = ⊥

@@ -1,7 +1,7 @@
 ghost use Rattle.std.specs.Prelude.{◌≡◌, ◌+◌, ◌≤◌, length};
 ghost use Rattle.block_list.specs.Map.{marked};
 ghost use Rattle.block_list.specs.declared.status.Status.TheVariants.{Finished};
-ghost use Rattle.transfer_token.specs.Tokens.{size_of, IsFailed};
+ghost use Rattle.transfer_token.specs.Tokens.{size_of, IsFailedStatus};
 
 use crate::token::{Landed, Missed};
 use block_list::status::Status;
@@ -14,18 +14,18 @@ pub fn book<T: Tiles>(tiles: &mut T, landed: Landed)
     ensures marked { T.statuses tiles.new ≡ marked (T.statuses tiles.old) landed.from (size_of landed) Finished }
     ensures spare { T.spare tiles.old ≤ T.spare tiles.new + 2 }
 {
-    let Landed { run } = landed;
-    tiles.set(run.from, run.to - run.from, Status::Finished);
+    let Landed { range } = landed;
+    tiles.set(range.from, range.to - range.from, Status::Finished);
 }
 
 /// Marks what was missed as failed.
 pub fn book_missed<T: Tiles>(tiles: &mut T, missed: Missed, status: Status)
-    requires failed { IsFailed status }
+    requires failed { IsFailedStatus status }
     requires within { missed.to ≤ length (T.statuses tiles.old) }
     requires spare { 2 ≤ T.spare tiles.old }
     ensures marked { T.statuses tiles.new ≡ marked (T.statuses tiles.old) missed.from (size_of missed) status }
     ensures spare { T.spare tiles.old ≤ T.spare tiles.new + 2 }
 {
-    let Missed { run } = missed;
-    tiles.set(run.from, run.to - run.from, status);
+    let Missed { range } = missed;
+    tiles.set(range.from, range.to - range.from, status);
 }

@@ -5,7 +5,7 @@ ghost use Rattle.faulty_source.specs.Journal.{Reading};
 ghost use Rattle.transfer_token.specs.Tokens.{Fetches, IsCut, IsEndedCut, Spans};
 
 use crate::token::{Loaded, Missed, Over, Request};
-use block_list::block::Run;
+use block_list::block::Range;
 use faulty_source::source::{Got, Source, SourceLost};
 
 /// What came of a request.
@@ -64,19 +64,19 @@ fn cut(request: Request, got: Got, sector: u64) -> Fetched
     let at = stop / sector * sector;
     if stop == to {
         Fetched::Whole(Loaded {
-            run: Run { from, to },
+            range: Range { from, to },
         })
     } else if from < at {
         let loaded = Loaded {
-            run: Run { from, to: at },
+            range: Range { from, to: at },
         };
         let missed = Missed {
-            run: Run { from: at, to },
+            range: Range { from: at, to },
         };
         Fetched::Part(loaded, missed)
     } else {
         Fetched::Nothing(Missed {
-            run: Run { from, to },
+            range: Range { from, to },
         })
     }
 }
@@ -89,7 +89,7 @@ fn cut_ended(from: u64, end: u64) -> Fetched
     let over = Over { end };
     if from < end {
         let loaded = Loaded {
-            run: Run { from, to: end },
+            range: Range { from, to: end },
         };
         Fetched::Ended(loaded, over)
     } else {

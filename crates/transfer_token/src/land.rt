@@ -22,10 +22,10 @@ pub fn land<D: Site>(
     ensures call { Answers (image_write place (take (size_of loaded) buf.now)) result
         (D.state site.old) (D.state site.new) }
 {
-    let Loaded { run } = loaded;
-    let size = (run.to - run.from) as usize;
+    let Loaded { range } = loaded;
+    let size = (range.to - range.from) as usize;
     match site.image_write(place, &buf[..size]) {
-        Ok(()) => Ok(Landed { run }),
-        Err(SiteFault) => Err(Unlanded { run }),
+        Ok(()) => Ok(Landed { range }),
+        Err(SiteFault) => Err(Unlanded { range }),
     }
 }

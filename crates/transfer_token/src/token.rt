@@ -1,7 +1,7 @@
 //! What becomes of a request, as values that can't be let go. Only this crate makes them, and no range is empty.
 ghost use Rattle.std.specs.Prelude.{◌≡◌, ◌<◌};
 
-use block_list::block::Run;
+use block_list::block::Range;
 use std::marker::Model;
 
 /// A range of the input that is asked for, in bytes.
@@ -13,123 +13,123 @@ pub struct Request {
 
 /// A range that was read, and whose bytes stand at the buffer's front. Only `land` spends it.
 pub struct Loaded {
-    pub(crate) run: Run,
+    pub(crate) range: Range,
 }
 
 impl Model for Loaded {
     ghost use Rattle.std.specs.Prelude.{◌<◌};
-    ghost use Rattle.block_list.specs.declared.block.Run.{Run};
+    ghost use Rattle.block_list.specs.declared.block.Range.{Range};
 
-    ghost Value = { Run };
+    ghost Value = { Range };
 
-    ghost view = { λ loaded. loaded.run };
+    ghost view = { λ loaded. loaded.range };
 
-    ghost invariant = { λ loaded. loaded.run.from < loaded.run.to };
+    ghost invariant = { λ loaded. loaded.range.from < loaded.range.to };
 }
 
 impl Loaded {
     /// The range.
-    pub fn range(&self) -> Run
+    pub fn range(&self) -> Range
         ensures range { result ≡ self.now }
         ensures some { self.now.from < self.now.to }
     {
-        self.run
+        self.range
     }
 }
 
 /// A range that was read, and whose bytes were written to the output. Only `book` spends it.
 pub struct Landed {
-    pub(crate) run: Run,
+    pub(crate) range: Range,
 }
 
 impl Model for Landed {
     ghost use Rattle.std.specs.Prelude.{◌<◌};
-    ghost use Rattle.block_list.specs.declared.block.Run.{Run};
+    ghost use Rattle.block_list.specs.declared.block.Range.{Range};
 
-    ghost Value = { Run };
+    ghost Value = { Range };
 
-    ghost view = { λ landed. landed.run };
+    ghost view = { λ landed. landed.range };
 
-    ghost invariant = { λ landed. landed.run.from < landed.run.to };
+    ghost invariant = { λ landed. landed.range.from < landed.range.to };
 }
 
 impl Landed {
     /// The range.
-    pub fn range(&self) -> Run
+    pub fn range(&self) -> Range
         ensures range { result ≡ self.now }
         ensures some { self.now.from < self.now.to }
     {
-        self.run
+        self.range
     }
 }
 
 /// A range that was read, and whose bytes couldn't be written to the output. Only `set_aside` spends it.
 pub struct Unlanded {
-    pub(crate) run: Run,
+    pub(crate) range: Range,
 }
 
 impl Model for Unlanded {
     ghost use Rattle.std.specs.Prelude.{◌<◌};
-    ghost use Rattle.block_list.specs.declared.block.Run.{Run};
+    ghost use Rattle.block_list.specs.declared.block.Range.{Range};
 
-    ghost Value = { Run };
+    ghost Value = { Range };
 
-    ghost view = { λ unlanded. unlanded.run };
+    ghost view = { λ unlanded. unlanded.range };
 
-    ghost invariant = { λ unlanded. unlanded.run.from < unlanded.run.to };
+    ghost invariant = { λ unlanded. unlanded.range.from < unlanded.range.to };
 }
 
 impl Unlanded {
     /// The range.
-    pub fn range(&self) -> Run
+    pub fn range(&self) -> Range
         ensures range { result ≡ self.now }
         ensures some { self.now.from < self.now.to }
     {
-        self.run
+        self.range
     }
 
     /// Spends it with no mark in a map.
-    pub fn set_aside(self) -> Run
+    pub fn set_aside(self) -> Range
         ensures range { result ≡ self }
         ensures some { self.from < self.to }
     {
-        let Unlanded { run } = self;
-        run
+        let Unlanded { range } = self;
+        range
     }
 }
 
 /// A range that was asked for, and of which nothing is kept. Only `book_missed` and `set_aside` spend it.
 pub struct Missed {
-    pub(crate) run: Run,
+    pub(crate) range: Range,
 }
 
 impl Model for Missed {
     ghost use Rattle.std.specs.Prelude.{◌<◌};
-    ghost use Rattle.block_list.specs.declared.block.Run.{Run};
+    ghost use Rattle.block_list.specs.declared.block.Range.{Range};
 
-    ghost Value = { Run };
+    ghost Value = { Range };
 
-    ghost view = { λ missed. missed.run };
+    ghost view = { λ missed. missed.range };
 
-    ghost invariant = { λ missed. missed.run.from < missed.run.to };
+    ghost invariant = { λ missed. missed.range.from < missed.range.to };
 }
 
 impl Missed {
     /// The range.
-    pub fn range(&self) -> Run
+    pub fn range(&self) -> Range
         ensures range { result ≡ self.now }
         ensures some { self.now.from < self.now.to }
     {
-        self.run
+        self.range
     }
 
     /// Spends it with no mark in a map.
-    pub fn set_aside(self) -> Run
+    pub fn set_aside(self) -> Range
         ensures range { result ≡ self }
         ensures some { self.from < self.to }
     {
-        let Missed { run } = self;
-        run
+        let Missed { range } = self;
+        range
     }
 }
 

@@ -4,7 +4,7 @@ use Rattle.rescue_rules.specs.declared.phase.Phase.TheVariants.{Copying, Trimmin
 use Rattle.rescue_rules.specs.Passes.{Pass, passes_in}
 use Rattle.rescue_core.specs.RunState.{RunState, setting_in}
 use Rattle.trim_scrape.specs.Behind.{IsBehind}
-use Rattle.trim_scrape.specs.Passing.{IsBefore}
+use Rattle.trim_scrape.specs.Passing.{IsBeforePass}
 
 -- trimming may be off, and scraping
 pub behind_no_trimming : (r : RunState) → IsBehind Copying r → r.settings.no_trim ≡ true → IsBehind Trimming r
@@ -29,8 +29,8 @@ behind_no_scraping r b off = record {
 }
 
 -- each has one pass
-pub behind_trimming : (r : RunState) → IsBefore Trimming 2 r → IsBehind Trimming r
+pub behind_trimming : (r : RunState) → IsBeforePass Trimming 2 r → IsBehind Trimming r
 behind_trimming r b = record { sensible = b.sensible; within = b.within; spent = b.spent; left = b.left }
 
-pub behind_scraping : (r : RunState) → IsBefore Scraping 2 r → IsBehind Scraping r
+pub behind_scraping : (r : RunState) → IsBeforePass Scraping 2 r → IsBehind Scraping r
 behind_scraping r b = record { sensible = b.sensible; within = b.within; spent = b.spent; left = b.left }

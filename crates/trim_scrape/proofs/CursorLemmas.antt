@@ -9,7 +9,7 @@ use Rattle.rescue_rules.specs.declared.phase.Phase.{Phase}
 use Rattle.rescue_rules.specs.declared.phase.Phase.TheVariants.{Copying, Trimming, Scraping, Retrying}
 use Rattle.rescue_rules.specs.Setting.{Setting}
 use Rattle.rescue_rules.specs.Passes.{Pass, is_up}
-use Rattle.rescue_rules.specs.Machine.{Machine, pass_of, IsWanted, Search, search_in, search_of, IsNextRun, cut_start, cut_end, is_ahead, IsRequest, has_request}
+use Rattle.rescue_rules.specs.Machine.{Machine, pass_of, IsWanted, Search, search_in, search_of, IsNextRange, cut_start, cut_end, is_ahead, IsRequest, has_request}
 use Rattle.rescue_rules.specs.Step.{Event, copies, trims, is_trimming, is_slow, is_jump, reach, over_after, cursor_after, step}
 use Rattle.rescue_rules.specs.Moves.{begun}
 use Rattle.rescue_rules.specs.MachineLaws.{IsInOrder, StepsBy, AsksFor}
@@ -54,7 +54,7 @@ record IsNearest (up : Bool) (P : ℕ → Type 0) (cursor p q : ℕ) : Type 0 wh
 
 abbrev IsFoundBy : Search → (ℕ → Type 0) → (sector start end p q : ℕ) → Type 0
 IsFoundBy f P sector start end p q =
-    IsNextRun f.up P f.from start end × (p ≡ cut_start f sector start end) × (q ≡ cut_end f sector start end)
+    IsNextRange f.up P f.from start end × (p ≡ cut_start f sector start end) × (q ≡ cut_end f sector start end)
 
 nearest_by : (up : Bool) (P : ℕ → Type 0) (sector cursor size start end p q : ℕ)
     → IsFoundBy (from_cursor up cursor size) P sector start end p q → IsNearest up P cursor p q
@@ -81,7 +81,7 @@ nearest s m p q off asks =
     let P : ℕ → Type 0 = IsWanted s m in
     nearest_by (is_up s (pass_of m)) P s.sector m.cursor (size_of s (pass_of m).phase) asks.start asks.end p q
     (subst (λ (f : Search). IsFoundBy f P s.sector asks.start asks.end p q) (search_is s m (pass_of m).phase m.mode off)
-    (asks.run, asks.starts, asks.ends))
+    (asks.range, asks.starts, asks.ends))
 
 -- where a read from p that goes up to q puts the cursor, with a jump
 abbrev cursor_by : Bool → (len p q jump : ℕ) → ℕ

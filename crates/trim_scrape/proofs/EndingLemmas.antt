@@ -45,7 +45,7 @@ last_cursor s (Some state) map last =
     (min state.pos (length map)) (eq-eqb (min state.pass copying_passes) copying_passes last)
 
 -- A run has copying's last pass to come to each position,
-owes_last : (s : Setting) (map : List Status) (from : Option MapState) (shown : MapState) (time x : ℕ) → x < length map
+pub owes_last : (s : Setting) (map : List Status) (from : Option MapState) (shown : MapState) (time x : ℕ) → x < length map
     → Owes s (machine_of s map from shown time) (numbered Copying 5) x
 owes_last s map from shown time x within =
     let m : Machine = machine_of s map from shown time in

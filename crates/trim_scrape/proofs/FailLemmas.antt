@@ -21,7 +21,7 @@ use Rattle.rescue_rules.proofs.OverLemmas.{live_before, live_was}
 use Rattle.rescue_rules.proofs.SearchLemmas.{request_seen}
 use Rattle.rescue_rules.proofs.ReadyLemmas.{stays_ready}
 use Rattle.rescue_rules.proofs.StatusLemmas.{rest_is}
-use Rattle.trim_scrape.specs.Endings.{FailedIn}
+use Rattle.trim_scrape.specs.Endings.{FailedInPass}
 use Rattle.rescue_core.proofs.ChangeLemmas.{Kept, Missed, CutOff, Between, Stands}
 use Rattle.trim_scrape.proofs.CursorLemmas.{IsLeft, JumpsNever, left_on}
 use Rattle.trim_scrape.proofs.OrderLemmas.{order, IsFrom, AreOrdered}
@@ -35,13 +35,13 @@ order_few Trimming = omega arith
 order_few Scraping = omega arith
 order_few Retrying = omega arith
 
-copies_first : (phase : Phase) → copies phase ≡ true → order phase ≡ 0
+pub copies_first : (phase : Phase) → copies phase ≡ true → order phase ≡ 0
 copies_first Copying is = refl
 copies_first Trimming is = absurd (cc)
 copies_first Scraping is = absurd (cc)
 copies_first Retrying is = absurd (cc)
 
-trims_second : (phase : Phase) → trims phase ≡ true → order phase ≡ 1
+pub trims_second : (phase : Phase) → trims phase ≡ true → order phase ≡ 1
 trims_second Copying is = absurd (cc)
 trims_second Trimming is = refl
 trims_second Scraping is = absurd (cc)
@@ -121,7 +121,7 @@ back_run s m (e ∷ es) p x ok may run all has =
 
 -- a read of a pass asked for a position and failed, and the pass is one of retrying
 pub record Fails (p : Pass) (ms : List Move) (x : ℕ) : Type 0 where
-  pub there : FailedIn p ms x
+  pub there : FailedInPass p ms x
   pub retries : p.phase ≡ Retrying
 
 fails_later : (p : Pass) (v : Move) (ms : List Move) (x : ℕ) → Fails p ms x → Fails p (v ∷ ms) x
@@ -209,7 +209,7 @@ from_present qs p ps ordered is =
     (All-cons (IsFrom p) p ps (omega arith) (all_from p p ps refl (subst AreOrdered is ordered).0))
 
 -- nothing is owed where no pass is left
-none_owed : (ps : List Pass) (p : Pass) → no_pass_left ps ≡ true → Contains ps p → ⊥
+pub none_owed : (ps : List Pass) (p : Pass) → no_pass_left ps ≡ true → Contains ps p → ⊥
 none_owed [] p none has = omega (arith, has.1)
 none_owed (q ∷ ps) p none has = absurd (cc)
 

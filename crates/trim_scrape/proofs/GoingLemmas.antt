@@ -15,12 +15,12 @@ use Rattle.rescue_core.specs.RunState.{RunState, setting_in, passed, HasPlaces}
 use Rattle.rescue_core.specs.Turning.{Turned}
 use Rattle.copy_passes.specs.Turns.{WentByTurns}
 use Rattle.copy_passes.proofs.TurnLemmas.{IsOneMove, one_move, between, begins, goes_on_by_pass}
-use Rattle.trim_scrape.specs.Passing.{IsPassOf, IsBefore}
+use Rattle.trim_scrape.specs.Passing.{IsPassOf, IsBeforePass}
 use Rattle.trim_scrape.proofs.PassingLemmas.{IsInPass, left_of, PassStep, passes_step, GoesNext, goes_next}
 
 -- A run goes on by the start of its next pass,
 pub begins_next : (phase : Phase) (number : ℕ) (r r1 : RunState) (a : SourceState) (d : SiteState) (k : ClockState)
-    (x : ConsoleState) → IsBefore phase number r → IsPassOf (setting_in r) phase number
+    (x : ConsoleState) → IsBeforePass phase number r → IsPassOf (setting_in r) phase number
     → HasPlaces r.settings (covers r.domain) → a.is_open ≡ true → d.is_open ≡ true → d.is_drafting ≡ false
     → r1 ≡ passed r phase number → WentByTurns r r1 (between a a d d k k x x)
 begins_next phase number r r1 a d k x b there places input image no_draft is =

@@ -23,7 +23,7 @@ use Rattle.rescue_core.specs.Turning.{stepped}
 use Rattle.copy_passes.specs.Copying.{LeavesNone}
 use Rattle.copy_passes.proofs.CopyingLemmas.{ahead_of, wanted_seen, start_ahead}
 use Rattle.copy_passes.proofs.TopLemmas.{top_of, below_top, before_top, top_less}
-use Rattle.trim_scrape.specs.Passing.{IsPassOf, IsDone, IsBefore}
+use Rattle.trim_scrape.specs.Passing.{IsPassOf, PhaseLeavesNone, IsBeforePass}
 use Rattle.trim_scrape.proofs.AskedLemmas.{StepsLater, steps_later, unasked}
 use Rattle.trim_scrape.proofs.CountLemmas.{count, fewer, front_has, front_had, front_within}
 use Rattle.trim_scrape.proofs.SweepLemmas.{Sweeps, scraping_sweeps, retrying_sweeps, sweeps_on, ahead_is, ahead_still, ahead_at_start}
@@ -201,7 +201,7 @@ gone r phase i is none all x inside has =
 
 -- So a phase is done whose pass has no request left.
 pub is_done : (phase : Phase) (r : RunState) → IsInPass r → r.phase ≡ phase → has_request (setting_in r) r.machine ≡ false
-    → IsDone phase r
+    → PhaseLeavesNone phase r
 is_done Copying r i is none = tt
 is_done Trimming r i is none = gone r Trimming i is none (trims_all r i is none)
 is_done Scraping r i is none = gone r Scraping i is none (i.scrapes is)
@@ -230,7 +230,7 @@ goes_by [] qs p is = absurd (cc)
 goes_by (a ∷ []) qs p is = absurd (cc)
 goes_by (a ∷ b ∷ ps) qs p is = (a, let e : b ≡ p = cc in ap (λ (b : Pass). a ∷ b ∷ ps) e)
 
-pub goes_next : (phase : Phase) (number : ℕ) (r : RunState) → IsBefore phase number r → IsPassOf (setting_in r) phase number
+pub goes_next : (phase : Phase) (number : ℕ) (r : RunState) → IsBeforePass phase number r → IsPassOf (setting_in r) phase number
     → GoesNext phase number r
 goes_next phase number r b there =
     let s : Setting = setting_in r in
@@ -240,7 +240,7 @@ goes_next phase number r b there =
     record { first = by.0; passes = by.1; next = ap (λ (qs : List Pass). slice_get qs 1) by.1 }
 
 -- at whose start it is within it.
-pub begins_pass : (phase : Phase) (number : ℕ) (r : RunState) → IsBefore phase number r
+pub begins_pass : (phase : Phase) (number : ℕ) (r : RunState) → IsBeforePass phase number r
     → IsPassOf (setting_in r) phase number → IsInPass (passed r phase number)
 begins_pass phase number r b there =
     let s : Setting = setting_in r in

@@ -37,7 +37,7 @@ nearest : (s : Setting) (m : Machine) (p q : ℕ) → Sweeps s m → IsRequest s
 nearest s m p q w asks =
     let P : ℕ → Type 0 = IsWanted s m in
     nearest_by (is_up s (pass_of m)) P m.cursor s.sector s.sector asks.start asks.end p q
-    (subst (λ (f : Search). IsFoundBy f P s.sector asks.start asks.end p q) w.search (asks.run, asks.starts, asks.ends))
+    (subst (λ (f : Search). IsFoundBy f P s.sector asks.start asks.end p q) w.search (asks.range, asks.starts, asks.ends))
 
 -- no phase but copying jumps
 cursor_is : (s : Setting) (m : Machine) (e : Event) → Sweeps s m → cursor_after s m e

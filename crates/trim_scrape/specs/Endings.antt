@@ -12,7 +12,7 @@ use Rattle.rescue_rules.specs.Moves.{Move, moves, state_after}
 use Rattle.trim_scrape.specs.Bounds.{MoveAsks}
 
 -- a read of this pass asked for a position, and failed
-pub record FailedIn (pass : Pass) (ms : List Move) (x : ℕ) : Type 0 where
+pub record FailedInPass (pass : Pass) (ms : List Move) (x : ℕ) : Type 0 where
   pub number : ℕ
   pub move : Move
   pub asks : MoveAsks ms number x move
@@ -26,7 +26,7 @@ pub data IsLeftWell (s : Setting) (m : Machine) (events : List Event) (x : ℕ) 
   Untrimmed : s.trims ≡ false → Has (state_after s m events).map NonTrimmed x → IsLeftWell s m events x
   Unscraped : s.scrapes ≡ false → Has (state_after s m events).map NonScraped x → IsLeftWell s m events x
   Bad : Has (state_after s m events).map BadSector x
-      → ((n : ℕ) → 0 < n → n ≤ s.retries → FailedIn (numbered Retrying n) (moves s m events) x)
+      → ((n : ℕ) → 0 < n → n ≤ s.retries → FailedInPass (numbered Retrying n) (moves s m events) x)
       → IsLeftWell s m events x
 
 -- each position is left so that is still in the domain: that lies before the input's end, if a read met it

@@ -19,7 +19,7 @@ use Rattle.rescue_rules.specs.Beginning.{machine_of}
 use Rattle.rescue_core.specs.Across.{Across}
 use Rattle.rescue_core.specs.RunState.{RunState, setting_in}
 use Rattle.copy_passes.specs.Turns.{Went, WentUpTo}
-use Rattle.copy_passes.specs.Copying.{IsCopying}
+use Rattle.copy_passes.specs.Copying.{MayCopy}
 use Rattle.trim_scrape.specs.Behind.{IsBehind}
 use Rattle.trim_scrape.specs.Bounds.{AskFew}
 use Rattle.trim_scrape.specs.Endings.{EndsWell}
@@ -38,7 +38,7 @@ RunEndsWell = (s : Setting) (map : List Status) (from : Option MapState) (shown 
 
 -- a run in copying's last pass, which has no request left, is behind copying
 abbrev pub CopiedIsBehind : Type 0
-CopiedIsBehind = (r : RunState) → IsCopying r → r.pass ≡ copying_passes → has_request (setting_in r) r.machine ≡ false
+CopiedIsBehind = (r : RunState) → MayCopy r → r.pass ≡ copying_passes → has_request (setting_in r) r.machine ≡ false
     → IsBehind Copying r
 
 -- whole turns behind whole turns are whole turns

@@ -17,15 +17,15 @@ IsPassOf s Scraping number = number ≡ 1
 IsPassOf s Retrying number = number ≤ s.retries
 
 -- behind trimming no position of the domain is non-trimmed, and behind scraping none is non-scraped
-abbrev pub IsDone : Phase → RunState → Type 0
-IsDone Copying r = ⊤
-IsDone Trimming r = IsGone NonTrimmed r
-IsDone Scraping r = IsGone NonScraped r
-IsDone Retrying r = ⊤
+abbrev pub PhaseLeavesNone : Phase → RunState → Type 0
+PhaseLeavesNone Copying r = ⊤
+PhaseLeavesNone Trimming r = IsGone NonTrimmed r
+PhaseLeavesNone Scraping r = IsGone NonScraped r
+PhaseLeavesNone Retrying r = ⊤
 
 -- A run that has met no limit, and whose pass has no request left: those that follow are the passes from this one of a
 -- phase on.
-pub record IsBefore (phase : Phase) (number : ℕ) (r : RunState) : Type 0 where
+pub record IsBeforePass (phase : Phase) (number : ℕ) (r : RunState) : Type 0 where
   pub sensible : IsSensible (setting_in r)
   pub within : limit_met (setting_in r) r.machine ≡ None
   pub spent : has_request (setting_in r) r.machine ≡ false

@@ -6,7 +6,7 @@ ghost use Rattle.rescue_rules.specs.declared.phase.Phase.TheVariants.{Copying as
 ghost use Rattle.rescue_core.specs.RunState.{setting_in, HasPlaces};
 ghost use Rattle.copy_passes.specs.Turns.{TurnsEnd, PhaseEnds};
 ghost use Rattle.trim_scrape.specs.Behind.{IsBehind};
-ghost use Rattle.trim_scrape.specs.Passing.{IsBefore, IsDone, IsPassOf};
+ghost use Rattle.trim_scrape.specs.Passing.{IsBeforePass, PhaseLeavesNone, IsPassOf};
 
 use block_list::tiles::Tiles;
 use crash_site::site::Site;
@@ -27,7 +27,7 @@ fn run_pass<P: Stage, S: Source, D: Site, K: Clock, C: Console, T: Tiles>(
     clock: &mut K,
     console: &mut C,
 ) -> Result<(), Stop>
-    requires before { IsBefore phase pass rescue.old }
+    requires before { IsBeforePass phase pass rescue.old }
     requires there { IsPassOf (setting_in rescue.old) phase pass }
     requires places { HasPlaces rescue.old.settings (covers rescue.old.domain) }
     requires input { (S.state source.old).is_open ≡ true }
@@ -43,8 +43,8 @@ fn run_pass<P: Stage, S: Source, D: Site, K: Clock, C: Console, T: Tiles>(
       console = C.state console.old;
       console' = C.state console.new;
     }) }
-    ensures before { OnOk result (IsBefore phase (pass + 1) rescue.new) }
-    ensures done { OnOk result (IsDone phase rescue.new) }
+    ensures before { OnOk result (IsBeforePass phase (pass + 1) rescue.new) }
+    ensures done { OnOk result (PhaseLeavesNone phase rescue.new) }
 {
     rescue.begin_pass(phase, pass);
     'turns: while let Some(request) = rescue.next_request() {

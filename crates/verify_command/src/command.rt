@@ -12,7 +12,7 @@ use option_values::operands::find_empty;
 use option_values::settings::{read_sector_in, read_settings};
 use option_words::fault::UsageFault;
 use option_words::reader::read_words;
-use option_words::reading::{Item, Reading};
+use option_words::reading::{Item, WordReading};
 use option_words::table::OptionTable;
 use option_words::words::Words;
 use std::alloc::Global;
@@ -39,7 +39,7 @@ fn read_options(table: &OptionTable, words: &Words, items: &[Item]) -> Result<Ve
 /// The files of three operands.
 fn name_files<'a>(
     words: &'a Words,
-    reading: &Reading,
+    reading: &WordReading,
     options: VerifyOptions,
 ) -> Result<Command<'a>, UsageFault>
     requires operands { All (IsWord words.now) reading.now.operands.items }
@@ -63,7 +63,7 @@ fn name_files<'a>(
 fn command_of<'a>(
     table: &OptionTable,
     words: &'a Words,
-    reading: &Reading,
+    reading: &WordReading,
 ) -> Result<Command<'a>, UsageFault>
     requires table { AreOptions table.now }
     requires spots { All (HasSpot words.now) reading.now.items.items }

@@ -7,11 +7,11 @@ use Rattle.std.proofs.Common.{◌≡◌, ◌⊎◌, List, [], ◌∷◌, Some, N
 use Rattle.crash_site.specs.declared.site.SiteCall.{SiteCall}
 use Rattle.crash_site.specs.declared.site.SiteCall.TheVariants.{MapRead}
 use Rattle.save_resume.specs.Saving.{IsNameIn}
-use Rattle.work_steps.specs.Work.{Deeds, Faults, Step, Take, Look, Open, Make, Read, Works, Opening, with_calls, with_opens}
+use Rattle.work_steps.specs.Work.{Deeds, Faults, WorkStep, Take, Look, Open, Make, Read, Works, Opening, with_calls, with_opens}
 use Rattle.work_steps.proofs.GainLemmas.{broke_named}
 
 -- one of the rows makes this call
-abbrev pub IsCalled : {E : Type 0} → SiteCall → List (Step E) → Type 0
+abbrev pub IsCalled : {E : Type 0} → SiteCall → List (WorkStep E) → Type 0
 IsCalled call [] = ⊥
 IsCalled call (Take ∷ more) = IsCalled call more
 IsCalled call (Look refuses ∷ more) = IsCalled call more
@@ -20,7 +20,7 @@ IsCalled call (Make calls ∷ more) = IsNameIn call calls ⊎ IsCalled call more
 IsCalled call (Read name file ∷ more) = (call ≡ MapRead) ⊎ IsCalled call more
 
 -- one of them refuses so
-abbrev pub IsRefused : {E : Type 0} → List (Step E) → E → Type 0
+abbrev pub IsRefused : {E : Type 0} → List (WorkStep E) → E → Type 0
 IsRefused [] e = ⊥
 IsRefused (Take ∷ more) e = IsRefused more e
 IsRefused (Look refuses ∷ more) e = refuses e ⊎ IsRefused more e
@@ -29,7 +29,7 @@ IsRefused (Make calls ∷ more) e = IsRefused more e
 IsRefused (Read name file ∷ more) e = IsRefused more e
 
 -- where they read no name, they found no file
-abbrev pub FindNone : {E : Type 0} → List (Step E) → Type 0
+abbrev pub FindNone : {E : Type 0} → List (WorkStep E) → Type 0
 FindNone [] = ⊤
 FindNone (Take ∷ more) = FindNone more
 FindNone (Look refuses ∷ more) = FindNone more
@@ -38,45 +38,45 @@ FindNone (Make calls ∷ more) = FindNone more
 FindNone (Read name file ∷ more) = (name ≡ None → file ≡ None) × FindNone more
 
 -- an answer of work that stopped in one of the rows
-pub data Stops {E : Type 0} (f : Faults E) (steps : List (Step E)) (e : E) : Type 0 where
+pub data Stops {E : Type 0} (f : Faults E) (steps : List (WorkStep E)) (e : E) : Type 0 where
   Starved : e ≡ f.memory → Stops f steps e
   Unopened : e ≡ f.input → Stops f steps e
   Broken : (call : SiteCall) → e ≡ f.call call → IsCalled call steps → Stops f steps e
   Refused : IsRefused steps e → Stops f steps e
 
 -- the work stopped in a row, and then nothing was read, or it went on to its run, which did all that was read
-pub data Came {E : Type 0} (f : Faults E) (steps : List (Step E)) (run : E → Deeds → Type 0) (e : E) (d : Deeds)
+pub data Came {E : Type 0} (f : Faults E) (steps : List (WorkStep E)) (run : E → Deeds → Type 0) (e : E) (d : Deeds)
     : Type 0 where
   Stopped : Stops f steps e → d.gain.reads ≡ [] → Came f steps run e d
   Went : (x : Deeds) → run e x → x.gain.reads ≡ d.gain.reads → FindNone steps → Came f steps run e d
 
 -- behind one more row
-called_later : {E : Type 0} (s : Step E) (more : List (Step E)) (call : SiteCall) → IsCalled call more → IsCalled call (s ∷ more)
+called_later : {E : Type 0} (s : WorkStep E) (more : List (WorkStep E)) (call : SiteCall) → IsCalled call more → IsCalled call (s ∷ more)
 called_later Take more call called = called
 called_later (Look refuses) more call called = called
 called_later (Open name) more call called = called
 called_later (Make calls) more call called = inr called
 called_later (Read name file) more call called = inr called
 
-refused_later : {E : Type 0} (s : Step E) (more : List (Step E)) (e : E) → IsRefused more e → IsRefused (s ∷ more) e
+refused_later : {E : Type 0} (s : WorkStep E) (more : List (WorkStep E)) (e : E) → IsRefused more e → IsRefused (s ∷ more) e
 refused_later Take more e refused = refused
 refused_later (Look refuses) more e refused = inr refused
 refused_later (Open name) more e refused = refused
 refused_later (Make calls) more e refused = refused
 refused_later (Read name file) more e refused = refused
 
-stops_later : {E : Type 0} (f : Faults E) (s : Step E) (more : List (Step E)) (e : E) → Stops f more e → Stops f (s ∷ more) e
+stops_later : {E : Type 0} (f : Faults E) (s : WorkStep E) (more : List (WorkStep E)) (e : E) → Stops f more e → Stops f (s ∷ more) e
 stops_later f s more e (Starved is) = Starved is
 stops_later f s more e (Unopened is) = Unopened is
 stops_later f s more e (Broken call is called) = Broken call is (called_later s more call called)
 stops_later f s more e (Refused refused) = Refused (refused_later s more e refused)
 
-came_later : {E : Type 0} (f : Faults E) (s : Step E) (more : List (Step E)) (run : E → Deeds → Type 0) (e : E) (d x : Deeds)
+came_later : {E : Type 0} (f : Faults E) (s : WorkStep E) (more : List (WorkStep E)) (run : E → Deeds → Type 0) (e : E) (d x : Deeds)
     → x.gain.reads ≡ d.gain.reads → (FindNone more → FindNone (s ∷ more)) → Came f more run e x → Came f (s ∷ more) run e d
 came_later f s more run e d x same none (Stopped stops unread) = Stopped (stops_later f s more e stops) (sym same ∙ unread)
 came_later f s more run e d x same none (Went y ran reads found) = Went y ran (reads ∙ same) (none found)
 
-pub came : {E : Type 0} (f : Faults E) (steps : List (Step E)) (run : E → Deeds → Type 0) (e : E) (d : Deeds)
+pub came : {E : Type 0} (f : Faults E) (steps : List (WorkStep E)) (run : E → Deeds → Type 0) (e : E) (d : Deeds)
     → Works f steps run e d → Came f steps run e d
 came f [] run e d w = Went d w refl tt
 came f (Take ∷ more) run e d (inl (is, idle)) = Stopped (Starved is) idle.gain.reads
@@ -106,7 +106,7 @@ IsLoadIf None file load = load ≡ []
 IsLoadIf (Some name) file load = IsLoad name file load
 
 -- what was done in rows that the work went through, and then by its run
-abbrev pub Passed : {E : Type 0} → List (Step E) → (E → Deeds → Type 0) → E → Deeds → Type 0
+abbrev pub Passed : {E : Type 0} → List (WorkStep E) → (E → Deeds → Type 0) → E → Deeds → Type 0
 Passed [] run e d = run e d
 Passed (Take ∷ more) run e d = Passed more run e d
 Passed (Look refuses ∷ more) run e d = Passed more run e d
@@ -118,7 +118,7 @@ Passed (Read name file ∷ more) run e d =
     × Passed more run e (with_calls d rest)
 
 -- an answer of which no row stops is one of the run behind them all
-pub passed : {E : Type 0} (f : Faults E) (steps : List (Step E)) (run : E → Deeds → Type 0) (e : E) (d : Deeds)
+pub passed : {E : Type 0} (f : Faults E) (steps : List (WorkStep E)) (run : E → Deeds → Type 0) (e : E) (d : Deeds)
     → (Stops f steps e → ⊥) → Works f steps run e d → Passed steps run e d
 passed f [] run e d never w = w
 passed f (Take ∷ more) run e d never (inl (is, idle)) = absurd (never (Starved is))

@@ -11,9 +11,9 @@ use Rattle.crash_site.specs.Files.{File}
 use Rattle.crash_site.specs.Calls.{Call, Entry, Done as Returned, BrokeAt}
 use Rattle.crash_site.specs.SiteState.{SiteState, files_in}
 use Rattle.save_resume.specs.Saving.{IsNameIn}
-use Rattle.save_resume.specs.Loading.{load_reads, IsPiece, BeginsLoad, IsLoad}
+use Rattle.save_resume.specs.Loading.{load_reads, IsReadSize, BeginsLoad, IsLoad}
 use Rattle.save_resume.specs.Resuming.{IsOfFile, LoadEnded, StarvedInLoad, BrokeInLoad}
-use Rattle.work_steps.specs.Work.{Faults, Step, Look, Read}
+use Rattle.work_steps.specs.Work.{Faults, WorkStep, Look, Read}
 use Rattle.work_steps.specs.Parts.{StoppedIn, WentThrough}
 use Rattle.work_steps.proofs.GainLemmas.{GainsBroken, broke_gains, broke_past}
 
@@ -22,7 +22,7 @@ use Rattle.work_steps.proofs.GainLemmas.{GainsBroken, broke_gains, broke_past}
 pub ones_sum : (n : ℕ) → sum (replicate n 1) ≡ n
 ones_sum n = let e : sum (replicate n 1) ≡ n * 1 = sum_by-replicate (λ (x : ℕ). x) n 1 in omega (arith, e)
 
-pub one_is_piece : IsPiece 1
+pub one_is_piece : IsReadSize 1
 one_is_piece = (omega arith, omega arith)
 
 -- the first reads of a file that gave so many bytes, one by one, and the read behind them
@@ -33,7 +33,7 @@ begins_by_ones name f n answer within limited =
     record {
       given = replicate n 1;
       answer = answer;
-      pieces = All-replicate IsPiece n 1 one_is_piece;
+      pieces = All-replicate IsReadSize n 1 one_is_piece;
       within = omega (arith, e, within);
       limited = omega (arith, e, limited);
       calls_are = refl;
@@ -50,7 +50,7 @@ load_of_none name = (
     begins = record {
       given = [];
       answer = Some Absent;
-      pieces = All-nil IsPiece;
+      pieces = All-nil IsReadSize;
       within = omega arith;
       limited = omega arith;
       calls_are = refl;
@@ -96,7 +96,7 @@ begins_first : (name : List ℕ) (file : Option File) → BeginsLoad name file (
 begins_first name file = record {
   given = [];
   answer = None;
-  pieces = All-nil IsPiece;
+  pieces = All-nil IsReadSize;
   within = omega arith;
   limited = omega arith;
   calls_are = refl;
@@ -214,7 +214,7 @@ broke_off before name old new other told =
 -- ---- rows that read a file and look at it
 
 module _ {E : Type 0} (f : Faults E) (refuses : E → Type 0) (name : List ℕ) (file : Option File) where
-  abbrev pub rows : List (Step E)
+  abbrev pub rows : List (WorkStep E)
   rows = Read (Some name) file ∷ Look refuses ∷ []
 
   pub read_through : (load : List Call) → IsLoad name file load → ((v : E) → refuses v → ⊥)

@@ -1,12 +1,12 @@
 -- Rows in which work stopped, or through which it went, in front of others.
 use Rattle.std.proofs.Common.{◌≡◌, List, [], ◌∷◌, ◌++◌, map, Some, None, sym, ap, ◌∙◌, inl, inr, subst, append_assoc}
 use Rattle.crash_site.specs.Calls.{Entry, Done as Returned}
-use Rattle.work_steps.specs.Work.{Deeds, Faults, Step, Take, Look, Open, Make, Read, Works, with_calls}
+use Rattle.work_steps.specs.Work.{Deeds, Faults, WorkStep, Take, Look, Open, Make, Read, Works, with_calls}
 use Rattle.work_steps.specs.Parts.{WentThrough}
 use Rattle.work_steps.specs.Holds.{behind_entries}
 
 -- what stopped in some rows stopped in front of all that is behind them
-pub stopped_more : {E : Type 0} (f : Faults E) (rows more : List (Step E)) (run : E → Deeds → Type 0) (e : E) (d : Deeds)
+pub stopped_more : {E : Type 0} (f : Faults E) (rows more : List (WorkStep E)) (run : E → Deeds → Type 0) (e : E) (d : Deeds)
     → Works f rows (λ v x. ⊥) e d → Works f (rows ++ more) run e d
 stopped_more f [] more run e d h = absurd h
 stopped_more f (Take ∷ rows) more run e d (inl h) = inl h
@@ -35,7 +35,7 @@ grew_both d0 d1 d2 more o l first second =
     ap (λ r. r ++ more) second ∙ append_assoc d1 l more ∙ ap (λ r. r ++ (l ++ more)) first ∙ append_assoc d0 o (l ++ more)
 
 -- what is done behind rows that the work went through is done by all of it
-pub through_then : {E : Type 0} (f : Faults E) (rows more : List (Step E)) (run : E → Deeds → Type 0) (e : E)
+pub through_then : {E : Type 0} (f : Faults E) (rows more : List (WorkStep E)) (run : E → Deeds → Type 0) (e : E)
     (calls : List Entry) (d : Deeds) → WentThrough rows calls → Works f more run e d
     → Works f (rows ++ more) run e (behind_entries calls d)
 through_then f [] more run e calls d t w =
@@ -58,7 +58,7 @@ through_then f (Read (Some name) file ∷ rows) more run e calls d t w =
     ))
 
 -- work behind which another run may come as well
-pub works_as : {E : Type 0} (f : Faults E) (rows : List (Step E)) (run other : E → Deeds → Type 0)
+pub works_as : {E : Type 0} (f : Faults E) (rows : List (WorkStep E)) (run other : E → Deeds → Type 0)
     → ((e : E) (d : Deeds) → run e d → other e d) → (e : E) (d : Deeds) → Works f rows run e d → Works f rows other e d
 works_as f [] run other also e d w = also e d w
 works_as f (Take ∷ rows) run other also e d (inl h) = inl h

@@ -1,11 +1,11 @@
 -- Any work in steps has one verdict, and goes on to its run where nothing is refused and nothing fails.
 use Rattle.std.proofs.Common.{◌≡◌, List, [], ◌∷◌, Some, None, inl, inr, subst}
 use Rattle.crash_site.specs.declared.site.SiteCall.TheVariants.{MapRead}
-use Rattle.work_steps.specs.Work.{Deeds, Faults, Step, Take, Look, Open, Make, Read, Works}
+use Rattle.work_steps.specs.Work.{Deeds, Faults, WorkStep, Take, Look, Open, Make, Read, Works}
 use Rattle.work_steps.specs.Verdicts.{RefuseOnce, RefuseNothing, AreVerdicts, HasOneVerdict}
 
 -- two answers of one work on the same outside, each for no fault, are one
-verdict_of : {E : Type 0} (f : Faults E) (V : E → Type 0) → AreVerdicts f V → (steps : List (Step E)) (run : E → Deeds → Type 0)
+verdict_of : {E : Type 0} (f : Faults E) (V : E → Type 0) → AreVerdicts f V → (steps : List (WorkStep E)) (run : E → Deeds → Type 0)
     → RefuseOnce steps → ((e e' : E) (d d' : Deeds) → run e d → run e' d' → V e → V e' → e ≡ e')
     → (e e' : E) (d d' : Deeds) → Works f steps run e d → Works f steps run e' d' → V e → V e' → e ≡ e'
 verdict_of f V never [] run once last e e' d d' w w' v v' = last e e' d d' w w' v v'
@@ -49,7 +49,7 @@ pub one_verdict : HasOneVerdict
 one_verdict E f V never steps run once last e e' d d' w w' v v' = verdict_of f V never steps run once last e e' d d' w w' v v'
 
 -- where nothing is refused, an answer for no fault is one of the run
-pub goes_to_run : {E : Type 0} (f : Faults E) (V : E → Type 0) → AreVerdicts f V → (steps : List (Step E)) (run : E → Deeds → Type 0)
+pub goes_to_run : {E : Type 0} (f : Faults E) (V : E → Type 0) → AreVerdicts f V → (steps : List (WorkStep E)) (run : E → Deeds → Type 0)
     → RefuseNothing steps → (e : E) (d : Deeds) → Works f steps run e d → V e → (did : Deeds) × run e did
 goes_to_run f V never [] run pass e d w v = (d, w)
 goes_to_run f V never (Take ∷ more) run pass e d (inl (is, idle)) v = absurd (never.memory (subst V is v))

@@ -4,18 +4,18 @@ use Rattle.crash_site.specs.Files.{File}
 use Rattle.crash_site.specs.Calls.{Call, Entry, Done as Returned}
 use Rattle.crash_site.specs.SiteState.{SiteState}
 use Rattle.save_resume.specs.Loading.{IsLoad}
-use Rattle.work_steps.specs.Work.{Deeds, Faults, Step, Take, Look, Open, Make, Read, Works}
+use Rattle.work_steps.specs.Work.{Deeds, Faults, WorkStep, Take, Look, Open, Make, Read, Works}
 
 -- calls on the files, and nothing else
 abbrev pub only_calls : List Entry → Deeds
 only_calls calls = record { opens = []; gain = record { calls = calls; reads = []; times = [] } }
 
 -- the work stopped in one of these rows, by these calls
-abbrev pub StoppedIn : {E : Type 0} → Faults E → List (Step E) → E → List Entry → Type 0
+abbrev pub StoppedIn : {E : Type 0} → Faults E → List (WorkStep E) → E → List Entry → Type 0
 StoppedIn {E} f rows e calls = Works f rows (λ v d. ⊥) e (only_calls calls)
 
 -- it went through all of them, by these calls
-abbrev pub WentThrough : {E : Type 0} → List (Step E) → List Entry → Type 0
+abbrev pub WentThrough : {E : Type 0} → List (WorkStep E) → List Entry → Type 0
 WentThrough [] calls = calls ≡ []
 WentThrough (Take ∷ more) calls = WentThrough more calls
 WentThrough {E} (Look refuses ∷ more) calls = ((v : E) → refuses v → ⊥) × WentThrough more calls
@@ -28,13 +28,13 @@ WentThrough (Read (Some name) file ∷ more) calls =
     × WentThrough more rest
 
 -- one or the other, by the outcome
-abbrev pub Did : {E T : Type 0} → Faults E → List (Step E) → (T → Type 0) → Result T E → List Entry → Type 0
+abbrev pub Did : {E T : Type 0} → Faults E → List (WorkStep E) → (T → Type 0) → Result T E → List Entry → Type 0
 Did f rows Holds (Ok x) calls = Holds x × WentThrough rows calls
 Did f rows Holds (Err e) calls = StoppedIn f rows e calls
 
 -- What rows did that find one file: there is such a file, of which what came of it holds, and there are calls. Where
 -- the site tells, these are its own.
-pub record DidPart {E T : Type 0} (f : Faults E) (rows : Option File → List (Step E)) (own : Option File)
+pub record DidPart {E T : Type 0} (f : Faults E) (rows : Option File → List (WorkStep E)) (own : Option File)
     (Holds : T → Option File → Type 0) (result : Result T E) (old new : SiteState) : Type 0 where
   pub file : Option File
   pub calls : List Entry

@@ -1,9 +1,9 @@
 use crate::folder::apart::Apart;
 use crate::folder::mapfile::find_map;
 use crate::folder::names::make_new;
+use real_files::file_cursor::put;
 use real_files::identity::Identity;
 use real_files::outcome::if_there;
-use real_files::place::put;
 use std::fs::{self, File, Metadata, Permissions};
 use std::io::{self, ErrorKind};
 use std::os::unix::fs::{MetadataExt, PermissionsExt, fchown};
@@ -13,15 +13,15 @@ const RIGHTS: u32 = 0o777;
 
 /// A begun draft under its own name.
 #[derive(Drop)]
-pub(super) struct Draft {
+pub(super) struct OpenDraft {
     file: File,
     name: String,
     identity: Identity,
 }
 
-impl Draft {
+impl OpenDraft {
     /// Makes a new file. What stood under its name loses that name; a folder keeps it.
-    pub fn begin(rt: &HostRuntime, apart: &Apart<'_>, name: &str) -> io::Result<Draft> {
+    pub fn begin(rt: &HostRuntime, apart: &Apart<'_>, name: &str) -> io::Result<OpenDraft> {
         if let Some(found) = if_there(fs::symlink_metadata(rt, name))? {
             apart.check(&found)?;
             fs::remove_file(rt, name)?;
@@ -29,7 +29,7 @@ impl Draft {
         let copy = String::from_str(rt.alloc(), name)?;
         let file = make_new(rt, name)?;
         let identity = Identity::of(&file.metadata()?);
-        Ok(Draft {
+        Ok(OpenDraft {
             file,
             name: copy,
             identity,

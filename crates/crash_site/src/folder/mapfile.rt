@@ -4,8 +4,8 @@ ghost use Rattle.crash_site.specs.Files.{IsWithin};
 
 use crate::folder::apart::Apart;
 use crate::site::MapRead;
+use real_files::file_cursor::{FileCursor, read_full};
 use real_files::outcome::if_there;
-use real_files::place::{Place, read_full};
 use std::fs::{self, File, Metadata};
 use std::io::{self, ErrorKind, Read};
 
@@ -79,7 +79,7 @@ pub(super) fn read_map(
     let Some(map) = kept else {
         return Ok(MapRead::Absent);
     };
-    read_piece(&mut Place::new(&map.file, pos), buf)
+    read_piece(&mut FileCursor::new(&map.file, pos), buf)
 }
 
 pub(super) fn remove_map(rt: &HostRuntime, name: &str) -> io::Result<()> {

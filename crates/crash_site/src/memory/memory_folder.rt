@@ -10,7 +10,7 @@ ghost use Rattle.crash_site.specs.Full.{IsFull};
 ghost use Rattle.crash_site.specs.MemoryFolder.{name_of, folder_of};
 
 use crate::memory::call_log::Act;
-use crate::memory::places::{MemoryFile, Place, copy_places, file_at, place_of, take_file};
+use crate::memory::places::{MemoryFile, NamedFile, copy_places, file_at, place_of, take_file};
 use crate::site::{ImageKind, MapRead};
 use std::alloc::{AllocError, Global};
 
@@ -18,7 +18,7 @@ use std::alloc::{AllocError, Global};
 #[derive(Drop)]
 pub(crate) struct MemoryFolder {
     alloc: Global,
-    pub(crate) places: Vec<Place>,
+    pub(crate) places: Vec<NamedFile>,
     pub(crate) image: Option<Vec<u8>>,
     pub(crate) draft: Option<Vec<u8>>,
 }

@@ -1,6 +1,6 @@
 ghost use Rattle.std.specs.Prelude.{◌≡◌, ℕ, ◌+◌, ◌<◌, ◌-◌, ◌≤◌, ◌^◌, true, false, List, ◌++◌, length, slice_index_or, take, drop, replicate, slice_range, Some, None, map, IfOk, OnOk, OnErr, MatchOption};
 ghost use Rattle.std.specs.Str.{bytes_eq};
-ghost use Rattle.crash_site.specs.declared.memory.places.Place.{Place};
+ghost use Rattle.crash_site.specs.declared.memory.places.NamedFile.{NamedFile};
 ghost use Rattle.crash_site.specs.Files.{File, bytes_of, empty_file, kind_of, put, written, written_file};
 ghost use Rattle.crash_site.specs.Places.{file_of, files_of, name_and_file, opened_file, IsPlaceOf};
 
@@ -16,7 +16,7 @@ pub(crate) struct MemoryFile {
 
 /// A name, and what stands there if anything does.
 #[derive(Drop)]
-pub(crate) struct Place {
+pub(crate) struct NamedFile {
     pub(crate) name: Vec<u8>,
     pub(crate) file: Option<MemoryFile>,
 }
@@ -50,7 +50,7 @@ fn write_over(bytes: &mut Vec<u8>, pos: usize, piece: &[u8]) -> Result<(), Alloc
     Ok(())
 }
 
-impl Place {
+impl NamedFile {
     /// An empty regular file where nothing stands and one is to be made.
     pub(crate) fn open(&mut self, alloc: Global, make: bool) -> ImageKind
         ensures kind { result ≡ kind_of (file_of self.old.file) make }
@@ -132,7 +132,7 @@ impl Place {
         Ok(())
     }
 
-    fn copy(&self, alloc: Global) -> Result<Place, AllocError>
+    fn copy(&self, alloc: Global) -> Result<NamedFile, AllocError>
         ensures { IfOk result (λ copied. name_and_file copied ≡ name_and_file self.now) }
     {
         let name = Vec::from_slice(alloc, self.name.as_slice())?;
@@ -143,13 +143,13 @@ impl Place {
                 regular: file.regular,
             }),
         };
-        Ok(Place { name, file })
+        Ok(NamedFile { name, file })
     }
 }
 
 /// The first place with a name.
-fn find(places: &[Place], name: &[u8]) -> Option<usize>
-    ensures { MatchOption result ((k : ℕ) (d : Place) → k < length places.now
+fn find(places: &[NamedFile], name: &[u8]) -> Option<usize>
+    ensures { MatchOption result ((k : ℕ) (d : NamedFile) → k < length places.now
         → bytes_eq name.now (slice_index_or places.now k d).name.items ≡ false)
         (λ i. IsPlaceOf places.now name.now i) }
 {
@@ -163,7 +163,7 @@ fn find(places: &[Place], name: &[u8]) -> Option<usize>
 
 #[tactic(auto, using(crate::proofs::PlaceLemmas::place_lemmas))]
 /// What stands under a name.
-pub(crate) fn file_at<'a>(places: &'a [Place], name: &[u8]) -> Option<&'a MemoryFile>
+pub(crate) fn file_at<'a>(places: &'a [NamedFile], name: &[u8]) -> Option<&'a MemoryFile>
     ensures { MatchOption result (files_of places.now name.now ≡ None)
         (λ file. files_of places.now name.now ≡ Some
         (record { bytes = file.now.bytes.items; regular = file.now.regular })) }
@@ -176,7 +176,7 @@ pub(crate) fn file_at<'a>(places: &'a [Place], name: &[u8]) -> Option<&'a Memory
 /// The first place with a name, made where there is none.
 pub(crate) fn place_of(
     alloc: Global,
-    places: &mut Vec<Place>,
+    places: &mut Vec<NamedFile>,
     name: &[u8],
 ) -> Result<usize, AllocError>
     ensures place { IfOk result (λ i. IsPlaceOf places.new.items name.now i) }
@@ -187,13 +187,13 @@ pub(crate) fn place_of(
     }
     let made = places.len();
     let name = Vec::from_slice(alloc, name)?;
-    places.push(Place { name, file: None })?;
+    places.push(NamedFile { name, file: None })?;
     Ok(made)
 }
 
 #[tactic(auto, using(crate::proofs::PlaceLemmas::place_lemmas))]
 /// Takes away what stands under a name.
-pub(crate) fn take_file(places: &mut Vec<Place>, name: &[u8]) -> Option<MemoryFile>
+pub(crate) fn take_file(places: &mut Vec<NamedFile>, name: &[u8]) -> Option<MemoryFile>
     ensures value { file_of result ≡ files_of places.old.items name.now }
     ensures files { files_of places.new.items ≡ put (files_of places.old.items) name.now None }
     ensures kept { (n : List ℕ) (i : ℕ) → IsPlaceOf places.old.items n i → IsPlaceOf places.new.items n i }
@@ -202,7 +202,7 @@ pub(crate) fn take_file(places: &mut Vec<Place>, name: &[u8]) -> Option<MemoryFi
     places[i].file.take()
 }
 
-pub(crate) fn copy_places(alloc: Global, places: &[Place]) -> Result<Vec<Place>, AllocError>
+pub(crate) fn copy_places(alloc: Global, places: &[NamedFile]) -> Result<Vec<NamedFile>, AllocError>
     ensures { IfOk result (λ copied. files_of copied.items ≡ files_of places.now) }
 {
     let mut copied = Vec::new(alloc);

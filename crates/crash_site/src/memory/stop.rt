@@ -9,7 +9,7 @@ ghost use Rattle.crash_site.specs.CallLog.{call_of, entry_of, entries_of};
 ghost use Rattle.crash_site.specs.Stopped.{Replays};
 ghost use Rattle.crash_site.specs.Places.{file_of};
 
-use crate::memory::call_log::{Act, CallLog, Listed};
+use crate::memory::call_log::{Act, CallLog, LoggedCall};
 use crate::memory::memory_folder::{MemoryFolder, fits};
 use crate::memory::places::MemoryFile;
 use std::alloc::{AllocError, Global};
@@ -370,7 +370,7 @@ impl Replay {
     }
 
     /// Makes a call again.
-    fn step(&mut self, listed: &Listed) -> Result<(), AllocError>
+    fn step(&mut self, listed: &LoggedCall) -> Result<(), AllocError>
         ensures replays { OnOk result ((d : Disk) (files : List ℕ → Option File) → Replays self.old d files
             → Replays self.new (entered d (entry_of listed.now))
             (left_entry self.old.kind d (entry_of listed.now) files)) }

@@ -23,7 +23,7 @@ use Rattle.work_steps.proofs.BarrierLemmas.{in_load, in_barrier, no_read}
 use Rattle.ddrescue_cli.specs.declared.ending.Ending.{Ending}
 use Rattle.ddrescue_cli.specs.declared.ending.Ending.TheVariants.{MapRefused, SiteFault, NoMemory}
 use Rattle.ddrescue_cli.specs.declared.ending.Which.TheVariants.{RunMap}
-use Rattle.ddrescue_cli.specs.declared.load.Start.{Start}
+use Rattle.ddrescue_cli.specs.declared.load.LoadedMap.{LoadedMap}
 use Rattle.ddrescue_cli.specs.Refusals.{MapfileRefused}
 use Rattle.ddrescue_cli.specs.Work.{rescue_faults}
 use Rattle.ddrescue_cli.specs.Steps.{StartsAs, Loads}
@@ -40,14 +40,14 @@ none_stands file end map state (Silent there is within blank) fresh =
     record { stands = subst P (sym is) (AsNone blank fresh) }
 
 -- what a rescue begins with behind a mapfile that says nothing, and behind a map
-none_starts : (file : Option File) (end : ℕ) (start : Start) → IsLikeNone file
+none_starts : (file : Option File) (end : ℕ) (start : LoadedMap) → IsLikeNone file
     → IsFresh end start.tiles.statuses start.state → (start.first ≡ 0) × (start.listed_end ≡ 0) → StartsAs end start file
 none_starts file end start none fresh lists = record {
   stands = none_stands file end start.tiles.statuses start.state none fresh;
   lists = none_lists file start.first start.listed_end none lists.0 lists.1;
 }
 
-map_starts : (file : Option File) (end : ℕ) (m : ReadMap) (start : Start) → IsReadAs file Tight m
+map_starts : (file : Option File) (end : ℕ) (m : ReadMap) (start : LoadedMap) → IsReadAs file Tight m
     → start.tiles.statuses ≡ extended m.tiles.statuses end → start.state ≡ Some m.state
     → (start.first ≡ m.first) × (start.listed_end ≡ length m.tiles.statuses) → StartsAs end start file
 map_starts file end m start read extends shows lists =
@@ -68,7 +68,7 @@ map_starts file end m start read extends shows lists =
     }
 
 -- a load that went on to its end behind the barrier: with what the rescue begins with, or memory ran out for that
-load_starts : (names : MapNames) (end : ℕ) (start : Start) (P : Option File → Type 0) (old new : SiteState)
+load_starts : (names : MapNames) (end : ℕ) (start : LoadedMap) (P : Option File → Type 0) (old new : SiteState)
     → (e : Ended (barrier_calls names) names.map P old new) → ((v : Ending) → MapfileRefused e.file v → ⊥)
     → StartsAs end start e.file → Loads (Some names.map) end (Ok start) old new
 load_starts names end start P old new e pass starts = record {
@@ -109,7 +109,7 @@ Resumed names P old new =
     × LoadEnded (barrier_calls names) names.map (files_in old names.map) old.calls new.calls
 
 -- the mapfile says nothing
-pub fresh_loads : (names : MapNames) (end : ℕ) (r : Result Start Ending) (old new : SiteState) → Resumed names IsLikeNone old new
+pub fresh_loads : (names : MapNames) (end : ℕ) (r : Result LoadedMap Ending) (old new : SiteState) → Resumed names IsLikeNone old new
     → IsOfFile (files_in old names.map) old.tells IsLikeNone
     → IfOk r (λ start. IsFresh end start.tiles.statuses start.state)
     → IfOk r (λ start. (start.first ≡ 0) × (start.listed_end ≡ 0)) → IfErr r (λ e. e ≡ NoMemory)
@@ -123,7 +123,7 @@ fresh_loads names end (Err v) old new told of fresh lists starved =
     load_starves names end v IsLikeNone old new (ended (barrier_calls names) names.map IsLikeNone old new told of) starved
 
 -- it is a map
-pub map_loads : (names : MapNames) (end : ℕ) (m : ReadMap) (r : Result Start Ending) (old new : SiteState)
+pub map_loads : (names : MapNames) (end : ℕ) (m : ReadMap) (r : Result LoadedMap Ending) (old new : SiteState)
     → Resumed names (λ file. IsReadAs file Tight m) old new
     → IsOfFile (files_in old names.map) old.tells (λ file. IsReadAs file Tight m)
     → IfOk r (λ start. start.tiles.statuses ≡ extended m.tiles.statuses end) → IfOk r (λ start. start.state ≡ Some m.state)
@@ -226,7 +226,7 @@ broken_loads names end call old new (inr (inr is)) told =
     (λ t. subst (λ (c : SiteCall). BrokeAsResumed names (files_in old names.map) c old.calls new.calls) is (told t)))
 
 -- without a mapfile there is nothing to load
-pub none_loads : (end : ℕ) (r : Result Start Ending) (site : SiteState)
+pub none_loads : (end : ℕ) (r : Result LoadedMap Ending) (site : SiteState)
     → IfOk r (λ start. IsFresh end start.tiles.statuses start.state)
     → IfOk r (λ start. (start.first ≡ 0) × (start.listed_end ≡ 0)) → IfErr r (λ e. e ≡ NoMemory)
     → Loads None end r site site

@@ -26,14 +26,14 @@ use Rattle.rescue_command.specs.declared.options.Options.{Options}
 use Rattle.rescue_command.specs.Command.{Command}
 use Rattle.ddrescue_cli.specs.declared.ending.Ending.{Ending}
 use Rattle.ddrescue_cli.specs.declared.ending.Ending.TheVariants.{Usage, SourceFault}
-use Rattle.ddrescue_cli.specs.declared.load.Start.{Start}
+use Rattle.ddrescue_cli.specs.declared.load.LoadedMap.{LoadedMap}
 use Rattle.ddrescue_cli.specs.Names.{AreNamedApart}
 use Rattle.ddrescue_cli.specs.Asked.{names_by, place_by, setting_of, ArePlacedBy, IsBeyond}
 use Rattle.ddrescue_cli.specs.Maps.{Found, file_of, found_in, mapfile_of, seen_through}
 use Rattle.ddrescue_cli.specs.Refusals.{PlacesRefused}
 use Rattle.ddrescue_cli.specs.Outside.{AreOpens, HasGainedReads}
 use Rattle.ddrescue_cli.specs.Work.{Rescues, rescue_faults, output_rows, load_rows, opened_rows}
-use Rattle.ddrescue_cli.specs.Steps.{Gains, DidRun, OpensOutput, Loads, mapfile_by, maps_of, Opened}
+use Rattle.ddrescue_cli.specs.Steps.{Gains, DidRun, OpensOutput, Loads, mapfile_by, maps_of, DidBehindMaps}
 use Rattle.ddrescue_cli.proofs.files.ListingLemmas.{Listing, listed_if, own_listing, some_listing}
 use Rattle.ddrescue_cli.proofs.runs.RanLemmas.{ran_silent}
 
@@ -85,7 +85,7 @@ gains_alone test s0 s1 d0 d1 k x calls same grew = record {
 -- the input couldn't be opened
 pub input_fails : (c : Command) (l : List ℕ) (domain test : Option (List Status)) (heard : Bool) (s0 s1 : SourceState)
     (d : SiteState) (k : ClockState) (x : ConsoleState) → (IsTrue s0.tells → s1.journal ≡ s0.journal)
-    → IsNotOpen c.infile s0 s1 → Opened c l domain test heard heard SourceFault (across s0 s1 d d k k x x)
+    → IsNotOpen c.infile s0 s1 → DidBehindMaps c l domain test heard heard SourceFault (across s0 s1 d d k k x x)
 input_fails c l domain test heard s0 s1 d k x same opens =
     let found : Found = found_in c (files_in d) in
     let some : (listed : Option (ℕ × ℕ)) × Listing c found.mapfile listed = some_listing c found.mapfile in
@@ -112,7 +112,7 @@ input_fails c l domain test heard s0 s1 d k x same opens =
 pub output_fails : (c : Command) (l : List ℕ) (domain test : Option (List Status)) (heard : Bool) (end : ℕ) (e : Ending)
     (s0 s1 : SourceState) (d0 d1 : SiteState) (k : ClockState) (x : ConsoleState) → HasInput c.infile end s0 s1
     → OpensOutput {T = Unit {0}} true c.options.forced c.outfile (Err e) d0 d1
-    → Opened c l domain test heard heard e (across s0 s1 d0 d1 k k x x)
+    → DidBehindMaps c l domain test heard heard e (across s0 s1 d0 d1 k k x x)
 output_fails c l domain test heard end e s0 s1 d0 d1 k x input o =
     let found : Found = record (found_in c (files_in d0)) { output = o.file } in
     let some : (listed : Option (ℕ × ℕ)) × Listing c found.mapfile listed = some_listing c found.mapfile in
@@ -165,7 +165,7 @@ open_apart makes start start' out name old new same apart made =
     ∙ opened_apart makes (after start old) out name apart ((after start old).files out)
 
 -- The output is open, made or not where it was absent, and the mapfile was loaded with this outcome, if there is one.
-pub record HasLoaded (makes : Bool) (c : Command) (n : Option MapNames) (end : ℕ) (r : Result Start Ending)
+pub record HasLoaded (makes : Bool) (c : Command) (n : Option MapNames) (end : ℕ) (r : Result LoadedMap Ending)
     (d0 d1 d2 : SiteState) : Type 0 where
   pub names : n ≡ names_by c
   pub apart : AreNamedApart c.outfile n
@@ -177,7 +177,7 @@ by_names : (mapfile : Option (List ℕ)) → mapfile_by (option_map names_of map
 by_names None = refl
 by_names (Some name) = refl
 
-pub own_loads : (makes : Bool) (c : Command) (n : Option MapNames) (end : ℕ) (r : Result Start Ending) (d0 d1 d2 : SiteState)
+pub own_loads : (makes : Bool) (c : Command) (n : Option MapNames) (end : ℕ) (r : Result LoadedMap Ending) (d0 d1 d2 : SiteState)
     → HasLoaded makes c n end r d0 d1 d2 → Loads c.mapfile end r d1 d2
 own_loads makes c n end r d0 d1 d2 h =
     subst (λ (m : Option (List ℕ)). Loads m end r d1 d2) (ap mapfile_by h.names ∙ by_names c.mapfile) h.loads
@@ -198,7 +198,7 @@ only_open false forced out file calls t =
     t.1 ∙ ap (λ (r : List Entry). Returned (image_open out false) ∷ r) t.2.1.1
 
 -- the mapfile that was loaded is the one that stood there before
-pub own_mapfile : (makes : Bool) (c : Command) (n : Option MapNames) (end : ℕ) (r : Result Start Ending)
+pub own_mapfile : (makes : Bool) (c : Command) (n : Option MapNames) (end : ℕ) (r : Result LoadedMap Ending)
     (d0 d1 d2 : SiteState) → (h : HasLoaded makes c n end r d0 d1 d2) → (file : Option File)
     → (IsTrue d1.tells → file ≡ file_of c.mapfile (files_in d1)) → IsTrue d0.tells → file ≡ mapfile_of c (files_in d0)
 own_mapfile makes c n end r d0 d1 d2 h file own td =
@@ -211,7 +211,7 @@ own_mapfile makes c n end r d0 d1 d2 h file own td =
 pub load_fails : (c : Command) (l : List ℕ) (domain test : Option (List Status)) (heard : Bool) (n : Option MapNames)
     (end : ℕ) (e : Ending) (s0 s1 : SourceState) (d0 d1 d2 : SiteState) (k : ClockState) (x : ConsoleState)
     → HasInput c.infile end s0 s1 → HasLoaded true c n end (Err e) d0 d1 d2
-    → Opened c l domain test heard heard e (across s0 s1 d0 d2 k k x x)
+    → DidBehindMaps c l domain test heard heard e (across s0 s1 d0 d2 k k x x)
 load_fails c l domain test heard n end e s0 s1 d0 d1 d2 k x input h =
     let o : OpensOutput {T = Unit {0}} true c.options.forced c.outfile (Ok tt) d0 d1 = h.output in
     let p : Loads c.mapfile end (Err e) d1 d2 = own_loads true c n end (Err e) d0 d1 d2 h in
@@ -266,9 +266,9 @@ loaded_goes c found end run e output load d t u w =
 
 -- a position has no place in the output
 pub place_fails : (c : Command) (l : List ℕ) (domain test : Option (List Status)) (heard : Bool) (n : Option MapNames)
-    (end : ℕ) (start : Start) (s0 s1 : SourceState) (d0 d1 d2 : SiteState) (k : ClockState) (x : ConsoleState)
+    (end : ℕ) (start : LoadedMap) (s0 s1 : SourceState) (d0 d1 d2 : SiteState) (k : ClockState) (x : ConsoleState)
     → HasInput c.infile end s0 s1 → HasLoaded true c n end (Ok start) d0 d1 d2 → IsBeyond c.options end
-    → Opened c l domain test heard heard (Usage PlaceTooLarge) (across s0 s1 d0 d2 k k x x)
+    → DidBehindMaps c l domain test heard heard (Usage PlaceTooLarge) (across s0 s1 d0 d2 k k x x)
 place_fails c l domain test heard n end start s0 s1 d0 d1 d2 k x input h far =
     let o : OpensOutput {T = Unit {0}} true c.options.forced c.outfile (Ok tt) d0 d1 = h.output in
     let p : Loads c.mapfile end (Ok start) d1 d2 = own_loads true c n end (Ok start) d0 d1 d2 h in
@@ -309,13 +309,13 @@ placed_passes o end placed e refused =
 
 -- a run came behind it, which may not have begun
 pub run_goes : (c : Command) (l : List ℕ) (domain test : Option (List Status)) (heard heard' : Bool) (n : Option MapNames)
-    (end : ℕ) (start : Start) (e : Ending) (s0 s1 s2 : SourceState) (d0 d1 d2 d3 : SiteState) (k k' : ClockState)
+    (end : ℕ) (start : LoadedMap) (e : Ending) (s0 s1 s2 : SourceState) (d0 d1 d2 d3 : SiteState) (k k' : ClockState)
     (x x' : ConsoleState) → HasInput c.infile end s0 s1 → HasLoaded true c n end (Ok start) d0 d1 d2 → d2.tells ≡ d0.tells
     → ArePlacedBy c.options end → SourceStays s1 s2
     → DidRun (setting_of c l end
     (maps_of domain test (listed_if c.options.complete_only start.first start.listed_end))) test start.tiles.statuses
     start.state heard heard' e (across s1 s2 d2 d3 k k' x x')
-    → Opened c l domain test heard heard' e (across s0 s2 d0 d3 k k' x x')
+    → DidBehindMaps c l domain test heard heard' e (across s0 s2 d0 d3 k k' x x')
 run_goes c l domain test heard heard' n end start e s0 s1 s2 d0 d1 d2 d3 k k' x x' input h told placed stays ran =
     let o : OpensOutput {T = Unit {0}} true c.options.forced c.outfile (Ok tt) d0 d1 = h.output in
     let p : Loads c.mapfile end (Ok start) d1 d2 = own_loads true c n end (Ok start) d0 d1 d2 h in

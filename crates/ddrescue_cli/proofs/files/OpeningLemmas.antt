@@ -4,7 +4,7 @@ use Rattle.std.specs.Prelude.{codes}
 use Rattle.std.specs.Fmt.{decimal}
 use Rattle.std.proofs.Math.Path.{fun_ext}
 use Rattle.block_list.specs.Areas.{count_below}
-use Rattle.block_list.specs.declared.block.Run.{Run}
+use Rattle.block_list.specs.declared.block.Range.{Range}
 use Rattle.mapfile_text.specs.Printed.{shown_byte}
 use Rattle.rescue_domain.specs.Domain.{IsSize}
 use Rattle.rescue_domain.specs.Parts.{covers}
@@ -16,7 +16,7 @@ use Rattle.ddrescue_cli.specs.Running.{settings_by}
 use Rattle.ddrescue_cli.proofs.runs.BeginLemmas.{asked_suits}
 
 -- the size of the domain that is asked for, below a map's end
-size_asked : (o : Options) (end : ℕ) (maps : Maps) (domain : List Run) (size top : ℕ) → IsSize (covers domain) size
+size_asked : (o : Options) (end : ℕ) (maps : Maps) (domain : List Range) (size top : ℕ) → IsSize (covers domain) size
     → ((x : ℕ) → covers domain x ≡ domain_asked o end maps x) → end ≤ top
     → size ≡ count_below (domain_asked o end maps) top
 size_asked o end maps domain size top is asked long =
@@ -30,7 +30,7 @@ said_first c size =
     codes "domain of " ++ decimal size ++ codes " B from " ++ map shown_byte c.infile ++ codes " to "
     ++ map shown_byte c.outfile ++ 10 ∷ []
 
-pub says_size : (c : Command) (line : List ℕ) (end : ℕ) (maps : Maps) (domain : List Run) (size top : ℕ) (text : List ℕ)
+pub says_size : (c : Command) (line : List ℕ) (end : ℕ) (maps : Maps) (domain : List Range) (size top : ℕ) (text : List ℕ)
     → c.options.verbose ≡ true → text ≡ said_first c size → IsSize (covers domain) size
     → ((x : ℕ) → covers domain x ≡ domain_asked c.options end maps x) → end ≤ top
     → text ∷ [] ≡ opening_lines (setting_of c line end maps) top

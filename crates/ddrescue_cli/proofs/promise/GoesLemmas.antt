@@ -25,7 +25,7 @@ use Rattle.rescue_command.specs.declared.options.Options.{Options}
 use Rattle.rescue_command.specs.Command.{Command}
 use Rattle.save_resume.specs.Named.{map_mode}
 use Rattle.ddrescue_cli.specs.Refusals.{MapfileRefused, PlacesRefused}
-use Rattle.work_steps.specs.Work.{Deeds, Step, Look, Read, Works, with_calls, with_opens}
+use Rattle.work_steps.specs.Work.{Deeds, WorkStep, Look, Read, Works, with_calls, with_opens}
 use Rattle.ddrescue_cli.specs.Asked.{Maps, setting_asked, setting_of}
 use Rattle.ddrescue_cli.specs.Maps.{file_of, found_in, mapfile_of}
 use Rattle.ddrescue_cli.specs.Work.{Rescues, RunsOver, rescue_faults, map_rows, load_rows, opened_rows, worked_rows}
@@ -200,7 +200,7 @@ none_goes s files g on none unread =
     BehindMaps [] g.calls (All-nil IsMapRead) refl (opening_goes s files g [] (settling_calls s) on refl unread (inl none))
 
 -- a rescue that reads a map, if an option names one, and goes on as it should
-map_goes : (which : Which) (mode : Mode) (name : Option (List ℕ)) (s : Setting) (files : List ℕ → Option File) (more : List (Step Ending))
+map_goes : (which : Which) (mode : Mode) (name : Option (List ℕ)) (s : Setting) (files : List ℕ → Option File) (more : List (WorkStep Ending))
     (run : Ending → Deeds → Type 0) (e : Ending) (d : Deeds) → s.has_mapfile ≡ true
     → ((h : Deeds) → Works rescue_faults more run e h → Goes s files h.gain)
     → Works rescue_faults (map_rows which mode name (file_of name files) ++ more) run e d → Goes s files d.gain
@@ -227,7 +227,7 @@ pub work_goes : (c : Command) (line : List ℕ) (end : ℕ) (maps : Maps) (files
 work_goes c line end maps files lines e d on works =
     let s : Setting = setting_of c line end maps in
     let run : Ending → Deeds → Type 0 = Rescues s (mapfile_of c files) lines in
-    let opening : List (Step Ending) = opened_rows c (found_in c files) end in
+    let opening : List (WorkStep Ending) = opened_rows c (found_in c files) end in
     map_goes DomainMap (map_mode c.options.loose) c.domain_map s files
     (map_rows TestMap (map_mode c.options.loose) c.test_map (file_of c.test_map files) ++ opening) run e d on
     (λ h more. map_goes TestMap (map_mode c.options.loose) c.test_map s files opening run e h on

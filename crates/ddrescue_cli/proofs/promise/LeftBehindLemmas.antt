@@ -31,7 +31,7 @@ use Rattle.ddrescue_cli.specs.Ddrescue.{Promise}
 use Rattle.ddrescue_cli.specs.Laws.{FilesAreLeft}
 use Rattle.work_steps.proofs.FrontLemmas.{load_reads, reads_stand, broken_stands}
 use Rattle.work_steps.specs.Work.{Deeds, Look, Read, Works}
-use Rattle.work_steps.specs.Holds.{Holds, behind}
+use Rattle.work_steps.specs.Holds.{Holds, behind_calls}
 use Rattle.work_steps.proofs.HoldsLemmas.{holds, holds_more}
 use Rattle.save_resume.specs.Saving.{IsNameIn}
 use Rattle.rescue_rules.proofs.SaveStages.{put_own}
@@ -73,7 +73,7 @@ broken_read now name file load new begins broke =
     ap (λ (d : Folder). d.files) (broken_stands MapRead load now [] new (load_reads name file load begins) broke)
 
 behind_read : (c : Command) (before now : Folder) (name : List ℕ) (file : Option File) (load : List Call) → BeginsLoad name file load
-    → (e : Ending) (d : Deeds) → Leaves c before now e d → Leaves c before now e (behind load d)
+    → (e : Ending) (d : Deeds) → Leaves c before now e d → Leaves c before now e (behind_calls load d)
 behind_read c before now name file load begins e d left =
     let same : after now (map Returned load ++ d.gain.calls) ≡ after now d.gain.calls =
     after-append now (map Returned load) d.gain.calls
@@ -81,7 +81,7 @@ behind_read c before now name file load begins e d left =
     subst (λ (n : Folder). IsLeft e (names_maps c) c.outfile before.files n.files) (sym same) left
 
 behind_barrier : (c : Command) (before now : Folder) (mapfile : Option (List ℕ)) (e : Ending) (d : Deeds) → Leaves c before now e d
-    → Leaves c before now e (behind (barrier_of mapfile) d)
+    → Leaves c before now e (behind_calls (barrier_of mapfile) d)
 behind_barrier c before now None e d left = left
 behind_barrier c before now (Some n) e d left = left
 
@@ -226,7 +226,7 @@ leaves_steps c here end run ends late =
             (inl (subst Made (sym (broken_read now n found.mapfile load d.gain.calls begins broke)) made))),
         (λ load d begins all only. starved_left (names_maps c) c.outfile here.files _),
         λ load loaded.
-            holds_more rescue_faults (behind_mapfile c found end) run Q (λ e d. Q e (behind load d))
+            holds_more rescue_faults (behind_mapfile c found end) run Q (λ e d. Q e (behind_calls load d))
             (behind_read c here now n found.mapfile load loaded.begins) refusal,
       ),
     ) in
@@ -258,7 +258,7 @@ leaves_steps c here end run ends late =
             λ output. (
               (λ call d broke only. barrier_leaves c call here.files _ (broke_named call (barrier_of c.mapfile) [] d.gain.calls broke)),
               holds_more rescue_faults (Read c.mapfile found.mapfile ∷ behind_mapfile c found end) run Q
-                  (λ e d. Q e (behind (barrier_of c.mapfile) d)) (behind_barrier c here now c.mapfile) load,
+                  (λ e d. Q e (behind_calls (barrier_of c.mapfile) d)) (behind_barrier c here now c.mapfile) load,
             ),
           ),
         ),
@@ -276,7 +276,7 @@ leaves_steps c here end run ends late =
               (inr (names_test c n is, all_stand here.files _ (broken_read here n found.test load d.gain.calls begins broke)))),
           (λ load d begins all only. starved_left (names_maps c) c.outfile here.files _),
           λ load loaded.
-              holds_more rescue_faults (behind_test c found end) run P (λ e d. P e (behind load d))
+              holds_more rescue_faults (behind_test c found end) run P (λ e d. P e (behind_calls load d))
               (behind_read c here here n found.test load loaded.begins) rest,
         ),
       ),
@@ -297,7 +297,7 @@ leaves_steps c here end run ends late =
                 (inr (names_domain c n is, all_stand here.files _ (broken_read here n found.domain load d.gain.calls begins broke)))),
             (λ load d begins all only. starved_left (names_maps c) c.outfile here.files _),
             λ load loaded.
-                holds_more rescue_faults (behind_domain c found end) run P (λ e d. P e (behind load d))
+                holds_more rescue_faults (behind_domain c found end) run P (λ e d. P e (behind_calls load d))
                 (behind_read c here here n found.domain load loaded.begins) maps,
           ),
         ),

@@ -10,7 +10,7 @@ use Rattle.rescue_command.specs.declared.command.Task.{Task as TaskCode}
 use Rattle.rescue_command.specs.Command.{Command, Sample, AreInLimits, AskSample, IsAsked, IsInLimits, IsTask, is_quiet, told_by}
 use Rattle.ddrescue_cli.specs.declared.aim.Aim.{Aim}
 use Rattle.ddrescue_cli.specs.declared.aim.Aim.TheVariants.{Rescue as ToRescue, Fill as ToFill, Generate as ToGenerate}
-use Rattle.ddrescue_cli.specs.declared.plan.Plan.{Plan}
+use Rattle.ddrescue_cli.specs.declared.plan.CheckedCommand.{CheckedCommand}
 use Rattle.ddrescue_cli.specs.Messages.{message_pieces}
 use Rattle.ddrescue_cli.specs.Names.{first_same, AreNamedApart, program_name}
 use Rattle.ddrescue_cli.specs.Asked.{names_by}
@@ -60,16 +60,16 @@ named_for ToGenerate c h = h.named
 -- ---- what it needs before it opens a file
 
 -- a plan that was made for a command, whose files have different names
-pub record IsMadeFor (plan : Plan) (c : Command) (line : List ℕ) : Type 0 where
+pub record IsMadeFor (plan : CheckedCommand) (c : Command) (line : List ℕ) : Type 0 where
   pub command : told_by plan.command ≡ c
   pub names : plan.names ≡ names_by c
   pub heading : plan.heading ≡ heading_at line 0 0
   pub different : first_same c.infile c.outfile (names_by c) ≡ None
 
-pub line_made : (plan : Plan) (c : Command) (line : List ℕ) → IsMadeFor plan c line → plan.heading.line ≡ line
+pub line_made : (plan : CheckedCommand) (c : Command) (line : List ℕ) → IsMadeFor plan c line → plan.heading.line ≡ line
 line_made plan c line h = ap (λ (x : HeadingLines). x.line) h.heading
 
-pub planned_for : (aim : Aim) (plan : Plan) (c : Command) (line : List ℕ) → IsMadeFor plan c line
+pub planned_for : (aim : Aim) (plan : CheckedCommand) (c : Command) (line : List ℕ) → IsMadeFor plan c line
     → IsInLimits (task_for aim c) → IsPlanned plan
 planned_for aim plan c line h limits =
     let same : c ≡ told_by plan.command = sym h.command in
@@ -85,7 +85,7 @@ planned_for aim plan c line h limits =
       limits = subst (λ (x : Command). AreInLimits x.options) same (limits_for aim c limits);
     }
 
-pub named_by_plan : (aim : Aim) (plan : Plan) (c : Command) (line : List ℕ) → IsMadeFor plan c line
+pub named_by_plan : (aim : Aim) (plan : CheckedCommand) (c : Command) (line : List ℕ) → IsMadeFor plan c line
     → IsInLimits (task_for aim c) → IsNamedFor aim (told_by plan.command)
 named_by_plan aim plan c line h limits = subst (IsNamedFor aim) (sym h.command) (named_for aim c limits)
 
@@ -103,7 +103,7 @@ kept_for t ToGenerate c heard heard' between a different w l says =
     generate_kept t c heard heard' between a different w l says
 
 -- by what was done by a plan that was made for it
-pub task_kept : (t : Told) (aim : Aim) (plan : Plan) (c : Command) (heard heard' : Bool) (between : ConsoleState)
+pub task_kept : (t : Told) (aim : Aim) (plan : CheckedCommand) (c : Command) (heard heard' : Bool) (between : ConsoleState)
     → IsAsked t.words (task_for aim c) → IsMadeFor plan c (command_line program_name t.words)
     → WorkedFor aim (told_by plan.command) plan.heading.line (not c.options.quiet) heard t.answer (up_to t between)
     → Leaves t → SpeaksOn (message_pieces t.answer) heard heard' between t.console' → Ddrescue t

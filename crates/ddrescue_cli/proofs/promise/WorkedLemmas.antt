@@ -29,7 +29,7 @@ use Rattle.ddrescue_cli.specs.declared.ending.Ending.{Ending}
 use Rattle.ddrescue_cli.specs.Asked.{Maps, setting_of}
 use Rattle.ddrescue_cli.specs.Maps.{Found, IsNamedMap, file_of, found_in, mapfile_of}
 use Rattle.ddrescue_cli.specs.Work.{Rescues, rescue_faults, map_rows, opened_rows}
-use Rattle.ddrescue_cli.specs.Steps.{statuses_in, HasTiles, ReadsMap, IsOnlyMaps, maps_of, Opened, Worked}
+use Rattle.ddrescue_cli.specs.Steps.{statuses_in, HasTiles, ReadsMap, IsOnlyMaps, maps_of, DidBehindMaps, Worked}
 use Rattle.ddrescue_cli.proofs.files.OpenedLemmas.{none_seen}
 use Rattle.copy_passes.proofs.TurnLemmas.{between as across}
 use Rattle.rescue_core.proofs.TurnEndLemmas.{says_none}
@@ -234,7 +234,7 @@ pub worked_behind : (c : Command) (line : List ℕ) (domain test : Option Tiled)
     (s0 s1 : SourceState) (old mid new last : SiteState) (k k' : ClockState) (x x' : ConsoleState)
     → ReadsMap DomainMap (mode_by c) c.domain_map (Ok domain) old mid → Stays old mid
     → ReadsMap TestMap (mode_by c) c.test_map (Ok test) mid new → Stays mid new
-    → Opened c line (statuses_in domain) (statuses_in test) heard heard' e (across s0 s1 new last k k' x x')
+    → DidBehindMaps c line (statuses_in domain) (statuses_in test) heard heard' e (across s0 s1 new last k k' x x')
     → Worked c line heard heard' e (across s0 s1 old last k k' x x')
 worked_behind c line domain test heard heard' e s0 s1 old mid new last k k' x x' f stays h stays' o =
     let found : Found = record o.found { domain = f.file; test = h.file } in

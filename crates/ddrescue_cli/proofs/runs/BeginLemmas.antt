@@ -1,7 +1,7 @@
 -- A run begins with what options ask for.
 use Rattle.std.proofs.Common.{◌≡◌, ℕ, ◌+◌, ◌-◌, ◌*◌, ◌/◌, ◌<◌, ◌≤◌, ◌^◌, Bool, true, List, length, Option, Some, None, IfSome, unwrap_or, refl, sym, ap, ◌∙◌, arith, subst}
 use Rattle.std.proofs.Math.Nat.{div-mul-le_self, le-div_iff_mul-le, mul-le-mul_right}
-use Rattle.block_list.specs.declared.block.Run.{Run}
+use Rattle.block_list.specs.declared.block.Range.{Range}
 use Rattle.block_list.specs.declared.status.Status.{Status}
 use Rattle.mapfile_text.specs.declared.state.MapState.{MapState}
 use Rattle.save_resume.specs.MapNames.{MapNames}
@@ -12,16 +12,16 @@ use Rattle.rescue_rules.specs.Machine.{Machine}
 use Rattle.rescue_rules.specs.Preparation.{prepared, prepared_status}
 use Rattle.rescue_rules.specs.Beginning.{goes_on_from, shown_at_first, machine_of}
 use Rattle.rescue_core.specs.declared.settings.Settings.{Settings}
-use Rattle.rescue_core.specs.RunState.{RunState, setting_with, setting_in, started, showing, HasPlaces, Suits, IsSound as SettingsSound}
+use Rattle.rescue_core.specs.RunState.{RunState, setting_with, setting_in, started, run_showing, HasPlaces, Suits, IsSound as SettingsSound}
 use Rattle.rescue_core.proofs.PrepareLemmas.{change_is_made}
-use Rattle.copy_passes.specs.Copying.{IsCopying}
+use Rattle.copy_passes.specs.Copying.{MayCopy}
 use Rattle.copy_passes.proofs.StartLemmas.{start_may_copy, shown_may_copy}
 use Rattle.rescue_command.specs.declared.options.Options.{Options}
 use Rattle.rescue_command.specs.Options.{sectors_of}
 use Rattle.rescue_command.specs.Command.{AreInLimits}
 use Rattle.rescue_domain.proofs.PlaceLemmas.{whole_from}
 use Rattle.ddrescue_cli.specs.Asked.{Maps, ArePlacedBy, in_list, domain_asked}
-use Rattle.ddrescue_cli.specs.Steps.{Fits}
+use Rattle.ddrescue_cli.specs.Steps.{SuitsInput}
 use Rattle.ddrescue_cli.specs.Running.{settings_by, IsRunOver}
 
 below_limit : (output : Option ℕ) (input : ℕ) → input < 2 ^ 63 → IfSome output (λ n. n < 2 ^ 63) → unwrap_or output input < 2 ^ 63
@@ -70,16 +70,16 @@ asked_in_whole o end maps x inside =
     (in_list_in (in_map (whole_domain o.input_position o.size end) maps.domain) maps.listed x inside)
 
 -- the domain that options and maps ask for, as a run has it
-abbrev IsAsked : Options → ℕ → Maps → List Run → Type 0
+abbrev IsAsked : Options → ℕ → Maps → List Range → Type 0
 IsAsked o end maps domain = (x : ℕ) → covers domain x ≡ domain_asked o end maps x
 
 -- it has no position but those that options ask for
-asked_whole : (o : Options) (end : ℕ) (maps : Maps) (domain : List Run) (x : ℕ) → IsAsked o end maps domain
+asked_whole : (o : Options) (end : ℕ) (maps : Maps) (domain : List Range) (x : ℕ) → IsAsked o end maps domain
     → covers domain x ≡ true → whole_domain o.input_position o.size end x ≡ true
 asked_whole o end maps domain x asked inside = asked_in_whole o end maps x (sym (asked x) ∙ inside)
 
 -- it suits a map that reaches the input's end
-pub asked_suits : (settings : Settings) (domain : List Run) (o : Options) (end : ℕ) (maps : Maps) (top : ℕ)
+pub asked_suits : (settings : Settings) (domain : List Range) (o : Options) (end : ℕ) (maps : Maps) (top : ℕ)
     → settings ≡ settings_by o → IsAsked o end maps domain → end ≤ top → Suits settings (covers domain) top
 asked_suits settings domain o end maps top is asked long =
     subst (λ (t : Settings). Suits t (covers domain) top) (sym is)
@@ -90,46 +90,46 @@ asked_suits settings domain o end maps top is asked long =
     })
 
 -- and each of its positions has a place in the output
-pub asked_placed : (settings : Settings) (domain : List Run) (o : Options) (end : ℕ) (maps : Maps)
+pub asked_placed : (settings : Settings) (domain : List Range) (o : Options) (end : ℕ) (maps : Maps)
     → settings ≡ settings_by o → ArePlacedBy o end → IsAsked o end maps domain → HasPlaces settings (covers domain)
 asked_placed settings domain o end maps is placed asked =
     subst (λ (t : Settings). HasPlaces t (covers domain)) (sym is)
     (record { low = λ x inside. placed x (asked_whole o end maps domain x asked inside) })
 
 -- the map that is made of one
-abbrev made_of_map : List Run → Options → List Status → List Status
+abbrev made_of_map : List Range → Options → List Status → List Status
 made_of_map domain o statuses = prepared (covers domain) o.try_again o.retrim statuses
 
 -- it has as many positions
-pub made_long : (domain : List Run) (o : Options) (statuses : List Status) → length (made_of_map domain o statuses) ≡ length statuses
+pub made_long : (domain : List Range) (o : Options) (statuses : List Status) → length (made_of_map domain o statuses) ≡ length statuses
 made_long domain o statuses =
     (change_is_made (covers domain) (prepared_status o.try_again o.retrim) statuses).size
 
-pub suits_made : (settings : Settings) (domain : List Run) (o : Options) (end : ℕ) (maps : Maps)
+pub suits_made : (settings : Settings) (domain : List Range) (o : Options) (end : ℕ) (maps : Maps)
     (statuses made : List Status) → settings ≡ settings_by o → IsAsked o end maps domain → end ≤ length statuses
     → made ≡ made_of_map domain o statuses → Suits settings (covers domain) (length made)
 suits_made settings domain o end maps statuses made is asked long made_is =
     asked_suits settings domain o end maps (length made) is asked
     (omega (arith, long, ap length made_is, made_long domain o statuses))
 
-pub short_made : (domain : List Run) (o : Options) (statuses made : List Status) → length statuses < 2 ^ 63
+pub short_made : (domain : List Range) (o : Options) (statuses made : List Status) → length statuses < 2 ^ 63
     → made ≡ made_of_map domain o statuses → length made < 2 ^ 63
 short_made domain o statuses made short made_is = omega (arith, short, ap length made_is, made_long domain o statuses)
 
 -- a run at its start over that map, which shows what a mapfile showed, if it showed something
-abbrev pub begun_with : Settings → List Run → Option MapNames → List ℕ → Options → List Status → Option MapState → ℕ → Bool
+abbrev pub begun_with : Settings → List Range → Option MapNames → List ℕ → Options → List Status → Option MapState → ℕ → Bool
     → RunState
 begun_with settings domain names line o statuses None moment heard =
     started settings domain names line (made_of_map domain o statuses) None moment heard
 begun_with settings domain names line o statuses (Some shown) moment heard =
-    showing
+    run_showing
     (started settings domain names line (made_of_map domain o statuses) (goes_on_from o.try_again (Some shown)) moment heard)
     shown
 
-begun_copies : (settings : Settings) (domain : List Run) (names : Option MapNames) (line : List ℕ) (o : Options)
+begun_copies : (settings : Settings) (domain : List Range) (names : Option MapNames) (line : List ℕ) (o : Options)
     (statuses : List Status) (state : Option MapState) (moment : ℕ) (heard : Bool) → SettingsSound settings
     → Suits settings (covers domain) (length (made_of_map domain o statuses))
-    → IsCopying (begun_with settings domain names line o statuses state moment heard)
+    → MayCopy (begun_with settings domain names line o statuses state moment heard)
 begun_copies settings domain names line o statuses None moment heard sound suits =
     start_may_copy settings domain names line (made_of_map domain o statuses) None moment heard sound suits
 begun_copies settings domain names line o statuses (Some shown) moment heard sound suits =
@@ -138,12 +138,12 @@ begun_copies settings domain names line o statuses (Some shown) moment heard sou
     (start_may_copy settings domain names line (made_of_map domain o statuses) from moment heard sound suits)
 
 -- the machine that such a run begins with
-abbrev begun_machine : Settings → List Run → Option MapNames → List ℕ → Options → List Status → Option MapState → ℕ → Machine
+abbrev begun_machine : Settings → List Range → Option MapNames → List ℕ → Options → List Status → Option MapState → ℕ → Machine
 begun_machine settings domain names line o statuses state moment =
     machine_of (setting_with settings domain names line) (made_of_map domain o statuses) (goes_on_from o.try_again state)
     (shown_at_first state) moment
 
-begun_is : (settings : Settings) (domain : List Run) (names : Option MapNames) (line : List ℕ) (o : Options)
+begun_is : (settings : Settings) (domain : List Range) (names : Option MapNames) (line : List ℕ) (o : Options)
     (statuses : List Status) (state : Option MapState) (moment : ℕ) (heard : Bool)
     → (begun_with settings domain names line o statuses state moment heard).machine
     ≡ begun_machine settings domain names line o statuses state moment
@@ -151,7 +151,7 @@ begun_is settings domain names line o statuses None moment heard = refl
 begun_is settings domain names line o statuses (Some shown) moment heard = refl
 
 -- what else such a run has
-record HasParts (settings : Settings) (domain : List Run) (names : Option MapNames) (line : List ℕ) (heard : Bool)
+record HasParts (settings : Settings) (domain : List Range) (names : Option MapNames) (line : List ℕ) (heard : Bool)
     (r : RunState) : Type 0 where
   settings_are : r.settings ≡ settings
   domain_is : r.domain ≡ domain
@@ -159,7 +159,7 @@ record HasParts (settings : Settings) (domain : List Run) (names : Option MapNam
   line_is : r.line ≡ line
   heard_is : r.heard ≡ heard
 
-begun_parts : (settings : Settings) (domain : List Run) (names : Option MapNames) (line : List ℕ) (o : Options)
+begun_parts : (settings : Settings) (domain : List Range) (names : Option MapNames) (line : List ℕ) (o : Options)
     (statuses : List Status) (state : Option MapState) (moment : ℕ) (heard : Bool)
     → HasParts settings domain names line heard (begun_with settings domain names line o statuses state moment heard)
 begun_parts settings domain names line o statuses None moment heard =
@@ -167,16 +167,16 @@ begun_parts settings domain names line o statuses None moment heard =
 begun_parts settings domain names line o statuses (Some shown) moment heard =
     record { settings_are = refl; domain_is = refl; names_are = refl; line_is = refl; heard_is = refl }
 
-setting_begun : (settings : Settings) (domain : List Run) (names : Option MapNames) (line : List ℕ) (o : Options)
+setting_begun : (settings : Settings) (domain : List Range) (names : Option MapNames) (line : List ℕ) (o : Options)
     (statuses : List Status) (state : Option MapState) (moment : ℕ) (heard : Bool)
     → setting_in (begun_with settings domain names line o statuses state moment heard)
     ≡ setting_with settings domain names line
 setting_begun settings domain names line o statuses None moment heard = refl
 setting_begun settings domain names line o statuses (Some shown) moment heard = refl
 
-pub begun_over : (settings : Settings) (domain : List Run) (names : Option MapNames) (line : List ℕ) (o : Options)
+pub begun_over : (settings : Settings) (domain : List Range) (names : Option MapNames) (line : List ℕ) (o : Options)
     (end : ℕ) (maps : Maps) (statuses : List Status) (state : Option MapState) (moment : ℕ) (heard : Bool) (r : RunState)
-    → AreInLimits o → ArePlacedBy o end → Fits end statuses state → settings ≡ settings_by o → IsAsked o end maps domain
+    → AreInLimits o → ArePlacedBy o end → SuitsInput end statuses state → settings ≡ settings_by o → IsAsked o end maps domain
     → r ≡ begun_with settings domain names line o statuses state moment heard
     → IsRunOver names line o end maps statuses state moment heard r
 begun_over settings domain names line o end maps statuses state moment heard r limits placed fits is asked made =
@@ -185,7 +185,7 @@ begun_over settings domain names line o end maps statuses state moment heard r l
     begun_parts settings domain names line o statuses state moment heard in
     let long : end ≤ length (made_of_map domain o statuses) = omega (arith, fits.long, made_long domain o statuses) in
     let positions : (x : ℕ) → covers q.domain x ≡ domain_asked o end maps x =
-    λ x. ap (λ (d : List Run). covers d x) parts.domain_is ∙ asked x in
+    λ x. ap (λ (d : List Range). covers d x) parts.domain_is ∙ asked x in
     subst (IsRunOver names line o end maps statuses state moment heard) (sym made)
     (record {
       copying = begun_copies settings domain names line o statuses state moment heard (sound_settings settings o is limits)
@@ -199,12 +199,12 @@ begun_over settings domain names line o end maps statuses state moment heard r l
       machine = begun_is settings domain names line o statuses state moment heard
           ∙ ap (λ (s : Setting). machine_of s (made_of_map domain o statuses) (goes_on_from o.try_again state) (shown_at_first state) moment)
           (sym (setting_begun settings domain names line o statuses state moment heard))
-          ∙ ap (λ (d : List Run). machine_of (setting_in q) (prepared (covers d) o.try_again o.retrim statuses)
+          ∙ ap (λ (d : List Range). machine_of (setting_in q) (prepared (covers d) o.try_again o.retrim statuses)
           (goes_on_from o.try_again state) (shown_at_first state) moment) (sym parts.domain_is);
     })
 
 -- a run that was started over what is made of a map, and then shows what a mapfile showed, if it showed something
-pub shows_nothing : (settings : Settings) (domain : List Run) (names : Option MapNames) (line : List ℕ) (o : Options)
+pub shows_nothing : (settings : Settings) (domain : List Range) (names : Option MapNames) (line : List ℕ) (o : Options)
     (statuses made : List Status) (state from : Option MapState) (moment : ℕ) (heard : Bool) (r q : RunState) → r ≡ q
     → q ≡ started settings domain names line made from moment heard → made ≡ made_of_map domain o statuses
     → from ≡ goes_on_from o.try_again state → state ≡ None
@@ -215,15 +215,15 @@ shows_nothing settings domain names line o statuses made state from moment heard
     ∙ ap (S (made_of_map domain o statuses)) (from_is ∙ ap (goes_on_from o.try_again) none)
     ∙ ap (λ (at : Option MapState). begun_with settings domain names line o statuses at moment heard) (sym none)
 
-pub shows_loaded : (settings : Settings) (domain : List Run) (names : Option MapNames) (line : List ℕ) (o : Options)
+pub shows_loaded : (settings : Settings) (domain : List Range) (names : Option MapNames) (line : List ℕ) (o : Options)
     (statuses made : List Status) (state from : Option MapState) (shown : MapState) (moment : ℕ) (heard : Bool)
-    (r q p : RunState) → r ≡ q → q ≡ showing p shown → p ≡ started settings domain names line made from moment heard
+    (r q p : RunState) → r ≡ q → q ≡ run_showing p shown → p ≡ started settings domain names line made from moment heard
     → made ≡ made_of_map domain o statuses → from ≡ goes_on_from o.try_again state → state ≡ Some shown
     → r ≡ begun_with settings domain names line o statuses state moment heard
 shows_loaded settings domain names line o statuses made state from shown moment heard r q p same loaded begun map_is from_is
     some =
     let S : List Status → Option MapState → RunState =
-    λ map at. showing (started settings domain names line map at moment heard) shown in
-    same ∙ loaded ∙ ap (λ (x : RunState). showing x shown) begun ∙ ap (λ (map : List Status). S map from) map_is
+    λ map at. run_showing (started settings domain names line map at moment heard) shown in
+    same ∙ loaded ∙ ap (λ (x : RunState). run_showing x shown) begun ∙ ap (λ (map : List Status). S map from) map_is
     ∙ ap (S (made_of_map domain o statuses)) (from_is ∙ ap (goes_on_from o.try_again) some)
     ∙ ap (λ (at : Option MapState). begun_with settings domain names line o statuses at moment heard) (sym some)

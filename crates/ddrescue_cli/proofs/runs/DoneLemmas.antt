@@ -56,7 +56,7 @@ use Rattle.ddrescue_cli.specs.Maps.{Found, file_of, found_in, mapfile_of}
 use Rattle.ddrescue_cli.specs.Outside.{Outside}
 use Rattle.ddrescue_cli.specs.Work.{answer_of, Rescues, RunsOver, rescue_faults, rescue_rows, worked_rows, barrier_of}
 use Rattle.ddrescue_cli.specs.Ddrescue.{Promise, Ddrescue}
-use Rattle.ddrescue_cli.specs.Laws.{outside_by, setting, done_by, HoldsAtEnd, IsFinished, DoneIsSaved, comes_to}
+use Rattle.ddrescue_cli.specs.Laws.{outside_by, setting_promised, done_by, HoldsAtEnd, LeavesRescued, DoneIsSaved, machine_reached}
 use Rattle.trim_scrape.proofs.EndingLemmas.{run_ends_well}
 use Rattle.ddrescue_cli.proofs.files.OutputLemmas.{holds_whole}
 use Rattle.ddrescue_cli.proofs.promise.GoesLemmas.{setting_by, opened, settled}
@@ -278,14 +278,14 @@ number_last calls number k settled published_ older newer =
     omega (arith, lower, upper)
 
 -- what a run saves last where it is over
-last_finished : (s : Setting) (m : Machine) → has_ended s m ≡ true → last_snapshot s m ≡ finished_snapshot m
+pub last_finished : (s : Setting) (m : Machine) → has_ended s m ≡ true → last_snapshot s m ≡ finished_snapshot m
 last_finished s m over = ap (λ (b : Bool). if b then finished_snapshot m else snapshot_of m) over
 
 -- what stands behind all calls: the mapfile, and the output
 record Left (t : Told) (s : Setting) (g : Gain) (began : List Status) (state : Option MapState) : Type 0 where
   mapfile : files_in t.site' s.names.map
-      ≡ Some (record { bytes = text_of s.line (finished_snapshot (comes_to s g began state)); regular = true })
-  held : Held s g.reads (bytes_of (files_of t s.outfile)) (comes_to s g began state).map
+      ≡ Some (record { bytes = text_of s.line (finished_snapshot (machine_reached s g began state)); regular = true })
+  held : Held s g.reads (bytes_of (files_of t s.outfile)) (machine_reached s g began state).map
       (bytes_of (files_in t.site' s.outfile))
 
 -- all calls of a rescue with a mapfile that is done
@@ -336,10 +336,10 @@ calls_with s files g w on =
     }
 
 left_with : (t : Told) (c : Command) (d : Ddrescue t) (asks : Asks t.words c) → IsTrue t.site.tells
-    → (r : DoneWork (setting d asks) (files_of t) (done_by d asks)) → (setting d asks).has_mapfile ≡ true
-    → Left t (setting d asks) (done_by d asks) r.run.statuses r.run.state
+    → (r : DoneWork (setting_promised d asks) (files_of t) (done_by d asks)) → (setting_promised d asks).has_mapfile ≡ true
+    → Left t (setting_promised d asks) (done_by d asks) r.run.statuses r.run.state
 left_with t c d asks tells r on =
-    let s : Setting = setting d asks in
+    let s : Setting = setting_promised d asks in
     let g : Gain = done_by d asks in
     let w : CallsWith s g r.run.load (begins s r.run.statuses r.run.state g) (events_in g) =
     calls_with s (files_of t) g r on in
@@ -352,7 +352,7 @@ left_with t c d asks tells r on =
     saved_by t s g r on w (holds_at_end t c r.run.statuses r.run.state d asks tells on barrier stands)
 
 -- what words ask for is sensible
-asked_sensible : (t : Told) (c : Command) (d : Ddrescue t) (asks : Asks t.words c) → IsSensible (setting d asks)
+asked_sensible : (t : Told) (c : Command) (d : Ddrescue t) (asks : Asks t.words c) → IsSensible (setting_promised d asks)
 asked_sensible t c d asks =
     let o : Outside = outside_by d asks in
     sensible_to c t.words (command_line program_name t.words) o.end o.maps asks
@@ -375,12 +375,12 @@ calls_without s files g off r =
 
 -- without a mapfile all writes of the run stand in the output
 held_without : (t : Told) (c : Command) (d : Ddrescue t) (asks : Asks t.words c) → IsTrue t.site.tells
-    → (w : DoneWork (setting d asks) (files_of t) (done_by d asks)) → (setting d asks).has_mapfile ≡ false
-    → Held (setting d asks) (done_by d asks).reads (bytes_of (files_of t c.outfile))
-    (comes_to (setting d asks) (done_by d asks) w.run.statuses w.run.state).map (bytes_of (files_in t.site' c.outfile))
+    → (w : DoneWork (setting_promised d asks) (files_of t) (done_by d asks)) → (setting_promised d asks).has_mapfile ≡ false
+    → Held (setting_promised d asks) (done_by d asks).reads (bytes_of (files_of t c.outfile))
+    (machine_reached (setting_promised d asks) (done_by d asks) w.run.statuses w.run.state).map (bytes_of (files_in t.site' c.outfile))
 held_without t c d asks tells w off =
     let p : Promise c t = d.asked_for (Rescue c) asks in
-    let s : Setting = setting d asks in
+    let s : Setting = setting_promised d asks in
     let g : Gain = done_by d asks in
     let m : Machine = begins s w.run.statuses w.run.state g in
     let es : List Event = events_in g in
@@ -406,9 +406,9 @@ held_without t c d asks tells w off =
     held)
 
 finished_by : (t : Told) (c : Command) (d : Ddrescue t) (asks : Asks t.words c) → IsTrue t.site.tells
-    → DoneWork (setting d asks) (files_of t) (done_by d asks) → IsFinished t (setting d asks) (done_by d asks)
+    → DoneWork (setting_promised d asks) (files_of t) (done_by d asks) → LeavesRescued t (setting_promised d asks) (done_by d asks)
 finished_by t c d asks tells w =
-    let s : Setting = setting d asks in
+    let s : Setting = setting_promised d asks in
     record {
       statuses = w.run.statuses;
       state = w.run.state;

@@ -33,7 +33,7 @@ use Rattle.rescue_rules.specs.Snapshots.{Snapshot, text_of, snapshot_of, finishe
 use Rattle.rescue_rules.specs.RunCalls.{write_calls, due_calls, move_calls, run_calls, closing_calls, end_calls}
 use Rattle.rescue_rules.specs.Events.{reads_of, times_of}
 use Rattle.rescue_rules.specs.Laws.{AreTimes}
-use Rattle.rescue_rules.specs.Lines.{is_unwritten, lines_of}
+use Rattle.rescue_rules.specs.Lines.{ends_at_write, lines_of}
 use Rattle.rescue_rules.specs.Work.{EndsBy, Ends, end_of, IsSaved, IsUnsaved, IsBroken}
 use Rattle.rescue_rules.proofs.ReadyLemmas.{ready_here, spent_request}
 use Rattle.rescue_rules.proofs.SearchLemmas.{request_seen}
@@ -84,7 +84,7 @@ snapshot_alike s m n alike =
     ∙ ap (λ (began : ℕ). P m.map m.shown began n.now) alike.began
     ∙ ap (P m.map m.shown m.began) alike.now
 
-finished_alike : (s : Setting) (m n : Machine) → IsAlike s m n → finished_snapshot n ≡ finished_snapshot m
+pub finished_alike : (s : Setting) (m n : Machine) → IsAlike s m n → finished_snapshot n ≡ finished_snapshot m
 finished_alike s m n alike =
     ap (λ (p : Snapshot). record p { shown = record p.shown { current = Finished; pass = 1 } }) (snapshot_alike s m n alike)
 
@@ -279,7 +279,7 @@ stopped_saves : (r r1 r2 : RunState) (stop : Stop) (end : RunEnd) (heard : Bool)
     → (w : Went r r1 o) → limit_met (setting_in r1) r1.machine ≡ None → IsRequest (setting_in r1) r1.machine p q → r2 ≡ r1
     → ((m : Machine) → has_ended (setting_in r) m ≡ false → limit_met (setting_in r) m ≡ None
     → EndsBy (Some stop) (setting_in r) m (length spare))
-    → is_unwritten (core_end (Some stop)) ≡ false → o.site'.tells ≡ o.site.tells
+    → ends_at_write (core_end (Some stop)) ≡ false → o.site'.tells ≡ o.site.tells
     → IsDone r w.events spare (across_to o source2 site2 clock2 console3) → LastSave (Some stop) r2 end o.site' site2
     → console2 ≡ o.console' → SpeaksOn (last_pieces r2 end) r2.heard heard console2 console3
     → WentToEnd r end heard (across_to o source2 site2 clock2 console3)
@@ -450,7 +450,7 @@ halted_end r r1 r2 stop end heard request o source2 site2 site3 clock2 console2 
     (named_front ImageWrite (write_calls (setting_in r1) e.reading) (due_calls (setting_in r1) (move_by r1 e)) named)
     (λ tells. broken_write r1 e o.site' site2 site3 closed.1 breaks (rw same tells))
     (says_front r r1 w.events end heard o.console o.console' console3 (setting_stands r r1 w.stands) w.state w.says
-    (last_as r2 r1 end heard console2 o.console' console3 still unsaid last) e (ap is_unwritten closed.0))
+    (last_as r2 r1 end heard console2 o.console' console3 still unsaid last) e (ap ends_at_write closed.0))
 halted_end r r1 r2 stop end heard request o source2 site2 site3 clock2 console2 console3 w stays same within
     asks (Limited limit is e event steps met makes says) told closes last =
     let C : Stop → Type 0 = λ x. Closes (Some x) r2 end site2 site3 in
@@ -474,7 +474,7 @@ halted_end r r1 r2 stop end heard request o source2 site2 site3 clock2 console2 
     (named_back call (write_calls (setting_in r1) e.reading) (due_calls (setting_in r1) (move_by r1 e)) (due_named r1 r2 e call steps due named))
     (λ tells. broken_save r1 r2 e call o.site' site2 site3 closed.1 steps due (broke (rw same tells)))
     (says_all r r2 (w.events ++ e ∷ []) end heard o.console console2 console3 more.same more.alike more.says last
-    (ap is_unwritten closed.0 ∙ save_writes_none call (names_in r1.names) text named))
+    (ap ends_at_write closed.0 ∙ save_writes_none call (names_in r1.names) text named))
 
 pub stopped_end : (r r2 : RunState) (stop : Stop) (end : RunEnd) (heard : Bool) (o : Across) (site3 : SiteState)
     (console3 : ConsoleState) → WentUpTo stop r r2 o → o.site'.tells ≡ o.site.tells → Closes (Some stop) r2 end o.site' site3

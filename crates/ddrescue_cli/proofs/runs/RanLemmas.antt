@@ -33,7 +33,7 @@ use Rattle.ddrescue_cli.specs.declared.ending.Ending.{Ending}
 use Rattle.ddrescue_cli.specs.declared.ending.Ending.TheVariants.{NoMemory}
 use Rattle.rescue_command.specs.declared.options.Options.{Options}
 use Rattle.rescue_command.specs.Command.{Command}
-use Rattle.ddrescue_cli.specs.declared.ready.Ready.{Ready}
+use Rattle.ddrescue_cli.specs.declared.ready.RunMemory.{RunMemory}
 use Rattle.ddrescue_cli.specs.Asked.{Maps, names_by, setting_asked, setting_of, domain_asked}
 use Rattle.rescue_core.specs.Across.{Across}
 use Rattle.rescue_core.proofs.TurnEndLemmas.{says_none}
@@ -171,7 +171,7 @@ ran_so s statuses state moment heard between heard' end o before unsaid w first 
 
 -- a run of what a command asks for, behind the line of what it began with
 pub ran_by : (c : Command) (n : Option MapNames) (l : List ℕ) (end : ℕ) (maps : Maps) (statuses : List Status)
-    (state : Option MapState) (moment : ℕ) (heard between heard' : Bool) (ready : Ready) (r : RunState) (at : RunEnd)
+    (state : Option MapState) (moment : ℕ) (heard between heard' : Bool) (ready : RunMemory) (r : RunState) (at : RunEnd)
     (e : Ending) (a : Across) (before : ClockState) (unsaid : ConsoleState) → n ≡ names_by c
     → IsReady c end maps statuses state ready → IsRunOver n l c.options end maps statuses state moment between r
     → WentToEnd r at heard' a → e ≡ answer_of at → ReadsClock (moment ∷ []) before a.clock → moment < 2 ^ 64

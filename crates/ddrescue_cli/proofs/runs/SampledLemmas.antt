@@ -4,7 +4,7 @@ use Rattle.std.specs.Prelude.{codes, count_by, IfOk}
 use Rattle.std.proofs.Math.Path.{fun_ext}
 use Rattle.std.proofs.lemmas.List.{length-map}
 use Rattle.std.proofs.lemmas.List.Elements.{All-head, All-tail, All-nil, All-cons}
-use Rattle.block_list.specs.declared.block.Run.{Run}
+use Rattle.block_list.specs.declared.block.Range.{Range}
 use Rattle.block_list.specs.declared.status.Status.{Status}
 use Rattle.block_list.specs.declared.status.Status.TheVariants.{NonTried}
 use Rattle.mapfile_text.specs.declared.state.MapState.{MapState}
@@ -44,7 +44,7 @@ use Rattle.rescue_sample.proofs.RunLemmas.{one_line}
 use Rattle.rescue_command.specs.Command.{Command, IsAsked, sample_command, Task, Sample}
 use Rattle.ddrescue_cli.specs.declared.ending.Ending.{Ending}
 use Rattle.ddrescue_cli.specs.declared.ending.Ending.TheVariants.{Done, NoMemory}
-use Rattle.ddrescue_cli.specs.declared.load.Start.{Start}
+use Rattle.ddrescue_cli.specs.declared.load.LoadedMap.{LoadedMap}
 use Rattle.ddrescue_cli.specs.Asked.{ArePlacedBy, names_by}
 use Rattle.ddrescue_cli.specs.Steps.{maps_read}
 use Rattle.ddrescue_cli.specs.Work.{rescue_faults}
@@ -74,7 +74,7 @@ ran_to_end r r1 o counts goes behind counted =
       read = w.read.told;
       bytes = goes.objects.source.keeps.bytes;
       timed = w.timed;
-      counts_are = counted ∙ ap (λ (d : List Run). counts_of (covers d) r1.machine.map) domain
+      counts_are = counted ∙ ap (λ (d : List Range). counts_of (covers d) r1.machine.map) domain
           ∙ ap (counts_of (covers r.domain)) w.state.map;
     }
 
@@ -161,7 +161,7 @@ if_ok (Ok x) f h = f x h
 if_ok (Err e) f h = tt
 
 -- what comes of it, by what was begun and what was run
-pub sample_counted : {E : Type 0} (c : Command) (names : Option MapNames) (line : List ℕ) (end : ℕ) (start : Start)
+pub sample_counted : {E : Type 0} (c : Command) (names : Option MapNames) (line : List ℕ) (end : ℕ) (start : LoadedMap)
     (time : ℕ) (heard : Bool) (r : RunState) (result : Result Counts E) (source opened source' : SourceState)
     (clock between clock' : ClockState) → c ≡ sample_command → names ≡ names_by c → line ≡ words_of_sample
     → IsFresh end start.tiles.statuses start.state

@@ -11,7 +11,7 @@ use Rattle.rescue_rules.specs.declared.stop.RunEnd.TheVariants.{Stopped}
 use Rattle.rescue_core.specs.RunState.{RunState}
 use Rattle.rescue_core.specs.Across.{Across}
 use Rattle.rescue_core.specs.Turning.{Starved, Lost, Unwritten, Limited as LimitedTurn, Unsaved as UnsavedTurn}
-use Rattle.rescue_core.specs.Closing.{LastSave, Saved, Unsaved, Closes, drafting_after}
+use Rattle.rescue_core.specs.Closing.{LastSave, Saved, Unsaved, Closes, drafting_at_stop}
 use Rattle.copy_passes.specs.Turns.{WentUpTo, ObjectsStay}
 use Rattle.ddrescue_cli.specs.declared.ending.Ending.TheVariants.{SiteFault}
 use Rattle.ddrescue_cli.specs.Answers.{Causes, Rises, drafting_left, unchanged}
@@ -85,7 +85,7 @@ saves_draft stop r end before after none (Unsaved call is named breaks rest) =
 
 -- and leaves a draft begun where its answer says so.
 pub stopped_draft : (stop : Stop) (r : RunState) (end : RunEnd) (before after : SiteState)
-    → before.is_drafting ≡ drafting_after stop → Closes (Some stop) r end before after
+    → before.is_drafting ≡ drafting_at_stop stop → Closes (Some stop) r end before after
     → after.is_drafting ≡ drafting_left (answer_of end)
 stopped_draft InputLost r end before after draft closes = saves_draft InputLost r end before after refl closes
 stopped_draft (Site call) r end before after draft closes =

@@ -23,14 +23,14 @@ use Rattle.rescue_core.proofs.TurnEndLemmas.{says_none}
 use Rattle.copy_passes.proofs.TurnLemmas.{between as across}
 use Rattle.sweep_rules.specs.Sweep.{Sweeper, Swept, filler}
 use Rattle.fill_generate.proofs.TellLemmas.{between}
-use Rattle.work_steps.specs.Work.{Deeds, Step, Take, Look, Open, Works}
+use Rattle.work_steps.specs.Work.{Deeds, WorkStep, Take, Look, Open, Works}
 use Rattle.work_steps.specs.Parts.{only_calls}
 use Rattle.rescue_command.specs.Options.{cluster_of}
 use Rattle.rescue_command.specs.Command.{Command}
 use Rattle.ddrescue_cli.specs.declared.ending.Ending.{Ending}
 use Rattle.ddrescue_cli.specs.declared.ending.Ending.TheVariants.{Usage, SourceFault, EmptyPattern, NoMemory}
 use Rattle.ddrescue_cli.specs.declared.ending.Which.TheVariants.{DomainMap}
-use Rattle.ddrescue_cli.specs.declared.load.Start.{Start}
+use Rattle.ddrescue_cli.specs.declared.load.LoadedMap.{LoadedMap}
 use Rattle.ddrescue_cli.specs.Names.{first_same}
 use Rattle.ddrescue_cli.specs.Asked.{names_by, ArePlacedBy, IsBeyond}
 use Rattle.ddrescue_cli.specs.Outside.{Outside}
@@ -50,7 +50,7 @@ use Rattle.ddrescue_cli.proofs.sweeps.SweepFiles.{HasRead, then_read, own_end, s
 -- ---- the pattern
 
 -- the steps of a filling between the map that an option names and the output
-abbrev pub pattern_rows : Command → (end : ℕ) → List (Step Ending)
+abbrev pub pattern_rows : Command → (end : ℕ) → List (WorkStep Ending)
 pattern_rows c end = Open c.infile ∷ Look (PatternEmpty end) ∷ Take ∷ []
 
 module _ (c : Command) (end : ℕ) (s1 s2 : SourceState) where
@@ -278,7 +278,7 @@ module _ (types : TypeSet) (c : Command) (line : List ℕ) (heard : Bool)
             h.output.calls l.calls h.output.did.1 l.did))
             (λ none. (refl, refl)) (says_none heard x)
 
-        module _ (n : Option MapNames) (start : Start) (d1 d2 : SiteState) (h : HasLoaded true c n 0 (Ok start) mid d1 d2)
+        module _ (n : Option MapNames) (start : LoadedMap) (d1 d2 : SiteState) (h : HasLoaded true c n 0 (Ok start) mid d1 d2)
             (told : d2.tells ≡ mid.tells) (top : ℕ) (long : top ≡ length start.tiles.statuses) where
           -- a position has no place in the output
           pub fill_unplaced : IsBeyond c.options top

@@ -29,7 +29,7 @@ use Rattle.rescue_command.specs.Command.{Command}
 use Rattle.ddrescue_cli.specs.declared.ending.Ending.{Ending}
 use Rattle.ddrescue_cli.specs.declared.ending.Ending.TheVariants.{Usage, SourceFault, NoOutput}
 use Rattle.ddrescue_cli.specs.declared.ending.Which.TheVariants.{DomainMap}
-use Rattle.ddrescue_cli.specs.declared.load.Start.{Start}
+use Rattle.ddrescue_cli.specs.declared.load.LoadedMap.{LoadedMap}
 use Rattle.ddrescue_cli.specs.Names.{first_same}
 use Rattle.ddrescue_cli.specs.Asked.{names_by, setting_of, ArePlacedBy, IsBeyond}
 use Rattle.ddrescue_cli.specs.Outside.{Outside}
@@ -64,7 +64,7 @@ open_there d out file never own =
     subst (λ (o : Option File). IsOpenFile out file (opened d out false o)) (sym own) (opened_there d out file never own)
 
 -- behind the load the output reads as it did before it was opened
-open_behind : (c : Command) (n : Option MapNames) (limit : ℕ) (start : Start) (d0 d1 d2 : SiteState)
+open_behind : (c : Command) (n : Option MapNames) (limit : ℕ) (start : LoadedMap) (d0 d1 d2 : SiteState)
     → (h : HasLoaded false c n limit (Ok start) d0 d1 d2) → Keeps d1 d2 → IsTrue d0.tells
     → IsOpenFile c.outfile h.output.file (after d2.start d2.calls)
 open_behind c n limit start d0 d1 d2 h keeps t =
@@ -194,7 +194,7 @@ module _ (c : Command) (line : List ℕ) (heard : Bool) (different : first_same 
           ))
           (λ t. All-nil _) (λ none. (refl, refl)) (says_none heard x)
 
-      module _ (n : Option MapNames) (start : Start) (d1 d2 : SiteState) (h : HasLoaded false c n end (Ok start) mid d1 d2)
+      module _ (n : Option MapNames) (start : LoadedMap) (d1 d2 : SiteState) (h : HasLoaded false c n end (Ok start) mid d1 d2)
           (told : d2.tells ≡ mid.tells) where
         -- a position has no place in the output
         pub generate_unplaced : IsBeyond c.options end

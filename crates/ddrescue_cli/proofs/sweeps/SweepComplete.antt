@@ -23,7 +23,7 @@ use Rattle.ddrescue_cli.specs.Work.{answer_of, rescue_faults, files_rows}
 use Rattle.ddrescue_cli.specs.Pattern.{ThenPattern, IsLost, IsShort, IsRead}
 use Rattle.ddrescue_cli.specs.Modes.{MaySweep, ThenSweep, fill_rows, fill_setting, generate_rows}
 use Rattle.ddrescue_cli.specs.Ddrescue.{FillModePromise, GenerateModePromise}
-use Rattle.ddrescue_cli.specs.ModeLaws.{FillIsDoneUnless, FillsUnrefused, GenerateIsDoneUnless, filling, generating}
+use Rattle.ddrescue_cli.specs.ModeLaws.{FillIsDoneUnless, FillsUnrefused, GenerateIsDoneUnless, promised_fill, promised_generate}
 use Rattle.ddrescue_cli.proofs.promise.CompleteLemmas.{IsNoFault, no_faults, left_itself}
 
 -- how a sweep ends by itself
@@ -77,7 +77,7 @@ filled_itself t types c p pass short v =
 
 pub fill_is_done_unless : FillIsDoneUnless
 fill_is_done_unless t types c d asks failed pass short room =
-    left_itself (λ (e : Ending). t.answer ≡ Done) t t.answer failed (filled_itself t types c (filling d asks) pass short)
+    left_itself (λ (e : Ending). t.answer ≡ Done) t t.answer failed (filled_itself t types c (promised_fill d asks) pass short)
     d.cause room
 
 generated_itself : (t : Told) (c : Command) (p : GenerateModePromise c t)
@@ -92,5 +92,5 @@ generated_itself t c p pass v =
 
 pub generate_is_done_unless : GenerateIsDoneUnless
 generate_is_done_unless t c d asks failed pass room =
-    left_itself (λ (e : Ending). t.answer ≡ Done) t t.answer failed (generated_itself t c (generating d asks) pass) d.cause
+    left_itself (λ (e : Ending). t.answer ≡ Done) t t.answer failed (generated_itself t c (promised_generate d asks) pass) d.cause
     room

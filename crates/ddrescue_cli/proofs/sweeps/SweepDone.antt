@@ -16,10 +16,10 @@ use Rattle.rescue_rules.specs.Start.{Stands}
 use Rattle.rescue_rules.specs.Events.{began_at}
 use Rattle.rescue_rules.specs.Work.{Gain, AreMapReads}
 use Rattle.rescue_rules.proofs.MapfileLemmas.{opening_by}
-use Rattle.sweep_rules.specs.Sweep.{Sweeper, Sweep, Swept, filler, generator, IsSweep, IsSweptOut, sweep_over, swept_by, sweep_end}
+use Rattle.sweep_rules.specs.Sweep.{Sweeper, Sweep, Swept, filler, generator, IsSweep, IsSweptOut, sweep_over, behind_pieces, sweep_end}
 use Rattle.sweep_rules.specs.SweepStops.{has_swept_out}
 use Rattle.sweep_rules.specs.SweepWork.{SweepEnds, IsSaved, IsUnsaved, IsCut, IsBroken}
-use Rattle.work_steps.specs.Work.{Deeds, Step, Works, with_calls, with_opens}
+use Rattle.work_steps.specs.Work.{Deeds, WorkStep, Works, with_calls, with_opens}
 use Rattle.work_steps.proofs.AnswerLemmas.{Stops, IsRefused, Starved, Unopened, Broken, Refused, Passed, passed}
 use Rattle.work_steps.proofs.FrontLemmas.{made_both}
 use Rattle.rescue_command.specs.Options.{cluster_of}
@@ -49,15 +49,15 @@ pub record DoneSweep (s : Setting) (w : Sweeper) (files : List ℕ → Option Fi
   pub state : Option MapState
   pub stands : Stands (files s.names.map) s.end statuses state
   pub sweep : IsSweep s w (sweep_over w statuses state (began_at times)) pieces
-  pub over : IsSweptOut s w (swept_by w (sweep_over w statuses state (began_at times)) pieces)
+  pub over : IsSweptOut s w (behind_pieces w (sweep_over w statuses state (began_at times)) pieces)
   pub calls_are : calls
       ≡ map Returned (whole_calls s w maps load (sweep_over w statuses state (began_at times)) pieces
-      (sweep_end true (swept_by w (sweep_over w statuses state (began_at times)) pieces)))
+      (sweep_end true (behind_pieces w (sweep_over w statuses state (began_at times)) pieces)))
 
 -- the end of one
 record EndedSweep (s : Setting) (w : Sweeper) (m : Sweep) (es : List Swept) (calls : List Entry) : Type 0 where
-  over : IsSweptOut s w (swept_by w m es)
-  all : calls ≡ map Returned (sweep_calls_of s w m es (sweep_end true (swept_by w m es)))
+  over : IsSweptOut s w (behind_pieces w m es)
+  all : calls ≡ map Returned (sweep_calls_of s w m es (sweep_end true (behind_pieces w m es)))
 
 ended : (s : Setting) (w : Sweeper) (m : Sweep) (es : List Swept) (calls : List Entry) (end : RunEnd)
     → Done ≡ answer_of end → SweepEnds s w m es calls end → EndedSweep s w m es calls
@@ -80,7 +80,7 @@ out_by (Stopped NoRoom) is = absurd (cc)
 out_by (SaveFailed call earlier) is = absurd (cc)
 
 -- no row stops as work that is done
-undone_by : (rows : List (Step Ending)) (e : Ending) → (IsRefused rows e → e ≡ Done → ⊥) → e ≡ Done
+undone_by : (rows : List (WorkStep Ending)) (e : Ending) → (IsRefused rows e → e ≡ Done → ⊥) → e ≡ Done
     → Stops rescue_faults rows e → ⊥
 undone_by rows e plain done (Starved is) = let no : NoMemory ≡ Done = sym is ∙ done in cc
 undone_by rows e plain done (Unopened is) = let no : SourceFault ≡ Done = sym is ∙ done in cc
@@ -112,7 +112,7 @@ module _ (s : Setting) (w : Sweeper) (files : List ℕ → Option File) (pieces 
       swept.sweeps.ends) in
       let front : List Call = maps ++ (opening_by s w.makes ++ load) in
       let last : List Call = sweep_calls_of s w (sweep_over w statuses state (began_at g.times)) pieces
-      (sweep_end true (swept_by w (sweep_over w statuses state (began_at g.times)) pieces)) in
+      (sweep_end true (behind_pieces w (sweep_over w statuses state (began_at g.times)) pieces)) in
       subst (λ (t : List ℕ). DoneSweep s w files pieces end t (map Returned front ++ run)) timed
       (record {
         finished = out_by end (sym done ∙ swept.answer);
@@ -175,7 +175,7 @@ module _ (files : List ℕ → Option File) (line : List ℕ) (input_end top : �
     abbrev w : Sweeper
     w = filler s types buffer
 
-    abbrev rows : List (Step Ending)
+    abbrev rows : List (WorkStep Ending)
     rows = files_rows true (named c n) found top
 
     -- behind the map that an option names, and the pattern

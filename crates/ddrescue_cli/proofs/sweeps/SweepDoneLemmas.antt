@@ -18,7 +18,7 @@ use Rattle.rescue_rules.specs.Deeds.{saves_in}
 use Rattle.rescue_rules.specs.Stops.{has_barrier, is_settle, is_publish, is_write}
 use Rattle.rescue_rules.specs.StopsBy.{IsUnwritten, LeftBy, IsKeptBy, StopsBy}
 use Rattle.rescue_rules.proofs.MapfileLemmas.{opening_by}
-use Rattle.sweep_rules.specs.Sweep.{Sweeper, Sweep, Swept, filler, generator, sweep_over, swept_by, sweep_end, deeds_of}
+use Rattle.sweep_rules.specs.Sweep.{Sweeper, Sweep, Swept, filler, generator, sweep_over, behind_pieces, sweep_end, deeds_of}
 use Rattle.sweep_rules.specs.SweepLaws.{AreGiven}
 use Rattle.sweep_rules.specs.SweepStops.{AreFilled, FillPromise, has_swept_out, pieces_before}
 use Rattle.sweep_rules.proofs.SweepLemmas.{filled_map_stands, generates_what_is_held}
@@ -32,7 +32,7 @@ use Rattle.ddrescue_cli.specs.Outside.{Outside}
 use Rattle.ddrescue_cli.specs.Told.{Told, calls_before, files_of, asked_of}
 use Rattle.ddrescue_cli.specs.Modes.{Fills, Generates}
 use Rattle.ddrescue_cli.specs.Ddrescue.{Ddrescue, FillModePromise, GenerateModePromise}
-use Rattle.ddrescue_cli.specs.ModeLaws.{DoneIsFilled, DoneIsGenerated, IsFilled, IsGenerated, HasNoPiece, IsSweptThrough, filling, filling_setting, generating}
+use Rattle.ddrescue_cli.specs.ModeLaws.{DoneIsFilled, DoneIsGenerated, LeavesFilled, LeavesGenerated, HasNoPiece, IsSweptThrough, promised_fill, filling_setting, promised_generate}
 use Rattle.ddrescue_cli.proofs.runs.DoneLemmas.{left_behind, number_last, save_last}
 use Rattle.ddrescue_cli.proofs.promise.PromiseLemmas.{named_on}
 use Rattle.ddrescue_cli.proofs.files.ReadLemmas.{barrier_behind}
@@ -49,7 +49,7 @@ module _ (t : Told) (s : Setting) (w : Sweeper) (pieces : List Swept) (end : Run
   begun = sweep_over w h.statuses h.state (began_at times)
 
   abbrev pub swept_out : Sweep
-  swept_out = swept_by w begun pieces
+  swept_out = behind_pieces w begun pieces
 
   abbrev last : Snapshot
   last = sweep_end true swept_out
@@ -74,7 +74,7 @@ module _ (t : Told) (s : Setting) (w : Sweeper) (pieces : List Swept) (end : Run
   module _ (promise : List Status → Option MapState → ℕ → List Status → List ℕ → Type 0) (makes : Bool)
       (settle : IgnoresPieces is_settle w) (publish : IgnoresPieces is_publish w)
       (stops : StopsBy (λ began shown. saves_in (deeds_of w (sweep_over w began shown (began_at times)) pieces)
-      (sweep_end (has_swept_out end) (swept_by w (sweep_over w began shown (began_at times)) pieces))) promise makes
+      (sweep_end (has_swept_out end) (behind_pieces w (sweep_over w began shown (began_at times)) pieces))) promise makes
       (calls_before t) s calls) where
     abbrev saved : List Snapshot
     saved = dues_of w begun pieces
@@ -149,7 +149,7 @@ module _ (t : Told) (types : TypeSet) (c : Command) (d : Ddrescue t) (p : FillMo
   elsewhere : (y : ℕ) → y < length (bytes_of (files_of t s.outfile)) → HasNoPiece s p.pieces y
       → slice_get (bytes_of (files_in t.site' s.outfile)) y ≡ slice_get (bytes_of (files_of t s.outfile)) y
   elsewhere y low off =
-      let last_ = sweep_end true (swept_by w start p.pieces) in
+      let last_ = sweep_end true (behind_pieces w start p.pieces) in
       let back : List Call = sweep_calls_of s w start p.pieces last_ in
       let spares = spares_append done.maps (opening_by s true ++ (done.load ++ back)) y
       (spares_spare done.maps y (spare_reads done.maps done.are))
@@ -164,12 +164,12 @@ module _ (t : Told) (types : TypeSet) (c : Command) (d : Ddrescue t) (p : FillMo
       (barrier t s w p.pieces p.end o.did.gain.times calls done on (d.site.start tells) (p.agrees.calls tells))
       (subst (λ (es : List Entry). IsUnwritten es y) (sym (whole ∙ done.calls_are)) spares) low
 
-  is_filled : IsFilled t s types p.buffer p.pieces
+  is_filled : LeavesFilled t s types p.buffer p.pieces
   is_filled = record {
     statuses = done.statuses;
     state = done.state;
     time = began_at o.did.gain.times;
-    swept_ = through t s w p.pieces p.end o.did.gain.times calls done on (d.site.start tells) (p.agrees.calls tells)
+    through = through t s w p.pieces p.end o.did.gain.times calls done on (d.site.start tells) (p.agrees.calls tells)
         (last_saved t s w p.pieces p.end o.did.gain.times calls done on (d.site.start tells) (p.agrees.calls tells) pledge
         true (λ e. refl) (λ e. refl) (p.stops tells));
     map = filled_map_stands s types p.buffer start p.pieces;
@@ -179,7 +179,7 @@ module _ (t : Told) (types : TypeSet) (c : Command) (d : Ddrescue t) (p : FillMo
 
 pub done_is_filled : DoneIsFilled
 done_is_filled t types c d asks tells is =
-    is_filled t types c d (filling d asks) tells
+    is_filled t types c d (promised_fill d asks) tells
     (reading_asks t.words asks.rows asks.items asks.operands (Fill types c) asks.options asks.reading asks.is).limits is
 
 -- ---- a generating
@@ -210,7 +210,7 @@ module _ (t : Told) (c : Command) (d : Ddrescue t) (p : GenerateModePromise c t)
 
   output : bytes_of (files_in t.site' z.outfile) ≡ bytes_of (files_of t z.outfile)
   output =
-      let last_ = sweep_end true (swept_by g looks p.pieces) in
+      let last_ = sweep_end true (behind_pieces g looks p.pieces) in
       let all : List Call = whole_calls z g looked.maps looked.load looks p.pieces last_ in
       let spare = spare_append looked.maps (opening_by z false ++ (looked.load ++ sweep_calls_of z g looks p.pieces last_))
       (spare_reads looked.maps looked.are)
@@ -228,12 +228,12 @@ module _ (t : Told) (c : Command) (d : Ddrescue t) (p : GenerateModePromise c t)
   given : AreGiven z (bytes_of (files_of t z.outfile)) p.pieces
   given = subst (λ (found : Found). AreGiven z (bytes_of found.output) p.pieces) (p.agrees.found tells) (p.given tells)
 
-  is_generated : IsGenerated t z p.pieces
+  is_generated : LeavesGenerated t z p.pieces
   is_generated = record {
     statuses = looked.statuses;
     state = looked.state;
     time = began_at a.did.gain.times;
-    swept_ = through t z g p.pieces p.end a.did.gain.times a.did.gain.calls looked mapped (d.site.start tells)
+    through = through t z g p.pieces p.end a.did.gain.times a.did.gain.calls looked mapped (d.site.start tells)
         (p.agrees.calls tells)
         (last_saved t z g p.pieces p.end a.did.gain.times a.did.gain.calls looked mapped (d.site.start tells)
         (p.agrees.calls tells) _ false (λ e. refl) (λ e. refl) (p.stops tells));
@@ -244,5 +244,5 @@ module _ (t : Told) (c : Command) (d : Ddrescue t) (p : GenerateModePromise c t)
 
 pub done_is_generated : DoneIsGenerated
 done_is_generated t c d asks tells is =
-    is_generated t c d (generating d asks) tells
+    is_generated t c d (promised_generate d asks) tells
     (reading_asks t.words asks.rows asks.items asks.operands (Generate c) asks.options asks.reading asks.is).limits is

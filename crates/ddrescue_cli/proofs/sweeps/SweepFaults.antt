@@ -14,9 +14,9 @@ use Rattle.rescue_rules.specs.Setting.{Setting}
 use Rattle.rescue_rules.specs.Snapshots.{Snapshot, text_of}
 use Rattle.rescue_rules.specs.RunCalls.{closing_calls}
 use Rattle.rescue_rules.specs.Deeds.{save_of}
-use Rattle.sweep_rules.specs.Sweep.{Sweeper, Sweep, Swept, filler, generator, swept_by, due_save, sweep_end}
+use Rattle.sweep_rules.specs.Sweep.{Sweeper, Sweep, Swept, filler, generator, behind_pieces, due_save, sweep_end}
 use Rattle.sweep_rules.specs.SweepWork.{SweepEnds, IsSaved, IsUnsaved, IsCut, IsBroken, lost_call, sweep_calls}
-use Rattle.work_steps.specs.Work.{Deeds, Step, Works}
+use Rattle.work_steps.specs.Work.{Deeds, WorkStep, Works}
 use Rattle.work_steps.proofs.AnswerLemmas.{IsCalled, IsRefused, Starved, Unopened, Broken, Refused, Came, Stopped, Went, came}
 use Rattle.work_steps.proofs.GainLemmas.{broke_named}
 use Rattle.rescue_command.specs.Options.{cluster_of}
@@ -32,7 +32,7 @@ use Rattle.ddrescue_cli.specs.Answers.{IsGenerateCall, IsRescueCall}
 use Rattle.ddrescue_cli.specs.Pattern.{ThenPattern, IsLost, IsShort, IsRead}
 use Rattle.ddrescue_cli.specs.Modes.{MaySweep, ThenSweep, fill_rows, generate_rows}
 use Rattle.ddrescue_cli.specs.Ddrescue.{FillModePromise, GenerateModePromise}
-use Rattle.ddrescue_cli.specs.ModeLaws.{FillFaultsAreOfSteps, GenerateFaultsAreOfSteps, filling, filling_setting, generating}
+use Rattle.ddrescue_cli.specs.ModeLaws.{FillFaultsAreOfSteps, GenerateFaultsAreOfSteps, promised_fill, filling_setting, promised_generate}
 use Rattle.ddrescue_cli.proofs.words.RowLemmas.{of_barrier}
 use Rattle.ddrescue_cli.proofs.words.SweepWords.{fill_plain, files_plain, generate_plain}
 
@@ -98,7 +98,7 @@ module _ (P : SiteCall → Type 0) (ok : OfSteps P) (call : SiteCall) (earlier :
   of_sweep s w m es calls end piece (IsSaved (Some NoRoom) by same all) is =
       absurd (let no : NoMemory ≡ SiteFault call earlier = sym (ap answer_of same) ∙ is in cc)
   of_sweep s w m es calls end piece (IsUnsaved stop at by same broke) is =
-      let last : Snapshot = sweep_end (is_none stop) (swept_by w m es) in
+      let last : Snapshot = sweep_end (is_none stop) (behind_pieces w m es) in
       of_closing s.has_mapfile s.names (text_of s.line last)
       (subst (λ (c : SiteCall). IsNameIn c (closing_calls s last)) (same_fault at stop (sym (ap answer_of same) ∙ is))
       (broke_named at (closing_calls s last) (map Returned (sweep_calls s w m es)) calls broke))
@@ -108,7 +108,7 @@ module _ (P : SiteCall → Type 0) (ok : OfSteps P) (call : SiteCall) (earlier :
       (sym (name_alike (w.call e)) ∙ same_fault (call_name (lost_call w p q)) None (sym (ap answer_of same) ∙ is))
       (piece e)
   of_sweep s w m es calls end piece (IsBroken before last at split same broke) is =
-      let due : Option Snapshot = due_save w (swept_by w m before) last in
+      let due : Option Snapshot = due_save w (behind_pieces w m before) last in
       of_due s due
       (subst (λ (c : SiteCall). IsNameIn c (save_of s due)) (same_fault at None (sym (ap answer_of same) ∙ is))
       (broke_named at (save_of s due) (map Returned (sweep_calls s w m before ++ w.call last ∷ [])) calls broke))
@@ -124,7 +124,7 @@ module _ (P : SiteCall → Type 0) (ok : OfSteps P) (call : SiteCall) (earlier :
           of_sweep s w _ swept.sweeps.events d.gain.calls end piece swept.sweeps.ends (sym swept.answer ∙ is)
 
   -- of rows
-  of_rows : (rows : List (Step Ending)) (run : Ending → Deeds → Type 0) (e : Ending) (d : Deeds)
+  of_rows : (rows : List (WorkStep Ending)) (run : Ending → Deeds → Type 0) (e : Ending) (d : Deeds)
       → e ≡ SiteFault call earlier → (IsRefused rows e → ⊥) → ((at : SiteCall) → at ≡ call → IsCalled at rows → P call)
       → ((x : Deeds) → run e x → P call) → Works rescue_faults rows run e d → P call
   of_rows rows run e d is plain called behind w = of_came (came rescue_faults rows run e d w)
@@ -184,7 +184,7 @@ fill_called c found input_end call earlier at is (inr none) = absurd none
 
 pub fill_faults_are_of_steps : FillFaultsAreOfSteps
 fill_faults_are_of_steps t types c d call earlier asks is =
-    let p : FillModePromise types c t = filling d asks in
+    let p : FillModePromise types c t = promised_fill d asks in
     let o : Outside = p.outside in
     let s : Setting = filling_setting p in
     of_rows IsRescueCall fill_steps call earlier (fill_rows c o.found o.end) _ t.answer o.did is
@@ -203,7 +203,7 @@ generate_called c found input_end call earlier at is (inr files) =
 
 pub generate_faults_are_of_steps : GenerateFaultsAreOfSteps
 generate_faults_are_of_steps t c d call earlier asks is =
-    let p : GenerateModePromise c t = generating d asks in
+    let p : GenerateModePromise c t = promised_generate d asks in
     let o : Outside = p.outside in
     let s : Setting = asked_of c t o in
     of_rows IsGenerateCall generate_steps call earlier (generate_rows c o.found o.end) _ t.answer o.did is

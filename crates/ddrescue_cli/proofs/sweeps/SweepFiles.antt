@@ -24,7 +24,7 @@ use Rattle.work_steps.specs.Work.{Opened, Unopened, Deeds}
 use Rattle.rescue_command.specs.Command.{Command}
 use Rattle.work_steps.proofs.PartLemmas.{grew_both}
 use Rattle.ddrescue_cli.specs.declared.ending.Ending.{Ending}
-use Rattle.ddrescue_cli.specs.declared.load.Start.{Start}
+use Rattle.ddrescue_cli.specs.declared.load.LoadedMap.{LoadedMap}
 use Rattle.ddrescue_cli.specs.Maps.{NoFile, NoText, Blocks, mapfile_of}
 use Rattle.ddrescue_cli.specs.Outside.{HasGainedReads}
 use Rattle.ddrescue_cli.specs.Steps.{OpensOutput, Loads}
@@ -233,7 +233,7 @@ module _ (c : Command) (end : ℕ) (reads : List Reading) (s0 s1 : SourceState) 
       }
 
   -- behind it, with these calls and readings, and these lines
-  abbrev pub behind_files : (makes : Bool) (n : Option MapNames) (limit : ℕ) (start : Start) (d0 d1 d2 d3 : SiteState)
+  abbrev pub behind_files : (makes : Bool) (n : Option MapNames) (limit : ℕ) (start : LoadedMap) (d0 d1 d2 d3 : SiteState)
       (k' : ClockState) (x' : ConsoleState) (calls : List Entry) (times : List ℕ) (lines : List (List ℕ))
       → HasLoaded makes c n limit (Ok start) d0 d1 d2 → d2.tells ≡ d0.tells
       → (IsTrue d2.tells → d3.calls ≡ d2.calls ++ calls)

@@ -17,7 +17,7 @@ use Rattle.sweep_rules.specs.Sweep.{Sweeper, Swept}
 use Rattle.sweep_rules.specs.SweepWork.{Sweeps, sweep_opening}
 use Rattle.sweep_rules.specs.SweepOpens.{EndsEarly, InOpening, InLoad, OpensOrEnds}
 use Rattle.sweep_rules.proofs.EndLemmas.{opening_is}
-use Rattle.work_steps.specs.Work.{Deeds, Step, Read, Look, Works, IsIdle, with_calls}
+use Rattle.work_steps.specs.Work.{Deeds, WorkStep, Read, Look, Works, IsIdle, with_calls}
 use Rattle.work_steps.proofs.GainLemmas.{lost_behind, broke_behind}
 use Rattle.rescue_command.specs.declared.options.Options.{Options}
 use Rattle.ddrescue_cli.specs.declared.ending.Ending.{Ending}
@@ -50,7 +50,7 @@ ends_or false None calls few = few
 ends_or false (Some f) calls few = tt
 
 -- An output that isn't made is there, or that is refused.
-missing_goes : (makes : Bool) (file : Option File) (look : Step Ending) (more : List (Step Ending))
+missing_goes : (makes : Bool) (file : Option File) (look : WorkStep Ending) (more : List (WorkStep Ending))
     (run : Ending → Deeds → Type 0) (e : Ending) (d : Deeds)
     → Works rescue_faults ((missing_rows makes file ++ look ∷ []) ++ more) run e d
     → IsIdle d ⊎ (Opens makes file × Works rescue_faults (look ∷ more) run e d)
@@ -61,12 +61,12 @@ missing_goes false (Some f) look more run e d (inl (missing, idle)) = inl idle
 missing_goes false (Some f) look more run e d (inr (passes, w)) = inr (tt, w)
 
 -- the rows behind the opening of the output
-abbrev pub rows_behind : Setting → (List ℕ → Option File) → Options → (limit : ℕ) → List (Step Ending)
+abbrev pub rows_behind : Setting → (List ℕ → Option File) → Options → (limit : ℕ) → List (WorkStep Ending)
 rows_behind s files o limit =
     load_rows (Some s.names.map) (files s.names.map) ++ Look (PlacesRefused o limit) ∷ []
 
 -- the rows over the files
-abbrev pub sweep_rows : Setting → (makes forced : Bool) → (List ℕ → Option File) → Options → (limit : ℕ) → List (Step Ending)
+abbrev pub sweep_rows : Setting → (makes forced : Bool) → (List ℕ → Option File) → Options → (limit : ℕ) → List (WorkStep Ending)
 sweep_rows s makes forced files o limit =
     output_rows makes forced s.outfile (files s.outfile) ++ rows_behind s files o limit
 

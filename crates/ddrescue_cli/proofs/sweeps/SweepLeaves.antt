@@ -24,7 +24,7 @@ use Rattle.ddrescue_cli.specs.LeftBehind.{AllStand, OutputMade}
 use Rattle.ddrescue_cli.specs.Told.{Told, files_of, asked_of}
 use Rattle.ddrescue_cli.specs.Modes.{Fills, Generates, fill_setting}
 use Rattle.ddrescue_cli.specs.Ddrescue.{FillModePromise, GenerateModePromise}
-use Rattle.ddrescue_cli.specs.ModeLaws.{UnbegunFillLeaves, UnbegunGenerateLeaves, filling, generating}
+use Rattle.ddrescue_cli.specs.ModeLaws.{UnbegunFillLeaves, UnbegunGenerateLeaves, promised_fill, promised_generate}
 use Rattle.ddrescue_cli.proofs.runs.EarlyCut.{EarlyCut, early_cut}
 use Rattle.ddrescue_cli.proofs.promise.LeftBehindLemmas.{made_there}
 use Rattle.ddrescue_cli.proofs.promise.PromiseLemmas.{named_on}
@@ -137,7 +137,7 @@ folder_behind t gained started grew =
 
 pub unbegun_fill_leaves : UnbegunFillLeaves
 unbegun_fill_leaves t types c d asks tells still =
-    let p : FillModePromise types c t = filling d asks in
+    let p : FillModePromise types c t = promised_fill d asks in
     let o : Outside = p.outside in
     let line : List ℕ = command_line program_name t.words in
     let s : Setting = fill_setting c line p.top o.maps in
@@ -153,7 +153,7 @@ unbegun_fill_leaves t types c d asks tells still =
 
 pub unbegun_generate_leaves : UnbegunGenerateLeaves
 unbegun_generate_leaves t c d asks tells still =
-    let p : GenerateModePromise c t = generating d asks in
+    let p : GenerateModePromise c t = promised_generate d asks in
     let o : Outside = p.outside in
     let line : List ℕ = command_line program_name t.words in
     let s : Setting = asked_of c t o in

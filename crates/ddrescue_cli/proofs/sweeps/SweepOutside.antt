@@ -12,7 +12,7 @@ use Rattle.rescue_rules.specs.Work.{IsNothing}
 use Rattle.rescue_core.specs.Across.{Across}
 use Rattle.copy_passes.specs.Turns.{IsFrom}
 use Rattle.copy_passes.proofs.TurnLemmas.{between as across}
-use Rattle.work_steps.specs.Work.{Deeds, Step, Works}
+use Rattle.work_steps.specs.Work.{Deeds, WorkStep, Works}
 use Rattle.work_steps.specs.Parts.{only_calls}
 use Rattle.work_steps.specs.Holds.{behind_entries}
 use Rattle.work_steps.proofs.FrontLemmas.{IsMapRead}
@@ -101,7 +101,7 @@ module _ (c : Command) (domain : Option Tiled) (s0 s1 : SourceState) (old mid la
       }
 
   -- the steps in front of what was done behind it
-  pub named_then : first_same c.infile c.outfile (names_by c) ≡ None → (more : List (Step Ending))
+  pub named_then : first_same c.infile c.outfile (names_by c) ≡ None → (more : List (WorkStep Ending))
       (run : Ending → Deeds → Type 0) (e : Ending) → Works rescue_faults more run e b.did
       → Works rescue_faults (named_rows c outside_behind.found ++ more) run e outside_behind.did
   named_then different more run e w =
@@ -157,7 +157,7 @@ module _ (c : Command) (e : Ending) (source : SourceState) (old new : SiteState)
         fit = All-nil (λ t. t < 2 ^ 64);
       }
 
-  pub named_stops : first_same c.infile c.outfile (names_by c) ≡ None → (more : List (Step Ending))
+  pub named_stops : first_same c.infile c.outfile (names_by c) ≡ None → (more : List (WorkStep Ending))
       (run : Ending → Deeds → Type 0)
       → Works rescue_faults (named_rows c unread_found ++ more) run e (only_calls r.calls)
   named_stops different more run =

@@ -14,7 +14,7 @@ use Rattle.rescue_rules.specs.Work.{Gain, AreMapReads}
 use Rattle.rescue_rules.proofs.CutLemmas.{Cut, cut_all, cut_past}
 use Rattle.rescue_rules.proofs.GoesLemmas.{broke_cut}
 use Rattle.sweep_rules.specs.Sweep.{Sweeper, Swept, filler, generator}
-use Rattle.work_steps.specs.Work.{Deeds, Step, Take, Look, Open, Works, with_calls, with_opens}
+use Rattle.work_steps.specs.Work.{Deeds, WorkStep, Take, Look, Open, Works, with_calls, with_opens}
 use Rattle.work_steps.proofs.FrontLemmas.{IsMapRead, load_reads, made_both}
 use Rattle.rescue_command.specs.Options.{cluster_of}
 use Rattle.rescue_command.specs.Command.{Command}
@@ -56,7 +56,7 @@ module _ (ready : Type 0) (s : Setting) (w : Sweeper) (files : List ℕ → Opti
         (grew ∙ ap (λ (r : List Entry). map Done load ++ r) grew' ∙ made_both load maps h.calls) timed is goes
 
     -- it read a map, if an option names one
-    map_way : (which : Which) (mode : Mode) (name : Option (List ℕ)) (more : List (Step Ending))
+    map_way : (which : Which) (mode : Mode) (name : Option (List ℕ)) (more : List (WorkStep Ending))
         (run : Ending → Deeds → Type 0) (e : Ending) (d : Deeds)
         → ((rest : List Entry) → Works rescue_faults more run e (with_calls d rest) → Way (record d.gain { calls = rest }))
         → Works rescue_faults (map_rows which mode name (file_of name files) ++ more) run e d → Way d.gain

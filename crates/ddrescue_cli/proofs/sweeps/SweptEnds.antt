@@ -10,9 +10,9 @@ use Rattle.rescue_rules.specs.declared.stop.RunEnd.{RunEnd}
 use Rattle.rescue_rules.specs.declared.stop.RunEnd.TheVariants.{Done as Finished, Stopped, SaveFailed}
 use Rattle.rescue_rules.specs.Setting.{Setting}
 use Rattle.rescue_rules.specs.Work.{end_of}
-use Rattle.sweep_rules.specs.Sweep.{Sweeper, Sweep, Swept, swept_by}
-use Rattle.sweep_rules.specs.SweepWork.{SweptBy}
-use Rattle.fill_generate.specs.Sweeping.{Ends, Saved, Unsaved, Cut, Broken, drafting_behind}
+use Rattle.sweep_rules.specs.Sweep.{Sweeper, Sweep, Swept, behind_pieces}
+use Rattle.sweep_rules.specs.SweepWork.{SweepEndsBy}
+use Rattle.fill_generate.specs.Sweeping.{EndsSweep, Saved, Unsaved, Cut, Broken, drafting_behind}
 use Rattle.ddrescue_cli.specs.declared.ending.Ending.{Ending}
 use Rattle.ddrescue_cli.specs.declared.ending.Ending.TheVariants.{MapRefused, SiteFault, NoMemory}
 use Rattle.ddrescue_cli.specs.Answers.{Causes, Rises, drafting_left}
@@ -22,7 +22,7 @@ use Rattle.ddrescue_cli.proofs.words.CauseLemmas.{causes_behind}
 
 -- its last calls returned, or one of them failed
 saved_cause : (s : Setting) (w : Sweeper) (m : Sweep) (stop : Option Stop) (source : SourceState) (site site' : SiteState)
-    → SweptBy stop s w m → site'.faults ≡ site.faults → Causes (answer_of (end_of stop)) source source site site'
+    → SweepEndsBy stop s w m → site'.faults ≡ site.faults → Causes (answer_of (end_of stop)) source source site site'
 saved_cause s w m None source site site' by same = record { faults = refl; losses_ = refl; site_faults = same }
 saved_cause s w m (Some InputLost) source site site' by same = absurd by
 saved_cause s w m (Some (Site call)) source site site' by same = absurd by
@@ -30,7 +30,7 @@ saved_cause s w m (Some (Limited limit)) source site site' by same = absurd by
 saved_cause s w m (Some NoRoom) source site site' by same = record { faults = refl; losses_ = refl; site_faults = same }
 
 unsaved_cause : (s : Setting) (w : Sweeper) (m : Sweep) (stop : Option Stop) (call : SiteCall) (source : SourceState)
-    (site site' : SiteState) → SweptBy stop s w m → site'.faults ≡ raised site.faults
+    (site site' : SiteState) → SweepEndsBy stop s w m → site'.faults ≡ raised site.faults
     → Causes (answer_of (SaveFailed call stop)) source source site site'
 unsaved_cause s w m None call source site site' by rose = record { faults = refl; losses_ = refl; site_faults = rose }
 unsaved_cause s w m (Some InputLost) call source site site' by rose = absurd by
@@ -41,13 +41,13 @@ unsaved_cause s w m (Some NoRoom) call source site site' by rose =
 
 -- A sweep has the cause of its answer,
 pub sweep_cause : (s : Setting) (w : Sweeper) (m : Sweep) (es : List Swept) (end : RunEnd) (site site' : SiteState) (e : Ending)
-    → Ends s w m es end site site' → e ≡ answer_of end → SweepCause e site site'
+    → EndsSweep s w m es end site site' → e ≡ answer_of end → SweepCause e site site'
 sweep_cause s w m es end site site' e (Saved stop by is makes) answered = λ source.
     subst (λ (v : Ending). Causes v source source site site') (ap answer_of (sym is) ∙ sym answered)
-    (saved_cause s w (swept_by w m es) stop source site site' by makes.faults)
+    (saved_cause s w (behind_pieces w m es) stop source site site' by makes.faults)
 sweep_cause s w m es end site site' e (Unsaved stop call by is breaks) answered = λ source.
     subst (λ (v : Ending). Causes v source source site site') (ap answer_of (sym is) ∙ sym answered)
-    (unsaved_cause s w (swept_by w m es) stop call source site site' by breaks.rose)
+    (unsaved_cause s w (behind_pieces w m es) stop call source site site' by breaks.rose)
 sweep_cause s w m es end site site' e (Cut p q piece is breaks) answered = λ source.
     subst (λ (v : Ending). Causes v source source site site') (ap answer_of (sym is) ∙ sym answered)
     (record { faults = refl; losses_ = refl; site_faults = breaks.rose })

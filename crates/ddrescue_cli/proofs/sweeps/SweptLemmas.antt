@@ -28,11 +28,11 @@ use Rattle.rescue_core.specs.declared.settings.Settings.{Settings}
 use Rattle.rescue_core.specs.RunState.{names_in, Suits}
 use Rattle.rescue_core.proofs.TurnEndLemmas.{says_none}
 use Rattle.copy_passes.proofs.TurnLemmas.{says_more, timed_more}
-use Rattle.sweep_rules.specs.Sweep.{Sweeper, Sweep, Swept, filler, generator, sweep_over, swept_by, due_save, sweep_end, deeds_of}
+use Rattle.sweep_rules.specs.Sweep.{Sweeper, Sweep, Swept, filler, generator, sweep_over, behind_pieces, due_save, sweep_end, deeds_of}
 use Rattle.sweep_rules.specs.SweepWork.{SweepEnds, IsSaved, IsUnsaved, IsCut, IsBroken, sweep_calls, sweep_lines, lost_call}
 use Rattle.fill_generate.specs.declared.job.Job.{Job}
 use Rattle.fill_generate.specs.SweepState.{setting_for}
-use Rattle.fill_generate.specs.Sweeping.{Around, BreaksBehind, Ends, Saved, Unsaved, Cut, Broken, SweepTold, LookupTold, times_behind}
+use Rattle.fill_generate.specs.Sweeping.{Around, BreaksBehind, EndsSweep, Saved, Unsaved, Cut, Broken, SweepTold, LookupTold, times_behind}
 use Rattle.fill_generate.proofs.TellLemmas.{between}
 use Rattle.work_steps.proofs.GainLemmas.{MayGain, may_gain, broke_behind}
 use Rattle.rescue_command.specs.declared.options.Options.{Options}
@@ -74,15 +74,15 @@ record EndsCalls (s : Setting) (w : Sweeper) (m : Sweep) (es : List Swept) (end 
   ends : SweepEnds s w m es calls end
 
 ends_calls : (s : Setting) (w : Sweeper) (m : Sweep) (es : List Swept) (end : RunEnd) (site site' : SiteState)
-    → Ends s w m es end site site' → EndsCalls s w m es end site site'
+    → EndsSweep s w m es end site site' → EndsCalls s w m es end site site'
 ends_calls s w m es end site site' (Saved stop by is makes) = record {
-  calls = map Returned (doing_calls s (deeds_of w m es) (sweep_end (is_none stop) (swept_by w m es)));
+  calls = map Returned (doing_calls s (deeds_of w m es) (sweep_end (is_none stop) (behind_pieces w m es)));
   grew = makes.made;
   ends = IsSaved stop by is refl;
 }
 ends_calls s w m es end site site' (Unsaved stop call by is breaks) =
     let made : List Call = sweep_calls s w m es in
-    let calls : List Call = closing_calls s (sweep_end (is_none stop) (swept_by w m es)) in
+    let calls : List Call = closing_calls s (sweep_end (is_none stop) (behind_pieces w m es)) in
     let b : BreaksCalls call made calls site site' = breaks_calls call made calls site site' breaks in
     record { calls = b.all; grew = b.grew; ends = IsUnsaved stop call by is b.broke }
 ends_calls s w m es end site site' (Cut p q piece is breaks) =
@@ -93,7 +93,7 @@ ends_calls s w m es end site site' (Cut p q piece is breaks) =
     record { calls = b.all; grew = b.grew; ends = IsCut p q piece is b.broke }
 ends_calls s w m es end site site' (Broken before last call split is breaks) =
     let made : List Call = sweep_calls s w m before ++ w.call last ∷ [] in
-    let calls : List Call = save_of s (due_save w (swept_by w m before) last) in
+    let calls : List Call = save_of s (due_save w (behind_pieces w m before) last) in
     let b : BreaksCalls call made calls site site' = breaks_calls call made calls site site' breaks in
     record { calls = b.all; grew = b.grew; ends = IsBroken before last call split is b.broke }
 

@@ -10,7 +10,7 @@ use Rattle.rescue_rules.specs.Setting.{Setting}
 use Rattle.rescue_rules.specs.declared.stop.Stop.TheVariants.{NoMemory as NoRoom}
 use Rattle.rescue_rules.specs.declared.stop.RunEnd.{RunEnd}
 use Rattle.rescue_rules.specs.declared.stop.RunEnd.TheVariants.{Stopped}
-use Rattle.work_steps.specs.Work.{Deeds, Step, Look}
+use Rattle.work_steps.specs.Work.{Deeds, WorkStep, Look}
 use Rattle.rescue_command.specs.Command.{Command}
 use Rattle.ddrescue_cli.specs.declared.ending.Ending.{Ending}
 use Rattle.ddrescue_cli.specs.declared.ending.Which.TheVariants.{DomainMap, TestMap}
@@ -42,14 +42,14 @@ of_barrier P settle sync call (Some n) (inr (inl is)) = subst P (sym is) sync
 of_barrier P settle sync call (Some n) (inr (inr none)) = absurd none
 
 -- the rows behind the read of each map that an option names, and behind that of the mapfile
-abbrev pub behind_mapfile : Command → Found → (end : ℕ) → List (Step Ending)
+abbrev pub behind_mapfile : Command → Found → (end : ℕ) → List (WorkStep Ending)
 behind_mapfile c found end = Look (MapfileRefused found.mapfile) ∷ Look (PlacesRefused c.options end) ∷ []
 
-abbrev pub behind_test : Command → Found → (end : ℕ) → List (Step Ending)
+abbrev pub behind_test : Command → Found → (end : ℕ) → List (WorkStep Ending)
 behind_test c found end =
     Look (IfNamed c.test_map (NamedMapRefused TestMap (map_mode c.options.loose) found.test)) ∷ opened_rows c found end
 
-abbrev pub behind_domain : Command → Found → (end : ℕ) → List (Step Ending)
+abbrev pub behind_domain : Command → Found → (end : ℕ) → List (WorkStep Ending)
 behind_domain c found end =
     Look (IfNamed c.domain_map (NamedMapRefused DomainMap (map_mode c.options.loose) found.domain))
     ∷ (map_rows TestMap (map_mode c.options.loose) c.test_map found.test ++ opened_rows c found end)

@@ -3,7 +3,7 @@ use Rattle.std.proofs.Common.{◌≡◌, ◌≢◌, ◌⊎◌, Bool, true, false
 use Rattle.rescue_console.specs.declared.console.Channel.{Channel}
 use Rattle.rescue_console.specs.declared.console.Channel.TheVariants.{Err as ErrorChannel}
 use Rattle.rescue_console.specs.ConsoleState.{ConsoleState, Answers}
-use Rattle.rescue_console.specs.Speaking.{Piece, SpeaksOn, out_pieces}
+use Rattle.rescue_console.specs.Speaking.{SpokenPiece, SpeaksOn, out_pieces}
 use Rattle.rescue_console.proofs.SpeakingLemmas.{heard_speak, speeches_join}
 use Rattle.rescue_command.specs.Command.{AskQuiet}
 use Rattle.ddrescue_cli.specs.declared.ending.Ending.{Ending}
@@ -23,11 +23,11 @@ put_says channel text (Err e) old new a =
     inr (refl, record { puts = a.fails; one = λ planned. (a.plan planned).plan })
 
 -- who isn't heard says nothing
-pub unheard_says : (ps : List Piece) (x : ConsoleState) → SpeaksOn ps false false x x
+pub unheard_says : (ps : List SpokenPiece) (x : ConsoleState) → SpeaksOn ps false false x x
 unheard_says [] x = (refl, refl)
 unheard_says (p ∷ ps) x = (refl, refl)
 
-unheard : (ps : List Piece) (heard : Bool) (old new : ConsoleState) → SpeaksOn ps false heard old new → new ≡ old
+unheard : (ps : List SpokenPiece) (heard : Bool) (old new : ConsoleState) → SpeaksOn ps false heard old new → new ≡ old
 unheard [] heard old new says = says.1
 unheard (p ∷ ps) heard old new says = says.1
 
@@ -41,7 +41,7 @@ pub says_message : {T E : Type 0} (e : Ending) (text : List ℕ) (result : Resul
     → SpeaksOn (message_pieces e) heard (is_ok result) old new
 says_message e text result heard old new on other is put =
     subst (λ (h : Bool). SpeaksOn (message_pieces e) h (is_ok result) old new) (sym on)
-    (subst (λ (ps : List Piece). SpeaksOn ps true (is_ok result) old new) (sym (message_by e other))
+    (subst (λ (ps : List SpokenPiece). SpeaksOn ps true (is_ok result) old new) (sym (message_by e other))
     (put_says ErrorChannel (message e) result old new
     (subst (λ (t : List ℕ). Answers ErrorChannel t result old new) is put)))
 

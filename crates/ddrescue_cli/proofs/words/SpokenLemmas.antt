@@ -22,7 +22,7 @@ use Rattle.rescue_rules.specs.Machine.{Machine, IsRequest, is_live}
 use Rattle.rescue_rules.specs.Step.{Event, limit_met}
 use Rattle.rescue_rules.specs.Moves.{state_after, IsRun}
 use Rattle.rescue_rules.specs.Counts.{counts_of}
-use Rattle.rescue_rules.specs.Lines.{is_done, is_unwritten, is_write, last_front, last_line, lines_of, marked_events, move_lines, report_of, report_text, run_lines}
+use Rattle.rescue_rules.specs.Lines.{is_done, ends_at_write, is_image_write, last_front, last_line, lines_of, marked_events, move_lines, report_of, report_text, run_lines}
 use Rattle.faulty_source.specs.Ends.{is_before}
 use Rattle.rescue_core.specs.Across.{Across}
 use Rattle.rescue_core.specs.RunState.{RunState, setting_in}
@@ -46,10 +46,10 @@ last_alike s t done m n same alike =
     ∙ ap (λ (r : Report). report_text (last_front done) r) (report_alike s m n alike)
 
 -- which events were marked, by how a run ended
-marked_all : (end : RunEnd) (es : List Event) → is_unwritten end ≡ false → marked_events end es ≡ es
+marked_all : (end : RunEnd) (es : List Event) → ends_at_write end ≡ false → marked_events end es ≡ es
 marked_all end es off = ap (λ (b : Bool). if b then take (length es - 1) es else es) off
 
-marked_front : (end : RunEnd) (es : List Event) (e : Event) → is_unwritten end ≡ true
+marked_front : (end : RunEnd) (es : List Event) (e : Event) → ends_at_write end ≡ true
     → marked_events end (es ++ e ∷ []) ≡ es
 marked_front end es e on =
     let all : List Event = es ++ e ∷ [] in
@@ -59,30 +59,30 @@ marked_front end es e on =
 
 -- no call of a save is a write to the output
 appends_write_none : (call : SiteCall) (ps : List (List ℕ)) (rest : List Call)
-    → (IsNameIn call rest → is_write call ≡ false) → IsNameIn call (map draft_append ps ++ rest) → is_write call ≡ false
+    → (IsNameIn call rest → is_image_write call ≡ false) → IsNameIn call (map draft_append ps ++ rest) → is_image_write call ≡ false
 appends_write_none call [] rest behind h = behind h
-appends_write_none call (p ∷ ps) rest behind (inl is) = ap is_write is
+appends_write_none call (p ∷ ps) rest behind (inl is) = ap is_image_write is
 appends_write_none call (p ∷ ps) rest behind (inr h) = appends_write_none call ps rest behind h
 
 publish_writes_none : (call : SiteCall) (n : MapNames) → IsNameIn call (draft_sync ∷ publish_calls n)
-    → is_write call ≡ false
-publish_writes_none call n (inl is) = ap is_write is
-publish_writes_none call n (inr (inl is)) = ap is_write is
-publish_writes_none call n (inr (inr (inl is))) = ap is_write is
+    → is_image_write call ≡ false
+publish_writes_none call n (inl is) = ap is_image_write is
+publish_writes_none call n (inr (inl is)) = ap is_image_write is
+publish_writes_none call n (inr (inr (inl is))) = ap is_image_write is
 publish_writes_none call n (inr (inr (inr h))) = absurd h
 
 pub save_writes_none : (call : SiteCall) (n : MapNames) (text : List ℕ) → IsNameIn call (save_calls n text)
-    → is_write call ≡ false
-save_writes_none call n text (inl is) = ap is_write is
-save_writes_none call n text (inr (inl is)) = ap is_write is
+    → is_image_write call ≡ false
+save_writes_none call n text (inl is) = ap is_image_write is
+save_writes_none call n text (inr (inl is)) = ap is_image_write is
 save_writes_none call n text (inr (inr h)) =
     appends_write_none call (pieces_of text) (draft_sync ∷ publish_calls n) (publish_writes_none call n) h
 
 -- nor did a run end at one whose last calls were made
 pub saves_written : (stop : Option Stop) (r : RunState) (end : RunEnd) (a b : SiteState)
-    → is_unwritten (end_of stop) ≡ false → LastSave stop r end a b → is_unwritten end ≡ false
-saves_written stop r end a b off (Saved is makes rest) = ap is_unwritten is ∙ off
-saves_written stop r end a b off (Unsaved call is named breaks rest) = ap is_unwritten is
+    → ends_at_write (end_of stop) ≡ false → LastSave stop r end a b → ends_at_write end ≡ false
+saves_written stop r end a b off (Saved is makes rest) = ap ends_at_write is ∙ off
+saves_written stop r end a b off (Unsaved call is named breaks rest) = ap ends_at_write is
 
 -- The lines of a run whose marked events led to a state or to one alike, behind which the last line was said.
 module _ (r r1 : RunState) (es : List Event) (end : RunEnd) (heard : Bool) (x y z : ConsoleState)
@@ -112,12 +112,12 @@ module _ (r r1 : RunState) (es : List Event) (end : RunEnd) (heard : Bool) (x y 
       (sym are) says_last
 
   -- which were all marked,
-  pub says_all : is_unwritten end ≡ false
+  pub says_all : ends_at_write end ≡ false
       → SpeaksOn (out_pieces (lines_of (setting_in r) r.machine es end)) r.heard heard x z
   says_all off = says_by es (marked_all end es off)
 
   -- or all but the last, whose write failed
-  pub says_front : (e : Event) → is_unwritten end ≡ true
+  pub says_front : (e : Event) → ends_at_write end ≡ true
       → SpeaksOn (out_pieces (lines_of (setting_in r) r.machine (es ++ e ∷ []) end)) r.heard heard x z
   says_front e on = says_by (es ++ e ∷ []) (marked_front end es e on)
 

@@ -7,7 +7,7 @@ use Rattle.rescue_rules.specs.declared.stop.RunEnd.{RunEnd}
 use Rattle.rescue_rules.specs.declared.stop.RunEnd.TheVariants.{Stopped as RunStopped}
 use Rattle.rescue_rules.specs.Setting.{Setting}
 use Rattle.sweep_rules.specs.Sweep.{Sweeper, Swept}
-use Rattle.work_steps.specs.Work.{Deeds, Step, Works}
+use Rattle.work_steps.specs.Work.{Deeds, WorkStep, Works}
 use Rattle.work_steps.proofs.AnswerLemmas.{IsRefused, Starved, Unopened, Broken, Refused, Came, Stopped, Went, came}
 use Rattle.rescue_command.specs.declared.options.Options.{Options}
 use Rattle.rescue_command.specs.Options.{cluster_of}
@@ -24,7 +24,7 @@ use Rattle.ddrescue_cli.proofs.words.RefusalLemmas.{IsPlain, named_plain, ends_w
 use Rattle.ddrescue_cli.proofs.words.RowLemmas.{EndsRun}
 
 -- work whose refusals are plain, and whose run says what it should of accepted words
-rows_words : (words : List (List ℕ)) (rows : List (Step Ending)) (run : Ending → Deeds → Type 0) (e : Ending) (d : Deeds)
+rows_words : (words : List (List ℕ)) (rows : List (WorkStep Ending)) (run : Ending → Deeds → Type 0) (e : Ending) (d : Deeds)
     → AreAccepted words → (IsRefused rows e → IsPlain e) → ((x : Deeds) → run e x → SaysOfWords e words)
     → Works rescue_faults rows run e d → SaysOfWords e words
 rows_words words rows run e d ok plain says w = came_words (came rescue_faults rows run e d w)

@@ -12,7 +12,7 @@ use Rattle.rescue_rules.specs.declared.stop.Stop.TheVariants.{SourceLost as Inpu
 use Rattle.rescue_rules.specs.declared.stop.RunEnd.{RunEnd}
 use Rattle.rescue_rules.specs.declared.stop.RunEnd.TheVariants.{Done as Finished, Stopped, SaveFailed}
 use Rattle.rescue_rules.specs.Work.{Gain}
-use Rattle.work_steps.specs.Work.{Deeds, Step}
+use Rattle.work_steps.specs.Work.{Deeds, WorkStep}
 use Rattle.work_steps.specs.Verdicts.{IsOnce, RefuseOnce, AreVerdicts}
 use Rattle.work_steps.proofs.PartLemmas.{works_as}
 use Rattle.work_steps.proofs.VerdictLemmas.{one_verdict}
@@ -93,7 +93,7 @@ verdicts = record { memory = λ v. v.room refl; input = λ v. v.opened refl; cal
 
 pub has_one_verdict : HasOneVerdict
 has_one_verdict c s found lines lines' e e' d d' w w' v v' =
-    let rows : List (Step Ending) = rescue_rows c found s.end in
+    let rows : List (WorkStep Ending) = rescue_rows c found s.end in
     let run : Ending → Deeds → Type 0 = SaysSome s found.mapfile in
     one_verdict Ending rescue_faults IsVerdict verdicts rows run (rows_once c found s.end) (run_once s found.mapfile) e e'
     d d' (works_as rescue_faults rows (Rescues s found.mapfile lines) run (λ v x ran. (lines, ran)) e d w)

@@ -1,7 +1,7 @@
 use Rattle.std.proofs.Common.{◌≡◌, ◌+◌, ◌-◌, ◌<◌, arith}
 use Rattle.block_list.specs.Edits.{start_of}
 use Rattle.block_list.proofs.TileLemmas.{tile_read, start_mono}
-use Rattle.block_list.proofs.LookupLemmas.{rest_index, rest_read, rest_end, clear_behind, clear_up, found_first, found_run_up}
+use Rattle.block_list.proofs.LookupLemmas.{rest_index, rest_read, rest_end, clear_behind, clear_up, found_first, found_range_up}
 use Rattle.block_list.proofs.lookups.first_with.Goals as goal
 
 pub overflow_add-result : goal.overflow_add-result
@@ -24,8 +24,8 @@ returns-then-is-clause-first c =
     ) in
     rw c.max.ensures (found_first _ _ _ _ _ c.requires.tiled c.requires.merged h e c.loop-block.invariant u (c.is.ensures.0 c.if-is.true))
 
-pub returns-then-is-clause-run : goal.returns-then-is-clause-run
-returns-then-is-clause-run c =
+pub returns-then-is-clause-range : goal.returns-then-is-clause-range
+returns-then-is-clause-range c =
     let i = c.begun_before-holding.result - 1 + c.loop-block.block-index in
     let h = rest_index c.args.blocks.now (c.begun_before-holding.result - 1) c.loop-block.block-index c.loop-block-test.true in
     let e = rest_read c.args.blocks.now (c.begun_before-holding.result - 1) c.loop-block.block-index c.loop-block-test.true in
@@ -36,7 +36,7 @@ returns-then-is-clause-run c =
       start_mono c.args.blocks.now c.begun_before-holding.result
           (i + 1) (omega arith),
     ) in
-    rw c.max.ensures (found_run_up _ _ _ _ _ c.requires.tiled c.requires.merged h e u (c.is.ensures.0 c.if-is.true))
+    rw c.max.ensures (found_range_up _ _ _ _ _ c.requires.tiled c.requires.merged h e u (c.is.ensures.0 c.if-is.true))
 
 pub loop-block-preserved : goal.loop-block-preserved
 loop-block-preserved c =

@@ -2,7 +2,7 @@ use Rattle.std.proofs.Common.{◌≡◌, ◌+◌, ◌-◌, ◌<◌, length, arit
 use Rattle.block_list.specs.Edits.{start_of}
 use Rattle.block_list.proofs.TileLemmas.{tile_read, start_mono}
 use Rattle.block_list.proofs.EditLemmas.{read_there}
-use Rattle.block_list.proofs.LookupLemmas.{clear_before, found_last, found_run_down}
+use Rattle.block_list.proofs.LookupLemmas.{clear_before, found_last, found_range_down}
 use Rattle.block_list.proofs.lookups.last_with.Goals as goal
 
 pub overflow_add-block : goal.overflow_add-block
@@ -23,8 +23,8 @@ returns-then-is-clause-last c =
     rw c.min.ensures (found_last _ _ _ _ _ c.requires.tiled c.requires.merged h (read_there _ _ h)
     (rw z at c.loop-i.invariant) l (c.is.ensures.0 c.if-is.true))
 
-pub returns-then-is-clause-run : goal.returns-then-is-clause-run
-returns-then-is-clause-run c =
+pub returns-then-is-clause-range : goal.returns-then-is-clause-range
+returns-then-is-clause-range c =
     let h : c.loop-i.i - 1 < length c.args.blocks.now = omega (arith, c.begun_before-begun.ensures.index) in
     let l : start_of c.args.blocks.now (c.loop-i.i - 1) < c.args.before =
     omega (
@@ -32,7 +32,7 @@ returns-then-is-clause-run c =
       start_mono c.args.blocks.now (c.loop-i.i - 1) (c.begun_before-begun.result - 1) (omega arith),
       c.begun_before-begun.ensures.before (omega arith),
     ) in
-    rw c.min.ensures (found_run_down _ _ _ _ _ c.requires.tiled c.requires.merged h (read_there _ _ h) l (c.is.ensures.0 c.if-is.true))
+    rw c.min.ensures (found_range_down _ _ _ _ _ c.requires.tiled c.requires.merged h (read_there _ _ h) l (c.is.ensures.0 c.if-is.true))
 
 pub loop-i-preserved : goal.loop-i-preserved
 loop-i-preserved c =

@@ -1,6 +1,6 @@
 use Rattle.std.proofs.Common.{◌≡◌}
 use Rattle.copy_passes.specs.Turns.{WentByTurns}
-use Rattle.copy_passes.specs.Copying.{IsCopying}
+use Rattle.copy_passes.specs.Copying.{MayCopy}
 use Rattle.copy_passes.proofs.CopyingLemmas.{ahead_of}
 use Rattle.copy_passes.proofs.copy.run_pass.Given as goal
 
@@ -14,7 +14,7 @@ invariant-turns g l = WentByTurns l.initial.rescue l.rescue (record {
   clock' = g.K.Clock.state l.clock;
   console = g.C.Console.state l.initial.console;
   console' = g.C.Console.state l.console;
-}) × IsCopying l.rescue × (l.rescue.pass ≡ l.initial.rescue.pass)
+}) × MayCopy l.rescue × (l.rescue.pass ≡ l.initial.rescue.pass)
 
 abbrev pub decreases-turns : goal.decreases-turns
 decreases-turns g l = ahead_of l.rescue

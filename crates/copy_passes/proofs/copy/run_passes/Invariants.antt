@@ -1,7 +1,7 @@
 use Rattle.std.proofs.Common.{◌-◌}
 use Rattle.rescue_rules.specs.Passes.{copying_passes}
 use Rattle.copy_passes.specs.Turns.{WentByTurns}
-use Rattle.copy_passes.specs.Copying.{IsCopying}
+use Rattle.copy_passes.specs.Copying.{MayCopy}
 use Rattle.copy_passes.proofs.copy.run_passes.Given as goal
 
 abbrev pub invariant-passes : goal.invariant-passes
@@ -14,7 +14,7 @@ invariant-passes g l = WentByTurns l.initial.rescue l.rescue (record {
   clock' = g.K.Clock.state l.clock;
   console = g.C.Console.state l.initial.console;
   console' = g.C.Console.state l.console;
-}) × IsCopying l.rescue
+}) × MayCopy l.rescue
 
 abbrev pub decreases-passes : goal.decreases-passes
 decreases-passes g l = copying_passes - l.rescue.pass

@@ -27,9 +27,9 @@ returns-in-Err-clause-promise g c = λ now says.
 
 pub returns-in-Ok-verify-clause-promise : goal.returns-in-Ok-verify-clause-promise
 returns-in-Ok-verify-clause-promise g c = λ now says.
-    asked_kept _ (told_by c.in-Ok.command) (told_by c.in-Ok-make_plan.plan.command) c.in-Ok-make_plan.plan.heading.line
-    (Ok c.in-Ok-verify.tally) (g.P.Console.state c.report.new.console) c.in-Ok.ensures.asked c.in-Ok-make_plan.ensures.command
-    (ap (λ (h : HeadingLines). h.line) c.in-Ok-make_plan.ensures.heading) c.in-Ok-make_plan.ensures.different
+    asked_kept _ (told_by c.in-Ok.command) (told_by c.in-Ok-check_command.plan.command) c.in-Ok-check_command.plan.heading.line
+    (Ok c.in-Ok-verify.tally) (g.P.Console.state c.report.new.console) c.in-Ok.ensures.asked c.in-Ok-check_command.ensures.command
+    (ap (λ (h : HeadingLines). h.line) c.in-Ok-check_command.ensures.heading) c.in-Ok-check_command.ensures.different
     (record {
       worked = c.in-Ok-verify.ensures.worked;
       cause = c.in-Ok-verify.ensures.cause;
@@ -38,15 +38,15 @@ returns-in-Ok-verify-clause-promise g c = λ now says.
       site = c.in-Ok-verify.ensures.site;
       answers = subst (λ (x : Command). AnswersAs x.options.quiet (Ok c.in-Ok-verify.tally) c.report.result
           (g.P.Console.state c.args.console.now) (g.P.Console.state c.report.new.console))
-          (sym c.in-Ok-make_plan.ensures.command) c.report.ensures;
+          (sym c.in-Ok-check_command.ensures.command) c.report.ensures;
     }) says
 
 pub returns-clause-promise : goal.returns-clause-promise
 returns-clause-promise g c = λ now says.
-    asked_kept _ (told_by c.in-Ok.command) (told_by c.in-Ok-make_plan.plan.command) c.in-Ok-make_plan.plan.heading.line
+    asked_kept _ (told_by c.in-Ok.command) (told_by c.in-Ok-check_command.plan.command) c.in-Ok-check_command.plan.heading.line
     (Err c.in-Err-verify.refusal) (g.P.Console.state c.args.console.now) c.in-Ok.ensures.asked
-    c.in-Ok-make_plan.ensures.command (ap (λ (h : HeadingLines). h.line) c.in-Ok-make_plan.ensures.heading)
-    c.in-Ok-make_plan.ensures.different
+    c.in-Ok-check_command.ensures.command (ap (λ (h : HeadingLines). h.line) c.in-Ok-check_command.ensures.heading)
+    c.in-Ok-check_command.ensures.different
     (record {
       worked = c.in-Err-verify.ensures.worked;
       cause = c.in-Err-verify.ensures.cause;
@@ -62,7 +62,7 @@ returns-in-Ok-verify-clause-untouched g c = λ fault refused. absurd (c.in-Ok.en
 pub returns-in-Ok-verify-clause-unopened : goal.returns-in-Ok-verify-clause-unopened
 returns-in-Ok-verify-clause-unopened g c = λ first second twice.
     absurd (named_apart c.args.words.now (told_by c.in-Ok.command) c.in-Ok.ensures.asked
-    c.in-Ok-make_plan.ensures.different first second twice)
+    c.in-Ok-check_command.ensures.different first second twice)
 
 pub returns-clause-untouched : goal.returns-clause-untouched
 returns-clause-untouched g c = λ fault refused. absurd (c.in-Ok.ensures.asked.accepted fault refused)
@@ -70,4 +70,4 @@ returns-clause-untouched g c = λ fault refused. absurd (c.in-Ok.ensures.asked.a
 pub returns-clause-unopened : goal.returns-clause-unopened
 returns-clause-unopened g c = λ first second twice.
     absurd (named_apart c.args.words.now (told_by c.in-Ok.command) c.in-Ok.ensures.asked
-    c.in-Ok-make_plan.ensures.different first second twice)
+    c.in-Ok-check_command.ensures.different first second twice)

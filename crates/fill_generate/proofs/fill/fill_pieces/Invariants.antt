@@ -2,7 +2,7 @@ use Rattle.std.specs.Prelude.{⊤}
 use Rattle.std.proofs.Common.{◌≡◌, ◌-◌, ◌^◌, false}
 use Rattle.block_list.specs.declared.types.TypeSet.{TypeSet}
 use Rattle.sweep_rules.specs.Sweep.{filler}
-use Rattle.fill_generate.specs.declared.mode.Mode.TheVariants.{Fill}
+use Rattle.fill_generate.specs.declared.mode.SweepMode.TheVariants.{Fill}
 use Rattle.fill_generate.specs.SweepState.{setting_of}
 use Rattle.fill_generate.specs.Steps.{WentOn, ObjectsStay, gone_to}
 use Rattle.fill_generate.proofs.TellLemmas.{between}

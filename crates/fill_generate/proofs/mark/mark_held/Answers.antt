@@ -12,8 +12,8 @@ loop-at-preserved-then-not-has_byte g c =
     let none : list_any is_byte (bytes_in c.args.pos c.args.bytes.now c.loop-at.at c.min-to.result) ≡ false =
     grind (arith, c.has_byte.ensures, c.if-not-has_byte.true) in
     marking_marks c.args.sector c.args.pos c.args.bytes.now _ _ _ _ _ c.loop-at.from c.loop-at.at c.min-to.result
-    c.requires.sector c.loop-at.invariant c.loop-at-test.true c.min-to.ensures none c.mark_run.ensures.marked
-    c.mark_run.ensures.spare
+    c.requires.sector c.loop-at.invariant c.loop-at-test.true c.min-to.ensures none c.mark_range.ensures.marked
+    c.mark_range.ensures.spare
 
 pub loop-at-preserved : goal.loop-at-preserved
 loop-at-preserved g c =
@@ -25,4 +25,4 @@ loop-at-preserved g c =
 pub returns : goal.returns
 returns g c s len same few =
     marking_ends c.args.sector c.args.pos c.args.bytes.now _ _ _ _ c.loop-at.from c.loop-at.at c.loop-at.invariant
-    c.loop-at-test.false c.mark_run-2.ensures.marked s len same few
+    c.loop-at-test.false c.mark_range-2.ensures.marked s len same few

@@ -2,7 +2,7 @@ use Rattle.std.proofs.Common.{◌+◌, ◌<◌, List, length, take, drop, ap, ar
 use Rattle.std.specs.List.{flat_map}
 use Rattle.block_list.specs.declared.block.Block.{Block}
 use Rattle.block_list.specs.Stretches.{covered}
-use Rattle.paged_blocks.specs.declared.entry.Entry.{Entry}
+use Rattle.paged_blocks.specs.declared.entry.PageEntry.{PageEntry}
 use Rattle.paged_blocks.specs.Paging.{flat}
 use Rattle.paged_blocks.proofs.PagingLemmas.{no_entry, named, entry_says}
 use Rattle.paged_blocks.proofs.RegionLemmas.{page_edited, page_some, page_short, middle_short}
@@ -29,7 +29,7 @@ entry_behind-entry-requires-clause-some c =
 pub entry_behind-entry-requires-clause-old_short : goal.entry_behind-entry-requires-clause-old_short
 entry_behind-entry-requires-clause-old_short c =
     let pages : List (List Block) = c.args.pages.now.items in
-    let es : List Entry = c.args.entries.now.items in
+    let es : List PageEntry = c.args.entries.now.items in
     let there : c.args.edit.now.first < length es = omega (arith, c.requires.edit.order, c.requires.edit.last) in
     let own = named pages es c.args.edit.now.first no_entry _ c.requires.kept.1.paging there
     (rw (c.at-old.ensures no_entry) at c.index.ensures) in
@@ -44,7 +44,7 @@ pub entry_behind-entry-requires-clause-short : goal.entry_behind-entry-requires-
 entry_behind-entry-requires-clause-short c =
     let q = rw c.deref.ensures.value at (c.edited_page-page.ensures no_entry) in
     let pages : List (List Block) = c.args.pages.now.items in
-    let es : List Entry = c.args.entries.now.items in
+    let es : List PageEntry = c.args.entries.now.items in
     omega (
       arith,
       middle_short (flat pages (take c.args.edit.now.first es)) c.edited_page-page.result

@@ -1,5 +1,5 @@
 use Rattle.std.proofs.Common.{◌+◌, ◌-◌, arith}
-use Rattle.paged_blocks.proofs.FewLemmas.{some_stretch, last_behind, last_clear, last_reached, few_behind, few_first, few_run_up, few_none, few_passed, few_short}
+use Rattle.paged_blocks.proofs.FewLemmas.{some_stretch, last_behind, last_clear, last_reached, few_behind, few_first, few_range_up, few_none, few_passed, few_short}
 use Rattle.paged_blocks.proofs.few.first_with.Goals as goal
 
 pub overflow_sub-last : goal.overflow_sub-last
@@ -10,20 +10,20 @@ pub block-block-requires : goal.block-block-requires
 block-block-requires g c =
     omega (arith, some_stretch c.args.tiles.now.statuses (c.args.from + 1) (omega arith) (omega (arith, c.end.ensures.end)), c.blocks-last.ensures)
 
-pub run_up-requires : goal.run_up-requires
-run_up-requires g c = omega (arith, few_short c.args.tiles.now.statuses _ _ (rw c.end.ensures.end at c.end.ensures.short) c.block-block.ensures)
+pub range_up-requires : goal.range_up-requires
+range_up-requires g c = omega (arith, few_short c.args.tiles.now.statuses _ _ (rw c.end.ensures.end at c.end.ensures.short) c.block-block.ensures)
 
 pub returns-then-is-clause-first : goal.returns-then-is-clause-first
 returns-then-is-clause-first g c =
     let short = rw c.end.ensures.end at c.end.ensures.short in
-    rw c.run_up.ensures (few_first c.args.tiles.now.statuses _ _ _ _ short c.block-block.ensures
+    rw c.range_up.ensures (few_first c.args.tiles.now.statuses _ _ _ _ short c.block-block.ensures
     (last_clear _ _ _ _ _ short c.block-block.ensures (omega arith))
     (last_reached c.args.tiles.now.statuses _ _ (omega (arith, c.end.ensures.end)) (omega (arith, c.blocks-last.ensures)))
     (c.is.ensures.0 c.if-is.true))
 
-pub returns-then-is-clause-run : goal.returns-then-is-clause-run
-returns-then-is-clause-run g c =
-    rw c.run_up.ensures (few_run_up c.args.tiles.now.statuses _ _ _ _ (rw c.end.ensures.end at c.end.ensures.short) c.block-block.ensures
+pub returns-then-is-clause-range : goal.returns-then-is-clause-range
+returns-then-is-clause-range g c =
+    rw c.range_up.ensures (few_range_up c.args.tiles.now.statuses _ _ _ _ (rw c.end.ensures.end at c.end.ensures.short) c.block-block.ensures
     (last_reached c.args.tiles.now.statuses _ _ (omega (arith, c.end.ensures.end)) (omega (arith, c.blocks-last.ensures)))
     (c.is.ensures.0 c.if-is.true))
 
@@ -43,18 +43,18 @@ first_from-i-requires-clause-front g c =
           (omega (arith, some, c.blocks-last.ensures)) c.block-block.ensures (omega arith),
     )
 
-pub run_up-requires-then-i-blocks : goal.run_up-requires-then-i-blocks
-run_up-requires-then-i-blocks g c =
+pub range_up-requires-then-i-blocks : goal.range_up-requires-then-i-blocks
+range_up-requires-then-i-blocks g c =
     omega (arith, few_short c.args.tiles.now.statuses _ _ (rw c.end.ensures.end at c.end.ensures.short) c.block.ensures)
 
 pub returns-then-i-blocks-clause-first : goal.returns-then-i-blocks-clause-first
 returns-then-i-blocks-clause-first g c =
-    rw c.run_up-then-i-blocks.ensures (few_first c.args.tiles.now.statuses _ _ _ _ (rw c.end.ensures.end at c.end.ensures.short) c.block.ensures
+    rw c.range_up-then-i-blocks.ensures (few_first c.args.tiles.now.statuses _ _ _ _ (rw c.end.ensures.end at c.end.ensures.short) c.block.ensures
     (few_passed _ _ _ _ c.first_from-i.ensures.bare) c.first_from-i.ensures.behind (c.first_from-i.ensures.has _ c.block.ensures))
 
-pub returns-then-i-blocks-clause-run : goal.returns-then-i-blocks-clause-run
-returns-then-i-blocks-clause-run g c =
-    rw c.run_up-then-i-blocks.ensures (few_run_up c.args.tiles.now.statuses _ _ _ _ (rw c.end.ensures.end at c.end.ensures.short) c.block.ensures
+pub returns-then-i-blocks-clause-range : goal.returns-then-i-blocks-clause-range
+returns-then-i-blocks-clause-range g c =
+    rw c.range_up-then-i-blocks.ensures (few_range_up c.args.tiles.now.statuses _ _ _ _ (rw c.end.ensures.end at c.end.ensures.short) c.block.ensures
     c.first_from-i.ensures.behind (c.first_from-i.ensures.has _ c.block.ensures))
 
 pub returns-else-i-blocks-clause-none : goal.returns-else-i-blocks-clause-none

@@ -1,10 +1,10 @@
 use Rattle.std.proofs.Common.{◌≡◌, ◌+◌, ◌-◌, length, min, arith}
 use Rattle.block_list.proofs.LookupLemmas.{last_within}
-use Rattle.paged_blocks.proofs.FewLemmas.{few_front, few_last, few_run_down, few_short, few_below, few_clear}
+use Rattle.paged_blocks.proofs.FewLemmas.{few_front, few_last, few_range_down, few_short, few_below, few_clear}
 use Rattle.paged_blocks.proofs.few.last_with.Goals as goal
 
-pub run_down-requires : goal.run_down-requires
-run_down-requires g c = omega (arith, few_short c.args.tiles.now.statuses _ _ (rw c.end.ensures.end at c.end.ensures.short) c.block-block.ensures)
+pub range_down-requires : goal.range_down-requires
+range_down-requires g c = omega (arith, few_short c.args.tiles.now.statuses _ _ (rw c.end.ensures.end at c.end.ensures.short) c.block-block.ensures)
 
 pub returns-then-is-clause-last : goal.returns-then-is-clause-last
 returns-then-is-clause-last g c =
@@ -13,11 +13,11 @@ returns-then-is-clause-last g c =
     let k = few_last c.args.tiles.now.statuses _ _ _ _ (rw c.end.ensures.end at c.end.ensures.short) c.block-block.ensures
     (rw z at c.loop-i.invariant.clear)
     (few_below c.args.tiles.now.statuses _ _ _ c.begun_before-begun.ensures.place (omega arith)) (c.is.ensures.0 c.if-is.true) in
-    rw (c.run_down.ensures, m) (last_within _ _ _ _ (rw m at k))
+    rw (c.range_down.ensures, m) (last_within _ _ _ _ (rw m at k))
 
-pub returns-then-is-clause-run : goal.returns-then-is-clause-run
-returns-then-is-clause-run g c =
-    rw c.run_down.ensures (few_run_down c.args.tiles.now.statuses _ _ _ _ (rw c.end.ensures.end at c.end.ensures.short) c.block-block.ensures
+pub returns-then-is-clause-range : goal.returns-then-is-clause-range
+returns-then-is-clause-range g c =
+    rw c.range_down.ensures (few_range_down c.args.tiles.now.statuses _ _ _ _ (rw c.end.ensures.end at c.end.ensures.short) c.block-block.ensures
     (few_below c.args.tiles.now.statuses _ _ _ c.begun_before-begun.ensures.place (omega arith)) (c.is.ensures.0 c.if-is.true))
 
 pub loop-i-preserved : goal.loop-i-preserved

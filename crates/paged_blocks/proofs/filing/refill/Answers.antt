@@ -2,7 +2,7 @@ use Rattle.std.proofs.Common.{◌≡◌, ℕ, ◌<◌, ◌≤◌, ◌∙◌, ◌
 use Rattle.std.proofs.lemmas.Bool.{cases_lt}
 use Rattle.std.proofs.lemmas.List.{take_at, drop_at, length-take-le}
 use Rattle.block_list.specs.declared.block.Block.{Block}
-use Rattle.paged_blocks.specs.declared.entry.Entry.{Entry}
+use Rattle.paged_blocks.specs.declared.entry.PageEntry.{PageEntry}
 use Rattle.paged_blocks.specs.Paging.{flat}
 use Rattle.paged_blocks.specs.Regions.{refilled}
 use Rattle.paged_blocks.proofs.FilingLemmas.{released, kept_long, taken_out}
@@ -56,8 +56,8 @@ returns-clause-kept c =
     let behind : ℕ = c.args.region.now.behind in
     let blocks : List Block = c.args.region.now.blocks in
     let pages : List (List Block) = c.args.pages.now.items in
-    let es : List Entry = c.args.entries.now.items in
-    let kept : List Entry = c.release.new.entries.items in
+    let es : List PageEntry = c.args.entries.now.items in
+    let kept : List PageEntry = c.release.new.entries.items in
     let e = c.release.ensures.entries in
     let z = kept_long es kept first behind c.requires.kept.half r.order r.within r.taken e in
     let n : length (take first es) ≡ first = length-take-le first es (omega (arith, r.order, r.within)) in

@@ -1,7 +1,7 @@
 use Rattle.std.proofs.Common.{◌≡◌, ◌+◌, ◌<◌, ◌∙◌, ◌++◌, length, List, length-append, length-drop, take, drop, ap, arith, vec_len, vec_capacity}
 use Rattle.std.proofs.lemmas.List.{length-take-le}
-use Rattle.paged_blocks.specs.declared.entry.Entry.{Entry}
-use Rattle.paged_blocks.specs.Paging.{naming, standing}
+use Rattle.paged_blocks.specs.declared.entry.PageEntry.{PageEntry}
+use Rattle.paged_blocks.specs.Paging.{naming, times_free}
 use Rattle.paged_blocks.proofs.KeptLemmas.{succeeded}
 use Rattle.paged_blocks.proofs.FilingLemmas.{released_more, released_numbers}
 use Rattle.paged_blocks.proofs.filing.release.Goals as goal
@@ -29,11 +29,11 @@ returns-clause-numbers c =
     let z : c.loop-k.k ≡ c.args.behind = omega (arith, c.loop-k.auto.k-end, c.requires.order, c.loop-k-test.false) in
     λ n. released_numbers c.args.entries.now.items c.take_out.new.self.items c.args.free.now.items c.loop-k.free.items n
     c.args.first c.args.behind e
-    (c.loop-k.invariant.numbers n ∙ ap (λ k. standing n c.args.free.now.items + naming n (take k c.args.entries.now.items)) z)
+    (c.loop-k.invariant.numbers n ∙ ap (λ k. times_free n c.args.free.now.items + naming n (take k c.args.entries.now.items)) z)
 
 pub returns-clause-len : goal.returns-clause-len
 returns-clause-len c =
-    let es : List Entry = c.args.entries.now.items in
+    let es : List PageEntry = c.args.entries.now.items in
     omega (
       arith,
       ap length c.take_out.ensures.items,

@@ -1,5 +1,5 @@
 use Rattle.std.proofs.Common.{◌≡◌, ◌+◌, ◌-◌, ap, arith}
-use Rattle.paged_blocks.specs.declared.entry.Entry.{Entry}
+use Rattle.paged_blocks.specs.declared.entry.PageEntry.{PageEntry}
 use Rattle.paged_blocks.specs.Paging.{before}
 use Rattle.paged_blocks.proofs.PagingLemmas.{no_entry, before_more, block_in_page}
 use Rattle.paged_blocks.proofs.KeptLemmas.{block_there, entries_short}
@@ -15,8 +15,8 @@ loop-left-preserved c =
     omega (
       arith,
       (c.requires.paging.each c.loop-left.k no_entry i.index).len,
-      ap (λ (e : Entry). e.len) (c.at.ensures no_entry),
-      ap (λ (e : Entry). e.len) (c.at-left.ensures no_entry),
+      ap (λ (e : PageEntry). e.len) (c.at.ensures no_entry),
+      ap (λ (e : PageEntry). e.len) (c.at-left.ensures no_entry),
       before_more c.args.pages.now c.args.entries.now.items c.loop-left.k no_entry i.index,
       i.place,
       c.loop-left-test.true,

@@ -2,7 +2,7 @@ use Rattle.std.proofs.Common.{◌≡◌, ◌+◌, arith, refl}
 use Rattle.paged_blocks.specs.Paging.{before}
 use Rattle.paged_blocks.proofs.PagingLemmas.{no_entry}
 use Rattle.paged_blocks.proofs.StepLemmas.{one_page, two_pages, looks_one, looks_two}
-use Rattle.paged_blocks.proofs.FindLemmas.{page_filled, read_short, first_found, first_run, bare_start, bare_rest, bare_up, reaches_page, held_has, held_behind, held_below, not_bare}
+use Rattle.paged_blocks.proofs.FindLemmas.{page_filled, read_short, first_found, first_range, bare_start, bare_rest, bare_up, reaches_page, held_has, held_behind, held_below, not_bare}
 use Rattle.paged_blocks.proofs.KeptLemmas.{entries_short}
 use Rattle.paged_blocks.proofs.lookups.first_with.Goals as goal
 
@@ -17,21 +17,21 @@ first_in-requires-clause-entry g c =
 pub overflow_step-k : goal.overflow_step-k
 overflow_step-k g c = omega (arith, entries_short _ _ c.requires.paging, c.held_counted-held.ensures.held.entry)
 
-pub run_up-requires : goal.run_up-requires
-run_up-requires g c =
+pub range_up-requires : goal.range_up-requires
+range_up-requires g c =
     let f = c.in-Some.ensures.found in
     omega (arith, read_short _ _ _ _ no_entry _ c.requires.paging c.held_counted-held.ensures.held.entry (rw (c.at.ensures no_entry) at f.read))
 
 pub returns-in-Some-clause-first : goal.returns-in-Some-clause-first
 returns-in-Some-clause-first g c =
     let h = c.held_counted-held.ensures.held in
-    rw c.run_up.ensures (first_found _ _ _ no_entry _ _ _ _ c.requires.paging h.entry (rw (c.at.ensures no_entry) at c.in-Some.ensures.found)
+    rw c.range_up.ensures (first_found _ _ _ no_entry _ _ _ _ c.requires.paging h.entry (rw (c.at.ensures no_entry) at c.in-Some.ensures.found)
     (bare_start _ _ _ _ _ _ h) (held_behind _ _ _ _ _ h))
 
-pub returns-in-Some-clause-run : goal.returns-in-Some-clause-run
-returns-in-Some-clause-run g c =
+pub returns-in-Some-clause-range : goal.returns-in-Some-clause-range
+returns-in-Some-clause-range g c =
     let h = c.held_counted-held.ensures.held in
-    rw c.run_up.ensures (first_run _ _ _ no_entry _ _ _ _ c.requires.paging h.entry (rw (c.at.ensures no_entry) at c.in-Some.ensures.found)
+    rw c.range_up.ensures (first_range _ _ _ no_entry _ _ _ _ c.requires.paging h.entry (rw (c.at.ensures no_entry) at c.in-Some.ensures.found)
     (held_behind _ _ _ _ _ h))
 
 pub returns-in-Some-clause-cost : goal.returns-in-Some-clause-cost
@@ -66,8 +66,8 @@ pub first_in-requires-in-loop-k-clause-entry : goal.first_in-requires-in-loop-k-
 first_in-requires-in-loop-k-clause-entry g c =
     rw (c.at-in-loop-k.ensures no_entry) (c.requires.paging.each _ no_entry (rw c.len-k-end.ensures at c.loop-k-test.true))
 
-pub run_up-requires-in-Some-first_in : goal.run_up-requires-in-Some-first_in
-run_up-requires-in-Some-first_in g c =
+pub range_up-requires-in-Some-first_in : goal.range_up-requires-in-Some-first_in
+range_up-requires-in-Some-first_in g c =
     let f = c.in-Some-first_in.ensures.found in
     omega (
       arith,
@@ -79,14 +79,14 @@ pub returns-in-Some-first_in-clause-first : goal.returns-in-Some-first_in-clause
 returns-in-Some-first_in-clause-first g c =
     let h = c.held_counted-held.ensures.held in
     let z : before c.args.pages.now c.args.entries.now.items c.loop-k.k + 0 ≡ before c.args.pages.now c.args.entries.now.items c.loop-k.k = omega arith in
-    rw c.run_up-in-Some-first_in.ensures (first_found _ _ _ no_entry _ _ _ _ c.requires.paging (rw c.len-k-end.ensures at c.loop-k-test.true)
+    rw c.range_up-in-Some-first_in.ensures (first_found _ _ _ no_entry _ _ _ _ c.requires.paging (rw c.len-k-end.ensures at c.loop-k-test.true)
     (rw (c.at-in-loop-k.ensures no_entry) at c.in-Some-first_in.ensures.found) (rw z c.loop-k.invariant.bare)
     (reaches_page _ _ _ _ _ _ no_entry h (omega arith)))
 
-pub returns-in-Some-first_in-clause-run : goal.returns-in-Some-first_in-clause-run
-returns-in-Some-first_in-clause-run g c =
+pub returns-in-Some-first_in-clause-range : goal.returns-in-Some-first_in-clause-range
+returns-in-Some-first_in-clause-range g c =
     let h = c.held_counted-held.ensures.held in
-    rw c.run_up-in-Some-first_in.ensures (first_run _ _ _ no_entry _ _ _ _ c.requires.paging (rw c.len-k-end.ensures at c.loop-k-test.true)
+    rw c.range_up-in-Some-first_in.ensures (first_range _ _ _ no_entry _ _ _ _ c.requires.paging (rw c.len-k-end.ensures at c.loop-k-test.true)
     (rw (c.at-in-loop-k.ensures no_entry) at c.in-Some-first_in.ensures.found) (reaches_page _ _ _ _ _ _ no_entry h (omega arith)))
 
 pub returns-in-Some-first_in-clause-cost : goal.returns-in-Some-first_in-clause-cost

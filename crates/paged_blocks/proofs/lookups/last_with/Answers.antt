@@ -2,7 +2,7 @@ use Rattle.std.proofs.Common.{◌≡◌, ◌+◌, ◌-◌, ◌<◌, ◌∙◌, l
 use Rattle.paged_blocks.specs.Paging.{before}
 use Rattle.paged_blocks.proofs.PagingLemmas.{no_entry}
 use Rattle.paged_blocks.proofs.StepLemmas.{one_page, two_pages_down, looks_one, looks_two}
-use Rattle.paged_blocks.proofs.FindLemmas.{page_filled, read_short, last_found, last_run, bare_end, bare_front, begun_below, begun_in_front, begun_front, held_end, whole_page, not_bare_down}
+use Rattle.paged_blocks.proofs.FindLemmas.{page_filled, read_short, last_found, last_range, bare_end, bare_front, begun_below, begun_in_front, begun_front, held_end, whole_page, not_bare_down}
 use Rattle.paged_blocks.proofs.lookups.last_with.Goals as goal
 
 pub last_in-requires-clause-filled : goal.last_in-requires-clause-filled
@@ -13,21 +13,21 @@ pub last_in-requires-clause-entry : goal.last_in-requires-clause-entry
 last_in-requires-clause-entry g c =
     rw (c.at.ensures no_entry) (c.requires.paging.each _ no_entry c.held_counted-held.ensures.held.entry)
 
-pub run_down-requires : goal.run_down-requires
-run_down-requires g c =
+pub range_down-requires : goal.range_down-requires
+range_down-requires g c =
     let f = c.in-Some.ensures.found in
     omega (arith, read_short _ _ _ _ no_entry _ c.requires.paging c.held_counted-held.ensures.held.entry (rw (c.at.ensures no_entry) at f.read))
 
 pub returns-in-Some-clause-last : goal.returns-in-Some-clause-last
 returns-in-Some-clause-last g c =
     let h = c.held_counted-held.ensures.held in
-    rw c.run_down.ensures (last_found _ _ _ no_entry _ _ _ _ c.requires.paging h.entry (h.within no_entry)
+    rw c.range_down.ensures (last_found _ _ _ no_entry _ _ _ _ c.requires.paging h.entry (h.within no_entry)
     (rw (c.at.ensures no_entry) at c.in-Some.ensures.found) (bare_end _ _ _ _ _ _ h) (begun_below _ _ _ _ _ h))
 
-pub returns-in-Some-clause-run : goal.returns-in-Some-clause-run
-returns-in-Some-clause-run g c =
+pub returns-in-Some-clause-range : goal.returns-in-Some-clause-range
+returns-in-Some-clause-range g c =
     let h = c.held_counted-held.ensures.held in
-    rw c.run_down.ensures (last_run _ _ _ no_entry _ _ _ _ c.requires.paging h.entry (h.within no_entry)
+    rw c.range_down.ensures (last_range _ _ _ no_entry _ _ _ _ c.requires.paging h.entry (h.within no_entry)
     (rw (c.at.ensures no_entry) at c.in-Some.ensures.found) (begun_below _ _ _ _ _ h))
 
 pub returns-in-Some-clause-cost : goal.returns-in-Some-clause-cost
@@ -68,8 +68,8 @@ last_in-requires-in-loop-k-clause-index g c =
     let e = c.requires.paging.each (c.loop-k.k - 1) no_entry l in
     rw (c.at-entry.ensures no_entry) (omega (arith, e.len))
 
-pub run_down-requires-in-Some-last_in : goal.run_down-requires-in-Some-last_in
-run_down-requires-in-Some-last_in g c =
+pub range_down-requires-in-Some-last_in : goal.range_down-requires-in-Some-last_in
+range_down-requires-in-Some-last_in g c =
     let f = c.in-Some-last_in.ensures.found in
     let l : c.loop-k.k - 1 < length c.args.entries.now.items = omega (arith, c.held_counted-held.ensures.held.entry) in
     omega (arith, read_short _ _ _ _ no_entry _ c.requires.paging l (rw (c.at-entry.ensures no_entry) at f.read))
@@ -82,16 +82,16 @@ returns-in-Some-last_in-clause-last g c =
     let y : c.loop-k.k - 1 + 1 ≡ c.loop-k.k = omega arith in
     let z = whole_page c.args.pages.now c.args.entries.now.items (c.loop-k.k - 1) no_entry _ l e.len
     ∙ ap (λ n. before c.args.pages.now c.args.entries.now.items n) y in
-    rw c.run_down-in-Some-last_in.ensures (last_found _ _ _ no_entry _ _ _ _ c.requires.paging l (omega (arith, e.len))
+    rw c.range_down-in-Some-last_in.ensures (last_found _ _ _ no_entry _ _ _ _ c.requires.paging l (omega (arith, e.len))
     (rw (c.at-entry.ensures no_entry) at c.in-Some-last_in.ensures.found) (rw z c.loop-k.invariant.bare)
     (λ i u. begun_in_front _ _ _ _ _ _ no_entry h (omega arith) i (omega (arith, e.len))))
 
-pub returns-in-Some-last_in-clause-run : goal.returns-in-Some-last_in-clause-run
-returns-in-Some-last_in-clause-run g c =
+pub returns-in-Some-last_in-clause-range : goal.returns-in-Some-last_in-clause-range
+returns-in-Some-last_in-clause-range g c =
     let h = c.held_counted-held.ensures.held in
     let l : c.loop-k.k - 1 < length c.args.entries.now.items = omega (arith, h.entry) in
     let e = c.requires.paging.each (c.loop-k.k - 1) no_entry l in
-    rw c.run_down-in-Some-last_in.ensures (last_run _ _ _ no_entry _ _ _ _ c.requires.paging l (omega (arith, e.len))
+    rw c.range_down-in-Some-last_in.ensures (last_range _ _ _ no_entry _ _ _ _ c.requires.paging l (omega (arith, e.len))
     (rw (c.at-entry.ensures no_entry) at c.in-Some-last_in.ensures.found)
     (λ i u. begun_in_front _ _ _ _ _ _ no_entry h (omega arith) i (omega (arith, e.len))))
 

@@ -4,7 +4,7 @@ use Rattle.paged_blocks.specs.Paging.{blocks_of, flat, before}
 use Rattle.paged_blocks.specs.Marks.{spliced}
 use Rattle.paged_blocks.proofs.PagingLemmas.{no_entry, named}
 use Rattle.block_list.specs.declared.block.Block.{Block}
-use Rattle.paged_blocks.specs.declared.entry.Entry.{Entry}
+use Rattle.paged_blocks.specs.declared.entry.PageEntry.{PageEntry}
 use Rattle.paged_blocks.proofs.RegionLemmas.{page_edited}
 use Rattle.paged_blocks.proofs.RowLemmas.{row_middle}
 use Rattle.paged_blocks.proofs.regions.edited_page.Goals as goal
@@ -47,7 +47,7 @@ returns c = λ d.
 pub spliced-requires-clause-row : goal.spliced-requires-clause-row
 spliced-requires-clause-row c =
     let pages : List (List Block) = c.args.pages.now in
-    let es : List Entry = c.args.entries.now.items in
+    let es : List PageEntry = c.args.entries.now.items in
     let e = c.requires.edit in
     let there : c.args.edit.now.first < length es = omega (arith, e.order, e.last) in
     let own = named pages _ _ no_entry _ c.requires.paging there (rw (c.at.ensures no_entry) at c.index-pages-at.is) in

@@ -1,6 +1,6 @@
 use Rattle.std.proofs.Common.{◌-◌, ◌<◌, ◌≤◌, ◌∙◌, ◌++◌, List, length, take, drop, ap, arith, length-append}
 use Rattle.block_list.specs.declared.block.Block.{Block}
-use Rattle.paged_blocks.specs.declared.entry.Entry.{Entry}
+use Rattle.paged_blocks.specs.declared.entry.PageEntry.{PageEntry}
 use Rattle.paged_blocks.specs.Paging.{flat}
 use Rattle.paged_blocks.proofs.PagingLemmas.{no_entry, named}
 use Rattle.paged_blocks.proofs.FilingLemmas.{long_at}
@@ -10,7 +10,7 @@ use Rattle.paged_blocks.proofs.regions.with_former.Goals as goal
 pub returns-clause-same : goal.returns-clause-same
 returns-clause-same c =
     let pages : List (List Block) = c.args.pages.now in
-    let es : List Entry = c.args.entries.now.items in
+    let es : List PageEntry = c.args.entries.now.items in
     let blocks : List Block = c.args.region.blocks in
     let r = c.requires.region in
     let there : c.args.region.first - 1 < length es = omega (arith, r.order, r.within, c.requires.there) in
@@ -23,7 +23,7 @@ returns-clause-same c =
 
 pub returns-clause-full : goal.returns-clause-full
 returns-clause-full c =
-    let es : List Entry = c.args.entries.now.items in
+    let es : List PageEntry = c.args.entries.now.items in
     let r = c.requires.region in
     let first = c.args.region.first - 1 in
     let there : first < length es = omega (arith, r.order, r.within, c.requires.there) in

@@ -1,6 +1,6 @@
 use Rattle.std.proofs.Common.{◌≡◌, ◌+◌, ◌≤◌, ◌∙◌, ◌++◌, List, length, take, drop, slice_range, get_or, ap, arith}
 use Rattle.block_list.specs.declared.block.Block.{Block}
-use Rattle.paged_blocks.specs.declared.entry.Entry.{Entry}
+use Rattle.paged_blocks.specs.declared.entry.PageEntry.{PageEntry}
 use Rattle.paged_blocks.specs.Paging.{blocks_of, flat}
 use Rattle.paged_blocks.proofs.PagingLemmas.{no_entry, named}
 use Rattle.paged_blocks.proofs.KeptLemmas.{entries_short}
@@ -14,7 +14,7 @@ overflow_add-region c = omega (arith, entries_short _ _ c.requires.paging, c.req
 pub returns-clause-same : goal.returns-clause-same
 returns-clause-same c =
     let pages : List (List Block) = c.args.pages.now in
-    let es : List Entry = c.args.entries.now.items in
+    let es : List PageEntry = c.args.entries.now.items in
     let blocks : List Block = c.args.region.blocks in
     let next = named pages es _ no_entry _ c.requires.paging c.requires.there (rw (c.at.ensures no_entry) at c.index-pages-at.is) in
     let all : c.copy.new.self ≡ blocks ++ blocks_of pages (get_or es c.args.region.behind no_entry) =
@@ -26,7 +26,7 @@ returns-clause-same c =
 
 pub returns-clause-full : goal.returns-clause-full
 returns-clause-full c =
-    let es : List Entry = c.args.entries.now.items in
+    let es : List PageEntry = c.args.entries.now.items in
     let behind = c.args.region.behind in
     let r = c.requires.region in
     let long = long_at es behind no_entry (c.requires.half.half (omega (arith, c.requires.there, r.taken (omega (arith, c.requires.there)))))

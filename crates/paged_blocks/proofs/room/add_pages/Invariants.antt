@@ -1,10 +1,10 @@
 use Rattle.std.proofs.Common.{◌≡◌, ◌-◌, ◌≤◌, vec_len, vec_capacity}
-use Rattle.paged_blocks.specs.Paging.{flat, IsKept}
+use Rattle.paged_blocks.specs.Paging.{flat, IsKeptInPages}
 use Rattle.paged_blocks.proofs.room.add_pages.Given as goal
 
 abbrev pub invariant-loop-pages : goal.invariant-loop-pages
 invariant-loop-pages l = record {
-  kept : IsKept l.pages.items l.entries.items l.free.items;
+  kept : IsKeptInPages l.pages.items l.entries.items l.free.items;
   flat : flat l.pages.items l.entries.items ≡ flat l.initial.pages.items l.entries.items;
   more : vec_len l.initial.pages ≤ vec_len l.pages;
   room : vec_len l.pages ≤ vec_capacity l.free;

@@ -1,5 +1,5 @@
 use Rattle.std.proofs.Common.{◌+◌, ◌∙◌, ap, arith}
-use Rattle.paged_blocks.specs.declared.entry.Entry.{Entry}
+use Rattle.paged_blocks.specs.declared.entry.PageEntry.{PageEntry}
 use Rattle.paged_blocks.specs.Paging.{flat}
 use Rattle.paged_blocks.proofs.PagingLemmas.{no_entry, before_more, before_le, before_all}
 use Rattle.paged_blocks.proofs.KeptLemmas.{blocks_short}
@@ -12,7 +12,7 @@ overflow_add-blocks c =
     omega (
       arith,
       e.len,
-      ap (λ (x : Entry). x.len) (c.at-blocks.ensures no_entry),
+      ap (λ (x : PageEntry). x.len) (c.at-blocks.ensures no_entry),
       c.loop-k.invariant,
       before_more c.args.pages.now c.args.entries.now.items c.loop-k.k no_entry h,
       before_le c.args.pages.now c.args.entries.now.items (c.loop-k.k + 1),
@@ -26,7 +26,7 @@ loop-k-preserved c =
     omega (
       arith,
       e.len,
-      ap (λ (x : Entry). x.len) (c.at-blocks.ensures no_entry),
+      ap (λ (x : PageEntry). x.len) (c.at-blocks.ensures no_entry),
       c.loop-k.invariant,
       before_more c.args.pages.now c.args.entries.now.items c.loop-k.k no_entry h,
     )

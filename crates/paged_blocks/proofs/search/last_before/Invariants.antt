@@ -4,7 +4,7 @@ use Rattle.paged_blocks.proofs.search.last_before.Given as goal
 
 abbrev pub invariant-loop-last : goal.invariant-loop-last
 invariant-loop-last g l = record {
-  narrowed : IsNarrowed g.X.Begins.begin l.xs l.at l.last l.end;
+  narrowed : IsNarrowed g.X.Positioned.begin l.xs l.at l.last l.end;
   halved : IsHalved (length l.xs) (l.end - l.last) l.initial.steps l.steps;
 }
 

@@ -16,10 +16,10 @@ replace-requires-2 g c =
     let changed = rw c.reserve.ensures.statuses at c.replace.ensures.changed in
     let apart : c.prepared_to-trimmed.result ≢ NonScraped
     = rw c.prepared_to-trimmed.ensures (trimmed_unscraped c.args.again c.args.retrim) in
-    let used = (rw c.reserve.ensures.statuses at c.replace.ensures.spare) first.runs first.changes in
+    let used = (rw c.reserve.ensures.statuses at c.replace.ensures.spare) first.ranges first.changes in
     record {
       room = record {
-        runs = second.runs;
+        ranges = second.ranges;
         changes = changes_still domain (replaced NonTrimmed c.prepared_to-trimmed.result) NonScraped old _ changed refl
             (replaced_alone NonTrimmed c.prepared_to-trimmed.result NonScraped apart) _ _ second.changes;
         enough = omega (arith, first.total, second.total, third.total, c.in_ok-reserve.ensures.spare, used);
@@ -45,11 +45,11 @@ replace-requires-3 g c =
     (replaced_alone NonTrimmed trimmed NonScraped unscraped) _ _ second.changes in
     let bad = changes_still domain (replaced NonTrimmed trimmed) BadSector old _ changed refl
     (replaced_alone NonTrimmed trimmed BadSector apart) _ _ third.changes in
-    let used = (rw c.reserve.ensures.statuses at c.replace.ensures.spare) first.runs first.changes in
-    let used' = c.replace-2.ensures.spare second.runs left in
+    let used = (rw c.reserve.ensures.statuses at c.replace.ensures.spare) first.ranges first.changes in
+    let used' = c.replace-2.ensures.spare second.ranges left in
     record {
       room = record {
-        runs = third.runs;
+        ranges = third.ranges;
         changes = changes_still domain (replaced NonScraped scraped) BadSector _ _ c.replace-2.ensures.changed refl
             (replaced_alone NonScraped scraped BadSector apart') _ _ bad;
         enough = omega (arith, first.total, second.total, third.total, c.in_ok-reserve.ensures.spare, used, used');

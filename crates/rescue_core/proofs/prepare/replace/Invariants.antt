@@ -6,10 +6,10 @@ use Rattle.rescue_core.proofs.PrepareLemmas.{below}
 use Rattle.rescue_core.proofs.RoomLemmas.{Spends}
 use Rattle.rescue_core.proofs.prepare.replace.Given as goal
 
-abbrev pub invariant-loop-run : goal.invariant-loop-run
-invariant-loop-run g l =
+abbrev pub invariant-loop-range : goal.invariant-loop-range
+invariant-loop-range g l =
     IsChanged (below (covers l.domain) l.at) (replaced l.from l.to) (g.T.Tiles.statuses l.fn.tiles) (g.T.Tiles.statuses l.tiles)
     × Spends (covers l.domain) (g.T.Tiles.statuses l.fn.tiles) l.from l.at (g.T.Tiles.spare l.fn.tiles) (g.T.Tiles.spare l.tiles)
 
-abbrev pub decreases-loop-run : goal.decreases-loop-run
-decreases-loop-run g l = length (g.T.Tiles.statuses l.tiles) - l.at
+abbrev pub decreases-loop-range : goal.decreases-loop-range
+decreases-loop-range g l = length (g.T.Tiles.statuses l.tiles) - l.at

@@ -3,8 +3,8 @@ use Rattle.rescue_domain.specs.Parts.{covers}
 use Rattle.rescue_core.proofs.RoomLemmas.{Counted}
 use Rattle.rescue_core.proofs.prepare.room_behind.Given as goal
 
-abbrev pub invariant-loop-run : goal.invariant-loop-run
-invariant-loop-run g l = Counted (covers l.domain) (g.T.Tiles.statuses l.tiles) l.from l.at l.others l.room
+abbrev pub invariant-loop-range : goal.invariant-loop-range
+invariant-loop-range g l = Counted (covers l.domain) (g.T.Tiles.statuses l.tiles) l.from l.at l.others l.room
 
-abbrev pub decreases-loop-run : goal.decreases-loop-run
-decreases-loop-run g l = length (g.T.Tiles.statuses l.tiles) - l.at
+abbrev pub decreases-loop-range : goal.decreases-loop-range
+decreases-loop-range g l = length (g.T.Tiles.statuses l.tiles) - l.at

@@ -8,7 +8,7 @@ pub returns-clause-some : goal.returns-clause-some
 returns-clause-some g c =
     let statuses = g.T.Tiles.statuses c.args.tiles.now in
     IfSome_then c.request_by.result c.request_by.ensures.some (λ q cut names line m stands.
-    lead_is (setting_with c.args.settings.now c.args.live.domain.now names line) m c.args.place.now statuses c.args.live.over q.pos
+    lead_is (setting_with c.args.settings.now c.args.live.domain.now names line) m c.args.progress.now statuses c.args.live.over q.pos
     (q.pos + q.len) stands c.requires.mode (c.requires.up names line) c.requires.clear cut)
 
 pub returns-clause-none : goal.returns-clause-none
@@ -16,6 +16,6 @@ returns-clause-none g c =
     let statuses = g.T.Tiles.statuses c.args.tiles.now in
     if_none c.request_by.result
     (λ none names line m stands.
-    lead_none (setting_with c.args.settings.now c.args.live.domain.now names line) m c.args.place.now statuses c.args.live.over stands
+    lead_none (setting_with c.args.settings.now c.args.live.domain.now names line) m c.args.progress.now statuses c.args.live.over stands
     c.requires.mode (c.requires.up names line) c.requires.clear none)
     c.request_by.ensures.none

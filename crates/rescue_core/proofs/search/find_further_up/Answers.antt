@@ -7,6 +7,6 @@ loop-part-smaller g c =
     omega (
       arith,
       c.in-Some.ensures.first.after,
-      c.in-Some.ensures.run.begun,
+      c.in-Some.ensures.range.begun,
       slice_get_within (g.T.Tiles.statuses c.args.tiles.now) c.in_ok-found.found.from c.args.status c.in_ok-found.ensures.first.holds,
     )

@@ -14,7 +14,7 @@ use Rattle.ddrescue_cli.specs.Sampled.{no_maps}
 use Rattle.ddrescue_cli.proofs.runs.BeginLemmas.{begun_over, shows_nothing, short_made, sound_settings, suits_made}
 use Rattle.plan_command.specs.Command.{length_limit}
 use Rattle.rescue_domain.proofs.PlaceLemmas.{whole_from}
-use Rattle.rescue_plan.specs.Plan.{blank}
+use Rattle.rescue_plan.specs.Plan.{untried_map}
 use Rattle.rescue_plan.proofs.ready.make_rescue.Goals as goal
 
 below_end : (pos : ℕ) (size : Option ℕ) (n x : ℕ) → whole_domain pos size n x ≡ true → x < n
@@ -26,7 +26,7 @@ placed o n none few x inside =
     let high = below_end o.input_position o.size n x inside in
     rw none (omega (arith, low, high, few))
 
-blank_long : (n : ℕ) → length (blank n) ≡ n
+blank_long : (n : ℕ) → length (untried_map n) ≡ n
 blank_long n = length-replicate n NonTried
 
 pub start-requires-clause-sound : goal.start-requires-clause-sound
@@ -38,7 +38,7 @@ start-requires-clause-suits c =
     let o = k.options.rescue in
     let d = c.in_ok-domain.domain in
     let made = c.in_ok-prepare.ensures.prepared ∙ ap (prepared (covers d) o.try_again o.retrim) c.in_ok-tiles.ensures in
-    suits_made c.settings_for-settings.result d o k.length no_maps (blank k.length) c.prepare.new.tiles.statuses
+    suits_made c.settings_for-settings.result d o k.length no_maps (untried_map k.length) c.prepare.new.tiles.statuses
     c.settings_for-settings.ensures c.in_ok-domain.ensures.positions (omega (arith, blank_long k.length)) made
 
 pub start-requires-clause-short : goal.start-requires-clause-short
@@ -47,7 +47,7 @@ start-requires-clause-short c =
     let o = k.options.rescue in
     let d = c.in_ok-domain.domain in
     let made = c.in_ok-prepare.ensures.prepared ∙ ap (prepared (covers d) o.try_again o.retrim) c.in_ok-tiles.ensures in
-    short_made d o (blank k.length) c.prepare.new.tiles.statuses (omega (arith, blank_long k.length, c.requires.length)) made
+    short_made d o (untried_map k.length) c.prepare.new.tiles.statuses (omega (arith, blank_long k.length, c.requires.length)) made
 
 pub returns : goal.returns
 returns c =
@@ -59,7 +59,7 @@ returns c =
     let line : c.in_ok-heading.heading.line ≡ [] = ap (λ (h : HeadingLines). h.line) c.in_ok-heading.ensures in
     let begun = c.start.ensures
     ∙ ap (λ (l : List ℕ). started c.settings_for-settings.result d None l c.prepare.new.tiles.statuses None 0 false) line in
-    begun_over c.settings_for-settings.result d None [] o k.length no_maps (blank k.length) None 0 false r
+    begun_over c.settings_for-settings.result d None [] o k.length no_maps (untried_map k.length) None 0 false r
     c.requires.options (placed o k.length c.requires.plain.output c.requires.length)
     (record {
       long = omega (arith, blank_long k.length);
@@ -68,5 +68,5 @@ returns c =
       pass = tt;
     })
     c.settings_for-settings.ensures c.in_ok-domain.ensures.positions
-    (shows_nothing c.settings_for-settings.result d None [] o (blank k.length) c.prepare.new.tiles.statuses None None 0 false r
+    (shows_nothing c.settings_for-settings.result d None [] o (untried_map k.length) c.prepare.new.tiles.statuses None None 0 false r
     r refl begun made refl refl)

@@ -1,6 +1,6 @@
 use Rattle.rescue_rules.specs.declared.phase.Phase.TheVariants.{Retrying}
 use Rattle.copy_passes.specs.Turns.{WentByTurns}
-use Rattle.trim_scrape.specs.Passing.{IsBefore}
+use Rattle.trim_scrape.specs.Passing.{IsBeforePass}
 use Rattle.trim_scrape.proofs.phases.run_retries.Given as goal
 
 abbrev pub invariant-passes : goal.invariant-passes
@@ -13,4 +13,4 @@ invariant-passes g l = WentByTurns l.fn.rescue l.rescue (record {
   clock' = g.K.Clock.state l.clock;
   console = g.C.Console.state l.fn.console;
   console' = g.C.Console.state l.console;
-}) × IsBefore Retrying l.pass l.rescue
+}) × IsBeforePass Retrying l.pass l.rescue

@@ -2,7 +2,7 @@
 use Rattle.std.proofs.Common.{◌≡◌, ◌-◌, ◌<◌, length, drop}
 use Rattle.std.specs.Str.{IsUtf8, chars}
 use Rattle.std.specs.Str.Iter.{chars_rest}
-use Rattle.option_words.specs.declared.reader.Next.TheVariants.{Anything}
+use Rattle.option_words.specs.declared.reader.NextWord.TheVariants.{Anything}
 use Rattle.option_words.specs.Meanings.{letters_meaning}
 use Rattle.option_words.proofs.TakeLemmas.{Leads}
 use Rattle.option_words.proofs.reader.Reader.take_letters.Given as goal

@@ -1,6 +1,6 @@
 use Rattle.std.proofs.Common.{◌≡◌, ℕ, ◌+◌, ◌-◌, ◌∙◌, List, drop, get_or, ap, arith}
 use Rattle.block_list.specs.declared.status.Status.TheVariants.{NonTried}
-use Rattle.paged_blocks.specs.declared.page.Kept.{Kept}
+use Rattle.paged_blocks.specs.declared.page.KeptStatus.{KeptStatus}
 use Rattle.paged_blocks.specs.Rows.{first_or}
 use Rattle.paged_blocks.proofs.RowLemmas.{page_size, page_block}
 use Rattle.paged_blocks.proofs.page.Page.block.Goals as goal
@@ -23,7 +23,7 @@ pub returns : goal.returns
 returns c =
     let i : ℕ = c.args.i in
     let pos : ℕ = get_or c.deref.result.now i 0 in
-    let unused : Kept = record { status = NonTried } in
+    let unused : KeptStatus = record { status = NonTried } in
     let size : c.saturating_sub.result ≡ first_or (drop (i + 1) c.self.inside.starts.items) c.self.inside.end - pos =
     c.saturating_sub.ensures
     ∙ ap (λ n. n - pos) (c.end_of-end.ensures
@@ -31,4 +31,4 @@ returns c =
     page_block c.self.inside c.args.self.now i _ _ _ 0 unused c.self.view_is c.self.invariant
     (omega (arith, c.requires, page_size _ _ c.self.view_is c.self.invariant))
     (ap (λ (xs : List ℕ). get_or xs i 0) c.deref.ensures.0) size
-    (ap (λ (ks : List Kept). (get_or ks i unused).status) c.deref-3.ensures.0)
+    (ap (λ (ks : List KeptStatus). (get_or ks i unused).status) c.deref-3.ensures.0)

@@ -69,7 +69,7 @@ invariant_of-self-2 g c =
     let begins = begins_of _ g.T.Tiles.statuses c.self.inside c.args.self.now c.args.request c.self.view_is c.self.invariant.0
     c.requires.places c.requires.request in
     let does : Does p c.args.request c.in_ok-gathered.gathered (g.T.Tiles.statuses c.go_on_by_kind.new.tiles)
-    c.go_on_by_kind.new.place c.go_on_by_kind.new.tally c.self.inside.counts c.go_on_by_kind.new.counts
+    c.go_on_by_kind.new.progress c.go_on_by_kind.new.tally c.self.inside.counts c.go_on_by_kind.new.counts
     c.go_on_by_kind.result = record {
       old = g.T.Tiles.statuses c.reserve.new.self;
       old_is = c.reserve.ensures.statuses;
@@ -81,7 +81,7 @@ invariant_of-self-2 g c =
     let room = room_same c.self.inside.buf.len c.gather.new.buf _ c.self.inside.buf.items c.deref_mut.ensures.len
     c.deref_mut.ensures.value c.gather.ensures.same in (
       subst (λ n. IsRunning (run_of (parts_behind p (g.T.Tiles.statuses c.go_on_by_kind.new.tiles)
-          c.go_on_by_kind.new.place c.go_on_by_kind.new.tally)) n) (sym room) running,
+          c.go_on_by_kind.new.progress c.go_on_by_kind.new.tally)) n) (sym room) running,
       c.self.invariant.1,
       does_counted p c.args.self.now _ c.args.request c.in_ok-gathered.gathered _ _ _ _ _ _ _ _ _ _ _ _ begins got does
           c.self.invariant.2,
@@ -93,7 +93,7 @@ returns-clause-advanced g c =
     let begins = begins_of _ g.T.Tiles.statuses c.self.inside c.args.self.now c.args.request c.self.view_is c.self.invariant.0
     c.requires.places c.requires.request in
     let does : Does p c.args.request c.in_ok-gathered.gathered (g.T.Tiles.statuses c.go_on_by_kind.new.tiles)
-    c.go_on_by_kind.new.place c.go_on_by_kind.new.tally c.self.inside.counts c.go_on_by_kind.new.counts
+    c.go_on_by_kind.new.progress c.go_on_by_kind.new.tally c.self.inside.counts c.go_on_by_kind.new.counts
     c.go_on_by_kind.result = record {
       old = g.T.Tiles.statuses c.reserve.new.self;
       old_is = c.reserve.ensures.statuses;

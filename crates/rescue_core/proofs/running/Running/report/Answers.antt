@@ -13,7 +13,7 @@ report_with m counts taken =
 pub returns : goal.returns
 returns g c =
     let i = c.self.inside in
-    let r : RunState = run_at i.settings i.domain i.names i.heading.line (g.T.Tiles.statuses i.tiles) i.phase i.place i.tally i.heard in
+    let r : RunState = run_at i.settings i.domain i.names i.heading.line (g.T.Tiles.statuses i.tiles) i.phase i.progress i.tally i.heard in
     ap (report_with r.machine i.counts) c.saturating_sub.ensures
     ∙ ap (λ (counts : Counts). report_with r.machine counts (r.machine.now - r.machine.began)) c.self.invariant.2.counts_are
     ∙ ap (λ (q : RunState). report_of (setting_in q) q.machine) c.self.view_is

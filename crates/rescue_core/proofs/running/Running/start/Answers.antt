@@ -6,12 +6,12 @@ use Rattle.rescue_core.proofs.running.Running.start.Goals as goal
 pub invariant_of-result : goal.invariant_of-result
 invariant_of-result g c =
     let a = c.args in
-    let place = c.first-place in (
-      running_started a.settings a.domain a.names a.heading.line (g.T.Tiles.statuses a.tiles) a.loaded place.result c.first-tally.result
-          a.heard (length a.buf.items) c.requires.sound c.requires.suits c.requires.short place.ensures.pass
-          (place.ensures.cursor a.domain a.names a.heading.line (g.T.Tiles.statuses a.tiles) (sym c.end.ensures.end))
-          place.ensures.mode place.ensures.skip c.requires.room,
+    let progress = c.first-progress in (
+      running_started a.settings a.domain a.names a.heading.line (g.T.Tiles.statuses a.tiles) a.loaded progress.result c.first-tally.result
+          a.heard (length a.buf.items) c.requires.sound c.requires.suits c.requires.short progress.ensures.pass
+          (progress.ensures.cursor a.domain a.names a.heading.line (g.T.Tiles.statuses a.tiles) (sym c.end.ensures.end))
+          progress.ensures.mode progress.ensures.skip c.requires.room,
       c.requires.program,
-      counted_started a.settings a.domain a.names a.heading.line (g.T.Tiles.statuses a.tiles) place.result c.first-tally.result
+      counted_started a.settings a.domain a.names a.heading.line (g.T.Tiles.statuses a.tiles) progress.result c.first-tally.result
           a.heard c.counts_at_first-counts.result (ap (λ (t : Tally). t.over) c.first-tally.ensures) c.counts_at_first-counts.ensures,
     )

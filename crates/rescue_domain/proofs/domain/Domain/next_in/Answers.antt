@@ -1,6 +1,6 @@
 use Rattle.std.proofs.Common.{◌≤◌, length, refl, arith}
 use Rattle.std.proofs.lemmas.Option.{slice_get_read}
-use Rattle.rescue_domain.proofs.SearchLemmas.{found_first, found_run_up, none_from}
+use Rattle.rescue_domain.proofs.SearchLemmas.{found_first, found_range_up, none_from}
 use Rattle.rescue_domain.proofs.domain.Domain.next_in.Goals as goal
 
 pub returns-in_err-part-clause-none : goal.returns-in_err-part-clause-none
@@ -18,10 +18,10 @@ returns-clause-first c =
     let found = found_first _ _ _ c.self.invariant there _ h.ended (h.others _ _ (omega arith) there) in
     rw (← c.self.view_is, c.max.ensures) found
 
-pub returns-clause-run : goal.returns-clause-run
-returns-clause-run c =
+pub returns-clause-range : goal.returns-clause-range
+returns-clause-range c =
     let h = rw c.deref.ensures.value at c.ended_by-ended.ensures in
     let read = rw c.deref-2.ensures.value at c.in_ok-part.ensures.lookup in
     let there = slice_get_read _ _ _ _ refl read.3.0 read.1 in
-    let found = found_run_up _ _ _ c.self.invariant there _ (h.others _ _ (omega arith) there) in
+    let found = found_range_up _ _ _ c.self.invariant there _ (h.others _ _ (omega arith) there) in
     rw (← c.self.view_is, c.max.ensures) found

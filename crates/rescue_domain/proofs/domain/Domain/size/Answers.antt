@@ -3,7 +3,7 @@ use Rattle.std.specs.List.{sum_by}
 use Rattle.std.proofs.lemmas.List.{take_all}
 use Rattle.std.proofs.lemmas.List.Sums.{sum_by_more}
 use Rattle.std.proofs.lemmas.Option.{slice_get-get_or}
-use Rattle.block_list.specs.declared.block.Run.{Run}
+use Rattle.block_list.specs.declared.block.Range.{Range}
 use Rattle.rescue_domain.specs.Parts.{AreParts}
 use Rattle.rescue_domain.proofs.PartsLemmas.{no_part, part_at}
 use Rattle.rescue_domain.proofs.SizeLemmas.{width, sum_before, parts_size, covered_short, short_more}
@@ -31,7 +31,7 @@ loop-part-preserved c =
 
 pub returns-clause-count : goal.returns-clause-count
 returns-clause-count c =
-    let all = ap (λ (parts : List Run). sum_by width parts) (take_all _ _ c.loop-part-test.false) in
+    let all = ap (λ (parts : List Range). sum_by width parts) (take_all _ _ c.loop-part-test.false) in
     let e : c.loop-part.size ≡ sum_by width c.self.inside.parts.items =
     rw (← c.deref-part-items.ensures.value) (c.loop-part.invariant.sum ∙ all) in
     rw (← c.self.view_is, e) (parts_size _ c.self.invariant)

@@ -1,6 +1,6 @@
 use Rattle.std.proofs.Common.{◌≡◌, ◌≤◌, length, take}
 use Rattle.std.specs.Io.KnownBytes.{Consumes}
-use Rattle.real_files.proofs.place.fill.Given as goal
+use Rattle.real_files.proofs.file_cursor.fill.Given as goal
 
 -- what was filled is what was consumed
 abbrev pub invariant-loop : goal.invariant-loop

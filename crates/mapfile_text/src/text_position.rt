@@ -4,7 +4,7 @@ ghost use Rattle.mapfile_text.specs.LeftOf.{number_of, position_of};
 
 /// A part of the text: a line, but for the one on the command line, which is three.
 #[derive(Clone, Copy)]
-pub(crate) enum Part {
+pub(crate) enum TextPart {
     Program,
     Label,
     Words,
@@ -20,52 +20,52 @@ pub(crate) enum Part {
 
 /// A place in the text: a part, and how many of its bytes went.
 #[derive(Clone, Copy)]
-pub(crate) struct Place {
-    pub(crate) part: Part,
+pub(crate) struct TextPosition {
+    pub(crate) part: TextPart,
     pub(crate) went: usize,
 }
 
-impl Part {
+impl TextPart {
     /// The part behind one of the heading's.
-    pub(crate) fn next(self) -> Part
+    pub(crate) fn next(self) -> TextPart
         requires { number_of self < 9 }
         ensures number { number_of result ≡ number_of self + 1 }
         ensures position { position_of result ≡ 0 }
     {
         match self {
-            Part::Program => Part::Label,
-            Part::Label => Part::Words,
-            Part::Words => Part::Newline,
-            Part::Newline => Part::Start,
-            Part::Start => Part::Now,
-            Part::Now => Part::StateColumns,
-            Part::StateColumns => Part::State,
-            Part::State => Part::Columns,
-            Part::Columns => Part::Block(0),
-            Part::Block(_) => unreachable!(),
+            TextPart::Program => TextPart::Label,
+            TextPart::Label => TextPart::Words,
+            TextPart::Words => TextPart::Newline,
+            TextPart::Newline => TextPart::Start,
+            TextPart::Start => TextPart::Now,
+            TextPart::Now => TextPart::StateColumns,
+            TextPart::StateColumns => TextPart::State,
+            TextPart::State => TextPart::Columns,
+            TextPart::Columns => TextPart::Block(0),
+            TextPart::Block(_) => unreachable!(),
         }
     }
 }
 
-impl Place {
+impl TextPosition {
     /// The place behind as much of a part of `len` bytes as there is room for; `next` is the part behind it.
-    pub(crate) fn behind(self, len: usize, next: Part, room: usize) -> Place
+    pub(crate) fn behind(self, len: usize, next: TextPart, room: usize) -> TextPosition
         ensures past { len ≤ self.went → result ≡ record { part = next; went = self.went - len } }
         ensures whole { self.went < len → len ≤ self.went + room → result ≡ record { part = next; went = 0 } }
         ensures cut { self.went + room < len → result ≡ record { part = self.part; went = self.went + room } }
     {
         if len <= self.went {
-            Place {
+            TextPosition {
                 part: next,
                 went: self.went - len,
             }
         } else if len - self.went <= room {
-            Place {
+            TextPosition {
                 part: next,
                 went: 0,
             }
         } else {
-            Place {
+            TextPosition {
                 part: self.part,
                 went: self.went + room,
             }

@@ -1,9 +1,9 @@
 use Rattle.std.proofs.Common.{◌≡◌, ◌+◌, ◌-◌, ◌≤◌, arith}
 use Rattle.block_list.specs.declared.status.Status.{Status}
 use Rattle.block_list.specs.declared.status.Status.TheVariants.{NonTried, NonTrimmed, NonScraped, BadSector, Finished}
-use Rattle.paged_blocks.specs.declared.entry.Tally.{Tally}
+use Rattle.paged_blocks.specs.declared.entry.StatusCounts.{StatusCounts}
 use Rattle.paged_blocks.specs.Tally.{tallied}
-use Rattle.paged_blocks.proofs.entry.Tally.exchanged.Goals as goal
+use Rattle.paged_blocks.proofs.entry.StatusCounts.exchanged.Goals as goal
 
 pub overflow_sub-result : goal.overflow_sub-result
 overflow_sub-result c = omega (arith, c.requires.among NonTried)
@@ -36,7 +36,7 @@ pub overflow_add-result-5 : goal.overflow_add-result-5
 overflow_add-result-5 c = omega (arith, c.requires.short Finished)
 
 -- a tally without some, and with others
-abbrev exchanged_to : Tally → Tally → Tally → Tally
+abbrev exchanged_to : StatusCounts → StatusCounts → StatusCounts → StatusCounts
 exchanged_to all gone come = record {
   non_tried = all.non_tried - gone.non_tried + come.non_tried;
   non_trimmed = all.non_trimmed - gone.non_trimmed + come.non_trimmed;
@@ -45,7 +45,7 @@ exchanged_to all gone come = record {
   finished = all.finished - gone.finished + come.finished;
 }
 
-each_exchanged : (all gone come : Tally) → ((s : Status) → tallied gone s ≤ tallied all s)
+each_exchanged : (all gone come : StatusCounts) → ((s : Status) → tallied gone s ≤ tallied all s)
     → (s : Status) → tallied (exchanged_to all gone come) s + tallied gone s ≡ tallied all s + tallied come s
 each_exchanged all gone come h NonTried = omega (arith, h NonTried)
 each_exchanged all gone come h NonTrimmed = omega (arith, h NonTrimmed)

@@ -5,18 +5,18 @@ use Rattle.rescue_rules.specs.declared.phase.Phase.{Phase}
 use Rattle.rescue_rules.specs.Passes.{is_up, numbered}
 use Rattle.rescue_rules.specs.Step.{Event, trims, is_jump, cursor_after}
 use Rattle.rescue_core.specs.declared.settings.Settings.{Settings}
-use Rattle.rescue_core.specs.declared.state.Place.{Place}
+use Rattle.rescue_core.specs.declared.state.Progress.{Progress}
 use Rattle.rescue_core.specs.RunState.{RunState, setting_in}
 use Rattle.rescue_core.specs.TurnParts.{RunsAt, IsReadOf}
 
-pub cursor_is : (settings : Settings) (phase : Phase) (place : Place) (r : RunState) (e : Event) (request : Request)
-    (given : ℕ) (ended : Bool) (top : ℕ) (jumped : Bool) → RunsAt settings phase place r
+pub cursor_is : (settings : Settings) (phase : Phase) (progress : Progress) (r : RunState) (e : Event) (request : Request)
+    (given : ℕ) (ended : Bool) (top : ℕ) (jumped : Bool) → RunsAt settings phase progress r
     → IsReadOf request given ended e.reading → jumped ≡ is_jump (setting_in r) r.machine e → length r.machine.map ≡ top
     → cursor_after (setting_in r) r.machine e
-    ≡ cond (trims phase) request.pos (cond (is_up (setting_in r) (numbered phase place.pass))
-    (min top (request.pos + cond ended given request.len + cond jumped place.skip 0))
-    (request.pos - cond jumped place.skip 0))
-cursor_is settings phase place r e request given ended top jumped at read jump size =
+    ≡ cond (trims phase) request.pos (cond (is_up (setting_in r) (numbered phase progress.pass))
+    (min top (request.pos + cond ended given request.len + cond jumped progress.skip 0))
+    (request.pos - cond jumped progress.skip 0))
+cursor_is settings phase progress r e request given ended top jumped at read jump size =
     let p = at.pass in
     let q = at.skip in
     let pos = read.pos in

@@ -1,7 +1,7 @@
 use Rattle.rescue_rules.specs.declared.phase.Phase.TheVariants.{Copying}
 use Rattle.rescue_core.specs.RunState.{setting_with}
 use Rattle.rescue_core.proofs.BeginLemmas.{first_none, first_last}
-use Rattle.rescue_core.proofs.state.Place.first.Goals as goal
+use Rattle.rescue_core.proofs.state.Progress.first.Goals as goal
 
 pub returns-in_default-clause-cursor : goal.returns-in_default-clause-cursor
 returns-in_default-clause-cursor c =
@@ -13,5 +13,5 @@ pub returns-then-pass-eq-COPYING_PASSES-clause-cursor : goal.returns-then-pass-e
 returns-then-pass-eq-COPYING_PASSES-clause-cursor c =
     λ domain names line map end.
     first_last (setting_with c.args.settings.now domain names line) c.args.loaded c.in-Some.state map c.min-pass.result
-    c.at_start-place.result.cursor c.in-Some.is c.min-pass.ensures c.if-pass-eq-COPYING_PASSES.true
-    (c.at_start-place.ensures.cursor domain names line Copying map end)
+    c.at_start-progress.result.cursor c.in-Some.is c.min-pass.ensures c.if-pass-eq-COPYING_PASSES.true
+    (c.at_start-progress.ensures.cursor domain names line Copying map end)

@@ -6,11 +6,11 @@ ghost use Rattle.rescue_rules.specs.Machine.{pass_of, is_wanted};
 ghost use Rattle.rescue_rules.specs.Step.{Event, map_after, is_jump, cursor_after, mode_after, skip_after, step};
 ghost use Rattle.rescue_core.specs.RunState.{RunState, setting_in, IsSound};
 ghost use Rattle.rescue_core.specs.Turning.{turn_of};
-ghost use Rattle.rescue_core.specs.TurnParts.{RunsAt, IsReadOf, place_of};
+ghost use Rattle.rescue_core.specs.TurnParts.{RunsAt, IsReadOf, progress_of};
 
 use crate::request::is_up;
 use crate::settings::Settings;
-use crate::state::Place;
+use crate::state::Progress;
 use crate::turn::Turn;
 use rescue_rules::phase::Phase;
 use rescue_rules::stop::TrimMode;
@@ -19,32 +19,32 @@ use transfer_token::token::Request;
 /// Goes on to where a run stands behind a read, in a map of so many positions. While it trims, `more` says whether the
 /// position behind the read is asked for.
 #[inline(always)]
-pub(crate) fn place_behind(
+pub(crate) fn progress_behind(
     settings: &Settings,
     phase: Phase,
-    place: &mut Place,
+    progress: &mut Progress,
     top: u64,
     request: Request,
     turn: Turn,
     more: bool,
 )
     requires sound { IsSound settings.now }
-    requires skip { place.old.skip ≤ settings.now.skip_max }
+    requires skip { progress.old.skip ≤ settings.now.skip_max }
     requires within { request.pos + request.len ≤ top }
     requires given { turn.given ≤ request.len }
     requires short { top < 2 ^ 63 }
-    ensures { (r : RunState) (e : Event) → RunsAt settings.now phase place.old r
+    ensures { (r : RunState) (e : Event) → RunsAt settings.now phase progress.old r
         → IsReadOf request turn.given turn.ended e.reading → turn ≡ turn_of r e → length r.machine.map ≡ top
         → (phase ≡ Trimming
         → more ≡ is_wanted (setting_in r)
         (record r.machine { map = map_after (setting_in r) r.machine e.reading }) (request.pos + request.len))
-        → place.new ≡ place_of place.old.pass (step (setting_in r) r.machine e) }
+        → progress.new ≡ progress_of progress.old.pass (step (setting_in r) r.machine e) }
 {
-    let jumped = jumps(phase, place.pass, turn);
-    place.cursor = cursor_behind(settings, phase, *place, top, request, turn, jumped);
-    place.mode = if phase == Phase::Trimming {
+    let jumped = jumps(phase, progress.pass, turn);
+    progress.cursor = cursor_behind(settings, phase, *progress, top, request, turn, jumped);
+    progress.mode = if phase == Phase::Trimming {
         mode_behind(
-            place.mode,
+            progress.mode,
             !turn.failed(),
             more,
             request.pos,
@@ -53,29 +53,29 @@ pub(crate) fn place_behind(
     } else {
         TrimMode::Lead
     };
-    place.skip = skip_behind(settings, place.skip, jumped, turn);
+    progress.skip = skip_behind(settings, progress.skip, jumped, turn);
 }
 
 /// The cursor behind a read.
-#[tactic(auto, using(crate::proofs::PlaceLemmas::cursor_is))]
+#[tactic(auto, using(crate::proofs::ProgressLemmas::cursor_is))]
 fn cursor_behind(
     settings: &Settings,
     phase: Phase,
-    place: Place,
+    progress: Progress,
     top: u64,
     request: Request,
     turn: Turn,
     jumped: bool,
 ) -> u64
-    requires small { place.skip < 2 ^ 63 }
+    requires small { progress.skip < 2 ^ 63 }
     requires within { request.pos + request.len ≤ top }
     requires short { top < 2 ^ 63 }
     requires given { turn.given ≤ request.len }
-    ensures { (r : RunState) (e : Event) → RunsAt settings.now phase place r
+    ensures { (r : RunState) (e : Event) → RunsAt settings.now phase progress r
         → IsReadOf request turn.given turn.ended e.reading → jumped ≡ is_jump (setting_in r) r.machine e
         → length r.machine.map ≡ top → result ≡ cursor_after (setting_in r) r.machine e }
 {
-    let jump = if jumped { place.skip } else { 0 };
+    let jump = if jumped { progress.skip } else { 0 };
     let size = if turn.ended {
         turn.given
     } else {
@@ -83,7 +83,7 @@ fn cursor_behind(
     };
     if phase == Phase::Trimming {
         request.pos
-    } else if is_up(settings, place.pass) {
+    } else if is_up(settings, progress.pass) {
         top.min(request.pos + size + jump)
     } else {
         request.pos.saturating_sub(jump)

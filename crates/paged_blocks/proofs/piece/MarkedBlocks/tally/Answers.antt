@@ -1,6 +1,6 @@
 use Rattle.std.proofs.Common.{arith}
 use Rattle.paged_blocks.proofs.FillLemmas.{tally_step, tally_fits}
-use Rattle.paged_blocks.proofs.piece.Piece.tally.Goals as goal
+use Rattle.paged_blocks.proofs.piece.MarkedBlocks.tally.Goals as goal
 
 pub add-requires : goal.add-requires
 add-requires c =

@@ -7,19 +7,19 @@ use std::os::unix::fs::FileExt;
 
 /// A place of a file, from which reads and writes go on. Each is one call of the system.
 #[derive(Drop)]
-pub struct Place<'a, F: FileExt> {
+pub struct FileCursor<'a, F: FileExt> {
     file: &'a F,
     pos: u64,
 }
 
-impl<'a, F: FileExt> Place<'a, F> {
+impl<'a, F: FileExt> FileCursor<'a, F> {
     /// The place at a position from the file's start.
-    pub fn new(file: &'a F, pos: u64) -> Place<'a, F> {
-        Place { file, pos }
+    pub fn new(file: &'a F, pos: u64) -> FileCursor<'a, F> {
+        FileCursor { file, pos }
     }
 }
 
-impl<'a, F: FileExt> Read for Place<'a, F> {
+impl<'a, F: FileExt> Read for FileCursor<'a, F> {
     fn read(&mut self, buf: &mut [u8]) -> io::Result<usize> {
         let n = self.file.read_at(buf, self.pos)?;
         self.pos = self.pos.saturating_add(n as u64);
@@ -27,7 +27,7 @@ impl<'a, F: FileExt> Read for Place<'a, F> {
     }
 }
 
-impl<'a, F: FileExt> Write for Place<'a, F> {
+impl<'a, F: FileExt> Write for FileCursor<'a, F> {
     fn write(&mut self, buf: &[u8]) -> io::Result<usize> {
         let n = self.file.write_at(buf, self.pos)?;
         self.pos = self.pos.saturating_add(n as u64);

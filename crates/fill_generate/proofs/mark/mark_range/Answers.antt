@@ -1,6 +1,6 @@
 use Rattle.std.proofs.Common.{sym, ◌∙◌}
 use Rattle.fill_generate.proofs.MarkLemmas.{marked_is, nothing_between}
-use Rattle.fill_generate.proofs.mark.mark_run.Goals as goal
+use Rattle.fill_generate.proofs.mark.mark_range.Goals as goal
 
 pub returns-then-from-to-clause-marked : goal.returns-then-from-to-clause-marked
 returns-then-from-to-clause-marked g c =

@@ -1,7 +1,7 @@
 use Rattle.std.proofs.Common.{◌≡◌, rules}
 use Rattle.rescue_rules.specs.declared.phase.Phase.TheVariants.{Trimming}
-use Rattle.rescue_core.proofs.place.place_behind.Goals as goal
-use Rattle.rescue_core.proofs.place.place_behind.Goals.{then-eq, else-eq}
+use Rattle.rescue_core.proofs.progress.progress_behind.Goals as goal
+use Rattle.rescue_core.proofs.progress.progress_behind.Goals.{then-eq, else-eq}
 
 pub returns : goal.returns
 returns c = λ r e at read turn size more. elim c.if-eq.branch [
