@@ -1,5 +1,5 @@
 //! A map in pages, beside a plain list.
-ghost use Rattle.std.specs.Prelude.{◌≡◌, ◌<◌, ◌^◌};
+ghost use Rattle.std.specs.Prelude.{◌<◌, ◌^◌};
 
 use block_list::block::{Block, Range};
 use block_list::near::Near;
@@ -7,11 +7,8 @@ use block_list::plain_tiles::PlainTiles;
 use block_list::status::Status;
 use block_list::tiles::Tiles;
 use paged_blocks::paged_tiles::PagedTiles;
-use paged_blocks::steps::Steps;
 use std::alloc::Global;
-use std::marker::Brand;
 use std::process::Abort;
-use std::sync::ledger::{Blank, Ledger};
 use std::test::Fail;
 
 /// A map of blocks of one sector of 512 bytes, finished ones and bad ones in turn.
@@ -33,16 +30,6 @@ fn in_turn(alloc: Global, blocks: u64) -> Result<PlainTiles, Fail> {
     Ok(tiles)
 }
 
-/// A search whose steps are counted by a ledger that nobody reads.
-fn find_counted<L: Ledger>(tiles: &PagedTiles, status: Status, blank: Blank) -> Option<Range>
-    requires name { blank.name ≡ L.name }
-    requires parts { blank.parts ≡ L.parts }
-    requires one { 0 < blank.parts }
-{
-    let mut steps = Steps::<L>::new(blank);
-    tiles.find_forward_counted(0, status, &mut steps)
-}
-
 #[test]
 fn a_mark_joins_its_neighbors(rt: HostRuntime) -> Result<(), Fail> {
     let mut tiles = PagedTiles::from_plain(rt.alloc(), &in_turn(rt.alloc(), 200)?)?;
@@ -53,8 +40,7 @@ fn a_mark_joins_its_neighbors(rt: HostRuntime) -> Result<(), Fail> {
         status: Status::Finished,
     };
     assert_eq!(rt; tiles.block(150), finished);
-    let none = find_counted::<Brand>(&tiles, Status::NonTried, Blank::new(1));
-    assert_eq!(rt; none, None);
+    assert_eq!(rt; tiles.find_forward(0, Status::NonTried), None);
     tiles.reserve(2)?;
     assert!(rt; 52_224 <= tiles.end());
     tiles.set(51_712, 512, Status::Finished);
