@@ -72,18 +72,22 @@ pub enum MapError {
 }
 
 impl ReadMap {
-    /// A map of no position.
-    fn blank(alloc: Global, state: MapState) -> ReadMap
+    /// A map of no position, with room for so many lines' blocks, where there is memory for them at once, and for what
+    /// may stand in front of the first and behind the last.
+    fn blank(alloc: Global, state: MapState, lines: usize) -> ReadMap
         ensures state { result.state ≡ state }
         ensures first { result.first ≡ 0 }
         ensures listed { result.listed ≡ false }
         ensures statuses { result.tiles.statuses ≡ [] }
     {
+        let mut tiles = PlainTiles::new(alloc);
+        // Blocks that join take less, so a map may fit for which this is too much.
+        let _ = tiles.reserve(lines.saturating_add(2));
         ReadMap {
             state,
             first: 0,
             listed: false,
-            tiles: PlainTiles::new(alloc),
+            tiles,
         }
     }
 
@@ -194,7 +198,7 @@ pub fn read_map(alloc: Global, text: &[u8], mode: Mode) -> Result<ReadMap, MapEr
     };
     read_blocks(
         status.lines_behind(),
-        ReadMap::blank(alloc, shape.state),
+        ReadMap::blank(alloc, shape.state, shape.lines),
         mode,
     )
 }

@@ -105,8 +105,10 @@ pub fn load_map<D: Site>(
     ensures limits { IfOk result (λ found. IfSome found IsWithinLimits) }
     ensures stays { Stays (D.state site.old) (D.state site.new) }
 {
-    let Some(text) = read_text(alloc, site, name)? else {
+    let Some(mut text) = read_text(alloc, site, name)? else {
         return Ok(None);
     };
+    // As it grew, it got room for up to as much again.
+    text.shrink_to_fit();
     Ok(Some(map_in(alloc, &text, mode)?))
 }
