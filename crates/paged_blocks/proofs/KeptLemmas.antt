@@ -201,7 +201,9 @@ block_there pages es k left i e h =
 -- the blocks of all pages are the map's stretches
 pub stretches_of_paging : (pages : List (List Block)) (es : List PageEntry) → IsPaging pages es
     → stretches (flat_map covered (flat pages es)) ≡ flat pages es
-stretches_of_paging pages es p = stretches_of_tiles 0 (flat pages es) (length (flat_map covered (flat pages es))) p.tiled.tiled (apart_from_merged (flat pages es) p.merged)
+stretches_of_paging pages es p =
+    stretches_of_tiles 0 (flat pages es) (length (flat_map covered (flat pages es))) p.tiled.tiled
+    (apart_from_merged (flat pages es) p.merged)
 
 -- a list has no more blocks than positions
 tiles_len : (low : ℕ) (bs : List Block) (end : ℕ) → AreTiles low bs end → length bs ≤ length (flat_map covered bs)

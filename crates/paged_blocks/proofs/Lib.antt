@@ -3,6 +3,7 @@ mod ListedLemmas
 mod PagingLemmas
 mod CountLemmas
 mod RowLemmas
+mod SpliceLemmas
 mod FindLemmas
 mod FillLemmas
 mod FilingLemmas
@@ -10,6 +11,7 @@ mod KeptLemmas
 mod MarkLemmas
 mod RegionLemmas
 mod RewriteLemmas
+mod TwoPagesLemmas
 mod HalvingLemmas
 mod StepLemmas
 mod TallyLemmas

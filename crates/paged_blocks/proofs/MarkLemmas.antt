@@ -1,6 +1,5 @@
-use Rattle.std.proofs.Common.{◌≡◌, ℕ, ◌+◌, ◌-◌, ◌<◌, ◌≤◌, ◌^◌, List, [], ◌∷◌, ◌++◌, length, take, drop, get_or, replicate, Option, Some, None, max, refl, arith, ap, sym, ◌∙◌, append_assoc, append-nil, length-append, option_to_list, ⊎_elim}
+use Rattle.std.proofs.Common.{◌≡◌, ℕ, ◌+◌, ◌-◌, ◌<◌, ◌≤◌, ◌^◌, List, [], ◌∷◌, ◌++◌, length, take, drop, get_or, replicate, Option, Some, None, max, refl, subst, arith, ap, sym, ◌∙◌, append_assoc, append-nil, length-append, option_to_list}
 use Rattle.std.specs.List.{flat_map}
-use Rattle.std.proofs.lemmas.Bool.{cases_lt}
 use Rattle.std.proofs.lemmas.List.{length_push, take-append-drop, take_more, drop_more, take_at, drop_at, drop_all, replicate-append-replicate, length-replicate}
 use Rattle.block_list.specs.declared.status.Status.{Status}
 use Rattle.block_list.specs.declared.block.Block.{Block}
@@ -66,11 +65,12 @@ back_part bs k at b t h q l u =
     ap (λ x. drop at x) (split_around bs k n m b h q (omega arith))
     ∙ drop_at front (replicate m b.status ++ flat_map covered (drop (k + 1) bs)) at z
 
-pub front_none : (bs : List Block) (block : Block) → block.pos ≡ 0 → 0 < block.size → IsJoinedFront bs block 0 None block
-front_none bs block e s = record {
+pub front_none : (bs : List Block) (block : Block) → block.pos ≡ 0 → 0 < block.size → 0 < length (flat_map covered bs)
+    → IsJoinedFront bs block 0 None block
+front_none bs block e s some = record {
   within = omega arith;
-  first = λ h. refl;
-  earlier = λ h. absurd (omega arith);
+  early = omega arith;
+  inside = some;
   none = λ h. refl;
   ends = refl;
   sized = omega arith;
@@ -107,8 +107,8 @@ front_other bs k i block b e t m p q o =
     let a : AreApart (take k bs ++ b ∷ []) = rw (up_to bs k b f.index q) at (merged_front (k + 1) bs m) in
     record {
       within = omega (arith, f.index);
-      first = λ h. absurd (omega (arith, f.begun));
-      earlier = λ h. omega (arith, f.tile.begins, f.begun);
+      early = omega (arith, f.tile.begins, f.begun);
+      inside = omega (arith, f.tile.begins, f.tile.sized, f.tile.within);
       none = λ h. absurd (omega (arith, f.begun));
       ends = refl;
       sized = omega arith;
@@ -135,8 +135,8 @@ front_same bs k i block b e t m p q s =
     let none : take k bs ++ [] ≡ take k bs = append-nil (take k bs) in
     record {
       within = omega (arith, f.index);
-      first = λ h. absurd (omega (arith, f.begun));
-      earlier = λ h. omega (arith, f.tile.begins, f.begun);
+      early = omega (arith, f.tile.begins, f.begun);
+      inside = omega (arith, f.tile.begins, f.tile.sized, f.tile.within);
       none = λ h. absurd (omega (arith, f.begun));
       ends = omega (arith, f.begun);
       sized = omega (arith, f.begun);
@@ -151,6 +151,39 @@ front_same bs k i block b e t m p q s =
           ∙ ap (λ z. front ++ replicate (block.pos - b.pos) z ++ covered block) (sym s)
           ∙ ap (λ r. r ++ covered block) (sym part);
     }
+
+-- the block in front stays where it ends as another begins
+pub front_kept : (bs : List Block) (k i : ℕ) (block b : Block) → i ≡ k + 1 → IsTiled bs → IsMerged bs
+    → IsPlace bs block.pos i → b ≡ get_or bs k b → (b.status ≡ block.status → ⊥) → block.pos - b.pos ≡ b.size
+    → block.pos < length (flat_map covered bs) → IsJoinedFront bs block i None block
+front_kept bs k i block b e t m p q o z l =
+    let f = in_front bs k i block.pos b e t p q in
+    let j = front_other bs k i block b e t m p q o in
+    let ends : start_of bs i ≡ block.pos = ap (λ n. start_of bs n) e ∙ omega (arith, f.tile.ends, f.begun) in
+    let kept : take k bs ++ record { pos = b.pos; size = block.pos - b.pos; status = b.status } ∷ [] ≡ take i bs ++ [] =
+    ap (λ n. take k bs ++ record { pos = b.pos; size = n; status = b.status } ∷ []) z
+    ∙ sym (up_to bs k b f.index q) ∙ ap (λ n. take n bs) (sym e) ∙ sym (append-nil (take i bs)) in
+    record {
+      within = p.index;
+      early = omega (arith, ends);
+      inside = omega (arith, ends);
+      none = λ h. refl;
+      ends = refl;
+      sized = omega arith;
+      status = refl;
+      tiled = subst (λ (r : List Block). AreTiles 0 r block.pos) kept j.tiled;
+      merged = subst (λ (r : List Block). IsMerged (r ++ block ∷ [])) kept j.merged;
+      same = subst (λ (r : List Block). flat_map covered (r ++ block ∷ []) ≡ take block.pos (flat_map covered bs) ++ covered block)
+          kept j.same;
+    }
+
+-- the map goes on behind such a block
+pub kept_within : (bs : List Block) (k i : ℕ) (block b : Block) → i ≡ k + 1 → IsTiled bs → IsPlace bs block.pos i
+    → b ≡ get_or bs k b → block.pos - b.pos ≡ b.size → block.pos < length (flat_map covered bs) → i < length bs
+kept_within bs k i block b e t p q z l =
+    let f = in_front bs k i block.pos b e t p q in
+    let ends : start_of bs i ≡ block.pos = ap (λ n. start_of bs n) e ∙ omega (arith, f.tile.ends, f.begun) in
+    index_before bs i (length bs) (omega (arith, ends, start_all bs (length bs) (omega arith)))
 
 pub back_none : (bs : List Block) (high : ℕ) (block : Block) → high ≡ length bs → 0 < block.size
     → length (flat_map covered bs) ≤ block.pos + block.size → IsJoinedBack bs block high None block
@@ -240,6 +273,39 @@ back_same bs k j block b e t m p q some s =
           ∙ ap (λ r. covered block ++ r) (sym part));
     }
 
+-- the block behind stays where it begins as another ends
+pub back_kept : (bs : List Block) (k j : ℕ) (block b : Block) → j ≡ k + 1 → IsTiled bs → IsMerged bs
+    → IsPlace bs (block.pos + block.size + 1) j → b ≡ get_or bs k b → 0 < block.size → (b.status ≡ block.status → ⊥)
+    → b.pos + b.size - (block.pos + block.size) ≡ b.size → IsJoinedBack bs block k None block
+back_kept bs k j block b e t m p q s o z =
+    let at : ℕ = block.pos + block.size in
+    let f = behind_of bs k j at b e t p q in
+    let g = back_other bs k j block b e t m p q s o in
+    let begins : b.pos ≡ at = omega (arith, f.begun, f.beyond) in
+    let kept : record { pos = at; size = b.pos + b.size - at; status = b.status } ∷ drop j bs ≡ drop k bs =
+    ap (λ n. record { pos = n; size = b.pos + b.size - at; status = b.status } ∷ drop j bs) (sym begins)
+    ∙ ap (λ n. record { pos = b.pos; size = n; status = b.status } ∷ drop j bs) z
+    ∙ ap (λ n. b ∷ drop n bs) e ∙ sym (from_on bs k b f.index q) in
+    record {
+      within = omega (arith, f.index);
+      reaches = omega (arith, f.tile.begins, begins);
+      none = λ h. refl;
+      begins = refl;
+      status = refl;
+      tiled = subst (λ (r : List Block). AreTiles block.pos (block ∷ r) (max at (length (flat_map covered bs)))) kept g.tiled;
+      merged = subst (λ (r : List Block). IsMerged (block ∷ r)) kept g.merged;
+      same = subst (λ (r : List Block). flat_map covered (block ∷ r) ≡ covered block ++ drop at (flat_map covered bs)) kept g.same;
+    }
+
+-- such a block isn't the first
+pub kept_behind : (bs : List Block) (k j : ℕ) (block b : Block) → j ≡ k + 1 → IsTiled bs
+    → IsPlace bs (block.pos + block.size + 1) j → b ≡ get_or bs k b → 0 < block.size
+    → b.pos + b.size - (block.pos + block.size) ≡ b.size → 1 < j
+kept_behind bs k j block b e t p q s z =
+    let f = behind_of bs k j (block.pos + block.size) b e t p q in
+    let none : start_of bs 0 ≡ 0 = refl in
+    omega (arith, index_before bs 0 k (omega (arith, none, f.tile.begins, f.begun, f.beyond)))
+
 -- the blocks with what was joined in the place of those between
 pub joined : (bs new : List Block) (low high : ℕ) (before behind : Option Block) (block wide whole : Block) → IsTiled bs
     → 0 < block.size → block.pos + block.size < 2 ^ 63 → IsJoinedFront bs block low before wide
@@ -268,16 +334,9 @@ joined bs new low high before behind block wide whole t s u f g n =
 
 -- at least one block is taken out
 pub some_taken : (bs : List Block) (low high : ℕ) (before behind : Option Block) (block wide whole : Block)
-    → 0 < length (flat_map covered bs) → 0 < block.size → block.pos ≤ length (flat_map covered bs)
-    → IsJoinedFront bs block low before wide → IsJoinedBack bs wide high behind whole → low < high
-some_taken bs low high before behind block wide whole some s u f g =
-    index_before bs low high (⊎_elim
-    (λ (l : 0 < block.pos). omega (arith, f.earlier l, g.reaches, f.ends))
-    (λ (l : block.pos ≤ 0).
-    let z = ap (λ n. start_of bs n) (f.first (omega arith)) in
-    let none : start_of bs 0 ≡ 0 = refl in
-    omega (arith, z, none, g.reaches, f.ends))
-    (cases_lt 0 block.pos))
+    → 0 < block.size → IsJoinedFront bs block low before wide → IsJoinedBack bs wide high behind whole → low < high
+some_taken bs low high before behind block wide whole s f g =
+    index_before bs low high (omega (arith, f.early, f.inside, f.ends, g.reaches))
 
 one_at_most : (rest : Option Block) → length (option_to_list rest) ≤ 1
 one_at_most None = omega arith

@@ -1,4 +1,4 @@
-use Rattle.std.proofs.Common.{◌≡◌, ℕ, ◌+◌, ◌-◌, ◌<◌, ◌≤◌, List, [], ◌∷◌, ◌++◌, length, take, drop, get_or, arith, ap, sym, ◌∙◌, refl, Some, length-append, ⊎_elim}
+use Rattle.std.proofs.Common.{◌≡◌, ℕ, ◌+◌, ◌-◌, ◌<◌, ◌≤◌, List, [], ◌∷◌, ◌++◌, All, length, take, drop, get_or, arith, ap, sym, ◌∙◌, refl, Some, length-append, ⊎_elim}
 use Rattle.std.specs.List.{flat_map, slice_get}
 use Rattle.std.specs.List.Sorted.{IsNonDecreasingBy}
 use Rattle.std.proofs.lemmas.Bool.{cases_lt}
@@ -14,7 +14,7 @@ use Rattle.block_list.proofs.EditLemmas.{no_block, rising}
 use Rattle.block_list.proofs.LookupLemmas.{stretch_held, place_held}
 use Rattle.paged_blocks.specs.declared.entry.PageEntry.{PageEntry}
 use Rattle.paged_blocks.specs.Search.{IsSearched}
-use Rattle.paged_blocks.specs.Paging.{blocks_of, flat, before, IsEntryOf, IsPaging, IsHeld}
+use Rattle.paged_blocks.specs.Paging.{blocks_of, flat, before, IsEntry, IsEntryOf, IsPaging, IsHeld}
 use Rattle.paged_blocks.proofs.SearchLemmas.{block_begins}
 
 -- an entry to read a list with
@@ -47,6 +47,24 @@ before_more pages es i d h =
 
 pub before_all : (pages : List (List Block)) (es : List PageEntry) (i : ℕ) → length es ≤ i → before pages es i ≡ length (flat pages es)
 before_all pages es i h = ap (λ r. length (flat pages r)) (take_all i es h)
+
+-- the entry behind one whose page ends where the map goes on
+pub next_entry : (pages : List (List Block)) (es : List PageEntry) (k n : ℕ) (d : PageEntry) → k < length es
+    → length (blocks_of pages (get_or es k d)) ≤ n → before pages es k + n < length (flat pages es) → k + 1 < length es
+next_entry pages es k n d h l u =
+    ⊎_elim (λ (v : k + 1 < length es). v)
+    (λ (v : length es ≤ k + 1). absurd (omega (arith, before_more pages es k d h, before_all pages es (k + 1) v)))
+    (cases_lt (k + 1) (length es))
+
+-- an entry with blocks in front of its own isn't the first
+pub later_entry : (pages : List (List Block)) (es : List PageEntry) (k : ℕ) → 0 < before pages es k → 0 < k
+later_entry pages es k h =
+    ⊎_elim (λ (v : 0 < k). v)
+    (λ (v : k ≤ 0).
+    let none : k ≡ 0 = omega arith in
+    let z : before pages es k ≡ 0 = ap (λ n. before pages es n) none in
+    absurd (omega (arith, z)))
+    (cases_lt 0 k)
 
 -- a block of a page is one of the map's
 pub page_read : (pages : List (List Block)) (es : List PageEntry) (i j : ℕ) (e : PageEntry) (d : Block) → i < length es
@@ -184,16 +202,20 @@ held_in_page pages es at k j e page p z w s q t =
     }
 
 -- the page that was read is that of the entry
+pub named_by : (pages : List (List Block)) (es : List PageEntry) (k : ℕ) (e : PageEntry) (page : List Block)
+    → All (IsEntry pages) es → k < length es → page ≡ get_or pages (get_or es k e).page page → page ≡ blocks_of pages (get_or es k e)
+named_by pages es k e page a h q = q ∙ get_or_default pages (get_or es k e).page page [] (a k e h).page
+
 pub named : (pages : List (List Block)) (es : List PageEntry) (k : ℕ) (e : PageEntry) (page : List Block) → IsPaging pages es
     → k < length es → page ≡ get_or pages (get_or es k e).page page → page ≡ blocks_of pages (get_or es k e)
-named pages es k e page p h q = q ∙ get_or_default pages (get_or es k e).page page [] (p.each k e h).page
+named pages es k e page p h q = named_by pages es k e page p.each h q
 
 -- an entry that was read says what its page holds
-pub entry_says : (pages : List (List Block)) (es : List PageEntry) (k : ℕ) (d e : PageEntry) (page : List Block) → IsPaging pages es
-    → k < length es → e ≡ get_or es k d → page ≡ get_or pages e.page page → IsEntryOf page e.page e
-entry_says pages es k d e page p h q r =
-    let y = p.each k d h in
-    let v = named pages es k d page p h (rw q at r) in
+pub entry_says : (pages : List (List Block)) (es : List PageEntry) (k : ℕ) (d e : PageEntry) (page : List Block)
+    → All (IsEntry pages) es → k < length es → e ≡ get_or es k d → page ≡ get_or pages e.page page → IsEntryOf page e.page e
+entry_says pages es k d e page a h q r =
+    let y = a k d h in
+    let v = named_by pages es k d page a h (rw q at r) in
     rw (v, q) (record { page = refl; len = y.len; fits = y.fits; begins = y.begins; tally = y.tally })
 
 -- a block that was read in its page

@@ -38,7 +38,7 @@ flat_parts pages es k =
     ap (λ r. flat pages r) (sym (take-append-drop k es)) ∙ flat_map-append (blocks_of pages) (take k es) (drop k es)
 
 -- the blocks of all pages around those of one
-around_page : (pages : List (List Block)) (es : List PageEntry) (k : ℕ) (d : PageEntry) → k < length es
+pub around_page : (pages : List (List Block)) (es : List PageEntry) (k : ℕ) (d : PageEntry) → k < length es
     → flat pages es ≡ flat pages (take k es) ++ (blocks_of pages (get_or es k d) ++ flat pages (drop (k + 1) es))
 around_page pages es k d h =
     ap (λ r. flat pages r) (sym (take-append-drop k es))

@@ -1,4 +1,4 @@
-use Rattle.std.proofs.Common.{◌≡◌, ℕ, ◌+◌, ◌-◌, ◌*◌, ◌<◌, ◌≤◌, ◌∙◌, List, ◌++◌, All, length, take, drop, get_or, min, refl, ap, arith, length-append, length-drop}
+use Rattle.std.proofs.Common.{◌≡◌, ℕ, ◌+◌, ◌-◌, ◌*◌, ◌<◌, ◌≤◌, ◌∙◌, List, ◌++◌, All, length, take, drop, get_or, set, min, refl, subst, ap, sym, arith, length-append, length-drop}
 use Rattle.std.proofs.lemmas.List.{length-set, length-take-le}
 use Rattle.std.proofs.lemmas.List.Elements.{All-append, All-take, All-drop}
 use Rattle.block_list.specs.declared.block.Block.{Block}
@@ -7,13 +7,26 @@ use Rattle.block_list.specs.Edits.{IsTiled}
 use Rattle.paged_blocks.specs.declared.entry.PageEntry.{PageEntry}
 use Rattle.paged_blocks.specs.declared.marks.Edit.{Edit}
 use Rattle.paged_blocks.specs.declared.regions.Region.{Region}
-use Rattle.paged_blocks.specs.Paging.{blocks_of, flat, before, IsEntry, IsKeptInPages, AreFiled, IsRewritten}
+use Rattle.paged_blocks.specs.Paging.{blocks_of, flat, before, IsEntry, IsEntryOf, IsKeptInPages, AreFiled, IsRewritten}
 use Rattle.paged_blocks.specs.Marks.{spliced, edited, IsEdit}
 use Rattle.paged_blocks.specs.Regions.{IsRegion, StaysInPage, refilled}
 use Rattle.paged_blocks.specs.Room.{room_for}
 use Rattle.paged_blocks.proofs.PagingLemmas.{no_entry}
 use Rattle.paged_blocks.proofs.FilingLemmas.{rewritten, rewritten_flat, kept_long, kept_fits}
 use Rattle.paged_blocks.proofs.RegionLemmas.{page_edited, page_len, edit_len, region_few}
+
+-- a page was written, with the entry that says what it holds
+pub written_page : (pages : List (List Block)) (es : List PageEntry) (k : ℕ) (old entry : PageEntry) (page new : List Block)
+    (filed : List PageEntry) → ((d : PageEntry) → old ≡ get_or es k d) → entry.page ≡ old.page
+    → IsEntryOf page old.page entry → new ≡ page → filed ≡ set es k entry
+    → IsRewritten pages es k new (set pages old.page new) filed
+written_page pages es k old entry page new filed a n s q f = record {
+  entry = entry;
+  number = λ d. n ∙ ap (λ (e : PageEntry). e.page) (a d);
+  says = rw q (subst (λ m. IsEntryOf page m entry) (sym n) s);
+  written = ap (λ m. set pages m new) (sym n);
+  filed = f;
+}
 
 -- the blocks of all pages where one was written anew
 pub page_flat : (pages : List (List Block)) (es : List PageEntry) (free : List ℕ) (e : Edit) (page : List Block)

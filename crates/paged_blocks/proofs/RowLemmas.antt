@@ -18,7 +18,9 @@ use Rattle.block_list.proofs.EditLemmas.{no_block}
 use Rattle.paged_blocks.specs.Search.{IsSearched}
 use Rattle.paged_blocks.proofs.SearchLemmas.{block_begins}
 use Rattle.paged_blocks.proofs.FillLemmas.{range_more, front_more}
-use Rattle.paged_blocks.proofs.RegionLemmas.{range_front, touched_blocks}
+use Rattle.paged_blocks.proofs.RegionLemmas.{around_page, range_front, touched_blocks}
+use Rattle.paged_blocks.specs.declared.entry.PageEntry.{PageEntry}
+use Rattle.paged_blocks.specs.Paging.{blocks_of, flat, IsPaging}
 use Rattle.paged_blocks.proofs.FewLemmas.{stretches_tiled}
 
 pub rows_length : (ps : List ℕ) (ss : List Status) (end : ℕ) → length ss ≡ length ps → length (rows ps ss end) ≡ length ps
@@ -46,7 +48,7 @@ rows_push low top (p ∷ q ∷ ps) (s ∷ t ∷ ss) end b e u =
     (rows_push (low + (q - p)) top (q ∷ ps) (t ∷ ss) end b (omega arith) u.2)
 
 -- a part of a page
-rows_drop : (ps : List ℕ) (ss : List Status) (end i : ℕ) → length ss ≡ length ps
+pub rows_drop : (ps : List ℕ) (ss : List Status) (end i : ℕ) → length ss ≡ length ps
     → drop i (rows ps ss end) ≡ rows (drop i ps) (drop i ss) end
 rows_drop ps ss end zero e = refl
 rows_drop [] ss end (suc i) e = refl
@@ -168,6 +170,20 @@ row_middle xs ys zs t = (row_split xs ys (row_split (xs ++ ys) zs (row_of_tiled 
 
 pub row_stretches : (map : List Status) → length map < 2 ^ 63 → AreRow (stretches map)
 row_stretches map h = row_of_tiled (stretches map) (stretches_tiled map h)
+
+-- the blocks of a page
+pub page_row : (pages : List (List Block)) (es : List PageEntry) (k : ℕ) (d : PageEntry) → IsPaging pages es → k < length es
+    → AreRow (blocks_of pages (get_or es k d))
+page_row pages es k d p h =
+    let front : List Block = flat pages (take k es) in
+    let page : List Block = blocks_of pages (get_or es k d) in
+    let back : List Block = flat pages (drop (k + 1) es) in
+    let e : flat pages es ≡ front ++ page ++ back = around_page pages es k d h ∙ sym (append_assoc front page back) in
+    row_middle front page back (rw e at p.tiled)
+
+-- a row has fewer than 2^63 positions
+pub row_short : (bs : List Block) → AreRow bs → length (flat_map covered bs) < 2 ^ 63
+row_short bs r = omega (arith, tiles_end r.low bs r.end r.tiled, r.short)
 
 -- a search among begins is one among blocks
 pub rising_rows : (ps : List ℕ) (ss : List Status) (end : ℕ) → length ss ≡ length ps

@@ -10,12 +10,12 @@ use Rattle.paged_blocks.specs.declared.entry.PageEntry.{PageEntry}
 use Rattle.paged_blocks.specs.declared.marks.Edit.{Edit}
 use Rattle.paged_blocks.specs.Paging.{blocks_of, flat, before}
 
--- wide is a block, with what stands in front of it where that has its status; rest is what stands in front of it where
--- that has another. They come behind the first low blocks, in the place of all up to the block's end
+-- wide is a block, with what stands in front of it where that has its status; rest is what is left of the one that it
+-- begins in. They come behind the first low blocks, in the place of all up to the block's end
 pub record IsJoinedFront (bs : List Block) (block : Block) (low : ℕ) (rest : Option Block) (wide : Block) : Type 0 where
   pub within : low ≤ length bs
-  pub first : block.pos ≡ 0 → low ≡ 0
-  pub earlier : 0 < block.pos → start_of bs low < block.pos
+  pub early : start_of bs low ≤ block.pos
+  pub inside : start_of bs low < length (flat_map covered bs)
   pub none : block.pos ≡ 0 → rest ≡ None
   pub ends : wide.pos + wide.size ≡ block.pos + block.size
   pub sized : block.size ≤ wide.size
@@ -25,8 +25,8 @@ pub record IsJoinedFront (bs : List Block) (block : Block) (low : ℕ) (rest : O
   pub same : flat_map covered (take low bs ++ option_to_list rest ++ wide ∷ [])
       ≡ take block.pos (flat_map covered bs) ++ covered block
 
--- whole is a block, with what stands behind it where that has its status; rest is what stands behind it where that has
--- another. They come in front of the blocks from high on, in the place of all from the block's begin on
+-- whole is a block, with what stands behind it where that has its status; rest is what is left of the one that it ends
+-- in. They come in front of the blocks from high on, in the place of all from the block's begin on
 pub record IsJoinedBack (bs : List Block) (block : Block) (high : ℕ) (rest : Option Block) (whole : Block)
     : Type 0 where
   pub within : high ≤ length bs

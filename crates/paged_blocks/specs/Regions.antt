@@ -33,3 +33,10 @@ pub record StaysInPage (es : List PageEntry) (e : Edit) : Type 0 where
   pub page : e.first ≡ e.last
   pub fits : (d : PageEntry) → (slice_index_or es e.first d).len + length e.new ≤ 64 + (e.to - e.from)
   pub half : 1 < length es → (d : PageEntry) → 32 + (e.to - e.from) ≤ (slice_index_or es e.first d).len + length e.new
+
+-- an edit touches two pages beside each other, of which each keeps its number of blocks
+pub record StaysInTwoPages (es : List PageEntry) (e : Edit) : Type 0 where
+  pub next : e.last ≡ e.first + 1
+  pub front : (d : PageEntry) → e.from < (slice_index_or es e.first d).len
+  pub back : 0 < e.to
+  pub alike : (d : PageEntry) → e.from + length e.new ≡ (slice_index_or es e.first d).len + e.to

@@ -1,21 +1,24 @@
 //! Edits of a map in pages.
-ghost use Rattle.std.specs.Prelude.{◌≡◌, ℕ, ◌+◌, ◌-◌, ◌<◌, ◌≤◌, ◌^◌, true, List, length, vec_len, vec_capacity};
+ghost use Rattle.std.specs.Prelude.{◌≡◌, ℕ, ◌+◌, ◌-◌, ◌<◌, ◌≤◌, ◌^◌, true, List, All, length, slice_index_or, vec_len, vec_capacity};
 ghost use Rattle.std.specs.List.{flat_map};
 ghost use Rattle.block_list.specs.Map.{marked};
 ghost use Rattle.block_list.specs.Stretches.{covered};
 ghost use Rattle.block_list.specs.Tiling.{IsMerged};
 ghost use Rattle.block_list.specs.Edits.{IsTiled};
-ghost use Rattle.paged_blocks.specs.Paging.{flat, IsPaging, IsKeptInPages};
-ghost use Rattle.paged_blocks.specs.Marks.{IsEdit, edited};
-ghost use Rattle.paged_blocks.specs.Regions.{StaysInPage};
+ghost use Rattle.paged_blocks.specs.declared.entry.PageEntry.{PageEntry};
+ghost use Rattle.paged_blocks.specs.Paging.{blocks_of, flat, IsEntry, IsPaging, IsKeptInPages, IsRewritten};
+ghost use Rattle.paged_blocks.specs.Marks.{IsEdit, edited, spliced};
+ghost use Rattle.paged_blocks.specs.Regions.{StaysInPage, StaysInTwoPages};
 ghost use Rattle.paged_blocks.specs.Room.{room_for};
+ghost use Rattle.paged_blocks.specs.Rows.{AreRow};
 
 use crate::entries::Entries;
-use crate::filing::{refill, rewrite};
+use crate::filing::refill;
 use crate::fill::entry_behind;
 use crate::marks::{Edit, mark};
 use crate::page::Page;
-use crate::regions::{edited_page, first_region, region_of};
+use crate::piece::MarkedBlocks;
+use crate::regions::{first_region, region_of};
 use block_list::block::Block;
 
 /// Whether an edit touches one page, and leaves it as full as it is to be.
@@ -31,7 +34,55 @@ fn stays_in_page(pages: &[Page], entries: &Entries, edit: &Edit) -> bool
     len <= 64 && (len >= 32 || entries.len() == 1)
 }
 
-/// Makes an edit in the page that it stays in. No other entry moves.
+/// Whether an edit touches two pages beside each other, of which each keeps its number of blocks.
+fn stays_in_two_pages(pages: &[Page], entries: &Entries, edit: &Edit) -> bool
+    requires paging { IsPaging pages.now entries.now.items }
+    requires edit { IsEdit pages.now entries.now.items edit.now }
+    ensures { result ≡ true → StaysInTwoPages entries.now.items edit.now }
+{
+    if edit.last - edit.first != 1 {
+        return false;
+    }
+    let len = entries.at(edit.first).len;
+    edit.from < len && 0 < edit.to && edit.from + edit.new.len() == len + edit.to
+}
+
+/// Puts other blocks in the place of those from one index up to another in the page of an entry, which says what that
+/// holds then. No other entry moves.
+fn splice_page(
+    pages: &mut Vec<Page>,
+    entries: &mut Entries,
+    k: usize,
+    from: usize,
+    to: usize,
+    new: &MarkedBlocks,
+)
+    requires each { All (IsEntry pages.old.items) entries.old.items }
+    requires index { k < length entries.old.items }
+    requires order { from ≤ to }
+    requires within { (d : PageEntry)
+        → to ≤ length (blocks_of pages.old.items (slice_index_or entries.old.items k d)) }
+    requires some { 0 < length new.now }
+    requires fits { (d : PageEntry)
+        → length (blocks_of pages.old.items (slice_index_or entries.old.items k d)) + length new.now
+        ≤ 64 + (to - from) }
+    requires row { (d : PageEntry) → AreRow (blocks_of pages.old.items (slice_index_or entries.old.items k d)) }
+    requires spliced { (d : PageEntry)
+        → AreRow (spliced (blocks_of pages.old.items (slice_index_or entries.old.items k d)) from to new.now) }
+    ensures rewritten { (d : PageEntry) → IsRewritten pages.old.items entries.old.items k
+        (spliced (blocks_of pages.old.items (slice_index_or entries.old.items k d)) from to new.now)
+        pages.new.items entries.new.items }
+    ensures len { length entries.new.items ≡ length entries.old.items }
+    ensures pages { vec_len pages.new ≡ vec_len pages.old }
+    ensures capacity { entries.new.room ≡ entries.old.room }
+{
+    let old = entries.at(k);
+    let entry = entry_behind(old, &pages[old.page], from, to, new);
+    entries.put(k, entry);
+    pages[old.page].splice(from, to, new);
+}
+
+/// Makes an edit in the page that it stays in.
 fn edit_page(pages: &mut Vec<Page>, entries: &mut Entries, edit: &Edit)
     requires kept { (free : List ℕ) × IsKeptInPages pages.old.items entries.old.items free }
     requires edit { IsEdit pages.old.items entries.old.items edit.now }
@@ -45,10 +96,29 @@ fn edit_page(pages: &mut Vec<Page>, entries: &mut Entries, edit: &Edit)
     ensures pages { vec_len pages.new ≡ vec_len pages.old }
     ensures capacity { entries.new.room ≡ entries.old.room }
 {
-    let page = edited_page(pages, entries, edit);
-    let old = entries.at(edit.first);
-    let entry = entry_behind(old, &pages[old.page], edit, &page);
-    rewrite(pages, entries, edit.first, page, entry);
+    splice_page(pages, entries, edit.first, edit.from, edit.to, &edit.new);
+}
+
+/// Makes an edit in the two pages that it stays in.
+fn edit_two_pages(pages: &mut Vec<Page>, entries: &mut Entries, edit: &Edit)
+    requires kept { (free : List ℕ) × IsKeptInPages pages.old.items entries.old.items free }
+    requires edit { IsEdit pages.old.items entries.old.items edit.now }
+    requires stays { StaysInTwoPages entries.old.items edit.now }
+    requires tiled { IsTiled (edited pages.old.items entries.old.items edit.now) }
+    requires merged { IsMerged (edited pages.old.items entries.old.items edit.now) }
+    ensures kept { (free : List ℕ) → IsKeptInPages pages.old.items entries.old.items free
+        → IsKeptInPages pages.new.items entries.new.items free }
+    ensures flat { flat pages.new.items entries.new.items ≡ edited pages.old.items entries.old.items edit.now }
+    ensures len { length entries.new.items ≡ length entries.old.items }
+    ensures pages { vec_len pages.new ≡ vec_len pages.old }
+    ensures capacity { entries.new.room ≡ entries.old.room }
+{
+    let len = entries.at(edit.first).len;
+    let count = len - edit.from;
+    let front = edit.new.part(0, count);
+    let back = edit.new.part(count, edit.new.len());
+    splice_page(pages, entries, edit.first, edit.from, len, &front);
+    splice_page(pages, entries, edit.last, 0, edit.to, &back);
 }
 
 /// Makes an edit, for which the pages that it touches are filled anew.
@@ -136,6 +206,10 @@ pub fn overwrite(
     let edit = mark(pages, entries, end, block);
     if stays_in_page(pages, entries, &edit) {
         edit_page(pages, entries, &edit);
+        return;
+    }
+    if stays_in_two_pages(pages, entries, &edit) {
+        edit_two_pages(pages, entries, &edit);
         return;
     }
     edit_pages(pages, entries, free, &edit);

@@ -1,16 +1,14 @@
 //! Pages that are taken into use and set free.
-ghost use Rattle.std.specs.Prelude.{◌≡◌, ℕ, ◌+◌, ◌-◌, ◌*◌, ◌<◌, ◌≤◌, ◌^◌, ◌++◌, length, take, drop, slice_index_or, vec_len, vec_capacity};
+ghost use Rattle.std.specs.Prelude.{◌≡◌, ℕ, ◌+◌, ◌-◌, ◌*◌, ◌<◌, ◌≤◌, ◌^◌, ◌++◌, length, take, drop, vec_len, vec_capacity};
 ghost use Rattle.std.specs.List.{flat_map};
 ghost use Rattle.block_list.specs.Stretches.{covered};
-ghost use Rattle.paged_blocks.specs.declared.entry.PageEntry.{PageEntry};
-ghost use Rattle.paged_blocks.specs.Paging.{flat, short_pages, naming, times_free, AreFiled, IsEntryOf, IsKeptInPages, IsRewritten};
+ghost use Rattle.paged_blocks.specs.Paging.{flat, short_pages, naming, times_free, AreFiled, IsKeptInPages};
 ghost use Rattle.paged_blocks.specs.Rows.{AreRow};
 ghost use Rattle.paged_blocks.specs.Regions.{IsRegion, IsOfAllPages, refilled};
 ghost use Rattle.block_list.specs.Tiling.{IsMerged};
 ghost use Rattle.block_list.specs.Edits.{IsTiled};
 
 use crate::entries::Entries;
-use crate::entry::PageEntry;
 use crate::fill::{entry_of, page_len};
 use crate::gathered::Gathered;
 use crate::page::Page;
@@ -97,21 +95,6 @@ fn deal(
         made = to;
         k += 1;
     }
-}
-
-/// Puts a page, and the entry that says what it holds, in the place of those with an index.
-pub fn rewrite(pages: &mut Vec<Page>, entries: &mut Entries, k: usize, page: Page, entry: PageEntry)
-    requires index { k < length entries.old.items }
-    requires within { entry.page < vec_len pages.old }
-    requires number { (d : PageEntry) → entry.page ≡ (slice_index_or entries.old.items k d).page }
-    requires says { IsEntryOf page entry.page entry }
-    ensures rewritten { IsRewritten pages.old.items entries.old.items k page pages.new.items entries.new.items }
-    ensures pages { vec_len pages.new ≡ vec_len pages.old }
-    ensures len { length entries.new.items ≡ length entries.old.items }
-    ensures capacity { entries.new.room ≡ entries.old.room }
-{
-    entries.put(k, entry);
-    pages[entry.page] = page;
 }
 
 /// Puts blocks in the place of those of some pages. The pages that had those become free before others are taken into

@@ -1,5 +1,5 @@
 //! Pages that are made from a list of blocks.
-ghost use Rattle.std.specs.Prelude.{◌≡◌, ◌+◌, ◌<◌, ◌≤◌, ◌^◌, List, [], length, slice_range, take, count_by, OnOk};
+ghost use Rattle.std.specs.Prelude.{◌≡◌, ◌+◌, ◌<◌, ◌≤◌, ◌^◌, length, slice_range, count_by, OnOk};
 ghost use Rattle.std.specs.List.{flat_map};
 ghost use Rattle.block_list.specs.Stretches.{covered, stretches};
 ghost use Rattle.block_list.specs.declared.status.Status.{Status};
@@ -10,8 +10,8 @@ ghost use Rattle.paged_blocks.specs.Tally.{tallied};
 
 use crate::entries::Entries;
 use crate::entry::{PageEntry, StatusCounts};
-use crate::marks::Edit;
 use crate::page::Page;
+use crate::piece::MarkedBlocks;
 use block_list::plain_tiles::PlainTiles;
 use block_list::tiles::{NoMemory, Tiles};
 
@@ -81,24 +81,36 @@ pub fn entry_of(number: usize, page: &Page) -> PageEntry
     }
 }
 
-/// The entry of a page that was another, of which some blocks went and others came in their place. Only those are counted.
-pub fn entry_behind(entry: PageEntry, old: &Page, edit: &Edit, page: &Page) -> PageEntry
-    requires says { IsEntryOf old.now entry.page entry }
-    requires order { edit.now.from ≤ edit.now.to }
-    requires within { edit.now.to ≤ length old.now }
-    requires spliced { page.now ≡ spliced old.now edit.now.from edit.now.to edit.now.new }
-    requires some { 0 < length page.now }
-    requires old_short { length (flat_map covered old.now) < 2 ^ 63 }
+/// The entry of a page with other blocks in the place of those from one index up to another. Only the blocks that go
+/// and come are counted.
+pub fn entry_behind(
+    entry: PageEntry,
+    page: &Page,
+    from: usize,
+    to: usize,
+    new: &MarkedBlocks,
+) -> PageEntry
+    requires says { IsEntryOf page.now entry.page entry }
+    requires order { from ≤ to }
+    requires within { to ≤ length page.now }
+    requires some { 0 < length new.now }
+    requires fits { length (spliced page.now from to new.now) ≤ 64 }
     requires short { length (flat_map covered page.now) < 2 ^ 63 }
+    requires new_short { length (flat_map covered (spliced page.now from to new.now)) < 2 ^ 63 }
     ensures number { result.page ≡ entry.page }
-    ensures says { IsEntryOf page.now entry.page result }
+    ensures says { IsEntryOf (spliced page.now from to new.now) entry.page result }
 {
-    let gone = tally_of(old, edit.from, edit.to);
-    let come = edit.new.tally();
+    let gone = tally_of(page, from, to);
+    let come = new.tally();
+    let pos = if from == 0 {
+        new.block(0).pos
+    } else {
+        entry.pos
+    };
     PageEntry {
         page: entry.page,
-        pos: page.block(0).pos,
-        len: page.len(),
+        pos,
+        len: entry.len + new.len() - (to - from),
         tally: entry.tally.exchanged(gone, come),
     }
 }

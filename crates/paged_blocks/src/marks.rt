@@ -9,12 +9,14 @@ ghost use Rattle.paged_blocks.specs.Marks.{IsJoinedFront, IsJoinedBack, IsEdit, 
 
 use crate::entries::Entries;
 use crate::lookups::held_before;
+use crate::near::held_near;
 use crate::page::Page;
 use crate::piece::MarkedBlocks;
 use block_list::block::Block;
+use block_list::near::Near;
 
-/// A block that was joined with a neighbor of its status, and what is left of a neighbor of another. The blocks that stay
-/// end or begin at an index in the page of an entry.
+/// A block that was joined with a neighbor of its status, and what is left of a neighbor of another where it isn't left
+/// whole. The blocks that stay end or begin at an index in the page of an entry.
 #[derive(Clone, Copy, Debug)]
 pub struct Joined {
     pub entry: usize,
@@ -34,12 +36,66 @@ pub struct Edit {
     pub new: MarkedBlocks,
 }
 
-/// A block, joined with the block that holds the position in front of it.
-fn join_front(pages: &[Page], entries: &Entries, block: Block) -> Joined
+/// The place of the block behind the first ones of an entry's page, which may be all of them, in a map that goes on.
+fn place_behind(pages: &[Page], entries: &Entries, entry: usize, begun: usize) -> (usize, usize)
+    requires paging { IsPaging pages.now entries.now.items }
+    requires entry { entry < length entries.now.items }
+    requires begun { (d : PageEntry) → begun ≤ length (blocks_of pages.now (slice_index_or entries.now.items entry d)) }
+    requires later { before pages.now entries.now.items entry + begun < length (flat pages.now entries.now.items) }
+    ensures entry { result.0 < length entries.now.items }
+    ensures index { (d : PageEntry) → result.1
+        < length (blocks_of pages.now (slice_index_or entries.now.items result.0 d)) }
+    ensures same { before pages.now entries.now.items result.0 + result.1
+        ≡ before pages.now entries.now.items entry + begun }
+{
+    if begun < pages[entries.at(entry).page].len() {
+        (entry, begun)
+    } else {
+        (entry + 1, 0)
+    }
+}
+
+/// The place behind all but the last of the first blocks of an entry's page, in a map with one in front of that.
+fn place_in_front(pages: &[Page], entries: &Entries, entry: usize, begun: usize) -> (usize, usize)
+    requires paging { IsPaging pages.now entries.now.items }
+    requires entry { entry < length entries.now.items }
+    requires begun { (d : PageEntry) → begun ≤ length (blocks_of pages.now (slice_index_or entries.now.items entry d)) }
+    requires some { 0 < begun }
+    requires later { 1 < before pages.now entries.now.items entry + begun }
+    ensures entry { result.0 < length entries.now.items }
+    ensures index { (d : PageEntry) → result.1
+        ≤ length (blocks_of pages.now (slice_index_or entries.now.items result.0 d)) }
+    ensures some { 0 < result.1 }
+    ensures same { before pages.now entries.now.items result.0 + result.1 + 1
+        ≡ before pages.now entries.now.items entry + begun }
+{
+    if begun > 1 {
+        return (entry, begun - 1);
+    }
+    let front = entry - 1;
+    (front, pages[entries.at(front).page].len())
+}
+
+/// A block at a place, and what is left of a neighbor.
+fn joined_at(place: (usize, usize), rest: Option<Block>, block: Block) -> Joined
+    ensures { result ≡ record { entry = place.0; index = place.1; rest = rest; block = block } }
+{
+    let (entry, index) = place;
+    Joined {
+        entry,
+        index,
+        rest,
+        block,
+    }
+}
+
+/// A block, joined with the block that holds the position in front of it, in a map with an end.
+fn join_front(pages: &[Page], entries: &Entries, end: u64, block: Block) -> Joined
     requires paging { IsPaging pages.now entries.now.items }
     requires there { 0 < length entries.now.items }
     requires some { 0 < block.size }
-    requires begins { block.pos ≤ length (flat_map covered (flat pages.now entries.now.items)) }
+    requires end { end ≡ length (flat_map covered (flat pages.now entries.now.items)) }
+    requires begins { block.pos ≤ end }
     requires short { block.pos + block.size < 2 ^ 63 }
     ensures entry { result.entry < length entries.now.items }
     ensures index { (d : PageEntry) → result.index
@@ -48,44 +104,28 @@ fn join_front(pages: &[Page], entries: &Entries, block: Block) -> Joined
         (before pages.now entries.now.items result.entry + result.index) result.rest result.block }
 {
     if block.pos == 0 {
-        return Joined {
-            entry: 0,
-            index: 0,
-            rest: None,
-            block,
-        };
+        return joined_at((0, 0), None, block);
     }
     let (entry, begun) = held_before(pages, entries, block.pos);
-    let index = begun - 1;
-    let front = pages[entries.at(entry).page].block(index);
+    let front = pages[entries.at(entry).page].block(begun - 1);
     if front.status.is(block.status) {
         let wide = Block {
             pos: front.pos,
             size: block.pos + block.size - front.pos,
             status: block.status,
         };
-        return Joined {
-            entry,
-            index,
-            rest: None,
-            block: wide,
-        };
+        return joined_at((entry, begun - 1), None, wide);
     }
-    let rest = Block {
-        pos: front.pos,
-        size: block.pos - front.pos,
-        status: front.status,
-    };
-    Joined {
-        entry,
-        index,
-        rest: Some(rest),
-        block,
+    let size = block.pos - front.pos;
+    if size == front.size && block.pos < end {
+        return joined_at(place_behind(pages, entries, entry, begun), None, block);
     }
+    let rest = Block { size, ..front };
+    joined_at((entry, begun - 1), Some(rest), block)
 }
 
-/// A block, joined with the block that holds the position behind it, in a map with an end.
-fn join_back(pages: &[Page], entries: &Entries, end: u64, block: Block) -> Joined
+/// A block, joined with the block that holds the position behind it, in a map with an end. It looks `near` first.
+fn join_back(pages: &[Page], entries: &Entries, end: u64, near: Near, block: Block) -> Joined
     requires paging { IsPaging pages.now entries.now.items }
     requires there { 0 < length entries.now.items }
     requires some { 0 < block.size }
@@ -100,15 +140,11 @@ fn join_back(pages: &[Page], entries: &Entries, end: u64, block: Block) -> Joine
     let behind = block.pos + block.size;
     if end <= behind {
         let entry = entries.len() - 1;
-        return Joined {
-            entry,
-            index: entries.at(entry).len,
-            rest: None,
-            block,
-        };
+        return joined_at((entry, entries.at(entry).len), None, block);
     }
-    let (entry, index) = held_before(pages, entries, behind + 1);
-    let back = pages[entries.at(entry).page].block(index - 1);
+    let held = held_near(pages, entries, near, behind);
+    let (entry, index) = (held.page, held.block + 1);
+    let back = pages[entries.at(entry).page].block(held.block);
     let size = back.pos + back.size - behind;
     if back.status.is(block.status) {
         let wide = Block {
@@ -116,24 +152,17 @@ fn join_back(pages: &[Page], entries: &Entries, end: u64, block: Block) -> Joine
             size: block.size + size,
             status: block.status,
         };
-        return Joined {
-            entry,
-            index,
-            rest: None,
-            block: wide,
-        };
+        return joined_at((entry, index), None, wide);
+    }
+    if size == back.size {
+        return joined_at(place_in_front(pages, entries, entry, index), None, block);
     }
     let rest = Block {
         pos: behind,
         size,
         status: back.status,
     };
-    Joined {
-        entry,
-        index,
-        rest: Some(rest),
-        block,
-    }
+    joined_at((entry, index), Some(rest), block)
 }
 
 /// The edit that gives a status to the positions of a block, which may go on behind the map's end.
@@ -150,8 +179,12 @@ pub fn mark(pages: &[Page], entries: &Entries, end: u64, block: Block) -> Edit
     ensures adds { end ≤ block.pos + block.size → edit_from pages.now entries.now.items result + length result.new
         ≤ edit_to pages.now entries.now.items result + 1 }
 {
-    let front = join_front(pages, entries, block);
-    let back = join_back(pages, entries, end, front.block);
+    let front = join_front(pages, entries, end, block);
+    let near = Near {
+        page: front.entry,
+        block: front.index,
+    };
+    let back = join_back(pages, entries, end, near, front.block);
     let mut new = MarkedBlocks::new();
     new.push_some(front.rest);
     new.push(back.block);

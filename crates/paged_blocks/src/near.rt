@@ -48,7 +48,7 @@ fn behind(entries: &Entries, near: Near) -> Near {
 }
 
 /// Where the block that holds a position stands. It looks at one block first, and at the one behind it.
-fn held_near(pages: &[Page], entries: &Entries, near: Near, x: u64) -> Near
+pub fn held_near(pages: &[Page], entries: &Entries, near: Near, x: u64) -> Near
     requires paging { IsPaging pages.now entries.now.items }
     requires within { x < length (flat_map covered (flat pages.now entries.now.items)) }
     ensures { IsHeld pages.now entries.now.items (x + 1) result.page (result.block + 1) }

@@ -203,8 +203,26 @@ impl Page {
         }
     }
 
+    /// Puts blocks in the place of as many others, from an index on.
+    fn overwrite(&mut self, from: usize, new: &MarkedBlocks)
+        requires within { from + length new.now ≤ length self.old }
+        requires row { AreRow (spliced self.old from (from + length new.now) new.now) }
+        ensures { self.new ≡ spliced self.old from (from + length new.now) new.now }
+    {
+        for i in 0..new.len() {
+            let block = new.block(i);
+            self.starts[from + i] = block.pos;
+            self.statuses[from + i] = KeptStatus {
+                status: block.status,
+            };
+            if from + i + 1 == self.starts.len() {
+                self.end = block.pos + block.size;
+            }
+        }
+    }
+
     /// A page like it, with other blocks in the place of those from one index up to another.
-    pub fn spliced(&self, from: usize, to: usize, new: &MarkedBlocks) -> Page
+    fn spliced(&self, from: usize, to: usize, new: &MarkedBlocks) -> Page
         requires order { from ≤ to }
         requires within { to ≤ length self.now }
         requires fits { length self.now + length new.now ≤ 64 + (to - from) }
@@ -217,5 +235,20 @@ impl Page {
         page.add(new);
         page.copy(self, to, len);
         page
+    }
+
+    /// Puts blocks in the place of those from one index up to another. Where as many come as go, no other is copied.
+    pub fn splice(&mut self, from: usize, to: usize, new: &MarkedBlocks)
+        requires order { from ≤ to }
+        requires within { to ≤ length self.old }
+        requires fits { length self.old + length new.now ≤ 64 + (to - from) }
+        requires row { AreRow (spliced self.old from to new.now) }
+        ensures { self.new ≡ spliced self.old from to new.now }
+    {
+        if new.len() == to - from {
+            self.overwrite(from, new);
+        } else {
+            *self = self.spliced(from, to, new);
+        }
     }
 }

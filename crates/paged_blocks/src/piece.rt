@@ -1,5 +1,5 @@
 //! The blocks that come in the place of others.
-ghost use Rattle.std.specs.Prelude.{◌≡◌, ◌<◌, ◌≤◌, ◌^◌, [], ◌∷◌, ◌++◌, length, slice_get, count_by, Some, option_to_list};
+ghost use Rattle.std.specs.Prelude.{◌≡◌, ◌+◌, ◌<◌, ◌≤◌, ◌^◌, [], ◌∷◌, ◌++◌, length, slice_get, slice_range, count_by, Some, option_to_list};
 ghost use Rattle.std.specs.List.{flat_map};
 ghost use Rattle.block_list.specs.declared.status.Status.{Status};
 ghost use Rattle.block_list.specs.Status.{same};
@@ -66,6 +66,20 @@ impl MarkedBlocks {
             tally.add(block.status, block.size);
         }
         tally
+    }
+
+    /// The blocks from one index up to another.
+    pub fn part(&self, from: usize, to: usize) -> MarkedBlocks
+        requires order { from ≤ to }
+        requires within { to ≤ length self.now }
+        requires fits { to ≤ from + 3 }
+        ensures { result ≡ slice_range self.now from to }
+    {
+        let mut part = MarkedBlocks::new();
+        for i in from..to {
+            part.push(self.block(i));
+        }
+        part
     }
 
     /// Puts a block behind the last one.

@@ -1,13 +1,11 @@
 //! The pages that an edit fills anew.
-ghost use Rattle.std.specs.Prelude.{◌≡◌, ◌+◌, ◌<◌, ◌≤◌, ◌^◌, ◌++◌, length, take, drop, slice_index_or};
+ghost use Rattle.std.specs.Prelude.{◌≡◌, ◌+◌, ◌<◌, ◌^◌, length};
 ghost use Rattle.std.specs.List.{flat_map};
 ghost use Rattle.block_list.specs.Map.{marked};
 ghost use Rattle.block_list.specs.Stretches.{covered};
-ghost use Rattle.paged_blocks.specs.declared.entry.PageEntry.{PageEntry};
-ghost use Rattle.block_list.specs.Edits.{IsTiled};
-ghost use Rattle.paged_blocks.specs.Paging.{blocks_of, flat, IsPaging, AreHalfFull};
-ghost use Rattle.paged_blocks.specs.Marks.{AreOfMap, IsEdit, spliced, edited};
-ghost use Rattle.paged_blocks.specs.Regions.{IsRegion, IsOfAllPages, IsOneBlock, StaysInPage, refilled};
+ghost use Rattle.paged_blocks.specs.Paging.{flat, IsPaging, AreHalfFull};
+ghost use Rattle.paged_blocks.specs.Marks.{AreOfMap, IsEdit, edited};
+ghost use Rattle.paged_blocks.specs.Regions.{IsRegion, IsOfAllPages, IsOneBlock, refilled};
 
 use crate::entries::Entries;
 use crate::gathered::Gathered;
@@ -42,19 +40,6 @@ pub fn first_region(pages: &[Page], entries: &Entries, block: Block) -> Region
         behind: 0,
         blocks,
     }
-}
-
-/// The page of an edit that touches no other, with the edit made.
-pub fn edited_page(pages: &[Page], entries: &Entries, edit: &Edit) -> Page
-    requires paging { IsPaging pages.now entries.now.items }
-    requires edit { IsEdit pages.now entries.now.items edit.now }
-    requires stays { StaysInPage entries.now.items edit.now }
-    requires tiled { IsTiled (edited pages.now entries.now.items edit.now) }
-    ensures { (d : PageEntry) → result
-        ≡ spliced (blocks_of pages.now (slice_index_or entries.now.items edit.now.first d)) edit.now.from edit.now.to
-        edit.now.new }
-{
-    pages[entries.at(edit.first).page].spliced(edit.from, edit.to, &edit.new)
 }
 
 /// The pages that an edit touches, with the blocks that they hold after it.

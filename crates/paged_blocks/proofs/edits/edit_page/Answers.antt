@@ -1,72 +1,66 @@
-use Rattle.std.proofs.Common.{◌+◌, ◌<◌, List, length, take, drop, ap, arith}
-use Rattle.std.specs.List.{flat_map}
+use Rattle.std.proofs.Common.{◌≡◌, ◌+◌, List, length, take, drop, get_or, refl, ap, arith}
+use Rattle.std.proofs.lemmas.List.{get_or_default}
 use Rattle.block_list.specs.declared.block.Block.{Block}
-use Rattle.block_list.specs.Stretches.{covered}
 use Rattle.paged_blocks.specs.declared.entry.PageEntry.{PageEntry}
-use Rattle.paged_blocks.specs.Paging.{flat}
-use Rattle.paged_blocks.proofs.PagingLemmas.{no_entry, named, entry_says}
-use Rattle.paged_blocks.proofs.RegionLemmas.{page_edited, page_some, page_short, middle_short}
+use Rattle.paged_blocks.specs.declared.marks.Edit.{Edit}
+use Rattle.paged_blocks.specs.Marks.{spliced}
+use Rattle.paged_blocks.specs.Paging.{blocks_of, flat, before}
+use Rattle.paged_blocks.proofs.PagingLemmas.{no_entry}
+use Rattle.paged_blocks.proofs.RegionLemmas.{page_edited, page_some}
 use Rattle.paged_blocks.proofs.RewriteLemmas.{page_flat, page_kept}
+use Rattle.paged_blocks.proofs.RowLemmas.{page_row, row_middle}
 use Rattle.paged_blocks.proofs.edits.edit_page.Goals as goal
 
-pub edited_page-page-requires-clause-paging : goal.edited_page-page-requires-clause-paging
-edited_page-page-requires-clause-paging c = rw c.deref.ensures.value c.requires.kept.1.paging
+pub splice_page-requires-clause-index : goal.splice_page-requires-clause-index
+splice_page-requires-clause-index c = omega (arith, c.requires.edit.order, c.requires.edit.last)
 
-pub rewrite-requires-clause-index : goal.rewrite-requires-clause-index
-rewrite-requires-clause-index c = omega (arith, c.requires.edit.order, c.requires.edit.last)
-
-pub entry_behind-entry-requires-clause-says : goal.entry_behind-entry-requires-clause-says
-entry_behind-entry-requires-clause-says c =
-    let there : c.args.edit.now.first < length c.args.entries.now.items = omega (arith, c.requires.edit.order, c.requires.edit.last) in
-    entry_says c.args.pages.now.items c.args.entries.now.items c.args.edit.now.first no_entry _ _ c.requires.kept.1.paging
-    there (c.at-old.ensures no_entry) c.index.ensures
-
-pub entry_behind-entry-requires-clause-some : goal.entry_behind-entry-requires-clause-some
-entry_behind-entry-requires-clause-some c =
-    let q = rw c.deref.ensures.value at (c.edited_page-page.ensures no_entry) in
-    page_some _ _ c.args.edit.now _ c.requires.edit c.requires.stays.page q
-
-pub entry_behind-entry-requires-clause-old_short : goal.entry_behind-entry-requires-clause-old_short
-entry_behind-entry-requires-clause-old_short c =
+pub splice_page-requires-clause-order : goal.splice_page-requires-clause-order
+splice_page-requires-clause-order c =
     let pages : List (List Block) = c.args.pages.now.items in
     let es : List PageEntry = c.args.entries.now.items in
-    let there : c.args.edit.now.first < length es = omega (arith, c.requires.edit.order, c.requires.edit.last) in
-    let own = named pages es c.args.edit.now.first no_entry _ c.requires.kept.1.paging there
-    (rw (c.at-old.ensures no_entry) at c.index.ensures) in
-    omega (
-      arith,
-      page_short pages es c.args.edit.now.first no_entry there,
-      ap (λ r. length (flat_map covered r)) own,
-      c.requires.kept.1.paging.tiled.short,
-    )
+    omega (arith, c.requires.edit.rising, ap (λ n. before pages es n) c.requires.stays.page)
 
-pub entry_behind-entry-requires-clause-short : goal.entry_behind-entry-requires-clause-short
-entry_behind-entry-requires-clause-short c =
-    let q = rw c.deref.ensures.value at (c.edited_page-page.ensures no_entry) in
+pub splice_page-requires-clause-within : goal.splice_page-requires-clause-within
+splice_page-requires-clause-within c = λ d.
     let pages : List (List Block) = c.args.pages.now.items in
     let es : List PageEntry = c.args.entries.now.items in
+    omega (arith, c.requires.edit.to d, ap (λ k. length (blocks_of pages (get_or es k d))) c.requires.stays.page)
+
+pub splice_page-requires-clause-fits : goal.splice_page-requires-clause-fits
+splice_page-requires-clause-fits c = λ d.
+    let i = c.requires.edit in
     omega (
       arith,
-      middle_short (flat pages (take c.args.edit.now.first es)) c.edited_page-page.result
-          (flat pages (drop (c.args.edit.now.first + 1) es)),
-      ap (λ r. length (flat_map covered r))
-          (page_edited pages es c.args.edit.now c.edited_page-page.result c.requires.edit c.requires.stays.page q),
-      c.requires.tiled.short,
+      c.requires.stays.fits d,
+      (c.requires.kept.1.paging.each c.args.edit.now.first d (omega (arith, i.order, i.last))).len,
     )
+
+pub splice_page-requires-clause-row : goal.splice_page-requires-clause-row
+splice_page-requires-clause-row c = λ d.
+    page_row _ _ _ d c.requires.kept.1.paging (omega (arith, c.requires.edit.order, c.requires.edit.last))
+
+pub splice_page-requires-clause-spliced : goal.splice_page-requires-clause-spliced
+splice_page-requires-clause-spliced c = λ d.
+    let pages : List (List Block) = c.args.pages.now.items in
+    let es : List PageEntry = c.args.entries.now.items in
+    let e : Edit = c.args.edit.now in
+    let i = c.requires.edit in
+    let own : get_or es e.first d ≡ get_or es e.first no_entry =
+    get_or_default es e.first d no_entry (omega (arith, i.order, i.last)) in
+    let page : List Block = spliced (blocks_of pages (get_or es e.first no_entry)) e.from e.to e.new in
+    rw own
+    (row_middle (flat pages (take e.first es)) page (flat pages (drop (e.first + 1) es))
+    (rw (page_edited pages es e page i c.requires.stays.page refl) c.requires.tiled))
 
 pub returns-clause-flat : goal.returns-clause-flat
 returns-clause-flat c =
-    let q = rw c.deref.ensures.value at (c.edited_page-page.ensures no_entry) in
-    let some = page_some _ _ c.args.edit.now _ c.requires.edit c.requires.stays.page q in
-    page_flat _ _ _ c.args.edit.now _ _ _ c.requires.kept.1 c.requires.edit c.requires.stays.page q some
-    c.rewrite.ensures.rewritten
+    let e : Edit = c.args.edit.now in
+    let some = page_some _ _ e _ c.requires.edit c.requires.stays.page refl in
+    page_flat _ _ _ e _ _ _ c.requires.kept.1 c.requires.edit c.requires.stays.page refl some (c.splice_page.ensures.rewritten no_entry)
 
 pub returns-clause-kept : goal.returns-clause-kept
 returns-clause-kept c = λ free h.
-    let q = rw c.deref.ensures.value at (c.edited_page-page.ensures no_entry) in
-    let some = page_some _ _ c.args.edit.now _ c.requires.edit c.requires.stays.page q in
-    page_kept _ _ _ c.args.edit.now _ _ _ h c.requires.edit c.requires.stays q some c.requires.tiled c.requires.merged
-    c.rewrite.ensures.rewritten
-
-pub edited_page-page-requires-clause-tiled : goal.edited_page-page-requires-clause-tiled
-edited_page-page-requires-clause-tiled c = rw c.deref.ensures.value c.requires.tiled
+    let e : Edit = c.args.edit.now in
+    let some = page_some _ _ e _ c.requires.edit c.requires.stays.page refl in
+    page_kept _ _ _ e _ _ _ h c.requires.edit c.requires.stays refl some c.requires.tiled c.requires.merged
+    (c.splice_page.ensures.rewritten no_entry)

@@ -26,6 +26,27 @@ returns-then-stays_in_page-clause-adds c = λ h.
       a,
     )
 
+pub returns-then-stays_in_two_pages-clause-gain : goal.returns-then-stays_in_two_pages-clause-gain
+returns-then-stays_in_two_pages-clause-gain c =
+    let e = rw c.deref.ensures.value at c.mark-edit.ensures.edit in
+    omega (
+      arith,
+      ap length c.edit_two_pages.ensures.flat,
+      edit_len c.args.pages.now.items c.args.entries.now.items c.mark-edit.result e,
+      e.gain,
+    )
+
+pub returns-then-stays_in_two_pages-clause-adds : goal.returns-then-stays_in_two_pages-clause-adds
+returns-then-stays_in_two_pages-clause-adds c = λ h.
+    let e = rw c.deref.ensures.value at c.mark-edit.ensures.edit in
+    let a = rw c.deref.ensures.value at (c.mark-edit.ensures.adds h) in
+    omega (
+      arith,
+      ap length c.edit_two_pages.ensures.flat,
+      edit_len c.args.pages.now.items c.args.entries.now.items c.mark-edit.result e,
+      a,
+    )
+
 pub edit_pages-requires-clause-spare : goal.edit_pages-requires-clause-spare
 edit_pages-requires-clause-spare c =
     let e = rw c.deref.ensures.value at c.mark-edit.ensures.edit in

@@ -1,5 +1,5 @@
 use Rattle.std.proofs.Common.{arith}
-use Rattle.paged_blocks.proofs.PagingLemmas.{no_entry, some_position}
+use Rattle.paged_blocks.proofs.PagingLemmas.{no_entry}
 use Rattle.paged_blocks.proofs.RegionLemmas.{page_order}
 use Rattle.paged_blocks.proofs.MarkLemmas.{joined, some_taken, new_blocks, few_new}
 use Rattle.paged_blocks.proofs.marks.mark.Goals as goal
@@ -10,9 +10,7 @@ returns-clause-edit c =
     let g = c.join_back-back.ensures in
     let n = new_blocks _ _ _ _ _ _ _ c.new-new.ensures c.push_some.ensures c.push.ensures c.push_some-2.ensures in
     let new = few_new _ _ _ _ n in
-    let some = some_position _ _ c.requires.paging c.requires.there in
-    let taken = some_taken _ _ _ _ _ c.args.block _ _ some c.requires.some (omega (arith, c.requires.begins, c.requires.end))
-    f.joined g.joined in
+    let taken = some_taken _ _ _ _ _ c.args.block _ _ c.requires.some f.joined g.joined in
     record {
       order = page_order _ _ _ _ _ _ no_entry g.entry (g.index no_entry) taken;
       last = g.entry;
@@ -36,7 +34,5 @@ returns-clause-adds c =
     let g = c.join_back-back.ensures in
     let n = new_blocks _ _ _ _ _ _ _ c.new-new.ensures c.push_some.ensures c.push.ensures c.push_some-2.ensures in
     let new = few_new _ _ _ _ n in
-    let some = some_position _ _ c.requires.paging c.requires.there in
-    let taken = some_taken _ _ _ _ _ c.args.block _ _ some c.requires.some (omega (arith, c.requires.begins, c.requires.end))
-    f.joined g.joined in
+    let taken = some_taken _ _ _ _ _ c.args.block _ _ c.requires.some f.joined g.joined in
     λ h. omega (arith, new.fewer (g.joined.none (omega (arith, f.joined.ends, c.requires.end))), taken)
