@@ -100,42 +100,42 @@ impl TableEntry {
 }
 
 /// The number of 32 bits that begins at a byte, the lowest byte first.
-fn number_at(record: &[u8], at: usize) -> u32
-    requires { at + 4 ≤ length record.now }
-    ensures { result ≡ number_at record.now at }
+fn number_at(bytes: &[u8], at: usize) -> u32
+    requires { at + 4 ≤ length bytes.now }
+    ensures { result ≡ number_at bytes.now at }
 {
-    u32::from_le_bytes([record[at], record[at + 1], record[at + 2], record[at + 3]])
+    u32::from_le_bytes([bytes[at], bytes[at + 1], bytes[at + 2], bytes[at + 3]])
 }
 
 /// The entry that begins at a byte.
-fn entry_at(record: &[u8], at: usize) -> TableEntry
-    requires { at + 16 ≤ length record.now }
-    ensures { result ≡ entry_at record.now at }
+fn entry_at(bytes: &[u8], at: usize) -> TableEntry
+    requires { at + 16 ≤ length bytes.now }
+    ensures { result ≡ entry_at bytes.now at }
 {
     TableEntry {
-        kind: record[at + 4],
-        first: number_at(record, at + 8),
-        count: number_at(record, at + 12),
+        kind: bytes[at + 4],
+        first: number_at(bytes, at + 8),
+        count: number_at(bytes, at + 12),
     }
 }
 
 /// The entries of a record.
-pub(crate) fn read_entries(record: &[u8]) -> Table
-    requires { length record.now ≡ 512 }
-    ensures { result ≡ table_entries record.now }
+pub(crate) fn read_entries(bytes: &[u8]) -> Table
+    requires { length bytes.now ≡ 512 }
+    ensures { result ≡ table_entries bytes.now }
 {
     [
-        entry_at(record, ENTRIES),
-        entry_at(record, ENTRIES + ENTRY),
-        entry_at(record, ENTRIES + 2 * ENTRY),
-        entry_at(record, ENTRIES + 3 * ENTRY),
+        entry_at(bytes, ENTRIES),
+        entry_at(bytes, ENTRIES + ENTRY),
+        entry_at(bytes, ENTRIES + 2 * ENTRY),
+        entry_at(bytes, ENTRIES + 3 * ENTRY),
     ]
 }
 
 /// Whether what was read ends with a record's signature.
-pub(crate) fn has_signature(record: &[u8]) -> bool
-    requires { length record.now ≡ 512 }
-    ensures { result ≡ has_signature record.now }
+pub(crate) fn has_signature(bytes: &[u8]) -> bool
+    requires { length bytes.now ≡ 512 }
+    ensures { result ≡ has_signature bytes.now }
 {
-    record[SIGNATURE] == SIGNED[0] && record[SIGNATURE + 1] == SIGNED[1]
+    bytes[SIGNATURE] == SIGNED[0] && bytes[SIGNATURE + 1] == SIGNED[1]
 }
