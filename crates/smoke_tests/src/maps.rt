@@ -1,5 +1,5 @@
 //! A map in pages, beside a plain list.
-ghost use Rattle.std.specs.Prelude.{◌<◌, ◌^◌};
+ghost use Rattle.std.specs.Prelude.{◌≡◌, ◌<◌, ◌^◌};
 
 use block_list::block::{Block, Range};
 use block_list::near::Near;
@@ -7,8 +7,11 @@ use block_list::plain_tiles::PlainTiles;
 use block_list::status::Status;
 use block_list::tiles::Tiles;
 use paged_blocks::paged_tiles::PagedTiles;
+use paged_blocks::steps::Steps;
 use std::alloc::Global;
+use std::marker::Brand;
 use std::process::Abort;
+use std::sync::ledger::{Blank, Ledger};
 use std::test::Fail;
 
 /// A map of blocks of one sector of 512 bytes, finished ones and bad ones in turn.
@@ -53,6 +56,29 @@ fn a_mark_joins_its_neighbors(rt: HostRuntime) -> Result<(), Fail> {
     assert_eq!(rt; tiles.block(100), joined);
     assert!(rt; 51_712 < tiles.end());
     assert_eq!(rt; tiles.stretch_at(51_712), joined);
+    Ok(())
+}
+
+/// What is found forwards where the steps are counted.
+fn found_counted<L: Ledger>(
+    tiles: &PagedTiles,
+    from: u64,
+    status: Status,
+    blank: Blank,
+) -> Option<Range>
+    requires name { blank.name ≡ L.name }
+    requires parts { blank.parts ≡ L.parts }
+    requires one { 0 < blank.parts }
+{
+    let mut steps = Steps::<L>::new(blank);
+    tiles.find_forward_counted(from, status, &mut steps)
+}
+
+#[test]
+fn steps_are_counted(rt: HostRuntime) -> Result<(), Fail> {
+    let tiles = PagedTiles::from_plain(rt.alloc(), &in_turn(rt.alloc(), 200)?)?;
+    let none = found_counted::<Brand>(&tiles, 0, Status::NonTried, Blank::new(1));
+    assert_eq!(rt; none, None);
     Ok(())
 }
 
@@ -132,9 +158,14 @@ fn pages_are_as_a_plain_list(rt: HostRuntime) -> Result<(), Fail> {
         random = random
             .wrapping_mul(6_364_136_223_846_793_005)
             .wrapping_add(1_442_695_040_888_963_407);
-        let pos = (random >> 33) % 1_024_000;
+        let mut pos = (random >> 33) % 1_024_000;
         let widest = if turn % 10 == 0 { 60_000 } else { 700 };
-        let size = 1 + (random >> 12) % widest;
+        let mut size = 1 + (random >> 12) % widest;
+        if turn % 2 == 0 {
+            // Whole sectors, so that a mark often ends where a block does.
+            pos -= pos % 512;
+            size += 512 - size % 512;
+        }
         plain.reserve(2)?;
         paged.reserve(2)?;
         if pos + size <= plain.end() && pos + size <= paged.end() {
