@@ -1,59 +1,59 @@
-# The usual ways into the repository: `make` proves and builds the programs, `make bin/ddrescue`, `make bin/ddrescuelog`
-# `make bin/ddrescuepart`, `make bin/ddrescueverify` and `make bin/ddrescueplan` one of them, `make scenes` the player of transcripts, and
-# `make check` runs the gate.
-# `make install` puts programs, man pages and completions of bash and zsh in place, and `make uninstall` takes them away.
+# The usual ways into the repository. `make` proves and builds the programs, and `make bin/ddrescue` one of them, with a
+# proof on each processor (`make -j2` takes two). An interrupted build goes on where it was. `make scenes` builds the
+# player of scenes, `make check` runs the gate, and `make install` and `make uninstall` put programs, manual pages and
+# completions of bash and zsh in place and take them away.
 PREFIX ?= /usr/local
-SOURCES := crates.txt $(shell find crates -path '*/out' -prune -o -type f -print)
 PROGRAMS := ddrescue ddrescuelog ddrescuepart ddrescueverify ddrescueplan
 SHARE := $(DESTDIR)$(PREFIX)/share
 MANUAL := $(SHARE)/man/man1
 BASH := $(SHARE)/bash-completion/completions
 ZSH := $(SHARE)/zsh/site-functions
 
+# Without a number of its own make takes each processor. The output of a crate is printed whole when the crate ends.
+ifeq ($(filter -j%,$(MAKEFLAGS)),)
+    MAKEFLAGS += -j$(shell nproc)
+endif
+MAKEFLAGS += --output-sync=target --no-builtin-rules
+
 .PHONY: all scenes check install uninstall clean
+.SECONDEXPANSION:
 
 all: $(PROGRAMS:%=bin/%)
 
 scenes: bin/rescue_scenes
 
-# Proves and builds the rescue, and tries it on an empty input.
-bin/ddrescue: $(SOURCES)
-	trial=$$(mktemp -d) && trap 'rm -rf "$$trial"' EXIT && cd crates/ddrescue && rt run -- /dev/null "$$trial/out" "$$trial/map"
-	mkdir -p bin
-	cp crates/ddrescue/out/ddrescue bin/ddrescue
+# What each crate stands on, as crates.txt has it: libraries of the repository (`own_NAME`) and of the kit (`kit_NAME`).
+CRATES := $(shell sed -n 's/^\([a-z0-9_]*\):.*/\1/p' crates.txt)
+$(foreach crate,$(CRATES),$(eval needs_$(crate) := $(shell sed -n 's/^$(crate)://p' crates.txt)) \
+    $(eval own_$(crate) := $(filter $(CRATES),$(needs_$(crate)))) \
+    $(eval kit_$(crate) := std $(filter-out $(CRATES),$(needs_$(crate)))))
+MAINS := $(patsubst crates/%/src/main.rt,%,$(wildcard crates/*/src/main.rt))
+LIBRARIES := $(filter-out $(MAINS),$(CRATES))
+sources = $(shell find crates/$(1) -name out -prune -o -name must-fail -prune -o -type f -print)
+proved = $(foreach library,$(own_$(1)),build/$(library).proved)
 
-# Proves and builds the program for mapfiles, and has it make an empty one.
-bin/ddrescuelog: $(SOURCES)
-	trial=$$(mktemp -d) && trap 'rm -rf "$$trial"' EXIT && cd crates/ddrescuelog && rt run -- -c "$$trial/map" </dev/null
-	mkdir -p bin
-	cp crates/ddrescuelog/out/ddrescuelog bin/ddrescuelog
+# The words of the kit's compiler for a crate. A crate reads the statements of its libraries, not their proofs. The
+# kit's `rt` is not used here, since it lets no two crates over one library be proved at once.
+KIT := $(patsubst %/,%,$(dir $(shell rt doc)))
+READS = $(foreach library,$(kit_$*),--extern $(library)=$(KIT)/rlibs/$(library).rlib) -L dependency=$(KIT)/rlibs \
+    $(foreach library,$(own_$*),--extern $(library)=$(CURDIR)/build/$(library).rlib) -L dependency=$(CURDIR)/build \
+    --antt-project $(KIT)/rattle/logic/antt-project.json --logic-built $(KIT)/logic_built --links $*=
+BUILD = cd crates/$* && $(KIT)/bin/rattle build --crate-name $*
+LOG = > $(CURDIR)/build/$*.log 2>&1 || { cat $(CURDIR)/build/$*.log; echo "$* is not proved"; exit 1; }
 
-# Proves and builds the program for partitions, and tries it on a table with one entry.
-bin/ddrescuepart: $(SOURCES)
-	trial=$$(mktemp) && trap 'rm -f "$$trial"' EXIT && printf '%450s\203%59s\125\252' '' '' | tr ' ' '\0' > "$$trial" \
-	    && cd crates/ddrescuepart && rt run -- "$$trial" 1 > /dev/null
-	mkdir -p bin
-	cp crates/ddrescuepart/out/ddrescuepart bin/ddrescuepart
+# A library: its statements, proved.
+$(LIBRARIES:%=build/%.proved): build/%.proved: $$(call sources,$$*) $$(call proved,$$*) crates.txt
+	@mkdir -p build && rm -rf build/$*.rlib
+	@$(BUILD) src/lib.rt $(READS) --statements -o $(CURDIR)/build/$*.rlib $(LOG)
+	@echo "$* is proved" && touch $@
 
-# Proves and builds the comparison, and has it compare an empty file.
-bin/ddrescueverify: $(SOURCES)
-	trial=$$(mktemp -d) && trap 'rm -rf "$$trial"' EXIT && touch "$$trial/out" && echo '0 + 1' > "$$trial/map" && \
-		cd crates/ddrescueverify && rt run -- /dev/null "$$trial/out" "$$trial/map"
-	mkdir -p bin
-	cp crates/ddrescueverify/out/ddrescueverify bin/ddrescueverify
-
-# Proves and builds the planner, and has it plan one read.
-bin/ddrescueplan: $(SOURCES)
-	trial=$$(mktemp) && trap 'rm -f "$$trial"' EXIT && echo '0 + 1' > "$$trial" && \
-		cd crates/ddrescueplan && rt run -- 1 "$$trial" > /dev/null
-	mkdir -p bin
-	cp crates/ddrescueplan/out/ddrescueplan bin/ddrescueplan
-
-# Proves and builds the player of transcripts, and tries it on an empty one.
-bin/rescue_scenes: $(SOURCES)
-	cd crates/rescue_scenes && rt run </dev/null
-	mkdir -p bin
-	cp crates/rescue_scenes/out/rescue_scenes bin/rescue_scenes
+# A program: proved, compiled and linked.
+$(MAINS:%=bin/%): bin/%: $$(call sources,$$*) $$(call proved,$$*) crates.txt
+	@mkdir -p bin build
+	@$(BUILD) src/main.rt $(READS) --toolchain $(KIT)/toolchain --backend llvm -o $(CURDIR)/build/$*.o $(LOG)
+	@$(KIT)/bin/rattle-link --target x86_64-unknown-linux-gnu --toolchain $(KIT)/toolchain -o $@ build/$*.o \
+	    $(KIT)/c/libos_c.a $(KIT)/c/liblibc_c.a
+	@echo "$* is proved and built"
 
 check:
 	bash .ci/run
@@ -72,4 +72,4 @@ uninstall:
 	done
 
 clean:
-	rm -rf bin crates/*/out
+	rm -rf bin build crates/*/out
