@@ -1,1 +1,2 @@
 mod BadRangesLemmas
+pub mod TextLemmas

@@ -1,1 +1,2 @@
 pub mod BadRanges
+pub mod Texts
