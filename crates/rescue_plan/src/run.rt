@@ -6,7 +6,8 @@ ghost use Rattle.rescue_plan.specs.Running.{BeginsPlannedRun, IsBegun, PutsPlan,
 use crate::ending::PlanEnding;
 use block_list::tiles::Tiles;
 use crash_site::site::Site;
-use ddrescue_cli::run::{RunMap, run_rescue};
+use task_files::load::RunMap;
+use task_rescue::run::run_rescue;
 use plan_source::blank::BlankSite;
 use plan_source::loss::PlanLoss;
 use plan_source::source::{Origin, PlanSource};

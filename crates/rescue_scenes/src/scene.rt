@@ -14,7 +14,7 @@ use crate::stated::Stated;
 use crate::values::BYTES_LIMIT;
 use crate::verified::verify;
 use crash_site::memory::MemorySite;
-use ddrescue_cli::ending::Ending;
+use task_files::ending::Ending;
 use ddrescue_cli::rescue::ddrescue;
 use ddrescuelog_cli::ending::LogEnding;
 use ddrescuelog_cli::log::ddrescuelog;
