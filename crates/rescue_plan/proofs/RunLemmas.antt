@@ -9,7 +9,7 @@ use Rattle.block_list.specs.declared.status.Status.{Status}
 use Rattle.block_list.specs.declared.status.Status.TheVariants.{NonTried}
 use Rattle.save_resume.specs.MapNames.{MapNames}
 use Rattle.crash_site.specs.Calls.{Entry}
-use Rattle.faulty_source.specs.declared.memory.ReadEntry.{ReadEntry}
+use Rattle.faulty_source.specs.declared.journal.ReadEntry.{ReadEntry}
 use Rattle.faulty_source.specs.Journal.{Reading}
 use Rattle.faulty_source.specs.SourceState.{SourceState, Below, Stays}
 use Rattle.rescue_console.specs.declared.console.Channel.TheVariants.{Out}
