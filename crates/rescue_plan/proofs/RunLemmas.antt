@@ -36,9 +36,8 @@ use Rattle.rescue_core.proofs.PrepareLemmas.{change_is_made}
 use Rattle.rescue_core.specs.declared.settings.Settings.{Settings}
 use Rattle.rescue_core.specs.RunState.{RunState, names_in, setting_with, setting_in}
 use Rattle.rescue_command.specs.declared.options.Options.{Options}
-use Rattle.task_files.specs.Asked.{domain_asked}
+use Rattle.task_files.specs.Asked.{domain_asked, no_maps}
 use Rattle.task_files.specs.Settings.{settings_by}
-use Rattle.task_sample.specs.Sampled.{no_maps}
 use Rattle.plan_command.specs.Command.{Command, AreInLimits}
 use Rattle.plan_source.specs.declared.loss.PlanLoss.{PlanLoss}
 use Rattle.plan_source.specs.declared.loss.PlanLoss.TheVariants.{Memory, Console}

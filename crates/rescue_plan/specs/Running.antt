@@ -7,7 +7,7 @@ use Rattle.rescue_rules.specs.declared.stop.RunEnd.{RunEnd}
 use Rattle.rescue_rules.specs.declared.stop.RunEnd.TheVariants.{Done as RunDone, Stopped, SaveFailed}
 use Rattle.rescue_core.specs.RunState.{RunState}
 use Rattle.task_rescue.specs.Running.{IsRunOver}
-use Rattle.task_sample.specs.Sampled.{no_maps}
+use Rattle.task_files.specs.Asked.{no_maps}
 use Rattle.plan_command.specs.Command.{Command, AreInLimits}
 use Rattle.rescue_plan.specs.declared.ending.PlanEnding.{PlanEnding}
 use Rattle.rescue_plan.specs.declared.ending.PlanEnding.TheVariants.{Done, Usage, NoMap, MapRefused, SiteFault, ConsoleFault, NoMemory}

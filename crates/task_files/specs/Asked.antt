@@ -33,6 +33,10 @@ pub record Maps : Type 0 where
   pub test : Option (List Status)
   pub listed : Option (ℕ × ℕ)
 
+-- no map says anything of the positions
+abbrev pub no_maps : Maps
+no_maps = record { domain = None; test = None; listed = None }
+
 -- those from one position on, below another, if they are given
 abbrev pub in_list : (ℕ → Bool) → Option (ℕ × ℕ) → ℕ → Bool
 in_list domain None = domain

@@ -39,10 +39,10 @@ use Rattle.rescue_sample.proofs.SampleLemmas.{size_of}
 use Rattle.rescue_command.specs.Command.{Command, sample_command}
 use Rattle.task_files.specs.declared.ending.Ending.TheVariants.{Done}
 use Rattle.task_files.specs.declared.load.LoadedMap.{LoadedMap}
-use Rattle.task_files.specs.Asked.{ArePlacedBy, names_by}
+use Rattle.task_files.specs.Asked.{no_maps, ArePlacedBy, names_by}
 use Rattle.task_files.specs.Steps.{maps_read}
 use Rattle.task_rescue.specs.Running.{IsRunOver}
-use Rattle.task_sample.specs.Sampled.{no_maps, sample_setting, sample_start, IsLineOf, RanSample, RanToEnd, TellsSample}
+use Rattle.task_sample.specs.Sampled.{sample_setting, sample_start, IsLineOf, RanSample, RanToEnd, TellsSample}
 use Rattle.task_rescue.proofs.LastLemmas.{behind_all}
 use Rattle.task_rescue.proofs.EndLemmas.{behind_over}
 use Rattle.task_rescue.proofs.RanLemmas.{setting_is}

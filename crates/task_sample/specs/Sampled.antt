@@ -23,12 +23,8 @@ use Rattle.work_steps.specs.Parts.{only_calls}
 use Rattle.rescue_command.specs.Command.{sample_command}
 use Rattle.task_files.specs.declared.ending.Ending.{Ending}
 use Rattle.task_files.specs.declared.ending.Ending.TheVariants.{Done, NoMemory}
-use Rattle.task_files.specs.Asked.{Maps, setting_of}
+use Rattle.task_files.specs.Asked.{no_maps, setting_of}
 use Rattle.task_files.specs.Work.{rescue_faults}
-
--- no map says anything of the positions
-abbrev pub no_maps : Maps
-no_maps = record { domain = None; test = None; listed = None }
 
 -- what the rescue of a sample with so many bytes asks for; a run needs no names
 abbrev pub sample_setting : (end : ℕ) → Setting
