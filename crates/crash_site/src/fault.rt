@@ -4,8 +4,8 @@ ghost use Rattle.fault_count.specs.Counts.{raised};
 use crate::site::SiteFault;
 use fault_count::FaultCount;
 
-/// Counts a fault.
-pub(crate) fn fault(faults: &mut FaultCount) -> SiteFault
+/// Counts a fault, and answers it.
+pub fn fault(faults: &mut FaultCount) -> SiteFault
     ensures raised { faults.new ≡ raised faults.old }
     ensures later { faults.old ≤ faults.new }
 {

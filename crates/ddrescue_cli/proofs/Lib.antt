@@ -1,7 +1,18 @@
--- Other crates cite these.
-pub mod words
-pub mod runs
-pub mod sweeps
-pub mod promise
--- These are the crate's own.
-mod files
+pub mod AskedLemmas
+pub mod EarlyCut
+pub mod EarlyStops
+pub mod GoesLemmas
+pub mod LateLemmas
+pub mod PromiseLemmas
+pub mod RefusalLemmas
+pub mod RowLemmas
+pub mod SampleLemmas
+pub mod SaysLemmas
+pub mod SpareLemmas
+pub mod StillLemmas
+pub mod SweepGoes
+pub mod SweepSafely
+pub mod SweepWay
+pub mod SweepWords
+pub mod TaskLemmas
+pub mod WordFaults

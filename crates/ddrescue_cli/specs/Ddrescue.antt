@@ -16,19 +16,19 @@ use Rattle.sweep_rules.specs.SweepLaws.{AreGiven}
 use Rattle.work_steps.specs.Work.{Works}
 use Rattle.work_steps.specs.Parts.{only_calls}
 use Rattle.rescue_command.specs.Command.{Command, Task, Rescue, Fill, Generate, Sample, AskTask, AskQuiet}
-use Rattle.ddrescue_cli.specs.declared.ending.Ending.TheVariants.{NoMemory}
+use Rattle.task_files.specs.declared.ending.Ending.TheVariants.{NoMemory}
 use Rattle.ddrescue_cli.specs.Messages.{message_pieces}
-use Rattle.ddrescue_cli.specs.Maps.{AreAskedFor, AreMapsIn}
-use Rattle.ddrescue_cli.specs.Outside.{Outside, Agrees}
+use Rattle.task_files.specs.Maps.{AreAskedFor, AreMapsIn}
+use Rattle.task_files.specs.Outside.{Outside, Agrees}
 use Rattle.ddrescue_cli.specs.Told.{Told, across_of, calls_before, asked_of}
-use Rattle.ddrescue_cli.specs.Work.{Rescues, rescue_faults, rescue_rows}
-use Rattle.ddrescue_cli.specs.Names.{program_name}
-use Rattle.ddrescue_cli.specs.Sampled.{Samples, sample_rows}
-use Rattle.ddrescue_cli.specs.Modes.{AreMapsOfSweep, IsMapEnd, Fills, FillStops, Generates, GenerateStops, fill_setting}
-use Rattle.ddrescue_cli.specs.Answers.{SaysOfWords, Causes, drafting_left, IsUntouched}
-
+use Rattle.task_files.specs.Work.{Rescues, rescue_faults, rescue_rows}
+use Rattle.task_files.specs.Names.{program_name}
+use Rattle.task_sample.specs.Sampled.{Samples, sample_rows}
+use Rattle.task_sweeps.specs.Modes.{AreMapsOfSweep, IsMapEnd, Fills, FillStops, Generates, GenerateStops, fill_setting}
+use Rattle.task_files.specs.Answers.{SaysOfWords, Causes, drafting_left, IsUntouched}
 -- What is said on the console: nothing where the words ask for that; else the lines of the run, each by one put, and
 -- then the message of the answer, up to the first put that fails. Where the words ask for nothing to be said, a message
+
 -- comes only if memory ran out before they were read, and then nothing else was touched.
 pub data Says (lines : List (List ℕ)) (t : Told) : Type 0 where
   Nothing : AskQuiet t.words → t.console' ≡ t.console → Says lines t

@@ -8,11 +8,11 @@ use Rattle.rescue_rules.specs.declared.stop.Limit.TheVariants.{TooManyErrors, To
 use Rattle.rescue_console.specs.declared.console.Channel.TheVariants.{Err}
 use Rattle.rescue_console.specs.Speaking.{SpokenPiece}
 use Rattle.fault_texts.specs.Texts.{numbered_text, usage_text, error_text, fault_text, message_of}
-use Rattle.ddrescue_cli.specs.declared.ending.Which.{Which}
-use Rattle.ddrescue_cli.specs.declared.ending.Which.TheVariants.{DomainMap, TestMap, RunMap}
-use Rattle.ddrescue_cli.specs.declared.ending.Ending.{Ending}
-use Rattle.ddrescue_cli.specs.declared.ending.Ending.TheVariants.{Done, Usage, SameName, NoMap, SourceFault, NotRegular, MapRefused, SourceLost, EmptyPattern, PatternUnread, NoOutput, SiteFault, LimitMet, NoMemory}
-use Rattle.ddrescue_cli.specs.Names.{program_name}
+use Rattle.task_files.specs.declared.ending.Which.{Which}
+use Rattle.task_files.specs.declared.ending.Which.TheVariants.{DomainMap, TestMap, RunMap}
+use Rattle.task_files.specs.declared.ending.Ending.{Ending}
+use Rattle.task_files.specs.declared.ending.Ending.TheVariants.{Done, Usage, SameName, NoMap, SourceFault, NotRegular, MapRefused, SourceLost, EmptyPattern, PatternUnread, NoOutput, SiteFault, LimitMet, NoMemory}
+use Rattle.task_files.specs.Names.{program_name}
 
 -- which map it is
 abbrev pub which_text : Which → List ℕ

@@ -10,10 +10,10 @@ use Rattle.rescue_rules.specs.Setting.{Setting}
 use Rattle.rescue_rules.specs.Stops.{Behind}
 use Rattle.rescue_core.specs.Across.{Across}
 use Rattle.rescue_command.specs.Command.{Command}
-use Rattle.ddrescue_cli.specs.declared.ending.Ending.{Ending}
-use Rattle.ddrescue_cli.specs.Names.{program_name}
-use Rattle.ddrescue_cli.specs.Asked.{setting_of}
-use Rattle.ddrescue_cli.specs.Outside.{Outside}
+use Rattle.task_files.specs.declared.ending.Ending.{Ending}
+use Rattle.task_files.specs.Names.{program_name}
+use Rattle.task_files.specs.Asked.{setting_of}
+use Rattle.task_files.specs.Outside.{Outside}
 
 -- the words, the answer, and what each object tells before the call and after it
 pub record Told : Type 0 where

@@ -1,11 +1,9 @@
 -- How an input in memory fails and ends.
-use Rattle.std.specs.Prelude.{◌≡◌, ◌⊎◌, ⊤, ℕ, ◌+◌, ◌-◌, ◌<◌, ◌≤◌, Bool, true, false, not, ◌&&◌, List, [], ◌∷◌, length, map, slice_range, Option, Some, None, nat_le, nat_lt, if◌then◌else◌}
+use Rattle.std.specs.Prelude.{◌≡◌, ◌⊎◌, ⊤, ℕ, ◌+◌, ◌-◌, ◌<◌, ◌≤◌, Bool, true, false, not, ◌&&◌, List, [], ◌∷◌, map, Option, Some, None, nat_le, nat_lt, if◌then◌else◌}
 use Rattle.std.specs.List.{list_any}
-use Rattle.faulty_source.specs.declared.memory.BadRange.{BadRange}
-use Rattle.faulty_source.specs.declared.memory.ReadEntry.{ReadEntry}
+use Rattle.faulty_source.specs.declared.bad_range.BadRange.{BadRange}
 use Rattle.faulty_source.specs.declared.source.Got.{Got}
 use Rattle.faulty_source.specs.Got.{count_of, is_end}
-use Rattle.faulty_source.specs.Journal.{Reading}
 
 -- the greatest length of a name under which an input in memory opens, in bytes
 abbrev pub name_limit : ℕ
@@ -52,12 +50,3 @@ bad_after bad pos asked got =
 abbrev pub AreSeparate : ℕ → List BadRange → Type 0
 AreSeparate low [] = ⊤
 AreSeparate low (r ∷ rs) = (low ≤ r.from) × (r.from < r.to) × AreSeparate r.to rs
-
--- what an entry of the list of reads says of a read that gave its bytes
-abbrev pub entry_of : Reading → ReadEntry
-entry_of r = record { pos = r.pos; asked = r.asked; given = length r.given; ended = r.ended }
-
--- the read that an entry stands for
-abbrev pub reading_of : List ℕ → ReadEntry → Reading
-reading_of bytes e =
-    record { pos = e.pos; asked = e.asked; given = slice_range bytes e.pos (e.pos + e.given); ended = e.ended }

@@ -1,6 +1,7 @@
-//! What a rescue reads from: a disk, or memory that fails where a test wants it.
+//! What a rescue reads from: an input whose reads may fail.
 #![tactic(auto)]
 
+pub mod bad_range;
 pub mod file;
-pub mod memory;
+pub mod journal;
 pub mod source;

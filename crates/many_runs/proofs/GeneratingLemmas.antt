@@ -30,17 +30,17 @@ use Rattle.sweep_rules.proofs.SweepLemmas.{piece_within}
 use Rattle.option_words.specs.Words.{command_line}
 use Rattle.rescue_command.specs.Command.{Generate, HasMapfile}
 use Rattle.rescue_command.proofs.CommandLemmas.{reading_asks}
-use Rattle.ddrescue_cli.specs.Maps.{Found}
-use Rattle.ddrescue_cli.specs.Names.{program_name}
-use Rattle.ddrescue_cli.specs.Outside.{Outside}
+use Rattle.task_files.specs.Maps.{Found}
+use Rattle.task_files.specs.Names.{program_name}
+use Rattle.task_files.specs.Outside.{Outside}
 use Rattle.ddrescue_cli.specs.Told.{calls_before, files_of, asked_of}
-use Rattle.ddrescue_cli.specs.Modes.{Generates, GenerateStops}
+use Rattle.task_sweeps.specs.Modes.{Generates, GenerateStops}
 use Rattle.ddrescue_cli.specs.Ddrescue.{GenerateModePromise}
-use Rattle.ddrescue_cli.specs.ModeLaws.{promised_generate}
-use Rattle.ddrescue_cli.proofs.words.AskedLemmas.{sensible_in}
-use Rattle.ddrescue_cli.proofs.runs.EarlyCut.{EarlyCut, early_cut}
-use Rattle.ddrescue_cli.proofs.sweeps.SweepGoes.{Unbegun, Begun}
-use Rattle.ddrescue_cli.proofs.sweeps.SweepWay.{SweepWay, InMaps, BehindMaps, generate_way}
+use Rattle.ddrescue_laws.specs.ModeLaws.{promised_generate}
+use Rattle.ddrescue_cli.proofs.AskedLemmas.{sensible_in}
+use Rattle.ddrescue_cli.proofs.EarlyCut.{EarlyCut, early_cut}
+use Rattle.ddrescue_cli.proofs.SweepGoes.{Unbegun, Begun}
+use Rattle.ddrescue_cli.proofs.SweepWay.{SweepWay, InMaps, BehindMaps, generate_way}
 use Rattle.many_runs.specs.Owed.{Target, last_given, HoldsLast, Owed, IsOwedIn, IsOwedAt}
 use Rattle.many_runs.specs.Chain.{looked_at, found_by}
 use Rattle.many_runs.specs.Laws.{GeneratingOwesOn}

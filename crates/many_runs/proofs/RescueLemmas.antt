@@ -19,15 +19,15 @@ use Rattle.rescue_rules.specs.Stops.{Behind, files_before, LeftAt, has_barrier, 
 use Rattle.rescue_rules.proofs.BeforeLemmas.{left_before, left_here, disk_before}
 use Rattle.rescue_core.specs.RunState.{names_in}
 use Rattle.rescue_command.specs.Command.{Command, Rescue}
-use Rattle.ddrescue_cli.specs.Maps.{found_in}
-use Rattle.ddrescue_cli.specs.Names.{program_name}
-use Rattle.ddrescue_cli.specs.Outside.{Outside}
+use Rattle.task_files.specs.Maps.{found_in}
+use Rattle.task_files.specs.Names.{program_name}
+use Rattle.task_files.specs.Outside.{Outside}
 use Rattle.ddrescue_cli.specs.Told.{Told, calls_before, files_of, asked_of}
 use Rattle.ddrescue_cli.specs.Ddrescue.{Promise}
-use Rattle.ddrescue_cli.specs.Work.{Rescues, rescue_faults, rescue_rows}
-use Rattle.ddrescue_cli.specs.Laws.{setting_promised, done_by}
-use Rattle.ddrescue_cli.proofs.words.AskedLemmas.{sensible_to}
-use Rattle.ddrescue_cli.proofs.promise.GoesLemmas.{work_goes}
+use Rattle.task_files.specs.Work.{Rescues, rescue_faults, rescue_rows}
+use Rattle.ddrescue_laws.specs.Laws.{setting_promised, done_by}
+use Rattle.ddrescue_cli.proofs.AskedLemmas.{sensible_to}
+use Rattle.ddrescue_cli.proofs.GoesLemmas.{work_goes}
 use Rattle.option_words.specs.Words.{command_line}
 use Rattle.work_steps.specs.Work.{Works}
 use Rattle.many_runs.specs.Owed.{Target, pairs_of, Owed, IsOwedIn, IsOwedAt}

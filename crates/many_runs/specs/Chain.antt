@@ -7,11 +7,11 @@ use Rattle.rescue_rules.specs.Work.{Gain}
 use Rattle.rescue_rules.specs.Stops.{Behind, LeftAt, has_barrier}
 use Rattle.sweep_rules.specs.Sweep.{Swept}
 use Rattle.rescue_command.specs.Command.{Command, Generate, Asks, AskTask}
-use Rattle.ddrescue_cli.specs.Asked.{output_from}
+use Rattle.task_files.specs.Asked.{output_from}
 use Rattle.ddrescue_cli.specs.Told.{Told, calls_before}
 use Rattle.ddrescue_cli.specs.Ddrescue.{Ddrescue}
-use Rattle.ddrescue_cli.specs.Laws.{setting_promised, done_by}
-use Rattle.ddrescue_cli.specs.ModeLaws.{promised_generate}
+use Rattle.ddrescue_laws.specs.Laws.{setting_promised, done_by}
+use Rattle.ddrescue_laws.specs.ModeLaws.{promised_generate}
 use Rattle.many_runs.specs.Owed.{Target, pairs_of}
 
 -- these files, all durable, on which no call was made yet

@@ -5,7 +5,7 @@ use Rattle.std.proofs.lemmas.List.{map-append, take-replicate, drop-replicate}
 use Rattle.std.proofs.lemmas.List.Elements.{All-append, All-cons, All-nil, All-same}
 use Rattle.std.specs.List.{slice_range}
 use Rattle.block_list.specs.declared.status.Status.{Status}
-use Rattle.faulty_source.specs.declared.memory.ReadEntry.{ReadEntry}
+use Rattle.faulty_source.specs.declared.journal.ReadEntry.{ReadEntry}
 use Rattle.faulty_source.specs.declared.source.Got.{Got}
 use Rattle.faulty_source.specs.declared.source.Got.TheVariants.{Read, End}
 use Rattle.faulty_source.specs.Got.{count_of, is_end}

@@ -3,7 +3,7 @@ use Rattle.std.proofs.Common.{◌≡◌, ℕ, ◌+◌, ◌-◌, ◌<◌, Bool, f
 use Rattle.std.proofs.lemmas.List.{append-nil, drop_at, take_at, take-append-drop}
 use Rattle.std.proofs.lemmas.Grind.{flat_map-append}
 use Rattle.fault_count.specs.Counts.{raised}
-use Rattle.faulty_source.specs.declared.memory.ReadEntry.{ReadEntry}
+use Rattle.faulty_source.specs.declared.journal.ReadEntry.{ReadEntry}
 use Rattle.rescue_console.specs.declared.console.Channel.TheVariants.{Out}
 use Rattle.rescue_console.specs.ConsoleState.{ConsoleState, TextGoesOn, StaysBeside, Puts, PutsPart}
 use Rattle.plan_source.specs.declared.loss.PlanLoss.{PlanLoss}

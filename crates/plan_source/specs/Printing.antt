@@ -2,7 +2,7 @@
 use Rattle.std.specs.Prelude.{◌≡◌, ℕ, ◌-◌, ◌<◌, Bool, true, false, IsTrue, List, [], ◌++◌, length, take, drop, Option, Some, None}
 use Rattle.fault_count.specs.Counts.{Rose}
 use Rattle.fault_count.specs.Plan.{no_plan}
-use Rattle.faulty_source.specs.declared.memory.ReadEntry.{ReadEntry}
+use Rattle.faulty_source.specs.declared.journal.ReadEntry.{ReadEntry}
 use Rattle.rescue_console.specs.declared.console.Channel.TheVariants.{Out}
 use Rattle.rescue_console.specs.ConsoleState.{ConsoleState, TextGoesOn, Puts, StaysBeside}
 use Rattle.plan_source.specs.declared.loss.PlanLoss.{PlanLoss}

@@ -5,7 +5,7 @@ ghost use Rattle.arrayvec.specs.ArrayVec.{array_vec_len};
 ghost use Rattle.plan_source.specs.Lines.{line_of_entry};
 
 use arrayvec::ArrayVec;
-use faulty_source::memory::ReadEntry;
+use faulty_source::journal::ReadEntry;
 use itoa::Buffer;
 
 /// A line: three numbers of up to 40 digits, each with a byte behind it.

@@ -7,7 +7,7 @@ use crate::line::line_of;
 use crate::loss::PlanLoss;
 use block_list::tiles::Tiles;
 use fault_count::FaultCount;
-use faulty_source::memory::ReadEntry;
+use faulty_source::journal::ReadEntry;
 use faulty_source::source::{Got, Source, SourceFault, SourceLost};
 use rescue_console::console::{Channel, Console, ConsoleFault};
 use rescue_domain::test_source::count_finished;

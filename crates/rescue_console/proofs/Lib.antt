@@ -2,6 +2,3 @@
 pub mod SpeakingLemmas
 pub mod AnswerLemmas
 pub mod PutLemmas
--- These are the crate's own.
-mod ClockLemmas
-mod FeedLemmas

@@ -1,5 +1,4 @@
 pub mod ClockState
 pub mod ConsoleState
 pub mod FeedState
-pub mod MemoryState
 pub mod Speaking

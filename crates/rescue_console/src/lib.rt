@@ -5,5 +5,4 @@ pub mod clock;
 pub mod console;
 pub mod feed;
 pub mod laws;
-pub mod memory;
 pub mod system;

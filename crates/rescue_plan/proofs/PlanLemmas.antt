@@ -21,7 +21,7 @@ use Rattle.rescue_rules.proofs.SearchLemmas.{wanted_found, request_seen}
 use Rattle.rescue_command.specs.declared.options.Options.{Options}
 use Rattle.rescue_command.proofs.CommandLemmas.{not_above}
 use Rattle.rescue_sample.specs.Line.{IsStill}
-use Rattle.ddrescue_cli.specs.Asked.{setting_of}
+use Rattle.task_files.specs.Asked.{setting_of}
 use Rattle.plan_command.specs.Command.{ArePlain}
 use Rattle.plan_source.specs.Lines.{PlannedRead, planned}
 use Rattle.rescue_plan.specs.Plan.{IsPlannedIn, BeginsPlan, IsPlan, untried_map, plan_setting, plan_start}

@@ -9,7 +9,7 @@ use Rattle.block_list.specs.declared.status.Status.{Status}
 use Rattle.block_list.specs.declared.status.Status.TheVariants.{NonTried}
 use Rattle.save_resume.specs.MapNames.{MapNames}
 use Rattle.crash_site.specs.Calls.{Entry}
-use Rattle.faulty_source.specs.declared.memory.ReadEntry.{ReadEntry}
+use Rattle.faulty_source.specs.declared.journal.ReadEntry.{ReadEntry}
 use Rattle.faulty_source.specs.Journal.{Reading}
 use Rattle.faulty_source.specs.SourceState.{SourceState, Below, Stays}
 use Rattle.rescue_console.specs.declared.console.Channel.TheVariants.{Out}
@@ -36,9 +36,8 @@ use Rattle.rescue_core.proofs.PrepareLemmas.{change_is_made}
 use Rattle.rescue_core.specs.declared.settings.Settings.{Settings}
 use Rattle.rescue_core.specs.RunState.{RunState, names_in, setting_with, setting_in}
 use Rattle.rescue_command.specs.declared.options.Options.{Options}
-use Rattle.ddrescue_cli.specs.Asked.{domain_asked}
-use Rattle.ddrescue_cli.specs.Running.{settings_by}
-use Rattle.ddrescue_cli.specs.Sampled.{no_maps}
+use Rattle.task_files.specs.Asked.{domain_asked, no_maps}
+use Rattle.task_files.specs.Settings.{settings_by}
 use Rattle.plan_command.specs.Command.{Command, AreInLimits}
 use Rattle.plan_source.specs.declared.loss.PlanLoss.{PlanLoss}
 use Rattle.plan_source.specs.declared.loss.PlanLoss.TheVariants.{Memory, Console}

@@ -12,8 +12,7 @@ use Rattle.rescue_rules.specs.Start.{IsFresh}
 use Rattle.rescue_console.specs.ConsoleState.{ConsoleState, TextGoesOn}
 use Rattle.rescue_command.specs.declared.options.Options.{Options}
 use Rattle.rescue_command.specs.Command.{Command as RescueCommand}
-use Rattle.ddrescue_cli.specs.Asked.{setting_of}
-use Rattle.ddrescue_cli.specs.Sampled.{no_maps}
+use Rattle.task_files.specs.Asked.{setting_of, no_maps}
 use Rattle.plan_command.specs.Command.{Command, Asks, ArePlain}
 use Rattle.rescue_plan.specs.declared.ending.PlanEnding.{PlanEnding}
 use Rattle.rescue_plan.specs.declared.ending.PlanEnding.TheVariants.{Done, Usage, NoMap, MapRefused, SiteFault, ConsoleFault, NoMemory}

@@ -13,8 +13,7 @@ use Rattle.rescue_rules.specs.Beginning.{machine_over}
 use Rattle.rescue_rules.specs.Events.{reads_of}
 use Rattle.rescue_command.specs.declared.options.Options.{Options}
 use Rattle.rescue_sample.specs.Line.{IsStill}
-use Rattle.ddrescue_cli.specs.Asked.{setting_asked}
-use Rattle.ddrescue_cli.specs.Sampled.{no_maps}
+use Rattle.task_files.specs.Asked.{setting_asked, no_maps}
 use Rattle.plan_source.specs.Lines.{PlannedRead, planned}
 
 -- the map of an input that wasn't tried

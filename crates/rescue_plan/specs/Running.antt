@@ -6,8 +6,8 @@ use Rattle.rescue_console.specs.ConsoleState.{ConsoleState, Puts}
 use Rattle.rescue_rules.specs.declared.stop.RunEnd.{RunEnd}
 use Rattle.rescue_rules.specs.declared.stop.RunEnd.TheVariants.{Done as RunDone, Stopped, SaveFailed}
 use Rattle.rescue_core.specs.RunState.{RunState}
-use Rattle.ddrescue_cli.specs.Running.{IsRunOver}
-use Rattle.ddrescue_cli.specs.Sampled.{no_maps}
+use Rattle.task_rescue.specs.Running.{IsRunOver}
+use Rattle.task_files.specs.Asked.{no_maps}
 use Rattle.plan_command.specs.Command.{Command, AreInLimits}
 use Rattle.rescue_plan.specs.declared.ending.PlanEnding.{PlanEnding}
 use Rattle.rescue_plan.specs.declared.ending.PlanEnding.TheVariants.{Done, Usage, NoMap, MapRefused, SiteFault, ConsoleFault, NoMemory}

@@ -1,13 +1,13 @@
 //! What a plan begins with.
 ghost use Rattle.std.specs.Prelude.{◌≡◌, ◌<◌, ◌^◌, IfOk};
 ghost use Rattle.rescue_command.specs.Command.{AreInLimits as AreOptionsInLimits};
-ghost use Rattle.ddrescue_cli.specs.Running.{settings_by};
+ghost use Rattle.task_files.specs.Settings.{settings_by};
 ghost use Rattle.plan_command.specs.Command.{AreInLimits, told_by};
 ghost use Rattle.rescue_plan.specs.Running.{BeginsPlannedRun, untried_map};
 
 use block_list::plain_tiles::PlainTiles;
 use block_list::tiles::{NoMemory, Tiles};
-use ddrescue_cli::run::RunMap;
+use task_files::load::RunMap;
 use mapfile_text::heading::{Heading, Program};
 use paged_blocks::paged_tiles::PagedTiles;
 use plan_command::command::Command;

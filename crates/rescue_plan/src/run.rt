@@ -6,15 +6,16 @@ ghost use Rattle.rescue_plan.specs.Running.{BeginsPlannedRun, IsBegun, PutsPlan,
 use crate::ending::PlanEnding;
 use block_list::tiles::Tiles;
 use crash_site::site::Site;
-use ddrescue_cli::run::{RunMap, run_rescue};
+use memory_console::memory::{MemoryClock, MemoryConsole};
 use plan_source::blank::BlankSite;
 use plan_source::loss::PlanLoss;
 use plan_source::source::{Origin, PlanSource};
 use rescue_console::console::Console;
-use rescue_console::memory::{MemoryClock, MemoryConsole};
 use rescue_core::phases::{Copying, Rescue};
 use rescue_rules::stop::RunEnd;
 use std::alloc::Global;
+use task_files::load::RunMap;
+use task_rescue::run::run_rescue;
 
 /// How a plan ended, by why reads behind its run are lost, if they are, and by how that ended.
 fn ending_of(lost: Option<PlanLoss>, end: RunEnd) -> PlanEnding

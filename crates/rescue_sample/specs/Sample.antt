@@ -1,7 +1,7 @@
 -- A sample: an input that is computed, with bad sectors that are drawn.
 use Rattle.std.specs.Prelude.{◌≡◌, ℕ, zero, suc, ◌+◌, ◌*◌, ◌/◌, ◌%◌, ◌^◌, ◌<◌, ◌≤◌, Bool, true, false, not, ◌||◌, nat_eq, List, length, map, slice_range, All, count_by}
 use Rattle.std.specs.List.{list_any, range_with_len}
-use Rattle.faulty_source.specs.declared.memory.ReadEntry.{ReadEntry}
+use Rattle.faulty_source.specs.declared.journal.ReadEntry.{ReadEntry}
 use Rattle.faulty_source.specs.Journal.{Reading, is_failed}
 use Rattle.rescue_sample.specs.declared.source.Answered.{Answered}
 

@@ -5,7 +5,7 @@ ghost use Rattle.rescue_sample.specs.Sample.{IsSampleAnswer, bad_sectors, entry_
 use crate::draw::{answer, draw_sectors, fill};
 use block_list::tiles::NoMemory;
 use fault_count::FaultCount;
-use faulty_source::memory::ReadEntry;
+use faulty_source::journal::ReadEntry;
 use faulty_source::source::{Got, Source, SourceFault, SourceLost};
 use std::alloc::Global;
 

@@ -1,5 +1,5 @@
 use Rattle.std.proofs.Common.{◌≡◌, ◌≤◌, ◌<◌, ℕ, List, [], ◌∷◌, ◌++◌, refl, arith}
-use Rattle.faulty_source.specs.declared.memory.BadRange.{BadRange}
+use Rattle.faulty_source.specs.declared.bad_range.BadRange.{BadRange}
 use Rattle.faulty_source.specs.Memory.{AreSeparate}
 use Rattle.rescue_scenes.specs.BadRanges.{end_of}
 

@@ -1,6 +1,6 @@
 -- Bad ranges in their order.
 use Rattle.std.specs.Prelude.{ℕ, List, [], ◌∷◌}
-use Rattle.faulty_source.specs.declared.memory.BadRange.{BadRange}
+use Rattle.faulty_source.specs.declared.bad_range.BadRange.{BadRange}
 
 -- where the last range ends, or a place in front of all
 abbrev pub end_of : ℕ → List BadRange → ℕ

@@ -2,8 +2,8 @@
 use crate::refusal::Refusal;
 use crate::shown::append_escaped;
 use block_list::tiles::Tiles;
-use crash_site::memory::MemorySite;
 use mapfile_text::read::{MapError, Mode, ReadMap, read_map};
+use memory_site::memory::MemorySite;
 use std::alloc::Global;
 use std::io::Write;
 

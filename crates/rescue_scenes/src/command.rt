@@ -3,7 +3,7 @@ use crate::fields::{Field, Fields};
 use crate::kinds::{Left, read_kind};
 use crate::refusal::Refusal;
 use crate::values::{read_bytes, read_number, read_text};
-use faulty_source::memory::BadRange;
+use faulty_source::bad_range::BadRange;
 use option_words::words::Words;
 use std::alloc::Global;
 

@@ -1,6 +1,6 @@
 //! What a stop may leave, by its names.
 use crate::refusal::Refusal;
-pub(crate) use crash_site::memory::stop::Left;
+pub(crate) use memory_site::memory::stop::Left;
 
 /// Each kind, in the order in which stops are played.
 pub(crate) const KINDS: [(&str, Left); 3] = [

@@ -1,11 +1,11 @@
 //! A run of ddrescuepart.
 use crate::refusal::Refusal;
 use crate::results::{append_console, append_ending, append_reads};
-use faulty_source::memory::MemorySource;
+use memory_console::memory::MemoryConsole;
+use memory_source::memory::MemorySource;
 use option_words::words::Words;
 use partition_domain::ending::PartEnding;
 use partition_domain::part::ddrescuepart;
-use rescue_console::memory::MemoryConsole;
 use std::alloc::Global;
 
 /// Runs ddrescuepart, and adds its results. Where it finds no memory there is no answer: a scene can't ask for that.

@@ -1,8 +1,8 @@
 //! Runs of ddrescueplan.
 use crate::refusal::Refusal;
-use crash_site::memory::MemorySite;
+use memory_console::memory::MemoryConsole;
+use memory_site::memory::MemorySite;
 use option_words::words::Words;
-use rescue_console::memory::MemoryConsole;
 use rescue_plan::ending::PlanEnding;
 use rescue_plan::plan::ddrescueplan;
 use std::alloc::Global;

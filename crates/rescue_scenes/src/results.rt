@@ -1,11 +1,11 @@
 //! What came of a run of one of the programs.
 use crate::refusal::Refusal;
 use crate::shown::append_lines;
-use crash_site::memory::MemorySite;
 use crash_site::site::SiteCall;
-use faulty_source::memory::ReadEntry;
+use faulty_source::journal::ReadEntry;
+use memory_console::memory::MemoryConsole;
+use memory_site::memory::MemorySite;
 use rescue_console::console::Channel;
-use rescue_console::memory::MemoryConsole;
 use std::fmt::Debug;
 use std::io::Write;
 

@@ -1,6 +1,6 @@
 //! A scene: an input, files, and the runs of the programs that go over them.
 ghost use Rattle.std.specs.Prelude.{◌≡◌, false};
-ghost use Rattle.crash_site.specs.MemoryState.{state_of};
+ghost use Rattle.memory_site.specs.MemoryState.{state_of};
 
 use crate::blocks::{append_blocks, append_maps};
 use crate::command::{Object, Stops, View};
@@ -13,14 +13,15 @@ use crate::shown::{append_escaped, append_lines, append_shown};
 use crate::stated::Stated;
 use crate::values::BYTES_LIMIT;
 use crate::verified::verify;
-use crash_site::memory::MemorySite;
-use ddrescue_cli::ending::Ending;
+use task_files::ending::Ending;
 use ddrescue_cli::rescue::ddrescue;
 use ddrescuelog_cli::ending::LogEnding;
 use ddrescuelog_cli::log::ddrescuelog;
-use faulty_source::memory::{BadRange, MemorySource};
+use faulty_source::bad_range::BadRange;
+use memory_console::memory::{MemoryClock, MemoryConsole, MemoryFeed};
+use memory_site::memory::MemorySite;
+use memory_source::memory::MemorySource;
 use option_words::words::Words;
-use rescue_console::memory::{MemoryClock, MemoryConsole, MemoryFeed};
 use std::alloc::Global;
 use std::io::Write;
 

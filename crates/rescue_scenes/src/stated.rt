@@ -2,7 +2,8 @@
 ghost use Rattle.std.specs.Prelude.{◌≡◌, [], ◌∷◌, ◌++◌, IfOk, OnOk, OnErr};
 
 use crate::refusal::Refusal;
-use faulty_source::memory::{BadRange, MemorySource};
+use faulty_source::bad_range::BadRange;
+use memory_source::memory::MemorySource;
 use std::alloc::Global;
 use std::marker::Model;
 
@@ -22,7 +23,7 @@ pub(crate) struct BadRanges {
 
 impl Model for BadRanges {
     ghost use Rattle.std.specs.Prelude.{List, ◌≡◌};
-    ghost use Rattle.faulty_source.specs.declared.memory.BadRange.{BadRange};
+    ghost use Rattle.faulty_source.specs.declared.bad_range.BadRange.{BadRange};
     ghost use Rattle.faulty_source.specs.Memory.{AreSeparate};
     ghost use Rattle.rescue_scenes.specs.BadRanges.{end_of};
 

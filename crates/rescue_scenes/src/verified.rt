@@ -1,14 +1,14 @@
 //! Runs of ddrescueverify.
 ghost use Rattle.std.specs.Prelude.{◌≡◌, false};
-ghost use Rattle.crash_site.specs.MemoryState.{state_of};
+ghost use Rattle.memory_site.specs.MemoryState.{state_of};
 
 use crate::refusal::Refusal;
-use crash_site::memory::MemorySite;
 use ddrescueverify_cli::ending::VerifyEnding;
 use ddrescueverify_cli::verify::ddrescueverify;
-use faulty_source::memory::MemorySource;
+use memory_console::memory::MemoryConsole;
+use memory_site::memory::MemorySite;
+use memory_source::memory::MemorySource;
 use option_words::words::Words;
-use rescue_console::memory::MemoryConsole;
 use std::alloc::Global;
 
 /// Runs ddrescueverify. Where it finds no memory there is no answer: a scene can't ask for that.

@@ -38,10 +38,10 @@ use Rattle.rescue_core.specs.Across.{Across}
 use Rattle.rescue_core.specs.RunState.{RunState, setting_in}
 use Rattle.rescue_core.specs.Closing.{LastSave, Saved, Unsaved}
 use Rattle.copy_passes.specs.Turns.{Went}
-use Rattle.ddrescue_cli.specs.Running.{WentToEnd}
-use Rattle.ddrescue_cli.proofs.runs.EndLemmas.{behind_over, finished_alike}
-use Rattle.ddrescue_cli.proofs.runs.LastLemmas.{behind_all}
-use Rattle.ddrescue_cli.proofs.runs.DoneLemmas.{last_finished}
+use Rattle.task_rescue.specs.Running.{WentToEnd}
+use Rattle.task_rescue.proofs.EndLemmas.{behind_over, finished_alike}
+use Rattle.task_rescue.proofs.LastLemmas.{behind_all}
+use Rattle.ddrescue_laws.proofs.DoneLemmas.{last_finished}
 use Rattle.safe_turns.specs.UnderWay.{StillComes, Now, Later, IsUnderWay}
 use Rattle.safe_turns.specs.Ended.{IsLastSaved, IsWellEnded}
 use Rattle.safe_turns.specs.EndLaws.{PhasesEndWell, DoneEndsWell, StoppedIsSaved, WholeRunIsHeld}

@@ -28,7 +28,7 @@ use Rattle.rescue_core.specs.Closing.{Closes}
 use Rattle.copy_passes.specs.Turns.{Went}
 use Rattle.trim_scrape.specs.Behind.{IsBehind}
 use Rattle.trim_scrape.specs.Endings.{EndsWell}
-use Rattle.ddrescue_cli.specs.Running.{WentToEnd}
+use Rattle.task_rescue.specs.Running.{WentToEnd}
 use Rattle.safe_turns.specs.Safe.{IsHeldIn, IsSafe}
 use Rattle.safe_turns.specs.Laws.{IsLeftWithin}
 use Rattle.safe_turns.specs.UnderWay.{IsUnderWay, EndsWellSince}

@@ -1,7 +1,7 @@
 use Rattle.rescue_command.specs.Command.{told_by}
 use Rattle.ddrescue_cli.specs.declared.aim.Aim.TheVariants.{Rescue as ToRescue, Fill as ToFill, Generate as ToGenerate}
-use Rattle.ddrescue_cli.proofs.runs.SampledLemmas.{sample_kept}
-use Rattle.ddrescue_cli.proofs.promise.TaskLemmas.{asked_task, never_sampled}
+use Rattle.ddrescue_cli.proofs.SampleLemmas.{sample_kept}
+use Rattle.ddrescue_cli.proofs.TaskLemmas.{asked_task, never_sampled}
 use Rattle.ddrescue_cli.proofs.rescue.work_at.Goals as goal
 
 pub returns-in-Sample-clause-promise : goal.returns-in-Sample-clause-promise

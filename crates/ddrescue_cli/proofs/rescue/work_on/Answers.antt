@@ -1,9 +1,9 @@
 use Rattle.option_words.specs.Words.{command_line}
 use Rattle.rescue_command.specs.Command.{told_by}
-use Rattle.ddrescue_cli.specs.Names.{program_name}
-use Rattle.ddrescue_cli.proofs.words.ApartLemmas.{named_apart}
-use Rattle.ddrescue_cli.proofs.promise.StillLemmas.{plan_kept}
-use Rattle.ddrescue_cli.proofs.promise.TaskLemmas.{files_for, quiet_for, planned_for, named_by_plan, task_kept}
+use Rattle.task_files.specs.Names.{program_name}
+use Rattle.task_files.proofs.ApartLemmas.{named_apart}
+use Rattle.ddrescue_cli.proofs.StillLemmas.{plan_kept}
+use Rattle.ddrescue_cli.proofs.TaskLemmas.{files_for, quiet_for, planned_for, named_by_plan, task_kept}
 use Rattle.ddrescue_cli.proofs.rescue.work_on.Goals as goal
 
 pub returns-in-Err-clause-promise : goal.returns-in-Err-clause-promise

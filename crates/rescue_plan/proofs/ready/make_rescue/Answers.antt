@@ -9,9 +9,9 @@ use Rattle.rescue_domain.specs.Parts.{covers}
 use Rattle.rescue_rules.specs.Preparation.{prepared}
 use Rattle.rescue_core.specs.RunState.{RunState, started}
 use Rattle.rescue_command.specs.declared.options.Options.{Options}
-use Rattle.ddrescue_cli.specs.Asked.{ArePlacedBy}
-use Rattle.ddrescue_cli.specs.Sampled.{no_maps}
-use Rattle.ddrescue_cli.proofs.runs.BeginLemmas.{begun_over, shows_nothing, short_made, sound_settings, suits_made}
+use Rattle.task_files.specs.Asked.{ArePlacedBy, no_maps}
+use Rattle.task_rescue.proofs.BeginLemmas.{begun_over, shows_nothing, short_made, suits_made}
+use Rattle.task_files.proofs.PlacedLemmas.{sound_settings}
 use Rattle.plan_command.specs.Command.{length_limit}
 use Rattle.rescue_domain.proofs.PlaceLemmas.{whole_from}
 use Rattle.rescue_plan.specs.Plan.{untried_map}

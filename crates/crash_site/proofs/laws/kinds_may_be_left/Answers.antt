@@ -1,5 +1,0 @@
-use Rattle.crash_site.proofs.LeftLemmas.{kind_stands}
-use Rattle.crash_site.proofs.laws.kinds_may_be_left.Goals as goal
-
-pub returns : goal.returns
-returns c = kind_stands

@@ -1,5 +1,0 @@
-use Rattle.crash_site.proofs.OldestLemmas.{oldest_left}
-use Rattle.crash_site.proofs.laws.oldest_is_durable.Goals as goal
-
-pub returns : goal.returns
-returns c = oldest_left

@@ -1,5 +1,0 @@
-use Rattle.crash_site.proofs.LooseLemmas.{unsynced_left}
-use Rattle.crash_site.proofs.laws.unsynced_is_loose.Goals as goal
-
-pub returns : goal.returns
-returns c = unsynced_left

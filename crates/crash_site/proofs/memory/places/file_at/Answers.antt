@@ -1,6 +1,0 @@
-use Rattle.crash_site.proofs.PlaceLemmas.{file_found}
-use Rattle.crash_site.proofs.memory.places.file_at.Goals as goal
-
-pub returns : goal.returns
-returns c = file_found c.args.places.now c.args.name.now c.in_ok-i.i c.index-places-i.result c.as_ref.result
-    c.in_ok-i.ensures c.as_ref.ensures.value

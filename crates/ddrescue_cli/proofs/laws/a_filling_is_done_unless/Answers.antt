@@ -1,5 +1,0 @@
-use Rattle.ddrescue_cli.proofs.sweeps.SweepComplete.{fill_is_done_unless}
-use Rattle.ddrescue_cli.proofs.laws.a_filling_is_done_unless.Goals as goal
-
-pub returns : goal.returns
-returns c = fill_is_done_unless

@@ -1,5 +1,0 @@
-use Rattle.ddrescue_cli.proofs.sweeps.SweepVerdict.{generate_has_one_verdict}
-use Rattle.ddrescue_cli.proofs.laws.a_generating_has_one_verdict.Goals as goal
-
-pub returns : goal.returns
-returns c = generate_has_one_verdict

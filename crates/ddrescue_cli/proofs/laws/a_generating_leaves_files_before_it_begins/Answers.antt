@@ -1,5 +1,0 @@
-use Rattle.ddrescue_cli.proofs.sweeps.SweepLeaves.{unbegun_generate_leaves}
-use Rattle.ddrescue_cli.proofs.laws.a_generating_leaves_files_before_it_begins.Goals as goal
-
-pub returns : goal.returns
-returns c = unbegun_generate_leaves

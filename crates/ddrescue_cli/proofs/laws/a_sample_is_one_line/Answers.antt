@@ -1,5 +1,0 @@
-use Rattle.ddrescue_cli.proofs.runs.SampledLemmas.{sample_is_one_line}
-use Rattle.ddrescue_cli.proofs.laws.a_sample_is_one_line.Goals as goal
-
-pub returns : goal.returns
-returns c = sample_is_one_line

@@ -1,5 +1,0 @@
-use Rattle.ddrescue_cli.proofs.words.RefusalLemmas.{faults_are_of_steps}
-use Rattle.ddrescue_cli.proofs.laws.faults_are_of_steps.Goals as goal
-
-pub returns : goal.returns
-returns c = faults_are_of_steps

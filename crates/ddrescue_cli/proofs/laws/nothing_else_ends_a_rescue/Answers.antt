@@ -1,5 +1,0 @@
-use Rattle.ddrescue_cli.proofs.promise.CompleteLemmas.{is_done_unless}
-use Rattle.ddrescue_cli.proofs.laws.nothing_else_ends_a_rescue.Goals as goal
-
-pub returns : goal.returns
-returns c = is_done_unless

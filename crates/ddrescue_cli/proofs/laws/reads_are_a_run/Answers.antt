@@ -1,5 +1,0 @@
-use Rattle.ddrescue_cli.proofs.files.InputReadLemmas.{reads_are_a_run}
-use Rattle.ddrescue_cli.proofs.laws.reads_are_a_run.Goals as goal
-
-pub returns : goal.returns
-returns c = reads_are_a_run

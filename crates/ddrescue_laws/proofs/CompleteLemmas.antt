@@ -1,0 +1,138 @@
+-- Nothing else ends a rescue than its end, a limit, a refusal, a failure or want of memory.
+use Rattle.std.proofs.Common.{◌≡◌, ◌≢◌, ℕ, Bool, true, false, if◌then◌else◌, List, Option, Some, None, is_none, inl, inr, refl, sym, ap, ◌∙◌}
+use Rattle.fault_count.proofs.CountLemmas.{not_risen}
+use Rattle.block_list.specs.declared.status.Status.{Status}
+use Rattle.mapfile_text.specs.declared.state.MapState.{MapState}
+use Rattle.crash_site.specs.declared.site.SiteCall.{SiteCall}
+use Rattle.crash_site.specs.Calls.{Entry}
+use Rattle.rescue_rules.specs.declared.stop.Limit.{Limit}
+use Rattle.rescue_rules.specs.declared.stop.Stop.{Stop}
+use Rattle.rescue_rules.specs.declared.stop.Stop.TheVariants.{SourceLost as InputLost, Site, LimitMet as Limited, NoMemory as NoRoom}
+use Rattle.rescue_rules.specs.declared.stop.RunEnd.{RunEnd}
+use Rattle.rescue_rules.specs.declared.stop.RunEnd.TheVariants.{Done as Finished, Stopped, SaveFailed}
+use Rattle.rescue_rules.specs.Setting.{Setting}
+use Rattle.rescue_rules.specs.Machine.{Machine}
+use Rattle.rescue_rules.specs.Step.{Event, limit_met}
+use Rattle.rescue_rules.specs.Moves.{state_after}
+use Rattle.rescue_rules.specs.Work.{Gain, Ends, IsSaved, IsUnsaved, IsBroken}
+use Rattle.work_steps.specs.Work.{Deeds}
+use Rattle.work_steps.specs.Verdicts.{AreVerdicts}
+use Rattle.work_steps.proofs.VerdictLemmas.{goes_to_run}
+use Rattle.rescue_command.specs.declared.options.Options.{Options}
+use Rattle.rescue_command.specs.Command.{Command, Rescue}
+use Rattle.task_files.specs.declared.ending.Ending.{Ending}
+use Rattle.task_files.specs.declared.ending.Ending.TheVariants.{SourceFault, SourceLost, SiteFault, NoMemory}
+use Rattle.task_files.specs.Answers.{Causes}
+use Rattle.task_files.specs.Outside.{Outside}
+use Rattle.ddrescue_cli.specs.Told.{Told, asked_of}
+use Rattle.task_files.specs.Work.{Rescues, RunsOver, answer_of, rescue_faults, rescue_rows}
+use Rattle.ddrescue_cli.specs.Ddrescue.{Promise}
+use Rattle.ddrescue_laws.specs.Laws.{AreUnlimited, IsDoneOrLimited, NothingFailed, NothingIsRefused, IsDoneUnless}
+
+-- no answer of a failure, nor of want of memory
+pub record IsNoFault (e : Ending) : Type 0 where
+  pub opened : e ≢ SourceFault
+  pub kept : e ≢ SourceLost
+  pub room : e ≢ NoMemory
+  pub call : (call : SiteCall) (earlier : Option Stop) → e ≢ SiteFault call earlier
+
+pub no_faults : AreVerdicts rescue_faults IsNoFault
+no_faults = record { memory = λ v. v.room refl; input = λ v. v.opened refl; call = λ call v. v.call call None refl }
+
+-- a setting that has none of the limits
+record HasNoLimit (s : Setting) : Type 0 where
+  errors : s.max_errors ≡ None
+  areas : s.max_areas ≡ None
+  time : s.timeout ≡ None
+
+either_way : (b : Bool) (met : Option Limit) → (if b then met else met) ≡ met
+either_way true met = refl
+either_way false met = refl
+
+-- meets none
+none_met : (s : Setting) (m : Machine) → HasNoLimit s → limit_met s m ≡ None
+none_met s m none =
+    let L : (errors areas time : Option ℕ) → Option Limit =
+    λ errors areas time. limit_met (record s { max_errors = errors; max_areas = areas; timeout = time }) m in
+    ap (λ (v : Option ℕ). L v s.max_areas s.timeout) none.errors ∙ ap (λ (v : Option ℕ). L None v s.timeout) none.areas
+    ∙ ap (L None None) none.time ∙ either_way (is_none m.said) None
+
+-- a run that ended at a limit has met it
+limit_of : (s : Setting) (m : Machine) (events : List Event) (spare : ℕ) (calls : List Entry) (end : RunEnd) (limit : Limit)
+    → end ≡ Stopped (Limited limit) → Ends s m events spare calls end → limit_met s (state_after s m events) ≡ Some limit
+limit_of s m events spare calls end limit is (IsSaved None by same all) =
+    absurd (let no : Stopped (Limited limit) ≡ Finished = sym is ∙ same in cc)
+limit_of s m events spare calls end limit is (IsSaved (Some InputLost) by same all) =
+    absurd (let no : Stopped (Limited limit) ≡ Stopped InputLost = sym is ∙ same in cc)
+limit_of s m events spare calls end limit is (IsSaved (Some (Site call)) by same all) = absurd by
+limit_of s m events spare calls end limit is (IsSaved (Some (Limited other)) by same all) =
+    let one : Stopped (Limited limit) ≡ Stopped (Limited other) = sym is ∙ same in
+    let alike : other ≡ limit = cc in
+    by.0 ∙ ap Some alike
+limit_of s m events spare calls end limit is (IsSaved (Some NoRoom) by same all) =
+    absurd (let no : Stopped (Limited limit) ≡ Stopped NoRoom = sym is ∙ same in cc)
+limit_of s m events spare calls end limit is (IsUnsaved stop call by same broke) =
+    absurd (let no : Stopped (Limited limit) ≡ SaveFailed call stop = sym is ∙ same in cc)
+limit_of s m events spare calls end limit is (IsBroken before last call split none same broke) =
+    absurd (let no : Stopped (Limited limit) ≡ Stopped (Site call) = sym is ∙ same in cc)
+
+-- how a run ends by itself
+ends_itself : (o : Options) (s : Setting) (m : Machine) (events : List Event) (spare : ℕ) (calls : List Entry) (e : Ending)
+    (end : RunEnd) → (AreUnlimited o → HasNoLimit s) → e ≡ answer_of end → Ends s m events spare calls end → IsNoFault e
+    → IsDoneOrLimited o e
+ends_itself o s m events spare calls e Finished none is ends v = record { ends = inl is; unlimited = λ set. is }
+ends_itself o s m events spare calls e (Stopped InputLost) none is ends v = absurd (v.kept is)
+ends_itself o s m events spare calls e (Stopped (Site call)) none is ends v = absurd (v.call call None is)
+ends_itself o s m events spare calls e (Stopped (Limited limit)) none is ends v = record {
+  ends = inr (limit, is);
+  unlimited = λ set.
+      let met : limit_met s (state_after s m events) ≡ Some limit =
+      limit_of s m events spare calls (Stopped (Limited limit)) limit refl ends in
+      let no : None ≡ Some limit = sym (none_met s (state_after s m events) (none set)) ∙ met in
+      absurd (cc);
+}
+ends_itself o s m events spare calls e (Stopped NoRoom) none is ends v = absurd (v.room is)
+ends_itself o s m events spare calls e (SaveFailed call earlier) none is ends v = absurd (v.call call earlier is)
+
+ran_itself : (o : Options) (s : Setting) (statuses : List Status) (state : Option MapState) (lines : List (List ℕ))
+    (e : Ending) (g : Gain) → (AreUnlimited o → HasNoLimit s) → RunsOver s statuses state lines e g → IsNoFault e
+    → IsDoneOrLimited o e
+ran_itself o s statuses state lines e g none (inl unbegun) v = absurd (v.room unbegun.answer)
+ran_itself o s statuses state lines e g none (inr ran) v =
+    ends_itself o s _ _ ran.runs.spare g.calls e ran.end none ran.answer ran.runs.ends v
+
+-- where nothing is refused an answer of no fault is that of a run
+passed_itself : (t : Told) (c : Command) (p : Promise c t) → NothingIsRefused c p.outside → IsNoFault t.answer
+    → IsDoneOrLimited c.options t.answer
+passed_itself t c p pass v =
+    let o : Outside = p.outside in
+    let run : Ending → Deeds → Type 0 = Rescues (asked_of c t o) o.found.mapfile o.lines in
+    let ran : (did : Deeds) × run t.answer did =
+    goes_to_run rescue_faults IsNoFault no_faults (rescue_rows c o.found o.end) run pass t.answer o.did p.works v in
+    ran_itself c.options (asked_of c t o) ran.1.1.0 ran.1.1.1 o.lines t.answer ran.0.gain
+    (λ set. record { errors = set.errors; areas = set.areas; time = set.time }) ran.1.1.3 v
+
+-- what is left for an answer
+pub left_itself : (P : Ending → Type 0) (t : Told) (e : Ending) → NothingFailed t → (IsNoFault e → P e)
+    → Causes e t.source t.source' t.site t.site' → e ≢ NoMemory → P e
+left_itself P t SourceFault f itself cause room =
+    absurd (not_risen t.source.faults t.source'.faults f.opens_count f.opens cause.faults)
+left_itself P t SourceLost f itself cause room =
+    absurd (not_risen t.source.losses t.source'.losses f.reads_count f.reads cause.losses_)
+left_itself P t (SiteFault call None) f itself cause room =
+    absurd (not_risen t.site.faults t.site'.faults f.calls_count f.calls cause.site_faults)
+left_itself P t (SiteFault call (Some InputLost)) f itself cause room =
+    absurd (not_risen t.site.faults t.site'.faults f.calls_count f.calls cause.site_faults)
+left_itself P t (SiteFault call (Some (Site before))) f itself cause room = absurd cause
+left_itself P t (SiteFault call (Some (Limited limit))) f itself cause room =
+    absurd (not_risen t.site.faults t.site'.faults f.calls_count f.calls cause.site_faults)
+left_itself P t (SiteFault call (Some NoRoom)) f itself cause room =
+    absurd (not_risen t.site.faults t.site'.faults f.calls_count f.calls cause.site_faults)
+left_itself P t NoMemory f itself cause room = absurd (room refl)
+left_itself P t e f itself cause room =
+    itself (record { opened = λ is. cc; kept = λ is. cc; room = λ is. cc; call = λ call earlier is. cc })
+
+pub is_done_unless : IsDoneUnless
+is_done_unless t c d asks failed pass room =
+    left_itself (λ (e : Ending). IsDoneOrLimited c.options e) t t.answer failed
+    (passed_itself t c (d.asked_for (Rescue c) asks) pass) d.cause room

@@ -1,0 +1,248 @@
+-- What a filling and a generating leave that are done.
+use Rattle.std.proofs.Common.{◌≡◌, ℕ, ◌+◌, ◌<◌, Bool, true, false, IsTrue, List, [], ◌∷◌, ◌++◌, length, map, take, Option, Some, refl, sym, ap, ◌∙◌, subst, arith}
+use Rattle.std.specs.List.{count_by, list_any, slice_get}
+use Rattle.std.proofs.Math.Seq.{take-length}
+use Rattle.std.proofs.lemmas.List.{take_all, map-append}
+use Rattle.block_list.specs.declared.status.Status.{Status}
+use Rattle.block_list.specs.declared.types.TypeSet.{TypeSet}
+use Rattle.mapfile_text.specs.declared.state.MapState.{MapState}
+use Rattle.crash_site.specs.Files.{bytes_of}
+use Rattle.crash_site.specs.Calls.{Call, Entry, Done as Returned}
+use Rattle.crash_site.specs.SiteState.{files_in}
+use Rattle.option_words.specs.Words.{command_line}
+use Rattle.rescue_rules.specs.declared.stop.RunEnd.{RunEnd}
+use Rattle.rescue_rules.specs.Setting.{Setting}
+use Rattle.rescue_rules.specs.Events.{began_at}
+use Rattle.rescue_rules.specs.Snapshots.{Snapshot, text_of}
+use Rattle.rescue_rules.specs.Deeds.{saves_in}
+use Rattle.rescue_rules.specs.Stops.{has_barrier, is_settle, is_publish, is_write}
+use Rattle.rescue_rules.specs.StopsBy.{IsUnwritten, LeftBy, IsKeptBy, StopsBy}
+use Rattle.rescue_rules.proofs.MapfileLemmas.{opening_by}
+use Rattle.sweep_rules.specs.Sweep.{Sweeper, Sweep, Swept, filler, generator, sweep_over, behind_pieces, sweep_end, deeds_of}
+use Rattle.sweep_rules.specs.SweepLaws.{AreGiven}
+use Rattle.sweep_rules.specs.SweepStops.{AreFilled, FillPromise, has_swept_out, pieces_before}
+use Rattle.sweep_rules.proofs.SweepLemmas.{filled_map_stands, generates_what_is_held}
+use Rattle.work_steps.proofs.FrontLemmas.{load_reads}
+use Rattle.rescue_command.specs.Command.{Command, Fill, Generate, HasMapfile}
+use Rattle.rescue_command.proofs.CommandLemmas.{reading_asks}
+use Rattle.task_files.specs.declared.ending.Ending.TheVariants.{Done}
+use Rattle.task_files.specs.Names.{program_name}
+use Rattle.task_files.specs.Maps.{Found}
+use Rattle.task_files.specs.Outside.{Outside}
+use Rattle.ddrescue_cli.specs.Told.{Told, calls_before, files_of, asked_of}
+use Rattle.task_sweeps.specs.Modes.{Fills, Generates}
+use Rattle.ddrescue_cli.specs.Ddrescue.{Ddrescue, FillModePromise, GenerateModePromise}
+use Rattle.ddrescue_laws.specs.ModeLaws.{DoneIsFilled, DoneIsGenerated, LeavesFilled, LeavesGenerated, HasNoPiece, IsSweptThrough, promised_fill, filling_setting, promised_generate}
+use Rattle.ddrescue_laws.proofs.DoneLemmas.{left_behind, number_last, save_last}
+use Rattle.ddrescue_cli.proofs.PromiseLemmas.{named_on}
+use Rattle.ddrescue_laws.proofs.ReadLemmas.{barrier_behind}
+use Rattle.ddrescue_cli.proofs.SpareLemmas.{spare_append, spare_opening, spare_reads, none_written}
+use Rattle.ddrescue_laws.proofs.SweepCounts.{IgnoresPieces, all_before, dues_of, publishes_in, settles_in, spare_generating, spares_append, spares_filling, spares_spare, sweep_calls_of, whole_calls}
+use Rattle.ddrescue_laws.proofs.SweepDone.{DoneSweep, fill_done, generate_done}
+
+-- ---- behind all calls of a sweep
+
+module _ (t : Told) (s : Setting) (w : Sweeper) (pieces : List Swept) (end : RunEnd) (times : List ℕ) (calls : List Entry)
+    (h : DoneSweep s w (files_of t) pieces end times calls) (on : s.has_mapfile ≡ true)
+    (started : t.site'.start ≡ t.site.start) (grew : t.site'.calls ≡ t.site.calls ++ calls) where
+  abbrev pub begun : Sweep
+  begun = sweep_over w h.statuses h.state (began_at times)
+
+  abbrev pub swept_out : Sweep
+  swept_out = behind_pieces w begun pieces
+
+  abbrev last : Snapshot
+  last = sweep_end true swept_out
+
+  abbrev all_calls : List Call
+  all_calls = whole_calls s w h.maps h.load begun pieces last
+
+  left : LeftBy (calls_before t) calls (length calls) (files_in t.site')
+  left = left_behind t calls started grew
+
+  barrier : has_barrier (take (length calls) calls) ≡ true
+  barrier =
+      let rest : List Call = opening_by s w.makes ++ (h.load ++ sweep_calls_of s w begun pieces last) in
+      ap has_barrier (take-length calls ∙ h.calls_are ∙ map-append Returned h.maps rest)
+      ∙ barrier_behind h.maps (map Returned rest) h.are
+
+  pub through : (mapfile : files_in t.site' s.names.map
+      ≡ Some (record { bytes = text_of s.line last; regular = true }))
+      → IsSweptThrough t s w pieces h.statuses h.state (began_at times)
+  through mapfile = record { stands = h.stands; sweep = h.sweep; over = h.over; mapfile = mapfile }
+
+  module _ (promise : List Status → Option MapState → ℕ → List Status → List ℕ → Type 0) (makes : Bool)
+      (settle : IgnoresPieces is_settle w) (publish : IgnoresPieces is_publish w)
+      (stops : StopsBy (λ began shown. saves_in (deeds_of w (sweep_over w began shown (began_at times)) pieces)
+      (sweep_end (has_swept_out end) (behind_pieces w (sweep_over w began shown (began_at times)) pieces))) promise makes
+      (calls_before t) s calls) where
+    abbrev saved : List Snapshot
+    saved = dues_of w begun pieces
+
+    pub kept : IsKeptBy (saved ++ sweep_end (has_swept_out end) swept_out ∷ []) (promise h.statuses h.state) (calls_before t) s
+        calls h.statuses (length calls) (files_in t.site')
+    kept = stops.kept (length calls) (files_in t.site') h.statuses h.state (omega arith) left barrier h.stands
+
+    pub number_is : kept.number ≡ length saved + 1
+    number_is =
+        number_last calls kept.number (length saved + 1)
+        (ap (count_by is_settle) h.calls_are
+        ∙ settles_in s w h.maps h.load (files_of t s.names.map) begun pieces last on settle h.are h.begins)
+        (ap (count_by is_publish) h.calls_are
+        ∙ publishes_in s w h.maps h.load (files_of t s.names.map) begun pieces last on publish h.are h.begins)
+        kept.no_older kept.no_newer
+
+    pub last_saved : files_in t.site' s.names.map ≡ Some (record { bytes = text_of s.line last; regular = true })
+    last_saved =
+        (save_last (files_of t s.names.map) h.statuses s.line saved (sweep_end (has_swept_out end) swept_out) kept.number
+        (files_in t.site' s.names.map) kept.statuses number_is kept.is_save).1
+        ∙ ap (λ (out : Bool). Some (record { bytes = text_of s.line (sweep_end out swept_out); regular = true })) h.finished
+
+    pub held : promise h.statuses h.state (length saved + 1) kept.statuses (bytes_of (files_in t.site' s.outfile))
+    held =
+        subst (λ (n : ℕ). promise h.statuses h.state n kept.statuses (bytes_of (files_in t.site' s.outfile))) number_is
+        kept.held
+
+-- ---- a filling
+
+module _ (t : Told) (types : TypeSet) (c : Command) (d : Ddrescue t) (p : FillModePromise types c t)
+    (tells : IsTrue t.site.tells) (has : HasMapfile c) (is : t.answer ≡ Done) where
+  abbrev o : Outside
+  o = p.outside
+
+  abbrev s : Setting
+  s = filling_setting p
+
+  abbrev w : Sweeper
+  w = filler s types p.buffer
+
+  abbrev calls : List Entry
+  calls = o.did.gain.calls
+
+  on : s.has_mapfile ≡ true
+  on = named_on c.mapfile has.named
+
+  done : DoneSweep s w (files_of t) p.pieces p.end o.did.gain.times calls
+  done =
+      fill_done (files_of t) (command_line program_name t.words) o.end p.top o.maps types p.buffer p.pieces p.end o.lines
+      t.answer o.did is c has.named
+      (subst (λ (found : Found). Fills types c found o.end p.top s p.buffer p.pieces p.end o.lines t.answer o.did)
+      (p.agrees.found tells) p.works)
+
+  abbrev start : Sweep
+  start = sweep_over w done.statuses done.state (began_at o.did.gain.times)
+
+  abbrev pledge : List Status → Option MapState → ℕ → List Status → List ℕ → Type 0
+  pledge began shown number map image =
+      FillPromise s p.buffer began
+      (pieces_before w (sweep_over w began shown (began_at o.did.gain.times)) p.pieces number) map image
+
+  filled : AreFilled s p.buffer p.pieces (bytes_of (files_in t.site' s.outfile))
+  filled =
+      let promised : pledge done.statuses done.state (length (dues_of w start p.pieces) + 1) _
+      (bytes_of (files_in t.site' s.outfile)) =
+      held t s w p.pieces p.end o.did.gain.times calls done on (d.site.start tells) (p.agrees.calls tells) pledge true
+      (λ e. refl) (λ e. refl) (p.stops tells) in
+      subst (λ (es : List Swept). AreFilled s p.buffer es (bytes_of (files_in t.site' s.outfile)))
+      (all_before w start p.pieces (length (dues_of w start p.pieces) + 1) refl) promised.filled
+
+  elsewhere : (y : ℕ) → y < length (bytes_of (files_of t s.outfile)) → HasNoPiece s p.pieces y
+      → slice_get (bytes_of (files_in t.site' s.outfile)) y ≡ slice_get (bytes_of (files_of t s.outfile)) y
+  elsewhere y low off =
+      let last_ = sweep_end true (behind_pieces w start p.pieces) in
+      let back : List Call = sweep_calls_of s w start p.pieces last_ in
+      let spares = spares_append done.maps (opening_by s true ++ (done.load ++ back)) y
+      (spares_spare done.maps y (spare_reads done.maps done.are))
+      (spares_append (opening_by s true) (done.load ++ back) y (spares_spare (opening_by s true) y (spare_opening s true))
+      (spares_append done.load back y
+      (spares_spare done.load y
+      (spare_reads done.load (load_reads s.names.map (files_of t s.names.map) done.load done.begins)))
+      (spares_filling s types p.buffer start p.pieces last_ y on off))) in
+      let whole : take (length calls + 1) calls ≡ calls = take_all (length calls + 1) calls (omega arith) in
+      (p.stops tells).unwritten (length calls) (files_in t.site') y (omega arith)
+      (left_behind t calls (d.site.start tells) (p.agrees.calls tells))
+      (barrier t s w p.pieces p.end o.did.gain.times calls done on (d.site.start tells) (p.agrees.calls tells))
+      (subst (λ (es : List Entry). IsUnwritten es y) (sym (whole ∙ done.calls_are)) spares) low
+
+  is_filled : LeavesFilled t s types p.buffer p.pieces
+  is_filled = record {
+    statuses = done.statuses;
+    state = done.state;
+    time = began_at o.did.gain.times;
+    through = through t s w p.pieces p.end o.did.gain.times calls done on (d.site.start tells) (p.agrees.calls tells)
+        (last_saved t s w p.pieces p.end o.did.gain.times calls done on (d.site.start tells) (p.agrees.calls tells) pledge
+        true (λ e. refl) (λ e. refl) (p.stops tells));
+    map = filled_map_stands s types p.buffer start p.pieces;
+    filled = filled;
+    elsewhere = elsewhere;
+  }
+
+pub done_is_filled : DoneIsFilled
+done_is_filled t types c d asks tells is =
+    is_filled t types c d (promised_fill d asks) tells
+    (reading_asks t.words asks.rows asks.items asks.operands (Fill types c) asks.options asks.reading asks.is).limits is
+
+-- ---- a generating
+
+module _ (t : Told) (c : Command) (d : Ddrescue t) (p : GenerateModePromise c t) (tells : IsTrue t.site.tells)
+    (has : HasMapfile c) (is : t.answer ≡ Done) where
+  abbrev a : Outside
+  a = p.outside
+
+  abbrev z : Setting
+  z = asked_of c t a
+
+  abbrev g : Sweeper
+  g = generator z
+
+  mapped : z.has_mapfile ≡ true
+  mapped = named_on c.mapfile has.named
+
+  looked : DoneSweep z g (files_of t) p.pieces p.end a.did.gain.times a.did.gain.calls
+  looked =
+      generate_done (files_of t) (command_line program_name t.words) a.end a.maps p.pieces p.end a.lines t.answer a.did is c
+      has.named
+      (subst (λ (found : Found). Generates c found a.end z p.pieces p.end a.lines t.answer a.did) (p.agrees.found tells)
+      p.works)
+
+  abbrev looks : Sweep
+  looks = sweep_over g looked.statuses looked.state (began_at a.did.gain.times)
+
+  output : bytes_of (files_in t.site' z.outfile) ≡ bytes_of (files_of t z.outfile)
+  output =
+      let last_ = sweep_end true (behind_pieces g looks p.pieces) in
+      let all : List Call = whole_calls z g looked.maps looked.load looks p.pieces last_ in
+      let spare = spare_append looked.maps (opening_by z false ++ (looked.load ++ sweep_calls_of z g looks p.pieces last_))
+      (spare_reads looked.maps looked.are)
+      (spare_append (opening_by z false) (looked.load ++ sweep_calls_of z g looks p.pieces last_) (spare_opening z false)
+      (spare_append looked.load (sweep_calls_of z g looks p.pieces last_)
+      (spare_reads looked.load (load_reads z.names.map (files_of t z.names.map) looked.load looked.begins))
+      (spare_generating z looks p.pieces last_ mapped))) in
+      let calls : List Entry = a.did.gain.calls in
+      let whole : take (length calls + 1) calls ≡ calls = take_all (length calls + 1) calls (omega arith) in
+      (p.stops tells).output (length calls) (files_in t.site') (omega arith)
+      (left_behind t calls (d.site.start tells) (p.agrees.calls tells))
+      (barrier t z g p.pieces p.end a.did.gain.times calls looked mapped (d.site.start tells) (p.agrees.calls tells))
+      (ap (list_any is_write) (whole ∙ looked.calls_are) ∙ none_written all spare)
+
+  given : AreGiven z (bytes_of (files_of t z.outfile)) p.pieces
+  given = subst (λ (found : Found). AreGiven z (bytes_of found.output) p.pieces) (p.agrees.found tells) (p.given tells)
+
+  is_generated : LeavesGenerated t z p.pieces
+  is_generated = record {
+    statuses = looked.statuses;
+    state = looked.state;
+    time = began_at a.did.gain.times;
+    through = through t z g p.pieces p.end a.did.gain.times a.did.gain.calls looked mapped (d.site.start tells)
+        (p.agrees.calls tells)
+        (last_saved t z g p.pieces p.end a.did.gain.times a.did.gain.calls looked mapped (d.site.start tells)
+        (p.agrees.calls tells) _ false (λ e. refl) (λ e. refl) (p.stops tells));
+    given = given;
+    held = generates_what_is_held z (bytes_of (files_of t z.outfile)) looks p.pieces given;
+    output = output;
+  }
+
+pub done_is_generated : DoneIsGenerated
+done_is_generated t c d asks tells is =
+    is_generated t c d (promised_generate d asks) tells
+    (reading_asks t.words asks.rows asks.items asks.operands (Generate c) asks.options asks.reading asks.is).limits is

@@ -1,0 +1,168 @@
+-- A filling and a generating have one verdict at most.
+use Rattle.std.proofs.Common.{◌≡◌, ◌≢◌, ℕ, Bool, true, false, List, Option, sym, ◌∙◌, inl, inr}
+use Rattle.mapfile_text.specs.declared.read.Mode.{Mode}
+use Rattle.crash_site.specs.Files.{File}
+use Rattle.save_resume.specs.Named.{map_mode}
+use Rattle.rescue_rules.specs.declared.stop.RunEnd.{RunEnd}
+use Rattle.rescue_rules.specs.Setting.{Setting}
+use Rattle.sweep_rules.specs.Sweep.{Sweeper, Swept, filler, generator}
+use Rattle.work_steps.specs.Work.{Deeds, Works}
+use Rattle.work_steps.specs.Verdicts.{IsOnce, RefuseOnce, AreVerdicts}
+use Rattle.work_steps.proofs.VerdictLemmas.{one_verdict}
+use Rattle.work_steps.proofs.PartLemmas.{works_as}
+use Rattle.rescue_command.specs.Options.{cluster_of}
+use Rattle.rescue_command.specs.Command.{Command}
+use Rattle.task_files.specs.declared.ending.Ending.{Ending}
+use Rattle.task_files.specs.declared.ending.Ending.TheVariants.{Done, PatternUnread}
+use Rattle.task_files.specs.declared.ending.Which.TheVariants.{DomainMap}
+use Rattle.task_files.specs.Maps.{Found}
+use Rattle.task_files.specs.Refusals.{NamedMapRefused, OutputMissing, PatternEmpty}
+use Rattle.task_files.specs.Work.{IfNamed, rescue_faults, files_rows}
+use Rattle.task_sweeps.specs.Pattern.{ThenPattern, IsLost, IsShort, IsRead}
+use Rattle.task_sweeps.specs.Modes.{MaySweep, ThenSweep, fill_rows, generate_rows}
+use Rattle.ddrescue_laws.specs.Laws.{IsVerdict}
+use Rattle.ddrescue_laws.specs.ModeLaws.{FillHasOneVerdict, GenerateHasOneVerdict}
+use Rattle.ddrescue_laws.proofs.VerdictLemmas.{done_only, one_names, one_named, one_output, one_mapfile, one_places, one_if, verdicts}
+
+-- ---- the refusals
+
+one_missing : (output : Option File) → IsOnce (OutputMissing output)
+one_missing output e e' a b = a.1 ∙ sym b.1
+
+one_empty : (end : ℕ) → IsOnce (PatternEmpty end)
+one_empty end e e' a b = a.1 ∙ sym b.1
+
+one_domain : (c : Command) (found : Found)
+    → IsOnce (IfNamed c.domain_map (NamedMapRefused DomainMap (map_mode c.options.loose) found.domain))
+one_domain c found =
+    let mode : Mode = map_mode c.options.loose in
+    one_if c.domain_map (NamedMapRefused DomainMap mode found.domain) (one_named DomainMap mode found.domain)
+
+files_once : (makes : Bool) (c : Command) (found : Found) (limit : ℕ) → RefuseOnce (files_rows makes c found limit)
+files_once true c found limit =
+    (one_output c.options.forced found.output, (one_mapfile found.mapfile, (one_places c.options limit, tt)))
+files_once false c found limit = (
+  one_missing found.output,
+  (one_output c.options.forced found.output, (one_mapfile found.mapfile, (one_places c.options limit, tt))),
+)
+
+fill_once : (c : Command) (found : Found) (input_end : ℕ) → RefuseOnce (fill_rows c found input_end)
+fill_once c found input_end = (one_names c, (one_domain c found, (one_empty input_end, tt)))
+
+generate_once : (c : Command) (found : Found) (input_end : ℕ) → RefuseOnce (generate_rows c found input_end)
+generate_once c found input_end = (one_names c, (one_domain c found, files_once false c found input_end))
+
+-- ---- the sweep
+
+-- some sweep, whatever it does and says
+record SweepsSome (e : Ending) (d : Deeds) : Type 0 where
+  s : Setting
+  w : Sweeper
+  mapfile : Option File
+  pieces : List Swept
+  end : RunEnd
+  lines : List (List ℕ)
+  sweep : ThenSweep s w mapfile pieces end lines e d
+
+-- it was done, or none had begun
+swept_done : (e : Ending) (d : Deeds) → SweepsSome e d → IsVerdict e → e ≡ Done
+swept_done e d h verdict = done_by h.sweep.sweeps
+  where
+    done_by : MaySweep h.s h.w h.sweep.statuses h.sweep.state h.pieces h.end h.lines e d.gain → e ≡ Done
+    done_by (inl unbegun) = absurd (verdict.room unbegun.0.answer)
+    done_by (inr swept) = done_only e h.end swept.answer verdict
+
+-- an answer that the pattern's read doesn't bring
+record IsPlainVerdict (e : Ending) : Type 0 where
+  verdict : IsVerdict e
+  whole : e ≢ PatternUnread
+
+plain_verdicts : AreVerdicts rescue_faults IsPlainVerdict
+plain_verdicts = record {
+  memory = λ v. verdicts.memory v.verdict;
+  input = λ v. verdicts.input v.verdict;
+  call = λ call v. verdicts.call call v.verdict;
+}
+
+sweeps_once : (e e' : Ending) (d d' : Deeds) → SweepsSome e d → SweepsSome e' d' → IsPlainVerdict e → IsPlainVerdict e'
+    → e ≡ e'
+sweeps_once e e' d d' h h' v v' = swept_done e d h v.verdict ∙ sym (swept_done e' d' h' v'.verdict)
+
+-- behind a pattern
+record ReadsSome (c : Command) (found : Found) (input_end top : ℕ) (e : Ending) (d : Deeds) : Type 0 where
+  buffer : List ℕ
+  reads : ThenPattern (cluster_of c.options) input_end buffer (Works rescue_faults (files_rows true c found top) SweepsSome) e
+      d
+
+read_whole : (c : Command) (found : Found) (input_end top : ℕ) (e : Ending) (d : Deeds)
+    → ReadsSome c found input_end top e d → IsPlainVerdict e
+    → (x : Deeds) × Works rescue_faults (files_rows true c found top) SweepsSome e x
+read_whole c found input_end top e d h v = whole h.reads
+  where
+    whole : ThenPattern (cluster_of c.options) input_end h.buffer
+        (Works rescue_faults (files_rows true c found top) SweepsSome) e d
+        → (x : Deeds) × Works rescue_faults (files_rows true c found top) SweepsSome e x
+    whole (IsLost is idle) = absurd (v.verdict.kept is)
+    whole (IsShort r read less is one) = absurd (v.whole is)
+    whole (IsRead r more read all repeated reads next) = (_, next)
+
+reads_once : (c : Command) (found : Found) (input_end top : ℕ) (e e' : Ending) (d d' : Deeds)
+    → ReadsSome c found input_end top e d → ReadsSome c found input_end top e' d' → IsPlainVerdict e → IsPlainVerdict e'
+    → e ≡ e'
+reads_once c found input_end top e e' d d' h h' v v' =
+    let w = read_whole c found input_end top e d h v in
+    let w' = read_whole c found input_end top e' d' h' v' in
+    one_verdict Ending rescue_faults IsPlainVerdict plain_verdicts (files_rows true c found top) SweepsSome
+    (files_once true c found top) sweeps_once e e' w.0 w'.0 w.1 w'.1 v v'
+
+-- some pattern and sweep, for what they are
+some_sweep : (s : Setting) (w : Sweeper) (mapfile : Option File) (pieces : List Swept) (end : RunEnd)
+    (lines : List (List ℕ)) (e : Ending) (d : Deeds) → ThenSweep s w mapfile pieces end lines e d → SweepsSome e d
+some_sweep s w mapfile pieces end lines e d h = record {
+  s = s;
+  w = w;
+  mapfile = mapfile;
+  pieces = pieces;
+  end = end;
+  lines = lines;
+  sweep = h;
+}
+
+some_read : (c : Command) (found : Found) (input_end top : ℕ) (buffer : List ℕ) (run : Ending → Deeds → Type 0)
+    → ((e : Ending) (d : Deeds) → run e d → SweepsSome e d) → (e : Ending) (d : Deeds)
+    → ThenPattern (cluster_of c.options) input_end buffer (Works rescue_faults (files_rows true c found top) run) e d
+    → ReadsSome c found input_end top e d
+some_read c found input_end top buffer run some e d (IsLost is idle) =
+    record { buffer = buffer; reads = IsLost is idle }
+some_read c found input_end top buffer run some e d (IsShort r read less is one) =
+    record { buffer = buffer; reads = IsShort r read less is one }
+some_read c found input_end top buffer run some e d (IsRead r more read all repeated reads next) = record {
+  buffer = buffer;
+  reads = IsRead r more read all repeated reads
+      (works_as rescue_faults (files_rows true c found top) run SweepsSome some e _ next);
+}
+
+pub fill_has_one_verdict : FillHasOneVerdict
+fill_has_one_verdict types c found input_end top s s' buffer buffer' pieces pieces' end end' lines lines' e e' d d' w w' v v'
+    whole whole' =
+    one_verdict Ending rescue_faults IsPlainVerdict plain_verdicts (fill_rows c found input_end)
+    (ReadsSome c found input_end top) (fill_once c found input_end) (reads_once c found input_end top) e e' d d'
+    (works_as rescue_faults (fill_rows c found input_end) _ (ReadsSome c found input_end top)
+    (some_read c found input_end top buffer _
+    (some_sweep s (filler s types buffer) found.mapfile pieces end lines)) e d w)
+    (works_as rescue_faults (fill_rows c found input_end) _ (ReadsSome c found input_end top)
+    (some_read c found input_end top buffer' _
+    (some_sweep s' (filler s' types buffer') found.mapfile pieces' end' lines')) e' d' w')
+    (record { verdict = v; whole = whole }) (record { verdict = v'; whole = whole' })
+
+plain_done : (e e' : Ending) (d d' : Deeds) → SweepsSome e d → SweepsSome e' d' → IsVerdict e → IsVerdict e' → e ≡ e'
+plain_done e e' d d' h h' v v' = swept_done e d h v ∙ sym (swept_done e' d' h' v')
+
+pub generate_has_one_verdict : GenerateHasOneVerdict
+generate_has_one_verdict c found input_end s s' pieces pieces' end end' lines lines' e e' d d' w w' v v' =
+    one_verdict Ending rescue_faults IsVerdict verdicts (generate_rows c found input_end) SweepsSome
+    (generate_once c found input_end) plain_done e e' d d'
+    (works_as rescue_faults (generate_rows c found input_end) _ SweepsSome
+    (some_sweep s (generator s) found.mapfile pieces end lines) e d w)
+    (works_as rescue_faults (generate_rows c found input_end) _ SweepsSome
+    (some_sweep s' (generator s') found.mapfile pieces' end' lines') e' d' w') v v'

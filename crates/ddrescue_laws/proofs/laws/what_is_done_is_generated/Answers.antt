@@ -1,0 +1,5 @@
+use Rattle.ddrescue_laws.proofs.SweepDoneLemmas.{done_is_generated}
+use Rattle.ddrescue_laws.proofs.laws.what_is_done_is_generated.Goals as goal
+
+pub returns : goal.returns
+returns c = done_is_generated

@@ -1,0 +1,4 @@
+pub mod InputRead
+pub mod LeftBehind
+pub mod Laws
+pub mod ModeLaws

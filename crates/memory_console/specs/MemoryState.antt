@@ -1,0 +1,41 @@
+-- What a clock, a console and a feed in memory tell of themselves.
+use Rattle.std.specs.Prelude.{◌-◌, ◌^◌, true, map, drop, nat_lt}
+use Rattle.std.specs.List.{range_with_len}
+use Rattle.rescue_console.specs.ClockState.{ClockState, reading_at}
+use Rattle.rescue_console.specs.ConsoleState.{ChannelState, ConsoleState}
+use Rattle.rescue_console.specs.FeedState.{FeedState}
+use Rattle.memory_console.specs.declared.memory.MemoryClock.{MemoryClock}
+use Rattle.memory_console.specs.declared.memory.MemoryChannel.{MemoryChannel}
+use Rattle.memory_console.specs.declared.memory.MemoryConsole.{MemoryConsole}
+use Rattle.memory_console.specs.declared.memory.MemoryFeed.{MemoryFeed}
+
+-- a clock in memory tells the readings that it made, until their count stands at the end of its type
+abbrev pub state_of_clock : MemoryClock → ClockState
+state_of_clock c = record {
+  tells = nat_lt c.made (2 ^ 64 - 1);
+  readings = map (reading_at c.plan.items) (range_with_len 0 c.made);
+  is_planned = true;
+  plan = c.plan.items;
+}
+
+abbrev pub state_of_channel : MemoryChannel → ChannelState
+state_of_channel c = record { text = c.text.items; faults = c.faults }
+
+abbrev pub state_of_console : MemoryConsole → ConsoleState
+state_of_console c = record {
+  tells = true;
+  out = state_of_channel c.out;
+  err = state_of_channel c.err;
+  is_planned = true;
+  plan = c.plan;
+  starved = c.starving;
+}
+
+abbrev pub state_of_feed : MemoryFeed → FeedState
+state_of_feed f = record {
+  tells = true;
+  left = drop f.taken f.bytes.items;
+  faults = f.faults;
+  is_planned = true;
+  plan = f.plan;
+}

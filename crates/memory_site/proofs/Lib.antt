@@ -1,0 +1,9 @@
+mod FolderLemmas
+mod FollowLemmas
+mod GarbageLemmas
+mod LeftLemmas
+mod LooseLemmas
+mod NewestLemmas
+mod OldestLemmas
+mod PlaceLemmas
+mod StopLemmas

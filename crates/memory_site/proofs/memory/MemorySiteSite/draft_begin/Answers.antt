@@ -1,0 +1,36 @@
+use Rattle.std.proofs.Common.{refl, List, ℕ, None}
+use Rattle.crash_site.specs.Calls.{draft_begin}
+use Rattle.crash_site.specs.Folder.{Folder, after}
+use Rattle.memory_site.specs.Follows.{Follows}
+use Rattle.memory_site.specs.MemoryFolder.{folder_of}
+use Rattle.memory_site.specs.CallLog.{entries_of}
+use Rattle.memory_site.proofs.FollowLemmas.{follows_lost, follows_settled, follows_step, follows_kept, follows_begun, follows_no_draft}
+use Rattle.memory_site.proofs.memory.MemorySiteSite.draft_begin.Goals as goal
+
+pub invariant_of-self-in-Break-1 : goal.invariant_of-self-in-Break-1
+invariant_of-self-in-Break-1 c =
+    let shut : Folder = record (folder_of c.args.self.now.folder) { draft = None } in
+    let h : Follows shut (after (folder_of c.args.self.now.start) (entries_of c.args.self.now.log)) =
+    follows_no_draft (folder_of c.args.self.now.folder) shut _ c.args.self.now.follows refl refl refl in
+    record {
+      follows = follows_lost (folder_of c.args.self.now.start) shut (entries_of c.args.self.now.log)
+          (entries_of c.enter.new.self) (draft_begin c.in-Ok.copied.items) refl h c.in_err-enter.ensures.lost;
+    }
+
+pub invariant_of-self-2 : goal.invariant_of-self-2
+invariant_of-self-2 c =
+    let shut : Folder = record (folder_of c.args.self.now.folder) { draft = None } in
+    let h : Follows shut (after (folder_of c.args.self.now.start) (entries_of c.args.self.now.log)) =
+    follows_no_draft (folder_of c.args.self.now.folder) shut _ c.args.self.now.follows refl refl refl in
+    let told : Folder = after (folder_of c.args.self.now.start) (entries_of c.args.self.now.log) in
+    record {
+      follows = follows_settled (folder_of c.args.self.now.start) (folder_of c.begin-outcome.new.self)
+          (entries_of c.args.self.now.log) (entries_of c.enter.new.self) (entries_of c.settle.new.self)
+          (draft_begin c.in-Ok.copied.items) c.begin-outcome.result c.settle.result c.in_ok-enter.ensures.done
+          (follows_step c.begin-outcome.result shut (folder_of c.begin-outcome.new.self) told
+          (λ (z : List ℕ). draft_begin z) c.as_bytes-name.result.now c.in-Ok.copied.items c.in-Ok.ensures.items
+          (λ z. follows_begun shut told z h) c.begin-outcome.ensures.begun)
+          (follows_kept c.begin-outcome.result shut
+          (folder_of c.begin-outcome.new.self) told h c.begin-outcome.ensures.same)
+          c.settle.ensures.value c.settle.ensures.error c.settle.ensures.kept c.settle.ensures.withdrawn;
+    }

@@ -1,0 +1,14 @@
+use Rattle.std.proofs.Common.{refl}
+use Rattle.crash_site.specs.Calls.{image_sync}
+use Rattle.memory_site.specs.MemoryFolder.{folder_of}
+use Rattle.memory_site.specs.CallLog.{entries_of}
+use Rattle.memory_site.proofs.FollowLemmas.{follows_entered}
+use Rattle.memory_site.proofs.memory.MemorySiteSite.image_sync.Goals as goal
+
+pub invariant_of-self : goal.invariant_of-self
+invariant_of-self c =
+    record {
+      follows = follows_entered (folder_of c.args.self.now.start) (folder_of c.args.self.now.folder)
+          (entries_of c.args.self.now.log) (entries_of c.enter.new.self) image_sync c.enter.result
+          (λ a. refl) tt c.args.self.now.follows c.enter.ensures.done c.enter.ensures.lost;
+    }

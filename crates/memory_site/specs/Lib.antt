@@ -1,0 +1,9 @@
+pub mod CallLog
+pub mod FilesLeft
+pub mod Follows
+pub mod LeftLaws
+pub mod MemoryFolder
+pub mod MemoryState
+pub mod Places
+pub mod Stopped
+pub mod Unsynced

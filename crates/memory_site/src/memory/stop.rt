@@ -1,0 +1,422 @@
+ghost use Rattle.std.specs.Prelude.{◌≡◌, ℕ, ◌+◌, ◌≤◌, ◌++◌, length, List, drop, true, Option, IfOk, OnOk, MatchOption, Some, None, is_some, if◌then◌else◌};
+ghost use Rattle.crash_site.specs.Files.{File, bytes_of, empty_file, put};
+ghost use Rattle.crash_site.specs.Calls.{Done, Failed};
+ghost use Rattle.crash_site.specs.Disk.{Disk, at_rest, entered};
+ghost use Rattle.crash_site.specs.Left.{in_progress};
+ghost use Rattle.memory_site.specs.FilesLeft.{opened_over, written_on, published_as, with_some, moved_to, made_part, left_part, sure_name, left_entry, left_along, files_left};
+ghost use Rattle.memory_site.specs.MemoryFolder.{folder_of};
+ghost use Rattle.memory_site.specs.CallLog.{call_of, entry_of, entries_of};
+ghost use Rattle.memory_site.specs.Stopped.{Replays};
+ghost use Rattle.memory_site.specs.Places.{file_of};
+
+use crate::memory::call_log::{Act, CallLog, LoggedCall};
+use crate::memory::memory_folder::{MemoryFolder, fits};
+use crate::memory::places::MemoryFile;
+use std::alloc::{AllocError, Global};
+
+/// What a stop leaves of what wasn't durable.
+#[derive(Clone, Copy, Debug, PartialEq, Eq)]
+pub enum Left {
+    /// Nothing.
+    Oldest,
+    /// All of it, also of the call in progress.
+    Newest,
+    /// The same with other bytes, in ranges that weren't synced and in texts that were published unsynced.
+    Garbage,
+}
+
+/// The byte that stands where any may.
+const ANY: u8 = 0x5A;
+
+/// An absent file is made.
+fn open(
+    left: &mut MemoryFolder,
+    reads: &MemoryFolder,
+    alloc: Global,
+    name: &[u8],
+    make: bool,
+) -> Result<(), AllocError>
+    ensures { OnOk result ((folder_of left.new).files ≡ put (folder_of left.old).files name.now
+        (opened_over make ((folder_of reads.now).files name.now) ((folder_of left.old).files name.now))) }
+{
+    if !make {
+        return Ok(());
+    }
+    if reads.has(name) {
+        return Ok(());
+    }
+    if left.has(name) {
+        return Ok(());
+    }
+    let file = MemoryFile {
+        bytes: Vec::new(alloc),
+        regular: true,
+    };
+    left.put(name, Some(file))
+}
+
+/// The size of the file that a write goes to: an absent one is empty where none reads there either.
+fn size_to_write(left: &MemoryFolder, reads: &MemoryFolder, name: &[u8]) -> Option<usize>
+    ensures { MatchOption result (((folder_of left.now).files name.now ≡ None)
+        × (is_some ((folder_of reads.now).files name.now) ≡ true))
+        (λ size. (size ≡ length (bytes_of ((folder_of left.now).files name.now)))
+        × ((folder_of left.now).files name.now ≡ None → (folder_of reads.now).files name.now ≡ None)) }
+{
+    match left.file(name) {
+        Some(bytes) => Some(bytes.len()),
+        None if reads.has(name) => None,
+        None => Some(0),
+    }
+}
+
+/// Bytes are written over a file that is there, or any others in their range and in the gap before it.
+fn write_on(
+    left: &mut MemoryFolder,
+    reads: &MemoryFolder,
+    alloc: Global,
+    image: &[u8],
+    pos: u64,
+    piece: &[u8],
+    garbage: bool,
+) -> Result<(), AllocError>
+    ensures { OnOk result ((folder_of left.new).files ≡ put (folder_of left.old).files image.now
+        (written_on garbage ((folder_of reads.now).files image.now) ((folder_of left.old).files image.now)
+        pos piece.now)) }
+{
+    let Some(size) = size_to_write(left, reads, image) else {
+        return Ok(());
+    };
+    let pos = pos as usize;
+    if !fits(pos, piece.len()) {
+        return Err(AllocError);
+    }
+    if !garbage {
+        return left.write_at(image, pos, piece);
+    }
+    let at = pos.min(size);
+    let any = vec![in alloc; ANY; pos + piece.len() - at]?;
+    left.write_at(image, at, any.as_slice())
+}
+
+/// A piece is written to the image, or other bytes.
+fn write(
+    left: &mut MemoryFolder,
+    reads: &MemoryFolder,
+    alloc: Global,
+    pos: u64,
+    piece: &[u8],
+    garbage: bool,
+) -> Result<(), AllocError>
+    ensures { OnOk result ((folder_of left.new).files ≡ with_some (folder_of reads.now).image
+        (λ n. written_on garbage ((folder_of reads.now).files n) ((folder_of left.old).files n) pos piece.now)
+        (folder_of left.old).files) }
+{
+    let Some(image) = &reads.image else {
+        return Ok(());
+    };
+    write_on(left, reads, alloc, image.as_slice(), pos, piece, garbage)
+}
+
+/// The draft's file with one more piece.
+fn longer(
+    reads: &MemoryFolder,
+    alloc: Global,
+    draft: &[u8],
+    piece: &[u8],
+) -> Result<Vec<u8>, AllocError>
+    ensures { IfOk result (λ bytes. bytes.items ≡ bytes_of ((folder_of reads.now).files draft.now) ++ piece.now) }
+{
+    let mut bytes = match reads.file(draft) {
+        None => Vec::new(alloc),
+        Some(text) => Vec::from_slice(alloc, text)?,
+    };
+    bytes.extend_from_slice(piece)?;
+    Ok(bytes)
+}
+
+/// A piece is added to the draft.
+fn append(
+    left: &mut MemoryFolder,
+    reads: &MemoryFolder,
+    alloc: Global,
+    piece: &[u8],
+) -> Result<(), AllocError>
+    ensures { OnOk result ((folder_of left.new).files ≡ with_some (folder_of reads.now).draft
+        (λ n. Some (record { bytes = bytes_of ((folder_of reads.now).files n) ++ piece.now; regular = true }))
+        (folder_of left.old).files) }
+{
+    let Some(draft) = &reads.draft else {
+        return Ok(());
+    };
+    let file = MemoryFile {
+        bytes: longer(reads, alloc, draft.as_slice(), piece)?,
+        regular: true,
+    };
+    left.put(draft.as_slice(), Some(file))
+}
+
+/// The draft's file as a publish leaves it, or any bytes in its place.
+fn published(
+    reads: &MemoryFolder,
+    alloc: Global,
+    draft: &[u8],
+    firm: bool,
+    garbage: bool,
+) -> Result<Option<MemoryFile>, AllocError>
+    ensures { IfOk result (λ file. file_of file
+        ≡ published_as garbage firm ((folder_of reads.now).files draft.now)) }
+{
+    let file = reads.copy_file(draft)?;
+    if !garbage || firm {
+        return Ok(file);
+    }
+    let Some(text) = file else {
+        return Ok(None);
+    };
+    Ok(Some(MemoryFile {
+        bytes: vec![in alloc; ANY; text.bytes.len()]?,
+        regular: true,
+    }))
+}
+
+/// The draft is published.
+fn publish(
+    left: &mut MemoryFolder,
+    reads: &MemoryFolder,
+    alloc: Global,
+    firm: bool,
+    name: &[u8],
+    garbage: bool,
+) -> Result<(), AllocError>
+    ensures { OnOk result ((folder_of left.new).files ≡ moved_to (folder_of reads.now).draft name.now
+        (λ n. published_as garbage firm ((folder_of reads.now).files n)) (folder_of left.old).files) }
+{
+    let Some(draft) = &reads.draft else {
+        return Ok(());
+    };
+    let file = published(reads, alloc, draft.as_slice(), firm, garbage)?;
+    left.remove(draft.as_slice());
+    left.put(name, file)
+}
+
+/// An empty file is put there.
+fn begin(left: &mut MemoryFolder, alloc: Global, name: &[u8]) -> Result<(), AllocError>
+    ensures { OnOk result ((folder_of left.new).files ≡ put (folder_of left.old).files name.now (Some empty_file)) }
+{
+    let file = MemoryFile {
+        bytes: Vec::new(alloc),
+        regular: true,
+    };
+    left.put(name, Some(file))
+}
+
+/// What a call leaves that was made, with other bytes where any may be, or not.
+fn leave_made(
+    left: &mut MemoryFolder,
+    reads: &MemoryFolder,
+    alloc: Global,
+    firm: bool,
+    garbage: bool,
+    act: &Act,
+) -> Result<(), AllocError>
+    ensures { OnOk result ((folder_of left.new).files
+        ≡ made_part garbage (call_of act.now) (folder_of reads.now) firm (folder_of left.old).files) }
+{
+    match act {
+        Act::ImageOpen(name, make) => open(left, reads, alloc, name.as_slice(), *make),
+        Act::ImageWrite(pos, piece) => write(left, reads, alloc, *pos, piece.as_slice(), garbage),
+        Act::DraftBegin(name) => begin(left, alloc, name.as_slice()),
+        Act::DraftAppend(piece) => append(left, reads, alloc, piece.as_slice()),
+        Act::DraftPublish(name) => publish(left, reads, alloc, firm, name.as_slice(), garbage),
+        Act::MapRemove(name) => {
+            left.remove(name.as_slice());
+            Ok(())
+        }
+        Act::ImageRead(_, _, _) => Ok(()),
+        Act::ImageSync => Ok(()),
+        Act::MapRead(_, _, _, _) => Ok(()),
+        Act::DraftSync => Ok(()),
+        Act::MapSettle(_) => Ok(()),
+    }
+}
+
+/// What a call leaves that was made in any part.
+fn leave(
+    left: &mut MemoryFolder,
+    reads: &MemoryFolder,
+    alloc: Global,
+    firm: bool,
+    kind: Left,
+    act: &Act,
+) -> Result<(), AllocError>
+    ensures { OnOk result ((folder_of left.new).files
+        ≡ left_part kind (call_of act.now) (folder_of reads.now) firm (folder_of left.old).files) }
+{
+    match kind {
+        Left::Oldest => Ok(()),
+        Left::Newest => leave_made(left, reads, alloc, firm, false, act),
+        Left::Garbage => leave_made(left, reads, alloc, firm, true, act),
+    }
+}
+
+/// The name under which a call that returned Ok makes sure what reads.
+fn sure_at<'a>(reads: &'a MemoryFolder, act: &'a Act) -> Option<&'a [u8]>
+    ensures { MatchOption result (sure_name (call_of act.now) (folder_of reads.now) ≡ None)
+        (λ name. sure_name (call_of act.now) (folder_of reads.now) ≡ Some name.now) }
+{
+    match act {
+        Act::ImageSync => match &reads.image {
+            None => None,
+            Some(image) => Some(image.as_slice()),
+        },
+        Act::MapSettle(name) => Some(name.as_slice()),
+        _ => None,
+    }
+}
+
+/// What a call that returned Ok makes sure.
+fn make_sure(left: &mut MemoryFolder, reads: &MemoryFolder, act: &Act) -> Result<(), AllocError>
+    ensures { OnOk result ((folder_of left.new).files ≡ with_some (sure_name (call_of act.now) (folder_of reads.now))
+        (folder_of reads.now).files (folder_of left.old).files) }
+{
+    let Some(name) = sure_at(reads, act) else {
+        return Ok(());
+    };
+    let file = reads.copy_file(name)?;
+    left.put(name, file)
+}
+
+/// Whether the draft is synced after a call.
+fn firm_after(firm: bool, act: &Act, failed: bool) -> bool
+    ensures { (d : Disk) → d.firm ≡ firm
+        → (entered d (if failed then Failed (call_of act.now) else Done (call_of act.now))).firm ≡ result }
+{
+    match act {
+        Act::DraftBegin(_) => false,
+        Act::DraftAppend(_) => false,
+        Act::DraftSync => firm || !failed,
+        _ => firm,
+    }
+}
+
+/// Files as they read and files that a stop may have left, along the calls of a record.
+#[derive(Drop)]
+pub(crate) struct Replay {
+    alloc: Global,
+    kind: Left,
+    reads: MemoryFolder,
+    left: MemoryFolder,
+    firm: bool,
+}
+
+impl Replay {
+    fn new(alloc: Global, kind: Left, start: &MemoryFolder) -> Result<Replay, AllocError>
+        ensures replays { IfOk result (λ replay. Replays replay (at_rest (folder_of start.now))
+            (folder_of start.now).files) }
+        ensures kind { IfOk result (λ replay. replay.kind ≡ kind) }
+    {
+        Ok(Replay {
+            alloc,
+            kind,
+            reads: start.copy()?,
+            left: start.copy()?,
+            firm: false,
+        })
+    }
+
+    /// Leaves what a call does that was made in any part.
+    fn leave(&mut self, act: &Act) -> Result<(), AllocError>
+        ensures left { OnOk result ((folder_of self.new.left).files ≡ left_part self.old.kind (call_of act.now)
+            (folder_of self.old.reads) self.old.firm (folder_of self.old.left).files) }
+        ensures reads { self.new.reads ≡ self.old.reads }
+        ensures firm { self.new.firm ≡ self.old.firm }
+        ensures kind { self.new.kind ≡ self.old.kind }
+    {
+        leave(
+            &mut self.left,
+            &self.reads,
+            self.alloc,
+            self.firm,
+            self.kind,
+            act,
+        )
+    }
+
+    /// Makes a call again that failed.
+    fn fail(&mut self, act: &Act) -> Result<(), AllocError>
+        ensures replays { OnOk result ((d : Disk) (files : List ℕ → Option File) → Replays self.old d files
+            → Replays self.new (entered d (Failed (call_of act.now)))
+            (left_entry self.old.kind d (Failed (call_of act.now)) files)) }
+        ensures kind { self.new.kind ≡ self.old.kind }
+    {
+        self.leave(act)?;
+        self.reads.fail_again(act);
+        self.firm = firm_after(self.firm, act, true);
+        Ok(())
+    }
+
+    /// Makes a call again that returned Ok.
+    fn make(&mut self, act: &Act) -> Result<(), AllocError>
+        ensures replays { OnOk result ((d : Disk) (files : List ℕ → Option File) → Replays self.old d files
+            → Replays self.new (entered d (Done (call_of act.now)))
+            (left_entry self.old.kind d (Done (call_of act.now)) files)) }
+        ensures kind { self.new.kind ≡ self.old.kind }
+    {
+        self.leave(act)?;
+        make_sure(&mut self.left, &self.reads, act)?;
+        self.reads.make_again(act)?;
+        self.firm = firm_after(self.firm, act, false);
+        Ok(())
+    }
+
+    /// Makes a call again.
+    fn step(&mut self, listed: &LoggedCall) -> Result<(), AllocError>
+        ensures replays { OnOk result ((d : Disk) (files : List ℕ → Option File) → Replays self.old d files
+            → Replays self.new (entered d (entry_of listed.now))
+            (left_entry self.old.kind d (entry_of listed.now) files)) }
+        ensures kind { self.new.kind ≡ self.old.kind }
+    {
+        if listed.failed {
+            self.fail(&listed.act)
+        } else {
+            self.make(&listed.act)
+        }
+    }
+
+    /// The files that are left, where the call behind the first k is in progress if there is one.
+    fn cut_off(mut self, log: &CallLog, k: usize) -> Result<MemoryFolder, AllocError>
+        requires { k ≤ length log.now.listed.items }
+        ensures { IfOk result (λ left. (d : Disk) (files : List ℕ → Option File) → Replays self d files
+            → (folder_of left).files ≡ left_along self.kind d files (in_progress (drop k (entries_of log.now)))) }
+    {
+        if k == log.listed.len() {
+            return Ok(self.left);
+        }
+        self.leave(&log.listed[k].act)?;
+        Ok(self.left)
+    }
+}
+
+/// The files that a stop leaves when the first k calls have returned. No image is open there, and no draft begun.
+pub(crate) fn left_at(
+    alloc: Global,
+    start: &MemoryFolder,
+    log: &CallLog,
+    k: usize,
+    kind: Left,
+) -> Result<MemoryFolder, AllocError>
+    requires { k ≤ length log.now.listed.items }
+    ensures left { IfOk result (λ left. (folder_of left).files
+        ≡ files_left kind (folder_of start.now) (entries_of log.now) k) }
+    ensures image { IfOk result (λ left. (folder_of left).image ≡ None) }
+    ensures draft { IfOk result (λ left. (folder_of left).draft ≡ None) }
+{
+    let mut replay = Replay::new(alloc, kind, start)?;
+    for i in 0..k {
+        replay.step(&log.listed[i])?;
+    }
+    let mut left = replay.cut_off(log, k)?;
+    left.image = None;
+    left.draft = None;
+    Ok(left)
+}

@@ -1,0 +1,11 @@
+pub mod ApartLemmas
+pub mod CauseLemmas
+pub mod ListingLemmas
+pub mod LoadLemmas
+pub mod MapReadLemmas
+pub mod MapsLemmas
+pub mod OpenLemmas
+pub mod OpenedLemmas
+pub mod OpeningLemmas
+pub mod PlacedLemmas
+pub mod WorkedLemmas

@@ -1,0 +1,88 @@
+-- What a command asks for of an input.
+use Rattle.std.specs.Prelude.{ℕ, Bool, not, List, Option, Some, None, is_some, unwrap_or, option_map}
+use Rattle.save_resume.specs.MapNames.{MapNames, names_of}
+use Rattle.block_list.specs.declared.status.Status.{Status}
+use Rattle.rescue_domain.specs.Domain.{whole_domain, in_map, listed_in}
+use Rattle.rescue_domain.specs.Places.{place_from, AreAllPlaced, IsAnyBeyond}
+use Rattle.rescue_rules.specs.Setting.{Setting}
+use Rattle.rescue_core.specs.RunState.{names_in}
+use Rattle.rescue_command.specs.declared.options.Options.{Options}
+use Rattle.rescue_command.specs.Options.{cluster_of, in_sectors}
+use Rattle.rescue_command.specs.Command.{Command}
+
+-- where the rescue begins in the output
+abbrev pub output_from : Options → ℕ
+output_from o = unwrap_or o.output_position o.input_position
+
+-- where a position stands there
+abbrev pub place_by : Options → ℕ → ℕ
+place_by o x = place_from o.input_position (output_from o) x
+
+-- each position that is asked for of an input with this length ends in the output below 2^63
+abbrev pub ArePlacedBy : Options → (end : ℕ) → Type 0
+ArePlacedBy o end = AreAllPlaced (whole_domain o.input_position o.size end) o.input_position (output_from o)
+
+-- one of these positions would end there at 2^63 or behind it
+abbrev pub IsBeyond : Options → (end : ℕ) → Type 0
+IsBeyond o end = IsAnyBeyond (whole_domain o.input_position o.size end) o.input_position (output_from o)
+
+-- What maps say of the positions that are to be rescued: the statuses of the domain map and of the test map, if they
+-- are named; and, if the positions that the mapfile lists are to be rescued alone, where these begin and end.
+pub record Maps : Type 0 where
+  pub domain : Option (List Status)
+  pub test : Option (List Status)
+  pub listed : Option (ℕ × ℕ)
+
+-- no map says anything of the positions
+abbrev pub no_maps : Maps
+no_maps = record { domain = None; test = None; listed = None }
+
+-- those from one position on, below another, if they are given
+abbrev pub in_list : (ℕ → Bool) → Option (ℕ × ℕ) → ℕ → Bool
+in_list domain None = domain
+in_list domain (Some k) = listed_in domain k.0 k.1
+
+-- The domain that options and maps ask for of an input with this length: each position of the input from the input
+-- position on, and no more than the size; of these what is finished in the domain map, and what the mapfile lists.
+abbrev pub domain_asked : Options → (end : ℕ) → Maps → ℕ → Bool
+domain_asked o end maps = in_list (in_map (whole_domain o.input_position o.size end) maps.domain) maps.listed
+
+-- what files with these names, this command line, these options and these maps ask for of an input with this length
+abbrev pub setting_asked : (infile outfile : List ℕ) → Option MapNames → (line : List ℕ) → Options → (end : ℕ) → Maps
+    → Setting
+setting_asked infile outfile names line o end maps = record {
+  infile = infile;
+  outfile = outfile;
+  forced = o.forced;
+  has_mapfile = is_some names;
+  names = names_in names;
+  line = line;
+  end = end;
+  domain = domain_asked o end maps;
+  from = o.input_position;
+  to = output_from o;
+  again = o.try_again;
+  retrim = o.retrim;
+  sector = o.sector;
+  cluster = cluster_of o;
+  skip = in_sectors o o.skip;
+  skip_max = in_sectors o o.skip_max;
+  min_rate = o.min_rate;
+  trims = not o.no_trim;
+  scrapes = not o.no_scrape;
+  retries = o.retries;
+  reverse = o.reverse;
+  one_way = o.unidirectional;
+  max_errors = o.max_read_errors;
+  max_areas = o.max_bad_areas;
+  new_areas = o.new_areas;
+  timeout = o.timeout;
+  verbose = o.verbose;
+}
+
+-- the names of the mapfile and its draft, if there is a mapfile
+abbrev pub names_by : Command → Option MapNames
+names_by c = option_map names_of c.mapfile
+
+abbrev pub setting_of : Command → (line : List ℕ) → (end : ℕ) → Maps → Setting
+setting_of c line end maps = setting_asked c.infile c.outfile (names_by c) line c.options end maps

@@ -1,0 +1,9 @@
+pub mod Names
+pub mod Asked
+pub mod Maps
+pub mod Settings
+pub mod Refusals
+pub mod Outside
+pub mod Work
+pub mod Answers
+pub mod Steps

@@ -1,0 +1,53 @@
+-- What was outside of a rescue, and what it did there; and how far the objects tell that.
+use Rattle.std.specs.Prelude.{◌≡◌, ℕ, false, IsTrue, List, [], ◌∷◌, ◌++◌, length, All, Option}
+use Rattle.fault_count.specs.Counts.{raised}
+use Rattle.block_list.specs.declared.status.Status.{Status}
+use Rattle.faulty_source.specs.Journal.{Reading}
+use Rattle.faulty_source.specs.SourceState.{SourceState, OpenFails}
+use Rattle.crash_site.specs.SiteState.{files_in}
+use Rattle.rescue_core.specs.Across.{Across}
+use Rattle.copy_passes.specs.Turns.{IsFrom}
+use Rattle.work_steps.specs.Work.{Opening, Opened, Unopened, Deeds}
+use Rattle.rescue_command.specs.Command.{Command}
+use Rattle.task_files.specs.Asked.{Maps}
+use Rattle.task_files.specs.Maps.{Found, found_in, seen_through}
+-- The files that its steps found, the input's length, what the maps say, and what it did: opens of the input, calls on
+
+-- the files, reads as they are seen by the maps, readings of the clock, and the lines that it says.
+pub record Outside : Type 0 where
+  pub found : Found
+  pub end : ℕ
+  pub maps : Maps
+  pub did : Deeds
+  pub lines : List (List ℕ)
+
+-- The source was asked to open these: it stands where it was asked for none.
+abbrev pub AreOpens : List Opening → (source source' : SourceState) → Type 0
+AreOpens [] source source' = source' ≡ source
+AreOpens (Opened name ∷ []) source source' =
+    (source'.opens ≡ raised source.opens) × (IsTrue source.tells → source'.name ≡ name)
+AreOpens (Unopened name ∷ []) source source' =
+    (source'.opens ≡ raised source.opens) × (source'.is_open ≡ false)
+    × (IsTrue source.is_planned → OpenFails source.plan name)
+AreOpens (first ∷ second ∷ more) source source' = ⊥
+
+-- the journal gained reads that are seen as these, by this map if there is one, and that gave the input's own bytes
+pub record HasGainedReads (test : Option (List Status)) (source source' : SourceState) (reads : List Reading)
+    : Type 0 where
+  pub raw : List Reading
+  pub journal : source'.journal ≡ source.journal ++ raw
+  pub seen_are : seen_through test raw ≡ reads
+  pub right : All (IsFrom source.bytes) reads
+
+-- What an object tells is its own:
+pub record Agrees (c : Command) (o : Across) (w : Outside) : Type 0 where
+  -- the opens are those that the source counts;
+  pub opens : AreOpens w.did.opens o.source o.source'
+  -- where the site tells, the files are its own, and the calls;
+  pub found : IsTrue o.site.tells → w.found ≡ found_in c (files_in o.site)
+  pub calls : IsTrue o.site.tells → o.site'.calls ≡ o.site.calls ++ w.did.gain.calls
+  -- where the source tells, the length is its own, and the reads;
+  pub end : IsTrue o.source.tells → w.end ≡ length o.source.bytes
+  pub reads : IsTrue o.source.tells → HasGainedReads w.maps.test o.source o.source' w.did.gain.reads
+  -- where the clock tells behind the call, the readings are its own.
+  pub times : IsTrue o.clock'.tells → o.clock'.readings ≡ o.clock.readings ++ w.did.gain.times

@@ -1,0 +1,98 @@
+//! What a rescue needs before it opens a file.
+ghost use Rattle.std.specs.Prelude.{◌≡◌, ◌⊎◌, None, IfOk, IfErr, OnOk, option_map};
+ghost use Rattle.rescue_rules.specs.Snapshots.{heading_at};
+ghost use Rattle.save_resume.specs.MapNames.{names_of};
+ghost use Rattle.rescue_command.specs.Command.{told_by};
+ghost use Rattle.option_words.specs.Words.{command_line};
+ghost use Rattle.task_files.specs.Names.{first_same, program_name};
+ghost use Rattle.task_files.specs.Asked.{names_by};
+ghost use Rattle.task_files.specs.Refusals.{NamesRefused};
+ghost use Rattle.task_files.specs.declared.ending.Ending.TheVariants.{NoMemory as OutOfMemory};
+
+use crate::ending::{Ending, Operand};
+use block_list::tiles::NoMemory;
+use mapfile_text::heading::{Heading, Program};
+use option_words::words::Words;
+use rescue_command::command::Command;
+use save_resume::names::Names;
+use std::alloc::Global;
+
+/// The program's name, which begins its command line and its messages.
+pub const PROGRAM: &str = "ddrescue";
+
+/// The first two files that have one name.
+fn find_same(infile: &str, outfile: &str, names: &Option<Names>) -> Option<(Operand, Operand)>
+    ensures { result ≡ first_same infile.now outfile.now names.now }
+{
+    if infile == outfile {
+        return Some((Operand::Infile, Operand::Outfile));
+    }
+    let Some(names) = names else { return None };
+    if infile == names.map() {
+        Some((Operand::Infile, Operand::Mapfile))
+    } else if infile == names.draft() {
+        Some((Operand::Infile, Operand::Draft))
+    } else if outfile == names.map() {
+        Some((Operand::Outfile, Operand::Mapfile))
+    } else if outfile == names.draft() {
+        Some((Operand::Outfile, Operand::Draft))
+    } else {
+        None
+    }
+}
+
+/// The heading of the mapfile, with the command line.
+fn make_heading(alloc: Global, words: &Words) -> Result<Heading, NoMemory>
+    ensures { IfOk result (λ h. h ≡ heading_at (command_line program_name words.now) 0 0) }
+{
+    let line = words.command_line(alloc, PROGRAM)?;
+    Heading::new(alloc, Program::Ddrescue, line.as_str())
+}
+
+/// The names of a mapfile and its draft, if there is one.
+pub fn make_names(alloc: Global, mapfile: Option<&str>) -> Result<Option<Names>, NoMemory>
+    ensures { IfOk result (λ n. n ≡ option_map (λ m. names_of m.now) mapfile.entry) }
+{
+    match mapfile {
+        Some(mapfile) => Ok(Some(Names::of_map(alloc, mapfile)?)),
+        None => Ok(None),
+    }
+}
+
+/// What a rescue needs before it opens a file.
+#[derive(Drop)]
+pub struct CheckedCommand<'a> {
+    pub command: Command<'a>,
+    /// The names of the mapfile and its draft, if there is one.
+    pub names: Option<Names>,
+    pub heading: Heading,
+}
+
+/// Refuses two files of one name, and takes the memory that the saves want for names and heading.
+pub fn check_command<'a>(
+    alloc: Global,
+    words: &Words,
+    command: Command<'a>,
+) -> Result<CheckedCommand<'a>, Ending>
+    ensures command { IfOk result (λ p. told_by p.command ≡ told_by command.entry) }
+    ensures names { IfOk result (λ p. p.names ≡ names_by (told_by command.entry)) }
+    ensures heading { IfOk result (λ p. p.heading ≡ heading_at (command_line program_name words.now) 0 0) }
+    ensures different { OnOk result (first_same (told_by command.entry).infile (told_by command.entry).outfile
+        (names_by (told_by command.entry)) ≡ None) }
+    ensures refused { IfErr result (λ e. NamesRefused (told_by command.entry) e ⊎ (e ≡ OutOfMemory)) }
+{
+    let Ok(names) = make_names(alloc, command.mapfile) else {
+        return Err(Ending::NoMemory);
+    };
+    if let Some((first, second)) = find_same(command.infile, command.outfile, &names) {
+        return Err(Ending::SameName { first, second });
+    }
+    let Ok(heading) = make_heading(alloc, words) else {
+        return Err(Ending::NoMemory);
+    };
+    Ok(CheckedCommand {
+        command,
+        names,
+        heading,
+    })
+}

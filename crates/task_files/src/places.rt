@@ -1,0 +1,28 @@
+//! Whether each position of the domain has a place in the output.
+ghost use Rattle.std.specs.Prelude.{◌≡◌, ◌<◌, ◌^◌, true, false};
+ghost use Rattle.rescue_command.specs.Command.{AreInLimits};
+ghost use Rattle.task_files.specs.Asked.{output_from, ArePlacedBy, IsBeyond};
+
+use rescue_command::options::Options;
+use rescue_domain::places;
+
+/// Where the rescue begins in the output.
+pub fn output_from(options: &Options) -> u64
+    ensures { result ≡ output_from options.now }
+{
+    match options.output_position {
+        Some(position) => position,
+        None => options.input_position,
+    }
+}
+
+/// Whether the positions that are asked for of an input of this length all end in the output below 2^63.
+pub fn places_fit(options: &Options, end: u64) -> bool
+    requires limits { AreInLimits options.now }
+    requires end { end < 2 ^ 63 }
+    ensures fit { result ≡ true → ArePlacedBy options.now end }
+    ensures beyond { result ≡ false → IsBeyond options.now end }
+{
+    let to = output_from(options);
+    places::places_fit(options.input_position, options.size, to, end)
+}

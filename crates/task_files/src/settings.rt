@@ -1,0 +1,59 @@
+//! What options ask of a run, and the line that says how much is asked for.
+ghost use Rattle.std.specs.Prelude.{◌≡◌, ℕ, ◌<◌, ◌≤◌, List, Option, IfOk, option_map};
+ghost use Rattle.rescue_domain.specs.Parts.{covers};
+ghost use Rattle.rescue_rules.specs.Lines.{opening_lines};
+ghost use Rattle.rescue_command.specs.Command.{AreInLimits, told_by};
+ghost use Rattle.task_files.specs.Asked.{Maps, domain_asked, setting_of};
+ghost use Rattle.task_files.specs.Settings.{lines_in, settings_by};
+
+use crate::opening::opening_line;
+use crate::places::output_from;
+use block_list::tiles::NoMemory;
+use rescue_command::command::Command;
+use rescue_command::options::Options;
+use rescue_core::settings::Settings;
+use rescue_domain::domain::Domain;
+use std::alloc::Global;
+
+/// What the rescue is asked to do.
+pub fn settings_for(options: &Options) -> Settings
+    requires { AreInLimits options.now }
+    ensures { result ≡ settings_by options.now }
+{
+    Settings {
+        sector: options.sector,
+        cluster: options.cluster(),
+        ipos: options.input_position,
+        opos: output_from(options),
+        skip: options.first_skip(),
+        skip_max: options.largest_skip(),
+        min_rate: options.min_rate,
+        retries: options.retries,
+        max_errors: options.max_read_errors,
+        max_areas: options.max_bad_areas,
+        new_areas: options.new_areas,
+        timeout: options.timeout,
+        no_trim: options.no_trim,
+        no_scrape: options.no_scrape,
+        reverse: options.reverse,
+        one_way: options.unidirectional,
+    }
+}
+
+/// The line that says how much is asked for, if options ask for that.
+pub fn make_opening(
+    alloc: Global,
+    command: Command<'_>,
+    domain: &Domain,
+) -> Result<Option<Vec<u8>>, NoMemory>
+    ensures { (line : List ℕ) (end : ℕ) (maps : Maps) (top : ℕ) → end ≤ top
+        → ((x : ℕ) → covers domain.now x ≡ domain_asked (told_by command.entry).options end maps x)
+        → IfOk result (λ opening. lines_in (option_map (λ l. l.items) opening)
+        ≡ opening_lines (setting_of (told_by command.entry) line end maps) top) }
+{
+    if !command.options.verbose {
+        return Ok(None);
+    }
+    let line = opening_line(alloc, domain.size(), command.infile, command.outfile)?;
+    Ok(Some(line))
+}

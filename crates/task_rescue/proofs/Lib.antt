@@ -1,0 +1,9 @@
+pub mod BeginLemmas
+pub mod EndLemmas
+pub mod LastLemmas
+pub mod PhaseLemmas
+pub mod RanLemmas
+pub mod SpokenLemmas
+pub mod StoppedLemmas
+pub mod TestedLemmas
+pub mod TurnLemmas

@@ -1,0 +1,91 @@
+-- What was done behind the maps that options name, by where it ended.
+use Rattle.std.proofs.Common.{refl, sym, ◌∙◌}
+use Rattle.std.proofs.lemmas.Result.{err_from_is_err_and}
+use Rattle.faulty_source.proofs.Keeping.{keeps_more}
+use Rattle.rescue_command.specs.Command.{told_by}
+use Rattle.task_files.proofs.CauseLemmas.{load_leaves}
+use Rattle.task_files.proofs.OpenedLemmas.{not_opened, input_fails, output_fails, load_fails, place_fails, run_goes}
+use Rattle.task_rescue.proofs.rescue.open_and_run.Goals as goal
+
+pub returns-in_default-clause-opened : goal.returns-in_default-clause-opened
+returns-in_default-clause-opened g c = input_fails _ _ _ _ _ _ _ _ _ _ c.open_input.ensures.call.journal
+    (not_opened _ c.open_input.result _ _ c.in_default.not-Ok c.open_input.ensures.call c.open_input.ensures.plan)
+
+pub returns-in_err-open_output-clause-opened : goal.returns-in_err-open_output-clause-opened
+returns-in_err-open_output-clause-opened g c =
+    let p = err_from_is_err_and c.from_residual.result c.from_residual.ensures.1 in
+    rw (p.1, p.2) (output_fails (told_by c.args.plan.command) _ _ _ c.args.heard c.in-Ok.end _ _ _ _ _ _ _ (record {
+      opened = (c.open_input.ensures.call.opens, c.in-Ok.ensures.call.named);
+      same = c.open_input.ensures.call.journal;
+      bytes = c.open_input.ensures.call.keeps.bytes;
+      tells = c.open_input.ensures.call.keeps.tells;
+      all = c.in-Ok.ensures.call.all;
+      short = c.in-Ok.ensures.short;
+    }) c.in_err-open_output.ensures.opens)
+
+pub returns-in_err-start-clause-opened : goal.returns-in_err-start-clause-opened
+returns-in_err-start-clause-opened g c =
+    let p = err_from_is_err_and c.from_residual-in_err-start.result c.from_residual-in_err-start.ensures.1 in
+    rw (p.1, p.2) (load_fails (told_by c.args.plan.command) _ _ _ c.args.heard c.args.plan.names c.in-Ok.end _ _ _
+    (g.D.Site.state c.args.site.now) (g.D.Site.state c.open_output.new.site) (g.D.Site.state c.load.new.site) _ _ (record {
+      opened = (c.open_input.ensures.call.opens, c.in-Ok.ensures.call.named);
+      same = c.open_input.ensures.call.journal;
+      bytes = c.open_input.ensures.call.keeps.bytes;
+      tells = c.open_input.ensures.call.keeps.tells;
+      all = c.in-Ok.ensures.call.all;
+      short = c.in-Ok.ensures.short;
+    }) (record {
+      names = c.requires.planned.names;
+      apart = c.requires.planned.apart;
+      output = c.in_ok-open_output.ensures.opens;
+      keeps = c.open_output.ensures.keeps;
+      loads = c.in_err-start.ensures.loaded;
+    }))
+
+pub returns-in_err-start-clause-draft : goal.returns-in_err-start-clause-draft
+returns-in_err-start-clause-draft g c =
+    let p = err_from_is_err_and c.from_residual-in_err-start.result c.from_residual-in_err-start.ensures.1 in
+    rw (p.1, p.2) (c.load.ensures.site.draft ∙ c.open_output.ensures.draft ∙ c.requires.no_draft
+    ∙ sym (load_leaves _ _ _ c.in_err-start.ensures.cause))
+
+pub returns-then-not-places_fit-clause-opened : goal.returns-then-not-places_fit-clause-opened
+returns-then-not-places_fit-clause-opened g c =
+    place_fails (told_by c.args.plan.command) _ _ _ c.args.heard c.args.plan.names c.in-Ok.end c.in_ok-start.start _ _
+    (g.D.Site.state c.args.site.now) (g.D.Site.state c.open_output.new.site) (g.D.Site.state c.load.new.site) _ _ (record {
+      opened = (c.open_input.ensures.call.opens, c.in-Ok.ensures.call.named);
+      same = c.open_input.ensures.call.journal;
+      bytes = c.open_input.ensures.call.keeps.bytes;
+      tells = c.open_input.ensures.call.keeps.tells;
+      all = c.in-Ok.ensures.call.all;
+      short = c.in-Ok.ensures.short;
+    }) (record {
+      names = c.requires.planned.names;
+      apart = c.requires.planned.apart;
+      output = c.in_ok-open_output.ensures.opens;
+      keeps = c.open_output.ensures.keeps;
+      loads = c.in_ok-start.ensures.loaded;
+    }) (c.if-not-places_fit.ensures.beyond refl)
+
+pub returns-clause-opened : goal.returns-clause-opened
+returns-clause-opened g c =
+    run_goes (told_by c.args.plan.command) _ _ _ c.args.heard _ c.args.plan.names c.in-Ok.end c.in_ok-start.start _ _
+    (g.S.Source.state c.open_input.new.self) _ (g.D.Site.state c.args.site.now) (g.D.Site.state c.open_output.new.site)
+    (g.D.Site.state c.load.new.site) _ _ _ _ _ (record {
+      opened = (c.open_input.ensures.call.opens, c.in-Ok.ensures.call.named);
+      same = c.open_input.ensures.call.journal;
+      bytes = c.open_input.ensures.call.keeps.bytes;
+      tells = c.open_input.ensures.call.keeps.tells;
+      all = c.in-Ok.ensures.call.all;
+      short = c.in-Ok.ensures.short;
+    }) (record {
+      names = c.requires.planned.names;
+      apart = c.requires.planned.apart;
+      output = c.in_ok-open_output.ensures.opens;
+      keeps = c.open_output.ensures.keeps;
+      loads = c.in_ok-start.ensures.loaded;
+    }) (c.load.ensures.site.keeps.tells ∙ c.open_output.ensures.keeps.tells) (c.if-not-places_fit.ensures.fit refl)
+    c.run_tested.ensures.source c.run_tested.ensures.ran
+
+pub returns-clause-source : goal.returns-clause-source
+returns-clause-source g c = keeps_more (g.S.Source.state c.args.source.now) (g.S.Source.state c.open_input.new.self)
+    (g.S.Source.state c.run_tested.new.source) c.open_input.ensures.call.keeps c.run_tested.ensures.source.keeps

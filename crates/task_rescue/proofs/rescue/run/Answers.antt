@@ -1,0 +1,48 @@
+use Rattle.std.proofs.Common.{None, arith}
+use Rattle.faulty_source.proofs.Keeping.{stays_self}
+use Rattle.rescue_command.specs.Command.{told_by}
+use Rattle.task_files.specs.Asked.{Maps}
+use Rattle.task_files.specs.Steps.{maps_read}
+use Rattle.task_rescue.proofs.RanLemmas.{ran_by, ran_unbegun}
+use Rattle.task_rescue.proofs.rescue.run.Goals as goal
+
+pub run_rescue-closed-requires-clause-copying : goal.run_rescue-closed-requires-clause-copying
+run_rescue-closed-requires-clause-copying g c =
+    (c.begin-rescue.ensures c.args.end (maps_read c.args.plan.command.options c.args.domain_map.now None c.args.start)
+    c.args.start.tiles.statuses c.args.start.state c.requires.placed c.requires.fits (c.in-Ok.ensures.ready None)).copying
+
+pub run_rescue-closed-requires-clause-places : goal.run_rescue-closed-requires-clause-places
+run_rescue-closed-requires-clause-places g c =
+    (c.begin-rescue.ensures c.args.end (maps_read c.args.plan.command.options c.args.domain_map.now None c.args.start)
+    c.args.start.tiles.statuses c.args.start.state c.requires.placed c.requires.fits (c.in-Ok.ensures.ready None)).places
+
+pub returns-in_default-clause-ran : goal.returns-in_default-clause-ran
+returns-in_default-clause-ran g c = λ test.
+    ran_unbegun _ c.args.start.tiles.statuses c.args.start.state c.args.heard (g.S.Source.state c.args.source.now)
+    (g.D.Site.state c.args.site.now) (g.K.Clock.state c.args.clock.now) (g.C.Console.state c.args.console.now)
+
+pub returns-in_default-clause-source : goal.returns-in_default-clause-source
+returns-in_default-clause-source g c = stays_self _
+
+pub returns-clause-ran : goal.returns-clause-ran
+returns-clause-ran g c = λ test.
+    let maps : Maps = maps_read c.args.plan.command.options c.args.domain_map.now test c.args.start in
+    ran_by (told_by c.args.plan.command) c.args.plan.names c.args.plan.heading.line c.args.end maps
+    c.args.start.tiles.statuses c.args.start.state c.now_ms-moment.result c.args.heard c.say_line-heard.result
+    c.run_rescue-closed.result.heard c.in-Ok.ready c.begin-rescue.result c.run_rescue-closed.result.end c.answer.result
+    (record {
+      source = g.S.Source.state c.args.source.now;
+      source' = g.S.Source.state c.run_rescue-closed.new.source;
+      site = g.D.Site.state c.args.site.now;
+      site' = g.D.Site.state c.run_rescue-closed.new.site;
+      clock = g.K.Clock.state c.now_ms-moment.new.self;
+      clock' = g.K.Clock.state c.run_rescue-closed.new.clock;
+      console = g.C.Console.state c.say_line-heard.new.console;
+      console' = g.C.Console.state c.run_rescue-closed.new.console;
+    })
+    (g.K.Clock.state c.args.clock.now) (g.C.Console.state c.args.console.now) c.requires.planned.names
+    (c.in-Ok.ensures.ready test)
+    (c.begin-rescue.ensures c.args.end maps c.args.start.tiles.statuses c.args.start.state c.requires.placed c.requires.fits
+    (c.in-Ok.ensures.ready test))
+    c.run_rescue-closed.ensures.went c.answer.ensures c.now_ms-moment.ensures.told (omega arith)
+    c.say_line-heard.ensures

@@ -1,0 +1,244 @@
+//! A rescue: the maps that options name, the files, the mapfile, and the run.
+ghost use Rattle.std.specs.Prelude.{◌≡◌, ◌<◌, ◌^◌, false, Option, None};
+ghost use Rattle.faulty_source.specs.SourceState.{Keeps as SourceKeeps, Stays as SourceStays};
+ghost use Rattle.crash_site.specs.SiteState.{Keeps as SiteKeeps};
+ghost use Rattle.rescue_console.specs.ClockState.{Keeps as ClockKeeps};
+ghost use Rattle.block_list.specs.Tiled.{Tiled};
+ghost use Rattle.rescue_command.specs.Command.{told_by};
+ghost use Rattle.task_files.specs.Asked.{setting_of, ArePlacedBy};
+ghost use Rattle.task_files.specs.Answers.{Causes, drafting_left};
+ghost use Rattle.task_files.specs.Steps.{ending_of, heard_behind, maps_read, statuses_in, DidRun, SuitsInput, IsPlanned, DidBehindMaps, Worked};
+ghost use Rattle.task_rescue.specs.Running.{AreReady};
+
+use crate::ready::{begin, make_ready};
+use crate::run::run_rescue;
+use block_list::plain_tiles::PlainTiles;
+use crash_site::site::Site;
+use faulty_source::source::Source;
+use option_words::fault::UsageFault;
+use rescue_console::clock::Clock;
+use rescue_console::console::Console;
+use rescue_domain::test_source::TestSource;
+use std::alloc::Global;
+use task_files::checked::CheckedCommand;
+use task_files::ending::{Ended, Ending, Which, answer};
+use task_files::load::{LoadedMap, load};
+use task_files::maps::read_named;
+use task_files::open::open_output;
+use task_files::opening::say_line;
+use task_files::places::places_fit;
+
+/// Runs the rescue over the map that it goes on with. All memory is taken before the clock is read; what is said first
+/// is said behind that.
+fn run<S: Source, D: Site, K: Clock, C: Console>(
+    alloc: Global,
+    plan: CheckedCommand<'_>,
+    domain_map: &Option<PlainTiles>,
+    source: &mut S,
+    site: &mut D,
+    clock: &mut K,
+    console: &mut C,
+    start: LoadedMap,
+    end: u64,
+    heard: bool,
+) -> Ended
+    requires ready { AreReady (S.state source.old) (D.state site.old) }
+    requires planned { IsPlanned plan }
+    requires placed { ArePlacedBy (told_by plan.command).options end }
+    requires end { end < 2 ^ 63 }
+    requires fits { SuitsInput end start.tiles.statuses start.state }
+    ensures ran { (test : Option Tiled) → DidRun (setting_of (told_by plan.entry.command) plan.entry.heading.line end
+        (maps_read (told_by plan.entry.command).options domain_map.now test start)) None start.tiles.statuses
+        start.state heard result.heard result.ending (record {
+          source = S.state source.old;
+          source' = S.state source.new;
+          site = D.state site.old;
+          site' = D.state site.new;
+          clock = K.state clock.old;
+          clock' = K.state clock.new;
+          console = C.state console.old;
+          console' = C.state console.new;
+        }) }
+    ensures cause { Causes result.ending (S.state source.old) (S.state source.new) (D.state site.old)
+        (D.state site.new) }
+    ensures draft { (D.state site.new).is_drafting ≡ drafting_left result.ending }
+    ensures source { SourceStays (S.state source.old) (S.state source.new) }
+    ensures site { SiteKeeps (D.state site.old) (D.state site.new) }
+    ensures clock { ClockKeeps (K.state clock.old) (K.state clock.new) }
+{
+    let CheckedCommand {
+        command,
+        names,
+        heading,
+    } = plan;
+    let Ok(ready) = make_ready(alloc, command, domain_map, start, end) else {
+        let ending = Ending::NoMemory;
+        return Ended { ending, heard };
+    };
+    let moment = clock.now_ms();
+    let heard = say_line(console, &ready.opening, heard);
+    let rescue = begin(ready, command, names, heading, moment, heard);
+    let closed = run_rescue(rescue, source, site, clock, console);
+    Ended {
+        ending: answer(closed.end),
+        heard: closed.heard,
+    }
+}
+
+/// Runs it in test mode if there is a test map: then the input gives what is finished in that map alone.
+fn run_tested<S: Source, D: Site, K: Clock, C: Console>(
+    alloc: Global,
+    plan: CheckedCommand<'_>,
+    domain_map: &Option<PlainTiles>,
+    test_map: &Option<PlainTiles>,
+    source: &mut S,
+    site: &mut D,
+    clock: &mut K,
+    console: &mut C,
+    start: LoadedMap,
+    end: u64,
+    heard: bool,
+) -> Ended
+    requires ready { AreReady (S.state source.old) (D.state site.old) }
+    requires planned { IsPlanned plan }
+    requires placed { ArePlacedBy (told_by plan.command).options end }
+    requires end { end < 2 ^ 63 }
+    requires fits { SuitsInput end start.tiles.statuses start.state }
+    ensures ran { DidRun (setting_of (told_by plan.entry.command) plan.entry.heading.line end
+        (maps_read (told_by plan.entry.command).options domain_map.now test_map.now start)) (statuses_in test_map.now)
+        start.tiles.statuses start.state heard result.heard result.ending (record {
+          source = S.state source.old;
+          source' = S.state source.new;
+          site = D.state site.old;
+          site' = D.state site.new;
+          clock = K.state clock.old;
+          clock' = K.state clock.new;
+          console = C.state console.old;
+          console' = C.state console.new;
+        }) }
+    ensures cause { Causes result.ending (S.state source.old) (S.state source.new) (D.state site.old)
+        (D.state site.new) }
+    ensures draft { (D.state site.new).is_drafting ≡ drafting_left result.ending }
+    ensures source { SourceStays (S.state source.old) (S.state source.new) }
+    ensures site { SiteKeeps (D.state site.old) (D.state site.new) }
+    ensures clock { ClockKeeps (K.state clock.old) (K.state clock.new) }
+{
+    match test_map {
+        None => run(
+            alloc, plan, domain_map, source, site, clock, console, start, end, heard,
+        ),
+        Some(tiles) => {
+            let mut tested = TestSource::new(source, tiles);
+            run(
+                alloc,
+                plan,
+                domain_map,
+                &mut tested,
+                site,
+                clock,
+                console,
+                start,
+                end,
+                heard,
+            )
+        }
+    }
+}
+
+/// Opens the files, loads the mapfile if there is one, and runs the rescue.
+fn open_and_run<S: Source, D: Site, K: Clock, C: Console>(
+    alloc: Global,
+    plan: CheckedCommand<'_>,
+    domain_map: &Option<PlainTiles>,
+    test_map: &Option<PlainTiles>,
+    source: &mut S,
+    site: &mut D,
+    clock: &mut K,
+    console: &mut C,
+    heard: bool,
+) -> Result<Ended, Ending>
+    requires no_draft { (D.state site.old).is_drafting ≡ false }
+    requires planned { IsPlanned plan }
+    ensures opened { DidBehindMaps (told_by plan.entry.command) plan.entry.heading.line (statuses_in domain_map.now)
+        (statuses_in test_map.now) heard (heard_behind heard result) (ending_of result) (record {
+          source = S.state source.old;
+          source' = S.state source.new;
+          site = D.state site.old;
+          site' = D.state site.new;
+          clock = K.state clock.old;
+          clock' = K.state clock.new;
+          console = C.state console.old;
+          console' = C.state console.new;
+        }) }
+    ensures cause { Causes (ending_of result) (S.state source.old) (S.state source.new) (D.state site.old)
+        (D.state site.new) }
+    ensures draft { (D.state site.new).is_drafting ≡ drafting_left (ending_of result) }
+    ensures source { SourceKeeps (S.state source.old) (S.state source.new) }
+    ensures site { SiteKeeps (D.state site.old) (D.state site.new) }
+    ensures clock { ClockKeeps (K.state clock.old) (K.state clock.new) }
+{
+    let command = plan.command;
+    let Ok(end) = source.open_input(command.infile) else {
+        return Err(Ending::SourceFault);
+    };
+    open_output(site, command.outfile, true, command.options.forced)?;
+    let start = load(alloc, site, &plan.names, end)?;
+    if !places_fit(&command.options, end) {
+        return Err(Ending::Usage(UsageFault::PlaceTooLarge));
+    }
+    Ok(run_tested(
+        alloc, plan, domain_map, test_map, source, site, clock, console, start, end, heard,
+    ))
+}
+
+/// Reads the maps that options name, opens the files, loads the mapfile if there is one, and runs the rescue.
+pub fn rescue<S: Source, D: Site, K: Clock, C: Console>(
+    alloc: Global,
+    plan: CheckedCommand<'_>,
+    source: &mut S,
+    site: &mut D,
+    clock: &mut K,
+    console: &mut C,
+    heard: bool,
+) -> Result<Ended, Ending>
+    requires no_draft { (D.state site.old).is_drafting ≡ false }
+    requires planned { IsPlanned plan }
+    ensures worked { Worked (told_by plan.entry.command) plan.entry.heading.line heard (heard_behind heard result)
+        (ending_of result) (record {
+          source = S.state source.old;
+          source' = S.state source.new;
+          site = D.state site.old;
+          site' = D.state site.new;
+          clock = K.state clock.old;
+          clock' = K.state clock.new;
+          console = C.state console.old;
+          console' = C.state console.new;
+        }) }
+    ensures cause { Causes (ending_of result) (S.state source.old) (S.state source.new) (D.state site.old)
+        (D.state site.new) }
+    ensures draft { (D.state site.new).is_drafting ≡ drafting_left (ending_of result) }
+    ensures source { SourceKeeps (S.state source.old) (S.state source.new) }
+    ensures site { SiteKeeps (D.state site.old) (D.state site.new) }
+    ensures clock { ClockKeeps (K.state clock.old) (K.state clock.new) }
+{
+    let loose = plan.command.options.loose;
+    let domain_map = read_named(
+        alloc,
+        site,
+        Which::DomainMap,
+        plan.command.domain_map,
+        loose,
+    )?;
+    let test_map = read_named(alloc, site, Which::TestMap, plan.command.test_map, loose)?;
+    open_and_run(
+        alloc,
+        plan,
+        &domain_map,
+        &test_map,
+        source,
+        site,
+        clock,
+        console,
+        heard,
+    )
+}

@@ -1,0 +1,97 @@
+//! The run of a rescue: its phases, and behind them the last save and the last line.
+ghost use Rattle.std.specs.Prelude.{◌≡◌, IfOk};
+ghost use Rattle.faulty_source.specs.SourceState.{Stays as SourceStays};
+ghost use Rattle.crash_site.specs.SiteState.{Keeps as SiteKeeps};
+ghost use Rattle.rescue_console.specs.ClockState.{Keeps as ClockKeeps};
+ghost use Rattle.rescue_domain.specs.Parts.{covers};
+ghost use Rattle.rescue_rules.specs.declared.phase.Phase.TheVariants.{Retrying as LastPhase};
+ghost use Rattle.rescue_core.specs.RunState.{HasPlaces};
+ghost use Rattle.copy_passes.specs.Turns.{PhaseEnds};
+ghost use Rattle.copy_passes.specs.Copying.{MayCopy};
+ghost use Rattle.trim_scrape.specs.Behind.{IsBehind};
+ghost use Rattle.task_files.specs.Answers.{Causes, drafting_left};
+ghost use Rattle.task_files.specs.Work.{answer_of};
+ghost use Rattle.task_rescue.specs.Running.{AreReady, WentToEnd};
+
+use copy_passes::copy::run_copying;
+use crash_site::site::Site;
+use faulty_source::source::Source;
+use rescue_console::clock::Clock;
+use rescue_console::console::Console;
+use rescue_core::closing::Closed;
+use rescue_core::phases::{Copying, Finished, Rescue, Stopped};
+use task_files::load::RunMap;
+use trim_scrape::phases::{run_retrying, run_scraping, run_trimming};
+
+/// Makes the phases of a rescue in order: it copies, trims, scrapes and retries.
+pub fn run_phases<S: Source, D: Site, K: Clock, C: Console>(
+    rescue: Rescue<Copying, RunMap>,
+    source: &mut S,
+    site: &mut D,
+    clock: &mut K,
+    console: &mut C,
+) -> Result<Rescue<Finished, RunMap>, Stopped<RunMap>>
+    requires copying { MayCopy rescue }
+    requires places { HasPlaces rescue.settings (covers rescue.domain) }
+    requires ready { AreReady (S.state source.old) (D.state site.old) }
+    ensures ends { PhaseEnds rescue result (record {
+      source = S.state source.old;
+      source' = S.state source.new;
+      site = D.state site.old;
+      site' = D.state site.new;
+      clock = K.state clock.old;
+      clock' = K.state clock.new;
+      console = C.state console.old;
+      console' = C.state console.new;
+    }) }
+    ensures behind { IfOk result (λ r. IsBehind LastPhase r) }
+{
+    let copied = match run_copying(rescue, source, site, clock, console) {
+        Ok(copied) => copied,
+        Err(stopped) => return Err(stopped),
+    };
+    let trimmed = match run_trimming(copied, source, site, clock, console) {
+        Ok(trimmed) => trimmed,
+        Err(stopped) => return Err(stopped),
+    };
+    let scraped = match run_scraping(trimmed, source, site, clock, console) {
+        Ok(scraped) => scraped,
+        Err(stopped) => return Err(stopped),
+    };
+    run_retrying(scraped, source, site, clock, console)
+}
+
+/// Makes the phases of a rescue in order, and saves the map at its end, or where it stopped; without a mapfile the
+/// output is made durable then. A line says now and then how far it has come, and one how it ended.
+pub fn run_rescue<S: Source, D: Site, K: Clock, C: Console>(
+    rescue: Rescue<Copying, RunMap>,
+    source: &mut S,
+    site: &mut D,
+    clock: &mut K,
+    console: &mut C,
+) -> Closed
+    requires copying { MayCopy rescue }
+    requires places { HasPlaces rescue.settings (covers rescue.domain) }
+    requires ready { AreReady (S.state source.old) (D.state site.old) }
+    ensures went { WentToEnd rescue result.end result.heard (record {
+      source = S.state source.old;
+      source' = S.state source.new;
+      site = D.state site.old;
+      site' = D.state site.new;
+      clock = K.state clock.old;
+      clock' = K.state clock.new;
+      console = C.state console.old;
+      console' = C.state console.new;
+    }) }
+    ensures cause { Causes (answer_of result.end) (S.state source.old) (S.state source.new) (D.state site.old)
+        (D.state site.new) }
+    ensures draft { (D.state site.new).is_drafting ≡ drafting_left (answer_of result.end) }
+    ensures source { SourceStays (S.state source.old) (S.state source.new) }
+    ensures site { SiteKeeps (D.state site.old) (D.state site.new) }
+    ensures clock { ClockKeeps (K.state clock.old) (K.state clock.new) }
+{
+    match run_phases(rescue, source, site, clock, console) {
+        Ok(finished) => finished.close(site, console),
+        Err(stopped) => stopped.close(site, console),
+    }
+}

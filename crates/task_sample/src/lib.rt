@@ -1,0 +1,4 @@
+//! The rescue of a sample in memory, and its one line.
+#![tactic(auto)]
+
+pub mod sample;

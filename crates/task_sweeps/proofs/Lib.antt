@@ -1,0 +1,10 @@
+pub mod FilesLemmas
+pub mod FilledLemmas
+pub mod GeneratedLemmas
+pub mod PatternLemmas
+pub mod SweepFiles
+pub mod SweepMaps
+pub mod SweepNames
+pub mod SweepOutside
+pub mod SweptEnds
+pub mod SweptLemmas

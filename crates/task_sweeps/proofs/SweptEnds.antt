@@ -1,0 +1,90 @@
+-- What a sweep leaves of the objects' counts, and of its draft.
+use Rattle.std.proofs.Common.{◌≡◌, ℕ, List, Option, Some, None, refl, sym, ap, subst, ◌∙◌}
+use Rattle.fault_count.specs.Counts.{raised}
+use Rattle.faulty_source.specs.SourceState.{SourceState}
+use Rattle.crash_site.specs.declared.site.SiteCall.{SiteCall}
+use Rattle.crash_site.specs.SiteState.{SiteState}
+use Rattle.rescue_rules.specs.declared.stop.Stop.{Stop}
+use Rattle.rescue_rules.specs.declared.stop.Stop.TheVariants.{SourceLost as InputLost, Site, LimitMet as Limited, NoMemory as NoRoom}
+use Rattle.rescue_rules.specs.declared.stop.RunEnd.{RunEnd}
+use Rattle.rescue_rules.specs.declared.stop.RunEnd.TheVariants.{Done as Finished, Stopped, SaveFailed}
+use Rattle.rescue_rules.specs.Setting.{Setting}
+use Rattle.rescue_rules.specs.Work.{end_of}
+use Rattle.sweep_rules.specs.Sweep.{Sweeper, Sweep, Swept, behind_pieces}
+use Rattle.sweep_rules.specs.SweepWork.{SweepEndsBy}
+use Rattle.fill_generate.specs.Sweeping.{EndsSweep, Saved, Unsaved, Cut, Broken, drafting_behind}
+use Rattle.task_files.specs.declared.ending.Ending.{Ending}
+use Rattle.task_files.specs.declared.ending.Ending.TheVariants.{MapRefused, SiteFault, NoMemory}
+use Rattle.task_files.specs.Answers.{Causes, Rises, drafting_left}
+use Rattle.task_files.specs.Work.{answer_of}
+use Rattle.task_sweeps.specs.SweepSteps.{SweepCause}
+use Rattle.task_files.proofs.CauseLemmas.{causes_behind}
+
+-- its last calls returned, or one of them failed
+saved_cause : (s : Setting) (w : Sweeper) (m : Sweep) (stop : Option Stop) (source : SourceState) (site site' : SiteState)
+    → SweepEndsBy stop s w m → site'.faults ≡ site.faults → Causes (answer_of (end_of stop)) source source site site'
+saved_cause s w m None source site site' by same = record { faults = refl; losses_ = refl; site_faults = same }
+saved_cause s w m (Some InputLost) source site site' by same = absurd by
+saved_cause s w m (Some (Site call)) source site site' by same = absurd by
+saved_cause s w m (Some (Limited limit)) source site site' by same = absurd by
+saved_cause s w m (Some NoRoom) source site site' by same = record { faults = refl; losses_ = refl; site_faults = same }
+
+unsaved_cause : (s : Setting) (w : Sweeper) (m : Sweep) (stop : Option Stop) (call : SiteCall) (source : SourceState)
+    (site site' : SiteState) → SweepEndsBy stop s w m → site'.faults ≡ raised site.faults
+    → Causes (answer_of (SaveFailed call stop)) source source site site'
+unsaved_cause s w m None call source site site' by rose = record { faults = refl; losses_ = refl; site_faults = rose }
+unsaved_cause s w m (Some InputLost) call source site site' by rose = absurd by
+unsaved_cause s w m (Some (Site before)) call source site site' by rose = absurd by
+unsaved_cause s w m (Some (Limited limit)) call source site site' by rose = absurd by
+unsaved_cause s w m (Some NoRoom) call source site site' by rose =
+    record { faults = refl; losses_ = refl; site_faults = rose }
+
+-- A sweep has the cause of its answer,
+pub sweep_cause : (s : Setting) (w : Sweeper) (m : Sweep) (es : List Swept) (end : RunEnd) (site site' : SiteState) (e : Ending)
+    → EndsSweep s w m es end site site' → e ≡ answer_of end → SweepCause e site site'
+sweep_cause s w m es end site site' e (Saved stop by is makes) answered = λ source.
+    subst (λ (v : Ending). Causes v source source site site') (ap answer_of (sym is) ∙ sym answered)
+    (saved_cause s w (behind_pieces w m es) stop source site site' by makes.faults)
+sweep_cause s w m es end site site' e (Unsaved stop call by is breaks) answered = λ source.
+    subst (λ (v : Ending). Causes v source source site site') (ap answer_of (sym is) ∙ sym answered)
+    (unsaved_cause s w (behind_pieces w m es) stop call source site site' by breaks.rose)
+sweep_cause s w m es end site site' e (Cut p q piece is breaks) answered = λ source.
+    subst (λ (v : Ending). Causes v source source site site') (ap answer_of (sym is) ∙ sym answered)
+    (record { faults = refl; losses_ = refl; site_faults = breaks.rose })
+sweep_cause s w m es end site site' e (Broken before last call split is breaks) answered = λ source.
+    subst (λ (v : Ending). Causes v source source site site') (ap answer_of (sym is) ∙ sym answered)
+    (record { faults = refl; losses_ = refl; site_faults = breaks.rose })
+
+-- behind steps that counted nothing,
+input_behind : (opens losses calls : ℕ → ℕ) (s s' : SourceState) (d d' : SiteState) → s'.faults ≡ s.faults
+    → s'.losses ≡ s.losses → Rises opens losses calls s' s' d d' → Rises opens losses calls s s' d d'
+input_behind opens losses calls s s' d d' faults lost r = record {
+  faults = r.faults ∙ ap opens faults;
+  losses_ = r.losses_ ∙ ap losses lost;
+  site_faults = r.site_faults;
+}
+
+causes_input : (e : Ending) (s s' : SourceState) (d d' : SiteState) → s'.faults ≡ s.faults → s'.losses ≡ s.losses
+    → Causes e s' s' d d' → Causes e s s' d d'
+causes_input (MapRefused which error) s s' d d' faults lost c =
+    (c.0, c.1, input_behind _ _ _ s s' d d' faults lost c.2)
+causes_input (SiteFault call (Some (Site before))) s s' d d' faults lost c = absurd c
+causes_input e s s' d d' faults lost c = input_behind _ _ _ s s' d d' faults lost c
+
+pub cause_behind : (e : Ending) (s s' : SourceState) (d d1 d' : SiteState) → s'.faults ≡ s.faults → s'.losses ≡ s.losses
+    → d1.faults ≡ d.faults → SweepCause e d1 d' → Causes e s s' d d'
+cause_behind e s s' d d1 d' faults lost same cause =
+    causes_input e s s' d d' faults lost (causes_behind e s' s' d d1 d' same (cause s'))
+
+-- also where memory ran out before it began,
+pub none_cause : (site : SiteState) → SweepCause NoMemory site site
+none_cause site = λ source. record { faults = refl; losses_ = refl; site_faults = refl }
+
+-- and leaves a draft begun where its answer says so.
+pub draft_as : (end : RunEnd) → drafting_behind end ≡ drafting_left (answer_of end)
+draft_as Finished = refl
+draft_as (Stopped InputLost) = refl
+draft_as (Stopped (Site call)) = refl
+draft_as (Stopped (Limited limit)) = refl
+draft_as (Stopped NoRoom) = refl
+draft_as (SaveFailed call earlier) = refl

@@ -1,0 +1,199 @@
+use Rattle.std.proofs.Common.{None, refl, sym, ◌∙◌}
+use Rattle.std.proofs.lemmas.Result.{err_from_is_err_and}
+use Rattle.faulty_source.proofs.Keeping.{keeps_self, keeps_more}
+use Rattle.rescue_command.specs.Command.{told_by}
+use Rattle.task_files.specs.declared.ending.Which.TheVariants.{DomainMap}
+use Rattle.task_files.proofs.CauseLemmas.{map_causes, map_drafts, load_leaves}
+use Rattle.task_files.proofs.OpenedLemmas.{not_opened}
+use Rattle.task_sweeps.proofs.SweptEnds.{cause_behind}
+use Rattle.task_sweeps.proofs.FilledLemmas.{takes_as, takes_into, fill_unread, fill_unopened, fill_unpatterned, fill_output, fill_load, fill_unplaced, fill_goes}
+use Rattle.task_sweeps.proofs.fill.fill.Goals as goal
+
+pub returns-in_err-domain_map-clause-worked : goal.returns-in_err-domain_map-clause-worked
+returns-in_err-domain_map-clause-worked g c =
+    let p = err_from_is_err_and c.from_residual.result c.from_residual.ensures.1 in
+    rw (p.1, p.2) (fill_unread c.args.types (told_by c.args.plan.command) _ c.args.heard c.requires.planned.different _
+    (g.S.Source.state c.args.source.now) (g.D.Site.state c.args.site.now) (g.D.Site.state c.read_named.new.site)
+    (g.K.Clock.state c.args.clock.now)
+    (g.C.Console.state c.args.console.now) c.in_err-domain_map.ensures.told)
+
+pub returns-in_err-domain_map-clause-cause : goal.returns-in_err-domain_map-clause-cause
+returns-in_err-domain_map-clause-cause g c =
+    let p = err_from_is_err_and c.from_residual.result c.from_residual.ensures.1 in
+    rw (p.1, p.2) (map_causes DomainMap _ (g.S.Source.state c.args.source.now) (g.D.Site.state c.args.site.now)
+    (g.D.Site.state c.read_named.new.site) (λ is. cc) c.in_err-domain_map.ensures.cause)
+
+pub returns-in_err-domain_map-clause-draft : goal.returns-in_err-domain_map-clause-draft
+returns-in_err-domain_map-clause-draft g c =
+    let p = err_from_is_err_and c.from_residual.result c.from_residual.ensures.1 in
+    rw (p.1, p.2) (c.in_err-domain_map.ensures.site.draft ∙ c.requires.no_draft
+    ∙ sym (map_drafts DomainMap _ _ _ c.in_err-domain_map.ensures.cause))
+
+pub returns-in_err-domain_map-clause-source : goal.returns-in_err-domain_map-clause-source
+returns-in_err-domain_map-clause-source g c = keeps_self _
+
+pub returns-in_default-clause-worked : goal.returns-in_default-clause-worked
+returns-in_default-clause-worked g c =
+    fill_unopened c.args.types (told_by c.args.plan.command) _ c.args.heard c.requires.planned.different
+    c.in_ok-domain_map.domain_map (g.S.Source.state c.args.source.now) (g.D.Site.state c.args.site.now)
+    (g.D.Site.state c.read_named.new.site) c.in_ok-domain_map.ensures.told c.in_ok-domain_map.ensures.site
+    (g.S.Source.state c.open_input.new.self) (g.K.Clock.state c.args.clock.now)
+    (g.C.Console.state c.args.console.now) c.open_input.ensures.call.journal
+    (not_opened _ c.open_input.result _ _ c.in_default.not-Ok c.open_input.ensures.call c.open_input.ensures.plan)
+
+pub returns-in_err-buffer-clause-worked : goal.returns-in_err-buffer-clause-worked
+returns-in_err-buffer-clause-worked g c =
+    let p = err_from_is_err_and c.from_residual-in_err-buffer.result c.from_residual-in_err-buffer.ensures.1 in
+    rw (p.1, p.2) (fill_unpatterned c.args.types (told_by c.args.plan.command) _ c.args.heard c.requires.planned.different
+    c.in_ok-domain_map.domain_map (g.S.Source.state c.args.source.now) (g.D.Site.state c.args.site.now)
+    (g.D.Site.state c.read_named.new.site) c.in_ok-domain_map.ensures.told c.in_ok-domain_map.ensures.site
+    c.in-Ok.end (g.S.Source.state c.open_input.new.self) (g.S.Source.state c.read_pattern.new.source) (g.K.Clock.state c.args.clock.now)
+    (g.C.Console.state c.args.console.now) (record {
+      opened = (c.open_input.ensures.call.opens, c.in-Ok.ensures.call.named);
+      same = c.open_input.ensures.call.journal;
+      bytes = c.open_input.ensures.call.keeps.bytes;
+      tells = c.open_input.ensures.call.keeps.tells;
+      all = c.in-Ok.ensures.call.all;
+      short = c.in-Ok.ensures.short;
+    }) c.read_pattern.ensures.source _
+    (takes_as c.cluster.result _ _ _ _ _ c.cluster.ensures c.in_err-buffer.ensures.takes))
+
+pub returns-in_err-open_output-clause-worked : goal.returns-in_err-open_output-clause-worked
+returns-in_err-open_output-clause-worked g c =
+    let p = err_from_is_err_and c.from_residual-in_err-open_output.result c.from_residual-in_err-open_output.ensures.1 in
+    rw (p.1, p.2) (fill_output c.args.types (told_by c.args.plan.command) _ c.args.heard c.requires.planned.different
+    c.in_ok-domain_map.domain_map (g.S.Source.state c.args.source.now) (g.D.Site.state c.args.site.now)
+    (g.D.Site.state c.read_named.new.site) c.in_ok-domain_map.ensures.told c.in_ok-domain_map.ensures.site
+    c.in-Ok.end (g.S.Source.state c.open_input.new.self) (g.S.Source.state c.read_pattern.new.source) (g.K.Clock.state c.args.clock.now)
+    (g.C.Console.state c.args.console.now) (record {
+      opened = (c.open_input.ensures.call.opens, c.in-Ok.ensures.call.named);
+      same = c.open_input.ensures.call.journal;
+      bytes = c.open_input.ensures.call.keeps.bytes;
+      tells = c.open_input.ensures.call.keeps.tells;
+      all = c.in-Ok.ensures.call.all;
+      short = c.in-Ok.ensures.short;
+    }) c.read_pattern.ensures.source
+    c.in_ok-buffer.buffer.items
+    (takes_as c.cluster.result _ _ _ _ _ c.cluster.ensures c.in_ok-buffer.ensures.takes)
+    _ (g.D.Site.state c.open_output.new.site) c.in_err-open_output.ensures.opens)
+
+pub returns-in_err-start-clause-worked : goal.returns-in_err-start-clause-worked
+returns-in_err-start-clause-worked g c =
+    let p = err_from_is_err_and c.from_residual-in_err-start.result c.from_residual-in_err-start.ensures.1 in
+    rw (p.1, p.2) (fill_load c.args.types (told_by c.args.plan.command) _ c.args.heard c.requires.planned.different
+    c.in_ok-domain_map.domain_map (g.S.Source.state c.args.source.now) (g.D.Site.state c.args.site.now)
+    (g.D.Site.state c.read_named.new.site) c.in_ok-domain_map.ensures.told c.in_ok-domain_map.ensures.site
+    c.in-Ok.end (g.S.Source.state c.open_input.new.self) (g.S.Source.state c.read_pattern.new.source) (g.K.Clock.state c.args.clock.now)
+    (g.C.Console.state c.args.console.now) (record {
+      opened = (c.open_input.ensures.call.opens, c.in-Ok.ensures.call.named);
+      same = c.open_input.ensures.call.journal;
+      bytes = c.open_input.ensures.call.keeps.bytes;
+      tells = c.open_input.ensures.call.keeps.tells;
+      all = c.in-Ok.ensures.call.all;
+      short = c.in-Ok.ensures.short;
+    }) c.read_pattern.ensures.source
+    c.in_ok-buffer.buffer.items
+    (takes_as c.cluster.result _ _ _ _ _ c.cluster.ensures c.in_ok-buffer.ensures.takes)
+    c.args.plan.names _ (g.D.Site.state c.open_output.new.site)
+    (g.D.Site.state c.load.new.site) (record {
+      names = c.requires.planned.names;
+      apart = c.requires.planned.apart;
+      output = c.in_ok-open_output.ensures.opens;
+      keeps = c.open_output.ensures.keeps;
+      loads = c.in_err-start.ensures.loaded;
+    }))
+
+pub returns-in_err-start-clause-draft : goal.returns-in_err-start-clause-draft
+returns-in_err-start-clause-draft g c =
+    let p = err_from_is_err_and c.from_residual-in_err-start.result c.from_residual-in_err-start.ensures.1 in
+    rw (p.1, p.2) (c.load.ensures.site.draft ∙ c.open_output.ensures.draft ∙ c.read_named.ensures.site.draft
+    ∙ c.requires.no_draft ∙ sym (load_leaves _ _ _ c.in_err-start.ensures.cause))
+
+pub returns-then-not-places_fit-clause-worked : goal.returns-then-not-places_fit-clause-worked
+returns-then-not-places_fit-clause-worked g c =
+    fill_unplaced c.args.types (told_by c.args.plan.command) _ c.args.heard c.requires.planned.different
+    c.in_ok-domain_map.domain_map (g.S.Source.state c.args.source.now) (g.D.Site.state c.args.site.now)
+    (g.D.Site.state c.read_named.new.site) c.in_ok-domain_map.ensures.told c.in_ok-domain_map.ensures.site
+    c.in-Ok.end (g.S.Source.state c.open_input.new.self) (g.S.Source.state c.read_pattern.new.source) (g.K.Clock.state c.args.clock.now)
+    (g.C.Console.state c.args.console.now) (record {
+      opened = (c.open_input.ensures.call.opens, c.in-Ok.ensures.call.named);
+      same = c.open_input.ensures.call.journal;
+      bytes = c.open_input.ensures.call.keeps.bytes;
+      tells = c.open_input.ensures.call.keeps.tells;
+      all = c.in-Ok.ensures.call.all;
+      short = c.in-Ok.ensures.short;
+    }) c.read_pattern.ensures.source
+    c.in_ok-buffer.buffer.items
+    (takes_as c.cluster.result _ _ _ _ _ c.cluster.ensures c.in_ok-buffer.ensures.takes)
+    c.args.plan.names c.in_ok-start.start (g.D.Site.state c.open_output.new.site)
+    (g.D.Site.state c.load.new.site) (record {
+      names = c.requires.planned.names;
+      apart = c.requires.planned.apart;
+      output = c.in_ok-open_output.ensures.opens;
+      keeps = c.open_output.ensures.keeps;
+      loads = c.in_ok-start.ensures.loaded;
+    })
+    (c.load.ensures.site.keeps.tells ∙ c.open_output.ensures.keeps.tells) c.end-top.result c.end-top.ensures.end
+    (c.if-not-places_fit.ensures.beyond refl)
+
+pub returns-clause-worked : goal.returns-clause-worked
+returns-clause-worked g c =
+    fill_goes c.args.types (told_by c.args.plan.command) _ c.args.heard c.requires.planned.different
+    c.in_ok-domain_map.domain_map (g.S.Source.state c.args.source.now) (g.D.Site.state c.args.site.now)
+    (g.D.Site.state c.read_named.new.site) c.in_ok-domain_map.ensures.told c.in_ok-domain_map.ensures.site
+    c.in-Ok.end (g.S.Source.state c.open_input.new.self) (g.S.Source.state c.read_pattern.new.source) (g.K.Clock.state c.args.clock.now)
+    (g.C.Console.state c.args.console.now) (record {
+      opened = (c.open_input.ensures.call.opens, c.in-Ok.ensures.call.named);
+      same = c.open_input.ensures.call.journal;
+      bytes = c.open_input.ensures.call.keeps.bytes;
+      tells = c.open_input.ensures.call.keeps.tells;
+      all = c.in-Ok.ensures.call.all;
+      short = c.in-Ok.ensures.short;
+    }) c.read_pattern.ensures.source
+    c.deref.result.now
+    (takes_into _ _ _ _ _ _ c.deref.ensures.value
+    (takes_as c.cluster.result _ _ _ _ _ c.cluster.ensures c.in_ok-buffer.ensures.takes))
+    c.args.plan.names c.in_ok-start.start (g.D.Site.state c.open_output.new.site) (g.D.Site.state c.load.new.site) (record {
+      names = c.requires.planned.names;
+      apart = c.requires.planned.apart;
+      output = c.in_ok-open_output.ensures.opens;
+      keeps = c.open_output.ensures.keeps;
+      loads = c.in_ok-start.ensures.loaded;
+    })
+    (c.load.ensures.site.keeps.tells ∙ c.open_output.ensures.keeps.tells) c.end-top.result c.end-top.ensures.end
+    c.run.result.heard c.run.result.ending
+    (g.D.Site.state c.run.new.site) (g.K.Clock.state c.run.new.clock) (g.C.Console.state c.run.new.console)
+    (c.if-not-places_fit.ensures.fit refl) (c.run.ensures.ran None)
+
+pub returns-in_err-buffer-clause-source : goal.returns-in_err-buffer-clause-source
+returns-in_err-buffer-clause-source g c =
+    keeps_more (g.S.Source.state c.args.source.now) (g.S.Source.state c.open_input.new.self)
+    (g.S.Source.state c.read_pattern.new.source) c.open_input.ensures.call.keeps c.read_pattern.ensures.source.keeps
+
+pub returns-in_err-open_output-clause-source : goal.returns-in_err-open_output-clause-source
+returns-in_err-open_output-clause-source g c =
+    keeps_more (g.S.Source.state c.args.source.now) (g.S.Source.state c.open_input.new.self)
+    (g.S.Source.state c.read_pattern.new.source) c.open_input.ensures.call.keeps c.read_pattern.ensures.source.keeps
+
+pub returns-in_err-start-clause-source : goal.returns-in_err-start-clause-source
+returns-in_err-start-clause-source g c =
+    keeps_more (g.S.Source.state c.args.source.now) (g.S.Source.state c.open_input.new.self)
+    (g.S.Source.state c.read_pattern.new.source) c.open_input.ensures.call.keeps c.read_pattern.ensures.source.keeps
+
+pub returns-then-not-places_fit-clause-source : goal.returns-then-not-places_fit-clause-source
+returns-then-not-places_fit-clause-source g c =
+    keeps_more (g.S.Source.state c.args.source.now) (g.S.Source.state c.open_input.new.self)
+    (g.S.Source.state c.read_pattern.new.source) c.open_input.ensures.call.keeps c.read_pattern.ensures.source.keeps
+
+pub returns-clause-source : goal.returns-clause-source
+returns-clause-source g c =
+    keeps_more (g.S.Source.state c.args.source.now) (g.S.Source.state c.open_input.new.self)
+    (g.S.Source.state c.read_pattern.new.source) c.open_input.ensures.call.keeps c.read_pattern.ensures.source.keeps
+
+pub returns-clause-cause : goal.returns-clause-cause
+returns-clause-cause g c =
+    cause_behind _ (g.S.Source.state c.args.source.now) (g.S.Source.state c.read_pattern.new.source)
+    (g.D.Site.state c.args.site.now) (g.D.Site.state c.load.new.site) (g.D.Site.state c.run.new.site)
+    (c.read_pattern.ensures.source.faults ∙ c.in-Ok.ensures.call.kept)
+    (c.in_ok-buffer.ensures.cause.losses ∙ c.open_input.ensures.call.losses)
+    (c.in_ok-start.ensures.kept ∙ c.in_ok-open_output.ensures.kept ∙ c.in_ok-domain_map.ensures.kept) c.run.ensures.cause

@@ -1,0 +1,80 @@
+use Rattle.std.proofs.Common.{None, sym, ap, ◌∙◌, arith}
+use Rattle.rescue_core.specs.declared.settings.Settings.{Settings}
+use Rattle.rescue_command.specs.Command.{told_by}
+use Rattle.task_files.specs.Answers.{drafting_left}
+use Rattle.task_files.specs.Asked.{Maps}
+use Rattle.task_files.specs.Steps.{maps_read}
+use Rattle.task_sweeps.proofs.SweptEnds.{sweep_cause, none_cause, draft_as}
+use Rattle.task_sweeps.proofs.SweptLemmas.{filled_so, swept_none, job_suits, job_heading}
+use Rattle.task_sweeps.proofs.fill.run.Goals as goal
+
+pub run_fill-closed-requires-clause-room : goal.run_fill-closed-requires-clause-room
+run_fill-closed-requires-clause-room g c =
+    let maps : Maps = maps_read c.args.plan.command.options c.args.domain_map.now None c.args.start in
+    let is = c.make_job-job.ensures c.args.top maps c.args.start.tiles.statuses c.args.start.state c.requires.placed
+    (c.in-Ok.ensures None) in
+    c.requires.room ∙ sym (ap (λ (s : Settings). s.cluster) is.settings_are)
+
+pub run_fill-closed-requires-clause-sound : goal.run_fill-closed-requires-clause-sound
+run_fill-closed-requires-clause-sound g c =
+    let maps : Maps = maps_read c.args.plan.command.options c.args.domain_map.now None c.args.start in
+    (c.make_job-job.ensures c.args.top maps c.args.start.tiles.statuses c.args.start.state c.requires.placed
+    (c.in-Ok.ensures None)).sound
+
+pub run_fill-closed-requires-clause-suits : goal.run_fill-closed-requires-clause-suits
+run_fill-closed-requires-clause-suits g c =
+    let maps : Maps = maps_read c.args.plan.command.options c.args.domain_map.now None c.args.start in
+    job_suits _ _ _ _ _ _ _ _ _ _
+    (c.make_job-job.ensures c.args.top maps c.args.start.tiles.statuses c.args.start.state c.requires.placed
+    (c.in-Ok.ensures None))
+
+pub run_fill-closed-requires-clause-places : goal.run_fill-closed-requires-clause-places
+run_fill-closed-requires-clause-places g c =
+    let maps : Maps = maps_read c.args.plan.command.options c.args.domain_map.now None c.args.start in
+    (c.make_job-job.ensures c.args.top maps c.args.start.tiles.statuses c.args.start.state c.requires.placed
+    (c.in-Ok.ensures None)).places
+
+pub run_fill-closed-requires-clause-program : goal.run_fill-closed-requires-clause-program
+run_fill-closed-requires-clause-program g c =
+    let maps : Maps = maps_read c.args.plan.command.options c.args.domain_map.now None c.args.start in
+    job_heading _ _ _ _ _ _ _ _ _ _
+    (c.make_job-job.ensures c.args.top maps c.args.start.tiles.statuses c.args.start.state c.requires.placed
+    (c.in-Ok.ensures None))
+    c.requires.planned.heading
+
+pub returns-in_default-make_sweep-clause-ran : goal.returns-in_default-make_sweep-clause-ran
+returns-in_default-make_sweep-clause-ran g c = λ test.
+    swept_none _ _ c.args.start.tiles.statuses c.args.start.state c.args.heard (g.D.Site.state c.args.site.now)
+    (g.K.Clock.state c.args.clock.now) (g.C.Console.state c.args.console.now)
+
+pub returns-in_default-make_sweep-clause-cause : goal.returns-in_default-make_sweep-clause-cause
+returns-in_default-make_sweep-clause-cause g c = none_cause (g.D.Site.state c.args.site.now)
+
+pub returns-clause-ran : goal.returns-clause-ran
+returns-clause-ran g c = λ test.
+    let maps : Maps = maps_read c.args.plan.command.options c.args.domain_map.now test c.args.start in
+    filled_so (told_by c.args.plan.command) c.in-Some.names c.args.plan.heading c.args.top maps
+    c.args.start.tiles.statuses c.args.start.state c.now_ms-moment.result c.args.heard c.say_line-heard.result
+    c.run_fill-closed.result.heard c.args.types c.args.buffer.now c.in-Ok.ready c.make_job-job.result
+    c.run_fill-closed.result.end c.answer.result
+    (record {
+      site = g.D.Site.state c.args.site.now;
+      site' = g.D.Site.state c.run_fill-closed.new.site;
+      clock = g.K.Clock.state c.now_ms-moment.new.self;
+      clock' = g.K.Clock.state c.run_fill-closed.new.clock;
+      console = g.C.Console.state c.say_line-heard.new.console;
+      console' = g.C.Console.state c.run_fill-closed.new.console;
+    })
+    (g.K.Clock.state c.args.clock.now) (g.C.Console.state c.args.console.now)
+    (sym c.requires.planned.names ∙ c.in-Some.is) (c.in-Ok.ensures test)
+    (c.make_job-job.ensures c.args.top maps c.args.start.tiles.statuses c.args.start.state c.requires.placed
+    (c.in-Ok.ensures test))
+    c.run_fill-closed.ensures.sweeps c.answer.ensures c.now_ms-moment.ensures.told (omega arith) c.say_line-heard.ensures
+
+pub returns-clause-cause : goal.returns-clause-cause
+returns-clause-cause g c =
+    sweep_cause _ _ _ _ _ _ _ _ c.run_fill-closed.ensures.sweeps.ends c.answer.ensures
+
+pub returns-clause-draft : goal.returns-clause-draft
+returns-clause-draft g c =
+    c.run_fill-closed.ensures.draft ∙ draft_as c.run_fill-closed.result.end ∙ ap drafting_left (sym c.answer.ensures)

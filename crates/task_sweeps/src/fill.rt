@@ -1,0 +1,154 @@
+//! Fill mode: a pattern is written to the outfile where the mapfile has some statuses.
+ghost use Rattle.std.specs.Prelude.{◌≡◌, ◌<◌, true, false, is_some, length, Option};
+ghost use Rattle.block_list.specs.Tiled.{Tiled};
+ghost use Rattle.faulty_source.specs.SourceState.{Keeps as SourceKeeps};
+ghost use Rattle.crash_site.specs.SiteState.{Keeps as SiteKeeps};
+ghost use Rattle.rescue_console.specs.ClockState.{Keeps as ClockKeeps};
+ghost use Rattle.rescue_command.specs.Options.{cluster_of};
+ghost use Rattle.rescue_command.specs.Command.{told_by};
+ghost use Rattle.sweep_rules.specs.Sweep.{filler};
+ghost use Rattle.task_files.specs.Asked.{ArePlacedBy};
+ghost use Rattle.task_files.specs.Answers.{Causes, drafting_left};
+ghost use Rattle.task_files.specs.Steps.{ending_of, heard_behind, maps_read, SuitsInput, IsPlanned};
+ghost use Rattle.task_sweeps.specs.Modes.{fill_setting};
+ghost use Rattle.task_sweeps.specs.SweepSteps.{DidSweep, SweepCause, WorkedFill};
+
+use crate::pattern::read_pattern;
+use crate::sweep::{make_job, make_sweep};
+use block_list::plain_tiles::PlainTiles;
+use block_list::tiles::Tiles;
+use block_list::types::TypeSet;
+use crash_site::site::Site;
+use faulty_source::source::Source;
+use fill_generate::fill::run_fill;
+use option_words::fault::UsageFault;
+use rescue_console::clock::Clock;
+use rescue_console::console::Console;
+use std::alloc::Global;
+use task_files::checked::CheckedCommand;
+use task_files::ending::{Ended, Ending, Which, answer};
+use task_files::load::{LoadedMap, load};
+use task_files::maps::read_named;
+use task_files::open::open_output;
+use task_files::opening::say_line;
+use task_files::places::places_fit;
+
+/// Fills over the map that the mapfile stands for. All memory is taken before the clock is read; what is said first is
+/// said behind that.
+fn run<D: Site, K: Clock, C: Console>(
+    alloc: Global,
+    plan: CheckedCommand<'_>,
+    types: TypeSet,
+    buffer: &[u8],
+    domain_map: &Option<PlainTiles>,
+    site: &mut D,
+    clock: &mut K,
+    console: &mut C,
+    start: LoadedMap,
+    top: u64,
+    heard: bool,
+) -> Ended
+    requires image { (D.state site.old).is_open ≡ true }
+    requires no_draft { (D.state site.old).is_drafting ≡ false }
+    requires planned { IsPlanned plan }
+    requires named { is_some (told_by plan.command).mapfile ≡ true }
+    requires room { length buffer.now ≡ cluster_of (told_by plan.command).options }
+    requires placed { ArePlacedBy (told_by plan.command).options top }
+    requires fits { SuitsInput 0 start.tiles.statuses start.state }
+    requires top { top ≡ length start.tiles.statuses }
+    ensures ran { (test : Option Tiled) →
+        let c = told_by plan.entry.command in
+        let s = fill_setting c plan.entry.heading.line top (maps_read c.options domain_map.now test start) in
+        DidSweep s (filler s types buffer.now) start.tiles.statuses start.state heard result.heard result.ending
+        (record {
+          site = D.state site.old;
+          site' = D.state site.new;
+          clock = K.state clock.old;
+          clock' = K.state clock.new;
+          console = C.state console.old;
+          console' = C.state console.new;
+        }) }
+    ensures cause { SweepCause result.ending (D.state site.old) (D.state site.new) }
+    ensures draft { (D.state site.new).is_drafting ≡ drafting_left result.ending }
+    ensures site { SiteKeeps (D.state site.old) (D.state site.new) }
+    ensures clock { ClockKeeps (K.state clock.old) (K.state clock.new) }
+{
+    let CheckedCommand {
+        command,
+        names,
+        heading,
+    } = plan;
+    let Some(names) = names else { unreachable!() };
+    let Ok(ready) = make_sweep(alloc, command, domain_map, start, top) else {
+        let ending = Ending::NoMemory;
+        return Ended { ending, heard };
+    };
+    let moment = clock.now_ms();
+    let heard = say_line(console, &ready.opening, heard);
+    let job = make_job(ready, command, names, heading, moment, heard);
+    let closed = run_fill(job, types, buffer, site, clock, console);
+    Ended {
+        ending: answer(closed.end),
+        heard: closed.heard,
+    }
+}
+
+/// Reads the map that an option names and the pattern, opens the outfile, loads the mapfile, and fills.
+pub fn fill<S: Source, D: Site, K: Clock, C: Console>(
+    alloc: Global,
+    plan: CheckedCommand<'_>,
+    types: TypeSet,
+    source: &mut S,
+    site: &mut D,
+    clock: &mut K,
+    console: &mut C,
+    heard: bool,
+) -> Result<Ended, Ending>
+    requires no_draft { (D.state site.old).is_drafting ≡ false }
+    requires planned { IsPlanned plan }
+    requires named { is_some (told_by plan.command).mapfile ≡ true }
+    ensures worked { WorkedFill types (told_by plan.entry.command) plan.entry.heading.line heard
+        (heard_behind heard result) (ending_of result) (record {
+          source = S.state source.old;
+          source' = S.state source.new;
+          site = D.state site.old;
+          site' = D.state site.new;
+          clock = K.state clock.old;
+          clock' = K.state clock.new;
+          console = C.state console.old;
+          console' = C.state console.new;
+        }) }
+    ensures cause { Causes (ending_of result) (S.state source.old) (S.state source.new) (D.state site.old)
+        (D.state site.new) }
+    ensures draft { (D.state site.new).is_drafting ≡ drafting_left (ending_of result) }
+    ensures source { SourceKeeps (S.state source.old) (S.state source.new) }
+    ensures site { SiteKeeps (D.state site.old) (D.state site.new) }
+    ensures clock { ClockKeeps (K.state clock.old) (K.state clock.new) }
+{
+    let command = plan.command;
+    let loose = command.options.loose;
+    let domain_map = read_named(alloc, site, Which::DomainMap, command.domain_map, loose)?;
+    let Ok(end) = source.open_input(command.infile) else {
+        return Err(Ending::SourceFault);
+    };
+    let buffer = read_pattern(alloc, source, end, command.options.cluster())?;
+    open_output(site, command.outfile, true, command.options.forced)?;
+    let start = load(alloc, site, &plan.names, 0)?;
+    let top = start.tiles.end();
+    if !places_fit(&command.options, top) {
+        return Err(Ending::Usage(UsageFault::PlaceTooLarge));
+    }
+    Ok(run(
+        alloc,
+        plan,
+        types,
+        &buffer,
+        &domain_map,
+        site,
+        clock,
+        console,
+        start,
+        top,
+        heard,
+    ))
+}

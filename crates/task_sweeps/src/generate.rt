@@ -1,0 +1,144 @@
+//! Generate mode: a mapfile is made of what the outfile holds.
+ghost use Rattle.std.specs.Prelude.{◌≡◌, ◌<◌, ◌^◌, true, false, is_some, Option};
+ghost use Rattle.block_list.specs.Tiled.{Tiled};
+ghost use Rattle.faulty_source.specs.SourceState.{Keeps as SourceKeeps};
+ghost use Rattle.crash_site.specs.SiteState.{Keeps as SiteKeeps};
+ghost use Rattle.rescue_console.specs.ClockState.{Keeps as ClockKeeps};
+ghost use Rattle.rescue_command.specs.Command.{told_by};
+ghost use Rattle.task_files.specs.Asked.{ArePlacedBy, setting_of};
+ghost use Rattle.task_files.specs.Answers.{Causes, drafting_left};
+ghost use Rattle.task_files.specs.Steps.{ending_of, heard_behind, maps_read, SuitsInput, IsPlanned};
+ghost use Rattle.task_sweeps.specs.SweepSteps.{DidGenerate, SweepCause, WorkedGenerate};
+
+use crate::sweep::{make_job, make_sweep};
+use block_list::plain_tiles::PlainTiles;
+use crash_site::site::Site;
+use faulty_source::source::Source;
+use fill_generate::generate::run_generate;
+use option_words::fault::UsageFault;
+use rescue_console::clock::Clock;
+use rescue_console::console::Console;
+use std::alloc::Global;
+use task_files::checked::CheckedCommand;
+use task_files::ending::{Ended, Ending, Which, answer};
+use task_files::load::{LoadedMap, load};
+use task_files::maps::read_named;
+use task_files::open::open_output;
+use task_files::opening::say_line;
+use task_files::places::places_fit;
+
+/// Looks up in the outfile what the map that the mapfile stands for calls non-tried. All memory but that for marks is
+/// taken before the clock is read; what is said first is said behind that.
+fn run<D: Site, K: Clock, C: Console>(
+    alloc: Global,
+    plan: CheckedCommand<'_>,
+    domain_map: &Option<PlainTiles>,
+    site: &mut D,
+    clock: &mut K,
+    console: &mut C,
+    start: LoadedMap,
+    end: u64,
+    heard: bool,
+) -> Ended
+    requires image { (D.state site.old).is_open ≡ true }
+    requires no_draft { (D.state site.old).is_drafting ≡ false }
+    requires planned { IsPlanned plan }
+    requires named { is_some (told_by plan.command).mapfile ≡ true }
+    requires placed { ArePlacedBy (told_by plan.command).options end }
+    requires end { end < 2 ^ 63 }
+    requires fits { SuitsInput end start.tiles.statuses start.state }
+    ensures ran { (test : Option Tiled) →
+        let c = told_by plan.entry.command in
+        let s = setting_of c plan.entry.heading.line end (maps_read c.options domain_map.now test start) in
+        DidGenerate s start.tiles.statuses start.state heard result.heard result.ending (record {
+          site = D.state site.old;
+          site' = D.state site.new;
+          clock = K.state clock.old;
+          clock' = K.state clock.new;
+          console = C.state console.old;
+          console' = C.state console.new;
+        }) }
+    ensures cause { SweepCause result.ending (D.state site.old) (D.state site.new) }
+    ensures draft { (D.state site.new).is_drafting ≡ drafting_left result.ending }
+    ensures site { SiteKeeps (D.state site.old) (D.state site.new) }
+    ensures clock { ClockKeeps (K.state clock.old) (K.state clock.new) }
+{
+    let CheckedCommand {
+        command,
+        names,
+        heading,
+    } = plan;
+    let Some(names) = names else { unreachable!() };
+    let Ok(ready) = make_sweep(alloc, command, domain_map, start, end) else {
+        let ending = Ending::NoMemory;
+        return Ended { ending, heard };
+    };
+    let Ok(mut buffer) = vec![in alloc; 0; command.options.cluster() as usize] else {
+        let ending = Ending::NoMemory;
+        return Ended { ending, heard };
+    };
+    let moment = clock.now_ms();
+    let heard = say_line(console, &ready.opening, heard);
+    let job = make_job(ready, command, names, heading, moment, heard);
+    let closed = run_generate(job, &mut buffer, site, clock, console);
+    Ended {
+        ending: answer(closed.end),
+        heard: closed.heard,
+    }
+}
+
+/// Reads the map that an option names, opens the infile for its length and the outfile, which has to be there, loads
+/// the mapfile, and looks up what the outfile holds.
+pub fn generate<S: Source, D: Site, K: Clock, C: Console>(
+    alloc: Global,
+    plan: CheckedCommand<'_>,
+    source: &mut S,
+    site: &mut D,
+    clock: &mut K,
+    console: &mut C,
+    heard: bool,
+) -> Result<Ended, Ending>
+    requires no_draft { (D.state site.old).is_drafting ≡ false }
+    requires planned { IsPlanned plan }
+    requires named { is_some (told_by plan.command).mapfile ≡ true }
+    ensures worked { WorkedGenerate (told_by plan.entry.command) plan.entry.heading.line heard
+        (heard_behind heard result) (ending_of result) (record {
+          source = S.state source.old;
+          source' = S.state source.new;
+          site = D.state site.old;
+          site' = D.state site.new;
+          clock = K.state clock.old;
+          clock' = K.state clock.new;
+          console = C.state console.old;
+          console' = C.state console.new;
+        }) }
+    ensures cause { Causes (ending_of result) (S.state source.old) (S.state source.new) (D.state site.old)
+        (D.state site.new) }
+    ensures draft { (D.state site.new).is_drafting ≡ drafting_left (ending_of result) }
+    ensures source { SourceKeeps (S.state source.old) (S.state source.new) }
+    ensures site { SiteKeeps (D.state site.old) (D.state site.new) }
+    ensures clock { ClockKeeps (K.state clock.old) (K.state clock.new) }
+{
+    let command = plan.command;
+    let loose = command.options.loose;
+    let domain_map = read_named(alloc, site, Which::DomainMap, command.domain_map, loose)?;
+    let Ok(end) = source.open_input(command.infile) else {
+        return Err(Ending::SourceFault);
+    };
+    open_output(site, command.outfile, false, command.options.forced)?;
+    let start = load(alloc, site, &plan.names, end)?;
+    if !places_fit(&command.options, end) {
+        return Err(Ending::Usage(UsageFault::PlaceTooLarge));
+    }
+    Ok(run(
+        alloc,
+        plan,
+        &domain_map,
+        site,
+        clock,
+        console,
+        start,
+        end,
+        heard,
+    ))
+}
