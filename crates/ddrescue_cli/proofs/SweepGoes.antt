@@ -25,6 +25,7 @@ use Rattle.task_files.specs.declared.ending.Ending.TheVariants.{NoOutput}
 use Rattle.task_files.specs.Refusals.{MapfileRefused, OutputRefused, PlacesRefused}
 use Rattle.task_files.specs.Work.{rescue_faults, load_rows, missing_rows, output_rows}
 use Rattle.task_sweeps.specs.Modes.{MaySweep, ThenSweep}
+
 -- How far it came: no sweep began; or one did over the map that its mapfile stands for, and the output was there, or was
 
 -- made.

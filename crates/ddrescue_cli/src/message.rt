@@ -3,12 +3,12 @@ ghost use Rattle.std.specs.Prelude.{◌≡◌, ◌+◌, ◌≤◌, ◌++◌};
 ghost use Rattle.arrayvec.specs.ArrayVec.{array_vec_len};
 ghost use Rattle.ddrescue_cli.specs.Messages.{which_text, map_error_text, behind_text, limit_text, text_of_ending, message};
 
-use task_files::ending::{Ending, Which};
-use task_files::checked::PROGRAM;
 use fault_texts::faults::{add_map_error, add_site_fault, add_usage};
 use fault_texts::message::{Message, add, add_number, begin, end};
 use mapfile_text::read::MapError;
 use rescue_rules::stop::{Limit, Stop};
+use task_files::checked::PROGRAM;
+use task_files::ending::{Ending, Which};
 
 /// Adds which map it is.
 fn add_which(message: &mut Message, which: Which)

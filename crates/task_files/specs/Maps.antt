@@ -11,6 +11,7 @@ use Rattle.save_resume.specs.Named.{map_mode, IsMapOf}
 use Rattle.rescue_domain.specs.Testing.{seen}
 use Rattle.rescue_command.specs.Command.{Command}
 use Rattle.task_files.specs.Asked.{Maps}
+
 -- The positions that a mapfile lists, from the first block's beginning up to the last one's end. A mapfile without
 
 -- blocks, one of comments and blank lines alone, and an absent one list no position.

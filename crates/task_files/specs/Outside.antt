@@ -11,6 +11,7 @@ use Rattle.work_steps.specs.Work.{Opening, Opened, Unopened, Deeds}
 use Rattle.rescue_command.specs.Command.{Command}
 use Rattle.task_files.specs.Asked.{Maps}
 use Rattle.task_files.specs.Maps.{Found, found_in, seen_through}
+
 -- The files that its steps found, the input's length, what the maps say, and what it did: opens of the input, calls on
 
 -- the files, reads as they are seen by the maps, readings of the clock, and the lines that it says.

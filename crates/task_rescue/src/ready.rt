@@ -20,8 +20,7 @@ use rescue_core::prepare::prepare;
 use rescue_domain::domain::Domain;
 use save_resume::names::Names;
 use std::alloc::Global;
-use task_files::load::LoadedMap;
-use task_files::load::RunMap;
+use task_files::load::{LoadedMap, RunMap};
 use task_files::maps::domain_of;
 use task_files::settings::{make_opening, settings_for};
 

@@ -27,8 +27,7 @@ use rescue_sample::source::SampleSource;
 use std::alloc::Global;
 use task_files::checked::make_names;
 use task_files::ending::{Ended, Ending};
-use task_files::load::RunMap;
-use task_files::load::start_fresh;
+use task_files::load::{RunMap, start_fresh};
 use task_files::opening::say_line;
 use task_rescue::ready::{begin, make_ready};
 use task_rescue::run::run_phases;
@@ -129,12 +128,7 @@ fn run_sample(alloc: Global, kib: u64) -> Result<Vec<u8>, NoMemory>
 }
 
 /// Rescues a sample, and says its line if that is heard.
-pub fn tell_sample<C: Console>(
-    alloc: Global,
-    kib: u64,
-    heard: bool,
-    console: &mut C,
-) -> Ended
+pub fn tell_sample<C: Console>(alloc: Global, kib: u64, heard: bool, console: &mut C) -> Ended
     requires low { 1 ≤ kib }
     requires high { kib ≤ 65536 }
     ensures { TellsSample kib heard result.heard result.ending (C.state console.old) (C.state console.new) }

@@ -33,6 +33,7 @@ use Rattle.task_files.proofs.ListingLemmas.{Listing}
 use Rattle.task_sweeps.proofs.SweepMaps.{MapsOfSweep, sweep_maps_for}
 use Rattle.task_files.proofs.OpenedLemmas.{none_seen}
 use Rattle.task_files.proofs.WorkedLemmas.{found_is, mode_by, named_map, only_maps, reads_behind, reads_stopped, reads_through, stands_behind, unasked}
+
 -- What was there and what was done behind the map that an option names; where the input's length isn't known nothing was
 
 -- done but its open.
