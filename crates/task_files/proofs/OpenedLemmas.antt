@@ -1,4 +1,3 @@
--- What a run did, whatever its input and its output are named.
 -- What a rescue did behind the maps that options name, by where it ended, whatever the objects tell.
 use Rattle.std.proofs.Common.{◌≡◌, ℕ, ◌+◌, ◌-◌, ◌<◌, ◌≤◌, ◌^◌, Bool, true, false, IsTrue, List, [], ◌∷◌, ◌++◌, map, length, All, Option, Some, None, option_map, Result, Ok, Err, refl, sym, ap, ◌∙◌, inl, inr, subst, arith, append_assoc, append-nil}
 use Rattle.std.specs.Str.{bytes_eq}
@@ -310,6 +309,12 @@ placed_passes o end placed e refused =
     let far : 2 ^ 63 ≤ place_by o x + 1 = refused.0.2 in
     omega (arith, near, far)
 
+-- where no clock was read nothing was said
+pub ran_silent : (s : Setting) (statuses : List Status) (state : Option MapState) (lines : List (List ℕ)) (e : Ending)
+    (g : Gain) → RunsOver s statuses state lines e g → g.times ≡ [] → lines ≡ []
+ran_silent s statuses state lines e g (inl unbegun) none = unbegun.silent
+ran_silent s statuses state lines e g (inr ran) none = absurd (omega (arith, ran.runs.times, ap length none))
+
 -- a run came behind it, which may not have begun
 pub run_goes : (c : Command) (l : List ℕ) (domain test : Option (List Status)) (heard heard' : Bool) (n : Option MapNames)
     (end : ℕ) (start : LoadedMap) (e : Ending) (s0 s1 s2 : SourceState) (d0 d1 d2 d3 : SiteState) (k k' : ClockState)
@@ -366,9 +371,3 @@ run_goes c l domain test heard heard' n end start e s0 s1 s2 d0 d1 d2 d3 k k' x 
           ));
       short = inr input.short;
     }
-
--- where no clock was read nothing was said
-pub ran_silent : (s : Setting) (statuses : List Status) (state : Option MapState) (lines : List (List ℕ)) (e : Ending)
-    (g : Gain) → RunsOver s statuses state lines e g → g.times ≡ [] → lines ≡ []
-ran_silent s statuses state lines e g (inl unbegun) none = unbegun.silent
-ran_silent s statuses state lines e g (inr ran) none = absurd (omega (arith, ran.runs.times, ap length none))
