@@ -41,14 +41,18 @@ READS = $(foreach library,$(kit_$*),--extern $(library)=$(KIT)/rlibs/$(library).
 BUILD = cd crates/$* && $(KIT)/bin/rattle build --crate-name $*
 LOG = > $(CURDIR)/build/$*.log 2>&1 || { cat $(CURDIR)/build/$*.log; echo "$* is not proved"; exit 1; }
 
+# A crate's line of crates.txt. The file changes with that line alone, so that another crate's line proves nothing anew.
+build/%.needs: crates.txt
+	@mkdir -p build && echo '$(needs_$*)' | cmp -s - $@ || echo '$(needs_$*)' > $@
+
 # A library: its statements, proved.
-$(LIBRARIES:%=build/%.proved): build/%.proved: $$(call sources,$$*) $$(call proved,$$*) crates.txt
+$(LIBRARIES:%=build/%.proved): build/%.proved: $$(call sources,$$*) $$(call proved,$$*) build/%.needs
 	@mkdir -p build && rm -rf build/$*.rlib
 	@$(BUILD) src/lib.rt $(READS) --statements -o $(CURDIR)/build/$*.rlib $(LOG)
 	@echo "$* is proved" && touch $@
 
 # A program: proved, compiled and linked.
-$(MAINS:%=bin/%): bin/%: $$(call sources,$$*) $$(call proved,$$*) crates.txt
+$(MAINS:%=bin/%): bin/%: $$(call sources,$$*) $$(call proved,$$*) build/%.needs
 	@mkdir -p bin build
 	@$(BUILD) src/main.rt $(READS) --toolchain $(KIT)/toolchain --backend llvm -o $(CURDIR)/build/$*.o $(LOG)
 	@$(KIT)/bin/rattle-link --target x86_64-unknown-linux-gnu --toolchain $(KIT)/toolchain -o $@ build/$*.o \
