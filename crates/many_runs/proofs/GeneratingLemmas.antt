@@ -17,8 +17,8 @@ use Rattle.rescue_rules.specs.Setting.{Setting, IsSensible, place}
 use Rattle.rescue_rules.specs.Start.{Stands}
 use Rattle.rescue_rules.specs.Given.{last_of_both}
 use Rattle.rescue_rules.specs.Work.{Gain}
-use Rattle.rescue_rules.specs.Stops.{Behind, files_before, LeftAt, has_barrier, published}
-use Rattle.rescue_rules.specs.StopsBy.{IsKeptBy}
+use Rattle.rescue_rules.specs.Stops.{Behind, files_before, has_barrier, published}
+use Rattle.rescue_rules.specs.StopsBy.{LeftBy, IsKeptBy}
 use Rattle.rescue_rules.proofs.CutLemmas.{Cut, cut_past}
 use Rattle.rescue_rules.proofs.MapfileLemmas.{opening_by}
 use Rattle.rescue_core.specs.RunState.{names_in}
@@ -62,7 +62,7 @@ quiet_comes s files cs calls quiet cut = inl (λ n. none_published calls n (cut_
 module _ (s : Setting) (files : List ℕ → Option File) (pieces : List Swept) (end : RunEnd) (on : s.has_mapfile ≡ true)
   where
     -- it published nothing, or its mapfile stood for a map
-    way_comes : (g : Gain) → SweepWay ⊤ s (generator s) files pieces end g → Comes s files g.calls
+    pub way_comes : (g : Gain) → SweepWay ⊤ s (generator s) files pieces end g → Comes s files g.calls
     way_comes g (InMaps maps reads cut still) = quiet_comes s files maps g.calls (reads_quiet maps reads) cut
     way_comes g (BehindMaps maps h reads grew timed ready (Unbegun ends opens none)) =
         let e : EarlyCut s false h.calls = early_cut s false files h.calls on ends in
@@ -85,7 +85,7 @@ module _ (s : Setting) (files : List ℕ → Option File) (pieces : List Swept) 
     none_behind none = subst (AreBehind s.from) (sym none) (All-nil (λ (e : Swept). s.from ≤ e.pos))
 
     -- its pieces begin where positions are asked for
-    way_behind : (g : Gain) → IsSensible s → (g.times ≡ [] → pieces ≡ [])
+    pub way_behind : (g : Gain) → IsSensible s → (g.times ≡ [] → pieces ≡ [])
         → SweepWay ⊤ s (generator s) files pieces end g → AreBehind s.from pieces
     way_behind g ok silent (InMaps maps reads cut still) = none_behind (silent still)
     way_behind g ok silent (BehindMaps maps h reads grew timed ready (Unbegun ends opens none)) =
@@ -107,8 +107,8 @@ module _ (t : Target) (b : Behind) (s : Setting) (g : Gain) (pieces : List Swept
   old_bytes = bytes_of (files_before b s.outfile)
 
   -- the mapfile that it began with stood for a map, if the one that is found does
-  began_of : (k : ℕ) (files : List ℕ → Option File) (last : ℕ) (map : List Status) (state : Option MapState)
-      → k ≤ length g.calls → LeftAt b g k files → has_barrier (take k g.calls) ≡ true
+  pub began_of : (k : ℕ) (files : List ℕ → Option File) (last : ℕ) (map : List Status) (state : Option MapState)
+      → k ≤ length g.calls → LeftBy b g.calls k files → has_barrier (take k g.calls) ≡ true
       → Stands (files s.names.map) last map state → StandsAt (files_before b s.names.map) s.end
   began_of k files last map state le left is stands =
       ⊎_elim
@@ -150,7 +150,7 @@ module _ (t : Target) (b : Behind) (s : Setting) (g : Gain) (pieces : List Swept
 
   -- behind its barrier
   owed_over : (gave : List (ℕ × ℕ)) (old : ℕ → Bool) (k : ℕ) (files : List ℕ → Option File) (last : ℕ)
-      (map : List Status) (state : Option MapState) → IsOwedAt u gave old b → k ≤ length g.calls → LeftAt b g k files
+      (map : List Status) (state : Option MapState) → IsOwedAt u gave old b → k ≤ length g.calls → LeftBy b g.calls k files
       → has_barrier (take k g.calls) ≡ true → Stands (files s.names.map) last map state
       → StandsAt (files_before b s.names.map) s.end
       → Owed u (gave ++ looked_at pieces) old map (bytes_of (files s.outfile))
@@ -176,8 +176,8 @@ module _ (t : Target) (b : Behind) (s : Setting) (g : Gain) (pieces : List Swept
             (some_or_none (last_given (looked_at pieces) x));
       }
 
-  owed_at_stop : (gave : List (ℕ × ℕ)) (old : ℕ → Bool) (k : ℕ) (files : List ℕ → Option File) → IsOwedAt u gave old b
-      → k ≤ length g.calls → LeftAt b g k files → IsOwedIn u (gave ++ found_by g pieces k) old files
+  pub owed_at_stop : (gave : List (ℕ × ℕ)) (old : ℕ → Bool) (k : ℕ) (files : List ℕ → Option File) → IsOwedAt u gave old b
+      → k ≤ length g.calls → LeftBy b g.calls k files → IsOwedIn u (gave ++ found_by g pieces k) old files
   owed_at_stop gave old k files owed le left =
       let some : Bool → List (ℕ × ℕ) = λ c. if c then looked_at pieces else [] in
       ⊎_elim
@@ -218,7 +218,7 @@ generating_owes_on t l gave old apart r owed =
     (p.agrees.found r.tells) p.works) in
     let given : AreGiven s (bytes_of (files_of r.told s.outfile)) p.pieces
     = subst (λ (f : Found). AreGiven s (bytes_of f.output) p.pieces) (p.agrees.found r.tells) (p.given r.tells) in
-    let at_stop : (files : List ℕ → Option File) → LeftAt b g r.moment files
+    let at_stop : (files : List ℕ → Option File) → LeftBy b g.calls r.moment files
     → IsOwedIn (by_names s t) (gave ++ found_by g p.pieces r.moment) old files
     = λ files left. owed_at_stop t b s g p.pieces p.end ok (way_comes s (files_of r.told) p.pieces p.end on g way)
     (way_behind s (files_of r.told) p.pieces p.end on g ok (λ none. (p.silent none).1) way) given (p.stops r.tells)

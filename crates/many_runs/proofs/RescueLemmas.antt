@@ -15,8 +15,9 @@ use Rattle.save_resume.specs.MapNames.{names_of}
 use Rattle.rescue_rules.specs.Setting.{Setting, IsSensible}
 use Rattle.rescue_rules.specs.Start.{Stands}
 use Rattle.rescue_rules.specs.Work.{Gain, opening_calls, InOpening, is_map_read, Goes, BehindMaps}
-use Rattle.rescue_rules.specs.Stops.{Behind, files_before, LeftAt, has_barrier, published, IsKept, CouldBefore, StopsSafely}
-use Rattle.rescue_rules.proofs.BeforeLemmas.{left_before, left_here, disk_before}
+use Rattle.rescue_rules.specs.Stops.{Behind, files_before, has_barrier, published, CouldBefore}
+use Rattle.rescue_rules.specs.StopsBy.{LeftBy, IsKept, RescueStopsBy}
+use Rattle.rescue_rules.proofs.BeforeLemmas.{left_before, left_back, disk_before}
 use Rattle.rescue_core.specs.RunState.{names_in}
 use Rattle.rescue_command.specs.Command.{Command, Rescue}
 use Rattle.task_files.specs.Maps.{found_in}
@@ -67,20 +68,20 @@ progress_leaves d [] files left = left
 progress_leaves d (e ∷ es) files left = part_leaves d e files left
 
 ended_left : (b : Behind) (g : Gain) (k : ℕ) (files : List ℕ → Option File)
-    → MayBeLeft b.start (b.earlier ++ take k g.calls) (length (b.earlier ++ take k g.calls)) files → LeftAt b g k files
+    → MayBeLeft b.start (b.earlier ++ take k g.calls) (length (b.earlier ++ take k g.calls)) files → LeftBy b g.calls k files
 ended_left b g k files left =
     let calls : List Entry = b.earlier ++ take k g.calls in
     let whole : Leaves (disk_after (at_rest b.start) calls) files
     = subst (λ (es : List Entry). Leaves (disk_after (at_rest b.start) es) files) (until_all calls) left in
     let here : Leaves (disk_after (disk_before b) (take k g.calls)) files
     = subst (λ (d : Disk). Leaves d files) (run-append (at_rest b.start) b.earlier (take k g.calls)) whole in
-    left_here b g k files
+    left_back b g.calls k files
     (subst (λ (d : Disk). Leaves d files) (sym (run-append (disk_before b) (take k g.calls) (in_progress (drop k g.calls))))
     (progress_leaves (disk_after (disk_before b) (take k g.calls)) (drop k g.calls) files here))
 
 -- so where it is owed at each stop, it is owed where the next run begins
 pub next_owed : (t : Target) (gave : List (ℕ × ℕ)) (old : ℕ → Bool) (b : Behind) (g : Gain) (k : ℕ) (next : Behind)
-    → ((files : List ℕ → Option File) → LeftAt b g k files → IsOwedIn t gave old files)
+    → ((files : List ℕ → Option File) → LeftBy b g.calls k files → IsOwedIn t gave old files)
     → NextRunBegins b g k next → IsOwedAt t gave old next
 next_owed t gave old b g k next owed (Stopped files left is) =
     subst (λ (n : Behind). IsOwedAt t gave old n) (sym is) (owed_resting t gave old files (owed files left))
@@ -107,20 +108,20 @@ abbrev pub by_names : Setting → Target → Target
 by_names s t = record { outfile = s.outfile; mapfile = s.names.map; from = t.from; to = t.to }
 
 module _ (t : Target) (b : Behind) (s : Setting) (g : Gain) (ok : IsSensible s) (on : s.has_mapfile ≡ true)
-    (goes : Goes s (files_before b) g) (safe : StopsSafely b s g) (apart : s.outfile ≢ s.names.map)
+    (goes : Goes s (files_before b) g) (safe : RescueStopsBy b s g) (apart : s.outfile ≢ s.names.map)
     (places : s.from + t.to ≡ t.from + s.to) where
   abbrev u : Target
   u = by_names s t
 
   -- before the barrier
   owed_early : (gave : List (ℕ × ℕ)) (old : ℕ → Bool) (k : ℕ) (files : List ℕ → Option File) → IsOwedAt u gave old b
-      → k ≤ length g.calls → LeftAt b g k files → has_barrier (take k g.calls) ≡ false → IsOwedIn u gave old files
+      → k ≤ length g.calls → LeftBy b g.calls k files → has_barrier (take k g.calls) ≡ false → IsOwedIn u gave old files
   owed_early gave old k files owed le left off =
       owed_before u b gave old files apart owed (safe.before k files le left off)
 
   -- the mapfile that a run began with stood for a map, if the one that is found does
   began_of : (k : ℕ) (files : List ℕ → Option File) (end : ℕ) (map : List Status) (state : Option MapState)
-      → k ≤ length g.calls → LeftAt b g k files → has_barrier (take k g.calls) ≡ true
+      → k ≤ length g.calls → LeftBy b g.calls k files → has_barrier (take k g.calls) ≡ true
       → Stands (files s.names.map) end map state → StandsAt (files_before b s.names.map) s.end
   began_of k files end map state le left is stands =
       ⊎_elim
@@ -132,7 +133,7 @@ module _ (t : Target) (b : Behind) (s : Setting) (g : Gain) (ok : IsSensible s) 
   -- behind it
   owed_over : (gave : List (ℕ × ℕ)) (old : ℕ → Bool) (k : ℕ) (files : List ℕ → Option File) (end : ℕ)
       (map : List Status) (state : Option MapState) → IsOwedAt u gave old b
-      → k ≤ length g.calls → LeftAt b g k files → has_barrier (take k g.calls) ≡ true
+      → k ≤ length g.calls → LeftBy b g.calls k files → has_barrier (take k g.calls) ≡ true
       → Stands (files s.names.map) end map state → StandsAt (files_before b s.names.map) s.end
       → Owed u (gave ++ pairs_of s.sector g.reads) old map (bytes_of (files s.outfile))
   owed_over gave old k files end map state owed le left is stands (At began was there) =
@@ -147,7 +148,7 @@ module _ (t : Target) (b : Behind) (s : Setting) (g : Gain) (ok : IsSensible s) 
       }
 
   owed_late : (gave : List (ℕ × ℕ)) (old : ℕ → Bool) (k : ℕ) (files : List ℕ → Option File) → IsOwedAt u gave old b
-      → k ≤ length g.calls → LeftAt b g k files → has_barrier (take k g.calls) ≡ true
+      → k ≤ length g.calls → LeftBy b g.calls k files → has_barrier (take k g.calls) ≡ true
       → IsOwedIn u (gave ++ pairs_of s.sector g.reads) old files
   owed_late gave old k files owed le left is = record {
     each = λ end map state stands. owed_over gave old k files end map state owed le left is stands
@@ -156,7 +157,7 @@ module _ (t : Target) (b : Behind) (s : Setting) (g : Gain) (ok : IsSensible s) 
 
   -- at each stop
   owed_at_stop : (gave : List (ℕ × ℕ)) (old : ℕ → Bool) (k : ℕ) (files : List ℕ → Option File) → IsOwedAt u gave old b
-      → k ≤ length g.calls → LeftAt b g k files → IsOwedIn u (gave ++ gave_by s g k) old files
+      → k ≤ length g.calls → LeftBy b g.calls k files → IsOwedIn u (gave ++ gave_by s g k) old files
   owed_at_stop gave old k files owed le left =
       let some : Bool → List (ℕ × ℕ) = λ c. if c then pairs_of s.sector g.reads else [] in
       ⊎_elim
@@ -180,7 +181,7 @@ idle_goes s files g none unread =
     (InOpening [] (opening_calls s) refl unread (inl none))
 
 -- the work of a promise goes as it should
-promise_goes : (c : Command) (t : Told) (p : Promise c t) → IsTrue t.site.tells
+pub promise_goes : (c : Command) (t : Told) (p : Promise c t) → IsTrue t.site.tells
     → (asked_of c t p.outside).has_mapfile ≡ true → Goes (asked_of c t p.outside) (files_of t) p.outside.did.gain
 promise_goes c t p tells on =
     let o : Outside = p.outside in
@@ -213,7 +214,7 @@ rescue_owes_on t l gave old apart r owed =
     let ok : IsSensible s
     = sensible_to r.command r.told.words (command_line program_name r.told.words) p.outside.end p.outside.maps r.asks in
     let goes : Goes s (files_before b) g = promise_goes r.command r.told p r.tells on in
-    let at_stop : (files : List ℕ → Option File) → LeftAt b g r.moment files
+    let at_stop : (files : List ℕ → Option File) → LeftBy b g.calls r.moment files
     → IsOwedIn (by_names s t) (gave ++ gave_by s g r.moment) old files
     = λ files left. owed_at_stop t b s g ok on goes (p.stops r.tells on)
     (λ is. apart (sym r.outfile ∙ is ∙ map_is)) r.places gave old r.moment files here r.within left in

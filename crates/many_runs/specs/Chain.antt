@@ -4,7 +4,8 @@ use Rattle.std.specs.List.{flat_map, enumerate_from}
 use Rattle.crash_site.specs.Files.{File}
 use Rattle.rescue_rules.specs.Setting.{Setting}
 use Rattle.rescue_rules.specs.Work.{Gain}
-use Rattle.rescue_rules.specs.Stops.{Behind, LeftAt, has_barrier}
+use Rattle.rescue_rules.specs.Stops.{Behind, has_barrier}
+use Rattle.rescue_rules.specs.StopsBy.{LeftBy}
 use Rattle.sweep_rules.specs.Sweep.{Swept}
 use Rattle.rescue_command.specs.Command.{Command, Generate, Asks, AskTask}
 use Rattle.task_files.specs.Asked.{output_from}
@@ -22,7 +23,7 @@ resting files = record { start = record { files = files; image = None; draft = N
 -- durable now; or the program alone ended there, and its site goes on. A stop may come before all calls, between two,
 -- within one, or behind all.
 pub data NextRunBegins (b : Behind) (g : Gain) (k : ℕ) (next : Behind) : Type 0 where
-  Stopped : (files : List ℕ → Option File) → LeftAt b g k files → next ≡ resting files → NextRunBegins b g k next
+  Stopped : (files : List ℕ → Option File) → LeftBy b g.calls k files → next ≡ resting files → NextRunBegins b g k next
   Ended : next ≡ record { start = b.start; earlier = b.earlier ++ take k g.calls } → NextRunBegins b g k next
 
 -- What a rescue gave that came so far: nothing before its barrier has returned, since nothing is read before. One that
