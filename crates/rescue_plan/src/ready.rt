@@ -7,7 +7,6 @@ ghost use Rattle.rescue_plan.specs.Running.{BeginsPlannedRun, untried_map};
 
 use block_list::plain_tiles::PlainTiles;
 use block_list::tiles::{NoMemory, Tiles};
-use task_files::load::RunMap;
 use mapfile_text::heading::{Heading, Program};
 use paged_blocks::paged_tiles::PagedTiles;
 use plan_command::command::Command;
@@ -17,6 +16,7 @@ use rescue_core::prepare::prepare;
 use rescue_core::settings::Settings;
 use rescue_domain::domain::Domain;
 use std::alloc::Global;
+use task_files::load::RunMap;
 
 /// What the rescue is asked to do.
 fn settings_for(options: &Options) -> Settings

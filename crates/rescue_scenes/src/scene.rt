@@ -13,7 +13,6 @@ use crate::shown::{append_escaped, append_lines, append_shown};
 use crate::stated::Stated;
 use crate::values::BYTES_LIMIT;
 use crate::verified::verify;
-use task_files::ending::Ending;
 use ddrescue_cli::rescue::ddrescue;
 use ddrescuelog_cli::ending::LogEnding;
 use ddrescuelog_cli::log::ddrescuelog;
@@ -24,6 +23,7 @@ use memory_source::memory::MemorySource;
 use option_words::words::Words;
 use std::alloc::Global;
 use std::io::Write;
+use task_files::ending::Ending;
 
 /// The most files that a scene puts there.
 const FILES_LIMIT: usize = 256;
