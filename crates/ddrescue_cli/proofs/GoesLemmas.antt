@@ -5,7 +5,7 @@ use Rattle.block_list.specs.declared.status.Status.{Status}
 use Rattle.mapfile_text.specs.declared.state.MapState.{MapState}
 use Rattle.mapfile_text.specs.declared.read.Mode.{Mode}
 use Rattle.crash_site.specs.declared.site.SiteCall.TheVariants.{MapRead}
-use Rattle.crash_site.specs.Files.{File}
+use Rattle.crash_site.specs.Files.{File, bytes_of}
 use Rattle.crash_site.specs.Calls.{Call, Entry, Done as Returned, Lost, BrokeAt, image_open, image_sync, map_settle}
 use Rattle.crash_site.specs.Left.{MayBeLeft}
 use Rattle.save_resume.specs.MapNames.{MapNames, names_of}
@@ -16,8 +16,9 @@ use Rattle.rescue_rules.specs.Setting.{Setting}
 use Rattle.rescue_rules.specs.Start.{Stands}
 use Rattle.rescue_rules.specs.Work.{Gain, IsNothing, Runs, mapfile_in, GoesOn, InOpening, InLoad, InRun, AreMapReads, Goes, InMaps, BehindMaps}
 use Rattle.rescue_rules.specs.Snapshots.{Snapshot}
-use Rattle.rescue_rules.specs.StopsBy.{StopsBy}
-use Rattle.rescue_rules.specs.Stops.{Behind, LeftAt, has_barrier, StopsSafely}
+use Rattle.rescue_rules.specs.StopsBy.{LeftBy, StopsBy, RescueStopsBy}
+use Rattle.rescue_rules.specs.Held.{Held}
+use Rattle.rescue_rules.specs.Stops.{Behind, files_before, has_barrier, saves_of}
 use Rattle.task_files.specs.declared.ending.Ending.{Ending}
 use Rattle.task_files.specs.declared.ending.Which.{Which}
 use Rattle.task_files.specs.declared.ending.Which.TheVariants.{DomainMap, TestMap}
@@ -33,7 +34,7 @@ use Rattle.task_files.specs.Steps.{IsOnlyMaps}
 use Rattle.rescue_rules.proofs.MapfileLemmas.{settling_calls, opening_is}
 use Rattle.rescue_rules.proofs.CutLemmas.{Cut, cut_all}
 use Rattle.rescue_rules.proofs.GoesLemmas.{broke_cut}
-use Rattle.rescue_rules.proofs.MapReadLemmas.{cut_reads}
+use Rattle.rescue_rules.proofs.MapReadLemmas.{cut_reads_by}
 use Rattle.work_steps.proofs.GainLemmas.{lost_behind, broke_behind}
 use Rattle.work_steps.proofs.FrontLemmas.{IsMapRead, load_reads, broke_in_both, made_both}
 
@@ -239,11 +240,14 @@ pub maps_cut : (maps : List Call) (calls : List Entry) → (calls ≡ map Return
 maps_cut maps calls (inl all) = subst (Cut maps) (sym all) (cut_all maps)
 maps_cut maps calls (inr broke) = broke_cut MapRead [] maps calls broke
 
-pub maps_stop : (b : Behind) (s : Setting) (g : Gain) → IsOnlyMaps g → StopsSafely b s g
-maps_stop b s g m = cut_reads b s g m.maps g.calls m.are (maps_cut m.maps g.calls m.calls)
+pub maps_stop : (b : Behind) (s : Setting) (g : Gain) → IsOnlyMaps g → RescueStopsBy b s g
+maps_stop b s g m =
+    cut_reads_by (λ began state. saves_of s began state g)
+    (λ began state n map image. Held s g.reads (bytes_of (files_before b s.outfile)) map image) true b s m.maps g.calls m.are
+    (maps_cut m.maps g.calls m.calls)
 
 -- where nothing was done, what is found could be found before
-nothing_left : (b : Behind) (g : Gain) (k : ℕ) (files : List ℕ → Option File) → IsNothing g → k ≤ length g.calls → LeftAt b g k files
+nothing_left : (b : Behind) (g : Gain) (k : ℕ) (files : List ℕ → Option File) → IsNothing g → k ≤ length g.calls → LeftBy b g.calls k files
     → MayBeLeft b.start b.earlier (length b.earlier) files
 nothing_left b g k files none le left =
     let empty : length g.calls ≡ 0 = ap length none.calls in
@@ -259,22 +263,7 @@ no_barrier g k none le is =
     let P : ℕ → Type 0 = λ n. has_barrier (take n g.calls) ≡ true in
     let never : false ≡ true = subst P zero is in cc
 
-pub nothing_stops : (b : Behind) (s : Setting) (g : Gain) → IsNothing g → StopsSafely b s g
-nothing_stops b s g none = record {
-  before = λ k files le left is. record {
-    before = files;
-    left = nothing_left b g k files none le left;
-    others = λ name other. refl;
-    output = inl refl;
-  };
-  output = λ k files le left is still. absurd (no_barrier g k none le is);
-  there = λ k files le left is. absurd (no_barrier g k none le is);
-  mapfile = λ k files le left is still. absurd (no_barrier g k none le is);
-  kept = λ k files began state le left is stands. absurd (no_barrier g k none le is);
-  others = λ k files name le left output mapfile draft. (files, nothing_left b g k files none le left, refl);
-}
-
--- the same of any run that saves while it goes
+-- any run that saves while it goes is stopped safely where nothing was done
 pub nothing_stops_by : (saves : List Status → Option MapState → List Snapshot)
     (promise : List Status → Option MapState → ℕ → List Status → List ℕ → Type 0) (makes : Bool) (b : Behind)
     (s : Setting) (g : Gain) → IsNothing g → StopsBy saves promise makes b s g.calls

@@ -9,9 +9,9 @@ use Rattle.save_resume.specs.MapNames.{names_of}
 use Rattle.rescue_console.specs.ClockState.{Keeps as ClockKeeps}
 use Rattle.rescue_console.specs.ConsoleState.{ConsoleState}
 use Rattle.rescue_console.specs.Speaking.{SpeaksOn}
-use Rattle.rescue_rules.specs.Stops.{StopsSafely}
+use Rattle.rescue_rules.specs.StopsBy.{RescueStopsBy}
 use Rattle.rescue_rules.specs.Laws.{AreThreeNames, AreTimes}
-use Rattle.rescue_rules.proofs.StopsLemmas.{goes_safely}
+use Rattle.rescue_rules.proofs.StopsLemmas.{rescue_stops_by}
 use Rattle.rescue_core.specs.Across.{Across}
 use Rattle.rescue_rules.specs.declared.stop.RunEnd.{RunEnd}
 use Rattle.sweep_rules.specs.Sweep.{Swept}
@@ -99,11 +99,11 @@ WorksIn c t o found =
 
 stops_by : (c : Command) (t : Told) (o : Outside) → Asks t.words c → first_same c.infile c.outfile (names_by c) ≡ None
     → (asked_of c t o).has_mapfile ≡ true → WorksIn c t o (found_in c (files_of t)) → AreTimes o.did.gain.times
-    → IsOnlyMaps o.did.gain ⊎ (o.end < 2 ^ 63) → StopsSafely (calls_before t) (asked_of c t o) o.did.gain
+    → IsOnlyMaps o.did.gain ⊎ (o.end < 2 ^ 63) → RescueStopsBy (calls_before t) (asked_of c t o) o.did.gain
 stops_by c t o asks different on works fit (inl only) = maps_stop (calls_before t) (asked_of c t o) o.did.gain only
 stops_by c t o asks different on works fit (inr short) =
     let line : List ℕ = command_line program_name t.words in
-    goes_safely (calls_before t) (asked_of c t o) o.did.gain (sensible_to c t.words line o.end o.maps asks) on
+    rescue_stops_by (calls_before t) (asked_of c t o) o.did.gain (sensible_to c t.words line o.end o.maps asks) on
     (three_names c line o.end o.maps on different) short fit
     (work_goes c line o.end o.maps (files_of t) o.lines t.answer o.did on works)
 

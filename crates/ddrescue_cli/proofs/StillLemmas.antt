@@ -5,6 +5,9 @@ use Rattle.std.proofs.lemmas.List.Elements.{All-nil}
 use Rattle.faulty_source.specs.SourceState.{SourceState}
 use Rattle.faulty_source.proofs.Keeping.{keeps_self}
 use Rattle.crash_site.specs.SiteState.{SiteState, files_in}
+use Rattle.crash_site.specs.Files.{bytes_of}
+use Rattle.rescue_rules.specs.Held.{Held}
+use Rattle.rescue_rules.specs.Stops.{files_before, saves_of}
 use Rattle.block_list.specs.declared.types.TypeSet.{TypeSet}
 use Rattle.option_words.specs.declared.fault.UsageFault.{UsageFault}
 use Rattle.rescue_console.specs.ClockState.{ClockState}
@@ -28,7 +31,7 @@ use Rattle.ddrescue_cli.specs.Ddrescue.{Says, Promise, FillModePromise, Generate
 use Rattle.work_steps.specs.Work.{Deeds, IsIdle, Works}
 use Rattle.work_steps.specs.Parts.{only_calls}
 use Rattle.copy_passes.specs.Turns.{IsFrom}
-use Rattle.ddrescue_cli.proofs.GoesLemmas.{nothing_stops, nothing_stops_by}
+use Rattle.ddrescue_cli.proofs.GoesLemmas.{nothing_stops_by}
 use Rattle.task_files.proofs.ListingLemmas.{OneListing, one_listing}
 use Rattle.task_files.proofs.MapsLemmas.{MapsOf, maps_for}
 use Rattle.task_sweeps.proofs.SweepMaps.{MapsOfSweep, sweep_maps_for}
@@ -131,7 +134,9 @@ still_promised words e s d k p p' c refused says =
       are_maps = m.are;
       works = still_works c outside.found (length s.bytes) (Rescues (asked_of c t outside) outside.found.mapfile []) e
           (only_calls []) nothing refused;
-      stops = λ tells on. nothing_stops (calls_before t) (asked_of c t outside) (only_calls []).gain nothing.gain;
+      stops = λ tells on. nothing_stops_by (λ began state. saves_of (asked_of c t outside) began state (only_calls []).gain)
+          (λ began state n map image. Held (asked_of c t outside) [] (bytes_of (files_before (calls_before t) c.outfile)) map image)
+          true (calls_before t) (asked_of c t outside) (only_calls []).gain nothing.gain;
       silent = λ none. refl;
       says = says;
     }

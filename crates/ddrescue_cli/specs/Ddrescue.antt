@@ -10,7 +10,7 @@ use Rattle.rescue_console.specs.ClockState.{Keeps as ClockKeeps}
 use Rattle.rescue_console.specs.ConsoleState.{ConsoleState}
 use Rattle.rescue_console.specs.Speaking.{Speaks, SpeaksOn, out_pieces}
 use Rattle.rescue_rules.specs.declared.stop.RunEnd.{RunEnd}
-use Rattle.rescue_rules.specs.Stops.{StopsSafely}
+use Rattle.rescue_rules.specs.StopsBy.{RescueStopsBy}
 use Rattle.sweep_rules.specs.Sweep.{Swept}
 use Rattle.sweep_rules.specs.SweepLaws.{AreGiven}
 use Rattle.work_steps.specs.Work.{Works}
@@ -29,7 +29,6 @@ use Rattle.task_files.specs.Answers.{SaysOfWords, Causes, drafting_left, IsUntou
 
 -- What is said on the console: nothing where the words ask for that; else the lines of the run, each by one put, and
 -- then the message of the answer, up to the first put that fails. Where the words ask for nothing to be said, a message
-
 -- comes only if memory ran out before they were read, and then nothing else was touched.
 pub data Says (lines : List (List ℕ)) (t : Told) : Type 0 where
   Nothing : AskQuiet t.words → t.console' ≡ t.console → Says lines t
@@ -53,7 +52,7 @@ pub record Promise (c : Command) (t : Told) : Type 0 where
   -- until the barrier has returned; from then on the mapfile found is the one it began with or one that it saved, no
   -- older than the last save that had returned, and the output holds what that mapfile promises.
   pub stops : IsTrue t.site.tells → (asked_of c t outside).has_mapfile ≡ true
-      → StopsSafely (calls_before t) (asked_of c t outside) outside.did.gain
+      → RescueStopsBy (calls_before t) (asked_of c t outside) outside.did.gain
   -- Before its run a rescue says no line;
   pub silent : outside.did.gain.times ≡ [] → outside.lines ≡ []
   -- and what is said on the console is the lines of the run and the message of the answer.

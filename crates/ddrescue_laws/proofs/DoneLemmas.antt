@@ -40,8 +40,8 @@ use Rattle.rescue_rules.specs.declared.stop.Stop.{Stop}
 use Rattle.rescue_rules.specs.declared.stop.Stop.TheVariants.{SourceLost as InputLost, Site, LimitMet as Limited, NoMemory as NoRoom}
 use Rattle.rescue_rules.specs.declared.stop.RunEnd.{RunEnd}
 use Rattle.rescue_rules.specs.Work.{Gain, begins, events_in, opening_calls, mapfile_in, IsLoadOf, AreMapReads, EndsBy, end_of, Ends, IsSaved as RunSaved, IsUnsaved, IsBroken}
-use Rattle.rescue_rules.specs.StopsBy.{LeftBy}
-use Rattle.rescue_rules.specs.Stops.{LeftAt, has_barrier, is_settle, is_publish, returned, published, files_before, IsSave, IsKept}
+use Rattle.rescue_rules.specs.StopsBy.{LeftBy, IsKept}
+use Rattle.rescue_rules.specs.Stops.{has_barrier, is_settle, is_publish, returned, published, files_before, IsSave}
 use Rattle.task_files.specs.declared.ending.Ending.{Ending}
 use Rattle.task_files.specs.declared.ending.Ending.TheVariants.{Done, SameName, SourceLost, SiteFault, NoMemory, LimitMet}
 use Rattle.rescue_command.specs.Command.{Command, Asks, Rescue}
@@ -83,7 +83,7 @@ left_behind t gained started grew =
     (subst Q (sym grew) (left_all t.site.start calls k (sym (length-append t.site.calls gained))))
 
 left_at_end : (c : Command) (t : Told) (d : Ddrescue t) (p : Promise c t) → IsTrue t.site.tells
-    → LeftAt (calls_before t) p.outside.did.gain (length p.outside.did.gain.calls) (files_in t.site')
+    → LeftBy (calls_before t) p.outside.did.gain.calls (length p.outside.did.gain.calls) (files_in t.site')
 left_at_end c t d p tells = left_behind t p.outside.did.gain.calls (d.site.start tells) (p.agrees.calls tells)
 
 pub holds_at_end : HoldsAtEnd

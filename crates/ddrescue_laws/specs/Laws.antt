@@ -16,7 +16,8 @@ use Rattle.trim_scrape.specs.Endings.{EndsWell}
 use Rattle.rescue_rules.specs.Held.{Held}
 use Rattle.rescue_rules.specs.Snapshots.{text_of, finished_snapshot}
 use Rattle.rescue_rules.specs.Work.{Gain, begins, events_in, mapfile_in}
-use Rattle.rescue_rules.specs.Stops.{has_barrier, IsKept}
+use Rattle.rescue_rules.specs.Stops.{has_barrier}
+use Rattle.rescue_rules.specs.StopsBy.{IsKept}
 use Rattle.work_steps.specs.Work.{Deeds, Works}
 use Rattle.work_steps.specs.Verdicts.{RefuseNothing}
 use Rattle.rescue_command.specs.Command.{Command, Rescue, Sample, Asks, AskSample}

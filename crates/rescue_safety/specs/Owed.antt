@@ -1,0 +1,46 @@
+-- What an output owes to its mapfile, by all that was given to its positions.
+use Rattle.std.specs.Prelude.{◌≡◌, ◌⊎◌, ℕ, ◌+◌, ◌-◌, nat_eq, Bool, true, List, [], ◌∷◌, ◌++◌, length, take, drop, slice_get, Option, Some, None, if◌then◌else◌}
+use Rattle.std.specs.List.{flat_map, enumerate_from}
+use Rattle.faulty_source.specs.Journal.{Reading, kept}
+use Rattle.crash_site.specs.Files.{File, bytes_of}
+use Rattle.crash_site.specs.Calls.{Entry, Done, image_read}
+use Rattle.crash_site.specs.Left.{MayBeLeft}
+use Rattle.rescue_rules.specs.Given.{last_of_both}
+use Rattle.rescue_rules.specs.Stops.{Behind}
+use Rattle.rescue_safety.specs.Saves.{CallsFinished}
+use Rattle.rescue_safety.specs.Safe.{Target, HasPlace}
+
+-- the byte that the last pair of a list gives a position, if one does
+abbrev pub last_given : List (ℕ × ℕ) → ℕ → Option ℕ
+last_given [] x = None
+last_given (g ∷ gs) x = last_of_both (last_given gs x) (if nat_eq g.0 x then Some g.1 else None)
+
+-- what reads gave, as pairs of a position and its byte, over their kept parts
+abbrev pub pairs_of : (sector : ℕ) → List Reading → List (ℕ × ℕ)
+pairs_of sector reads = flat_map (λ r. enumerate_from r.pos (take (kept sector r) r.given)) reads
+
+-- what these calls read of an output with these bytes, as such pairs
+abbrev pub looked_at : Target → (image : List ℕ) → List Entry → List (ℕ × ℕ)
+looked_at t image [] = []
+looked_at t image (Done (image_read place asked (Some n)) ∷ es) =
+    enumerate_from (place + t.from - t.to) (take n (drop place image)) ++ looked_at t image es
+looked_at t image (e ∷ es) = looked_at t image es
+
+-- The place of a position in the output holds the byte that the position was given last.
+pub record HoldsLast (t : Target) (gave : List (ℕ × ℕ)) (image : List ℕ) (x : ℕ) : Type 0 where
+  pub byte : ℕ
+  pub given : last_given gave x ≡ Some byte
+  pub place : ℕ
+  pub at : HasPlace t x place
+  pub holds : slice_get image place ≡ Some byte
+
+-- Each position that the mapfile among these files calls finished is an old one, or the output holds its last byte.
+pub record IsOwedIn (t : Target) (gave : List (ℕ × ℕ)) (old : ℕ → Bool) (files : List ℕ → Option File)
+    : Type 0 where
+  pub each : (x : ℕ) → CallsFinished (files t.mapfile) x
+      → (old x ≡ true) ⊎ HoldsLast t gave (bytes_of (files t.outfile)) x
+
+-- So it is in all files that may be found after these calls.
+pub record IsOwedAt (t : Target) (gave : List (ℕ × ℕ)) (old : ℕ → Bool) (b : Behind) : Type 0 where
+  pub each : (files : List ℕ → Option File) → MayBeLeft b.start b.earlier (length b.earlier) files
+      → IsOwedIn t gave old files
