@@ -26,9 +26,9 @@ use Rattle.task_files.specs.Names.{program_name}
 use Rattle.task_sample.specs.Sampled.{Samples, sample_rows}
 use Rattle.task_sweeps.specs.Modes.{AreMapsOfSweep, IsMapEnd, Fills, FillStops, Generates, GenerateStops, fill_setting}
 use Rattle.task_files.specs.Answers.{SaysOfWords, Causes, drafting_left, IsUntouched}
+
 -- What is said on the console: nothing where the words ask for that; else the lines of the run, each by one put, and
 -- then the message of the answer, up to the first put that fails. Where the words ask for nothing to be said, a message
-
 -- comes only if memory ran out before they were read, and then nothing else was touched.
 pub data Says (lines : List (List ℕ)) (t : Told) : Type 0 where
   Nothing : AskQuiet t.words → t.console' ≡ t.console → Says lines t
