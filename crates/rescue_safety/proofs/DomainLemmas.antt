@@ -61,7 +61,7 @@ pub named_file : (name : Option (List ℕ)) (n : List ℕ) (files : List ℕ →
     → file_of name files ≡ files n
 named_file name n files is = ap (λ (o : Option (List ℕ)). file_of o files) is
 
-pub asked_for : (r : Rescue) (p : Promise r.command r.told) (x : ℕ)
+pub asked_for : (r : Rescue) (p : Promise r.command r.did.call.told) (x : ℕ)
     → domain_asked r.command.options p.outside.end p.outside.maps x ≡ true → IsAskedFor r x
 asked_for r p x is =
     let c : Command = r.command in
@@ -69,13 +69,13 @@ asked_for r p x is =
     let maps : Maps = p.outside.maps in
     let whole : ℕ → Bool = whole_domain c.options.input_position c.options.size p.outside.end in
     let mapped : ℕ → Bool = in_map whole maps.domain in
-    let found : p.outside.found ≡ found_in c files = p.agrees.found r.site_tells in
+    let found : p.outside.found ≡ found_in c files = p.agrees.found r.did.call.site_tells in
     let in_mapped : in_map whole maps.domain x ≡ true = in_list_first mapped maps.listed x is in
     let w : InWhole c.options.input_position c.options.size p.outside.end x
     = in_whole c.options.input_position c.options.size p.outside.end x (in_map_first whole maps.domain x in_mapped) in
     record {
       from = w.from;
-      within = subst (λ (n : ℕ). x < n) (p.agrees.end r.source_tells) w.within;
+      within = subst (λ (n : ℕ). x < n) (p.agrees.end r.did.source_tells) w.within;
       size = w.size;
       domain = λ name statuses named map.
           let file : p.outside.found.domain ≡ files name

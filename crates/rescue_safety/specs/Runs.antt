@@ -1,88 +1,92 @@
--- Many runs on one output and one mapfile, each of which goes on from what the one before it left, by what the objects
--- tell of each.
-use Rattle.std.specs.Prelude.{◌≡◌, ◌≢◌, ℕ, ◌+◌, ◌≤◌, IsTrue, List, [], ◌∷◌, ◌++◌, length, take, drop, All, Option, Some, None, if◌then◌else◌}
-use Rattle.std.specs.List.{flat_map, enumerate_from}
+-- Many runs on one output and one mapfile, each of which goes on from what the one before it left.
+use Rattle.std.specs.Prelude.{◌≡◌, ◌≢◌, ℕ, ◌+◌, ◌≤◌, List, [], ◌∷◌, ◌++◌, length, map, take, drop, All, Option, Some, None, if◌then◌else◌}
+use Rattle.std.specs.List.{flat_map}
+use Rattle.faulty_source.specs.Journal.{Reading}
 use Rattle.crash_site.specs.Files.{File, bytes_of}
 use Rattle.crash_site.specs.Calls.{Entry, Done, Failed, image_write, draft_append}
-use Rattle.crash_site.specs.Left.{MayBeLeft, in_progress}
-use Rattle.crash_site.specs.SiteState.{files_in}
-use Rattle.faulty_source.specs.Journal.{Reading}
-use Rattle.rescue_rules.specs.Stops.{Behind, has_barrier}
+use Rattle.crash_site.specs.Left.{in_progress}
+use Rattle.rescue_rules.specs.Stops.{Behind, files_before, has_barrier}
+use Rattle.rescue_rules.specs.StopsBy.{LeftBy}
 use Rattle.rescue_command.specs.Command.{Command, Generate, AskTask}
-use Rattle.task_files.specs.Asked.{output_from}
-use Rattle.ddrescue_cli.specs.Told.{Told, calls_before}
-use Rattle.ddrescue_cli.specs.Ddrescue.{Ddrescue}
-use Rattle.many_runs.specs.Owed.{Target, pairs_of}
-use Rattle.rescue_safety.specs.Rescue.{Rescue, AreSeen}
+use Rattle.ddrescue_cli.specs.Told.{calls_before}
+use Rattle.rescue_safety.specs.Safe.{Target}
+use Rattle.rescue_safety.specs.Owed.{pairs_of, looked_at}
+use Rattle.rescue_safety.specs.Rescue.{Invocation, Rescue, target_of, AreSeen}
 
--- these files, all durable, on which no call was made yet
+-- these files, all durable, before any call
 abbrev pub resting : (List ℕ → Option File) → Behind
 resting files = record { start = record { files = files; image = None; draft = None }; earlier = [] }
 
--- What a process that was killed leaves of the first of these calls, which it was in: nothing; the call as one that
--- failed; or, of a write or of an append, the first bytes.
+-- ---- where the next run begins
+
+-- a part of a write: that many bytes of the piece, from a byte on
+abbrev pub part_written : (pos : ℕ) → (piece : List ℕ) → (ℕ × ℕ) → Entry
+part_written pos piece p = Done (image_write (pos + p.0) (take p.1 (drop p.0 piece)))
+
+-- What a killed process leaves of the first of these calls, which it was in: nothing; the call as one that failed; of a
+-- write, any parts in any order; or of an append, whatever bytes.
 pub data LeavesPart (next : List Entry) (part : List Entry) : Type 0 where
   Nothing : part ≡ [] → LeavesPart next part
   Failing : part ≡ in_progress next → LeavesPart next part
-  Writing : (pos : ℕ) (piece : List ℕ) (n : ℕ) → in_progress next ≡ Failed (image_write pos piece) ∷ []
-      → part ≡ Done (image_write pos (take n piece)) ∷ [] → LeavesPart next part
-  Appending : (piece : List ℕ) (n : ℕ) → in_progress next ≡ Failed (draft_append piece) ∷ []
-      → part ≡ Done (draft_append (take n piece)) ∷ [] → LeavesPart next part
+  Writing : (pos : ℕ) (piece : List ℕ) (parts : List (ℕ × ℕ)) → in_progress next ≡ Failed (image_write pos piece) ∷ []
+      → All (λ p. p.0 + p.1 ≤ length piece) parts → part ≡ map (part_written pos piece) parts → LeavesPart next part
+  Appending : (piece left : List ℕ) → in_progress next ≡ Failed (draft_append piece) ∷ []
+      → part ≡ Done (draft_append left) ∷ [] → LeavesPart next part
 
--- Where the next run begins, behind the first k of these calls: the machine was stopped, and what it left is durable
--- now; or the process alone ended, between two calls or within one, and its files go on as they are.
+-- Where the next run begins after the first k of these calls: the machine was stopped, and what it left is durable now;
+-- or the process alone ended, between two calls or within one, and its files go on as they are.
 pub data NextBegins (from : Behind) (calls : List Entry) (k : ℕ) (next : Behind) : Type 0 where
-  Stopped : (files : List ℕ → Option File) → MayBeLeft from.start (from.earlier ++ calls) (length from.earlier + k) files
-      → next ≡ resting files → NextBegins from calls k next
+  Stopped : (files : List ℕ → Option File) → LeftBy from calls k files → next ≡ resting files
+      → NextBegins from calls k next
   Ended : (part : List Entry) → LeavesPart (drop k calls) part
       → next ≡ record { start = from.start; earlier = from.earlier ++ (take k calls ++ part) }
       → NextBegins from calls k next
 
--- One run of a chain: where it began and where the next one begins, and what it gave, as pairs of a position and a byte.
+-- ---- one run
+
+-- One run of a chain: where it begins and where the next one does, and what it gave, as pairs of a position and a byte.
 pub record Link : Type 0 where
   pub before : Behind
   pub next : Behind
   pub gave : List (ℕ × ℕ)
 
--- a command has the target's files, and its positions the target's places
-pub record IsOn (t : Target) (c : Command) : Type 0 where
+-- What all runs of a chain have: the command names the target's files and has its places; and of the calls that were
+-- made, as many as `moment` had returned when the run ended.
+pub record IsStep (t : Target) (l : Link) (i : Invocation) (c : Command) : Type 0 where
   pub outfile : c.outfile ≡ t.outfile
   pub mapfile : c.mapfile ≡ Some t.mapfile
-  pub places : c.options.input_position + t.to ≡ t.from + output_from c.options
+  pub places : (target_of c t.mapfile).from + t.to ≡ t.from + (target_of c t.mapfile).to
+  pub moment : ℕ
+  pub within : moment ≤ length i.calls
+  pub before : l.before ≡ calls_before i.told
+  pub next : NextBegins l.before i.calls moment l.next
 
--- A rescue on the target, which ended behind its first calls: it gave what it had read, and read nothing before its
--- barrier had returned.
+-- these pairs, if the barrier has returned among these calls; nothing is read before
+abbrev pub after_barrier : List Entry → List (ℕ × ℕ) → List (ℕ × ℕ)
+after_barrier calls pairs = if has_barrier calls then pairs else []
+
+-- A rescue on the target, which gave what it had read.
 pub record IsRescue (t : Target) (l : Link) : Type 0 where
-  pub run : Rescue
+  pub rescue : Rescue
   pub reads : List Reading
-  pub seen_are : AreSeen run reads
-  pub on : IsOn t run.command
-  pub moment : ℕ
-  pub within : moment ≤ length run.calls
-  pub before : l.before ≡ calls_before run.told
-  pub next : NextBegins l.before run.calls moment l.next
-  pub gave : l.gave ≡ (if has_barrier (take moment run.calls) then pairs_of run.command.options.sector reads else [])
+  pub are_seen : AreSeen rescue reads
+  pub step : IsStep t l rescue.did.call rescue.command
+  pub gave : l.gave ≡ after_barrier (take step.moment rescue.did.call.calls) (pairs_of rescue.command.options.sector reads)
 
--- A generating on the target, which marks what the output holds: that counts as given, once its barrier has returned.
+-- A generating on the target, which marks what the output holds: it gave what it read there.
 pub record IsGenerating (t : Target) (l : Link) : Type 0 where
-  pub told : Told
-  pub promised : Ddrescue told
+  pub call : Invocation
   pub command : Command
-  pub asks : AskTask told.words (Generate command)
-  pub site_tells : IsTrue told.site.tells
-  pub calls : List Entry
-  pub made : told.site'.calls ≡ told.site.calls ++ calls
-  pub on : IsOn t command
-  pub moment : ℕ
-  pub within : moment ≤ length calls
-  pub before : l.before ≡ calls_before told
-  pub next : NextBegins l.before calls moment l.next
-  pub gave : l.gave ≡ (if has_barrier (take moment calls) then enumerate_from command.options.input_position
-      (drop (output_from command.options) (bytes_of (files_in told.site command.outfile))) else [])
+  pub asks : AskTask call.told.words (Generate command)
+  pub step : IsStep t l call command
+  pub gave : l.gave ≡ after_barrier (take step.moment call.calls)
+      (looked_at t (bytes_of (files_before l.before t.outfile)) call.calls)
 
 pub data IsLink (t : Target) (l : Link) : Type 0 where
   OfRescue : IsRescue t l → IsLink t l
   OfGenerating : IsGenerating t l → IsLink t l
+
+-- ---- a chain of them
 
 -- each link begins where the one before it leads, the first at one moment, and the last leads to another
 abbrev pub AreJoined : (from : Behind) → List Link → (to : Behind) → Type 0

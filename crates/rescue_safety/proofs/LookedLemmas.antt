@@ -21,14 +21,17 @@ use Rattle.sweep_rules.specs.Sweep.{Sweep, Swept, generator, is_generated, is_th
 use Rattle.sweep_rules.specs.SweepLaws.{AreGiven}
 use Rattle.sweep_rules.proofs.EndLemmas.{end_map}
 use Rattle.sweep_rules.proofs.SweepLemmas.{changed_cases}
-use Rattle.many_runs.specs.Owed.{last_given}
-use Rattle.many_runs.specs.Chain.{looked_at}
-use Rattle.many_runs.proofs.LastGiven.{last_behind, placed_below, placed_above}
+use Rattle.rescue_safety.specs.Owed.{last_given}
+use Rattle.rescue_safety.proofs.LastGiven.{last_after, placed_below, placed_above}
+
+-- the bytes of the pieces, as pairs of a position and its byte
+abbrev pub pieces_given : List Swept → List (ℕ × ℕ)
+pieces_given pieces = flat_map (λ e. enumerate_from e.pos e.got) pieces
 
 -- the pieces give a position a byte
 record Gives (es : List Swept) (x : ℕ) : Type 0 where
   byte : ℕ
-  is : last_given (looked_at es) x ≡ Some byte
+  is : last_given (pieces_given es) x ≡ Some byte
 
 gives_by : (a b : Option ℕ) (byte : ℕ) → b ≡ Some byte → (v : ℕ) × (last_of_both a b ≡ Some v)
 gives_by None b byte is = (byte, is)
@@ -37,7 +40,7 @@ gives_by (Some v) b byte is = (v, refl)
 gives_later : (e : Swept) (es : List Swept) (x : ℕ) → Gives es x → Gives (e ∷ es) x
 gives_later e es x g = record {
   byte = g.byte;
-  is = last_behind (enumerate_from e.pos e.got) (looked_at es) x
+  is = last_after (enumerate_from e.pos e.got) (pieces_given es) x
       ∙ ap (λ (o : Option ℕ). last_of_both o (last_given (enumerate_from e.pos e.got) x)) g.is;
 }
 
@@ -45,9 +48,9 @@ gives_here : (e : Swept) (es : List Swept) (x : ℕ) → e.pos ≤ x → x < e.p
 gives_here e es x from to =
     let here : last_given (enumerate_from e.pos e.got) x ≡ Some (get_or e.got (x - e.pos) 0)
     = placed_above e.got e.pos x from ∙ slice_get-get_or e.got (x - e.pos) 0 (omega (arith, from, to)) in
-    let v = gives_by (last_given (looked_at es) x) (last_given (enumerate_from e.pos e.got) x) (get_or e.got (x - e.pos) 0)
+    let v = gives_by (last_given (pieces_given es) x) (last_given (enumerate_from e.pos e.got) x) (get_or e.got (x - e.pos) 0)
     here in
-    record { byte = v.0; is = last_behind (enumerate_from e.pos e.got) (looked_at es) x ∙ v.1 }
+    record { byte = v.0; is = last_after (enumerate_from e.pos e.got) (pieces_given es) x ∙ v.1 }
 
 -- what is generated is given
 gives_generated : (s : Setting) (e : Swept) (es : List Swept) (x : ℕ) → is_generated s e x ≡ true → Gives (e ∷ es) x
@@ -114,14 +117,14 @@ saves_given s m es done =
     (subst (λ (l : List Status). Has l Finished x) (end_map done (behind_pieces (generator s) m es)) has))
     (All-nil (FinishesGiven m.map es)))
 
-never_given : (es : List Swept) (x : ℕ) → last_given (looked_at es) x ≡ None → Gives es x → ⊥
+never_given : (es : List Swept) (x : ℕ) → last_given (pieces_given es) x ≡ None → Gives es x → ⊥
 never_given es x none g = let e : None ≡ Some g.byte = sym none ∙ g.is in absurd (cc)
 
 -- So what a save finishes that no piece gave was finished before.
 pub save_was_finished : (s : Setting) (old found : Option File) (line : List ℕ) (m : Sweep) (es : List Swept) (done : Bool)
     (number : ℕ) (statuses : List Status) (x : ℕ)
     → IsSave old m.map line (saves_in (deeds_of (generator s) m es) (sweep_end done (behind_pieces (generator s) m es))) number
-    found statuses → last_given (looked_at es) x ≡ None → Has statuses Finished x → Has m.map Finished x
+    found statuses → last_given (pieces_given es) x ≡ None → Has statuses Finished x → Has m.map Finished x
 save_was_finished s old found line m es done zero statuses x is none has =
     subst (λ (l : List Status). Has l Finished x) is.1 has
 save_was_finished s old found line m es done (suc n) statuses x is none has =
@@ -134,8 +137,8 @@ save_was_finished s old found line m es done (suc n) statuses x is none has =
 -- ---- the bytes
 
 -- pieces begin at positions that are asked for
-abbrev pub AreBehind : (from : ℕ) → List Swept → Type 0
-AreBehind from es = All (λ e. from ≤ e.pos) es
+abbrev pub StartFrom : (from : ℕ) → List Swept → Type 0
+StartFrom from es = All (λ e. from ≤ e.pos) es
 
 -- a byte that some piece gives
 record IsPlaced (s : Setting) (image : List ℕ) (x byte : ℕ) : Type 0 where
@@ -145,7 +148,7 @@ record IsPlaced (s : Setting) (image : List ℕ) (x byte : ℕ) : Type 0 where
 placed_here : (s : Setting) (image : List ℕ) (e : Swept) (x byte : ℕ) → s.from ≤ e.pos
     → e.got ≡ take e.len (drop (place s e.pos) image) → last_given (enumerate_from e.pos e.got) x ≡ Some byte
     → IsPlaced s image x byte
-placed_here s image e x byte behind given is =
+placed_here s image e x byte starts given is =
     ⊎_elim
     (λ (lt : x < e.pos). let e : None ≡ Some byte = sym (placed_below e.got e.pos x lt) ∙ is in absurd (cc))
     (λ (ge : e.pos ≤ x).
@@ -158,26 +161,26 @@ placed_here s image e x byte behind given is =
     let at : slice_get image (place s e.pos + j) ≡ Some byte
     = sym (slice_get-drop (place s e.pos) image j) ∙ sym (slice_get-take e.len (drop (place s e.pos) image) j few)
     ∙ ap (λ (l : List ℕ). slice_get l j) (sym given) ∙ here in
-    let same : place s e.pos + j ≡ place s x = omega (arith, behind, ge) in
-    record { from = omega (arith, behind, ge); holds = subst (λ (y : ℕ). slice_get image y ≡ Some byte) same at })
+    let same : place s e.pos + j ≡ place s x = omega (arith, starts, ge) in
+    record { from = omega (arith, starts, ge); holds = subst (λ (y : ℕ). slice_get image y ≡ Some byte) same at })
     (cases_lt x e.pos)
 
 either_given : (a b : Option ℕ) (byte : ℕ) → last_of_both a b ≡ Some byte → (a ≡ Some byte) ⊎ (b ≡ Some byte)
 either_given None b byte is = inr is
 either_given (Some v) b byte is = inl is
 
-pub given_placed : (s : Setting) (image : List ℕ) (es : List Swept) (x byte : ℕ) → AreBehind s.from es
-    → AreGiven s image es → last_given (looked_at es) x ≡ Some byte
+pub given_placed : (s : Setting) (image : List ℕ) (es : List Swept) (x byte : ℕ) → StartFrom s.from es
+    → AreGiven s image es → last_given (pieces_given es) x ≡ Some byte
     → (s.from ≤ x) × (slice_get image (place s x) ≡ Some byte)
-given_placed s image [] x byte behind given is = absurd (cc)
-given_placed s image (e ∷ es) x byte behind given is =
+given_placed s image [] x byte starts given is = absurd (cc)
+given_placed s image (e ∷ es) x byte starts given is =
     ⊎_elim
-    (λ (later : last_given (looked_at es) x ≡ Some byte).
-    given_placed s image es x byte (All-tail (λ (e : Swept). s.from ≤ e.pos) e es behind)
+    (λ (later : last_given (pieces_given es) x ≡ Some byte).
+    given_placed s image es x byte (All-tail (λ (e : Swept). s.from ≤ e.pos) e es starts)
     (All-tail (λ (e : Swept). e.got ≡ take e.len (drop (place s e.pos) image)) e es given) later)
     (λ (here : last_given (enumerate_from e.pos e.got) x ≡ Some byte).
-    let p : IsPlaced s image x byte = placed_here s image e x byte (All-head (λ (e : Swept). s.from ≤ e.pos) e es behind)
+    let p : IsPlaced s image x byte = placed_here s image e x byte (All-head (λ (e : Swept). s.from ≤ e.pos) e es starts)
     (All-head (λ (e : Swept). e.got ≡ take e.len (drop (place s e.pos) image)) e es given) here in
     (p.from, p.holds))
-    (either_given (last_given (looked_at es) x) (last_given (enumerate_from e.pos e.got) x) byte
-    (sym (last_behind (enumerate_from e.pos e.got) (looked_at es) x) ∙ is))
+    (either_given (last_given (pieces_given es) x) (last_given (enumerate_from e.pos e.got) x) byte
+    (sym (last_after (enumerate_from e.pos e.got) (pieces_given es) x) ∙ is))

@@ -8,8 +8,7 @@ use Rattle.std.proofs.lemmas.Option.{slice_get_past}
 use Rattle.faulty_source.specs.Journal.{Reading, kept, covers}
 use Rattle.rescue_rules.specs.Given.{given, last_of_both}
 use Rattle.rescue_rules.proofs.MarkLemmas.{slice_get-take}
-use Rattle.many_runs.specs.Owed.{last_given, pairs_of}
-use Rattle.many_runs.specs.Laws.{GivenIsLast}
+use Rattle.rescue_safety.specs.Owed.{last_given, pairs_of}
 
 last_joins : (a b c : Option ℕ) → last_of_both (last_of_both a b) c ≡ last_of_both a (last_of_both b c)
 last_joins None b c = refl
@@ -19,11 +18,11 @@ last_nothing : (a : Option ℕ) → last_of_both a None ≡ a
 last_nothing None = refl
 last_nothing (Some x) = refl
 
--- behind another list
-pub last_behind : (cs bs : List (ℕ × ℕ)) (x : ℕ) → last_given (cs ++ bs) x ≡ last_of_both (last_given bs x) (last_given cs x)
-last_behind [] bs x = sym (last_nothing (last_given bs x))
-last_behind (a ∷ cs) bs x =
-    ap (λ (o : Option ℕ). last_of_both o (if nat_eq a.0 x then Some a.1 else None)) (last_behind cs bs x)
+-- after another list
+pub last_after : (cs bs : List (ℕ × ℕ)) (x : ℕ) → last_given (cs ++ bs) x ≡ last_of_both (last_given bs x) (last_given cs x)
+last_after [] bs x = sym (last_nothing (last_given bs x))
+last_after (a ∷ cs) bs x =
+    ap (λ (o : Option ℕ). last_of_both o (if nat_eq a.0 x then Some a.1 else None)) (last_after cs bs x)
     ∙ last_joins (last_given bs x) (last_given cs x) (if nat_eq a.0 x then Some a.1 else None)
 
 -- bytes from a position on
@@ -66,16 +65,17 @@ read_pairs sector r x =
     slice_get-take (kept sector r) r.given (x - r.pos) (omega (arith, in_kept, ge))
     ∙ sym (cond-true (covers sector r x) (slice_get r.given (x - r.pos)) None
     (and_from (nat_le r.pos x) (nat_lt x (r.pos + kept sector r)) (le-leb r.pos x ge) (lt-ltb x (r.pos + kept sector r) in_kept))))
-    (λ (behind : r.pos + kept sector r ≤ x).
-    slice_get_past (take (kept sector r) r.given) (x - r.pos) (omega (arith, length-take (kept sector r) r.given, behind))
+    (λ (past : r.pos + kept sector r ≤ x).
+    slice_get_past (take (kept sector r) r.given) (x - r.pos) (omega (arith, length-take (kept sector r) r.given, past))
     ∙ sym (cond-false (covers sector r x) (slice_get r.given (x - r.pos)) None
-    (and_right (nat_le r.pos x) (nat_lt x (r.pos + kept sector r)) (le-ltb x (r.pos + kept sector r) behind))))
+    (and_right (nat_le r.pos x) (nat_lt x (r.pos + kept sector r)) (le-ltb x (r.pos + kept sector r) past))))
     (cases_lt x (r.pos + kept sector r)))
     (cases_lt x r.pos)
 
-pub given_is_last : GivenIsLast
+pub given_is_last :
+    (sector : ℕ) (reads : List Reading) (x : ℕ) → last_given (pairs_of sector reads) x ≡ given sector reads x
 given_is_last sector [] x = refl
 given_is_last sector (r ∷ rs) x =
-    last_behind (enumerate_from r.pos (take (kept sector r) r.given)) (pairs_of sector rs) x
+    last_after (enumerate_from r.pos (take (kept sector r) r.given)) (pairs_of sector rs) x
     ∙ ap (λ (o : Option ℕ). last_of_both o (last_given (enumerate_from r.pos (take (kept sector r) r.given)) x)) (given_is_last sector rs x)
     ∙ ap (λ (o : Option ℕ). last_of_both (given sector rs x) o) (read_pairs sector r x)

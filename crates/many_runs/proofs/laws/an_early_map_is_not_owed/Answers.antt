@@ -1,5 +1,0 @@
-use Rattle.many_runs.proofs.EarlyLemmas.{early_map_is_not_owed}
-use Rattle.many_runs.proofs.laws.an_early_map_is_not_owed.Goals as goal
-
-pub returns : goal.returns
-returns c = early_map_is_not_owed

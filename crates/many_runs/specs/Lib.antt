@@ -1,3 +1,0 @@
-pub mod Owed
-pub mod Chain
-pub mod Laws

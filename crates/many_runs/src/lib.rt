@@ -1,4 +1,0 @@
-//! What many runs owe together: definitions and laws, over the promise of a rescue.
-#![tactic(auto)]
-
-pub mod laws;

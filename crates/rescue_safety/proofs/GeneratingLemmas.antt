@@ -1,0 +1,320 @@
+-- A generating that goes on from what is owed leaves it so: what it marks is what the output holds.
+use Rattle.std.specs.Bool.{⊤}
+use Rattle.std.proofs.Common.{◌≡◌, ◌≢◌, ◌⊎◌, inl, inr, ⊎_elim, ℕ, ◌+◌, ◌<◌, ◌≤◌, Bool, true, false, if◌then◌else◌, List, [], ◌∷◌, ◌++◌, length, map, take, All, Option, Some, None, option_map, is_some, sym, ap, subst, ◌∙◌, arith, append-nil}
+use Rattle.std.specs.List.{slice_get}
+use Rattle.std.proofs.lemmas.Bool.{cases_Bool}
+use Rattle.std.proofs.lemmas.List.{append_cancel_left}
+use Rattle.std.proofs.lemmas.List.Elements.{All-nil, All-cons, All-append}
+use Rattle.std.proofs.lemmas.Option.{slice_get_within}
+use Rattle.block_list.specs.declared.status.Status.TheVariants.{Finished}
+use Rattle.block_list.specs.Map.{Has}
+use Rattle.crash_site.specs.Files.{File, bytes_of}
+use Rattle.crash_site.specs.Calls.{Call, Entry}
+use Rattle.save_resume.specs.MapNames.{names_of}
+use Rattle.rescue_rules.specs.declared.stop.RunEnd.{RunEnd}
+use Rattle.rescue_rules.specs.Setting.{Setting, IsSensible, place}
+use Rattle.rescue_rules.specs.Start.{Stands}
+use Rattle.rescue_rules.specs.Given.{last_of_both}
+use Rattle.rescue_rules.specs.Work.{Gain}
+use Rattle.rescue_rules.specs.Stops.{Behind, files_before, has_barrier, published}
+use Rattle.rescue_rules.specs.StopsBy.{LeftBy, IsKeptBy}
+use Rattle.rescue_rules.proofs.CutLemmas.{Cut, cut_past}
+use Rattle.rescue_rules.proofs.MapfileLemmas.{opening_by}
+use Rattle.rescue_core.specs.RunState.{names_in}
+use Rattle.sweep_rules.specs.Sweep.{Sweep, Swept, generator, IsSweep, behind_piece}
+use Rattle.sweep_rules.specs.SweepLaws.{AreGiven}
+use Rattle.sweep_rules.specs.SweepStops.{GeneratePromise, has_swept_out, sweep_saves}
+use Rattle.sweep_rules.specs.SweepWork.{sweep_begins, sweep_opening}
+use Rattle.sweep_rules.proofs.SweepLemmas.{piece_within}
+use Rattle.option_words.specs.Words.{command_line}
+use Rattle.rescue_command.specs.Command.{Generate, HasMapfile}
+use Rattle.rescue_command.proofs.CommandLemmas.{reading_asks}
+use Rattle.work_steps.proofs.FrontLemmas.{load_reads}
+use Rattle.task_files.specs.Maps.{Found, found_in}
+use Rattle.task_files.specs.Names.{program_name}
+use Rattle.task_files.specs.Outside.{Outside}
+use Rattle.task_sweeps.specs.Modes.{Generates, GenerateStops}
+use Rattle.ddrescue_cli.specs.Told.{calls_before, files_of, asked_of}
+use Rattle.ddrescue_cli.specs.Ddrescue.{GenerateModePromise}
+use Rattle.ddrescue_cli.proofs.AskedLemmas.{sensible_in}
+use Rattle.ddrescue_cli.proofs.EarlyCut.{EarlyCut, early_cut}
+use Rattle.ddrescue_cli.proofs.SweepGoes.{Unbegun, Begun}
+use Rattle.ddrescue_cli.proofs.SweepWay.{SweepWay, InMaps, BehindMaps, generate_way}
+use Rattle.ddrescue_laws.specs.ModeLaws.{promised_generate}
+use Rattle.rescue_safety.specs.Saves.{CallsFinished}
+use Rattle.rescue_safety.specs.Safe.{Target}
+use Rattle.rescue_safety.specs.Owed.{last_given, looked_at, HoldsLast, IsOwedIn, IsOwedAt}
+use Rattle.rescue_safety.specs.Runs.{NextBegins, Link, IsGenerating, after_barrier}
+use Rattle.rescue_safety.proofs.Texts.{IsStill}
+use Rattle.rescue_safety.proofs.SaveLemmas.{reads_still, opening_still}
+use Rattle.rescue_safety.proofs.QuietLemmas.{still_none}
+use Rattle.rescue_safety.proofs.FinishedLemmas.{StandsAt, At, stands_at, StandsFinished, stands_finished, calls_finished, finished_has}
+use Rattle.rescue_safety.proofs.ClaimLemmas.{some_or_none}
+use Rattle.rescue_safety.proofs.LastGiven.{last_after}
+use Rattle.rescue_safety.proofs.LookedLemmas.{pieces_given, StartFrom, given_placed, save_was_finished}
+use Rattle.rescue_safety.proofs.SweepLooks.{looks_in, look_pairs, looked_by, IsBlind, cut_looks, blind_before, reads_blind, opening_blind, sweep_opening_blind, piece_look, sweep_looks, looked_pieces}
+use Rattle.rescue_safety.proofs.OwedLemmas.{IsSame, same_back, same_at, owed_before, next_owed, reads_left}
+
+-- ---- how far it came
+
+abbrev Comes : Setting → (List ℕ → Option File) → List Entry → Type 0
+Comes s files calls = ((n : ℕ) → published (take n calls) ≡ 0) ⊎ StandsAt (files s.names.map) s.end
+
+quiet_comes : (s : Setting) (files : List ℕ → Option File) (cs : List Call) (calls : List Entry) → All IsStill cs
+    → Cut cs calls → Comes s files calls
+quiet_comes s files cs calls quiet cut = inl (λ n. still_none cs calls n quiet cut)
+
+module _ (s : Setting) (files : List ℕ → Option File) (pieces : List Swept) (end : RunEnd) (on : s.has_mapfile ≡ true)
+  where
+    -- it published nothing, or its mapfile stood for a map
+    pub way_comes : (g : Gain) → SweepWay ⊤ s (generator s) files pieces end g → Comes s files g.calls
+    way_comes g (InMaps maps reads cut still) = quiet_comes s files maps g.calls (reads_still maps reads) cut
+    way_comes g (BehindMaps maps h reads grew timed ready (Unbegun ends opens none)) =
+        let e : EarlyCut s false h.calls = early_cut s false files h.calls on ends in
+        let front : List Call = opening_by s false ++ e.load in
+        quiet_comes s files (maps ++ front) g.calls
+        (All-append IsStill maps front (reads_still maps reads)
+        (All-append IsStill (opening_by s false) e.load (opening_still s false) (reads_still e.load e.reads)))
+        (subst (λ (l : List Entry). Cut (maps ++ front) l) (sym grew) (cut_past maps front h.calls e.cut))
+    way_comes g (BehindMaps maps h reads grew timed ready (Begun opens load statuses state rest loaded stands all sweeps is)) =
+        inr (At statuses state stands)
+
+    starts_of : (ok : IsSensible s) (m : Sweep) (es : List Swept) → IsSweep s (generator s) m es → StartFrom s.from es
+    starts_of ok m [] run = All-nil (λ (e : Swept). s.from ≤ e.pos)
+    starts_of ok m (e ∷ es) run =
+        All-cons (λ (e : Swept). s.from ≤ e.pos) e es
+        (ok.from e.pos (piece_within s (generator s) m e.pos (e.pos + e.len) run.0).some)
+        (starts_of ok (behind_piece (generator s) m e) es run.2)
+
+    none_starts : pieces ≡ [] → StartFrom s.from pieces
+    none_starts none = subst (StartFrom s.from) (sym none) (All-nil (λ (e : Swept). s.from ≤ e.pos))
+
+    -- its pieces begin where positions are asked for
+    pub way_starts : (g : Gain) → IsSensible s → (g.times ≡ [] → pieces ≡ [])
+        → SweepWay ⊤ s (generator s) files pieces end g → StartFrom s.from pieces
+    way_starts g ok silent (InMaps maps reads cut still) = none_starts (silent still)
+    way_starts g ok silent (BehindMaps maps h reads grew timed ready (Unbegun ends opens none)) =
+        none_starts (silent (sym timed ∙ none))
+    way_starts g ok silent
+        (BehindMaps maps h reads grew timed ready (Begun opens load statuses state rest loaded stands all sweeps is)) =
+        subst (StartFrom s.from) is (starts_of ok _ sweeps.events sweeps.run)
+
+    -- and where it read the output they are
+    pub way_looks : (g : Gain) → (g.times ≡ [] → pieces ≡ []) → SweepWay ⊤ s (generator s) files pieces end g
+        → looks_in g.calls ≡ map (piece_look s) pieces
+    way_looks g silent (InMaps maps reads cut still) =
+        cut_looks maps g.calls (reads_blind maps reads) cut ∙ sym (ap (map (piece_look s)) (silent still))
+    way_looks g silent (BehindMaps maps h reads grew timed ready (Unbegun ends opens none)) =
+        let e : EarlyCut s false h.calls = early_cut s false files h.calls on ends in
+        ap looks_in grew
+        ∙ blind_before maps h.calls (reads_blind maps reads)
+        ∙ cut_looks (opening_by s false ++ e.load) h.calls
+        (All-append IsBlind (opening_by s false) e.load (opening_blind s false) (reads_blind e.load e.reads)) e.cut
+        ∙ sym (ap (map (piece_look s)) (silent (sym timed ∙ none)))
+    way_looks g silent
+        (BehindMaps maps h reads grew timed ready (Begun opens load statuses state rest loaded stands all sweeps is)) =
+        let front : List Call = sweep_opening s false ++ load in
+        let m : Sweep = sweep_begins (generator s) statuses state (record h { calls = rest }) in
+        ap looks_in grew
+        ∙ blind_before maps h.calls (reads_blind maps reads)
+        ∙ ap looks_in all
+        ∙ blind_before front rest
+        (All-append IsBlind (sweep_opening s false) load (sweep_opening_blind s false)
+        (reads_blind load (load_reads s.names.map (files s.names.map) load loaded.begins)))
+        ∙ sweep_looks s m sweeps.events rest end sweeps.ends
+        ∙ ap (map (piece_look s)) is
+
+-- ---- what is owed at each stop
+
+abbrev pub own_target : Setting → Target
+own_target s = record { outfile = s.outfile; mapfile = s.names.map; from = s.from; to = s.to }
+
+module _ (b : Behind) (s : Setting) (g : Gain) (pieces : List Swept) (end : RunEnd)
+    (comes : Comes s (files_before b) g.calls) (starts : StartFrom s.from pieces)
+    (given : AreGiven s (bytes_of (files_before b s.outfile)) pieces) (stops : GenerateStops b s pieces end g)
+    (apart : s.outfile ≢ s.names.map) where
+  abbrev u : Target
+  u = own_target s
+
+  abbrev old_bytes : List ℕ
+  old_bytes = bytes_of (files_before b s.outfile)
+
+  -- the mapfile that it began with stood for a map, if the one that is found does
+  began_of : (k : ℕ) (files : List ℕ → Option File) (x : ℕ)
+      → k ≤ length g.calls → LeftBy b g.calls k files → has_barrier (take k g.calls) ≡ true
+      → CallsFinished (files s.names.map) x → StandsAt (files_before b s.names.map) s.end
+  began_of k files x le left is fin =
+      let f : StandsFinished (files s.names.map) s.end x = stands_finished (files s.names.map) s.end x fin in
+      ⊎_elim
+      (λ (none : (n : ℕ) → published (take n g.calls) ≡ 0).
+      stands_at (files_before b s.names.map) s.end s.end f.map f.state
+      (subst (λ (o : Option File). Stands o s.end f.map f.state) (stops.mapfile k files le left is (none (k + 1))) f.stands))
+      (λ (at : StandsAt (files_before b s.names.map) s.end). at)
+      comes
+
+  module _ (gave : List (ℕ × ℕ)) (old : ℕ → Bool) (image : List ℕ)
+      (stand : (y : ℕ) → y < length old_bytes → slice_get image y ≡ slice_get old_bytes y) where
+    -- a position that some piece gave a byte
+    given_now : (x byte : ℕ) → last_given (pieces_given pieces) x ≡ Some byte
+        → HoldsLast u (gave ++ pieces_given pieces) image x
+    given_now x byte is =
+        let p = given_placed s old_bytes pieces x byte starts given is in
+        record {
+          byte = byte;
+          given = last_after gave (pieces_given pieces) x ∙ ap (λ (o : Option ℕ). last_of_both o (last_given gave x)) is;
+          place = place s x;
+          at = omega (arith, p.0);
+          holds = stand (place s x) (slice_get_within old_bytes (place s x) byte p.1) ∙ p.1;
+        }
+
+    -- and one that none did
+    given_before : (x : ℕ) → last_given (pieces_given pieces) x ≡ None → HoldsLast u gave old_bytes x
+        → HoldsLast u (gave ++ pieces_given pieces) image x
+    given_before x none h = record {
+      byte = h.byte;
+      given = last_after gave (pieces_given pieces) x ∙ ap (λ (o : Option ℕ). last_of_both o (last_given gave x)) none
+          ∙ h.given;
+      place = h.place;
+      at = h.at;
+      holds = stand h.place (slice_get_within old_bytes h.place h.byte h.holds) ∙ h.holds;
+    }
+
+  module _ (gave : List (ℕ × ℕ)) (old : ℕ → Bool) (k : ℕ) (files : List ℕ → Option File)
+      (le : k ≤ length g.calls) (left : LeftBy b g.calls k files) where
+    abbrev image : List ℕ
+    image = bytes_of (files s.outfile)
+
+    -- once its barrier has returned
+    owed_over : (x : ℕ) → IsOwedAt u gave old b → has_barrier (take k g.calls) ≡ true → CallsFinished (files s.names.map) x
+        → StandsAt (files_before b s.names.map) s.end → (old x ≡ true) ⊎ HoldsLast u (gave ++ pieces_given pieces) image x
+    owed_over x owed is fin (At began was there) =
+        let kept : IsKeptBy (sweep_saves (generator s) began was g pieces end)
+        (λ number map image. GeneratePromise s old_bytes began map image) b s g.calls began k files
+        = stops.kept k files began was le left is there in
+        let first : IsOwedIn u gave old (files_before b) = owed.each (files_before b) (reads_left b) in
+        let has : Has kept.statuses Finished x
+        = finished_has (files s.names.map) s.end x kept.statuses kept.shows kept.stands fin in
+        ⊎_elim
+        (λ (some : (byte : ℕ) × (last_given (pieces_given pieces) x ≡ Some byte)).
+        inr (given_now gave old image kept.held.stands x some.0 some.1))
+        (λ (none : last_given (pieces_given pieces) x ≡ None).
+        ⊎_elim (λ (is : old x ≡ true). inl is)
+        (λ (h : HoldsLast u gave old_bytes x). inr (given_before gave old image kept.held.stands x none h))
+        (first.each x (calls_finished (files_before b s.names.map) s.end x began was there
+        (save_was_finished s (files_before b s.names.map) (files s.names.map) s.line
+        (sweep_begins (generator s) began was g) pieces (has_swept_out end) kept.number kept.statuses x kept.is_save none
+        has))))
+        (some_or_none (last_given (pieces_given pieces) x))
+
+    owed_late : IsOwedAt u gave old b → has_barrier (take k g.calls) ≡ true → IsOwedIn u (gave ++ pieces_given pieces) old files
+    owed_late owed is = record { each = λ x fin. owed_over x owed is fin (began_of k files x le left is fin) }
+
+    pub owed_at_stop : IsOwedAt u gave old b → IsOwedIn u (gave ++ after_barrier (take k g.calls) (pieces_given pieces)) old files
+    owed_at_stop owed =
+        let some : Bool → List (ℕ × ℕ) = λ c. if c then pieces_given pieces else [] in
+        ⊎_elim
+        (λ (is : has_barrier (take k g.calls) ≡ true).
+        subst (λ (c : Bool). IsOwedIn u (gave ++ some c) old files) (sym is) (owed_late owed is))
+        (λ (off : has_barrier (take k g.calls) ≡ false).
+        subst (λ (c : Bool). IsOwedIn u (gave ++ some c) old files) (sym off)
+        (subst (λ (l : List (ℕ × ℕ)). IsOwedIn u l old files) (sym (append-nil gave))
+        (owed_before u b gave old files apart owed (stops.before k files le left off))))
+        (cases_Bool (has_barrier (take k g.calls)))
+
+module _ (t : Target) (l : Link) (apart : t.outfile ≢ t.mapfile) (q : IsGenerating t l) where
+  abbrev p : GenerateModePromise q.command q.call.told
+  p = promised_generate q.call.promised q.asks
+
+  abbrev o : Outside
+  o = p.outside
+
+  abbrev s : Setting
+  s = asked_of q.command q.call.told o
+
+  abbrev g : Gain
+  g = o.did.gain
+
+  abbrev b : Behind
+  b = calls_before q.call.told
+
+  has : HasMapfile q.command
+  has =
+      (reading_asks q.call.told.words q.asks.rows q.asks.items q.asks.operands (Generate q.command) q.asks.options
+      q.asks.reading q.asks.is).limits
+
+  abbrev line : List ℕ
+  line = command_line program_name q.call.told.words
+
+  on : s.has_mapfile ≡ true
+  on = ap (λ (m : Option (List ℕ)). is_some (option_map names_of m)) q.step.mapfile
+
+  same : IsSame (own_target s) t
+  same = record {
+    outfile = q.step.outfile;
+    mapfile = ap (λ (m : Option (List ℕ)). (names_in (option_map names_of m)).map) q.step.mapfile;
+    places = q.step.places;
+  }
+
+  ok : IsSensible s
+  ok = sensible_in q.command line o.end o.maps has.limits
+
+  found : o.found ≡ found_in q.command (files_of q.call.told)
+  found = p.agrees.found q.call.site_tells
+
+  way : SweepWay ⊤ s (generator s) (files_of q.call.told) p.pieces p.end g
+  way =
+      generate_way (files_of q.call.told) line o.end o.maps p.pieces p.end o.lines q.call.told.answer o.did q.command has.named
+      (subst (λ (f : Found). Generates q.command f o.end s p.pieces p.end o.lines q.call.told.answer o.did) found p.works)
+
+  given : AreGiven s (bytes_of (files_of q.call.told s.outfile)) p.pieces
+  given = subst (λ (f : Found). AreGiven s (bytes_of f.output) p.pieces) found (p.given q.call.site_tells)
+
+  silent : g.times ≡ [] → p.pieces ≡ []
+  silent none = (p.silent none).1
+
+  starts : StartFrom s.from p.pieces
+  starts = way_starts s (files_of q.call.told) p.pieces p.end on g ok silent way
+
+  calls_are : q.call.calls ≡ g.calls
+  calls_are =
+      append_cancel_left q.call.told.site.calls q.call.calls g.calls (sym q.call.made ∙ p.agrees.calls q.call.site_tells)
+
+  within : q.step.moment ≤ length g.calls
+  within = subst (λ (cs : List Entry). q.step.moment ≤ length cs) calls_are q.step.within
+
+  next : NextBegins b g.calls q.step.moment l.next
+  next =
+      subst (λ (n : Behind). NextBegins n g.calls q.step.moment l.next) q.step.before
+      (subst (λ (cs : List Entry). NextBegins l.before cs q.step.moment l.next) calls_are q.step.next)
+
+  -- what it gave is what its pieces got
+  pairs_are : looked_at t (bytes_of (files_before l.before t.outfile)) q.call.calls ≡ pieces_given p.pieces
+  pairs_are =
+      ap (λ (n : Behind). looked_at t (bytes_of (files_before n t.outfile)) q.call.calls) q.step.before
+      ∙ ap (λ (n : List ℕ). looked_at t (bytes_of (files_before b n)) q.call.calls) (sym q.step.outfile)
+      ∙ looked_by t (bytes_of (files_before b s.outfile)) q.call.calls
+      ∙ ap (λ (ls : List (ℕ × ℕ)). look_pairs t (bytes_of (files_before b s.outfile)) ls)
+      (ap looks_in calls_are ∙ way_looks s (files_of q.call.told) p.pieces p.end on g silent way)
+      ∙ looked_pieces t s (bytes_of (files_before b s.outfile)) p.pieces q.step.places starts given
+
+  gave_is : l.gave ≡ after_barrier (take q.step.moment g.calls) (pieces_given p.pieces)
+  gave_is =
+      q.gave ∙ ap (after_barrier (take q.step.moment q.call.calls)) pairs_are
+      ∙ ap (λ (cs : List Entry). after_barrier (take q.step.moment cs) (pieces_given p.pieces)) calls_are
+
+  own_apart : s.outfile ≢ s.names.map
+  own_apart = λ is. apart (sym same.outfile ∙ is ∙ same.mapfile)
+
+  pub generating_owes : (gave : List (ℕ × ℕ)) (old : ℕ → Bool) → IsOwedAt t gave old l.before
+      → IsOwedAt t (gave ++ l.gave) old l.next
+  generating_owes gave old owed =
+      let gives : List (ℕ × ℕ) = after_barrier (take q.step.moment g.calls) (pieces_given p.pieces) in
+      let here : IsOwedAt (own_target s) gave old b
+      = same_at t (own_target s) (same_back (own_target s) t same) gave old b
+      (subst (λ (n : Behind). IsOwedAt t gave old n) q.step.before owed) in
+      subst (λ (gs : List (ℕ × ℕ)). IsOwedAt t (gave ++ gs) old l.next) (sym gave_is)
+      (same_at (own_target s) t same (gave ++ gives) old l.next
+      (next_owed (own_target s) (gave ++ gives) old b g.calls q.step.moment l.next
+      (λ files left. owed_at_stop b s g p.pieces p.end
+      (way_comes s (files_of q.call.told) p.pieces p.end on g way) starts given (p.stops q.call.site_tells) own_apart
+      gave old q.step.moment files within left here) next))
