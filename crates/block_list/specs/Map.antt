@@ -1,8 +1,7 @@
+-- A map is the list of the statuses of the positions from 0 up to its end.
 use Rattle.std.specs.Prelude.{◌≡◌, ℕ, ◌+◌, ◌-◌, List, ◌++◌, length, take, drop, replicate, slice_get, Some}
 use Rattle.block_list.specs.declared.status.Status.{Status}
 use Rattle.block_list.specs.declared.status.Status.TheVariants.{NonTried}
-
--- A map is the list of the statuses of the positions from 0 up to its end.
 
 -- the position x has the status s
 abbrev pub Has : List Status → Status → ℕ → Type 0

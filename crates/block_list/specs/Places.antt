@@ -1,3 +1,4 @@
+-- The first range of positions with a property, and the last.
 use Rattle.std.specs.Prelude.{◌≡◌, ℕ, ◌+◌, ◌-◌, ◌<◌, ◌≤◌}
 
 -- x is the least place at or after from at which P holds

@@ -1,3 +1,4 @@
+-- What a block list stands for.
 use Rattle.std.specs.Prelude.{ℕ, List}
 use Rattle.block_list.specs.declared.status.Status.{Status}
 

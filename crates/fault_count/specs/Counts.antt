@@ -1,3 +1,4 @@
+-- How a count of faults rises.
 use Rattle.std.specs.Prelude.{◌≡◌, ℕ, ◌+◌, ◌-◌, ◌^◌, ◌≤◌, min, Result, OnOk, OnErr}
 
 -- a count after one more, which stands still at the end of its type

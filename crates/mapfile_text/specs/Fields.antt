@@ -1,3 +1,4 @@
+-- What a field of a mapfile's line says: a number, a status, a state or a block.
 use Rattle.std.specs.Prelude.{ℕ, Bool, false, ◌&&◌, List, [], ◌∷◌, Option, Some, None, Result, Ok, Err, nat_eq, nat_le, if◌then◌else◌}
 use Rattle.size_suffixes.specs.declared.error.SizeError.{SizeError}
 use Rattle.size_suffixes.specs.declared.error.SizeError.TheVariants.{TooLarge}

@@ -1,3 +1,4 @@
+-- What the heading of a mapfile says.
 use Rattle.std.specs.Prelude.{ℕ, List}
 use Rattle.mapfile_text.specs.declared.heading.Program.{Program}
 

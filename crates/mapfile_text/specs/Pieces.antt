@@ -1,3 +1,4 @@
+-- The pieces in which a mapfile's text is written.
 use Rattle.std.specs.Prelude.{◌≡◌, ℕ, ◌+◌, ◌*◌, ◌/◌, ◌<◌, List, [], ◌∷◌, length, map, take, drop, slice_get, Some}
 use Rattle.std.specs.List.{concat, range_with_len}
 

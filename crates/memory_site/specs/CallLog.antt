@@ -1,3 +1,4 @@
+-- The record that a log of calls in memory stands for.
 use Rattle.std.specs.Prelude.{List, map, Some, if◌then◌else◌}
 use Rattle.memory_site.specs.declared.memory.call_log.Act.{Act}
 use Rattle.memory_site.specs.declared.memory.call_log.Act.TheVariants.{ImageOpen, ImageRead, ImageWrite, ImageSync, MapRead, DraftBegin, DraftAppend, DraftSync, DraftPublish, MapSettle, MapRemove}

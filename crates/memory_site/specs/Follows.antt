@@ -1,3 +1,4 @@
+-- When files in memory follow what was told of them.
 use Rattle.std.specs.Prelude.{◌≡◌, ℕ, List, Some}
 use Rattle.std.proofs.Props.{props}
 use Rattle.crash_site.specs.Folder.{Folder}

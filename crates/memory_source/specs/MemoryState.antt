@@ -1,3 +1,4 @@
+-- What an input in memory tells of itself.
 use Rattle.std.specs.Prelude.{true, [], map}
 use Rattle.faulty_source.specs.SourceState.{SourceState}
 use Rattle.faulty_source.specs.Journal.{reading_of}

@@ -1,3 +1,4 @@
+-- Which words are options, and which are operands.
 use Rattle.std.specs.Prelude.{ℕ, List, [], ◌∷◌, nat_eq, if◌then◌else◌}
 use Rattle.option_words.specs.declared.form.Form.{Form}
 use Rattle.option_words.specs.declared.form.Form.TheVariants.{Plain, Stop, Name, Letters}

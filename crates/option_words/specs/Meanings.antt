@@ -1,3 +1,4 @@
+-- What one word means. Words are counted from 1, and `n` is the number of the word.
 use Rattle.std.specs.Prelude.{ℕ, ◌+◌, List, [], ◌∷◌, Option, Some, None, Result, Ok, Err, nat_eq, position, take, drop}
 use Rattle.std.specs.Char.{len_utf8}
 use Rattle.std.specs.Str.{chars}
@@ -17,8 +18,6 @@ use Rattle.option_words.specs.declared.fault.WordFault.{WordFault}
 use Rattle.option_words.specs.declared.fault.WordFault.TheVariants.{UnknownShort, UnknownLong, Ambiguous, UnwantedValue}
 use Rattle.option_words.specs.Forms.{form_of}
 use Rattle.option_words.specs.Rows.{has_letter, first_row, chosen_by_name}
-
--- What one word means. Words are counted from 1, and `n` is the number of the word.
 
 -- what a word brings: options, operands, and how the next word is read
 pub record Brought : Type 0 where

@@ -1,3 +1,4 @@
+-- What the words of a command line mean.
 use Rattle.std.specs.Prelude.{◌≡◌, ◌⊎◌, ⊤, ℕ, ◌+◌, List, [], ◌∷◌, ◌++◌, Ok, Err}
 use Rattle.option_words.specs.declared.row.Row.{Row}
 use Rattle.option_words.specs.declared.reading.Item.{Item}
@@ -6,8 +7,6 @@ use Rattle.option_words.specs.declared.reader.NextWord.TheVariants.{Anything, Va
 use Rattle.option_words.specs.declared.fault.WordFault.{WordFault}
 use Rattle.option_words.specs.declared.fault.WordFault.TheVariants.{MissingValue}
 use Rattle.option_words.specs.Meanings.{Brought, meaning}
-
--- What the words of a command line mean.
 
 -- no option still wants a value
 abbrev pub IsServed : NextWord → Type 0

@@ -1,3 +1,4 @@
+-- Which row of a table an option means.
 use Rattle.std.specs.Prelude.{ℕ, ◌+◌, Bool, true, false, List, [], ◌∷◌, Option, Some, None, nat_eq, count_by, if◌then◌else◌}
 use Rattle.std.specs.Str.{bytes_eq}
 use Rattle.std.specs.List.{starts_with}
@@ -7,8 +8,6 @@ use Rattle.option_words.specs.declared.row.Takes.TheVariants.{Never, Always, Opt
 use Rattle.option_words.specs.declared.choice.Chosen.{Chosen}
 use Rattle.option_words.specs.declared.choice.Choice.{Choice}
 use Rattle.option_words.specs.declared.choice.Choice.TheVariants.{One, Unknown, Several}
-
--- Which row of a table an option means.
 
 -- what a row means: its letter, its long name, and whether it takes a value
 abbrev pub meaning_of_row : Row → Option ℕ × List ℕ × Takes

@@ -1,9 +1,8 @@
+-- Which rows are a table of options.
 use Rattle.std.specs.Prelude.{ℕ, Bool, true, false, not, ◌&&◌, List, [], ◌∷◌, length, Option, Some, None, nat_eq}
 use Rattle.std.specs.Str.{bytes_eq}
 use Rattle.std.specs.List.{list_all}
 use Rattle.option_words.specs.declared.row.Row.{Row}
-
--- Which rows are a table of options.
 
 -- a letter may be an option's: any but the hyphen
 abbrev pub letter_fits : Option ℕ → Bool

@@ -1,3 +1,4 @@
+-- What the input of a sample tells of itself.
 use Rattle.std.specs.Prelude.{true, false, [], map}
 use Rattle.fault_count.specs.Plan.{no_plan}
 use Rattle.faulty_source.specs.SourceState.{SourceState}

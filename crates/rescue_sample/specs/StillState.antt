@@ -1,3 +1,4 @@
+-- What a clock that stands still tells of itself.
 use Rattle.std.specs.Prelude.{◌-◌, ◌^◌, false, nat_lt, [], replicate}
 use Rattle.rescue_console.specs.ClockState.{ClockState}
 use Rattle.rescue_sample.specs.declared.clock.StillClock.{StillClock}

@@ -1,3 +1,4 @@
+-- The names of a mapfile and of its draft.
 use Rattle.std.specs.Prelude.{ℕ, List, ◌++◌, codes}
 
 -- the names of a mapfile and of its draft, as bytes

@@ -1,8 +1,7 @@
+-- An interval: a number, then a unit of time or nothing.
 use Rattle.std.specs.Prelude.{ℕ, List, [], ◌∷◌, nat_eq, Option, Some, None, Result, if◌then◌else◌}
 use Rattle.size_suffixes.specs.Suffixed.{suffixed}
 use Rattle.size_suffixes.specs.declared.error.SizeError.{SizeError}
-
--- An interval: a number, then a unit of time or nothing.
 
 -- the seconds of a unit: `s`, `m`, `h` and `d`
 abbrev pub unit : ℕ → Option ℕ

@@ -1,10 +1,9 @@
+-- How a number is written: `0x` and hexadecimal digits of either case, `0` and octal digits, or decimal digits.
 use Rattle.std.specs.Prelude.{ℕ, ◌+◌, ◌^◌, Bool, false, ◌&&◌, ◌||◌, not, List, [], ◌∷◌, length, drop, position, nat_eq, nat_lt, Option, Some, None, Result, Ok, Err, if◌then◌else◌}
 use Rattle.std.specs.Char.{digit_value}
 use Rattle.std.specs.Str.Parse.{digits_value}
 use Rattle.size_suffixes.specs.declared.error.SizeError.{SizeError}
 use Rattle.size_suffixes.specs.declared.error.SizeError.TheVariants.{Empty, BadDigit, TooLarge}
-
--- How a number is written: `0x` and hexadecimal digits of either case, `0` and octal digits, or decimal digits.
 
 -- the text begins with `0x` or `0X`
 abbrev pub is_hexadecimal : List ℕ → Bool

@@ -1,8 +1,7 @@
+-- A size: a number, then a multiplier or none, then `B` or nothing.
 use Rattle.std.specs.Prelude.{ℕ, ◌^◌, Bool, true, false, ◌&&◌, List, [], ◌∷◌, nat_eq, Option, Some, None, Result, if◌then◌else◌}
 use Rattle.size_suffixes.specs.Suffixed.{suffixed}
 use Rattle.size_suffixes.specs.declared.error.SizeError.{SizeError}
-
--- A size: a number, then a multiplier or none, then `B` or nothing.
 
 -- nothing, or `B`
 abbrev pub ends_size : List ℕ → Bool

@@ -1,9 +1,8 @@
+-- A number with a suffix that says by what it is multiplied.
 use Rattle.std.specs.Prelude.{ℕ, ◌+◌, ◌*◌, List, [], ◌∷◌, length, take, drop, position, unwrap_or, Option, Some, None, Result, Ok, Err, if◌then◌else◌}
 use Rattle.size_suffixes.specs.Number.{is_hexadecimal, digits_at, is_no_digit, digits_of_text, value, within, number}
 use Rattle.size_suffixes.specs.declared.error.SizeError.{SizeError}
 use Rattle.size_suffixes.specs.declared.error.SizeError.TheVariants.{Empty, BadDigit, BadSuffix, TooLarge}
-
--- A number with a suffix that says by what it is multiplied.
 
 -- the base of the digits that a number takes: an octal number takes 8 and 9 too, and is refused for them
 abbrev pub taken_base : List ℕ → ℕ
