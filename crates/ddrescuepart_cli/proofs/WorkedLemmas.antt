@@ -12,7 +12,7 @@ use Rattle.rescue_console.specs.declared.console.Channel.TheVariants.{Out}
 use Rattle.rescue_console.specs.ConsoleState.{ConsoleState, Puts, PutsPart}
 use Rattle.work_steps.specs.Work.{Deeds, Opened, Unopened}
 use Rattle.program_promise.specs.World.{WorldState}
-use Rattle.program_promise.specs.Printing.{PutsByKind}
+use Rattle.program_promise.specs.Printing.{PutsText}
 use Rattle.program_promise.specs.Program.{line_by}
 use Rattle.program_promise.specs.Promise.{DoneFor}
 use Rattle.partition_domain.specs.declared.table.Partition.{Partition}
@@ -110,7 +110,7 @@ module _ {E : Type 0} (c : Command) (length_ : ℕ) (s t u : SourceState)
     read_done : (e : PartEnding) (reads : List Reading) → (IsTrue t.tells → u.journal ≡ t.journal ++ reads)
         → (IsTrue t.tells → All (IsFrom t.bytes) reads) → AreNext c.partition [] reads
         → AnswersBy e c.partition (records_of reads)
-        → PutsByKind (row_of e).kind (text_of c line length_ (read_deeds c reads)) p q
+        → PutsText (row_of e).kind (text_of c line length_ (read_deeds c reads)) p q
         → DoneFor part_program c line e (handed s p) (handed u q)
     read_done e reads told right next answer puts = record {
       outside = length_;

@@ -4,7 +4,7 @@ use Rattle.faulty_source.specs.SourceState.{SourceState, Keeps}
 use Rattle.rescue_console.specs.ConsoleState.{ConsoleState}
 use Rattle.program_promise.specs.World.{WorldState, no_clock, no_feed, no_site}
 use Rattle.program_promise.specs.WordFaults.{IsPlainFault}
-use Rattle.program_promise.specs.Printing.{PutsByKind}
+use Rattle.program_promise.specs.Printing.{PutsText}
 use Rattle.program_promise.specs.Program.{Program}
 use Rattle.program_promise.specs.Promise.{Told, IsDone, Promise, Worked}
 use Rattle.ddrescuepart_words.specs.Command.{Command, part_grammar}
@@ -34,7 +34,7 @@ part_program = record {
   Run = λ c length. ReadsPart c;
   Agrees = λ c length did old new. Agrees length did old.source new.source;
   Leaves = λ c line length e did old new.
-      PutsByKind (row_of e).kind (text_of c line length did) old.console new.console;
+      PutsText (row_of e).kind (text_of c line length did) old.console new.console;
   Begins = λ w. ⊤;
   Keeps = λ e old new. Keeps old.source new.source;
 }
