@@ -1,8 +1,8 @@
 //! ddrescuepart: prints the map of one partition of a disk, which a rescue takes as its domain.
 #![tactic(auto)]
 
+use ddrescuepart_cli::part::ddrescuepart;
 use faulty_source::file::FileSource;
-use partition_domain::part::ddrescuepart;
 use program_start::status::status_of;
 use program_start::streams::{ClosedStream, fill_streams};
 use program_start::words::collect_words;

@@ -2,11 +2,11 @@
 #![tactic(auto)]
 
 use crash_site::folder::FolderSite;
+use ddrescueplan_cli::plan::ddrescueplan;
 use program_start::status::status_of;
 use program_start::streams::{ClosedStream, fill_streams};
 use program_start::words::collect_words;
 use rescue_console::system::StdConsole;
-use rescue_plan::plan::ddrescueplan;
 use std::io;
 use std::process::ExitCode;
 

@@ -6,8 +6,9 @@ use Rattle.std.proofs.lemmas.Bool.{and_from, cond-true, le-leb, not_from_false}
 use Rattle.faulty_source.specs.SourceState.{SourceState, Stays}
 use Rattle.partition_domain.specs.declared.table.TableEntry.{TableEntry}
 use Rattle.partition_domain.specs.declared.table.Partition.{Partition}
-use Rattle.partition_domain.specs.declared.ending.PartEnding.{PartEnding}
-use Rattle.partition_domain.specs.declared.ending.PartEnding.TheVariants.{Protective, NoPartition}
+use Rattle.partition_domain.specs.declared.stop.SearchStop.{SearchStop}
+use Rattle.partition_domain.specs.declared.stop.SearchStop.TheVariants.{Refused}
+use Rattle.partition_domain.specs.declared.stop.Refusal.TheVariants.{Protective, NoPartition}
 use Rattle.partition_domain.specs.Table.{table_entries, table_entry, extended_entry, is_extended, is_protected, is_protective, is_record, is_used}
 use Rattle.partition_domain.specs.Part.{are_records, is_primary, logical, primary}
 use Rattle.partition_domain.specs.Reads.{AreNext, Unextended, Unused, records_of}
@@ -38,7 +39,7 @@ primary_is main k low high = ap part_by (entry_there main (k - 1) (omega (arith,
 -- ---- the first record
 
 -- it couldn't be read
-pub first_stopped : (k : ℕ) (e : PartEnding) (s t : SourceState) → ReadsTable 0 (Err e) s t → Searches k (Err e) s t
+pub first_stopped : (k : ℕ) (e : SearchStop) (s t : SourceState) → ReadsTable 0 (Err e) s t → Searches k (Err e) s t
 first_stopped k e s t r = record {
   reads = r.reads;
   gained = r.gained;
@@ -57,7 +58,7 @@ module _ (k : ℕ) (table : List TableEntry) (s t : SourceState) (r : ReadsTable
   next_first = read_next k [] 0 refl r.reads (Ok table) r.as_
 
   -- it alone decides
-  decided : (result : Result Partition PartEnding) → SearchFinds k (main ∷ []) result → Searches k result s t
+  decided : (result : Result Partition SearchStop) → SearchFinds k (main ∷ []) result → Searches k result s t
   decided result comes = record {
     reads = r.reads;
     gained = r.gained;
@@ -65,8 +66,8 @@ module _ (k : ℕ) (table : List TableEntry) (s t : SourceState) (r : ReadsTable
     to = subst (λ (rs : List (List ℕ)). SearchFinds k rs result) (sym behind) comes;
   }
 
-  pub first_protected : list_any is_protective table ≡ true → Searches k (Err Protective) s t
-  first_protected protected = decided (Err Protective) (record {
+  pub first_protected : list_any is_protective table ≡ true → Searches k (Err (Refused Protective)) s t
+  first_protected protected = decided (Err (Refused Protective)) (record {
     main = main;
     are = refl;
     readable = r.as_.2;
@@ -94,19 +95,19 @@ module _ (k : ℕ) (table : List TableEntry) (s t : SourceState) (r : ReadsTable
         (cond-true (are_records main []) (cond (is_primary k) (primary main k) of) None are
         ∙ cond-true (is_primary k) (primary main k) of (le-leb k 4 high) ∙ at_is (Some p) low high is)
 
-    pub first_unused : 1 ≤ k → k ≤ 4 → partition_at table k ≡ None → Searches k (Err NoPartition) s t
+    pub first_unused : 1 ≤ k → k ≤ 4 → partition_at table k ≡ None → Searches k (Err (Refused NoPartition)) s t
     first_unused low high is =
-        decided (Err NoPartition) (Unused main refl are (le-leb k 4 high) (at_is None low high is))
+        decided (Err (Refused NoPartition)) (Unused main refl are (le-leb k 4 high) (at_is None low high is))
 
     extended_is : (o : Option TableEntry) → find is_extended table ≡ o → extended_entry main ≡ o
     extended_is o is = ap (λ (es : List TableEntry). find is_extended es) (sym r.as_.3) ∙ is
 
-    pub first_unextended : 5 ≤ k → find is_extended table ≡ None → Searches k (Err NoPartition) s t
+    pub first_unextended : 5 ≤ k → find is_extended table ≡ None → Searches k (Err (Refused NoPartition)) s t
     first_unextended low is =
-        decided (Err NoPartition) (Unextended main refl are (not_primary k low) (extended_is None is))
+        decided (Err (Refused NoPartition)) (Unextended main refl are (not_primary k low) (extended_is None is))
 
     -- it leads on to a chain
-    pub first_led : (e : TableEntry) (u : SourceState) (result : Result Partition PartEnding)
+    pub first_led : (e : TableEntry) (u : SourceState) (result : Result Partition SearchStop)
         → find is_extended table ≡ Some e → Stays s t
         → ((m : List ℕ) → LeadsToChain m e.first → SearchesBehind k m result t u) → Searches k result s u
     first_led e u result is stays searches =

@@ -8,13 +8,13 @@ use Rattle.faulty_source.specs.Got.{count_of, is_end}
 use Rattle.faulty_source.specs.Journal.{Reading}
 use Rattle.faulty_source.specs.SourceState.{AnswersRead, SourceState}
 use Rattle.partition_domain.specs.declared.table.TableEntry.{TableEntry}
-use Rattle.partition_domain.specs.declared.ending.PartEnding.{PartEnding}
-use Rattle.partition_domain.specs.declared.ending.PartEnding.TheVariants.{Done, Usage, SourceFault, SourceLost, Unread, NoSignature, Protective, NoPartition, ChainTooLong, ConsoleFault, NoMemory}
+use Rattle.partition_domain.specs.declared.stop.SearchStop.{SearchStop}
+use Rattle.partition_domain.specs.declared.stop.SearchStop.TheVariants.{SourceLost, Refused}
+use Rattle.partition_domain.specs.declared.stop.Refusal.TheVariants.{Unread, NoSignature}
 use Rattle.partition_domain.specs.Table.{table_entries, has_signature, is_whole_sector}
 use Rattle.partition_domain.specs.Part.{next}
-use Rattle.partition_domain.specs.Reads.{AnswersBy, AreNext, IsSectorRead, records_of}
-use Rattle.partition_domain.specs.Told.{IsFrom}
-use Rattle.partition_domain.specs.Steps.{Gained, SectorReadsAs, ReadsOne, ReadsTable, StopsAs}
+use Rattle.partition_domain.specs.Reads.{AreNext, IsFrom, IsLastRecord, IsSectorRead, StoppedBy, records_of}
+use Rattle.partition_domain.specs.Steps.{Gained, SectorReadsAs, ReadsOne, ReadsTable, StopsAs, Lost, Short, Unsigned}
 use Rattle.partition_domain.proofs.ChainLemmas.{next_short}
 
 -- ---- reads that follow others
@@ -77,20 +77,12 @@ module _ (k : ℕ) (before : List (List ℕ)) (sector : ℕ) (is : next before k
   one_next reads last one =
       subst (AreNext k before) (sym one.are) (subst (λ o. IsSectorRead o one.reading) (sym is) one.is_read, tt)
 
-  stop_next : (reads : List Reading) (e : PartEnding) → StopsAs sector reads e → AreNext k before reads
-  stop_next reads Done stop = absurd stop
-  stop_next reads (Usage fault) stop = absurd stop
-  stop_next reads SourceFault stop = absurd stop
-  stop_next reads SourceLost stop = subst (AreNext k before) (sym stop) tt
-  stop_next reads (Unread s) stop = one_next reads stop.0 stop.1
-  stop_next reads (NoSignature s) stop = one_next reads stop.0 stop.1
-  stop_next reads Protective stop = absurd stop
-  stop_next reads NoPartition stop = absurd stop
-  stop_next reads ChainTooLong stop = absurd stop
-  stop_next reads ConsoleFault stop = absurd stop
-  stop_next reads NoMemory stop = absurd stop
+  stop_next : (reads : List Reading) (e : SearchStop) → StopsAs sector reads e → AreNext k before reads
+  stop_next reads e (Lost answer none) = subst (AreNext k before) (sym none) tt
+  stop_next reads e (Short last answer one few) = one_next reads last one
+  stop_next reads e (Unsigned last answer one whole none) = one_next reads last one
 
-  pub read_next : (reads : List Reading) (result : Result (List TableEntry) PartEnding) → SectorReadsAs sector reads result
+  pub read_next : (reads : List Reading) (result : Result (List TableEntry) SearchStop) → SectorReadsAs sector reads result
       → AreNext k before reads
   read_next reads (Ok table) read = one_next reads read.0 read.1
   read_next reads (Err e) read = stop_next reads e read
@@ -101,36 +93,22 @@ module _ (k : ℕ) (before : List (List ℕ)) (sector : ℕ) (is : next before k
       ∙ ap (λ (b : List (List ℕ)). next b k) (append-nil before) ∙ is
 
   -- why it stopped is an answer
-  pub stop_answers : (reads : List Reading) (e : PartEnding) → StopsAs sector reads e
-      → AnswersBy e k (before ++ records_of reads)
-  stop_answers reads Done stop = absurd stop
-  stop_answers reads (Usage fault) stop = absurd stop
-  stop_answers reads SourceFault stop = absurd stop
-  stop_answers reads SourceLost stop = ap is_some (none_behind reads stop)
-  stop_answers reads (Unread s) stop = record {
-    last = stop.0;
-    is_last = record {
-      before = before;
-      are = one_behind before sector reads stop.0 stop.1;
-      sector_is = is ∙ ap (λ (n : ℕ). Some n) (sym stop.2);
-    };
-    short = stop.3;
-  }
-  stop_answers reads (NoSignature s) stop = record {
-    last = stop.0;
-    is_last = record {
-      before = before;
-      are = one_behind before sector reads stop.0 stop.1;
-      sector_is = is ∙ ap (λ (n : ℕ). Some n) (sym stop.2);
-    };
-    whole = stop.3;
-    unsigned = stop.4;
-  }
-  stop_answers reads Protective stop = absurd stop
-  stop_answers reads NoPartition stop = absurd stop
-  stop_answers reads ChainTooLong stop = absurd stop
-  stop_answers reads ConsoleFault stop = absurd stop
-  stop_answers reads NoMemory stop = absurd stop
+  last_is : (reads : List Reading) (last : List ℕ) → ReadsOne sector reads last
+      → IsLastRecord k (before ++ records_of reads) sector last
+  last_is reads last one =
+      record { before = before; are = one_behind before sector reads last one; sector_is = is }
+
+  pub stop_answers : (reads : List Reading) (e : SearchStop) → StopsAs sector reads e
+      → StoppedBy e k (before ++ records_of reads)
+  stop_answers reads e (Lost answer none) =
+      subst (λ (x : SearchStop). StoppedBy x k (before ++ records_of reads)) (sym answer)
+      (ap is_some (none_behind reads none))
+  stop_answers reads e (Short last answer one few) =
+      subst (λ (x : SearchStop). StoppedBy x k (before ++ records_of reads)) (sym answer)
+      (record { last = last; is_last = last_is reads last one; short = few })
+  stop_answers reads e (Unsigned last answer one whole none) =
+      subst (λ (x : SearchStop). StoppedBy x k (before ++ records_of reads)) (sym answer)
+      (record { last = last; is_last = last_is reads last one; whole = whole; unsigned = none })
 
 -- ---- one read
 
@@ -159,19 +137,20 @@ module _ {E : Type 0} (sector : ℕ) (got : Got) (buf : List ℕ) (old new : Sou
   whole_is : 512 ≤ count_of got → take (count_of got) buf ≡ buf
   whole_is all = take_all (count_of got) buf (omega (arith, full, all))
 
-  pub reads_unread : count_of got < 512 → ReadsTable sector (Err (Unread sector)) old new
+  pub reads_unread : count_of got < 512 → ReadsTable sector (Err (Refused (Unread sector))) old new
   reads_unread short = record {
     reads = sector_read sector got buf ∷ [];
     gained = read_gained;
-    as_ = (take (count_of got) buf, read_one (take (count_of got) buf) refl, refl, omega (arith, given_long, short));
+    as_ = Short (take (count_of got) buf) refl (read_one (take (count_of got) buf) refl)
+        (omega (arith, given_long, short));
   }
 
   pub reads_unsigned : 512 ≤ count_of got → has_signature buf ≡ false
-      → ReadsTable sector (Err (NoSignature sector)) old new
+      → ReadsTable sector (Err (Refused (NoSignature sector))) old new
   reads_unsigned all unsigned = record {
     reads = sector_read sector got buf ∷ [];
     gained = read_gained;
-    as_ = (buf, read_one buf (whole_is all), refl, eq-eqb (length buf) 512 full, unsigned);
+    as_ = Unsigned buf refl (read_one buf (whole_is all)) (eq-eqb (length buf) 512 full) unsigned;
   }
 
   pub reads_record : (table : List TableEntry) → 512 ≤ count_of got → has_signature buf ≡ true → table ≡ table_entries buf
@@ -186,3 +165,9 @@ module _ {E : Type 0} (sector : ℕ) (got : Got) (buf : List ℕ) (old new : Sou
       is,
     );
   }
+
+-- it was lost
+pub reads_lost : {E : Type 0} (sector : ℕ) (buf : List ℕ) (e : E) (old new : SourceState)
+    → AnswersRead (sector * 512) 512 buf (Err e) old new → ReadsTable sector (Err SourceLost) old new
+reads_lost sector buf e old new a =
+    record { reads = []; gained = gained_none old new (λ tells. a.lost.untold tells); as_ = Lost refl refl }

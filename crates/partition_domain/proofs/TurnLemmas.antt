@@ -8,12 +8,13 @@ use Rattle.partition_domain.specs.declared.table.Partition.{Partition}
 use Rattle.partition_domain.specs.declared.chain.Chain.{Chain}
 use Rattle.partition_domain.specs.declared.chain.Link.{Link}
 use Rattle.partition_domain.specs.declared.chain.Link.TheVariants.{Found, On, End}
-use Rattle.partition_domain.specs.declared.ending.PartEnding.{PartEnding}
-use Rattle.partition_domain.specs.declared.ending.PartEnding.TheVariants.{NoPartition, ChainTooLong}
+use Rattle.partition_domain.specs.declared.stop.SearchStop.{SearchStop}
+use Rattle.partition_domain.specs.declared.stop.SearchStop.TheVariants.{Refused}
+use Rattle.partition_domain.specs.declared.stop.Refusal.TheVariants.{NoPartition, ChainTooLong}
 use Rattle.partition_domain.specs.Table.{table_entry, is_record, is_used}
 use Rattle.partition_domain.specs.Chain.{given_by, links_on, logical_partitions, next_in_chain}
 use Rattle.partition_domain.specs.Part.{are_records, next, partition_of}
-use Rattle.partition_domain.specs.Reads.{AnswersBy, AreNext, Ended, records_of}
+use Rattle.partition_domain.specs.Reads.{AreNext, Ended, RefusedBy, StoppedBy, records_of}
 use Rattle.partition_domain.specs.Steps.{Gained, LeadsToChain, IsNear, ReadsTable, Searched, StandsBehind, TookRecord, Turns, TurnsTo, leads, link_past, passes_by}
 use Rattle.partition_domain.proofs.ChainLemmas.{all_more, are_more, given_behind, item_behind, lacks, next_on, not_all, not_primary, part_on, sector_after}
 use Rattle.partition_domain.proofs.ReadLemmas.{gained_more, gained_none, next_more, one_behind, read_next, records_more, stop_answers}
@@ -126,7 +127,7 @@ turn_read k main c chain table link old new near more t is = λ s.
           (passed k main c chain last near s t.as_.2));
     }
 
-pub turn_stopped : (k : ℕ) (main : List ℕ) (c : Chain) (chain : List (List ℕ)) (e : PartEnding)
+pub turn_stopped : (k : ℕ) (main : List ℕ) (c : Chain) (chain : List (List ℕ)) (e : SearchStop)
     (old new : SourceState) → IsNear k c → c.read < 128 → ReadsTable c.at (Err e) old new
     → Turns k main c chain (Err e) old new
 turn_stopped k main c chain e old new near more t = λ s.
@@ -173,7 +174,7 @@ record Joined (k : ℕ) (main : List ℕ) (xs ys : List Reading) (old new : Sour
 
 module _ (k : ℕ) (main : List ℕ) (c : Chain) (old mid new : SourceState) (stays : Stays old mid)
     (so_far : Searching k main c old mid) where
-  joined : (result : Result Link PartEnding) (t : TookRecord k main (records_of so_far.reads) result mid new)
+  joined : (result : Result Link SearchStop) (t : TookRecord k main (records_of so_far.reads) result mid new)
       → Joined k main so_far.reads t.reads old new
   joined result t = record {
     gained = gained_more so_far.reads t.reads old mid new stays.keeps.tells stays.keeps.bytes so_far.gained t.gained;
@@ -206,7 +207,7 @@ module _ (k : ℕ) (main : List ℕ) (c : Chain) (old mid new : SourceState) (st
       }
 
   pub search_ended : Turns k main c (records_of so_far.reads) (Ok End) mid new
-      → Searched k (main ∷ []) (Err NoPartition) old new
+      → Searched k (main ∷ []) (Err (Refused NoPartition)) old new
   search_ended turns =
       let t = turns so_far.stands in
       let j = joined (Ok End) t in
@@ -214,10 +215,10 @@ module _ (k : ℕ) (main : List ℕ) (c : Chain) (old mid new : SourceState) (st
         reads = so_far.reads ++ t.reads;
         gained = j.gained;
         next = j.next;
-        to = subst (λ (rs : List (List ℕ)). AnswersBy NoPartition k (main ∷ rs)) (sym j.records) t.to;
+        to = subst (λ (rs : List (List ℕ)). RefusedBy NoPartition k (main ∷ rs)) (sym j.records) t.to;
       }
 
-  pub search_stopped : (e : PartEnding) → Turns k main c (records_of so_far.reads) (Err e) mid new
+  pub search_stopped : (e : SearchStop) → Turns k main c (records_of so_far.reads) (Err e) mid new
       → Searched k (main ∷ []) (Err e) old new
   search_stopped e turns =
       let t = turns so_far.stands in
@@ -226,12 +227,12 @@ module _ (k : ℕ) (main : List ℕ) (c : Chain) (old mid new : SourceState) (st
         reads = so_far.reads ++ t.reads;
         gained = j.gained;
         next = j.next;
-        to = subst (λ (rs : List (List ℕ)). AnswersBy e k (main ∷ rs)) (sym j.records) t.to;
+        to = subst (λ (rs : List (List ℕ)). StoppedBy e k (main ∷ rs)) (sym j.records) t.to;
       }
 
 -- as many records were read as may be
 pub search_full : (k : ℕ) (main : List ℕ) (c : Chain) (old new : SourceState) → IsNear k c → 128 ≤ c.read
-    → Searching k main c old new → Searched k (main ∷ []) (Err ChainTooLong) old new
+    → Searching k main c old new → Searched k (main ∷ []) (Err (Refused ChainTooLong)) old new
 search_full k main c old new near full so_far =
     let s = so_far.stands in
     record {

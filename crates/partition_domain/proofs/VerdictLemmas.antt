@@ -6,15 +6,14 @@ use Rattle.std.proofs.lemmas.Bool.{and_from, and_left, and_parts, and_right, bot
 use Rattle.faulty_source.specs.Journal.{Reading}
 use Rattle.partition_domain.specs.declared.table.TableEntry.{TableEntry}
 use Rattle.partition_domain.specs.declared.table.Partition.{Partition}
-use Rattle.partition_domain.specs.declared.ending.PartEnding.{PartEnding}
-use Rattle.partition_domain.specs.declared.ending.PartEnding.TheVariants.{Done, Usage, SourceFault, SourceLost, Unread, NoSignature, Protective, NoPartition, ChainTooLong, ConsoleFault, NoMemory}
+use Rattle.partition_domain.specs.declared.stop.Refusal.{Refusal}
+use Rattle.partition_domain.specs.declared.stop.Refusal.TheVariants.{Unread, NoSignature, Protective, NoPartition, ChainTooLong}
 use Rattle.partition_domain.specs.Table.{extended_entry, has_signature, is_protected, is_record, is_whole_sector}
 use Rattle.partition_domain.specs.Chain.{chain_limit, links_on, logical_partitions, next_in_chain}
 use Rattle.partition_domain.specs.Part.{are_records, chain_goes_on, is_lacking, is_primary, logical, next, next_of_chain, partition_of, primary}
-use Rattle.partition_domain.specs.Reads.{AnswersBy, AreNext, Ended, HasPart, IsLastRecord, IsDiskProtected, IsSectorRead, IsChainTooLong, IsUnread, LacksPartition, LacksSignature, Unextended, Unused, records_of}
-use Rattle.partition_domain.specs.Laws.{AreGivenBy, HasOneVerdict, IsVerdict}
+use Rattle.partition_domain.specs.Reads.{AreNext, Brings, Ended, HasPart, IsLastRecord, IsDiskProtected, IsSectorRead, IsChainTooLong, IsUnread, LacksPartition, LacksSignature, Unextended, Unused, records_of}
+use Rattle.partition_domain.specs.Laws.{AreGivenBy, HasOneAnswer}
 use Rattle.partition_domain.proofs.ChainLemmas.{not_all}
-use Rattle.partition_domain.proofs.CompleteLemmas.{brings}
 
 -- ---- records that are records
 
@@ -37,8 +36,12 @@ unprotected main chain are =
 
 -- ---- the answers behind records that are records
 
+-- the partition is found
+abbrev found : Option Refusal
+found = None
+
 -- what they bring, and that nothing is read behind them
-record Is (e : PartEnding) (k : ℕ) (records : List (List ℕ)) (brought : PartEnding) : Type 0 where
+record Is (e : Option Refusal) (k : ℕ) (records : List (List ℕ)) (brought : Option Refusal) : Type 0 where
   all : list_all is_record records ≡ true
   is : e ≡ brought
   ends : next records k ≡ None
@@ -47,14 +50,14 @@ record Is (e : PartEnding) (k : ℕ) (records : List (List ℕ)) (brought : Part
 abbrev is_long : (main : List ℕ) (chain : List (List ℕ)) (k : ℕ) → Bool
 is_long main chain k = list_all links_on chain && not (is_primary k) && is_some (extended_entry main)
 
-abbrev brought_by : (k : ℕ) → List (List ℕ) → PartEnding
-brought_by k [] = NoMemory
+abbrev brought_by : (k : ℕ) → List (List ℕ) → Option Refusal
+brought_by k [] = found
 brought_by k (main ∷ chain) =
-    cond (is_protected main) Protective
-    (cond (is_some (partition_of (main ∷ chain) k)) Done (cond (is_long main chain k) ChainTooLong NoPartition))
+    cond (is_protected main) (Some Protective)
+    (cond (is_some (partition_of (main ∷ chain) k)) found (cond (is_long main chain k) (Some ChainTooLong) (Some NoPartition)))
 
 -- that of these records
-abbrev IsOf : PartEnding → (k : ℕ) → List (List ℕ) → Type 0
+abbrev IsOf : Option Refusal → (k : ℕ) → List (List ℕ) → Type 0
 IsOf e k records = Is e k records (brought_by k records)
 
 module _ (k : ℕ) (main : List ℕ) (chain : List (List ℕ)) where
@@ -99,38 +102,38 @@ module _ (k : ℕ) (main : List ℕ) (chain : List (List ℕ)) where
         logical_is p ∙ ap (λ (o : Option TableEntry). option_and_then (λ (e : TableEntry). logical e.first chain k) o) is
 
     open_is : brought_by k (main ∷ chain)
-        ≡ cond (is_some part) Done (cond (is_long main chain k) ChainTooLong NoPartition)
+        ≡ cond (is_some part) found (cond (is_long main chain k) (Some ChainTooLong) (Some NoPartition))
     open_is =
-        cond-false (is_protected main) Protective
-        (cond (is_some part) Done (cond (is_long main chain k) ChainTooLong NoPartition))
+        cond-false (is_protected main) (Some Protective)
+        (cond (is_some part) found (cond (is_long main chain k) (Some ChainTooLong) (Some NoPartition)))
         (unprotected main chain are)
 
     lacking_is : part ≡ None
-        → brought_by k (main ∷ chain) ≡ cond (is_long main chain k) ChainTooLong NoPartition
+        → brought_by k (main ∷ chain) ≡ cond (is_long main chain k) (Some ChainTooLong) (Some NoPartition)
     lacking_is none =
-        open_is ∙ cond-false (is_some part) Done (cond (is_long main chain k) ChainTooLong NoPartition)
+        open_is ∙ cond-false (is_some part) found (cond (is_long main chain k) (Some ChainTooLong) (Some NoPartition))
         (ap is_some none)
 
     short_is : part ≡ None → is_long main chain k ≡ false → next (main ∷ chain) k ≡ None
-        → IsOf NoPartition k (main ∷ chain)
+        → IsOf (Some NoPartition) k (main ∷ chain)
     short_is none short ends = record {
       all = are_all main chain are;
-      is = sym (lacking_is none ∙ cond-false (is_long main chain k) ChainTooLong NoPartition short);
+      is = sym (lacking_is none ∙ cond-false (is_long main chain k) (Some ChainTooLong) (Some NoPartition) short);
       ends = ends;
     }
 
     long_is : part ≡ None → is_long main chain k ≡ true → next (main ∷ chain) k ≡ None
-        → IsOf ChainTooLong k (main ∷ chain)
+        → IsOf (Some ChainTooLong) k (main ∷ chain)
     long_is none long ends = record {
       all = are_all main chain are;
-      is = sym (lacking_is none ∙ cond-true (is_long main chain k) ChainTooLong NoPartition long);
+      is = sym (lacking_is none ∙ cond-true (is_long main chain k) (Some ChainTooLong) (Some NoPartition) long);
       ends = ends;
     }
 
-    found_is : (p : Partition) → part ≡ Some p → next (main ∷ chain) k ≡ None → IsOf Done k (main ∷ chain)
+    found_is : (p : Partition) → part ≡ Some p → next (main ∷ chain) k ≡ None → IsOf found k (main ∷ chain)
     found_is p some ends = record {
       all = are_all main chain are;
-      is = sym (open_is ∙ cond-true (is_some part) Done (cond (is_long main chain k) ChainTooLong NoPartition)
+      is = sym (open_is ∙ cond-true (is_some part) found (cond (is_long main chain k) (Some ChainTooLong) (Some NoPartition))
           (ap is_some some));
       ends = ends;
     }
@@ -168,7 +171,7 @@ part_stops : (k : ℕ) (main : List ℕ) (chain : List (List ℕ)) (p : Partitio
 part_stops k main chain p true is some = stops_primary k main chain is
 part_stops k main chain p false is some = chain_stops k main chain p (extended_entry main) refl some
 
-done_is : (k : ℕ) (records : List (List ℕ)) → HasPart k records → IsOf Done k records
+done_is : (k : ℕ) (records : List (List ℕ)) → HasPart k records → IsOf found k records
 done_is k [] h =
     let none : partition_of [] k ≡ Some (record { first = h.first; count = h.count }) = h.part in absurd (cc)
 done_is k (main ∷ chain) h =
@@ -177,29 +180,29 @@ done_is k (main ∷ chain) h =
     let on = chosen (are_records main chain) (cond (is_primary k) (primary main k) of) p h.part in
     found_is k main chain on.0 p h.part (part_stops k main chain p (is_primary k) refl on.1)
 
-protective_is : (k : ℕ) (records : List (List ℕ)) → IsDiskProtected records → IsOf Protective k records
+protective_is : (k : ℕ) (records : List (List ℕ)) → IsDiskProtected records → IsOf (Some Protective) k records
 protective_is k records h =
     let main = h.main in
     let refused : are_records main [] ≡ false =
     and_left (is_record main && not (is_protected main)) true
     (and_right (is_record main) (not (is_protected main)) (ap not h.protected)) in
-    subst (λ (rs : List (List ℕ)). IsOf Protective k rs) (sym h.are) (record {
+    subst (λ (rs : List (List ℕ)). IsOf (Some Protective) k rs) (sym h.are) (record {
       all = and_from (is_record main) true h.readable refl;
-      is = sym (cond-true (is_protected main) Protective _ h.protected);
+      is = sym (cond-true (is_protected main) (Some Protective) _ h.protected);
       ends = cond-false (are_records main [] && not (is_primary k)) (next_chain k main []) None
           (and_left (are_records main []) (not (is_primary k)) refused);
     })
 
-lacks_is : (k : ℕ) (records : List (List ℕ)) → LacksPartition k records → IsOf NoPartition k records
+lacks_is : (k : ℕ) (records : List (List ℕ)) → LacksPartition k records → IsOf (Some NoPartition) k records
 lacks_is k records (Unused main is are primary_k none) =
     let links = list_all links_on [] in
-    subst (λ (rs : List (List ℕ)). IsOf NoPartition k rs) (sym is)
+    subst (λ (rs : List (List ℕ)). IsOf (Some NoPartition) k rs) (sym is)
     (short_is k main [] are (primary_is k main [] are primary_k ∙ none)
     (and_left (links && not (is_primary k)) (is_some (extended_entry main))
     (and_right links (not (is_primary k)) (ap not primary_k)))
     (stops_primary k main [] primary_k))
 lacks_is k records (Unextended main is are logical_k none) =
-    subst (λ (rs : List (List ℕ)). IsOf NoPartition k rs) (sym is)
+    subst (λ (rs : List (List ℕ)). IsOf (Some NoPartition) k rs) (sym is)
     (short_is k main [] are
     (logical_is k main [] are logical_k
     ∙ ap (λ (o : Option TableEntry). option_and_then (λ (e : TableEntry). logical e.first [] k) o) none)
@@ -208,7 +211,7 @@ lacks_is k records (Unextended main is are logical_k none) =
     (ap (λ (o : Option TableEntry). option_and_then (λ (e : TableEntry). next_of_chain e.first [] k) o) none)))
 lacks_is k records (Ended main chain e is are logical_k found lacking unlinked) =
     let links = list_all links_on chain in
-    subst (λ (rs : List (List ℕ)). IsOf NoPartition k rs) (sym is)
+    subst (λ (rs : List (List ℕ)). IsOf (Some NoPartition) k rs) (sym is)
     (short_is k main chain are
     (of_extended k main chain are e logical_k found ∙ none_there e.first chain k lacking)
     (and_left (links && not (is_primary k)) (is_some (extended_entry main)) (and_left links (not (is_primary k)) unlinked))
@@ -216,11 +219,11 @@ lacks_is k records (Ended main chain e is are logical_k found lacking unlinked) 
     (and_left (links && is_lacking e.first chain k) (nat_lt (length chain) chain_limit)
     (and_left links (is_lacking e.first chain k) unlinked))))
 
-long_chain_is : (k : ℕ) (records : List (List ℕ)) → IsChainTooLong k records → IsOf ChainTooLong k records
+long_chain_is : (k : ℕ) (records : List (List ℕ)) → IsChainTooLong k records → IsOf (Some ChainTooLong) k records
 long_chain_is k records h =
     let chain = h.chain in
     let links = list_all links_on chain in
-    subst (λ (rs : List (List ℕ)). IsOf ChainTooLong k rs) (sym h.are)
+    subst (λ (rs : List (List ℕ)). IsOf (Some ChainTooLong) k rs) (sym h.are)
     (long_is k h.main chain h.readable
     (of_extended k h.main chain h.readable h.e h.logical h.is_extended ∙ none_there h.e.first chain k h.lacking)
     (and_from (links && not (is_primary k)) (is_some (extended_entry h.main))
@@ -231,10 +234,10 @@ long_chain_is k records h =
 
 -- ---- the answers behind a last record that isn't one
 
-abbrev refusal : (sector : ℕ) → (last : List ℕ) → PartEnding
-refusal sector last = cond (is_whole_sector last) (NoSignature sector) (Unread sector)
+abbrev refusal : (sector : ℕ) → (last : List ℕ) → Option Refusal
+refusal sector last = cond (is_whole_sector last) (Some (NoSignature sector)) (Some (Unread sector))
 
-record IsRefusal (e : PartEnding) (k : ℕ) (records : List (List ℕ)) : Type 0 where
+record IsRefusal (e : Option Refusal) (k : ℕ) (records : List (List ℕ)) : Type 0 where
   sector : ℕ
   last : List ℕ
   is_last : IsLastRecord k records sector last
@@ -242,7 +245,7 @@ record IsRefusal (e : PartEnding) (k : ℕ) (records : List (List ℕ)) : Type 0
   is : e ≡ refusal sector last
 
 unread_is : (k : ℕ) (records : List (List ℕ)) (sector : ℕ) → IsUnread k records sector
-    → IsRefusal (Unread sector) k records
+    → IsRefusal (Some (Unread sector)) k records
 unread_is k records sector h =
     let short : is_whole_sector h.last ≡ false =
     ne_eqb (length h.last) 512 (λ same. omega (arith, same, h.short)) in
@@ -251,20 +254,20 @@ unread_is k records sector h =
       last = h.last;
       is_last = h.is_last;
       none = and_left (is_whole_sector h.last) (has_signature h.last) short;
-      is = sym (cond-false (is_whole_sector h.last) (NoSignature sector) (Unread sector) short);
+      is = sym (cond-false (is_whole_sector h.last) (Some (NoSignature sector)) (Some (Unread sector)) short);
     }
 
 unsigned_is : (k : ℕ) (records : List (List ℕ)) (sector : ℕ) → LacksSignature k records sector
-    → IsRefusal (NoSignature sector) k records
+    → IsRefusal (Some (NoSignature sector)) k records
 unsigned_is k records sector h = record {
   sector = sector;
   last = h.last;
   is_last = h.is_last;
   none = and_right (is_whole_sector h.last) (has_signature h.last) h.unsigned;
-  is = sym (cond-true (is_whole_sector h.last) (NoSignature sector) (Unread sector) h.whole);
+  is = sym (cond-true (is_whole_sector h.last) (Some (NoSignature sector)) (Some (Unread sector)) h.whole);
 }
 
-refused_is : (e : PartEnding) (k : ℕ) (records : List (List ℕ)) → IsRefusal e k records
+refused_is : (e : Option Refusal) (k : ℕ) (records : List (List ℕ)) → IsRefusal e k records
     → list_all is_record records ≡ false
 refused_is e k records r =
     ap (λ (rs : List (List ℕ)). list_all is_record rs) r.is_last.are ∙ not_all is_record r.is_last.before r.last r.none
@@ -296,28 +299,22 @@ snoc_same (a ∷ xs) (b ∷ ys) x y e =
 
 -- ---- one answer of the same records
 
-abbrev Sorted : PartEnding → (k : ℕ) → List (List ℕ) → Type 0
+abbrev Sorted : Option Refusal → (k : ℕ) → List (List ℕ) → Type 0
 Sorted e k records = IsOf e k records ⊎ IsRefusal e k records
 
-sorted : (e : PartEnding) (k : ℕ) (records : List (List ℕ)) → AnswersBy e k records → IsVerdict e
-    → Sorted e k records
-sorted Done k records a v = inl (done_is k records a)
-sorted (Usage fault) k records a v = absurd v
-sorted SourceFault k records a v = absurd v
-sorted SourceLost k records a v = absurd v
-sorted (Unread sector) k records a v = inr (unread_is k records sector a)
-sorted (NoSignature sector) k records a v = inr (unsigned_is k records sector a)
-sorted Protective k records a v = inl (protective_is k records a)
-sorted NoPartition k records a v = inl (lacks_is k records a)
-sorted ChainTooLong k records a v = inl (long_chain_is k records a)
-sorted ConsoleFault k records a v = absurd v
-sorted NoMemory k records a v = absurd v
+sorted : (o : Option Refusal) (k : ℕ) (records : List (List ℕ)) → Brings o k records → Sorted o k records
+sorted None k records a = inl (done_is k records a)
+sorted (Some (Unread sector)) k records a = inr (unread_is k records sector a)
+sorted (Some (NoSignature sector)) k records a = inr (unsigned_is k records sector a)
+sorted (Some Protective) k records a = inl (protective_is k records a)
+sorted (Some NoPartition) k records a = inl (lacks_is k records a)
+sorted (Some ChainTooLong) k records a = inl (long_chain_is k records a)
 
-sorted_ends : (e : PartEnding) (k : ℕ) (records : List (List ℕ)) → Sorted e k records → next records k ≡ None
+sorted_ends : (e : Option Refusal) (k : ℕ) (records : List (List ℕ)) → Sorted e k records → next records k ≡ None
 sorted_ends e k records (inl a) = a.ends
 sorted_ends e k records (inr r) = refused_ends k records (refused_is e k records r)
 
-one_of : (k : ℕ) (records : List (List ℕ)) (e e' : PartEnding) → Sorted e k records → Sorted e' k records → e ≡ e'
+one_of : (k : ℕ) (records : List (List ℕ)) (e e' : Option Refusal) → Sorted e k records → Sorted e' k records → e ≡ e'
 one_of k records e e' (inl a) (inl b) = a.is ∙ sym b.is
 one_of k records e e' (inl a) (inr q) =
     absurd (both_ways (list_all is_record records) (refused_is e' k records q) a.all)
@@ -358,15 +355,11 @@ module _ (k : ℕ) (disk : ℕ → List ℕ) where
       ∙ ap (λ (r : List ℕ). next (before ++ r ∷ records_of ys) k) given ∙ t) in
       ap (λ (r : List ℕ). r ∷ records_of xs) given ∙ ap (λ (rs : List (List ℕ)). y.given ∷ rs) rest
 
-pub has_one_verdict : HasOneVerdict
-has_one_verdict c disk e e' d d' w w' f f' v v' =
-    let k = c.partition in
-    let b = brings c e d w v in
-    let b' = brings c e' d' w' v' in
-    let so = sorted e k (records_of d.gain.reads) b.answer v in
-    let so' = sorted e' k (records_of d'.gain.reads) b'.answer v' in
+pub has_one_answer : HasOneAnswer
+has_one_answer k disk o o' reads reads' next next' f f' a a' =
+    let so = sorted o k (records_of reads) a in
+    let so' = sorted o' k (records_of reads') a' in
     let same =
-    same_reads k disk [] d.gain.reads d'.gain.reads b.next b'.next f f'
-    (sorted_ends e k (records_of d.gain.reads) so) (sorted_ends e' k (records_of d'.gain.reads) so') in
-    one_of k (records_of d.gain.reads) e e' so
-    (subst (λ (rs : List (List ℕ)). Sorted e' k rs) (sym same) so')
+    same_reads k disk [] reads reads' next next' f f' (sorted_ends o k (records_of reads) so)
+    (sorted_ends o' k (records_of reads') so') in
+    one_of k (records_of reads) o o' so (subst (λ (rs : List (List ℕ)). Sorted o' k rs) (sym same) so')

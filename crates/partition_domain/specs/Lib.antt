@@ -2,14 +2,6 @@ pub mod Table
 pub mod Chain
 pub mod Part
 pub mod DomainMap
-pub mod Names
-pub mod Command
 pub mod Reads
-pub mod Work
-pub mod Told
-pub mod Answers
-pub mod Messages
-pub mod Ddrescuepart
 pub mod Steps
-pub mod Worked
 pub mod Laws

@@ -1,15 +1,22 @@
--- Which reads are made for a partition, and what each answer says of what they gave.
-use Rattle.std.specs.Prelude.{◌≡◌, ⊤, ℕ, ◌*◌, ◌<◌, true, false, List, [], ◌∷◌, ◌++◌, length, map, Option, Some, None, is_some}
+-- Which reads are made for a partition, and what each outcome of its search says of what they gave.
+use Rattle.std.specs.Prelude.{◌≡◌, ⊤, ℕ, ◌+◌, ◌*◌, ◌<◌, true, false, List, [], ◌∷◌, ◌++◌, length, map, Option, Some, None, is_some, slice_range}
 use Rattle.std.specs.List.{list_all}
+use Rattle.fault_count.specs.Counts.{raised}
 use Rattle.faulty_source.specs.Journal.{Reading}
 use Rattle.partition_domain.specs.declared.table.TableEntry.{TableEntry}
-use Rattle.partition_domain.specs.declared.ending.PartEnding.{PartEnding}
-use Rattle.partition_domain.specs.declared.ending.PartEnding.TheVariants.{Done, Usage, SourceFault, SourceLost, Unread, NoSignature, Protective, NoPartition, ChainTooLong, ConsoleFault, NoMemory}
+use Rattle.partition_domain.specs.declared.stop.Refusal.{Refusal}
+use Rattle.partition_domain.specs.declared.stop.Refusal.TheVariants.{Unread, NoSignature, Protective, NoPartition, ChainTooLong}
+use Rattle.partition_domain.specs.declared.stop.SearchStop.{SearchStop}
+use Rattle.partition_domain.specs.declared.stop.SearchStop.TheVariants.{SourceLost, Refused}
 use Rattle.partition_domain.specs.Table.{extended_entry, has_signature, is_protected, is_record, is_whole_sector, sector_size}
 use Rattle.partition_domain.specs.Chain.{chain_limit, links_on}
 use Rattle.partition_domain.specs.Part.{are_records, is_lacking, is_primary, next, Part, primary}
 
 -- ---- the reads
+
+-- a read gave the input's own bytes
+abbrev pub IsFrom : (bytes : List ℕ) → Reading → Type 0
+IsFrom bytes r = r.given ≡ slice_range bytes r.pos (r.pos + length r.given)
 
 -- the records that reads gave, in order
 abbrev pub records_of : List Reading → List (List ℕ)
@@ -20,12 +27,12 @@ abbrev pub IsSectorRead : Option ℕ → Reading → Type 0
 IsSectorRead None r = ⊥
 IsSectorRead (Some sector) r = (r.pos ≡ sector * sector_size) × (r.asked ≡ sector_size)
 
--- the reads behind these records are those that have to be made next, in order
+-- the reads after these records are those that have to be made next, in order
 abbrev pub AreNext : (k : ℕ) → (before : List (List ℕ)) → List Reading → Type 0
 AreNext k before [] = ⊤
 AreNext k before (r ∷ reads) = IsSectorRead (next before k) r × AreNext k (before ++ r.given ∷ []) reads
 
--- ---- the answers behind them, one a row
+-- ---- the outcomes, one a row
 
 -- the last record, which was read at this sector
 pub record IsLastRecord (k : ℕ) (records : List (List ℕ)) (sector : ℕ) (last : List ℕ) : Type 0 where
@@ -83,16 +90,25 @@ pub record HasPart (k : ℕ) (records : List (List ℕ)) : Type 0 where
   pub count : ℕ
   pub part : Part records k first count
 
--- What each answer says of the records that were read for partition k.
-abbrev pub AnswersBy : PartEnding → (k : ℕ) → (records : List (List ℕ)) → Type 0
-AnswersBy Done k records = HasPart k records
-AnswersBy (Usage fault) k records = ⊥
-AnswersBy SourceFault k records = ⊥
-AnswersBy SourceLost k records = is_some (next records k) ≡ true
-AnswersBy (Unread sector) k records = IsUnread k records sector
-AnswersBy (NoSignature sector) k records = LacksSignature k records sector
-AnswersBy Protective k records = IsDiskProtected records
-AnswersBy NoPartition k records = LacksPartition k records
-AnswersBy ChainTooLong k records = IsChainTooLong k records
-AnswersBy ConsoleFault k records = HasPart k records
-AnswersBy NoMemory k records = ⊥
+-- What a refusal says of the records that were read for partition k.
+abbrev pub RefusedBy : Refusal → (k : ℕ) → (records : List (List ℕ)) → Type 0
+RefusedBy (Unread sector) k records = IsUnread k records sector
+RefusedBy (NoSignature sector) k records = LacksSignature k records sector
+RefusedBy Protective k records = IsDiskProtected records
+RefusedBy NoPartition k records = LacksPartition k records
+RefusedBy ChainTooLong k records = IsChainTooLong k records
+
+-- What a search that stopped says of them: the input was lost when a further record had to be read, or they are refused.
+abbrev pub StoppedBy : SearchStop → (k : ℕ) → (records : List (List ℕ)) → Type 0
+StoppedBy SourceLost k records = is_some (next records k) ≡ true
+StoppedBy (Refused refusal) k records = RefusedBy refusal k records
+
+-- the count of losses after a search that stopped: it rose by one exactly if the input was lost
+abbrev pub losses_after : SearchStop → (losses : ℕ) → ℕ
+losses_after SourceLost losses = raised losses
+losses_after (Refused refusal) losses = losses
+
+-- What records that are all read bring: the partition, or a refusal.
+abbrev pub Brings : Option Refusal → (k : ℕ) → (records : List (List ℕ)) → Type 0
+Brings None k records = HasPart k records
+Brings (Some refusal) k records = RefusedBy refusal k records

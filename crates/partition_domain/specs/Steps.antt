@@ -1,42 +1,25 @@
 -- What each step of the search for a partition does, by what a source tells.
 use Rattle.std.specs.Prelude.{◌≡◌, ⊤, ℕ, ◌+◌, ◌-◌, ◌<◌, ◌≤◌, ◌^◌, true, false, IsTrue, List, [], ◌∷◌, ◌++◌, length, All, nat_eq, slice_index_or, Option, Some, None, Result, Ok, Err, if◌then◌else◌}
 use Rattle.std.specs.List.{list_all}
-use Rattle.fault_count.specs.Counts.{raised}
 use Rattle.faulty_source.specs.Journal.{Reading}
 use Rattle.faulty_source.specs.SourceState.{SourceState}
-use Rattle.rescue_console.specs.ConsoleState.{ConsoleState, Puts, PutsPart}
-use Rattle.rescue_console.specs.declared.console.Channel.TheVariants.{Out}
 use Rattle.partition_domain.specs.declared.table.TableEntry.{TableEntry}
 use Rattle.partition_domain.specs.declared.table.Partition.{Partition}
 use Rattle.partition_domain.specs.declared.chain.Chain.{Chain}
 use Rattle.partition_domain.specs.declared.chain.Link.{Link}
 use Rattle.partition_domain.specs.declared.chain.Link.TheVariants.{Found, On, End}
-use Rattle.partition_domain.specs.declared.ending.PartEnding.{PartEnding}
-use Rattle.partition_domain.specs.declared.ending.PartEnding.TheVariants.{Done, Usage, SourceFault, SourceLost, Unread, NoSignature, Protective, NoPartition, ChainTooLong, ConsoleFault, NoMemory}
+use Rattle.partition_domain.specs.declared.stop.Refusal.TheVariants.{Unread, NoSignature, NoPartition}
+use Rattle.partition_domain.specs.declared.stop.SearchStop.{SearchStop}
+use Rattle.partition_domain.specs.declared.stop.SearchStop.TheVariants.{SourceLost, Refused}
 use Rattle.partition_domain.specs.Table.{table_entries, extended_entry, has_signature, is_record, is_used, is_whole_sector, sector_size}
 use Rattle.partition_domain.specs.Chain.{links_on, logical_partitions, next_in_chain}
 use Rattle.partition_domain.specs.Part.{are_records, partition_of}
-use Rattle.partition_domain.specs.Reads.{AnswersBy, AreNext, IsSectorRead, records_of}
-use Rattle.partition_domain.specs.Told.{IsFrom}
+use Rattle.partition_domain.specs.Reads.{AreNext, IsFrom, IsSectorRead, RefusedBy, StoppedBy, records_of}
 
 -- the source's journal gained these reads, which gave its own bytes
 pub record Gained (reads : List Reading) (old new : SourceState) : Type 0 where
   pub told : IsTrue old.tells → new.journal ≡ old.journal ++ reads
   pub right : IsTrue old.tells → All (IsFrom old.bytes) reads
-
--- By how much the losses rose where a search stopped. It stops for nothing else.
-abbrev pub StopCounts : PartEnding → (losses losses' : ℕ) → Type 0
-StopCounts Done losses losses' = ⊥
-StopCounts (Usage fault) losses losses' = ⊥
-StopCounts SourceFault losses losses' = ⊥
-StopCounts SourceLost losses losses' = losses' ≡ raised losses
-StopCounts (Unread sector) losses losses' = losses' ≡ losses
-StopCounts (NoSignature sector) losses losses' = losses' ≡ losses
-StopCounts Protective losses losses' = losses' ≡ losses
-StopCounts NoPartition losses losses' = losses' ≡ losses
-StopCounts ChainTooLong losses losses' = losses' ≡ losses
-StopCounts ConsoleFault losses losses' = ⊥
-StopCounts NoMemory losses losses' = ⊥
 
 -- ---- one record
 
@@ -48,29 +31,21 @@ pub record ReadsOne (sector : ℕ) (reads : List Reading) (last : List ℕ) : Ty
   pub gave : reading.given ≡ last
 
 -- why there are no entries: the record was lost, or is refused by itself
-abbrev pub StopsAs : (sector : ℕ) → List Reading → PartEnding → Type 0
-StopsAs sector reads Done = ⊥
-StopsAs sector reads (Usage fault) = ⊥
-StopsAs sector reads SourceFault = ⊥
-StopsAs sector reads SourceLost = reads ≡ []
-StopsAs sector reads (Unread s) =
-    (last : List ℕ) × ReadsOne sector reads last × (s ≡ sector) × (length last < sector_size)
-StopsAs sector reads (NoSignature s) =
-    (last : List ℕ) × ReadsOne sector reads last × (s ≡ sector) × (is_whole_sector last ≡ true) × (has_signature last ≡ false)
-StopsAs sector reads Protective = ⊥
-StopsAs sector reads NoPartition = ⊥
-StopsAs sector reads ChainTooLong = ⊥
-StopsAs sector reads ConsoleFault = ⊥
-StopsAs sector reads NoMemory = ⊥
+pub data StopsAs (sector : ℕ) (reads : List Reading) (e : SearchStop) : Type 0 where
+  Lost : e ≡ SourceLost → reads ≡ [] → StopsAs sector reads e
+  Short : (last : List ℕ) → e ≡ Refused (Unread sector) → ReadsOne sector reads last → length last < sector_size
+      → StopsAs sector reads e
+  Unsigned : (last : List ℕ) → e ≡ Refused (NoSignature sector) → ReadsOne sector reads last → is_whole_sector last ≡ true
+      → has_signature last ≡ false → StopsAs sector reads e
 
 -- the entries of a record that was read, or why there are none
-abbrev pub SectorReadsAs : (sector : ℕ) → List Reading → Result (List TableEntry) PartEnding → Type 0
+abbrev pub SectorReadsAs : (sector : ℕ) → List Reading → Result (List TableEntry) SearchStop → Type 0
 SectorReadsAs sector reads (Ok table) =
     (last : List ℕ) × ReadsOne sector reads last × (is_record last ≡ true) × (table ≡ table_entries last)
 SectorReadsAs sector reads (Err e) = StopsAs sector reads e
 
 -- what a read of a record did, by its outcome
-pub record ReadsTable (sector : ℕ) (result : Result (List TableEntry) PartEnding) (old new : SourceState) : Type 0 where
+pub record ReadsTable (sector : ℕ) (result : Result (List TableEntry) SearchStop) (old new : SourceState) : Type 0 where
   pub reads : List Reading
   pub gained : Gained reads old new
   pub as_ : SectorReadsAs sector reads result
@@ -121,14 +96,14 @@ pub record StandsBehind (main : List ℕ) (c : Chain) (chain : List (List ℕ)) 
   pub read : c.read ≡ length chain
 
 -- what comes of the next record of a chain, by all records that were read of it
-abbrev pub TurnsTo : (k : ℕ) → (main : List ℕ) → (chain : List (List ℕ)) → Result Link PartEnding → Type 0
+abbrev pub TurnsTo : (k : ℕ) → (main : List ℕ) → (chain : List (List ℕ)) → Result Link SearchStop → Type 0
 TurnsTo k main chain (Ok (Found p)) = partition_of (main ∷ chain) k ≡ Some p
 TurnsTo k main chain (Ok (On c)) = StandsBehind main c chain
-TurnsTo k main chain (Ok End) = AnswersBy NoPartition k (main ∷ chain)
-TurnsTo k main chain (Err e) = AnswersBy e k (main ∷ chain)
+TurnsTo k main chain (Ok End) = RefusedBy NoPartition k (main ∷ chain)
+TurnsTo k main chain (Err e) = StoppedBy e k (main ∷ chain)
 
 -- the next record was read, or lost
-pub record TookRecord (k : ℕ) (main : List ℕ) (chain : List (List ℕ)) (result : Result Link PartEnding)
+pub record TookRecord (k : ℕ) (main : List ℕ) (chain : List (List ℕ)) (result : Result Link SearchStop)
     (old new : SourceState) : Type 0 where
   pub reads : List Reading
   pub gained : Gained reads old new
@@ -136,19 +111,19 @@ pub record TookRecord (k : ℕ) (main : List ℕ) (chain : List (List ℕ)) (res
   pub to : TurnsTo k main (chain ++ records_of reads) result
 
 -- what a turn does, wherever the chain stands
-abbrev pub Turns : (k : ℕ) → (main : List ℕ) → (c : Chain) → (chain : List (List ℕ)) → Result Link PartEnding
+abbrev pub Turns : (k : ℕ) → (main : List ℕ) → (c : Chain) → (chain : List (List ℕ)) → Result Link SearchStop
     → (old new : SourceState) → Type 0
 Turns k main c chain result old new = StandsBehind main c chain → TookRecord k main chain result old new
 
 -- ---- the whole search
 
 -- what a search comes to, by the records that were read
-abbrev pub SearchFinds : (k : ℕ) → (records : List (List ℕ)) → Result Partition PartEnding → Type 0
+abbrev pub SearchFinds : (k : ℕ) → (records : List (List ℕ)) → Result Partition SearchStop → Type 0
 SearchFinds k records (Ok p) = partition_of records k ≡ Some p
-SearchFinds k records (Err e) = AnswersBy e k records
+SearchFinds k records (Err e) = StoppedBy e k records
 
 -- what a search did behind these records
-pub record Searched (k : ℕ) (before : List (List ℕ)) (result : Result Partition PartEnding) (old new : SourceState)
+pub record Searched (k : ℕ) (before : List (List ℕ)) (result : Result Partition SearchStop) (old new : SourceState)
     : Type 0 where
   pub reads : List Reading
   pub gained : Gained reads old new
@@ -162,11 +137,11 @@ pub record LeadsToChain (main : List ℕ) (base : ℕ) : Type 0 where
   pub is_extended : extended_entry main ≡ Some e
   pub base_is : e.first ≡ base
 
-abbrev pub SearchesBehind : (k : ℕ) → (main : List ℕ) → Result Partition PartEnding → (old new : SourceState) → Type 0
+abbrev pub SearchesBehind : (k : ℕ) → (main : List ℕ) → Result Partition SearchStop → (old new : SourceState) → Type 0
 SearchesBehind k main result old new = Searched k (main ∷ []) result old new
 
 -- from the beginning
-abbrev pub Searches : (k : ℕ) → Result Partition PartEnding → (old new : SourceState) → Type 0
+abbrev pub Searches : (k : ℕ) → Result Partition SearchStop → (old new : SourceState) → Type 0
 Searches k result old new = Searched k [] result old new
 
 -- the partition of one of the entries of the first record, counted from 1, if it is used
@@ -174,17 +149,3 @@ abbrev pub partition_at : List TableEntry → (k : ℕ) → Option Partition
 partition_at table k =
     let e = slice_index_or table (k - 1) (record { kind = 0; first = 0; count = 0 }) in
     if is_used e then Some (record { first = e.first; count = e.count }) else None
-
--- what is put of a text, by its answer
-abbrev pub PrintsAs : PartEnding → (text : List ℕ) → (old new : ConsoleState) → Type 0
-PrintsAs Done text old new = Puts Out text old new
-PrintsAs (Usage fault) text old new = ⊥
-PrintsAs SourceFault text old new = ⊥
-PrintsAs SourceLost text old new = ⊥
-PrintsAs (Unread sector) text old new = ⊥
-PrintsAs (NoSignature sector) text old new = ⊥
-PrintsAs Protective text old new = ⊥
-PrintsAs NoPartition text old new = ⊥
-PrintsAs ChainTooLong text old new = ⊥
-PrintsAs ConsoleFault text old new = PutsPart Out text old new
-PrintsAs NoMemory text old new = ⊥

@@ -1,10 +1,11 @@
 //! The chain of records within an extended partition.
 ghost use Rattle.std.specs.Prelude.{◌≡◌, ℕ, ◌-◌, ◌<◌, ◌≤◌, ◌^◌, List, true, OnOk, IfOk, IfErr};
 ghost use Rattle.faulty_source.specs.SourceState.{Stays};
-ghost use Rattle.partition_domain.specs.Steps.{LeadsToChain, IsNear, LeadsNear, SearchesBehind, StopCounts, Turns, leads, link_past};
+ghost use Rattle.partition_domain.specs.Reads.{losses_after};
+ghost use Rattle.partition_domain.specs.Steps.{LeadsToChain, IsNear, LeadsNear, SearchesBehind, Turns, leads, link_past};
 
-use crate::ending::PartEnding;
 use crate::read::read_table;
+use crate::stop::{Refusal, SearchStop};
 use crate::table::{Partition, Table, TableEntry};
 use faulty_source::source::Source;
 
@@ -75,7 +76,7 @@ fn pass(chain: Chain, table: &Table, k: u64) -> Link
 }
 
 /// Reads the next record of a chain.
-fn turn<S: Source>(source: &mut S, chain: Chain, k: u64) -> Result<Link, PartEnding>
+fn turn<S: Source>(source: &mut S, chain: Chain, k: u64) -> Result<Link, SearchStop>
     requires opened { (S.state source.old).is_open ≡ true }
     requires near { IsNear k chain }
     requires more { chain.read < 128 }
@@ -83,7 +84,7 @@ fn turn<S: Source>(source: &mut S, chain: Chain, k: u64) -> Result<Link, PartEnd
         → Turns k main chain chain_read result (S.state source.old) (S.state source.new) }
     ensures stays { Stays (S.state source.old) (S.state source.new) }
     ensures kept { OnOk result ((S.state source.new).losses ≡ (S.state source.old).losses) }
-    ensures cause { IfErr result (λ e. StopCounts e (S.state source.old).losses (S.state source.new).losses) }
+    ensures cause { IfErr result (λ stop. (S.state source.new).losses ≡ losses_after stop (S.state source.old).losses) }
     ensures near { IfOk result (λ link. LeadsNear k chain link) }
 {
     match read_table(source, chain.at) {
@@ -97,14 +98,14 @@ pub(crate) fn follow_chain<S: Source>(
     source: &mut S,
     base: u32,
     k: u64,
-) -> Result<Partition, PartEnding>
+) -> Result<Partition, SearchStop>
     requires opened { (S.state source.old).is_open ≡ true }
     requires logical { 5 ≤ k }
     ensures searches { (main : List ℕ) → LeadsToChain main base
         → SearchesBehind k main result (S.state source.old) (S.state source.new) }
     ensures stays { Stays (S.state source.old) (S.state source.new) }
     ensures kept { OnOk result ((S.state source.new).losses ≡ (S.state source.old).losses) }
-    ensures cause { IfErr result (λ e. StopCounts e (S.state source.old).losses (S.state source.new).losses) }
+    ensures cause { IfErr result (λ stop. (S.state source.new).losses ≡ losses_after stop (S.state source.old).losses) }
     ensures near { IfOk result (λ p. (p.first < 2 ^ 34) × (p.count < 2 ^ 32)) }
 {
     let mut chain = Chain {
@@ -117,9 +118,9 @@ pub(crate) fn follow_chain<S: Source>(
         match turn(source, chain, k) {
             Ok(Link::Found(partition)) => return Ok(partition),
             Ok(Link::On(next)) => chain = next,
-            Ok(Link::End) => return Err(PartEnding::NoPartition),
+            Ok(Link::End) => return Err(SearchStop::Refused(Refusal::NoPartition)),
             Err(stop) => return Err(stop),
         }
     }
-    Err(PartEnding::ChainTooLong)
+    Err(SearchStop::Refused(Refusal::ChainTooLong))
 }

@@ -1,10 +1,10 @@
 //! The map of a partition, and its text.
-ghost use Rattle.std.specs.Prelude.{◌≡◌, ◌<◌, ◌≤◌, ◌^◌, [], IfOk};
+ghost use Rattle.std.specs.Prelude.{◌≡◌, ◌<◌, ◌≤◌, ◌^◌, [], IfOk, OnOk, OnErr};
+ghost use Rattle.rescue_console.specs.declared.console.Channel.TheVariants.{Out};
+ghost use Rattle.rescue_console.specs.ConsoleState.{Puts, PutsPart};
 ghost use Rattle.mapfile_text.specs.Printed.{printed};
 ghost use Rattle.partition_domain.specs.DomainMap.{domain_map, shown_state};
-ghost use Rattle.partition_domain.specs.Steps.{PrintsAs};
 
-use crate::ending::PartEnding;
 use crate::table::{Partition, SECTOR};
 use block_list::plain_tiles::PlainTiles;
 use block_list::status::Status;
@@ -19,7 +19,7 @@ use std::alloc::Global;
 const ROOM: usize = 3;
 
 /// An empty map with room for that of any partition, so that none is wanted once the input was read.
-pub(crate) fn make_room(alloc: Global) -> Result<PlainTiles, NoMemory>
+pub fn make_room(alloc: Global) -> Result<PlainTiles, NoMemory>
     ensures empty { IfOk result (λ t. t.statuses ≡ []) }
     ensures room { IfOk result (λ t. 3 ≤ t.spare) }
 {
@@ -46,20 +46,26 @@ fn mark(tiles: &mut PlainTiles, partition: Partition, length: u64)
 }
 
 /// Prints the map of a partition.
-pub(crate) fn print_domain<P: Console>(
+///
+/// # Errors
+///
+/// `ConsoleFault` if a put failed; a beginning of the map was put then.
+pub fn print_domain<P: Console>(
     console: &mut P,
     heading: &Heading,
     mut tiles: PlainTiles,
     partition: Partition,
     length: u64,
-) -> PartEnding
+) -> Result<(), ConsoleFault>
     requires empty { tiles.statuses ≡ [] }
     requires room { 3 ≤ tiles.spare }
     requires first { partition.first < 2 ^ 34 }
     requires count { partition.count < 2 ^ 32 }
     requires short { length < 2 ^ 63 }
-    ensures { PrintsAs result (printed heading.now shown_state (domain_map length partition))
-        (P.state console.old) (P.state console.new) }
+    ensures put { OnOk result (Puts Out (printed heading.now shown_state (domain_map length partition))
+        (P.state console.old) (P.state console.new)) }
+    ensures fault { OnErr result (PutsPart Out (printed heading.now shown_state (domain_map length partition))
+        (P.state console.old) (P.state console.new)) }
 {
     mark(&mut tiles, partition, length);
     let state = MapState {
@@ -67,8 +73,5 @@ pub(crate) fn print_domain<P: Console>(
         current: Current::Finished,
         pass: 1,
     };
-    match put_map(console, heading, state, &tiles) {
-        Ok(()) => PartEnding::Done,
-        Err(ConsoleFault) => PartEnding::ConsoleFault,
-    }
+    put_map(console, heading, state, &tiles)
 }

@@ -3,11 +3,12 @@ ghost use Rattle.std.specs.Prelude.{◌≡◌, ◌<◌, ◌≤◌, ◌^◌, true
 ghost use Rattle.std.specs.List.{list_any};
 ghost use Rattle.faulty_source.specs.SourceState.{Stays};
 ghost use Rattle.partition_domain.specs.Table.{is_extended, is_protective};
-ghost use Rattle.partition_domain.specs.Steps.{Searches, StopCounts, partition_at};
+ghost use Rattle.partition_domain.specs.Reads.{losses_after};
+ghost use Rattle.partition_domain.specs.Steps.{Searches, partition_at};
 
 use crate::chain::follow_chain;
-use crate::ending::PartEnding;
 use crate::read::read_table;
+use crate::stop::{Refusal, SearchStop};
 use crate::table::{Partition, Table, TableEntry};
 use faulty_source::source::Source;
 
@@ -53,13 +54,13 @@ fn partition_at(table: &Table, k: u64) -> Option<Partition>
 /// # Errors
 ///
 /// `SourceLost`; `Unread` and `NoSignature` of a record; `Protective`; `NoPartition`; `ChainTooLong`.
-pub(crate) fn find_partition<S: Source>(source: &mut S, k: u64) -> Result<Partition, PartEnding>
+pub fn find_partition<S: Source>(source: &mut S, k: u64) -> Result<Partition, SearchStop>
     requires opened { (S.state source.old).is_open ≡ true }
     requires counted { 1 ≤ k }
     ensures searches { Searches k result (S.state source.old) (S.state source.new) }
     ensures stays { Stays (S.state source.old) (S.state source.new) }
     ensures kept { OnOk result ((S.state source.new).losses ≡ (S.state source.old).losses) }
-    ensures cause { IfErr result (λ e. StopCounts e (S.state source.old).losses (S.state source.new).losses) }
+    ensures cause { IfErr result (λ stop. (S.state source.new).losses ≡ losses_after stop (S.state source.old).losses) }
     ensures near { IfOk result (λ p. (p.first < 2 ^ 34) × (p.count < 2 ^ 32)) }
 {
     let main = match read_table(source, 0) {
@@ -67,16 +68,16 @@ pub(crate) fn find_partition<S: Source>(source: &mut S, k: u64) -> Result<Partit
         Err(stop) => return Err(stop),
     };
     if is_protected(&main) {
-        return Err(PartEnding::Protective);
+        return Err(SearchStop::Refused(Refusal::Protective));
     }
     if k <= PRIMARIES {
         return match partition_at(&main, k) {
             Some(partition) => Ok(partition),
-            None => Err(PartEnding::NoPartition),
+            None => Err(SearchStop::Refused(Refusal::NoPartition)),
         };
     }
     match find_extended(&main) {
         Some(entry) => follow_chain(source, entry.first, k),
-        None => Err(PartEnding::NoPartition),
+        None => Err(SearchStop::Refused(Refusal::NoPartition)),
     }
 }

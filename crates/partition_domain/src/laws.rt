@@ -1,12 +1,7 @@
 //! What the definitions mean.
-ghost use Rattle.partition_domain.specs.Laws.{HasOneVerdict, IsBroughtUnless};
+ghost use Rattle.partition_domain.specs.Laws.{HasOneAnswer};
 
-/// What a disk gives at each place brings one verdict at most.
-pub fn disks_have_one_verdict()
-    ensures { HasOneVerdict }
-{}
-
-/// Nothing else is answered than what the records bring, a refusal of words, a failure or want of memory.
-pub fn nothing_else_is_answered()
-    ensures { IsBroughtUnless }
+/// What a disk gives at each place brings one answer at most.
+pub fn disks_have_one_answer()
+    ensures { HasOneAnswer }
 {}

@@ -1,14 +1,11 @@
-//! The map of one partition, which a rescue takes as its domain: from the words of the command line and the records of
-//! a disk's partition table to the text of the map.
+//! The partitions of a disk: the records of its partition table, the search for one partition by its number, and the map
+//! of a partition, which a rescue takes as its domain.
 #![tactic(auto)]
 
 pub mod chain;
-pub mod command;
-mod domain;
-pub mod ending;
-mod find;
+pub mod domain;
+pub mod find;
 pub mod laws;
-mod message;
-pub mod part;
 mod read;
+pub mod stop;
 pub mod table;

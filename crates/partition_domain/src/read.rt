@@ -1,9 +1,10 @@
 //! Reads a record.
 ghost use Rattle.std.specs.Prelude.{◌≡◌, ◌<◌, ◌^◌, true, OnOk, IfErr};
 ghost use Rattle.faulty_source.specs.SourceState.{Stays};
-ghost use Rattle.partition_domain.specs.Steps.{ReadsTable, StopCounts};
+ghost use Rattle.partition_domain.specs.Reads.{losses_after};
+ghost use Rattle.partition_domain.specs.Steps.{ReadsTable};
 
-use crate::ending::PartEnding;
+use crate::stop::{Refusal, SearchStop};
 use crate::table::{SECTOR, Table, has_signature, read_entries};
 use faulty_source::source::Source;
 
@@ -12,23 +13,23 @@ use faulty_source::source::Source;
 /// # Errors
 ///
 /// `SourceLost`; `Unread` where the read gave less than a sector; `NoSignature` where the sector isn't a record.
-pub(crate) fn read_table<S: Source>(source: &mut S, sector: u64) -> Result<Table, PartEnding>
+pub(crate) fn read_table<S: Source>(source: &mut S, sector: u64) -> Result<Table, SearchStop>
     requires opened { (S.state source.old).is_open ≡ true }
     requires near { sector < 2 ^ 34 }
     ensures read { ReadsTable sector result (S.state source.old) (S.state source.new) }
     ensures stays { Stays (S.state source.old) (S.state source.new) }
     ensures kept { OnOk result ((S.state source.new).losses ≡ (S.state source.old).losses) }
-    ensures cause { IfErr result (λ e. StopCounts e (S.state source.old).losses (S.state source.new).losses) }
+    ensures cause { IfErr result (λ stop. (S.state source.new).losses ≡ losses_after stop (S.state source.old).losses) }
 {
     let mut record = [0u8; SECTOR];
     let Ok(got) = source.read_at(sector * SECTOR as u64, &mut record) else {
-        return Err(PartEnding::SourceLost);
+        return Err(SearchStop::SourceLost);
     };
     if got.count() < SECTOR {
-        return Err(PartEnding::Unread { sector });
+        return Err(SearchStop::Refused(Refusal::Unread { sector }));
     }
     if !has_signature(&record) {
-        return Err(PartEnding::NoSignature { sector });
+        return Err(SearchStop::Refused(Refusal::NoSignature { sector }));
     }
     Ok(read_entries(&record))
 }

@@ -4,10 +4,11 @@ use Rattle.std.proofs.lemmas.List.{append-nil}
 use Rattle.std.proofs.lemmas.Grind.{flat_map-append}
 use Rattle.block_list.specs.declared.status.Status.{Status}
 use Rattle.rescue_console.specs.ConsoleState.{ConsoleState, TextGoesOn}
-use Rattle.plan_command.specs.Command.{Command, ArePlain}
+use Rattle.ddrescueplan_words.specs.Command.{Command, ArePlain}
 use Rattle.plan_source.specs.Lines.{PlannedRead, line_of, lines_of}
-use Rattle.rescue_plan.specs.declared.ending.PlanEnding.{PlanEnding}
-use Rattle.rescue_plan.specs.declared.ending.PlanEnding.TheVariants.{Done, Usage, NoMap, MapRefused, SiteFault, ConsoleFault, NoMemory}
+use Rattle.plan_source.specs.declared.loss.PlanLoss.TheVariants.{Memory, Console}
+use Rattle.rescue_plan.specs.declared.run.PlanEnd.{PlanEnd}
+use Rattle.rescue_plan.specs.declared.run.PlanEnd.TheVariants.{Whole, Lost}
 use Rattle.rescue_plan.specs.Plan.{IsPlan, plan_setting}
 use Rattle.rescue_plan.specs.Running.{PutsPlan, PutsFirst, PutsPlanBroken}
 use Rattle.rescue_plan.specs.Laws.{PlanIsBegun}
@@ -51,20 +52,16 @@ module _ (c : Command) (test : List Status) (old new : ConsoleState) (reads : Li
         is = g.is ∙ append_assoc old.out.text (lines_of p.reads) g.part;
       }
 
-  by_answer : (e : PlanEnding) → PutsPlan c test e old new → Begun
-  by_answer Done p = record {
+  by_end : (end : PlanEnd) → PutsPlan c test end old new → Begun
+  by_end Whole p = record {
     part = lines_of p.reads;
     left = [];
     split = append-nil (lines_of p.reads)
         ∙ ap lines_of ((plan_is_one c.options.rescue c.length test reads plain plan).alone p.reads p.plan);
     is = p.puts.whole tells;
   }
-  by_answer (Usage fault) p = absurd p
-  by_answer NoMap p = absurd p
-  by_answer (MapRefused error) p = absurd p
-  by_answer (SiteFault call) p = absurd p
-  by_answer ConsoleFault p = broken_begun p
-  by_answer NoMemory p = first_begun p
+  by_end (Lost Memory) p = first_begun p
+  by_end (Lost Console) p = broken_begun p
 
 pub plan_is_begun : PlanIsBegun
-plan_is_begun c test e old new reads plain puts plan tells = by_answer c test old new reads plain plan tells e puts
+plan_is_begun c test end old new reads plain puts plan tells = by_end c test old new reads plain plan tells end puts

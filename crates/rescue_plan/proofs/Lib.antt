@@ -2,4 +2,3 @@ mod SimilarLemmas
 mod PlanLemmas
 mod BegunLemmas
 mod RunLemmas
-mod PromiseLemmas

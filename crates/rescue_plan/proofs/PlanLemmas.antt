@@ -1,5 +1,5 @@
 -- There is one plan at most, and what a rescue reads in test mode is the plan's.
-use Rattle.std.proofs.Common.{◌≡◌, ℕ, ◌+◌, ◌<◌, ◌≤◌, min, Bool, true, false, cond, ◌&&◌, nat_eq, nat_lt, is_none, List, [], ◌∷◌, ◌++◌, length, map, take, replicate, All, Option, Some, None, slice_get, refl, sym, ap, subst, ◌∙◌, arith, append_assoc, length-append}
+use Rattle.std.proofs.Common.{◌≡◌, ℕ, ◌+◌, ◌≤◌, true, false, nat_eq, nat_lt, is_none, List, [], ◌∷◌, ◌++◌, length, map, take, All, None, slice_get, refl, sym, ap, subst, ◌∙◌, arith, length-append}
 use Rattle.std.proofs.lemmas.Bool.Decides.{nat_tests}
 use Rattle.std.proofs.lemmas.Bool.{and_parts, cond_both}
 use Rattle.std.proofs.lemmas.List.{append-nil, length-take-le, nil_from_length}
@@ -10,7 +10,7 @@ use Rattle.rescue_domain.specs.Testing.{finished_front, seen}
 use Rattle.rescue_domain.proofs.TestingLemmas.{front_is}
 use Rattle.rescue_rules.specs.Setting.{Setting}
 use Rattle.rescue_rules.specs.Passes.{Pass}
-use Rattle.rescue_rules.specs.Machine.{Machine, is_live, is_wanted, has_taken, has_request, IsRequest}
+use Rattle.rescue_rules.specs.Machine.{Machine, is_live, has_taken, IsRequest}
 use Rattle.rescue_rules.specs.Step.{Event, limit_met}
 use Rattle.rescue_rules.specs.Moves.{ready, move_of, state_after, IsRun, no_pass_left, has_ended}
 use Rattle.rescue_rules.specs.Beginning.{machine_over}
@@ -22,7 +22,7 @@ use Rattle.rescue_command.specs.declared.options.Options.{Options}
 use Rattle.rescue_command.proofs.CommandLemmas.{not_above}
 use Rattle.rescue_sample.specs.Line.{IsStill}
 use Rattle.task_files.specs.Asked.{setting_of}
-use Rattle.plan_command.specs.Command.{ArePlain}
+use Rattle.ddrescueplan_words.specs.Command.{ArePlain}
 use Rattle.plan_source.specs.Lines.{PlannedRead, planned}
 use Rattle.rescue_plan.specs.Plan.{IsPlannedIn, BeginsPlan, IsPlan, untried_map, plan_setting, plan_start}
 use Rattle.rescue_plan.specs.Laws.{BeginWith, PlanIsOne, RescuesArePlanned}

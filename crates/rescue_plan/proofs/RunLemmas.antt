@@ -1,5 +1,5 @@
 -- What the run of a plan puts.
-use Rattle.std.proofs.Common.{rules, ◌≡◌, ℕ, ◌+◌, ◌-◌, ◌<◌, ◌≤◌, min, Bool, true, false, cond, ◌&&◌, nat_eq, nat_lt, is_some, IsTrue, List, [], ◌∷◌, ◌++◌, length, map, replicate, All, Option, Some, None, refl, sym, ap, subst, ◌∙◌, arith}
+use Rattle.std.proofs.Common.{rules, ◌≡◌, ℕ, ◌+◌, ◌≤◌, Bool, true, false, ◌&&◌, nat_eq, nat_lt, is_some, IsTrue, List, [], ◌∷◌, ◌++◌, length, map, All, Option, Some, None, refl, sym, ap, subst, ◌∙◌, arith}
 use Rattle.std.proofs.Math.Path.{fun_ext}
 use Rattle.std.proofs.lemmas.Bool.{and_parts}
 use Rattle.std.proofs.lemmas.Bool.Decides.{nat_tests}
@@ -38,14 +38,14 @@ use Rattle.rescue_core.specs.RunState.{RunState, names_in, setting_with, setting
 use Rattle.rescue_command.specs.declared.options.Options.{Options}
 use Rattle.task_files.specs.Asked.{domain_asked, no_maps}
 use Rattle.task_files.specs.Settings.{settings_by}
-use Rattle.plan_command.specs.Command.{Command, AreInLimits}
+use Rattle.ddrescueplan_words.specs.Command.{Command, AreInLimits}
 use Rattle.plan_source.specs.declared.loss.PlanLoss.{PlanLoss}
 use Rattle.plan_source.specs.declared.loss.PlanLoss.TheVariants.{Memory, Console}
 use Rattle.plan_source.specs.Lines.{PlannedRead, planned, planned_entry, line_of, lines_of, line_of_entry, lines_of_entries}
 use Rattle.plan_source.specs.Printing.{BreaksLast, HasPrinted, PutsBehind}
-use Rattle.plan_source.specs.Answering.{IsSeenIn, there, given_at, meets_end, reading_of, plan_source_state}
-use Rattle.rescue_plan.specs.Plan.{IsPlannedIn, BeginsPlan, IsPlan, untried_map, plan_setting, plan_start}
-use Rattle.rescue_plan.specs.Running.{BeginsPlannedRun, PutsPlan, PutsPlanWhole, PutsFirst, PutsPlanBroken, ending_by}
+use Rattle.plan_source.specs.Answering.{IsSeenIn, there, given_at, reading_of, plan_source_state}
+use Rattle.rescue_plan.specs.Plan.{IsPlannedIn, BeginsPlan, untried_map, plan_setting, plan_start}
+use Rattle.rescue_plan.specs.Running.{BeginsPlannedRun, PutsPlan, PutsPlanWhole, PutsFirst, PutsPlanBroken, end_by}
 use Rattle.plan_source.proofs.PrintingLemmas.{ends_with, puts_broken}
 use Rattle.rescue_plan.proofs.PlanLemmas.{begins_by, plan_by, unlimited}
 
@@ -234,7 +234,7 @@ module _ (c : Command) (limits : AreInLimits c) (r : RunState) (is : BeginsPlann
   -- by why reads behind it are lost, and how the run ended
   pub plan_put : (lost : Option PlanLoss) (end : RunEnd) (spare : ℕ) (calls : List Entry)
       → Ends (setting_in r) r.machine es spare calls end → HasPrinted start now entries lost
-      → PutsPlan c test (ending_by lost end) start now
+      → PutsPlan c test (end_by lost end) start now
   plan_put None RunDone spare calls ends h =
       put_whole (h.whole refl) (done_over (setting_in r) r.machine es spare calls ends)
   plan_put None (Stopped stop) spare calls ends h = put_first (h.whole refl)
@@ -283,7 +283,7 @@ pub run_puts : (c : Command) (limits : AreInLimits c) (r : RunState) (is : Begin
     → Stays old (plan_source_state len' test' reference' entries name (opened && idle) opens faults losses)
     → (IsTrue old.tells → map reading_of entries ≡ old.journal ++ reads_of es)
     → All (IsSeenIn len' test') entries → (start now : ConsoleState) → (idle ≡ true → HasPrinted start now entries lost)
-    → PutsPlan c test (ending_by lost end) start now
+    → PutsPlan c test (end_by lost end) start now
 run_puts c limits r is end es run spare calls ends len len' size test test' reference reference' entries name opened idle
     opens faults losses lost old was stays read seen start now printed =
     let b : IsBehind len len' test test' (opened && idle) entries (reads_of es) =

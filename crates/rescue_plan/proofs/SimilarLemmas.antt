@@ -1,13 +1,12 @@
 -- Runs in which reads give as much, whatever bytes, go the same way at whatever times, where no read is slow and there is
 -- no limit.
-use Rattle.std.proofs.Common.{◌≡◌, ◌≢◌, ℕ, ◌+◌, ◌-◌, ◌*◌, ◌/◌, min, Bool, true, false, not, cond, ◌&&◌, ◌||◌, nat_eq, nat_le, nat_lt, ◌≤◌, is_none, List, [], ◌∷◌, length, drop, map, All, Option, Some, None, if◌then◌else◌, refl, sym, ap, subst, ◌∙◌, arith}
+use Rattle.std.proofs.Common.{◌≡◌, ℕ, ◌+◌, ◌-◌, ◌*◌, min, Bool, true, false, not, cond, ◌&&◌, ◌||◌, nat_eq, nat_le, nat_lt, ◌≤◌, is_none, List, [], ◌∷◌, length, drop, Option, Some, None, if◌then◌else◌, refl, sym, ap, subst, ◌∙◌, arith}
 use Rattle.std.proofs.lemmas.Bool.Decides.{nat_tests}
 use Rattle.std.proofs.lemmas.Bool.{and_parts}
-use Rattle.std.proofs.lemmas.List.Elements.{All-nil, All-cons, All-head, All-tail}
+use Rattle.std.proofs.lemmas.List.Elements.{All-nil, All-cons}
 use Rattle.block_list.specs.declared.status.Status.{Status}
 use Rattle.block_list.specs.declared.status.Status.TheVariants.{Finished}
 use Rattle.block_list.specs.Map.{marked}
-use Rattle.mapfile_text.specs.declared.state.MapState.{MapState}
 use Rattle.faulty_source.specs.Journal.{Reading, floor}
 use Rattle.rescue_rules.specs.declared.stop.TrimMode.TheVariants.{Lead}
 use Rattle.rescue_rules.specs.declared.stop.Limit.{Limit}
@@ -17,10 +16,8 @@ use Rattle.rescue_rules.specs.Passes.{Pass, is_up}
 use Rattle.rescue_rules.specs.Beginning.{nothing_shown}
 use Rattle.rescue_rules.specs.Machine.{Machine, pass_of, is_wanted, IsRequest, has_request}
 use Rattle.rescue_rules.specs.Step.{Event, is_copying, is_trimming, is_slow, rest_status, scraped, earlier, mode_after, step, limit_met, exceeds, areas_allowed, areas_of, time_allowed}
-use Rattle.rescue_rules.specs.Moves.{Move, begun, ended, at_next, ready, move_of, moves, state_after, IsMove, IsRun, no_pass_left, has_ended}
-use Rattle.rescue_rules.specs.Events.{reads_of}
+use Rattle.rescue_rules.specs.Moves.{begun, at_next, ready, move_of, moves, state_after, IsMove, IsRun, no_pass_left, has_ended}
 use Rattle.rescue_rules.proofs.MoveLemmas.{run_first, run_rest}
-use Rattle.save_resume.specs.MapNames.{MapNames}
 use Rattle.rescue_core.specs.RunState.{names_in}
 
 -- a setting without the names of files

@@ -1,5 +1,5 @@
 -- What the definitions mean.
-use Rattle.std.specs.Prelude.{◌≡◌, ⊤, ℕ, ◌-◌, ◌^◌, ◌<◌, true, false, IsTrue, List, ◌++◌, map, All, None}
+use Rattle.std.specs.Prelude.{◌≡◌, ℕ, true, false, IsTrue, List, ◌++◌, map, All, None}
 use Rattle.block_list.specs.declared.status.Status.{Status}
 use Rattle.faulty_source.specs.Journal.{Reading, is_whole}
 use Rattle.rescue_domain.specs.Testing.{seen}
@@ -13,11 +13,8 @@ use Rattle.rescue_console.specs.ConsoleState.{ConsoleState, TextGoesOn}
 use Rattle.rescue_command.specs.declared.options.Options.{Options}
 use Rattle.rescue_command.specs.Command.{Command as RescueCommand}
 use Rattle.task_files.specs.Asked.{setting_of, no_maps}
-use Rattle.plan_command.specs.Command.{Command, Asks, ArePlain}
-use Rattle.rescue_plan.specs.declared.ending.PlanEnding.{PlanEnding}
-use Rattle.rescue_plan.specs.declared.ending.PlanEnding.TheVariants.{Done, Usage, NoMap, MapRefused, SiteFault, ConsoleFault, NoMemory}
-use Rattle.rescue_plan.specs.Told.{Told}
-use Rattle.rescue_plan.specs.Ddrescueplan.{Ddrescueplan}
+use Rattle.ddrescueplan_words.specs.Command.{Command, ArePlain}
+use Rattle.rescue_plan.specs.declared.run.PlanEnd.{PlanEnd}
 use Rattle.rescue_plan.specs.Running.{PutsPlan}
 use Rattle.plan_source.specs.Lines.{PlannedRead, planned, lines_of}
 use Rattle.rescue_plan.specs.Plan.{untried_map, plan_setting, BeginsPlan, IsPlan}
@@ -36,10 +33,10 @@ abbrev pub PlanIsOne : Type 0
 PlanIsOne = (o : Options) (length : ℕ) (test : List Status) (reads : List PlannedRead) → ArePlain o
     → IsPlan (plan_setting o length) length test reads → IsOnePlan (plan_setting o length) length test reads
 
--- Where there is a plan, what its run put on standard output is a beginning of its lines, whatever the answer.
+-- Where there is a plan, what its run put on standard output is a beginning of its lines, however it ended.
 abbrev pub PlanIsBegun : Type 0
-PlanIsBegun = (c : Command) (test : List Status) (e : PlanEnding) (old new : ConsoleState) (reads : List PlannedRead)
-    → ArePlain c.options.rescue → PutsPlan c test e old new
+PlanIsBegun = (c : Command) (test : List Status) (end : PlanEnd) (old new : ConsoleState) (reads : List PlannedRead)
+    → ArePlain c.options.rescue → PutsPlan c test end old new
     → IsPlan (plan_setting c.options.rescue c.length) c.length test reads → IsTrue old.tells
     → TextGoesOn (lines_of reads) old.out.text new.out.text
 
@@ -68,25 +65,3 @@ abbrev pub RescuesArePlanned : Type 0
 RescuesArePlanned = (c : RescueCommand) (line : List ℕ) (length time : ℕ) (test : List Status) (raw : List Reading)
     (events : List Event) → ArePlain c.options → RescueReads c line length time test raw events
     → RescueIsPlanned c line length time test events
-
--- no read of the test map and no put on standard output failed, and the counts say so
-pub record NothingFailed (t : Told) : Type 0 where
-  pub calls : t.site'.faults ≡ t.site.faults
-  pub puts : t.console'.out.faults ≡ t.console.out.faults
-  pub calls_count : t.site.faults < 2 ^ 64 - 1
-  pub puts_count : t.console.out.faults < 2 ^ 64 - 1
-
--- an answer that no failure brings
-abbrev pub IsNoFault : PlanEnding → Type 0
-IsNoFault Done = ⊤
-IsNoFault (Usage fault) = ⊥
-IsNoFault NoMap = ⊤
-IsNoFault (MapRefused error) = ⊤
-IsNoFault (SiteFault call) = ⊥
-IsNoFault ConsoleFault = ⊥
-IsNoFault NoMemory = ⊤
-
--- Where the words ask for something and nothing failed, the test map is refused, or the whole plan is put unless memory
--- runs out.
-abbrev pub IsPutUnless : Type 0
-IsPutUnless = (t : Told) (c : Command) → Ddrescueplan t → Asks t.words c → NothingFailed t → IsNoFault t.answer

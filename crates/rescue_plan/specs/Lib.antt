@@ -1,9 +1,3 @@
 pub mod Plan
 pub mod Running
-pub mod Names
-pub mod Answers
-pub mod Messages
-pub mod Work
-pub mod Told
-pub mod Ddrescueplan
 pub mod Laws

@@ -8,9 +8,9 @@ use Rattle.rescue_rules.specs.declared.stop.RunEnd.TheVariants.{Done as RunDone,
 use Rattle.rescue_core.specs.RunState.{RunState}
 use Rattle.task_rescue.specs.Running.{IsRunOver}
 use Rattle.task_files.specs.Asked.{no_maps}
-use Rattle.plan_command.specs.Command.{Command, AreInLimits}
-use Rattle.rescue_plan.specs.declared.ending.PlanEnding.{PlanEnding}
-use Rattle.rescue_plan.specs.declared.ending.PlanEnding.TheVariants.{Done, Usage, NoMap, MapRefused, SiteFault, ConsoleFault, NoMemory}
+use Rattle.ddrescueplan_words.specs.Command.{Command, AreInLimits}
+use Rattle.rescue_plan.specs.declared.run.PlanEnd.{PlanEnd}
+use Rattle.rescue_plan.specs.declared.run.PlanEnd.TheVariants.{Whole, Lost}
 use Rattle.plan_source.specs.declared.loss.PlanLoss.{PlanLoss}
 use Rattle.plan_source.specs.declared.loss.PlanLoss.TheVariants.{Memory, Console}
 use Rattle.plan_source.specs.Lines.{PlannedRead, line_of, lines_of}
@@ -29,13 +29,12 @@ pub record IsBegun (length : ℕ) (r : RunState) : Type 0 where
   pub length_is : command.length ≡ length
   pub begins : BeginsPlannedRun command r
 
--- how a plan ended, by why reads behind its run are lost, if they are, and by how that ended
-abbrev pub ending_by : Option PlanLoss → RunEnd → PlanEnding
-ending_by None RunDone = Done
-ending_by None (Stopped stop) = NoMemory
-ending_by None (SaveFailed call earlier) = NoMemory
-ending_by (Some Memory) end = NoMemory
-ending_by (Some Console) end = ConsoleFault
+-- how a plan ended, by why reads after its run are lost, if they are, and by how the run ended
+abbrev pub end_by : Option PlanLoss → RunEnd → PlanEnd
+end_by None RunDone = Whole
+end_by None (Stopped stop) = Lost Memory
+end_by None (SaveFailed call earlier) = Lost Memory
+end_by (Some loss) end = Lost loss
 
 -- the whole plan that a command asks for over a test map was put, line by line
 pub record PutsPlanWhole (c : Command) (test : List Status) (old new : ConsoleState) : Type 0 where
@@ -56,12 +55,8 @@ pub record PutsPlanBroken (c : Command) (test : List Status) (old new : ConsoleS
   pub first : BeginsPlan (plan_setting c.options.rescue c.length) c.length test (reads ++ next ∷ [])
   pub puts : PutsBehind (lines_of reads) (line_of next) old new
 
--- what is put on standard output by the answer of a run
-abbrev pub PutsPlan : Command → List Status → PlanEnding → (old new : ConsoleState) → Type 0
-PutsPlan c test Done old new = PutsPlanWhole c test old new
-PutsPlan c test (Usage fault) old new = ⊥
-PutsPlan c test NoMap old new = ⊥
-PutsPlan c test (MapRefused error) old new = ⊥
-PutsPlan c test (SiteFault call) old new = ⊥
-PutsPlan c test ConsoleFault old new = PutsPlanBroken c test old new
-PutsPlan c test NoMemory old new = PutsFirst c test old new
+-- what is put on standard output, by how the plan ended
+abbrev pub PutsPlan : Command → List Status → PlanEnd → (old new : ConsoleState) → Type 0
+PutsPlan c test Whole old new = PutsPlanWhole c test old new
+PutsPlan c test (Lost Memory) old new = PutsFirst c test old new
+PutsPlan c test (Lost Console) old new = PutsPlanBroken c test old new

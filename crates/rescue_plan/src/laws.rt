@@ -1,12 +1,12 @@
 //! What the definitions mean.
-ghost use Rattle.rescue_plan.specs.Laws.{IsPutUnless, PlanIsBegun, PlanIsOne, RescuesArePlanned};
+ghost use Rattle.rescue_plan.specs.Laws.{PlanIsBegun, PlanIsOne, RescuesArePlanned};
 
 /// A plan begins with the first reads of it, however many they are, and so there is one plan at most.
 pub fn a_plan_is_one()
     ensures { PlanIsOne }
 {}
 
-/// What the run of a plan put is a beginning of the plan's lines, whatever its answer.
+/// What the run of a plan put is a beginning of the plan's lines, however it ended.
 pub fn a_plan_is_begun()
     ensures { PlanIsBegun }
 {}
@@ -15,9 +15,4 @@ pub fn a_plan_is_begun()
 /// the same options, and all of it where no request is left.
 pub fn a_rescue_is_planned()
     ensures { RescuesArePlanned }
-{}
-
-/// Where nothing failed, the whole plan over a test map is put unless memory runs out.
-pub fn a_plan_is_put()
-    ensures { IsPutUnless }
 {}

@@ -2,14 +2,14 @@
 ghost use Rattle.std.specs.Prelude.{◌≡◌, ◌<◌, ◌^◌, IfOk};
 ghost use Rattle.rescue_command.specs.Command.{AreInLimits as AreOptionsInLimits};
 ghost use Rattle.task_files.specs.Settings.{settings_by};
-ghost use Rattle.plan_command.specs.Command.{AreInLimits, told_by};
+ghost use Rattle.ddrescueplan_words.specs.Command.{AreInLimits, told_by};
 ghost use Rattle.rescue_plan.specs.Running.{BeginsPlannedRun, untried_map};
 
 use block_list::plain_tiles::PlainTiles;
 use block_list::tiles::{NoMemory, Tiles};
+use ddrescueplan_words::command::Command;
 use mapfile_text::heading::{Heading, Program};
 use paged_blocks::paged_tiles::PagedTiles;
-use plan_command::command::Command;
 use rescue_command::options::Options;
 use rescue_core::phases::{Copying, Rescue};
 use rescue_core::prepare::prepare;
@@ -56,7 +56,7 @@ fn blank_map(alloc: Global, length: u64) -> Result<RunMap, NoMemory>
 
 /// The rescue that a command asks for, at its start, with all that it wants memory for but its journal. It says nothing,
 /// has no mapfile, and begins at the time 0.
-pub(crate) fn make_rescue(
+pub fn make_rescue(
     alloc: Global,
     command: &Command<'_>,
 ) -> Result<Rescue<Copying, RunMap>, NoMemory>

@@ -1,9 +1,8 @@
 //! The run of a plan: a rescue whose reads are said, and which writes nothing.
-ghost use Rattle.std.specs.Prelude.{◌≡◌, ◌≤◌, ◌^◌, ◌<◌, IsTrue, option_map};
-ghost use Rattle.plan_command.specs.Command.{Command, AreInLimits};
-ghost use Rattle.rescue_plan.specs.Running.{BeginsPlannedRun, IsBegun, PutsPlan, ending_by};
+ghost use Rattle.std.specs.Prelude.{◌≡◌, IsTrue};
+ghost use Rattle.ddrescueplan_words.specs.Command.{Command, AreInLimits};
+ghost use Rattle.rescue_plan.specs.Running.{BeginsPlannedRun, IsBegun, PutsPlan, end_by};
 
-use crate::ending::PlanEnding;
 use block_list::tiles::Tiles;
 use crash_site::site::Site;
 use memory_console::memory::{MemoryClock, MemoryConsole};
@@ -17,26 +16,35 @@ use std::alloc::Global;
 use task_files::load::RunMap;
 use task_rescue::run::run_rescue;
 
-/// How a plan ended, by why reads behind its run are lost, if they are, and by how that ended.
-fn ending_of(lost: Option<PlanLoss>, end: RunEnd) -> PlanEnding
-    ensures { result ≡ ending_by lost end }
+/// How the putting of a plan ended.
+#[derive(Clone, Copy, Debug)]
+pub enum PlanEnd {
+    /// The whole plan was put.
+    Whole,
+    /// It was put up to a read that is lost.
+    Lost(PlanLoss),
+}
+
+/// How a plan ended, by why reads after its run are lost, if they are, and by how the run ended.
+fn end_of(lost: Option<PlanLoss>, end: RunEnd) -> PlanEnd
+    ensures { result ≡ end_by lost end }
 {
     match (lost, end) {
-        (Some(PlanLoss::Console), _) => PlanEnding::ConsoleFault,
-        (None, RunEnd::Done) => PlanEnding::Done,
-        _ => PlanEnding::NoMemory,
+        (Some(loss), _) => PlanEnd::Lost(loss),
+        (None, RunEnd::Done) => PlanEnd::Whole,
+        _ => PlanEnd::Lost(PlanLoss::Memory),
     }
 }
 
 /// Makes the run of a rescue over an input of a length, of which that much can be read which is finished in a map, and
 /// says each read.
-pub(crate) fn put_plan<C: Console, T: Tiles, O: Origin>(
+pub fn put_plan<C: Console, T: Tiles, O: Origin>(
     alloc: Global,
     rescue: Rescue<Copying, RunMap>,
     length: u64,
     tiles: T,
     console: &mut C,
-) -> PlanEnding
+) -> PlanEnd
     requires begun { IsBegun length rescue }
     requires known { IsTrue O.is_known }
     requires start { O.start ≡ C.state console.old }
@@ -54,5 +62,5 @@ pub(crate) fn put_plan<C: Console, T: Tiles, O: Origin>(
     let lost = source.lost();
     // The console is the caller's again.
     let _console = source.into_console();
-    ending_of(lost, closed.end)
+    end_of(lost, closed.end)
 }

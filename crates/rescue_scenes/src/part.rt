@@ -1,11 +1,11 @@
 //! A run of ddrescuepart.
 use crate::refusal::Refusal;
 use crate::results::{append_console, append_ending, append_reads};
+use ddrescuepart_cli::ending::PartEnding;
+use ddrescuepart_cli::part::ddrescuepart;
 use memory_console::memory::MemoryConsole;
 use memory_source::memory::MemorySource;
 use option_words::words::Words;
-use partition_domain::ending::PartEnding;
-use partition_domain::part::ddrescuepart;
 use std::alloc::Global;
 
 /// Runs ddrescuepart, and adds its results. Where it finds no memory there is no answer: a scene can't ask for that.
@@ -23,5 +23,8 @@ pub(crate) fn play_part(
     }
     append_reads(out, source.journal().get(read..).unwrap_or(&[]))?;
     append_console(out, console)?;
-    append_ending(out, &ending, ending.code())
+    match ending {
+        PartEnding::Refused(refusal) => append_ending(out, &refusal, ending.code()),
+        _ => append_ending(out, &ending, ending.code()),
+    }
 }

@@ -1,10 +1,10 @@
 //! Runs of ddrescueplan.
 use crate::refusal::Refusal;
+use ddrescueplan_cli::ending::PlanEnding;
+use ddrescueplan_cli::plan::ddrescueplan;
 use memory_console::memory::MemoryConsole;
 use memory_site::memory::MemorySite;
 use option_words::words::Words;
-use rescue_plan::ending::PlanEnding;
-use rescue_plan::plan::ddrescueplan;
 use std::alloc::Global;
 
 /// Runs ddrescueplan. Where it finds no memory there is no answer: a scene can't ask for that.

@@ -1,18 +1,17 @@
 -- A run at its start over a map that wasn't tried.
-use Rattle.std.proofs.Common.{◌≡◌, ℕ, ◌+◌, ◌-◌, ◌<◌, ◌≤◌, ◌^◌, Bool, true, false, List, [], length, Option, None, unwrap_or, refl, sym, ap, subst, ◌∙◌, arith}
+use Rattle.std.proofs.Common.{◌≡◌, ℕ, ◌<◌, ◌≤◌, true, false, List, [], length, Option, None, refl, ap, ◌∙◌, arith}
 use Rattle.std.proofs.lemmas.List.{length-replicate}
-use Rattle.block_list.specs.declared.status.Status.{Status}
 use Rattle.block_list.specs.declared.status.Status.TheVariants.{NonTried}
 use Rattle.mapfile_text.specs.HeadingLines.{HeadingLines}
 use Rattle.rescue_domain.specs.Domain.{whole_domain}
 use Rattle.rescue_domain.specs.Parts.{covers}
 use Rattle.rescue_rules.specs.Preparation.{prepared}
-use Rattle.rescue_core.specs.RunState.{RunState, started}
+use Rattle.rescue_core.specs.RunState.{started}
 use Rattle.rescue_command.specs.declared.options.Options.{Options}
 use Rattle.task_files.specs.Asked.{ArePlacedBy, no_maps}
 use Rattle.task_rescue.proofs.BeginLemmas.{begun_over, shows_nothing, short_made, suits_made}
 use Rattle.task_files.proofs.PlacedLemmas.{sound_settings}
-use Rattle.plan_command.specs.Command.{length_limit}
+use Rattle.ddrescueplan_words.specs.Command.{length_limit}
 use Rattle.rescue_domain.proofs.PlaceLemmas.{whole_from}
 use Rattle.rescue_plan.specs.Plan.{untried_map}
 use Rattle.rescue_plan.proofs.ready.make_rescue.Goals as goal

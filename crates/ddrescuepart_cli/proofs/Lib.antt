@@ -1,0 +1,3 @@
+mod WorkedLemmas
+mod PromiseLemmas
+mod CompleteLemmas

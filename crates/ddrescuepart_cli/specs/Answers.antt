@@ -1,0 +1,50 @@
+-- The row of each answer, from which follows what it says of the words, which count rose, its exit status and its message.
+-- No row stands for several answers.
+use Rattle.std.specs.Prelude.{ℕ, Bool, List, codes}
+use Rattle.fault_texts.specs.Texts.{numbered_text, message_of}
+use Rattle.program_promise.specs.Kinds.{AtOpen, AtRead, AtPut, is_silent_kind}
+use Rattle.program_promise.specs.Rows.{AnswerRow, asked_row, brought_row, failed_row, starved_row, wrong_row}
+use Rattle.partition_domain.specs.declared.stop.Refusal.{Refusal}
+use Rattle.partition_domain.specs.declared.stop.Refusal.TheVariants.{Unread, NoSignature, Protective, NoPartition, ChainTooLong}
+use Rattle.partition_domain.specs.declared.stop.SearchStop.{SearchStop}
+use Rattle.partition_domain.specs.declared.stop.SearchStop.TheVariants.{SourceLost as SearchLost, Refused as SearchRefused}
+use Rattle.ddrescuepart_cli.specs.declared.ending.PartEnding.{PartEnding}
+use Rattle.ddrescuepart_cli.specs.declared.ending.PartEnding.TheVariants.{Done, Usage, SourceFault, SourceLost, Refused, ConsoleFault, NoMemory}
+use Rattle.ddrescuepart_cli.specs.Names.{program_name}
+
+-- the exit status of a refusal, and what is said of it
+abbrev pub said_of : Refusal → ℕ × List ℕ
+said_of (Unread sector) = (2, numbered_text (codes "sector ") sector (codes ": unread"))
+said_of (NoSignature sector) = (2, numbered_text (codes "sector ") sector (codes ": no signature"))
+said_of Protective = (2, codes "protective partition table")
+said_of NoPartition = (1, codes "no such partition")
+said_of ChainTooLong = (2, codes "chain too long")
+
+abbrev pub row_of : PartEnding → AnswerRow
+row_of Done = asked_row 0
+row_of (Usage fault) = wrong_row fault
+row_of SourceFault = failed_row AtOpen (codes "cannot open input")
+row_of SourceLost = failed_row AtRead (codes "input lost")
+row_of (Refused refusal) = brought_row (said_of refusal).0 (said_of refusal).1
+row_of ConsoleFault = failed_row AtPut (codes "cannot write standard output")
+row_of NoMemory = starved_row
+
+-- the answer for a search that stopped
+abbrev pub ending_of : SearchStop → PartEnding
+ending_of SearchLost = SourceLost
+ending_of (SearchRefused refusal) = Refused refusal
+
+-- the exit status
+abbrev pub status_of_ending : PartEnding → ℕ
+status_of_ending e = (row_of e).status
+
+-- nothing is said of an answer, since it is what was asked for
+abbrev pub is_silent : PartEnding → Bool
+is_silent e = is_silent_kind (row_of e).kind
+
+-- what is said of an answer, and the message on standard error
+abbrev pub text_of_ending : PartEnding → List ℕ
+text_of_ending e = (row_of e).text
+
+abbrev pub message : PartEnding → List ℕ
+message e = message_of program_name (text_of_ending e)

@@ -1,0 +1,5 @@
+pub mod Names
+pub mod Answers
+pub mod Work
+pub mod Ddrescuepart
+pub mod Laws

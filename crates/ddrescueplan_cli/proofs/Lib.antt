@@ -1,0 +1,2 @@
+mod WorkedLemmas
+mod PromiseLemmas

@@ -1,0 +1,50 @@
+-- `ddrescueplan` as a program, and its promise.
+use Rattle.std.specs.Prelude.{⊤, ℕ, Bool, List, Option}
+use Rattle.crash_site.specs.Files.{File}
+use Rattle.crash_site.specs.SiteState.{SiteState, Stays}
+use Rattle.rescue_console.specs.ConsoleState.{ConsoleState}
+use Rattle.program_promise.specs.World.{WorldState, no_clock, no_feed, no_source}
+use Rattle.program_promise.specs.WordFaults.{IsPlainFault}
+use Rattle.program_promise.specs.Program.{Program}
+use Rattle.program_promise.specs.Promise.{Told, IsDone, Promise, Worked}
+use Rattle.ddrescueplan_words.specs.Command.{Command, plan_grammar}
+use Rattle.ddrescueplan_cli.specs.declared.ending.PlanEnding.{PlanEnding}
+use Rattle.ddrescueplan_cli.specs.declared.ending.PlanEnding.TheVariants.{Usage}
+use Rattle.ddrescueplan_cli.specs.Names.{program_name}
+use Rattle.ddrescueplan_cli.specs.Answers.{row_of}
+use Rattle.ddrescueplan_cli.specs.Work.{Agrees, LeavesAs, RunsPlan, plan_faults, plan_rows}
+
+-- what it is handed: a site and a console
+abbrev pub handed : SiteState → ConsoleState → WorldState
+handed site console =
+    record { source = no_source; site = site; clock = no_clock; feed_ = no_feed; console = console }
+
+-- Its work finds the test map's file outside of it, and leaves the plan on standard output.
+abbrev pub plan_program : Program Command PlanEnding (Option File)
+plan_program = record {
+  name = program_name;
+  grammar = plan_grammar;
+  HasFault = IsPlainFault;
+  row = row_of;
+  wrong = λ fault. Usage fault;
+  faults = plan_faults;
+  Fits = λ c e. ⊤;
+  rows = plan_rows;
+  Run = λ c file. RunsPlan file;
+  Agrees = λ c file did old new. Agrees c file did old.site new.site;
+  Leaves = λ c line file e did old new. LeavesAs c file e did old new;
+  Begins = λ w. ⊤;
+  Keeps = λ e old new. Stays old.site new.site;
+}
+
+-- what is done for a command
+abbrev pub PlanWorked : Command → (words : List (List ℕ)) → PlanEnding → (old new : WorldState) → Type 0
+PlanWorked c words e old new = Worked plan_program c words e old new
+
+-- what is done before anything is said
+abbrev pub PlanDone : (words : List (List ℕ)) → PlanEnding → (quiet : Bool) → (old new : WorldState) → Type 0
+PlanDone words e quiet old new = IsDone plan_program words e quiet old new
+
+-- What is promised of a call.
+abbrev pub Ddrescueplan : Told PlanEnding → Type 0
+Ddrescueplan t = Promise plan_program t

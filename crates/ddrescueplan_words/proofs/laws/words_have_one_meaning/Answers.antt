@@ -1,0 +1,6 @@
+use Rattle.option_values.proofs.MeaningLemmas.{one_meaning}
+use Rattle.ddrescueplan_words.specs.Command.{plan_grammar}
+use Rattle.ddrescueplan_words.proofs.laws.words_have_one_meaning.Goals as goal
+
+pub returns : goal.returns
+returns c = one_meaning plan_grammar

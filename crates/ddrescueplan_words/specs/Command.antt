@@ -1,0 +1,117 @@
+-- What the words of `ddrescueplan` ask for, or why they are refused.
+use Rattle.std.specs.Prelude.{◌≡◌, ◌↔◌, ℕ, ◌^◌, ◌≤◌, true, false, List, [], ◌∷◌, length, Option, Some, None, Result, Ok, Err, option_and_then, if◌then◌else◌}
+use Rattle.option_words.specs.Words.{word}
+use Rattle.option_words.specs.declared.row.Row.{Row}
+use Rattle.option_words.specs.declared.reading.Item.{Item}
+use Rattle.option_words.specs.declared.reading.WordReading.{WordReading}
+use Rattle.option_words.specs.declared.fault.UsageFault.{UsageFault}
+use Rattle.option_words.specs.declared.fault.UsageFault.TheVariants.{BadValue, Operands}
+use Rattle.option_values.specs.declared.command_error.CommandError.{CommandError}
+use Rattle.option_values.specs.Values.{is_empty_text, last_of, size_by, within_range, word_in}
+use Rattle.option_values.specs.Grammar.{Grammar, AreOptionsOf, AskFor, AreRefusedBy, AskSilence, IsErrorBy}
+use Rattle.rescue_command.specs.declared.options.Options.{Options}
+use Rattle.rescue_command.specs.Command.{is_too_large}
+use Rattle.rescue_command.specs.Command.{AreInLimits as AreRescueLimits}
+use Rattle.ddrescueplan_words.specs.declared.options.PlanOptions.{PlanOptions}
+use Rattle.ddrescueplan_words.specs.declared.command.Command.{Command as CommandCode}
+use Rattle.ddrescueplan_words.specs.Options.{cluster_letter, option_meanings, options_in, quiet_letter}
+
+-- the length of the input, the name of the map of what can be read of it, and what the options say
+pub record Command : Type 0 where
+  pub length : ℕ
+  pub test_map : List ℕ
+  pub options : PlanOptions
+
+-- the same of what the code hands on
+abbrev pub told_by : CommandCode → Command
+told_by c = record { length = c.length; test_map = c.test_map.now; options = c.options }
+
+-- no input is longer than this, in bytes
+abbrev pub length_limit : ℕ
+length_limit = 1099511627776
+
+-- the length that a text gives; `s` is the sector in it
+abbrev pub length_by : (sector : ℕ) → List ℕ → Option ℕ
+length_by sector text = option_and_then (within_range 0 length_limit) (size_by sector (Some text))
+
+-- the word of a length is looked at first, then that of a name, which isn't empty
+abbrev pub with_length : Option ℕ → (n m : ℕ) → (name : List ℕ) → PlanOptions → Result Command UsageFault
+with_length None n m name o = Err (BadValue n)
+with_length (Some bytes) n m name o =
+    if is_empty_text name then Err (BadValue m) else Ok (record { length = bytes; test_map = name; options = o })
+
+-- two operands are the length and the test map; another number is refused
+abbrev pub command_with : List (List ℕ) → PlanOptions → (operands : List ℕ) → Result Command UsageFault
+command_with words o [] = Err (Operands 0)
+command_with words o (n ∷ []) = Err (Operands 1)
+command_with words o (n ∷ m ∷ []) = with_length (length_by o.rescue.sector (word words n)) n m (word words m) o
+command_with words o (n ∷ m ∷ third ∷ more) = Err (Operands (length (n ∷ m ∷ third ∷ more)))
+
+-- the word of the option that gives the cluster
+abbrev pub cluster_word : List Item → ℕ
+cluster_word items = word_in (last_of option_meanings cluster_letter items)
+
+-- What a reading of the words asks for, or its first fault: a bad value, then a cluster that is too large, then the
+-- operands.
+abbrev pub command_by : List (List ℕ) → List Item → Result PlanOptions ℕ → (operands : List ℕ)
+    → Result Command UsageFault
+command_by words items (Err n) operands = Err (BadValue n)
+command_by words items (Ok o) operands =
+    if is_too_large o.rescue then Err (BadValue (cluster_word items)) else command_with words o operands
+
+abbrev pub command_in : List (List ℕ) → List Item → (operands : List ℕ) → Result Command UsageFault
+command_in words items operands = command_by words items (options_in words items) operands
+
+-- the same of a reading that the code has
+abbrev pub command_read : List (List ℕ) → WordReading → Result Command UsageFault
+command_read words r = command_in words r.items.items r.operands.items
+
+-- the grammar of `ddrescueplan`
+abbrev pub plan_grammar : Grammar Command
+plan_grammar = record { options = option_meanings; quiet = quiet_letter; asked = command_in }
+
+-- rows of a table that are the options of `ddrescueplan`
+abbrev pub AreOptions : List Row → Type 0
+AreOptions rows = AreOptionsOf plan_grammar rows
+
+-- the words ask for this
+abbrev pub Asks : List (List ℕ) → Command → Type 0
+Asks words c = AskFor plan_grammar words c
+
+-- they are refused for this fault
+abbrev pub AreRefused : List (List ℕ) → UsageFault → Type 0
+AreRefused words fault = AreRefusedBy plan_grammar words fault
+
+-- they can be read, and ask that nothing be said
+abbrev pub AskQuiet : List (List ℕ) → Type 0
+AskQuiet words = AskSilence plan_grammar words
+
+-- What the options of a plan can't ask for is as where no option asks for it: no read is slow, there is no limit, every
+-- position of the input is asked for in its own place, and nothing is tried again.
+pub record ArePlain (o : Options) : Type 0 where
+  pub rate : o.min_rate ≡ 0
+  pub output : o.output_position ≡ None
+  pub errors : o.max_read_errors ≡ None
+  pub areas : o.max_bad_areas ≡ None
+  pub time : o.timeout ≡ None
+  pub again : o.try_again ≡ false
+  pub retrim : o.retrim ≡ false
+  pub complete : o.complete_only ≡ false
+
+-- what is asked for is within limits
+pub record AreInLimits (c : Command) : Type 0 where
+  pub options : AreRescueLimits c.options.rescue
+  pub plain : ArePlain c.options.rescue
+  pub length : c.length ≤ length_limit
+
+-- this is what the words ask for, and nothing else; within limits
+pub record IsAsked (words : List (List ℕ)) (c : Command) : Type 0 where
+  pub asks : Asks words c
+  pub alone : (other : Command) → Asks words other → other ≡ c
+  pub accepted : (fault : UsageFault) → AreRefused words fault → ⊥
+  pub limits : AreInLimits c
+  pub quiet : AskQuiet words ↔ (c.options.rescue.quiet ≡ true)
+
+-- why words ask for nothing; want of memory is free
+abbrev pub IsErrorOf : List (List ℕ) → CommandError → Type 0
+IsErrorOf words error = IsErrorBy plan_grammar words error

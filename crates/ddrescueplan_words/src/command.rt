@@ -1,0 +1,144 @@
+//! What the words of a command line ask for.
+ghost use Rattle.std.specs.Prelude.{◌≡◌, ◌<◌, ◌≤◌, All, Ok, Err, IfOk, IfErr};
+ghost use Rattle.option_words.specs.Spots.{HasSpot};
+ghost use Rattle.option_values.specs.Values.{IsWord};
+ghost use Rattle.rescue_command.specs.Command.{is_too_large};
+ghost use Rattle.ddrescueplan_words.specs.Options.{options_in};
+ghost use Rattle.ddrescueplan_words.specs.Command.{AreOptions, IsAsked, IsErrorOf, command_read, command_with, length_by, told_by};
+
+use crate::options::{CLUSTER_SIZE, PlanOptions, QUIET, SECTOR_SIZE, option_table};
+use option_values::command_error::{CommandError, unread};
+use option_values::given::{is_given, last_of};
+use option_values::settings::{read_sector_in, read_settings};
+use option_values::values::{size_by, within_range};
+use option_words::fault::UsageFault;
+use option_words::reader::read_words;
+use option_words::reading::{Item, WordReading};
+use option_words::table::OptionTable;
+use option_words::words::Words;
+use rescue_command::options::Options;
+use std::alloc::Global;
+
+/// The greatest length in bytes: 1 TiB.
+const MOST_LENGTH: u64 = 1 << 40;
+
+/// The size of a cluster in bytes, where no option gives it and no sector is larger.
+const DEFAULT_CLUSTER: u64 = 65_536;
+
+/// The largest cluster in bytes.
+const MOST_CLUSTER: u64 = 16_777_216;
+
+/// What the words of a command line ask for: the length of the input, the map of what can be read of it, and what the
+/// options say.
+#[derive(Clone, Copy, Debug)]
+pub struct Command<'a> {
+    /// In bytes, at most 1,099,511,627,776.
+    pub length: u64,
+    pub test_map: &'a str,
+    pub options: PlanOptions,
+}
+
+/// What options ask for, or the word of the first bad value.
+fn read_options(table: &OptionTable, words: &Words, items: &[Item]) -> Result<PlanOptions, usize>
+    requires table { AreOptions table.now }
+    requires spots { All (HasSpot words.now) items.now }
+    ensures { result ≡ options_in words.now items.now }
+{
+    let sector = read_sector_in(table, words, SECTOR_SIZE, items)?;
+    read_settings(words, items, sector, PlanOptions::none(sector))
+}
+
+/// Whether a cluster is too large.
+fn is_too_large(options: &Options) -> bool
+    requires { 0 < options.now.sector }
+    ensures { result ≡ is_too_large options.now }
+{
+    let sectors = match options.cluster_sectors {
+        Some(sectors) => sectors,
+        None => (DEFAULT_CLUSTER / options.sector).max(1),
+    };
+    sectors.saturating_mul(options.sector) > MOST_CLUSTER
+}
+
+/// The length that a text gives, if it does.
+fn read_length(sector: u64, text: &str) -> Option<u64>
+    requires low { 0 < sector }
+    requires high { sector ≤ 1048576 }
+    ensures { result ≡ length_by sector text.now }
+{
+    within_range(size_by(sector, Some(text))?, 0, MOST_LENGTH)
+}
+
+/// The length and the test map of two operands.
+fn name_operands<'a>(
+    words: &'a Words,
+    options: PlanOptions,
+    operands: &[usize],
+) -> Result<Command<'a>, UsageFault>
+    requires low { 0 < options.rescue.sector }
+    requires high { options.rescue.sector ≤ 1048576 }
+    requires operands { All (IsWord words.now) operands.now }
+    ensures named { IfOk result (λ c. command_with words.now options operands.now ≡ Ok (told_by c)) }
+    ensures refused { IfErr result (λ fault. command_with words.now options operands.now ≡ Err fault) }
+{
+    let [length, test_map] = operands else {
+        return Err(UsageFault::Operands {
+            given: operands.len(),
+        });
+    };
+    let Some(bytes) = read_length(options.rescue.sector, words.get(*length)) else {
+        return Err(UsageFault::BadValue { word: *length });
+    };
+    if words.get(*test_map).is_empty() {
+        return Err(UsageFault::BadValue { word: *test_map });
+    }
+    Ok(Command {
+        length: bytes,
+        test_map: words.get(*test_map),
+        options,
+    })
+}
+
+/// What a reading of the words asks for.
+fn command_of<'a>(
+    table: &OptionTable,
+    words: &'a Words,
+    reading: &WordReading,
+) -> Result<Command<'a>, UsageFault>
+    requires table { AreOptions table.now }
+    requires spots { All (HasSpot words.now) reading.now.items.items }
+    requires operands { All (IsWord words.now) reading.now.operands.items }
+    ensures asked { IfOk result (λ c. command_read words.now reading.now ≡ Ok (told_by c)) }
+    ensures refused { IfErr result (λ fault. command_read words.now reading.now ≡ Err fault) }
+{
+    let options = match read_options(table, words, &reading.items) {
+        Ok(options) => options,
+        Err(word) => return Err(UsageFault::BadValue { word }),
+    };
+    if is_too_large(&options.rescue) {
+        let word = last_of(table, words, CLUSTER_SIZE, &reading.items).map_or(0, |item| item.word);
+        return Err(UsageFault::BadValue { word });
+    }
+    name_operands(words, options, &reading.operands)
+}
+
+/// Reads the words of a command line: `[options] length testmap`. The words themselves come first, then the values of
+/// the options in the order of the words, those of `-b` before all others, then the size of a cluster in bytes, then
+/// the number of operands, then the length, in which `s` is a sector, and then an empty name.
+pub fn read_command(alloc: Global, words: &Words) -> Result<Command<'_>, CommandError>
+    ensures asked { IfOk result (λ c. IsAsked words.now (told_by c)) }
+    ensures refused { IfErr result (λ e. IsErrorOf words.now e) }
+{
+    let table = option_table();
+    let reading = match read_words(alloc, words, &table) {
+        Ok(reading) => reading,
+        Err(fault) => return Err(unread(fault)),
+    };
+    match command_of(&table, words, &reading) {
+        Ok(command) => Ok(command),
+        Err(fault) => Err(CommandError::Usage {
+            fault,
+            quiet: is_given(&table, QUIET, &reading.items),
+        }),
+    }
+}

@@ -1,0 +1,164 @@
+//! The options of `ddrescueplan`, each of which is the rescue's with its letter.
+ghost use Rattle.std.specs.Prelude.{◌≡◌, slice_get, option_map};
+ghost use Rattle.ddrescueplan_words.specs.Options.{no_options, of_rescue, option_rows, rescue_places};
+ghost use Rattle.ddrescueplan_words.specs.Command.{AreOptions};
+
+use option_values::settings::Settings;
+use option_words::row::{Row, Takes};
+use option_words::table::OptionTable;
+use rescue_command::options::Options;
+
+/// The letter of the option that gives the size of a sector.
+pub(crate) const SECTOR_SIZE: char = 'b';
+
+/// The letter of the one that gives the size of a cluster.
+pub(crate) const CLUSTER_SIZE: char = 'c';
+
+/// The letter of the one that asks that no message be put.
+pub(crate) const QUIET: char = 'q';
+
+/// Which row of a rescue's options each row is, counted from 0.
+const RESCUE_PLACES: [usize; 11] = [2, 3, 10, 11, 15, 16, 18, 19, 20, 21, 23];
+
+/// The options. A later one is a row here and its place above.
+pub static ROWS: [Row; 11] = [
+    Row {
+        short: Some(SECTOR_SIZE),
+        long: "sector-size",
+        takes: Takes::Always,
+    },
+    Row {
+        short: Some(CLUSTER_SIZE),
+        long: "cluster-size",
+        takes: Takes::Always,
+    },
+    Row {
+        short: Some('i'),
+        long: "input-position",
+        takes: Takes::Always,
+    },
+    Row {
+        short: Some('K'),
+        long: "skip-size",
+        takes: Takes::Always,
+    },
+    Row {
+        short: Some('n'),
+        long: "no-scrape",
+        takes: Takes::Never,
+    },
+    Row {
+        short: Some('N'),
+        long: "no-trim",
+        takes: Takes::Never,
+    },
+    Row {
+        short: Some(QUIET),
+        long: "quiet",
+        takes: Takes::Never,
+    },
+    Row {
+        short: Some('r'),
+        long: "retry-passes",
+        takes: Takes::Always,
+    },
+    Row {
+        short: Some('R'),
+        long: "reverse",
+        takes: Takes::Never,
+    },
+    Row {
+        short: Some('s'),
+        long: "size",
+        takes: Takes::Always,
+    },
+    Row {
+        short: Some('u'),
+        long: "unidirectional",
+        takes: Takes::Never,
+    },
+];
+
+/// What the options of a command line ask for.
+#[derive(Clone, Copy, Debug, PartialEq, Eq)]
+pub struct PlanOptions {
+    /// What they ask of the rescue; all that they can't ask for is as a rescue has it where no option is given.
+    pub rescue: Options,
+}
+
+impl PlanOptions {
+    /// What is asked for where no option but the sector's is given.
+    pub(crate) fn none(sector: u64) -> PlanOptions
+        ensures { result ≡ no_options sector }
+    {
+        PlanOptions {
+            rescue: Options {
+                sector,
+                cluster_sectors: None,
+                skip: 65_536,
+                skip_max: 1 << 30,
+                min_rate: 0,
+                input_position: 0,
+                output_position: None,
+                size: None,
+                retries: 0,
+                max_read_errors: None,
+                max_bad_areas: None,
+                new_areas: false,
+                timeout: None,
+                try_again: false,
+                retrim: false,
+                no_trim: false,
+                no_scrape: false,
+                reverse: false,
+                unidirectional: false,
+                complete_only: false,
+                fill: None,
+                generate: false,
+                loose: false,
+                forced: false,
+                quiet: false,
+                verbose: false,
+                sample: None,
+            },
+        }
+    }
+}
+
+/// The table of the options.
+pub(crate) fn option_table() -> OptionTable
+    ensures { AreOptions result }
+{
+    match OptionTable::checked(&ROWS) {
+        Some(table) => table,
+        None => unreachable!(),
+    }
+}
+
+/// The row of the rescue's option that an option is, if there is such an option.
+fn rescue_row(row: usize) -> Option<usize>
+    ensures { result ≡ slice_get rescue_places row }
+{
+    RESCUE_PLACES.get(row).copied()
+}
+
+/// What was set for a rescue, as options of a plan.
+fn of_rescue(rescue: Option<Options>) -> Option<PlanOptions>
+    ensures { result ≡ option_map of_rescue rescue }
+{
+    match rescue {
+        Some(rescue) => Some(PlanOptions { rescue }),
+        None => None,
+    }
+}
+
+impl Settings for PlanOptions {
+    ghost rows = { option_rows };
+
+    fn with_row(self, sector: u64, row: usize, value: Option<&str>) -> Option<PlanOptions> {
+        match rescue_row(row) {
+            Some(place) => of_rescue(self.rescue.with_row(sector, place, value)),
+            None => None,
+        }
+    }
+}

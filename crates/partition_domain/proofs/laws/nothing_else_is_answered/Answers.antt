@@ -1,5 +1,0 @@
-use Rattle.partition_domain.proofs.CompleteLemmas.{is_brought_unless}
-use Rattle.partition_domain.proofs.laws.nothing_else_is_answered.Goals as goal
-
-pub returns : goal.returns
-returns c = is_brought_unless

@@ -1,0 +1,12 @@
+pub mod World
+pub mod Kinds
+pub mod Rows
+pub mod Causes
+pub mod WordFaults
+pub mod Program
+pub mod Saying
+pub mod Promise
+pub mod WellMade
+pub mod Laws
+pub mod Printing
+pub mod Opens

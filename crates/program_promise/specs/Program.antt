@@ -1,0 +1,49 @@
+-- A program, as data: how its words are read, how it answers, and its work.
+use Rattle.std.specs.Prelude.{ℕ, Bool, List}
+use Rattle.option_words.specs.Words.{command_line}
+use Rattle.option_words.specs.declared.fault.UsageFault.{UsageFault}
+use Rattle.option_values.specs.Grammar.{Grammar}
+use Rattle.fault_texts.specs.Texts.{message_of}
+use Rattle.work_steps.specs.Work.{Deeds, Faults, WorkStep}
+use Rattle.program_promise.specs.World.{WorldState}
+use Rattle.program_promise.specs.Kinds.{Kind, is_silent_kind}
+use Rattle.program_promise.specs.Rows.{AnswerRow}
+
+-- C is what its words ask for, E how it ended, and O what its work found outside of it.
+pub record Program (C E O : Type 0) : Type 1 where
+  -- The program's name, its grammar, and the faults that its words may have;
+  pub name : List ℕ
+  pub grammar : Grammar C
+  pub HasFault : UsageFault → Type 0
+  -- the row of each answer, the answer for words that are refused, and the answers for faults;
+  pub row : E → AnswerRow
+  pub wrong : UsageFault → E
+  pub faults : Faults E
+  -- which answers a command may have;
+  pub Fits : C → E → Type 0
+  -- the work: its rows, and what is run after them;
+  pub rows : C → O → List (WorkStep E)
+  pub Run : C → O → E → Deeds → Type 0
+  -- that what was found and done is what the objects tell, before and after it;
+  pub Agrees : C → O → Deeds → (old new : WorldState) → Type 0
+  -- what the work leaves: what is put on standard output, where the command line may be shown, and whatever the answer
+  -- says besides of the feed, of the files and of what a stop may find;
+  pub Leaves : C → (line : List ℕ) → O → E → Deeds → (old new : WorldState) → Type 0
+  -- what holds of the objects when the program is called, and what stays so, whatever the words ask for.
+  pub Begins : WorldState → Type 0
+  pub Keeps : E → (old new : WorldState) → Type 0
+
+abbrev pub kind_of : {C E O : Type 0} → Program C E O → E → Kind
+kind_of p e = (p.row e).kind
+
+-- whether nothing is said of an answer
+abbrev pub is_silent_of : {C E O : Type 0} → Program C E O → E → Bool
+is_silent_of p e = is_silent_kind (p.row e).kind
+
+-- the message of an answer on standard error
+abbrev pub message_by : {C E O : Type 0} → Program C E O → E → List ℕ
+message_by p e = message_of p.name (p.row e).text
+
+-- the command line
+abbrev pub line_by : {C E O : Type 0} → Program C E O → (words : List (List ℕ)) → List ℕ
+line_by p words = command_line p.name words

@@ -1,0 +1,34 @@
+-- An answer as a row: its kind, the exit status, what is said of it, and what else holds of it. What the answer says of
+-- the words, which count rose and whether anything is said follow from its kind alone.
+use Rattle.std.specs.Prelude.{⊤, ℕ, List, [], codes}
+use Rattle.option_words.specs.declared.fault.UsageFault.{UsageFault}
+use Rattle.fault_texts.specs.Texts.{usage_text}
+use Rattle.program_promise.specs.Kinds.{Failure, Kind, Asked, Brought, Wrong, Failed, Starved}
+
+pub record AnswerRow : Type 1 where
+  pub kind : Kind
+  pub status : ℕ
+  pub text : List ℕ
+  pub also : Type 0
+
+-- The rows that a program's answers have, of each kind one: what was asked for, and what is there;
+abbrev pub asked_row : (status : ℕ) → AnswerRow
+asked_row status = record { kind = Asked; status = status; text = []; also = ⊤ }
+
+abbrev pub brought_row : (status : ℕ) → (text : List ℕ) → AnswerRow
+brought_row status text = record { kind = Brought; status = status; text = text; also = ⊤ }
+
+-- words that are refused, and what failed, both of status 1;
+abbrev pub wrong_row : UsageFault → AnswerRow
+wrong_row fault = record { kind = Wrong fault; status = 1; text = usage_text fault; also = ⊤ }
+
+abbrev pub failed_row : Failure → (text : List ℕ) → AnswerRow
+failed_row at text = record { kind = Failed at; status = 1; text = text; also = ⊤ }
+
+-- and want of memory, of status 4.
+abbrev pub starved_row : AnswerRow
+starved_row = record { kind = Starved; status = 4; text = codes "out of memory"; also = ⊤ }
+
+-- a row of which something more holds
+abbrev pub only_where : AnswerRow → Type 0 → AnswerRow
+only_where r holds = record { kind = r.kind; status = r.status; text = r.text; also = holds }

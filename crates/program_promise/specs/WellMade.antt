@@ -1,0 +1,40 @@
+-- What a program has to show of its rows, of its grammar and of its work, so that it keeps the promises of all programs.
+use Rattle.std.specs.Prelude.{◌≡◌, ◌≢◌, ℕ, List, Err}
+use Rattle.option_words.specs.declared.reading.Item.{Item}
+use Rattle.option_words.specs.declared.fault.WordFault.{WordFault}
+use Rattle.option_words.specs.declared.fault.WordFault.TheVariants.{NoMemory as WordNoMemory}
+use Rattle.option_words.specs.declared.fault.UsageFault.{UsageFault}
+use Rattle.option_words.specs.declared.fault.UsageFault.TheVariants.{Word}
+use Rattle.work_steps.specs.Verdicts.{AreVerdicts}
+use Rattle.program_promise.specs.World.{WorldState}
+use Rattle.program_promise.specs.Kinds.{Wrong, Starved, IsVerdictKind, IsWorkKind}
+use Rattle.program_promise.specs.Program.{Program, kind_of}
+use Rattle.program_promise.specs.Promise.{DoneFor}
+
+module _ {C E O : Type 0} (p : Program C E O) where
+  -- an answer that is brought by what is there, whatever fails
+  abbrev pub IsVerdict : E → Type 0
+  IsVerdict e = IsVerdictKind (kind_of p e)
+
+  -- An answer where nothing was done has this row.
+  pub record IsIdleAnswer (e : E) : Type 0 where
+    pub also : (p.row e).also
+    pub keeps : (w : WorldState) → p.Begins w → p.Keeps e w w
+
+  pub record IsWellMade : Type 0 where
+    -- The answer for want of memory is of that kind, and so are those for words that are refused;
+    pub memory : kind_of p p.faults.memory ≡ Starved
+    pub memory_idle : IsIdleAnswer p.faults.memory
+    pub wrong : (fault : UsageFault) → p.HasFault fault → kind_of p (p.wrong fault) ≡ Wrong fault
+    pub wrong_idle : (fault : UsageFault) → p.HasFault fault → IsIdleAnswer (p.wrong fault)
+    -- no answer for a fault is a verdict;
+    pub faults : AreVerdicts p.faults IsVerdict
+    -- words are refused for faults that they may have;
+    pub reads : (fault : WordFault) → fault ≢ WordNoMemory → p.HasFault (Word fault)
+    pub gives : (words : List (List ℕ)) (items : List Item) (operands : List ℕ) (fault : UsageFault)
+        → p.grammar.asked words items operands ≡ Err fault → p.HasFault fault
+    -- if memory runs out at once, nothing is done;
+    pub starves : (c : C) (line : List ℕ) (w : WorldState) → p.Begins w → DoneFor p c line p.faults.memory w w
+    -- and work answers what fits its command, and no fault of the words.
+    pub work : (c : C) (line : List ℕ) (e : E) (old new : WorldState) → DoneFor p c line e old new
+        → IsWorkKind (kind_of p e) × p.Fits c e

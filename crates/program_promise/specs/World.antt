@@ -1,0 +1,57 @@
+-- All that the objects tell which a program may be handed, at one time.
+use Rattle.std.specs.Prelude.{false, [], None}
+use Rattle.fault_count.specs.Plan.{no_plan}
+use Rattle.faulty_source.specs.SourceState.{SourceState}
+use Rattle.crash_site.specs.SiteState.{SiteState}
+use Rattle.rescue_console.specs.ClockState.{ClockState}
+use Rattle.rescue_console.specs.FeedState.{FeedState}
+use Rattle.rescue_console.specs.ConsoleState.{ConsoleState}
+
+pub record WorldState : Type 0 where
+  pub source : SourceState
+  pub site : SiteState
+  pub clock : ClockState
+  pub feed_ : FeedState
+  pub console : ConsoleState
+
+-- A program that isn't handed an object has one of these in its place: it tells nothing, and stands still.
+abbrev pub no_source : SourceState
+no_source = record {
+  tells = false;
+  bytes = [];
+  ends_at = 0;
+  journal = [];
+  name = [];
+  is_open = false;
+  opens = 0;
+  faults = 0;
+  losses = 0;
+  is_planned = false;
+  plan = record { calls = no_plan; room = 0; bad = [] };
+  below = [];
+  journals_below = [];
+}
+
+abbrev pub no_site : SiteState
+no_site = record {
+  tells = false;
+  start = record { files = λ name. None; image = None; draft = None };
+  calls = [];
+  is_open = false;
+  is_drafting = false;
+  faults = 0;
+  is_planned = false;
+  plan = no_plan;
+  starved = 0;
+}
+
+abbrev pub no_clock : ClockState
+no_clock = record { tells = false; readings = []; is_planned = false; plan = [] }
+
+abbrev pub no_feed : FeedState
+no_feed = record { tells = false; left = []; faults = 0; is_planned = false; plan = no_plan }
+
+-- the same world, but for its console
+abbrev pub with_console : WorldState → ConsoleState → WorldState
+with_console w console =
+    record { source = w.source; site = w.site; clock = w.clock; feed_ = w.feed_; console = console }
