@@ -32,7 +32,7 @@ use Rattle.ddrescue_laws.proofs.GivenLemmas.{given_is_input}
 use Rattle.rescue_safety.specs.Saves.{CallsFinished, IsOneSaved}
 use Rattle.rescue_safety.specs.Safe.{HasPlace, Run, reads_until, by_then, gives, IsHeld, IsSafe, IsSafeAnywhere}
 use Rattle.rescue_safety.specs.Rescue.{Rescue, target_of, run_by, run_of, files_at_first, AreSeen, NoRead, Untested, Tested, IsAskedFor}
-use Rattle.rescue_safety.specs.Laws.{AnyStopIsSafe, AnyTestedStopIsSafe, EachIsTold, GivesWhatIsAskedFor, LeavesTheRest, NoneIsReadAgain}
+use Rattle.rescue_safety.specs.Laws.{AnyStopIsSafe, AnyTestedStopIsSafe, EachIsTold, GivesWhatIsAskedFor, LeavesTheRest, NoneIsReadAgain, StaysResumable}
 use Rattle.rescue_safety.proofs.SaveLemmas.{goes_made, numbered}
 use Rattle.rescue_safety.proofs.QuietLemmas.{SavesNone, none_or_stands}
 use Rattle.rescue_safety.proofs.FinishedLemmas.{StandsAt, At, stands_at, StandsFinished, stands_finished, calls_finished, finished_has}
@@ -195,6 +195,17 @@ module _ (r : Rescue) where
         (λ (at : StandsAt (files_before b s.names.map) s.end). mapfile_over is at)
         (none_or_stands s (files_before b) g on goes)
 
+    found_over : (end : ℕ) → has_barrier (take k g.calls) ≡ true → StandsAt (files_before b s.names.map) s.end
+        → StandsAt (files s.names.map) end
+    found_over end is (At began was there) =
+        let kept = safe.kept k files began was le left is there in
+        stands_at (files s.names.map) s.end end kept.statuses kept.shows kept.stands
+
+    pub found_stands : (end : ℕ) (map : List Status) (state : Option MapState) → has_barrier (take k g.calls) ≡ true
+        → Stands (files_before b s.names.map) end map state → StandsAt (files s.names.map) end
+    found_stands end map state is stands =
+        found_over end is (stands_at (files_before b s.names.map) end s.end map state stands)
+
     -- what a read had given it that had begun to be written
     abbrev then_gave : ℕ → Option ℕ
     then_gave x = given s.sector (reads_until s.sector (writes_in (take (k + 1) g.calls)) g.reads) x
@@ -323,6 +334,19 @@ none_is_read_again r reads k files x are le left is fin =
     (subst (λ (l : List Entry).
     given r.command.options.sector (reads_until r.command.options.sector (writes_in (take (k + 1) l)) (g r).reads) x
     ≡ given r.command.options.sector (g r).reads x) (sym (calls_are r)) same)
+
+resumed : (mapfile : Option File) (end : ℕ) → StandsAt mapfile end
+    → (map : List Status) × (state : Option MapState) × Stands mapfile end map state
+resumed mapfile end (At map state stands) = (map, state, stands)
+
+pub stays_resumable : StaysResumable
+stays_resumable r k files end map state le left is stands =
+    resumed (files r.mapfile) end
+    (subst (λ (m : List ℕ). StandsAt (files m) end) (map_is r)
+    (found_stands r k files (subst (λ (l : List Entry). k ≤ length l) (calls_are r) le)
+    (subst (λ (l : List Entry). LeftBy (b r) l k files) (calls_are r) left) end map state
+    (subst (λ (l : List Entry). has_barrier (take k l) ≡ true) (calls_are r) is)
+    (subst (λ (m : List ℕ). Stands (files_before (b r) m) end map state) (sym (map_is r)) stands)))
 
 -- what a read gave that had begun to be written is asked for
 pub begun_asked_for : (r : Rescue) (reads : List Reading) (k x byte : ℕ) → AreSeen r reads
