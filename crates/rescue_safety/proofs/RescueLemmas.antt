@@ -7,14 +7,14 @@ use Rattle.crash_site.specs.Calls.{Entry}
 use Rattle.rescue_rules.specs.Given.{last_of_both}
 use Rattle.rescue_rules.specs.Stops.{Behind, files_before, has_barrier}
 use Rattle.rescue_safety.specs.Saves.{CallsFinished}
-use Rattle.rescue_safety.specs.Safe.{Target, Run, gives, IsHeld, IsSafeAnywhere}
+use Rattle.rescue_safety.specs.Safe.{Target, Run, by_then, gives, IsHeld, IsSafeAnywhere}
 use Rattle.rescue_safety.specs.Rescue.{run_of}
 use Rattle.rescue_safety.specs.Owed.{last_given, pairs_of, HoldsLast, IsOwedIn, IsOwedAt}
 use Rattle.rescue_safety.specs.Runs.{NextBegins, Link, IsRescue}
 use Rattle.rescue_safety.proofs.ClaimLemmas.{some_or_none, never_some}
 use Rattle.rescue_safety.proofs.LastGiven.{last_after, given_is_last}
 use Rattle.rescue_safety.proofs.OwedLemmas.{IsSame, same_back, same_in, same_at, owed_before, next_owed, reads_left}
-use Rattle.rescue_safety.proofs.SafeLemmas.{safe_anywhere, gives_what_is_asked_for}
+use Rattle.rescue_safety.proofs.SafeLemmas.{safe_anywhere, begun_asked_for}
 
 -- what a run holds once its barrier has returned is owed
 module _ (d : Run) (from : (x byte : ℕ) → gives d x ≡ Some byte → d.target.from ≤ x) (k : ℕ)
@@ -77,16 +77,16 @@ module _ (d : Run) (from : (x byte : ℕ) → gives d x ≡ Some byte → d.targ
 
 module _ (t : Target) (l : Link) (apart : t.outfile ≢ t.mapfile) (q : IsRescue t l) where
   abbrev d : Run
-  d = run_of q.rescue q.reads
+  d = by_then (run_of q.rescue q.reads) q.step.moment
 
   abbrev calls : List Entry
   calls = q.rescue.did.call.calls
 
-  safe : IsSafeAnywhere d
+  safe : IsSafeAnywhere (run_of q.rescue q.reads)
   safe = safe_anywhere q.rescue q.reads q.are_seen
 
   from : (x byte : ℕ) → gives d x ≡ Some byte → d.target.from ≤ x
-  from x byte some = (gives_what_is_asked_for q.rescue q.reads x byte q.are_seen some).from
+  from x byte some = (begun_asked_for q.rescue q.reads q.step.moment x byte q.are_seen some).from
 
   some_same : (a b : List ℕ) → Some a ≡ Some b → a ≡ b
   some_same a b is = cc
@@ -106,12 +106,12 @@ module _ (t : Target) (l : Link) (apart : t.outfile ≢ t.mapfile) (q : IsRescue
 
   -- once its barrier has returned, what is owed as the files read is owed at each stop
   late : (gave : List (ℕ × ℕ)) (old : ℕ → Bool) → has_barrier (take q.step.moment calls) ≡ true
-      → IsOwedIn t gave old (files_before d.before) → IsOwedAt t (gave ++ pairs_of d.sector q.reads) old l.next
+      → IsOwedIn t gave old (files_before d.before) → IsOwedAt t (gave ++ pairs_of d.sector d.reads) old l.next
   late gave old is owed =
       let here : IsOwedIn d.target gave old (files_before d.before)
       = same_in t d.target (same_back d.target t same) gave old (files_before d.before) owed in
-      same_at d.target t same (gave ++ pairs_of d.sector q.reads) old l.next
-      (next_owed d.target (gave ++ pairs_of d.sector q.reads) old d.before calls q.step.moment l.next
+      same_at d.target t same (gave ++ pairs_of d.sector d.reads) old l.next
+      (next_owed d.target (gave ++ pairs_of d.sector d.reads) old d.before calls q.step.moment l.next
       (λ files left. owed_late d from q.step.moment files ((safe.safe q.step.moment files q.step.within left).after is) gave
       old here) next)
 
@@ -127,16 +127,16 @@ module _ (t : Target) (l : Link) (apart : t.outfile ≢ t.mapfile) (q : IsRescue
 
   -- with what it gave
   gave_late : (gave : List (ℕ × ℕ)) (old : ℕ → Bool) → has_barrier (take q.step.moment calls) ≡ true
-      → IsOwedAt t (gave ++ pairs_of d.sector q.reads) old l.next → IsOwedAt t (gave ++ l.gave) old l.next
+      → IsOwedAt t (gave ++ pairs_of d.sector d.reads) old l.next → IsOwedAt t (gave ++ l.gave) old l.next
   gave_late gave old is owed =
       subst (λ (gs : List (ℕ × ℕ)). IsOwedAt t (gave ++ gs) old l.next)
-      (sym (q.gave ∙ ap (λ (b : Bool). if b then pairs_of d.sector q.reads else []) is)) owed
+      (sym (q.gave ∙ ap (λ (b : Bool). if b then pairs_of d.sector d.reads else []) is)) owed
 
   gave_early : (gave : List (ℕ × ℕ)) (old : ℕ → Bool) → has_barrier (take q.step.moment calls) ≡ false
       → IsOwedAt t gave old l.next → IsOwedAt t (gave ++ l.gave) old l.next
   gave_early gave old off owed =
       subst (λ (gs : List (ℕ × ℕ)). IsOwedAt t (gave ++ gs) old l.next)
-      (sym (q.gave ∙ ap (λ (b : Bool). if b then pairs_of d.sector q.reads else []) off))
+      (sym (q.gave ∙ ap (λ (b : Bool). if b then pairs_of d.sector d.reads else []) off))
       (subst (λ (gs : List (ℕ × ℕ)). IsOwedAt t gs old l.next) (sym (append-nil gave)) owed)
 
   pub barrier_makes_sure : (gave : List (ℕ × ℕ)) (old : ℕ → Bool) → has_barrier (take q.step.moment calls) ≡ true

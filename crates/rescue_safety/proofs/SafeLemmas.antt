@@ -17,7 +17,7 @@ use Rattle.rescue_rules.specs.Start.{Stands}
 use Rattle.rescue_rules.specs.Given.{given}
 use Rattle.rescue_rules.specs.Work.{Gain, Goes}
 use Rattle.rescue_rules.specs.Stops.{Behind, files_before, has_barrier}
-use Rattle.rescue_rules.specs.StopsBy.{LeftBy, IsUnwritten, IsKept, RescueStopsBy}
+use Rattle.rescue_rules.specs.StopsBy.{LeftBy, IsKept, RescueStopsBy}
 use Rattle.rescue_core.specs.RunState.{names_in}
 use Rattle.option_words.specs.Words.{command_line}
 use Rattle.rescue_command.specs.Command.{Command, Rescue as ForRescue}
@@ -30,15 +30,16 @@ use Rattle.ddrescue_cli.specs.Ddrescue.{Promise}
 use Rattle.ddrescue_cli.proofs.AskedLemmas.{sensible_to}
 use Rattle.ddrescue_laws.proofs.GivenLemmas.{given_is_input}
 use Rattle.rescue_safety.specs.Saves.{CallsFinished, IsOneSaved}
-use Rattle.rescue_safety.specs.Safe.{HasPlace, IsHeld, IsSafe, IsSafeAnywhere}
-use Rattle.rescue_safety.specs.Rescue.{Rescue, target_of, run_by, run_of, files_at_first, AreSeen, NoRead, Untested, Tested}
-use Rattle.rescue_safety.specs.Laws.{AnyStopIsSafe, AnyTestedStopIsSafe, EachIsTold, GivesWhatIsAskedFor, LeavesTheRest}
+use Rattle.rescue_safety.specs.Safe.{HasPlace, Run, reads_until, by_then, gives, IsHeld, IsSafe, IsSafeAnywhere}
+use Rattle.rescue_safety.specs.Rescue.{Rescue, target_of, run_by, run_of, files_at_first, AreSeen, NoRead, Untested, Tested, IsAskedFor}
+use Rattle.rescue_safety.specs.Laws.{AnyStopIsSafe, AnyTestedStopIsSafe, EachIsTold, GivesWhatIsAskedFor, LeavesTheRest, NoneIsReadAgain}
 use Rattle.rescue_safety.proofs.SaveLemmas.{goes_made, numbered}
 use Rattle.rescue_safety.proofs.QuietLemmas.{SavesNone, none_or_stands}
 use Rattle.rescue_safety.proofs.FinishedLemmas.{StandsAt, At, stands_at, StandsFinished, stands_finished, calls_finished, finished_has}
-use Rattle.rescue_safety.proofs.ClaimLemmas.{some_or_none, was_finished}
+use Rattle.rescue_safety.proofs.ClaimLemmas.{some_or_none, never_some, was_finished}
 use Rattle.rescue_safety.proofs.PromiseLemmas.{promise_goes, goes_domain}
-use Rattle.rescue_safety.proofs.SpareLemmas.{goes_unwritten}
+use Rattle.rescue_safety.proofs.ThenLemmas.{kept_given, goes_unwritten}
+use Rattle.rescue_safety.proofs.BegunLemmas.{writes_in, none_begun}
 use Rattle.rescue_safety.proofs.TestLemmas.{tested}
 use Rattle.rescue_safety.proofs.DomainLemmas.{asked_for, named_file}
 
@@ -194,14 +195,30 @@ module _ (r : Rescue) where
         (λ (at : StandsAt (files_before b s.names.map) s.end). mapfile_over is at)
         (none_or_stands s (files_before b) g on goes)
 
+    -- what a read had given it that had begun to be written
+    abbrev then_gave : ℕ → Option ℕ
+    then_gave x = given s.sector (reads_until s.sector (writes_in (take (k + 1) g.calls)) g.reads) x
+
+    same_over : (x : ℕ) → has_barrier (take k g.calls) ≡ true → CallsFinished (files s.names.map) x
+        → StandsAt (files_before b s.names.map) s.end → then_gave x ≡ given s.sector g.reads x
+    same_over x is fin (At began was there) =
+        let kept = safe.kept k files began was le left is there in
+        kept_given b s g began was ok on goes there k files kept x (kept_has began was x kept fin)
+
+    pub same_then : (x : ℕ) → has_barrier (take k g.calls) ≡ true → CallsFinished (files s.names.map) x
+        → then_gave x ≡ given s.sector g.reads x
+    same_then x is fin = same_over x is fin (began_by x is fin)
+
     abbrev Claims : ℕ → Type 0
-    Claims x = CallsFinished (files_before b s.names.map) x ⊎ ((byte : ℕ) × (given s.sector g.reads x ≡ Some byte))
+    Claims x = CallsFinished (files_before b s.names.map) x ⊎ ((byte : ℕ) × (then_gave x ≡ Some byte))
 
     claimed_over : (x : ℕ) → has_barrier (take k g.calls) ≡ true → CallsFinished (files s.names.map) x
         → StandsAt (files_before b s.names.map) s.end → Claims x
     claimed_over x is fin (At began was there) =
         let kept = safe.kept k files began was le left is there in
-        ⊎_elim (λ (some : (byte : ℕ) × (given s.sector g.reads x ≡ Some byte)). inr some)
+        ⊎_elim
+        (λ (some : (byte : ℕ) × (given s.sector g.reads x ≡ Some byte)).
+        inr (some.0, same_then x is fin ∙ some.1))
         (λ (none : given s.sector g.reads x ≡ None).
         inl (calls_finished (files_before b s.names.map) s.end x began was there
         (was_finished b s g began was ok on goes there k files kept x (kept_has began was x kept fin) none)))
@@ -217,23 +234,24 @@ module _ (r : Rescue) where
         subst (λ (z : ℕ). slice_get (bytes_of (files c.outfile)) z ≡ Some byte) same
         (kept.held.rescued x byte in_domain (kept_has began was x kept fin) gave)
 
-    held : has_barrier (take k g.calls) ≡ true
-        → IsHeld (run_by r.did (record { outfile = c.outfile; mapfile = s.names.map; from = s.from; to = s.to }) s.sector g.reads) k
-        files
+    -- by the calls of the run
+    abbrev run_with : (mapfile : List ℕ) → List Entry → Run
+    run_with mapfile calls =
+        run_by r.did (target_of c mapfile) s.sector (reads_until s.sector (writes_in (take (k + 1) calls)) g.reads)
+
+    held : has_barrier (take k g.calls) ≡ true → IsHeld (run_with s.names.map g.calls) k files
     held is = record {
       mapfile = subst (λ (l : List Entry). IsOneSaved (files_before b s.names.map) l k (files s.names.map)) (sym calls_are)
           (mapfile_at is);
       claimed = λ x fin. claimed_over x is fin (began_by x is fin);
-      rescued = λ x y byte fin gave at. rescued_over x y byte is fin gave at (began_by x is fin);
-      unwritten = λ y low spared.
-          safe.unwritten k files y le left is
-          (subst (λ (l : List Entry). IsUnwritten (take (k + 1) l) y) calls_are spared) low;
+      rescued = λ x y byte fin gave at.
+          rescued_over x y byte is fin (sym (same_then x is fin) ∙ gave) at (began_by x is fin);
       stood = λ y low none.
           safe.unwritten k files y le left is (goes_unwritten s ok y (files_before b) g (k + 1) on goes none) low;
     }
 
   safe_at : (k : ℕ) (files : List ℕ → Option File) → k ≤ length r.did.call.calls → LeftBy b r.did.call.calls k files
-      → IsSafe (run_of r g.reads) k files
+      → IsSafe (by_then (run_of r g.reads) k) k files
   safe_at k files le left =
       let le' : k ≤ length g.calls = subst (λ (l : List Entry). k ≤ length l) calls_are le in
       let left' : LeftBy b g.calls k files = subst (λ (l : List Entry). LeftBy b l k files) calls_are left in
@@ -241,8 +259,9 @@ module _ (r : Rescue) where
         before = λ off. safe.before k files le' left'
             (subst (λ (l : List Entry). has_barrier (take k l) ≡ false) calls_are off);
         after = λ is.
-            subst (λ (m : List ℕ). IsHeld (run_by r.did (target_of c m) c.options.sector g.reads) k files) map_is
-            (held k files le' left' (subst (λ (l : List Entry). has_barrier (take k l) ≡ true) calls_are is));
+            subst (λ (l : List Entry). IsHeld (run_with k files le' left' r.mapfile l) k files) (sym calls_are)
+            (subst (λ (m : List ℕ). IsHeld (run_with k files le' left' m g.calls) k files) map_is
+            (held k files le' left' (subst (λ (l : List Entry). has_barrier (take k l) ≡ true) calls_are is)));
         others = λ name output mapfile draft.
             safe.others k files name le' left' output (λ is. mapfile (is ∙ map_is)) (λ is. draft (is ∙ draft_is));
       }
@@ -293,6 +312,29 @@ each_is_told t c mapfile promised asks named site_tells source_tells =
       refl,
     )
 
+pub none_is_read_again : NoneIsReadAgain
+none_is_read_again r reads k files x are le left is fin =
+    let alone : reads ≡ (g r).reads = seen_alone r reads are in
+    let le' : k ≤ length (g r).calls = subst (λ (l : List Entry). k ≤ length l) (calls_are r) le in
+    let left' : LeftBy (b r) (g r).calls k files = subst (λ (l : List Entry). LeftBy (b r) l k files) (calls_are r) left in
+    let same = same_then r k files le' left' x (subst (λ (l : List Entry). has_barrier (take k l) ≡ true) (calls_are r) is)
+    (subst (λ (m : List ℕ). CallsFinished (files m) x) (sym (map_is r)) fin) in
+    subst (λ (l : List Reading). gives (by_then (run_of r l) k) x ≡ gives (run_of r l) x) (sym alone)
+    (subst (λ (l : List Entry).
+    given r.command.options.sector (reads_until r.command.options.sector (writes_in (take (k + 1) l)) (g r).reads) x
+    ≡ given r.command.options.sector (g r).reads x) (sym (calls_are r)) same)
+
+-- what a read gave that had begun to be written is asked for
+pub begun_asked_for : (r : Rescue) (reads : List Reading) (k x byte : ℕ) → AreSeen r reads
+    → gives (by_then (run_of r reads) k) x ≡ Some byte → IsAskedFor r x
+begun_asked_for r reads k x byte are is =
+    ⊎_elim
+    (λ (some : (v : ℕ) × (gives (run_of r reads) x ≡ Some v)). gives_what_is_asked_for r reads x some.0 are some.1)
+    (λ (none : gives (run_of r reads) x ≡ None).
+    absurd (never_some byte (gives (by_then (run_of r reads) k) x)
+    (none_begun r.command.options.sector x (writes_in (take (k + 1) r.did.call.calls)) reads none) is))
+    (some_or_none (gives (run_of r reads) x))
+
 none_given : (o : Option ℕ) → ((byte : ℕ) → o ≡ Some byte → ⊥) → o ≡ None
 none_given None never = refl
 none_given (Some byte) never = absurd (never byte refl)
@@ -300,5 +342,5 @@ none_given (Some byte) never = absurd (never byte refl)
 pub leaves_the_rest : LeavesTheRest
 leaves_the_rest r k files y le left is low unasked =
     ((safe_at r k files le left).after is).stood y low
-    (λ x at. none_given (given r.command.options.sector (g r).reads x)
-    (λ byte gave. unasked x at (gives_what_is_asked_for r (g r).reads x byte (seen_are r) gave)))
+    (λ x at. none_given (gives (by_then (run_of r (g r).reads) k) x)
+    (λ byte gave. unasked x at (begun_asked_for r (g r).reads k x byte (seen_are r) gave)))

@@ -15,13 +15,12 @@ use Rattle.ddrescue_cli.specs.Told.{Told, calls_before}
 use Rattle.ddrescue_cli.specs.Ddrescue.{Ddrescue}
 use Rattle.rescue_safety.specs.Safe.{Target, Run}
 
--- A call of `ddrescue` on files that tell what was done on them.
+-- A call of `ddrescue` on files that tell what was done on them, and the calls that it made.
 pub record Invocation : Type 0 where
   pub told : Told
   -- it was one: this is what the contract of `ddrescue` ensures
   pub promised : Ddrescue told
   pub site_tells : IsTrue told.site.tells
-  -- the calls that it made on its files
   pub calls : List Entry
   pub made : told.site'.calls ≡ told.site.calls ++ calls
 

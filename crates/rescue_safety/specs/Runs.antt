@@ -9,9 +9,9 @@ use Rattle.rescue_rules.specs.Stops.{Behind, files_before, has_barrier}
 use Rattle.rescue_rules.specs.StopsBy.{LeftBy}
 use Rattle.rescue_command.specs.Command.{Command, Generate, AskTask}
 use Rattle.ddrescue_cli.specs.Told.{calls_before}
-use Rattle.rescue_safety.specs.Safe.{Target}
+use Rattle.rescue_safety.specs.Safe.{Target, by_then}
 use Rattle.rescue_safety.specs.Owed.{pairs_of, looked_at}
-use Rattle.rescue_safety.specs.Rescue.{Invocation, Rescue, target_of, AreSeen}
+use Rattle.rescue_safety.specs.Rescue.{Invocation, Rescue, target_of, run_of, AreSeen}
 
 -- these files, all durable, before any call
 abbrev pub resting : (List ℕ → Option File) → Behind
@@ -50,8 +50,7 @@ pub record Link : Type 0 where
   pub next : Behind
   pub gave : List (ℕ × ℕ)
 
--- What all runs of a chain have: the command names the target's files and has its places; and of the calls that were
--- made, as many as `moment` had returned when the run ended.
+-- What all runs of a chain have: the target's files and places; and how many calls had returned when the run ended.
 pub record IsStep (t : Target) (l : Link) (i : Invocation) (c : Command) : Type 0 where
   pub outfile : c.outfile ≡ t.outfile
   pub mapfile : c.mapfile ≡ Some t.mapfile
@@ -65,13 +64,14 @@ pub record IsStep (t : Target) (l : Link) (i : Invocation) (c : Command) : Type 
 abbrev pub after_barrier : List Entry → List (ℕ × ℕ) → List (ℕ × ℕ)
 after_barrier calls pairs = if has_barrier calls then pairs else []
 
--- A rescue on the target, which gave what it had read.
+-- A rescue on the target, which gave what it had read by then.
 pub record IsRescue (t : Target) (l : Link) : Type 0 where
   pub rescue : Rescue
   pub reads : List Reading
   pub are_seen : AreSeen rescue reads
   pub step : IsStep t l rescue.did.call rescue.command
-  pub gave : l.gave ≡ after_barrier (take step.moment rescue.did.call.calls) (pairs_of rescue.command.options.sector reads)
+  pub gave : l.gave ≡ after_barrier (take step.moment rescue.did.call.calls)
+      (pairs_of rescue.command.options.sector (by_then (run_of rescue reads) step.moment).reads)
 
 -- A generating on the target, which marks what the output holds: it gave what it read there.
 pub record IsGenerating (t : Target) (l : Link) : Type 0 where

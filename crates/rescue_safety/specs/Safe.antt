@@ -1,16 +1,15 @@
 -- What any stop of a rescue leaves, by what its input and its files tell.
-use Rattle.std.specs.Prelude.{◌≡◌, ◌≢◌, ◌⊎◌, ℕ, ◌+◌, ◌<◌, ◌≤◌, true, false, List, ◌++◌, length, take, slice_get, Option, Some, None, codes}
-use Rattle.faulty_source.specs.Journal.{Reading}
+use Rattle.std.specs.Prelude.{◌≡◌, ◌≢◌, ◌⊎◌, ℕ, zero, suc, ◌+◌, ◌<◌, ◌≤◌, nat_eq, true, false, List, [], ◌∷◌, ◌++◌, length, take, count_by, slice_get, Option, Some, None, codes, if◌then◌else◌}
+use Rattle.faulty_source.specs.Journal.{Reading, kept}
 use Rattle.crash_site.specs.Files.{File, bytes_of}
 use Rattle.crash_site.specs.Calls.{Entry}
 use Rattle.crash_site.specs.Left.{MayBeLeft}
 use Rattle.rescue_rules.specs.Given.{given}
-use Rattle.rescue_rules.specs.Stops.{Behind, files_before, has_barrier, CouldBefore}
-use Rattle.rescue_rules.specs.StopsBy.{LeftBy, IsUnwritten}
+use Rattle.rescue_rules.specs.Stops.{Behind, files_before, has_barrier, is_write, CouldBefore}
+use Rattle.rescue_rules.specs.StopsBy.{LeftBy}
 use Rattle.rescue_safety.specs.Saves.{CallsFinished, IsOneSaved}
 
--- The names of an output and of its mapfile, and how positions are placed in the output: the position `from` has the
--- place `to`.
+-- The names of an output and of its mapfile; and the place `to` that the position `from` has in the output.
 pub record Target : Type 0 where
   pub outfile : List ℕ
   pub mapfile : List ℕ
@@ -21,8 +20,7 @@ pub record Target : Type 0 where
 abbrev pub HasPlace : Target → (x y : ℕ) → Type 0
 HasPlace t x y = y + t.from ≡ x + t.to
 
--- What a rescue did on its target: the calls that it made on its files, after all calls before it; the bytes of its
--- input; and its reads of it, in sectors of this size.
+-- What a rescue did on its target: its calls, after all earlier ones; the bytes of its input; and its reads, by sectors.
 pub record Run : Type 0 where
   pub target : Target
   pub before : Behind
@@ -30,6 +28,17 @@ pub record Run : Type 0 where
   pub input : List ℕ
   pub sector : ℕ
   pub reads : List Reading
+
+-- The reads up to the one whose bytes the last of so many writes wrote: each read of which something is kept is written
+-- once, before the next read.
+abbrev pub reads_until : (sector writes : ℕ) → List Reading → List Reading
+reads_until sector writes [] = []
+reads_until sector zero (r ∷ rs) = []
+reads_until sector (suc n) (r ∷ rs) = r ∷ reads_until sector (if nat_eq (kept sector r) 0 then suc n else n) rs
+
+-- what it had read when the first k of its calls had returned: of later reads no byte had begun to be written
+abbrev pub by_then : Run → (k : ℕ) → Run
+by_then r k = record r { reads = reads_until r.sector (count_by is_write (take (k + 1) r.calls)) r.reads }
 
 -- the byte that its last read of the position x gave, if there is one
 abbrev pub gives : Run → (x : ℕ) → Option ℕ
@@ -49,10 +58,7 @@ pub record IsHeld (r : Run) (k : ℕ) (files : List ℕ → Option File) : Type 
   -- then the output has the byte that was given last in the position's place.
   pub rescued : (x y b : ℕ) → CallsFinished (files r.target.mapfile) x → gives r x ≡ Some b → HasPlace r.target x y
       → slice_get (bytes_of (files r.target.outfile)) y ≡ Some b
-  -- The output's old byte stands in each place that no write so far reaches,
-  pub unwritten : (y : ℕ) → y < length (bytes_at_first r) → IsUnwritten (take (k + 1) r.calls) y
-      → slice_get (bytes_of (files r.target.outfile)) y ≡ slice_get (bytes_at_first r) y
-  -- and in each place whose position no read gave a byte.
+  -- The output's old byte stands in each place whose position no read gave a byte.
   pub stood : (y : ℕ) → y < length (bytes_at_first r) → ((x : ℕ) → HasPlace r.target x y → gives r x ≡ None)
       → slice_get (bytes_of (files r.target.outfile)) y ≡ slice_get (bytes_at_first r) y
 
@@ -67,8 +73,8 @@ pub record IsSafe (r : Run) (k : ℕ) (files : List ℕ → Option File) : Type 
       → name ≢ r.target.mapfile ++ codes ".tmp" → (before : List ℕ → Option File)
       × MayBeLeft r.before.start r.before.earlier (length r.before.earlier) before × (files name ≡ before name)
 
--- A rescue is safe wherever it is stopped, and its reads gave no position a byte but the input's own.
+-- A rescue is safe wherever it is stopped, by what it had read then; and its reads gave only the input's own bytes.
 pub record IsSafeAnywhere (r : Run) : Type 0 where
   pub own : (x b : ℕ) → gives r x ≡ Some b → slice_get r.input x ≡ Some b
   pub safe : (k : ℕ) (files : List ℕ → Option File) → k ≤ length r.calls → LeftBy r.before r.calls k files
-      → IsSafe r k files
+      → IsSafe (by_then r k) k files

@@ -1,0 +1,5 @@
+use Rattle.rescue_safety.proofs.SafeLemmas.{none_is_read_again}
+use Rattle.rescue_safety.proofs.laws.none_is_read_again.Goals as goal
+
+pub returns : goal.returns
+returns c = none_is_read_again
