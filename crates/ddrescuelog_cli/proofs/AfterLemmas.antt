@@ -7,7 +7,7 @@ use Rattle.rescue_console.specs.FeedState.{FeedState, Keeps as FeedKeeps}
 use Rattle.rescue_console.specs.ConsoleState.{ChannelState, ConsoleState, Puts}
 use Rattle.rescue_console.specs.declared.console.Channel.TheVariants.{Out}
 use Rattle.log_command.specs.declared.mode.LogMode.{LogMode}
-use Rattle.log_command.specs.declared.mode.LogMode.TheVariants.{Change, Combine, Complete, ListBlocks, Create, Test, Compare, Summarize}
+use Rattle.log_command.specs.declared.mode.LogMode.TheVariants.{Create, Test, Compare}
 use Rattle.log_command.specs.Modes.{creates}
 use Rattle.log_command.specs.Command.{Command}
 use Rattle.option_words.specs.declared.fault.UsageFault.TheVariants.{PlaceTooLarge}
@@ -71,10 +71,6 @@ printed_plain e d (inr a) = plain_as e Done a.0 tt
 
 ends_plain : (mode : LogMode) (c : Command) (line list : List ℕ) (m : Maps) → creates mode ≡ false
     → removes_map mode ≡ false → (e : LogEnding) (d : Deeds) → EndsAs mode c line list m e d → IsPlain e
-ends_plain (Change change) c line list m reads keeps e d w = printed_plain e d w
-ends_plain (Combine op) c line list m reads keeps e d w = printed_plain e d w
-ends_plain (Complete status) c line list m reads keeps e d w = printed_plain e d w
-ends_plain (ListBlocks types) c line list m reads keeps e d w = printed_plain e d w
 ends_plain (Create listed rest) c line list m reads keeps e d w = absurd (both_ways true reads refl)
 ends_plain (Test true) c line list m reads keeps e d w = absurd (both_ways true keeps refl)
 ends_plain (Test false) c line list m reads keeps e d (inl a, idle) = plain_as e Done a.0 tt
@@ -83,7 +79,7 @@ ends_plain (Compare false) c line list m reads keeps e d (inl a, idle) = plain_a
 ends_plain (Compare false) c line list m reads keeps e d (inr a, idle) = plain_as e Differ a.0 tt
 ends_plain (Compare true) c line list m reads keeps e d (inl a, idle) = plain_as e Done a.0 tt
 ends_plain (Compare true) c line list m reads keeps e d (inr a, idle) = plain_as e Differ a.0 tt
-ends_plain Summarize c line list m reads keeps e d w = printed_plain e d w
+ends_plain _ c line list m reads keeps e d w = printed_plain e d w
 
 pub over_plain : (c : Command) (line list : List ℕ) (m : Maps) (e : LogEnding) (d : Deeds) → creates c.mode ≡ false
     → removes_map c.mode ≡ false → WorksOver c line list m e d → IsPlain e
@@ -96,30 +92,13 @@ plain_counts Done plain n n' same = same
 plain_counts NotDone plain n n' same = same
 plain_counts Differ plain n n' same = same
 plain_counts (Usage fault) plain n n' same = same
-plain_counts Exists plain n n' same = absurd plain
-plain_counts (NoMap which) plain n n' same = absurd plain
-plain_counts (MapRefused which error) plain n n' same = absurd plain
-plain_counts (BadNumber line) plain n n' same = absurd plain
-plain_counts ListTooLong plain n n' same = absurd plain
-plain_counts (SiteFault call) plain n n' same = absurd plain
-plain_counts FeedFault plain n n' same = absurd plain
 plain_counts ConsoleFault plain n n' same = same
 plain_counts NoMemory plain n n' same = same
+plain_counts _ plain n n' same = absurd plain
 
 plain_draft : (e : LogEnding) → IsPlain e → drafting_left e ≡ false
-plain_draft Done plain = refl
-plain_draft NotDone plain = refl
-plain_draft Differ plain = refl
-plain_draft (Usage fault) plain = refl
-plain_draft Exists plain = refl
-plain_draft (NoMap which) plain = refl
-plain_draft (MapRefused which error) plain = refl
-plain_draft (BadNumber line) plain = refl
-plain_draft ListTooLong plain = refl
 plain_draft (SiteFault call) plain = absurd plain
-plain_draft FeedFault plain = refl
-plain_draft ConsoleFault plain = refl
-plain_draft NoMemory plain = refl
+plain_draft _ plain = refl
 
 -- behind reads of maps that returned
 pub plain_behind : (e : LogEnding) (old new : SiteState) → IsPlain e → Stays old new → new.faults ≡ old.faults
@@ -179,19 +158,8 @@ behind_reads e old mid new stays kept b = record {
 
 -- it isn't taken from where no map is created
 feed_counts : (e : LogEnding) (c : Command) → creates c.mode ≡ false → FitsCommand e c → (n : ℕ) → FeedCounts e n n
-feed_counts Done c reads fits n = refl
-feed_counts NotDone c reads fits n = refl
-feed_counts Differ c reads fits n = refl
-feed_counts (Usage fault) c reads fits n = refl
-feed_counts Exists c reads fits n = refl
-feed_counts (NoMap which) c reads fits n = refl
-feed_counts (MapRefused which error) c reads fits n = refl
-feed_counts (BadNumber line) c reads fits n = refl
-feed_counts ListTooLong c reads fits n = refl
-feed_counts (SiteFault call) c reads fits n = refl
 feed_counts FeedFault c reads fits n = absurd (both_ways (creates c.mode) reads fits)
-feed_counts ConsoleFault c reads fits n = refl
-feed_counts NoMemory c reads fits n = refl
+feed_counts _ c reads fits n = refl
 
 pub feed_untaken : (e : LogEnding) (c : Command) (f : FeedState) → creates c.mode ≡ false → FitsCommand e c
     → FeedAfter (creates c.mode) e f f
@@ -206,41 +174,21 @@ feed_untaken e c f reads fits = record {
 -- a mode that prints nothing has no text
 pub text_none : (mode : LogMode) (c : Command) (line : List ℕ) (m : Maps) → prints mode ≡ false
     → text_of mode c line m ≡ []
-text_none (Change change) c line m off = absurd (both_ways true off refl)
-text_none (Combine op) c line m off = absurd (both_ways true off refl)
-text_none (Complete status) c line m off = absurd (both_ways true off refl)
-text_none (ListBlocks types) c line m off = absurd (both_ways true off refl)
 text_none (Create listed rest) c line m off = refl
 text_none (Test removes) c line m off = refl
 text_none (Compare finished) c line m off = refl
-text_none Summarize c line m off = absurd (both_ways true off refl)
+text_none _ c line m off = absurd (both_ways true off refl)
 
 -- as one that removes its mapfile
 pub removing_prints_nothing : (mode : LogMode) → removes_map mode ≡ true → prints mode ≡ false
-removing_prints_nothing (Change change) on = absurd (cc)
-removing_prints_nothing (Combine op) on = absurd (cc)
-removing_prints_nothing (Complete status) on = absurd (cc)
-removing_prints_nothing (ListBlocks types) on = absurd (cc)
-removing_prints_nothing (Create listed rest) on = absurd (cc)
 removing_prints_nothing (Test removes) on = refl
-removing_prints_nothing (Compare finished) on = absurd (cc)
-removing_prints_nothing Summarize on = absurd (cc)
+removing_prints_nothing _ on = absurd (cc)
 
 pub puts_nothing : (e : LogEnding) (c : Command) (text : List ℕ) (s : ConsoleState) → prints c.mode ≡ false → text ≡ []
     → FitsCommand e c → PutsAs e text s s
 puts_nothing Done c text s off none fits = subst (λ (t : List ℕ). Puts Out t s s) (sym none) (puts_none s)
-puts_nothing NotDone c text s off none fits = refl
-puts_nothing Differ c text s off none fits = refl
-puts_nothing (Usage fault) c text s off none fits = refl
-puts_nothing Exists c text s off none fits = refl
-puts_nothing (NoMap which) c text s off none fits = refl
-puts_nothing (MapRefused which error) c text s off none fits = refl
-puts_nothing (BadNumber line) c text s off none fits = refl
-puts_nothing ListTooLong c text s off none fits = refl
-puts_nothing (SiteFault call) c text s off none fits = refl
-puts_nothing FeedFault c text s off none fits = refl
 puts_nothing ConsoleFault c text s off none fits = absurd (both_ways (prints c.mode) off fits)
-puts_nothing NoMemory c text s off none fits = refl
+puts_nothing _ c text s off none fits = refl
 
 -- ---- the cause
 
@@ -257,27 +205,9 @@ same_out t between same out = ap (λ (c : ChannelState). c.faults) (out ∙ ap (
 pub causes_by : (e : LogEnding) (text : List ℕ) (t : Told) (between : ConsoleState) → OutCount text t between e
 causes_by Done text t between site feed put out =
     record { site = site; feed_ = feed; out = ap (λ (c : ChannelState). c.faults) out ∙ put.kept }
-causes_by NotDone text t between site feed put out =
-    record { site = site; feed_ = feed; out = same_out t between put out }
-causes_by Differ text t between site feed put out =
-    record { site = site; feed_ = feed; out = same_out t between put out }
-causes_by (Usage fault) text t between site feed put out =
-    record { site = site; feed_ = feed; out = same_out t between put out }
-causes_by Exists text t between site feed put out =
-    record { site = site; feed_ = feed; out = same_out t between put out }
-causes_by (NoMap which) text t between site feed put out =
-    record { site = site; feed_ = feed; out = same_out t between put out }
 causes_by (MapRefused which error) text t between site feed put out =
     (site.0, record { site = site.1; feed_ = feed; out = same_out t between put out })
-causes_by (BadNumber line) text t between site feed put out =
-    record { site = site; feed_ = feed; out = same_out t between put out }
-causes_by ListTooLong text t between site feed put out =
-    record { site = site; feed_ = feed; out = same_out t between put out }
-causes_by (SiteFault call) text t between site feed put out =
-    record { site = site; feed_ = feed; out = same_out t between put out }
-causes_by FeedFault text t between site feed put out =
-    record { site = site; feed_ = feed; out = same_out t between put out }
 causes_by ConsoleFault text t between site feed put out =
     record { site = site; feed_ = feed; out = ap (λ (c : ChannelState). c.faults) out ∙ put.1.rose }
-causes_by NoMemory text t between site feed put out =
+causes_by _ text t between site feed put out =
     record { site = site; feed_ = feed; out = same_out t between put out }

@@ -8,7 +8,7 @@ use Rattle.work_steps.specs.Work.{Deeds, with_calls, Take, Look, Works}
 use Rattle.work_steps.specs.Verdicts.{RefuseNothing}
 use Rattle.work_steps.proofs.VerdictLemmas.{goes_to_run}
 use Rattle.log_command.specs.declared.mode.LogMode.{LogMode}
-use Rattle.log_command.specs.declared.mode.LogMode.TheVariants.{Change, Combine, Complete, ListBlocks, Create, Test, Compare, Summarize}
+use Rattle.log_command.specs.declared.mode.LogMode.TheVariants.{Create, Test, Compare}
 use Rattle.log_command.specs.Modes.{creates}
 use Rattle.log_command.specs.Command.{Command}
 use Rattle.ddrescuelog_cli.specs.declared.ending.LogEnding.{LogEnding}
@@ -47,16 +47,7 @@ found_by : (e : LogEnding) (F : LogEnding → Type 0) → IsOfMode e → IsModeA
 found_by Done F of found = found
 found_by NotDone F of found = found
 found_by Differ F of found = found
-found_by (Usage fault) F of found = absurd of
-found_by Exists F of found = absurd of
-found_by (NoMap which) F of found = absurd of
-found_by (MapRefused which error) F of found = absurd of
-found_by (BadNumber line) F of found = absurd of
-found_by ListTooLong F of found = absurd of
-found_by (SiteFault call) F of found = absurd of
-found_by FeedFault F of found = absurd of
-found_by ConsoleFault F of found = absurd of
-found_by NoMemory F of found = absurd of
+found_by _ F of found = absurd of
 
 of_as : (e v : LogEnding) → e ≡ v → IsOfMode v → IsOfMode e
 of_as e v is of = subst IsOfMode (sym is) of
@@ -82,10 +73,6 @@ created_of listed rest c line list m e d pass (inr w) v =
 
 ends_of : (mode : LogMode) (c : Command) (line list : List ℕ) (m : Maps) (e : LogEnding) (d : Deeds)
     → (creates mode ≡ true → ListPasses c list) → EndsAs mode c line list m e d → IsVerdict e → IsOfMode e
-ends_of (Change change) c line list m e d pass w v = printed_of e d w v
-ends_of (Combine op) c line list m e d pass w v = printed_of e d w v
-ends_of (Complete status) c line list m e d pass w v = printed_of e d w v
-ends_of (ListBlocks types) c line list m e d pass w v = printed_of e d w v
 ends_of (Create listed rest) c line list m e d pass w v =
     created_of listed rest c line list m e d (pass refl) w v
 ends_of (Test true) c line list m e d pass (inl (r, idle)) v = of_as e NotDone r.1 tt
@@ -97,7 +84,7 @@ ends_of (Compare false) c line list m e d pass (inl a, idle) v = of_as e Done a.
 ends_of (Compare false) c line list m e d pass (inr a, idle) v = of_as e Differ a.0 tt
 ends_of (Compare true) c line list m e d pass (inl a, idle) v = of_as e Done a.0 tt
 ends_of (Compare true) c line list m e d pass (inr a, idle) v = of_as e Differ a.0 tt
-ends_of Summarize c line list m e d pass w v = printed_of e d w v
+ends_of _ c line list m e d pass w v = printed_of e d w v
 
 over_of : (c : Command) (line list : List ℕ) (found : Found) (m : Maps) (e : LogEnding) (d : Deeds)
     → NothingIsRefused c list found m → WorksOver c line list m e d → IsVerdict e → IsOfMode e
@@ -138,20 +125,12 @@ works_of true c is line list found m e d maps pass w v =
 
 -- what is left for an answer
 no_fault : (t : Told) (e : LogEnding) → NothingFailed t → Causes e t → e ≢ NoMemory → IsVerdict e
-no_fault t Done f cause room = tt
-no_fault t NotDone f cause room = tt
-no_fault t Differ f cause room = tt
-no_fault t (Usage fault) f cause room = tt
-no_fault t Exists f cause room = tt
-no_fault t (NoMap which) f cause room = tt
-no_fault t (MapRefused which error) f cause room = tt
-no_fault t (BadNumber line) f cause room = tt
-no_fault t ListTooLong f cause room = tt
 no_fault t (SiteFault call) f cause room = not_risen t.site.faults t.site'.faults f.calls_count f.calls cause.site
 no_fault t FeedFault f cause room = not_risen t.feed.faults t.feed'.faults f.takes_count f.takes cause.feed_
 no_fault t ConsoleFault f cause room =
     not_risen t.console.out.faults t.console'.out.faults f.puts_count f.puts cause.out
 no_fault t NoMemory f cause room = room refl
+no_fault t _ f cause room = tt
 
 pub is_found_unless : IsFoundUnless
 is_found_unless t c d asks failed pass room =

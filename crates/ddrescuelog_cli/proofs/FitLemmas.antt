@@ -15,7 +15,7 @@ use Rattle.save_resume.specs.Named.{map_mode}
 use Rattle.save_resume.specs.Saving.{fill_calls, save_calls}
 use Rattle.work_steps.specs.Work.{Deeds, with_calls, Take, Look, Make, Works}
 use Rattle.log_command.specs.declared.mode.LogMode.{LogMode}
-use Rattle.log_command.specs.declared.mode.LogMode.TheVariants.{Change, Combine, Complete, ListBlocks, Create, Test, Compare, Summarize}
+use Rattle.log_command.specs.declared.mode.LogMode.TheVariants.{Create, Test, Compare}
 use Rattle.log_command.specs.Modes.{creates}
 use Rattle.log_command.specs.Command.{Command}
 use Rattle.ddrescuelog_cli.specs.declared.ending.Which.{Which}
@@ -116,10 +116,6 @@ removal_fits c at made removes broke =
 
 ends_fit : (mode : LogMode) (c : Command) → c.mode ≡ mode → (line list : List ℕ) (m : Maps) (e : LogEnding) (d : Deeds)
     → EndsAs mode c line list m e d → Fits c e
-ends_fit (Change change) c is line list m e d w = printed_fits c e d (ap prints is) w
-ends_fit (Combine op) c is line list m e d w = printed_fits c e d (ap prints is) w
-ends_fit (Complete status) c is line list m e d w = printed_fits c e d (ap prints is) w
-ends_fit (ListBlocks types) c is line list m e d w = printed_fits c e d (ap prints is) w
 ends_fit (Create listed rest) c is line list m e d w = created_fits listed rest c line list m e d (ap creates is) w
 ends_fit (Test true) c is line list m e d (inl (r, idle)) = fits_as c e NotDone r.1 (ap tests is)
 ends_fit (Test true) c is line list m e d (inr (passed, inl b)) =
@@ -131,7 +127,7 @@ ends_fit (Compare false) c is line list m e d (inl a, idle) = fits_as c e Done a
 ends_fit (Compare false) c is line list m e d (inr a, idle) = fits_as c e Differ a.0 (ap compares is)
 ends_fit (Compare true) c is line list m e d (inl a, idle) = fits_as c e Done a.0 tt
 ends_fit (Compare true) c is line list m e d (inr a, idle) = fits_as c e Differ a.0 (ap compares is)
-ends_fit Summarize c is line list m e d w = printed_fits c e d (ap prints is) w
+ends_fit _ c is line list m e d w = printed_fits c e d (ap prints is) w
 
 -- ---- all of it
 

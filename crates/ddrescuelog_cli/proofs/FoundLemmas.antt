@@ -9,7 +9,7 @@ use Rattle.crash_site.specs.Files.{File}
 use Rattle.crash_site.specs.Calls.{Entry, BrokeAt}
 use Rattle.work_steps.specs.Work.{Deeds, WorkStep, Take, Look, Open, Make, Read, Works}
 use Rattle.log_command.specs.declared.mode.LogMode.{LogMode}
-use Rattle.log_command.specs.declared.mode.LogMode.TheVariants.{Change, Combine, Complete, ListBlocks, Create, Test, Compare, Summarize}
+use Rattle.log_command.specs.declared.mode.LogMode.TheVariants.{Create, Test, Compare}
 use Rattle.log_command.specs.Modes.{creates}
 use Rattle.log_command.specs.Command.{Command}
 use Rattle.ddrescuelog_cli.specs.declared.ending.Which.{Which}
@@ -103,10 +103,6 @@ done_of c m passed = record {
 
 ends_found : (mode : LogMode) (c : Command) (line list : List ℕ) (m : Maps) (e : LogEnding) (d : Deeds)
     → EndsAs mode c line list m e d → IsModeAnswer e (Finds mode c m)
-ends_found (Change change) c line list m e d w = printed_found (Finds (Change change) c m) e d refl w
-ends_found (Combine op) c line list m e d w = printed_found (Finds (Combine op) c m) e d refl w
-ends_found (Complete status) c line list m e d w = printed_found (Finds (Complete status) c m) e d refl w
-ends_found (ListBlocks types) c line list m e d w = printed_found (Finds (ListBlocks types) c m) e d refl w
 ends_found (Create listed rest) c line list m e d w =
     created_found (Finds (Create listed rest) c m) listed rest c line list m e d refl w
 ends_found (Test true) c line list m e d (inl (r, idle)) =
@@ -127,7 +123,7 @@ ends_found (Compare true) c line list m e d (inl a, idle) =
     subst (λ x. IsModeAnswer x (Finds (Compare true) c m)) (sym a.0) (inl (refl, a.1))
 ends_found (Compare true) c line list m e d (inr a, idle) =
     subst (λ x. IsModeAnswer x (Finds (Compare true) c m)) (sym a.0) (inr (refl, a.1))
-ends_found Summarize c line list m e d w = printed_found (Finds Summarize c m) e d refl w
+ends_found x c line list m e d w = printed_found (Finds x c m) e d refl w
 
 over_found : (c : Command) (line list : List ℕ) (m : Maps) (e : LogEnding) (d : Deeds) → WorksOver c line list m e d
     → IsModeAnswer e (Finds c.mode c m)

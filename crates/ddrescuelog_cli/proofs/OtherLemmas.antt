@@ -1,5 +1,5 @@
 -- Files that the work leaves as they read.
-use Rattle.std.proofs.Common.{◌≡◌, ◌≢◌, ℕ, true, false, List, [], ◌∷◌, ◌++◌, map, Option, Some, refl, sym, ap, ◌∙◌, inl, inr, subst}
+use Rattle.std.proofs.Common.{◌≡◌, ◌≢◌, ℕ, true, List, [], ◌∷◌, ◌++◌, map, Option, Some, refl, sym, ap, ◌∙◌, inl, inr, subst}
 use Rattle.std.specs.Prelude.{⊤}
 use Rattle.crash_site.specs.Files.{File}
 use Rattle.crash_site.specs.Calls.{Call, Entry, Done as Returned, Failed, draft_append, draft_begin, draft_sync}
@@ -14,7 +14,7 @@ use Rattle.mapfile_text.specs.Pieces.{pieces_of}
 use Rattle.save_resume.specs.MapNames.{MapNames, names_of}
 use Rattle.save_resume.specs.Saving.{publish_calls, save_calls}
 use Rattle.log_command.specs.declared.mode.LogMode.{LogMode}
-use Rattle.log_command.specs.declared.mode.LogMode.TheVariants.{Change, Combine, Complete, ListBlocks, Create, Test, Compare, Summarize}
+use Rattle.log_command.specs.declared.mode.LogMode.TheVariants.{Create, Test}
 use Rattle.log_command.specs.Modes.{creates}
 use Rattle.log_command.specs.Command.{Command}
 use Rattle.save_resume.proofs.StageLemmas.{appended_draft}
@@ -114,23 +114,13 @@ module _ (c : Command) (line list : List ℕ) (m : Maps) (e : LogEnding) (rest :
 
   mode_leaves : (mode : LogMode) → (creates mode ≡ true → n ≢ (names_of c.mapfile).draft)
       → EndsAs mode c line list m e (only_calls rest) → Leaves n rest
-  mode_leaves (Change change) apart w =
-      nothing_leaves n rest (reads_run (Change change) c line list m e rest (λ x. x) w)
-  mode_leaves (Combine op) apart w = nothing_leaves n rest (reads_run (Combine op) c line list m e rest (λ x. x) w)
-  mode_leaves (Complete status) apart w =
-      nothing_leaves n rest (reads_run (Complete status) c line list m e rest (λ x. x) w)
-  mode_leaves (ListBlocks types) apart w =
-      nothing_leaves n rest (reads_run (ListBlocks types) c line list m e rest (λ x. x) w)
   mode_leaves (Create listed remaining) apart (inl (is, idle)) = nothing_leaves n rest idle.gain.calls
   mode_leaves (Create listed remaining) apart (inr (inl (refused, idle))) = nothing_leaves n rest idle.gain.calls
   mode_leaves (Create listed remaining) apart (inr (inr (passed, (numbers, text, are, is, saves)))) =
       save_leaves text (apart refl) saves
   mode_leaves (Test true) apart w = removal_leaves w
-  mode_leaves (Test false) apart w =
-      nothing_leaves n rest (reads_run (Test false) c line list m e rest (λ x. x) w)
-  mode_leaves (Compare finished) apart w =
-      nothing_leaves n rest (reads_run (Compare finished) c line list m e rest (λ x. x) w)
-  mode_leaves Summarize apart w = nothing_leaves n rest (reads_run Summarize c line list m e rest (λ x. x) w)
+  mode_leaves o apart w =
+      nothing_leaves n rest (reads_run o c line list m e rest (λ x. x) w)
 
 -- ---- all of it
 

@@ -22,7 +22,7 @@ use Rattle.log_command.specs.Options.{options_in}
 use Rattle.log_command.specs.Command.{Command, AskQuiet, AreRefused, IsAsked, is_too_long, log_grammar, modes_given, command_by, size_word, unless_too_long, with_mode, with_operand}
 use Rattle.save_resume.proofs.FillLemmas.{keeps_self}
 use Rattle.ddrescuelog_cli.specs.declared.ending.LogEnding.{LogEnding}
-use Rattle.ddrescuelog_cli.specs.declared.ending.LogEnding.TheVariants.{Done, NotDone, Differ, Usage, Exists, NoMap, MapRefused, BadNumber, ListTooLong, SiteFault, FeedFault, ConsoleFault, NoMemory}
+use Rattle.ddrescuelog_cli.specs.declared.ending.LogEnding.TheVariants.{Usage, NoMemory}
 use Rattle.ddrescuelog_cli.specs.Told.{Told, files_of, line_of, only_calls}
 use Rattle.ddrescuelog_cli.specs.Results.{text_of}
 use Rattle.ddrescuelog_cli.specs.Messages.{message}
@@ -88,24 +88,14 @@ said_beside t between (Message loud untouched (inr part) plan) = part.stays.othe
 
 asked_says : (e : LogEnding) (c : Command) (words : List (List ℕ)) → FitsCommand e c → AreAccepted words
     → SaysOfWords e words
-asked_says Done c words fits accepted = accepted
-asked_says NotDone c words fits accepted = accepted
-asked_says Differ c words fits accepted = accepted
 asked_says (Usage (Word fault)) c words fits accepted = absurd fits
 asked_says (Usage (BadValue n)) c words fits accepted = absurd fits
 asked_says (Usage (Conflict n)) c words fits accepted = absurd fits
 asked_says (Usage (Modes given)) c words fits accepted = absurd fits
 asked_says (Usage (Operands given)) c words fits accepted = absurd fits
 asked_says (Usage PlaceTooLarge) c words fits accepted = accepted
-asked_says Exists c words fits accepted = accepted
-asked_says (NoMap which) c words fits accepted = accepted
-asked_says (MapRefused which error) c words fits accepted = accepted
-asked_says (BadNumber line) c words fits accepted = accepted
-asked_says ListTooLong c words fits accepted = accepted
-asked_says (SiteFault call) c words fits accepted = accepted
-asked_says FeedFault c words fits accepted = accepted
-asked_says ConsoleFault c words fits accepted = accepted
 asked_says NoMemory c words fits accepted = tt
+asked_says _ c words fits accepted = accepted
 
 pub asked_kept : (c : Command) (between : ConsoleState) (t : Told) → IsAsked t.words c → t.site.is_drafting ≡ false
     → WorkedFor c between t → SiteBehind t.answer t.site t.site' → FeedAfter (creates c.mode) t.answer t.feed t.feed'
@@ -233,11 +223,8 @@ never_starved words fault (Wrong rows items operands options reading is) none =
 refused_says : (words : List (List ℕ)) (fault : UsageFault) → AreRefused words fault → SaysOfUsage fault words
 refused_says words (Word f) refused =
     (refused, λ is. never_starved words (Word f) refused (ap (λ (g : WordFault). Word g) is))
-refused_says words (BadValue n) refused = refused
-refused_says words (Conflict n) refused = refused
-refused_says words (Modes given) refused = refused
-refused_says words (Operands given) refused = refused
 refused_says words PlaceTooLarge refused = absurd (never_place words refused)
+refused_says words _ refused = refused
 
 pub refused_kept : (words : List (List ℕ)) (fault : UsageFault) (quiet : Bool) (s : SiteState) (f : FeedState)
     (p p' : ConsoleState) → IsRefusalBy log_grammar words fault quiet → s.is_drafting ≡ false

@@ -371,13 +371,6 @@ reads_run Summarize c line list m e rest only (inr w) = w.1.gain.calls
 -- nor does any mode behind an answer that leaves the files
 reads_early : (mode : LogMode) (c : Command) (line list : List ℕ) (m : Maps) (e : LogEnding) (rest : List Entry)
     → LeavesFiles e → EndsAs mode c line list m e (only_calls rest) → rest ≡ []
-reads_early (Change change) c line list m e rest leaves w =
-    reads_run (Change change) c line list m e rest (λ x. x) w
-reads_early (Combine op) c line list m e rest leaves w = reads_run (Combine op) c line list m e rest (λ x. x) w
-reads_early (Complete status) c line list m e rest leaves w =
-    reads_run (Complete status) c line list m e rest (λ x. x) w
-reads_early (ListBlocks types) c line list m e rest leaves w =
-    reads_run (ListBlocks types) c line list m e rest (λ x. x) w
 reads_early (Create listed other) c line list m e rest leaves (inl (is, idle)) = idle.gain.calls
 reads_early (Create listed other) c line list m e rest leaves (inr (inl (refused, idle))) = idle.gain.calls
 reads_early (Create listed other) c line list m e rest leaves
@@ -390,10 +383,8 @@ reads_early (Test true) c line list m e rest leaves (inr (passed, inl (call, at,
     absurd (subst LeavesFiles at leaves)
 reads_early (Test true) c line list m e rest leaves (inr (passed, inr (more, made, ends))) =
     absurd (subst LeavesFiles ends.0 leaves)
-reads_early (Test false) c line list m e rest leaves w = reads_run (Test false) c line list m e rest (λ x. x) w
-reads_early (Compare finished) c line list m e rest leaves w =
-    reads_run (Compare finished) c line list m e rest (λ x. x) w
-reads_early Summarize c line list m e rest leaves w = reads_run Summarize c line list m e rest (λ x. x) w
+reads_early o c line list m e rest leaves w =
+    reads_run o c line list m e rest (λ x. x) w
 
 -- nothing was called behind these
 pub none_more : (made rest more : List Entry) → rest ≡ made ++ more → IsIdle (only_calls more) → rest ≡ made
@@ -458,22 +449,10 @@ module _ (c : Command) (line list : List ℕ) (m : Maps) (site : SiteState) (e :
 
   mode_leaves : (mode : LogMode) → EndsAs mode c line list m e (only_calls rest)
       → Leaving mode c line list m site calls e
-  mode_leaves (Change change) w =
-      nothing_leaves (Change change) (reads_run (Change change) c line list m e rest (λ x. x) w) (λ done x. x)
-  mode_leaves (Combine op) w =
-      nothing_leaves (Combine op) (reads_run (Combine op) c line list m e rest (λ x. x) w) (λ done x. x)
-  mode_leaves (Complete status) w =
-      nothing_leaves (Complete status) (reads_run (Complete status) c line list m e rest (λ x. x) w) (λ done x. x)
-  mode_leaves (ListBlocks types) w =
-      nothing_leaves (ListBlocks types) (reads_run (ListBlocks types) c line list m e rest (λ x. x) w) (λ done x. x)
   mode_leaves (Create listed other) w = created_leaves listed other w
   mode_leaves (Test true) w = removed_leaves w
-  mode_leaves (Test false) w =
-      nothing_leaves (Test false) (reads_run (Test false) c line list m e rest (λ x. x) w) (λ done x. x)
-  mode_leaves (Compare finished) w =
-      nothing_leaves (Compare finished) (reads_run (Compare finished) c line list m e rest (λ x. x) w) (λ done x. x)
-  mode_leaves Summarize w =
-      nothing_leaves Summarize (reads_run Summarize c line list m e rest (λ x. x) w) (λ done x. x)
+  mode_leaves o w =
+      nothing_leaves o (reads_run o c line list m e rest (λ x. x) w) (λ done x. x)
 
 -- ---- all of it
 

@@ -11,7 +11,7 @@ use Rattle.work_steps.specs.Work.{Deeds, Take, Look, Make, Works}
 use Rattle.work_steps.specs.Verdicts.{IsOnce, RefuseOnce, AreVerdicts}
 use Rattle.work_steps.proofs.VerdictLemmas.{one_verdict}
 use Rattle.log_command.specs.declared.mode.LogMode.{LogMode}
-use Rattle.log_command.specs.declared.mode.LogMode.TheVariants.{Change, Combine, Complete, ListBlocks, Create, Test, Compare, Summarize}
+use Rattle.log_command.specs.declared.mode.LogMode.TheVariants.{Create, Test, Compare}
 use Rattle.map_algebra.specs.Numbers.{numbers_in}
 use Rattle.log_command.specs.declared.options.LogOptions.{LogOptions}
 use Rattle.log_command.specs.Modes.{creates}
@@ -76,11 +76,6 @@ ends_once : Once (OnlyAnswers Done)
 ends_once e e' d d' a b v v' = a.0 ∙ sym b.0
 
 found_once : (mode : LogMode) (c : Command) (m : Maps) → IsOnce (Finds mode c m)
-found_once (Change change) c m e e' a b = a ∙ sym b
-found_once (Combine op) c m e e' a b = a ∙ sym b
-found_once (Complete status) c m e e' a b = a ∙ sym b
-found_once (ListBlocks types) c m e e' a b = a ∙ sym b
-found_once (Create listed rest) c m e e' a b = a ∙ sym b
 found_once (Test removes) c m e e' (inl a) (inl b) = a.0 ∙ sym b.0
 found_once (Test removes) c m e e' (inl a) (inr b) =
     absurd (both_ways _ b.1.unfinished (a.1.each b.1.position b.1.inside))
@@ -95,7 +90,7 @@ found_once (Compare true) c m e e' (inl a) (inl b) = a.0 ∙ sym b.0
 found_once (Compare true) c m e e' (inl a) (inr b) = absurd (b.1.other (a.1.each b.1.position b.1.inside))
 found_once (Compare true) c m e e' (inr a) (inl b) = absurd (a.1.other (b.1.each a.1.position a.1.inside))
 found_once (Compare true) c m e e' (inr a) (inr b) = a.0 ∙ sym b.0
-found_once Summarize c m e e' a b = a ∙ sym b
+found_once _ c m e e' a b = a ∙ sym b
 
 one_list : (o : LogOptions) (list : List ℕ) → IsOnce (ListRefused o list)
 one_list o list e e' (inl a) (inl b) = a.1 ∙ sym b.1
@@ -132,10 +127,6 @@ created_once listed rest c line list m e e' d d' (inr a) (inr b) v v' =
     e e' d d' a b v v'
 
 ends_as_once : (mode : LogMode) (c : Command) (line list : List ℕ) (m : Maps) → Once (EndsAs mode c line list m)
-ends_as_once (Change change) c line list m = printed_once
-ends_as_once (Combine op) c line list m = printed_once
-ends_as_once (Complete status) c line list m = printed_once
-ends_as_once (ListBlocks types) c line list m = printed_once
 ends_as_once (Create listed rest) c line list m = created_once listed rest c line list m
 ends_as_once (Test true) c line list m =
     one_verdict LogEnding log_faults IsVerdict verdicts
@@ -143,7 +134,7 @@ ends_as_once (Test true) c line list m =
 ends_as_once (Test false) c line list m = λ e e' d d' a b v v'. found_once (Test false) c m e e' a.0 b.0
 ends_as_once (Compare finished) c line list m =
     λ e e' d d' a b v v'. found_once (Compare finished) c m e e' a.0 b.0
-ends_as_once Summarize c line list m = printed_once
+ends_as_once _ c line list m = printed_once
 
 -- ---- all of it
 

@@ -68,13 +68,6 @@ compared_of c line found end looks e d w v =
 
 -- what is left for an answer
 no_fault : (t : Told) (e : VerifyEnding) → NothingFailed t → Causes e t → e ≢ NoMemory → IsVerdict e
-no_fault t Done f cause room = tt
-no_fault t (Differs bytes) f cause room = tt
-no_fault t (Usage fault) f cause room = tt
-no_fault t (SameName first second) f cause room = tt
-no_fault t NoMap f cause room = tt
-no_fault t NoOutput f cause room = tt
-no_fault t (MapRefused which error) f cause room = tt
 no_fault t SourceFault f cause room =
     not_risen t.source.faults t.source'.faults f.opens_count f.opens cause.faults
 no_fault t SourceLost f cause room = not_risen t.source.losses t.source'.losses f.reads_count f.reads cause.losses
@@ -83,6 +76,7 @@ no_fault t (SiteFault call) f cause room =
 no_fault t ConsoleFault f cause room =
     not_risen t.console.out.faults t.console'.out.faults f.puts_count f.puts cause.out_faults
 no_fault t NoMemory f cause room = room refl
+no_fault t _ f cause room = tt
 
 pub compared_unless : IsComparedUnless
 compared_unless t c d asks failed pass room =

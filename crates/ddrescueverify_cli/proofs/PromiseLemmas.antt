@@ -9,7 +9,7 @@ use Rattle.rescue_console.specs.ConsoleState.{ChannelState, ConsoleState}
 use Rattle.option_words.specs.declared.fault.WordFault.{WordFault}
 use Rattle.option_words.specs.declared.fault.WordFault.TheVariants.{NoMemory as WordNoMemory}
 use Rattle.option_words.specs.declared.fault.UsageFault.{UsageFault}
-use Rattle.option_words.specs.declared.fault.UsageFault.TheVariants.{Word, BadValue, Conflict, Modes, Operands, PlaceTooLarge}
+use Rattle.option_words.specs.declared.fault.UsageFault.TheVariants.{Word, BadValue, Operands, PlaceTooLarge}
 use Rattle.option_words.specs.Reading.{WordFaultAt}
 use Rattle.option_words.proofs.MemoryLemmas.{never_memory}
 use Rattle.option_values.specs.Grammar.{IsRefusalBy, Unread, Wrong, unless_empty}
@@ -299,11 +299,8 @@ never_starved words fault (Wrong rows items operands options reading is) none =
 refused_says : (words : List (List ℕ)) (fault : UsageFault) → AreRefused words fault → SaysOfUsage fault words
 refused_says words (Word f) refused =
     (refused, λ is. never_starved words (Word f) refused (ap (λ (g : WordFault). Word g) is))
-refused_says words (BadValue n) refused = refused
-refused_says words (Conflict n) refused = refused
-refused_says words (Modes n) refused = refused
-refused_says words (Operands n) refused = refused
 refused_says words PlaceTooLarge refused = absurd (never_place words refused)
+refused_says words _ refused = refused
 
 -- the promise where the words are refused
 pub refused_kept : (words : List (List ℕ)) (fault : UsageFault) (quiet : Bool) (s : SourceState) (d : SiteState)

@@ -53,14 +53,9 @@ stop_says (Usage (Modes given)) words t cause ok = absurd cause
 stop_says (Usage (Operands given)) words t cause ok = absurd cause
 stop_says (Usage PlaceTooLarge) words t cause ok = ok
 stop_says (SameName first second) words t cause ok = absurd cause
-stop_says NoMap words t cause ok = ok
-stop_says NoOutput words t cause ok = ok
-stop_says (MapRefused which error) words t cause ok = ok
-stop_says SourceFault words t cause ok = ok
-stop_says SourceLost words t cause ok = ok
-stop_says (SiteFault call) words t cause ok = ok
 stop_says ConsoleFault words t cause ok = absurd cause
 stop_says NoMemory words t cause ok = tt
+stop_says _ words t cause ok = ok
 
 rises : (opens reads calls puts : ℕ → ℕ) (t : Told) → CountsRise opens reads calls t.source t.source' t.site t.site'
     → t.console'.out.faults ≡ puts t.console.out.faults → Rises opens reads calls puts t
@@ -69,15 +64,12 @@ rises opens reads calls puts t c out =
 
 stop_causes : (e : VerifyEnding) (t : Told) → StopCause e t.source t.source' t.site t.site'
     → t.console'.out.faults ≡ t.console.out.faults → Causes e t
-stop_causes Done t cause out = absurd cause
-stop_causes (Differs bytes) t cause out = absurd cause
 stop_causes (Usage (Word fault)) t cause out = absurd cause
 stop_causes (Usage (BadValue n)) t cause out = absurd cause
 stop_causes (Usage (Conflict n)) t cause out = absurd cause
 stop_causes (Usage (Modes given)) t cause out = absurd cause
 stop_causes (Usage (Operands given)) t cause out = absurd cause
 stop_causes (Usage PlaceTooLarge) t cause out = rises unchanged unchanged unchanged unchanged t cause out
-stop_causes (SameName first second) t cause out = absurd cause
 stop_causes NoMap t cause out = rises unchanged unchanged unchanged unchanged t cause out
 stop_causes NoOutput t cause out = rises unchanged unchanged unchanged unchanged t cause out
 stop_causes (MapRefused which error) t cause out =
@@ -85,23 +77,15 @@ stop_causes (MapRefused which error) t cause out =
 stop_causes SourceFault t cause out = rises raised unchanged unchanged unchanged t cause out
 stop_causes SourceLost t cause out = rises unchanged raised unchanged unchanged t cause out
 stop_causes (SiteFault call) t cause out = rises unchanged unchanged raised unchanged t cause out
-stop_causes ConsoleFault t cause out = absurd cause
 stop_causes NoMemory t cause out = rises unchanged unchanged unchanged unchanged t cause out
+stop_causes _ t cause out = absurd cause
 
 pub stop_puts : (e : VerifyEnding) (t : Told) (quiet : Bool) (line : List ℕ) (new : ConsoleState)
     → StopCause e t.source t.source' t.site t.site' → new ≡ t.console → PutsAs e quiet line t.console new
 stop_puts Done t quiet line new cause still = absurd cause
 stop_puts (Differs bytes) t quiet line new cause still = absurd cause
-stop_puts (Usage fault) t quiet line new cause still = still
-stop_puts (SameName first second) t quiet line new cause still = still
-stop_puts NoMap t quiet line new cause still = still
-stop_puts NoOutput t quiet line new cause still = still
-stop_puts (MapRefused which error) t quiet line new cause still = still
-stop_puts SourceFault t quiet line new cause still = still
-stop_puts SourceLost t quiet line new cause still = still
-stop_puts (SiteFault call) t quiet line new cause still = still
 stop_puts ConsoleFault t quiet line new cause still = absurd cause
-stop_puts NoMemory t quiet line new cause still = still
+stop_puts _ t quiet line new cause still = still
 
 -- ---- an answer behind the save
 

@@ -16,7 +16,7 @@ links_on r = is_used (table_entry r 1)
 abbrev pub linked : (base : ℕ) → List ℕ → ℕ
 linked base r = base + (table_entry r 1).first
 
--- the sector behind records that begin at one: each lies where the one before links to
+-- the sector after records that begin at one: each lies where the one before links to
 abbrev pub sector_behind : (base at : ℕ) → List (List ℕ) → ℕ
 sector_behind base at [] = at
 sector_behind base at (r ∷ chain) = sector_behind base (linked base r) chain
@@ -36,6 +36,6 @@ given_from base at (r ∷ chain) = given_by at r ++ given_from base (linked base
 abbrev pub logical_partitions : (base : ℕ) → List (List ℕ) → List Partition
 logical_partitions base chain = given_from base base chain
 
--- the sector behind the records of a chain
+-- the sector after the records of a chain
 abbrev pub next_in_chain : (base : ℕ) → List (List ℕ) → ℕ
 next_in_chain base chain = sector_behind base base chain

@@ -21,7 +21,7 @@ primary main k =
 abbrev pub logical : (base : ℕ) → (chain : List (List ℕ)) → (k : ℕ) → Option Partition
 logical base chain k = slice_get (logical_partitions base chain) (k - 5)
 
--- the first record is one, and protects nothing; and what was read behind it are records
+-- the first record is one, and protects nothing; and what was read after it are records
 abbrev pub are_records : (main : List ℕ) → (chain : List (List ℕ)) → Bool
 are_records main chain = is_record main && not (is_protected main) && list_all is_record chain
 
@@ -41,7 +41,7 @@ Part records k first count = partition_of records k ≡ Some (record { first = f
 abbrev pub is_lacking : (base : ℕ) → (chain : List (List ℕ)) → (k : ℕ) → Bool
 is_lacking base chain k = nat_le (length (logical_partitions base chain)) (k - 5)
 
--- a chain goes on behind the records that were read of it: each links on, they don't give the partition, and they
+-- a chain goes on after the records that were read of it: each links on, they don't give the partition, and they
 -- aren't as many as are read at most
 abbrev pub chain_goes_on : (base : ℕ) → (chain : List (List ℕ)) → (k : ℕ) → Bool
 chain_goes_on base chain k = list_all links_on chain && is_lacking base chain k && nat_lt (length chain) chain_limit

@@ -59,13 +59,13 @@ pub record IsNear (k : ℕ) (c : Chain) : Type 0 where
   pub given : c.given ≤ k - 5
   pub read : c.read ≤ 128
 
--- that behind one more record, or of the partition that it gives
+-- the same after one more record, or of the partition that it gives
 abbrev pub LeadsNear : (k : ℕ) → (c : Chain) → Link → Type 0
 LeadsNear k c (Found p) = (p.first < 2 ^ 34) × (p.count < 2 ^ 32)
 LeadsNear k c (On n) = IsNear k n × (n.read ≡ c.read + 1)
 LeadsNear k c End = ⊤
 
--- the chain behind a record with this second entry, if that is used
+-- the chain after a record with this second entry, if that is used
 abbrev pub leads : (c : Chain) → (given : ℕ) → (second : TableEntry) → Link
 leads c given second =
     if is_used second
@@ -122,7 +122,7 @@ abbrev pub SearchFinds : (k : ℕ) → (records : List (List ℕ)) → Result Pa
 SearchFinds k records (Ok p) = partition_of records k ≡ Some p
 SearchFinds k records (Err e) = StoppedBy e k records
 
--- what a search did behind these records
+-- what a search did after these records
 pub record Searched (k : ℕ) (before : List (List ℕ)) (result : Result Partition SearchStop) (old new : SourceState)
     : Type 0 where
   pub reads : List Reading
@@ -130,7 +130,7 @@ pub record Searched (k : ℕ) (before : List (List ℕ)) (result : Result Partit
   pub next : AreNext k before reads
   pub to : SearchFinds k (before ++ records_of reads) result
 
--- behind the first record, which leads on to a chain
+-- after the first record, which leads on to a chain
 pub record LeadsToChain (main : List ℕ) (base : ℕ) : Type 0 where
   pub e : TableEntry
   pub are : are_records main [] ≡ true

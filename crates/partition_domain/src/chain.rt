@@ -39,7 +39,7 @@ pub enum Link {
     End,
 }
 
-/// Where the second entry of a record leads to, behind so many partitions.
+/// Where the second entry of a record leads to, after this many partitions.
 fn lead(chain: Chain, given: u64, second: TableEntry, k: u64) -> Link
     requires near { IsNear k chain }
     requires more { chain.read < 128 }
