@@ -35,22 +35,23 @@ proved = $(foreach library,$(own_$(1)),build/$(library).proved)
 # The words of the kit's compiler for a crate. A crate reads the statements of its libraries, not their proofs. The
 # kit's `rt` is not used here, since it lets no two crates over one library be proved at once.
 KIT := $(patsubst %/,%,$(dir $(shell rt doc)))
+OUT := "$(CURDIR)/build"
 READS = $(foreach library,$(kit_$*),--extern $(library)=$(KIT)/rlibs/$(library).rlib) -L dependency=$(KIT)/rlibs \
-    $(foreach library,$(own_$*),--extern $(library)=$(CURDIR)/build/$(library).rlib) -L dependency=$(CURDIR)/build \
+    $(foreach library,$(own_$*),--extern $(library)=$(OUT)/$(library).rlib) -L dependency=$(OUT) \
     --antt-project $(KIT)/rattle/logic/antt-project.json --logic-built $(KIT)/logic_built --links $*=
 BUILD = cd crates/$* && $(KIT)/bin/rattle build --crate-name $*
-LOG = > $(CURDIR)/build/$*.log 2>&1 || { cat $(CURDIR)/build/$*.log; echo "$* is not proved"; exit 1; }
+LOG = > $(OUT)/$*.log 2>&1 || { cat $(OUT)/$*.log; echo "$* is not proved"; exit 1; }
 
 # A library: its statements, proved.
 $(LIBRARIES:%=build/%.proved): build/%.proved: $$(call sources,$$*) $$(call proved,$$*) crates.txt
 	@mkdir -p build && rm -rf build/$*.rlib
-	@$(BUILD) src/lib.rt $(READS) --statements -o $(CURDIR)/build/$*.rlib $(LOG)
+	@$(BUILD) src/lib.rt $(READS) --statements -o $(OUT)/$*.rlib $(LOG)
 	@echo "$* is proved" && touch $@
 
 # A program: proved, compiled and linked.
 $(MAINS:%=bin/%): bin/%: $$(call sources,$$*) $$(call proved,$$*) crates.txt
 	@mkdir -p bin build
-	@$(BUILD) src/main.rt $(READS) --toolchain $(KIT)/toolchain --backend llvm -o $(CURDIR)/build/$*.o $(LOG)
+	@$(BUILD) src/main.rt $(READS) --toolchain $(KIT)/toolchain --backend llvm -o $(OUT)/$*.o $(LOG)
 	@$(KIT)/bin/rattle-link --target x86_64-unknown-linux-gnu --toolchain $(KIT)/toolchain -o $@ build/$*.o \
 	    $(KIT)/c/libos_c.a $(KIT)/c/liblibc_c.a
 	@echo "$* is proved and built"
