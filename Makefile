@@ -1,21 +1,26 @@
 # The usual ways into the repository. `make` proves and builds the programs, and `make bin/ddrescue` one of them, with a
 # proof on each processor (`make -j2` takes two). An interrupted build goes on where it was. `make scenes` builds the
-# player of scenes, `make check` runs the gate, and `make install` and `make uninstall` put programs, manual pages and
-# completions of bash and zsh in place and take them away.
+# player of scenes, `make check` runs the gate, and `make install` and `make uninstall` put programs, manual pages,
+# completions of bash and zsh and documents in place and take them away. `make dist` and `make deb` pack what
+# `make install` installs, as a tarball and as a package for Debian. With `BUILT=FOLDER` these three take the programs
+# from a folder, and prove and build nothing.
 PREFIX ?= /usr/local
 PROGRAMS := ddrescue ddrescuelog ddrescuepart ddrescueverify ddrescueplan
-SHARE := $(DESTDIR)$(PREFIX)/share
+DOCUMENTS := NEWS.md $(shell find docs -name "*.md" -o -name "*.png")
+SHARE := $(PREFIX)/share
 MANUAL := $(SHARE)/man/man1
 BASH := $(SHARE)/bash-completion/completions
 ZSH := $(SHARE)/zsh/site-functions
+DOC := $(SHARE)/doc/hueplane
 
-# Without a number of its own make takes each processor. The output of a crate is printed whole when the crate ends.
-ifeq ($(filter -j%,$(MAKEFLAGS)),)
+# Without a number of its own make takes each processor, and within another make those of that one. The output of a
+# crate is printed whole when the crate ends.
+ifeq ($(filter -j%,$(MAKEFLAGS))$(MAKELEVEL),0)
     MAKEFLAGS += -j$(shell nproc)
 endif
 MAKEFLAGS += --output-sync=target --no-builtin-rules
 
-.PHONY: all scenes check install uninstall clean
+.PHONY: all scenes check install uninstall dist deb clean
 .SECONDEXPANSION:
 
 all: $(PROGRAMS:%=bin/%)
@@ -34,12 +39,13 @@ proved = $(foreach library,$(own_$(1)),build/$(library).proved)
 
 # The words of the kit's compiler for a crate. A crate reads the statements of its libraries, not their proofs. The
 # kit's `rt` is not used here, since it lets no two crates over one library be proved at once.
-KIT := $(patsubst %/,%,$(dir $(shell rt doc)))
+KIT := $(patsubst %/,%,$(dir $(if $(BUILT),,$(shell rt doc))))
+OUT := "$(CURDIR)/build"
 READS = $(foreach library,$(kit_$*),--extern $(library)=$(KIT)/rlibs/$(library).rlib) -L dependency=$(KIT)/rlibs \
-    $(foreach library,$(own_$*),--extern $(library)=$(CURDIR)/build/$(library).rlib) -L dependency=$(CURDIR)/build \
+    $(foreach library,$(own_$*),--extern $(library)=$(OUT)/$(library).rlib) -L dependency=$(OUT) \
     --antt-project $(KIT)/rattle/logic/antt-project.json --logic-built $(KIT)/logic_built --links $*=
 BUILD = cd crates/$* && $(KIT)/bin/rattle build --crate-name $*
-LOG = > $(CURDIR)/build/$*.log 2>&1 || { cat $(CURDIR)/build/$*.log; echo "$* is not proved"; exit 1; }
+LOG = > $(OUT)/$*.log 2>&1 || { cat $(OUT)/$*.log; echo "$* is not proved"; exit 1; }
 
 # A crate's line of crates.txt. The file changes with that line alone, so that another crate's line proves nothing anew.
 build/%.needs: crates.txt
@@ -48,13 +54,13 @@ build/%.needs: crates.txt
 # A library: its statements, proved.
 $(LIBRARIES:%=build/%.proved): build/%.proved: $$(call sources,$$*) $$(call proved,$$*) build/%.needs
 	@mkdir -p build && rm -rf build/$*.rlib
-	@$(BUILD) src/lib.rt $(READS) --statements -o $(CURDIR)/build/$*.rlib $(LOG)
+	@$(BUILD) src/lib.rt $(READS) --statements -o $(OUT)/$*.rlib $(LOG)
 	@echo "$* is proved" && touch $@
 
 # A program: proved, compiled and linked.
 $(MAINS:%=bin/%): bin/%: $$(call sources,$$*) $$(call proved,$$*) build/%.needs
 	@mkdir -p bin build
-	@$(BUILD) src/main.rt $(READS) --toolchain $(KIT)/toolchain --backend llvm -o $(CURDIR)/build/$*.o $(LOG)
+	@$(BUILD) src/main.rt $(READS) --toolchain $(KIT)/toolchain --backend llvm -o $(OUT)/$*.o $(LOG)
 	@$(KIT)/bin/rattle-link --target x86_64-unknown-linux-gnu --toolchain $(KIT)/toolchain -o $@ build/$*.o \
 	    $(KIT)/c/libos_c.a $(KIT)/c/liblibc_c.a
 	@echo "$* is proved and built"
@@ -62,18 +68,26 @@ $(MAINS:%=bin/%): bin/%: $$(call sources,$$*) $$(call proved,$$*) build/%.needs
 check:
 	bash .ci/run
 
-install: $(PROGRAMS:%=bin/%)
+install: $(if $(BUILT),,$(PROGRAMS:%=bin/%))
 	for name in $(PROGRAMS); do \
-	    install -D bin/$$name $(DESTDIR)$(PREFIX)/bin/$$name && \
-	    install -D -m 644 man/$$name.1 $(MANUAL)/$$name.1 && \
-	    install -D -m 644 completions/bash/$$name $(BASH)/$$name && \
-	    install -D -m 644 completions/zsh/_$$name $(ZSH)/_$$name || exit 1; \
+	    install -D "$(or $(BUILT),bin)/$$name" "$(DESTDIR)$(PREFIX)/bin/$$name" && \
+	    install -D -m 644 man/$$name.1 "$(DESTDIR)$(MANUAL)/$$name.1" && \
+	    install -D -m 644 completions/bash/$$name "$(DESTDIR)$(BASH)/$$name" && \
+	    install -D -m 644 completions/zsh/_$$name "$(DESTDIR)$(ZSH)/_$$name" || exit 1; \
 	done
+	for name in $(DOCUMENTS); do install -D -m 644 $$name "$(DESTDIR)$(DOC)/$${name#docs/}" || exit 1; done
 
 uninstall:
 	for name in $(PROGRAMS); do \
-	    rm -f $(DESTDIR)$(PREFIX)/bin/$$name $(MANUAL)/$$name.1 $(BASH)/$$name $(ZSH)/_$$name; \
+	    rm -f "$(DESTDIR)$(PREFIX)/bin/$$name" "$(DESTDIR)$(MANUAL)/$$name.1" "$(DESTDIR)$(BASH)/$$name" \
+	        "$(DESTDIR)$(ZSH)/_$$name"; \
 	done
+	rm -rf "$(DESTDIR)$(DOC)"
+
+# The packages, in dist/. GATE is the last line of the gate's run that this commit passed, as "161 passed, 0 failed".
+export BUILT GATE
+dist deb:
+	+packaging/make_package $@
 
 clean:
-	rm -rf bin build crates/*/out
+	rm -rf bin build dist crates/*/out
