@@ -1,4 +1,4 @@
--- The work of `ddrescuelog`, as rows of the fold that both programs share: the maps that its words name, each read and
+-- The work of `ddrescuelog`, as rows of the fold that the programs share: the maps that its words name, each read and
 -- maybe refused, and then what its mode does with them. It says which answers may be given, and which calls were made
 -- by then.
 use Rattle.std.specs.Prelude.{◌≡◌, ◌⊎◌, ⊤, ℕ, Bool, true, false, List, [], ◌∷◌, ◌++◌, Option, Some, None, Ok}

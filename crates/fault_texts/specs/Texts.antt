@@ -1,4 +1,4 @@
--- What both programs say of a fault on the console.
+-- What the programs say of a fault on the console.
 use Rattle.std.specs.Prelude.{ℕ, List, [], ◌++◌, ◌∷◌, codes}
 use Rattle.std.specs.Fmt.{decimal}
 use Rattle.mapfile_text.specs.declared.read.MapError.{MapError}

@@ -1,4 +1,4 @@
-//! What both programs say of faults on the console.
+//! What the programs say of faults on the console.
 #![tactic(auto)]
 
 pub mod faults;

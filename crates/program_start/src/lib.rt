@@ -1,4 +1,4 @@
-//! How both programs start and end: their standard streams are open, the words of the command line are collected, and
+//! How the programs start and end: their standard streams are open, the words of the command line are collected, and
 //! what comes of them is an exit status. What the system gives, as its streams and arguments, no contract tells.
 #![tactic(auto)]
 
