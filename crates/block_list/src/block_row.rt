@@ -58,11 +58,20 @@ impl BlockRow {
     }
 
     /// Where the block with an index begins.
-    fn start(&self, i: usize) -> u64
+    pub fn start(&self, i: usize) -> u64
         requires { i < length self.now.items }
         ensures { (d : Block) → result ≡ (slice_index_or self.now.items i d).pos }
     {
         if i > 0 { self.ends[i - 1] } else { 0 }
+    }
+
+    /// Where the block with an index ends.
+    pub fn end_of(&self, i: usize) -> u64
+        requires tiled { IsTiled self.now.items }
+        requires index { i < length self.now.items }
+        ensures { result ≡ start_of self.now.items (i + 1) }
+    {
+        self.ends[i]
     }
 
     /// The block with an index.
@@ -101,6 +110,7 @@ impl BlockRow {
     }
 
     /// Makes spare at least n.
+    #[inline(always)]
     pub fn reserve(&mut self, n: usize) -> Result<(), NoMemory>
         ensures spare { OnOk result (n ≤ self.new.spare) }
         ensures full { n ≤ self.old.spare → IsOk result }

@@ -1,5 +1,5 @@
 //! Where a list of blocks that tiles a map from 0 on has a status.
-ghost use Rattle.std.specs.Prelude.{◌≡◌, ℕ, ◌+◌, ◌<◌, ◌≤◌, true, length, IfSome, IfNone, count_by};
+ghost use Rattle.std.specs.Prelude.{◌≡◌, ℕ, ◌+◌, ◌<◌, ◌≤◌, length, IfSome, IfNone, count_by};
 ghost use Rattle.std.specs.List.{flat_map};
 ghost use Rattle.block_list.specs.Status.{same};
 ghost use Rattle.block_list.specs.Map.{Has};
@@ -12,21 +12,6 @@ use crate::block::Range;
 use crate::block_row::BlockRow;
 use crate::status::Status;
 
-/// Whether the block with an index holds a position.
-fn is_held_by(blocks: &BlockRow, i: usize, x: u64) -> bool
-    requires { IsTiled blocks.now.items }
-    ensures { result ≡ true → IsPlace blocks.now.items (x + 1) (i + 1) }
-{
-    if i >= blocks.len() {
-        return false;
-    }
-    let block = blocks.block(i);
-    if x < block.pos {
-        return false;
-    }
-    x - block.pos < block.size
-}
-
 /// How many blocks begin at or before a position. It looks at the block with the index `near` first, and at the one
 /// behind it.
 pub fn begun_near(blocks: &BlockRow, near: usize, x: u64) -> usize
@@ -34,11 +19,11 @@ pub fn begun_near(blocks: &BlockRow, near: usize, x: u64) -> usize
     requires within { x < length (flat_map covered blocks.now.items) }
     ensures { IsPlace blocks.now.items (x + 1) result }
 {
-    if near < blocks.len() {
-        if is_held_by(blocks, near, x) {
+    if near < blocks.len() && blocks.start(near) <= x {
+        if x < blocks.end_of(near) {
             return near + 1;
         }
-        if is_held_by(blocks, near + 1, x) {
+        if near + 1 < blocks.len() && x < blocks.end_of(near + 1) {
             return near + 2;
         }
     }
