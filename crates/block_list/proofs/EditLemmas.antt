@@ -1,6 +1,6 @@
-use Rattle.std.proofs.Common.{◌≡◌, ℕ, ◌+◌, ◌-◌, ◌<◌, ◌≤◌, ◌^◌, List, [], ◌∷◌, ◌++◌, length, take, drop, get_or, replicate, Some, Bool, true, false, if◌then◌else◌, ltb, refl, arith, ap, sym, ◌∙◌, subst, append_assoc, append-nil, length-append, ⊎_elim, ltb-true, ltb-false}
+use Rattle.std.proofs.Common.{◌≡◌, ℕ, ◌+◌, ◌-◌, ◌<◌, ◌≤◌, ◌^◌, List, [], ◌∷◌, ◌++◌, length, take, drop, get_or, replicate, Some, Bool, true, false, if◌then◌else◌, refl, arith, ap, sym, ◌∙◌, subst, append_assoc, append-nil, length-append, ⊎_elim}
 use Rattle.std.specs.List.{flat_map, slice_get}
-use Rattle.std.specs.List.Sorted.{IsPartitionPoint, IsNonDecreasingBy}
+use Rattle.std.specs.List.Sorted.{IsNonDecreasingBy}
 use Rattle.std.proofs.lemmas.List.{take-append-drop, take_more, drop_more, replicate-append-replicate, take_more_set, drop-set-lt, take_at, drop_at, length_push, length-take-le, take_all, drop_all, drop-drop, take-append-le, drop-append-le, get_or_default}
 use Rattle.std.proofs.lemmas.Bool.{cases_lt}
 use Rattle.block_list.specs.declared.status.Status.{Status}
@@ -10,7 +10,7 @@ use Rattle.block_list.specs.Map.{marked}
 use Rattle.block_list.specs.Stretches.{covered, back_of}
 use Rattle.block_list.specs.Tiling.{AreTiles, IsMerged}
 use Rattle.block_list.specs.Push.{EndsWith}
-use Rattle.block_list.specs.Edits.{IsTiled, IsPlace, IsBlockCut, IsJoinedBefore, IsJoinedBehind, start_of, front_of, cut_at}
+use Rattle.block_list.specs.Edits.{IsTiled, IsBlockCut, IsJoinedBefore, IsJoinedBehind, start_of, front_of, cut_at}
 use Rattle.block_list.proofs.TileLemmas.{covered-append, length_first, tiles_join, tiles_split, tiled_from_tiles, parts_of, start_le_end, start_mono, index_before, start_more, start_all, tile_at, tile_read, front_statuses, back_statuses}
 use Rattle.block_list.proofs.StretchLemmas.{block_has}
 use Rattle.block_list.proofs.ApartLemmas.{AreApart, apart_from_merged, merged_from_apart, apart_left, apart_right, apart_meet, apart_last, apart_first, apart_push, merged_front, merged_back}
@@ -26,18 +26,7 @@ pub rising : (bs : List Block) → IsTiled bs → IsNonDecreasingBy (λ (b : Blo
 rising bs t i j d h l =
     omega (arith, (tile_at bs i d t (omega arith)).begins, (tile_at bs j d t l).begins, start_mono bs i j h)
 
-pub place_from_point : (bs : List Block) (at i : ℕ) → IsTiled bs → at ≤ length (flat_map covered bs) → i ≤ length bs
-    → IsPartitionPoint (λ y. ltb y.pos at ≡ true) (λ y. ltb y.pos at ≡ false) bs i → IsPlace bs at i
-place_from_point bs at i t w h p = record {
-  index = h;
-  before = λ z. omega (arith, (tile_at bs (i - 1) no_block t (omega arith)).begins, ltb-true _ _ (p.0 (i - 1) no_block (omega arith) (omega arith)));
-  reaches = ⊎_elim
-      (λ (l : i < length bs). omega (arith, (tile_at bs i no_block t l).begins, ltb-false _ _ (p.1 i no_block (omega arith) l)))
-      (λ (l : length bs ≤ i). omega (arith, start_all bs i l))
-      (cases_lt i (length bs));
-}
-
-cut_at_is : (bs : List Block) (k : ℕ) (f g : Block) → k < length bs
+pub cut_at_is : (bs : List Block) (k : ℕ) (f g : Block) → k < length bs
     → cut_at bs k f g ≡ take k bs ++ (f ∷ g ∷ drop (k + 1) bs)
 cut_at_is bs k f g h =
     rw (take_more_set bs k f h, drop-set-lt (k + 1) bs k f (omega arith)) (append_assoc (take k bs) (f ∷ []) (g ∷ drop (k + 1) bs))
@@ -254,6 +243,10 @@ replaced_merged bs i j low high block wide whole m n f g =
     (apart_last (take low bs) wide whole (sym g.status) (apart_from_merged _ (f.merged m)))
     (apart_from_merged _ (g.merged n)))
 
+pub front_tiled : (bs : List Block) (i : ℕ) → IsTiled bs → IsTiled (take i bs)
+front_tiled bs i t =
+    tiled_from_tiles (take i bs) (start_of bs i) (parts_of bs i t).front (omega (arith, start_le_end bs i, t.short))
+
 -- a block behind all others
 pub appended_tiled : (bs : List Block) (low : ℕ) (block wide : Block) → IsTiled bs → 0 < block.size
     → block.pos + block.size < 2 ^ 63 → IsJoinedBefore bs (length bs) block low wide
@@ -269,9 +262,7 @@ pub appended_either : (bs new : List Block) (low : ℕ) (block wide : Block) (v 
     → block.pos + block.size < 2 ^ 63 → IsJoinedBefore bs (length bs) block low wide
     → new ≡ (if v then take low bs ++ wide ∷ [] else take low bs) → IsTiled new
 appended_either bs new low block wide true t s u f e = rw e (appended_tiled bs low block wide t s u f)
-appended_either bs new low block wide false t s u f e =
-    rw e (tiled_from_tiles (take low bs) (start_of bs low) (parts_of bs low t).front
-    (omega (arith, start_le_end bs low, t.short)))
+appended_either bs new low block wide false t s u f e = rw e (front_tiled bs low t)
 
 -- the last block has the status of the last position
 last_status : (bs : List Block) (status : Status) → EndsWith (flat_map covered bs) status

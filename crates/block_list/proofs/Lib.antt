@@ -11,3 +11,4 @@ pub mod TypeLemmas
 pub mod AreaLemmas
 -- These are the crate's own.
 mod ShiftLemmas
+mod RowLemmas

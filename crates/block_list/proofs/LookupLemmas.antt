@@ -1,7 +1,7 @@
-use Rattle.std.proofs.Common.{◌≡◌, ℕ, ◌+◌, ◌-◌, ◌*◌, ◌<◌, ◌≤◌, List, [], ◌∷◌, ◌++◌, length, take, drop, get_or, replicate, Option, Some, None, IfSome, IfNone, Bool, true, false, cond, append-nil, max, min, arith, ap, sym, ◌∙◌, ⊎_elim, refl}
+use Rattle.std.proofs.Common.{◌≡◌, ℕ, ◌+◌, ◌-◌, ◌*◌, ◌<◌, ◌≤◌, List, [], ◌∷◌, ◌++◌, length, take, get_or, replicate, Option, Some, None, IfSome, IfNone, Bool, true, false, cond, append-nil, max, min, arith, ap, sym, ◌∙◌, ⊎_elim, refl}
 use Rattle.std.specs.List.{flat_map, count_by}
 use Rattle.std.proofs.lemmas.Bool.{cases_lt}
-use Rattle.std.proofs.lemmas.List.{take_more, take_all, get_or-take, get_or-drop, length-take-le, length-drop}
+use Rattle.std.proofs.lemmas.List.{take_more, take_all}
 use Rattle.std.proofs.lemmas.List.Folds.{sum_by-replicate}
 use Rattle.std.proofs.lemmas.List.Sums.{count_by-le-length, sum_by-append}
 use Rattle.std.proofs.lemmas.Option.{slice_get_read, slice_get_within}
@@ -15,7 +15,6 @@ use Rattle.block_list.specs.Stretches.{covered, IsStretch, IsStretchAt}
 use Rattle.block_list.specs.Tiling.{IsMerged}
 use Rattle.block_list.specs.Edits.{IsTiled, IsPlace, start_of}
 use Rattle.block_list.proofs.TileLemmas.{covered-append, tile_read, index_before, start_all, start_le_end}
-use Rattle.block_list.proofs.EditLemmas.{no_block, read_there}
 use Rattle.block_list.proofs.ApartLemmas.{apart_from_merged}
 use Rattle.block_list.proofs.StretchLemmas.{stretch_at, same_self, other_same}
 
@@ -55,27 +54,6 @@ place_held bs i x b t h q l u =
       before = λ z. omega (arith, r.begins, ap (λ n. start_of bs n) e);
       reaches = omega (arith, r.ends);
     }
-
--- the blocks from an index on
-abbrev pub rest_from : List Block → ℕ → List Block
-rest_from bs h = take (length bs - h) (drop h bs)
-
-pub rest_index : (bs : List Block) (h k : ℕ) → k < length (rest_from bs h) → h + k < length bs
-rest_index bs h k l =
-    omega (arith, length-take-le (length bs - h) (drop h bs) (omega (arith, length-drop h bs)), length-drop h bs)
-
--- a block that was read there
-pub rest_read : (bs : List Block) (h k : ℕ) → k < length (rest_from bs h)
-    → get_or (rest_from bs h) k no_block ≡ get_or bs (h + k) (get_or (rest_from bs h) k no_block)
-rest_read bs h k l =
-    let n : h + k < length bs = rest_index bs h k l in
-    let e : get_or (rest_from bs h) k no_block ≡ get_or bs (h + k) no_block =
-    get_or-take (length bs - h) (drop h bs) k no_block (omega arith) ∙ get_or-drop h bs k no_block in
-    e ∙ read_there bs (h + k) n ∙ ap (λ (d : Block). get_or bs (h + k) d) (sym e)
-
-pub rest_end : (bs : List Block) (h k : ℕ) → h ≤ length bs → length (rest_from bs h) ≤ k → length bs ≤ h + k
-rest_end bs h k n l =
-    omega (arith, length-take-le (length bs - h) (drop h bs) (omega (arith, length-drop h bs)), length-drop h bs)
 
 other_status : (map : List Status) (s z : Status) (x : ℕ) → Has map s x → Has map z x → (z ≡ s → ⊥) → ⊥
 other_status map s z x h k o = o (cc)

@@ -1,6 +1,6 @@
-use Rattle.std.proofs.Common.{◌≡◌, ◌≢◌, ℕ, zero, suc, ◌+◌, ◌-◌, ◌<◌, List, [], ◌∷◌, ◌++◌, length, take, drop, get_or, set, replicate, refl, arith, ap, sym, ◌∙◌, subst, append_assoc, length-append}
+use Rattle.std.proofs.Common.{◌≡◌, ℕ, zero, suc, ◌+◌, ◌-◌, ◌<◌, List, [], ◌∷◌, ◌++◌, length, take, drop, get_or, set, replicate, refl, arith, ap, sym, ◌∙◌, subst, append_assoc, length-append}
 use Rattle.std.specs.List.{flat_map}
-use Rattle.std.proofs.lemmas.List.{take-append-drop, drop_more, get_or-set_other, replicate-append-replicate, take_at, drop_at, length-replicate}
+use Rattle.std.proofs.lemmas.List.{take-append-drop, drop_more, replicate-append-replicate, take_at, drop_at, length-replicate}
 use Rattle.std.proofs.lemmas.Option.{get_or_from_slice_get, slice_get_read}
 use Rattle.block_list.specs.declared.status.Status.{Status}
 use Rattle.block_list.specs.declared.block.Block.{Block}
@@ -19,11 +19,6 @@ neighbors_set [] k a b h = absurd (omega (arith, h))
 neighbors_set (c ∷ []) k a b h = absurd (omega (arith, h))
 neighbors_set (c ∷ d ∷ bs) zero a b h = refl
 neighbors_set (c ∷ d ∷ bs) (suc k) a b h = ap (λ r. c ∷ r) (neighbors_set (d ∷ bs) k a b (omega (arith, h)))
-
--- the second of them, read behind the write of the first
-pub read_behind : (bs : List Block) (i : ℕ) (a b : Block) → 0 < i → b ≡ get_or (set bs (i - 1) a) i b
-    → b ≡ get_or bs i b
-read_behind bs i a b some e = let apart : i ≢ i - 1 = omega arith in e ∙ get_or-set_other bs (i - 1) i a b apart
 
 shifted_tiles : (low : ℕ) (a b : Block) (bs : List Block) (end at : ℕ) → AreTiles low (a ∷ b ∷ bs) end
     → a.pos < at → at < b.pos + b.size → AreTiles low (front_of a at ∷ back_of b at ∷ bs) end

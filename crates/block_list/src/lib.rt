@@ -3,6 +3,7 @@
 
 pub mod areas;
 pub mod block;
+mod block_row;
 mod edits;
 pub mod laws;
 mod lookups;

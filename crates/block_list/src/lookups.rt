@@ -1,5 +1,5 @@
 //! Where a list of blocks that tiles a map from 0 on has a status.
-ghost use Rattle.std.specs.Prelude.{◌≡◌, ℕ, ◌+◌, ◌<◌, ◌≤◌, true, length, IfSome, IfNone, count_by};
+ghost use Rattle.std.specs.Prelude.{◌≡◌, ℕ, ◌+◌, ◌<◌, ◌≤◌, length, IfSome, IfNone, count_by};
 ghost use Rattle.std.specs.List.{flat_map};
 ghost use Rattle.block_list.specs.Status.{same};
 ghost use Rattle.block_list.specs.Map.{Has};
@@ -8,54 +8,40 @@ ghost use Rattle.block_list.specs.Stretches.{covered};
 ghost use Rattle.block_list.specs.Tiling.{IsMerged};
 ghost use Rattle.block_list.specs.Edits.{IsTiled, IsPlace};
 
-use crate::block::{Block, Range};
-use crate::edits::begun_before;
+use crate::block::Range;
+use crate::block_row::BlockRow;
 use crate::status::Status;
-
-/// Whether the block with an index holds a position.
-fn is_held_by(blocks: &[Block], i: usize, x: u64) -> bool
-    requires { IsTiled blocks.now }
-    ensures { result ≡ true → IsPlace blocks.now (x + 1) (i + 1) }
-{
-    if i >= blocks.len() {
-        return false;
-    }
-    let block = blocks[i];
-    if x < block.pos {
-        return false;
-    }
-    x - block.pos < block.size
-}
 
 /// How many blocks begin at or before a position. It looks at the block with the index `near` first, and at the one
 /// behind it.
-pub fn begun_near(blocks: &[Block], near: usize, x: u64) -> usize
-    requires tiled { IsTiled blocks.now }
-    requires within { x < length (flat_map covered blocks.now) }
-    ensures { IsPlace blocks.now (x + 1) result }
+pub fn begun_near(blocks: &BlockRow, near: usize, x: u64) -> usize
+    requires tiled { IsTiled blocks.now.items }
+    requires within { x < length (flat_map covered blocks.now.items) }
+    ensures { IsPlace blocks.now.items (x + 1) result }
 {
-    if near < blocks.len() {
-        if is_held_by(blocks, near, x) {
+    if near < blocks.len() && blocks.start(near) <= x {
+        if x < blocks.end_of(near) {
             return near + 1;
         }
-        if is_held_by(blocks, near + 1, x) {
+        if near + 1 < blocks.len() && x < blocks.end_of(near + 1) {
             return near + 2;
         }
     }
-    begun_before(blocks, x + 1)
+    blocks.begun_before(x + 1)
 }
 
 /// The first position at or after `from` that has a status, and the end of its block.
-pub fn first_with(blocks: &[Block], from: u64, status: Status) -> Option<Range>
-    requires tiled { IsTiled blocks.now }
-    requires merged { IsMerged blocks.now }
-    requires within { from < length (flat_map covered blocks.now) }
-    ensures first { IfSome result (λ range. IsFirst (Has (flat_map covered blocks.now) status) from range.from) }
-    ensures range { IfSome result (λ range. IsRangeUp (Has (flat_map covered blocks.now) status) range.from range.to) }
-    ensures none { IfNone result ((x : ℕ) → from ≤ x → Has (flat_map covered blocks.now) status x → ⊥) }
+pub fn first_with(blocks: &BlockRow, from: u64, status: Status) -> Option<Range>
+    requires tiled { IsTiled blocks.now.items }
+    requires merged { IsMerged blocks.now.items }
+    requires within { from < length (flat_map covered blocks.now.items) }
+    ensures first { IfSome result (λ range. IsFirst (Has (flat_map covered blocks.now.items) status) from range.from) }
+    ensures range { IfSome result (λ range. IsRangeUp (Has (flat_map covered blocks.now.items) status) range.from range.to) }
+    ensures none { IfNone result ((x : ℕ) → from ≤ x → Has (flat_map covered blocks.now.items) status x → ⊥) }
 {
-    let holding = begun_before(blocks, from + 1) - 1;
-    for block in &blocks[holding..] {
+    let holding = blocks.begun_before(from + 1) - 1;
+    for i in holding..blocks.len() {
+        let block = blocks.block(i);
         if block.status.is(status) {
             return Some(Range {
                 from: from.max(block.pos),
@@ -67,17 +53,17 @@ pub fn first_with(blocks: &[Block], from: u64, status: Status) -> Option<Range>
 }
 
 /// The greatest end at or before `before` below which a position has a status, and the start of its block.
-pub fn last_with(blocks: &[Block], before: u64, status: Status) -> Option<Range>
-    requires tiled { IsTiled blocks.now }
-    requires merged { IsMerged blocks.now }
-    requires within { before ≤ length (flat_map covered blocks.now) }
-    ensures last { IfSome result (λ range. IsLast (Has (flat_map covered blocks.now) status) before range.to) }
-    ensures range { IfSome result (λ range. IsRangeDown (Has (flat_map covered blocks.now) status) range.from range.to) }
-    ensures none { IfNone result ((x : ℕ) → x < before → Has (flat_map covered blocks.now) status x → ⊥) }
+pub fn last_with(blocks: &BlockRow, before: u64, status: Status) -> Option<Range>
+    requires tiled { IsTiled blocks.now.items }
+    requires merged { IsMerged blocks.now.items }
+    requires within { before ≤ length (flat_map covered blocks.now.items) }
+    ensures last { IfSome result (λ range. IsLast (Has (flat_map covered blocks.now.items) status) before range.to) }
+    ensures range { IfSome result (λ range. IsRangeDown (Has (flat_map covered blocks.now.items) status) range.from range.to) }
+    ensures none { IfNone result ((x : ℕ) → x < before → Has (flat_map covered blocks.now.items) status x → ⊥) }
 {
-    let begun = begun_before(blocks, before);
+    let begun = blocks.begun_before(before);
     for i in (0..begun).rev() {
-        let block = blocks[i];
+        let block = blocks.block(i);
         if block.status.is(status) {
             return Some(Range {
                 from: block.pos,
@@ -89,12 +75,13 @@ pub fn last_with(blocks: &[Block], before: u64, status: Status) -> Option<Range>
 }
 
 /// How many positions have a status.
-pub fn count(blocks: &[Block], status: Status) -> u64
-    requires { IsTiled blocks.now }
-    ensures { result ≡ count_by (λ s. same s status) (flat_map covered blocks.now) }
+pub fn count(blocks: &BlockRow, status: Status) -> u64
+    requires { IsTiled blocks.now.items }
+    ensures { result ≡ count_by (λ s. same s status) (flat_map covered blocks.now.items) }
 {
     let mut counted = 0;
-    for block in blocks {
+    for i in 0..blocks.len() {
+        let block = blocks.block(i);
         if block.status.is(status) {
             counted += block.size;
         }

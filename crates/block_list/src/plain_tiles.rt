@@ -2,6 +2,7 @@ ghost use Rattle.std.specs.Prelude.{◌≡◌, ◌+◌, ◌<◌, ◌^◌, ◌++�
 ghost use Rattle.block_list.specs.Push.{push_fault, EndsWith};
 
 use crate::block::{Block, Range};
+use crate::block_row::BlockRow;
 use crate::near::Near;
 use crate::status::Status;
 use crate::tiles::{NoMemory, Tiles};
@@ -22,15 +23,14 @@ pub enum PushError {
     NoMemory,
 }
 
-/// A map as one vector of merged blocks, 24 bytes each.
+/// A map as one row of merged blocks, 9 bytes each.
 #[derive(Drop)]
 pub struct PlainTiles {
-    blocks: Vec<Block>,
+    blocks: BlockRow,
     end: u64,
 }
 
 impl Model for PlainTiles {
-    ghost use Rattle.std.specs.Prelude.{◌-◌, vec_len, vec_capacity};
     ghost use Rattle.std.specs.List.{flat_map};
     ghost use Rattle.block_list.specs.Tiled.{Tiled};
 
@@ -40,7 +40,7 @@ impl Model for PlainTiles {
     ghost use Rattle.block_list.specs.Tiling.{IsTiling};
 
     ghost view = { λ t.
-        record { statuses = flat_map covered t.blocks.items; spare = vec_capacity t.blocks - vec_len t.blocks } };
+        record { statuses = flat_map covered t.blocks.items; spare = t.blocks.spare } };
 
     ghost invariant = { IsTiling };
 }
@@ -51,7 +51,7 @@ impl PlainTiles {
         ensures { result.statuses ≡ [] }
     {
         PlainTiles {
-            blocks: Vec::new(alloc),
+            blocks: BlockRow::new(alloc),
             end: 0,
         }
     }
@@ -110,14 +110,14 @@ impl Tiles for PlainTiles {
     }
 
     fn stretch_at(&self, x: u64) -> Block {
-        let behind = edits::begun_before(&self.blocks, x + 1);
-        self.blocks[behind - 1]
+        let behind = self.blocks.begun_before(x + 1);
+        self.blocks.block(behind - 1)
     }
 
     fn stretch_near(&self, near: &mut Near, x: u64) -> Block {
         let begun = lookups::begun_near(&self.blocks, near.block, x);
         near.block = begun - 1;
-        self.blocks[begun - 1]
+        self.blocks.block(begun - 1)
     }
 
     fn find_forward(&self, from: u64, status: Status) -> Option<Range> {
@@ -137,7 +137,7 @@ impl Tiles for PlainTiles {
     }
 
     fn reserve(&mut self, n: usize) -> Result<(), NoMemory> {
-        self.blocks.reserve(n).map_err(|_| NoMemory)
+        self.blocks.reserve(n)
     }
 
     fn set(&mut self, pos: u64, size: u64, status: Status) {
@@ -162,6 +162,6 @@ impl Tiles for PlainTiles {
     }
 
     fn block(&self, i: usize) -> Block {
-        self.blocks[i]
+        self.blocks.block(i)
     }
 }

@@ -1,11 +1,11 @@
 //! Makes the map of the blocks whose numbers a feed lists.
-ghost use Rattle.std.specs.Prelude.{◌≡◌, ◌⊎◌, ℕ, List, ◌<◌, ◌≤◌, ◌^◌, All, None, false, length, OnOk, IfOk, IfErr};
+ghost use Rattle.std.specs.Prelude.{◌≡◌, ◌⊎◌, ℕ, List, ◌<◌, ◌≤◌, ◌^◌, All, None, Ok, false, length, OnOk, IfOk, IfErr};
 ghost use Rattle.mapfile_text.specs.declared.heading.Program.TheVariants.{Ddrescuelog};
 ghost use Rattle.mapfile_text.specs.declared.state.Current.TheVariants.{Copying};
 ghost use Rattle.mapfile_text.specs.Printed.{printed};
 ghost use Rattle.crash_site.specs.SiteState.{Stays};
 ghost use Rattle.map_algebra.specs.Blocks.{IsShape};
-ghost use Rattle.map_algebra.specs.Numbers.{IsInRange, list_limit};
+ghost use Rattle.map_algebra.specs.Numbers.{IsInRange, list_limit, numbers_in};
 ghost use Rattle.log_command.specs.Options.{ends_beyond};
 ghost use Rattle.log_command.specs.Command.{AreInLimits, told_by};
 ghost use Rattle.ddrescuelog_cli.specs.declared.ending.LogEnding.TheVariants.{NoMemory as OutOfMemory};
@@ -120,6 +120,21 @@ fn take_list<I: Feed>(alloc: Global, feed: &mut I) -> Result<Vec<u8>, LogEnding>
     }
 }
 
+/// The numbers that a list has. The list ends here: its text isn't needed once its numbers were read.
+fn numbers_of(alloc: Global, list: Vec<u8>, options: &LogOptions) -> Result<Vec<u64>, LogEnding>
+    requires shape { IsShape (shape_of options.now) }
+    requires short { length list.items ≤ list_limit }
+    ensures numbers { IfOk result (λ numbers. numbers_in (shape_of options.now) list.items ≡ Ok numbers.items) }
+    ensures limits { IfOk result (λ numbers. All (IsInRange (shape_of options.now)) numbers.items) }
+    ensures refused { IfErr result (λ e. (e ≡ OutOfMemory) ⊎ ListRefused options.now list.items e) }
+{
+    match read_numbers(alloc, &list, shape_of(options)) {
+        Ok(numbers) => Ok(numbers),
+        Err(NumberError::BadNumber { line }) => Err(LogEnding::BadNumber { line }),
+        Err(NumberError::NoMemory) => Err(LogEnding::NoMemory),
+    }
+}
+
 /// Where the map of some blocks ends.
 fn end_of(options: &LogOptions, numbers: &[u64]) -> u64
     requires shape { IsShape (shape_of options.now) }
@@ -141,26 +156,22 @@ fn map_of(
     listed: Status,
     rest: Status,
     domain_map: &Option<PlainTiles>,
-    list: &[u8],
+    list: Vec<u8>,
 ) -> Result<PlainTiles, LogEnding>
     requires shape { IsShape (shape_of options.now) }
     requires size { ends_beyond options.now options.now.size ≡ false }
-    requires short { length list.now ≤ list_limit }
-    ensures made { IfOk result (λ t. AreOfList options.now listed rest (statuses_in domain_map.now) list.now
+    requires short { length list.items ≤ list_limit }
+    ensures made { IfOk result (λ t. AreOfList options.now listed rest (statuses_in domain_map.now) list.items
         t.statuses) }
-    ensures refused { IfErr result (λ e. (e ≡ OutOfMemory) ⊎ ListRefused options.now list.now e) }
+    ensures refused { IfErr result (λ e. (e ≡ OutOfMemory) ⊎ ListRefused options.now list.items e) }
 {
-    let shape = shape_of(options);
-    let numbers = match read_numbers(alloc, list, shape) {
-        Ok(numbers) => numbers,
-        Err(NumberError::BadNumber { line }) => return Err(LogEnding::BadNumber { line }),
-        Err(NumberError::NoMemory) => return Err(LogEnding::NoMemory),
-    };
+    let numbers = numbers_of(alloc, list, options)?;
     let end = end_of(options, &numbers);
     let from = options.input_position;
     let Ok(domain) = Domain::within(alloc, from, options.size, end, domain_map.as_ref()) else {
         return Err(LogEnding::NoMemory);
     };
+    let shape = shape_of(options);
     match create(alloc, &numbers, shape, &domain, end, listed, rest) {
         Ok(map) => Ok(map),
         Err(_) => Err(LogEnding::NoMemory),
@@ -183,7 +194,7 @@ fn make_map<I: Feed>(
     ensures feed { FeedBehind (ended_as result) (I.state feed.old) (I.state feed.new) }
 {
     match take_list(alloc, feed) {
-        Ok(list) => map_of(alloc, options, listed, rest, domain_map, &list),
+        Ok(list) => map_of(alloc, options, listed, rest, domain_map, list),
         Err(fault) => Err(fault),
     }
 }

@@ -133,21 +133,25 @@ at_mark_of : (marked inside : Bool) (listed rest : Status)
 at_mark_of true inside listed rest = refl
 at_mark_of false inside listed rest = refl
 
--- the map that marks of the sorted numbers stand for is the created one
-pub created_is : (s : Shape) (ks sorted : List ℕ) (domain : ℕ → Bool) (listed rest : Status) (end : ℕ)
-    (marks : List Status) → marks ≡ map_by (mark_of s sorted) end → IsPermutation ks sorted
+-- numbers in another order are of the same blocks, so they have the same marks
+pub marks_moved : (s : Shape) (ks sorted : List ℕ) (end : ℕ) → IsPermutation ks sorted
+    → map_by (mark_of s sorted) end ≡ map_by (mark_of s ks) end
+marks_moved s ks sorted end moved = map_by_same (mark_of s sorted) (mark_of s ks) end (λ x l.
+    ap (λ (b : Bool). cond b Finished NonTried)
+    (sym (list_any-IsPermutation (λ (k : ℕ). is_in_block s k x) ks sorted moved)))
+
+-- the map that marks stand for is the created one
+pub created_is : (s : Shape) (ks : List ℕ) (domain : ℕ → Bool) (listed rest : Status) (end : ℕ)
+    (marks : List Status) → marks ≡ map_by (mark_of s ks) end
     → map_by (λ x. at_mark (status_at marks x) (domain x) listed rest) (length marks)
     ≡ created_map s ks domain listed rest end
-created_is s ks sorted domain listed rest end marks e moved =
+created_is s ks domain listed rest end marks e =
     let whole : ℕ → Status = λ x. at_mark (status_at marks x) (domain x) listed rest in
     let mean : ℕ → Status = λ x. cond (domain x) (cond (is_in_blocks s ks x) listed rest) NonTried in
-    let size : length marks ≡ end = ap length e ∙ length_map_by (mark_of s sorted) end in
+    let size : length marks ≡ end = ap length e ∙ length_map_by (mark_of s ks) end in
     ap (map_by whole) size
     ∙ map_by_same whole mean end (λ x l.
-    let mark : status_at marks x ≡ mark_of s sorted x =
-    ap (λ (m : List Status). status_at m x) e ∙ status_below (mark_of s sorted) end x l in
-    let alike : is_in_blocks s sorted x ≡ is_in_blocks s ks x =
-    sym (list_any-IsPermutation (λ (k : ℕ). is_in_block s k x) ks sorted moved) in
+    let mark : status_at marks x ≡ mark_of s ks x =
+    ap (λ (m : List Status). status_at m x) e ∙ status_below (mark_of s ks) end x l in
     ap (λ (m : Status). at_mark m (domain x) listed rest) mark
-    ∙ at_mark_of (is_in_blocks s sorted x) (domain x) listed rest
-    ∙ ap (λ (b : Bool). cond (domain x) (cond b listed rest) NonTried) alike)
+    ∙ at_mark_of (is_in_blocks s ks x) (domain x) listed rest)

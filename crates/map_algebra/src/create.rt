@@ -16,20 +16,17 @@ use block_list::tiles::{NoMemory, Tiles};
 use rescue_domain::domain::Domain;
 use std::alloc::Global;
 
-/// Some numbers in ascending order.
-fn ascending(alloc: Global, numbers: &[u64]) -> Result<Vec<u64>, NoMemory>
+/// The same numbers in ascending order.
+fn sorted(alloc: Global, numbers: &[u64]) -> Result<Vec<u64>, NoMemory>
     ensures order { IfOk result (λ sorted. IsNonDecreasing sorted.items) }
     ensures same { IfOk result (λ sorted. IsPermutation numbers.now sorted.items) }
 {
     let mut sorted = Vec::from_slice(alloc, numbers).map_err(|_| NoMemory)?;
-    if sorted.is_sorted() {
-        return Ok(sorted);
-    }
     sorted.sort_unstable();
     Ok(sorted)
 }
 
-/// The marks of the positions below an end, by the numbers of the blocks.
+/// The marks of the positions below an end, by the numbers of the blocks, which ascend.
 fn marks(alloc: Global, ascending: &[u64], shape: Shape, end: u64) -> Result<PlainTiles, NoMemory>
     requires shape { IsShape shape }
     requires limits { All (IsInRange shape) ascending.now }
@@ -47,6 +44,21 @@ fn marks(alloc: Global, ascending: &[u64], shape: Shape, end: u64) -> Result<Pla
     }
     put(&mut marks, end, Status::NonTried)?;
     Ok(marks)
+}
+
+/// The marks of the positions below an end, by the numbers of the blocks in any order. Numbers that ascend are read where
+/// they stand.
+fn marks_of(alloc: Global, numbers: &[u64], shape: Shape, end: u64) -> Result<PlainTiles, NoMemory>
+    requires shape { IsShape shape }
+    requires limits { All (IsInRange shape) numbers.now }
+    requires end { end < 2 ^ 63 }
+    ensures { IfOk result (λ marks. marks.statuses ≡ map_by (mark_of shape numbers.now) end) }
+{
+    if numbers.is_sorted() {
+        return marks(alloc, numbers, shape, end);
+    }
+    let sorted = sorted(alloc, numbers)?;
+    marks(alloc, &sorted, shape, end)
 }
 
 /// What a created map has where a piece of the marks stands.
@@ -90,7 +102,7 @@ fn created(
 /// The map of the positions below an end: those of a domain have one status where they stand in a listed block, and
 /// another elsewhere, and the others are non-tried. Numbers may come in any order and more than once; it takes time
 /// n log n in them, and linear time where they ascend. `NoMemory` says that the memory for the map, or for the numbers
-/// once more, wasn't there.
+/// once more where they don't ascend, wasn't there.
 pub fn create(
     alloc: Global,
     numbers: &[u64],
@@ -106,7 +118,6 @@ pub fn create(
     ensures { IfOk result (λ map. map.statuses
         ≡ created_map shape numbers.now (covers domain.now) listed rest end) }
 {
-    let sorted = ascending(alloc, numbers)?;
-    let marks = marks(alloc, &sorted, shape, end)?;
+    let marks = marks_of(alloc, numbers, shape, end)?;
     created(alloc, &marks, domain, listed, rest)
 }

@@ -11,23 +11,23 @@ join_before-low-requires-clause-short c =
 pub returns-clause-tiled : goal.returns-clause-tiled
 returns-clause-tiled c =
     let f : IsJoinedBefore c.args.blocks.now.items c.args.i c.args.block c.join_before-low.result.0
-    c.join_before-low.result.1 = rw c.deref.ensures.value at c.join_before-low.ensures in
+    c.join_before-low.result.1 = c.join_before-low.ensures in
     let g : IsJoinedBehind c.args.blocks.now.items c.args.j c.join_before-low.result.1 c.join_behind-high.result.0
-    c.join_behind-high.result.1 = rw c.deref-2.ensures.value at c.join_behind-high.ensures in
+    c.join_behind-high.result.1 = c.join_behind-high.ensures in
     rw c.fuse.ensures.items (replaced_tiled _ _ _ _ _ _ _ _ c.requires.tiled c.requires.some f g)
 
 pub returns-clause-merged : goal.returns-clause-merged
 returns-clause-merged c =
     let f : IsJoinedBefore c.args.blocks.now.items c.args.i c.args.block c.join_before-low.result.0
-    c.join_before-low.result.1 = rw c.deref.ensures.value at c.join_before-low.ensures in
+    c.join_before-low.result.1 = c.join_before-low.ensures in
     let g : IsJoinedBehind c.args.blocks.now.items c.args.j c.join_before-low.result.1 c.join_behind-high.result.0
-    c.join_behind-high.result.1 = rw c.deref-2.ensures.value at c.join_behind-high.ensures in
+    c.join_behind-high.result.1 = c.join_behind-high.ensures in
     rw c.fuse.ensures.items (replaced_merged _ _ _ _ _ _ _ _ c.requires.front c.requires.back f g)
 
 pub returns-clause-marked : goal.returns-clause-marked
 returns-clause-marked c =
     let f : IsJoinedBefore c.args.blocks.now.items c.args.i c.args.block c.join_before-low.result.0
-    c.join_before-low.result.1 = rw c.deref.ensures.value at c.join_before-low.ensures in
+    c.join_before-low.result.1 = c.join_before-low.ensures in
     let g : IsJoinedBehind c.args.blocks.now.items c.args.j c.join_before-low.result.1 c.join_behind-high.result.0
-    c.join_behind-high.result.1 = rw c.deref-2.ensures.value at c.join_behind-high.ensures in
+    c.join_behind-high.result.1 = c.join_behind-high.ensures in
     rw c.fuse.ensures.items (replaced_same _ _ _ _ _ _ _ _ c.requires.starts c.requires.ends f g)

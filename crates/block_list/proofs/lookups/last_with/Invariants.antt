@@ -5,4 +5,4 @@ use Rattle.block_list.proofs.LookupLemmas.{IsClear}
 use Rattle.block_list.proofs.lookups.last_with.Given as goal
 
 abbrev pub invariant-loop-i : goal.invariant-loop-i
-invariant-loop-i l = IsClear (flat_map covered l.blocks) l.status (start_of l.blocks l.i) l.before
+invariant-loop-i l = IsClear (flat_map covered l.blocks.items) l.status (start_of l.blocks.items l.i) l.before

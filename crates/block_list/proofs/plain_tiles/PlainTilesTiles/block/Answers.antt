@@ -3,12 +3,12 @@ use Rattle.std.proofs.lemmas.Option.{slice_get_read}
 use Rattle.block_list.proofs.StretchLemmas.{stretches_of_tiling}
 use Rattle.block_list.proofs.plain_tiles.PlainTilesTiles.block.Goals as goal
 
-pub index-requires : goal.index-requires
-index-requires c =
+pub block-requires : goal.block-requires
+block-requires c =
     let h : c.args.i < length c.self.inside.blocks.items = rw (← c.self.view_is, stretches_of_tiling _ c.self.invariant) at c.requires in
     omega arith
 
 pub returns : goal.returns
 returns c =
     let h : c.args.i < length c.self.inside.blocks.items = rw (← c.self.view_is, stretches_of_tiling _ c.self.invariant) at c.requires in
-    rw (← c.self.view_is, stretches_of_tiling _ c.self.invariant) (slice_get_read _ _ _ _ refl h c.index.ensures)
+    rw (← c.self.view_is, stretches_of_tiling _ c.self.invariant) (slice_get_read _ _ _ _ refl h c.block.ensures)

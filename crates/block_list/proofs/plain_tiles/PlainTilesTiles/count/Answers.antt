@@ -2,4 +2,4 @@ use Rattle.block_list.proofs.TileLemmas.{tiled_from_tiling}
 use Rattle.block_list.proofs.plain_tiles.PlainTilesTiles.count.Goals as goal
 
 pub count-requires : goal.count-requires
-count-requires c = rw c.deref.ensures.value (tiled_from_tiling _ c.self.invariant)
+count-requires c = tiled_from_tiling _ c.self.invariant

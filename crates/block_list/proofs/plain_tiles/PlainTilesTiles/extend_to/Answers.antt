@@ -1,6 +1,5 @@
-use Rattle.std.proofs.Common.{◌≡◌, ◌-◌, ◌++◌, ap, sym, ◌∙◌, length, replicate, ◌<◌, vec_len, length-append, append-nil, arith}
+use Rattle.std.proofs.Common.{◌≡◌, ◌-◌, ◌++◌, ap, sym, ◌∙◌, length, replicate, ◌≤◌, length-append, append-nil, arith}
 use Rattle.std.specs.List.{flat_map}
-use Rattle.std.specs.Vec.{vec_capacity}
 use Rattle.std.proofs.lemmas.List.{length-replicate}
 use Rattle.block_list.specs.declared.status.Status.TheVariants.{NonTried}
 use Rattle.block_list.specs.Stretches.{covered}
@@ -17,7 +16,7 @@ append-requires-clause-behind c = omega (arith, tiling_end _ c.self.invariant)
 pub invariant_of-self : goal.invariant_of-self
 invariant_of-self c =
     let n = c.args.end - c.self.inside.end in
-    let room : vec_len c.self.inside.blocks < vec_capacity c.self.inside.blocks = omega (arith, rw (← c.self.view_is) at c.requires.spare) in
+    let room : 1 ≤ c.self.inside.blocks.spare = rw (← c.self.view_is) at c.requires.spare in
     let added = on_success c.append.result _ (c.append.ensures.full room) c.append.ensures.added in
     let e : length (flat_map covered c.append.new.blocks.items) ≡ c.args.end =
     ap length added ∙ omega (
@@ -34,7 +33,7 @@ invariant_of-self c =
 
 pub returns-then-self-end-clause-extended : goal.returns-then-self-end-clause-extended
 returns-then-self-end-clause-extended c =
-    let room : vec_len c.self.inside.blocks < vec_capacity c.self.inside.blocks = omega (arith, rw (← c.self.view_is) at c.requires.spare) in
+    let room : 1 ≤ c.self.inside.blocks.spare = rw (← c.self.view_is) at c.requires.spare in
     let added = on_success c.append.result _ (c.append.ensures.full room) c.append.ensures.added in
     rw (← c.self.view_is)
     (added ∙ ap (λ n. flat_map covered c.self.inside.blocks.items ++ replicate (c.args.end - n) NonTried) (tiling_end _ c.self.invariant))

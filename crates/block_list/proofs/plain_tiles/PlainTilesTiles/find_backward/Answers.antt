@@ -4,18 +4,18 @@ use Rattle.block_list.proofs.LookupLemmas.{last_of, none_of}
 use Rattle.block_list.proofs.plain_tiles.PlainTilesTiles.find_backward.Goals as goal
 
 pub last_with-requires-clause-tiled : goal.last_with-requires-clause-tiled
-last_with-requires-clause-tiled c = rw c.deref.ensures.value (tiled_from_tiling _ c.self.invariant)
+last_with-requires-clause-tiled c = tiled_from_tiling _ c.self.invariant
 
 pub last_with-requires-clause-within : goal.last_with-requires-clause-within
 last_with-requires-clause-within c =
-    rw c.deref.ensures.value (omega (arith, c.min.ensures, tiling_end _ c.self.invariant))
+    omega (arith, c.min.ensures, tiling_end _ c.self.invariant)
 
 pub returns-clause-last : goal.returns-clause-last
 returns-clause-last c =
     let e = c.min.ensures ∙ ap (λ n. min c.args.before n) (tiling_end _ c.self.invariant) in
-    rw (← c.self.view_is) (last_of _ _ _ _ (rw (c.deref.ensures.value, e) at c.last_with.ensures.last))
+    rw (← c.self.view_is) (last_of _ _ _ _ (rw e at c.last_with.ensures.last))
 
 pub returns-clause-none : goal.returns-clause-none
 returns-clause-none c =
     let e = c.min.ensures ∙ ap (λ n. min c.args.before n) (tiling_end _ c.self.invariant) in
-    rw (← c.self.view_is) (none_of _ _ _ _ (rw (c.deref.ensures.value, e) at c.last_with.ensures.none))
+    rw (← c.self.view_is) (none_of _ _ _ _ (rw e at c.last_with.ensures.none))

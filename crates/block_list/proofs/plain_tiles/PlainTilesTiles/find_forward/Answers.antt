@@ -4,10 +4,10 @@ use Rattle.block_list.proofs.TileLemmas.{tiled_from_tiling, tiling_end}
 use Rattle.block_list.proofs.plain_tiles.PlainTilesTiles.find_forward.Goals as goal
 
 pub first_with-requires-clause-tiled : goal.first_with-requires-clause-tiled
-first_with-requires-clause-tiled c = rw c.deref.ensures.value (tiled_from_tiling _ c.self.invariant)
+first_with-requires-clause-tiled c = tiled_from_tiling _ c.self.invariant
 
 pub first_with-requires-clause-within : goal.first_with-requires-clause-within
-first_with-requires-clause-within c = rw c.deref.ensures.value (omega (arith, tiling_end _ c.self.invariant))
+first_with-requires-clause-within c = omega (arith, tiling_end _ c.self.invariant)
 
 pub returns-else-from-self-clause-none : goal.returns-else-from-self-clause-none
 returns-else-from-self-clause-none c =

@@ -12,10 +12,10 @@ overflow_add-x c =
     omega (arith, (tiled_from_tiling _ c.self.invariant).short)
 
 pub begun_before-behind-requires-clause-tiled : goal.begun_before-behind-requires-clause-tiled
-begun_before-behind-requires-clause-tiled c = rw c.deref.ensures.value (tiled_from_tiling _ c.self.invariant)
+begun_before-behind-requires-clause-tiled c = tiled_from_tiling _ c.self.invariant
 
 pub returns : goal.returns
 returns c =
     let p : IsPlace c.self.inside.blocks.items (c.args.x + 1) c.begun_before-behind.result =
-    rw c.deref.ensures.value at c.begun_before-behind.ensures in
-    rw (← c.self.view_is) (stretch_held _ _ _ _ (tiled_from_tiling _ c.self.invariant) c.self.invariant.merged p c.index.ensures)
+    c.begun_before-behind.ensures in
+    rw (← c.self.view_is) (stretch_held _ _ _ _ (tiled_from_tiling _ c.self.invariant) c.self.invariant.merged p c.block.ensures)

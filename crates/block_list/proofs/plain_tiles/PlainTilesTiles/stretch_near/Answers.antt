@@ -5,9 +5,9 @@ use Rattle.block_list.proofs.LookupLemmas.{stretch_held}
 use Rattle.block_list.proofs.plain_tiles.PlainTilesTiles.stretch_near.Goals as goal
 
 pub begun_near-begun-requires-clause-tiled : goal.begun_near-begun-requires-clause-tiled
-begun_near-begun-requires-clause-tiled c = rw c.deref.ensures.value (tiled_from_tiling _ c.self.invariant)
+begun_near-begun-requires-clause-tiled c = tiled_from_tiling _ c.self.invariant
 
 pub returns : goal.returns
 returns c =
-    let p : IsPlace c.self.inside.blocks.items (c.args.x + 1) c.begun_near-begun.result = rw c.deref.ensures.value at c.begun_near-begun.ensures in
-    rw (← c.self.view_is) (stretch_held _ _ _ _ (tiled_from_tiling _ c.self.invariant) c.self.invariant.merged p c.index.ensures)
+    let p : IsPlace c.self.inside.blocks.items (c.args.x + 1) c.begun_near-begun.result = c.begun_near-begun.ensures in
+    rw (← c.self.view_is) (stretch_held _ _ _ _ (tiled_from_tiling _ c.self.invariant) c.self.invariant.merged p c.block.ensures)
