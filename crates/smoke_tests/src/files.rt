@@ -55,3 +55,21 @@ fn an_image_and_a_mapfile_are_kept(rt: HostRuntime) -> Result<(), Fail> {
     fs::remove_dir_all(&rt, folder.as_path())?;
     Ok(())
 }
+
+#[test]
+fn what_is_written_was_not_read_ahead(rt: HostRuntime) -> Result<(), Fail> {
+    let path = own_name(&rt, "image")?;
+    fs::write(&rt, &path, "abcdef")?;
+    let image = path.as_path().as_str();
+    let mut site = FolderSite::new(rt.clone()?);
+    let mut buf = [0; 2];
+    site.read_ahead_in(vec![in rt.alloc(); 0; 16]?);
+    assert_eq!(rt; site.image_open(image, false)?, ImageKind::Regular);
+    assert_eq!(rt; site.image_read(0, &mut buf)?, 2);
+    site.image_write(3, b"D")?;
+    assert_eq!(rt; site.image_read(2, &mut buf)?, 2);
+    assert_eq!(rt; buf, *b"cD");
+    assert_eq!(rt; site.image_read(5, &mut buf)?, 1);
+    fs::remove_file(&rt, &path)?;
+    Ok(())
+}
