@@ -24,6 +24,9 @@ fn run(rt: HostRuntime) -> io::Result<u8> {
     source.note_in(input.share()?);
     site.keep_apart(input);
     if let Ok(room) = vec![in rt.alloc(); 0; ROOM] {
+        source.read_ahead_in(room);
+    }
+    if let Ok(room) = vec![in rt.alloc(); 0; ROOM] {
         site.read_ahead_in(room);
     }
     let mut console = StdConsole::new(rt.clone()?);
