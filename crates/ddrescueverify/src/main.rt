@@ -12,6 +12,9 @@ use rescue_console::system::StdConsole;
 use std::io;
 use std::process::ExitCode;
 
+/// How many bytes of a file are read ahead at once.
+const ROOM: usize = 65536;
+
 fn run(rt: HostRuntime) -> io::Result<u8> {
     fill_streams(&rt, ClosedStream::Faulty)?;
     let words = collect_words(&rt)?;
@@ -20,6 +23,12 @@ fn run(rt: HostRuntime) -> io::Result<u8> {
     let mut site = FolderSite::new(rt.clone()?);
     source.note_in(input.share()?);
     site.keep_apart(input);
+    if let Ok(room) = vec![in rt.alloc(); 0; ROOM] {
+        source.read_ahead_in(room);
+    }
+    if let Ok(room) = vec![in rt.alloc(); 0; ROOM] {
+        site.read_ahead_in(room);
+    }
     let mut console = StdConsole::new(rt.clone()?);
     let ending = ddrescueverify(rt.alloc(), &words, &mut source, &mut site, &mut console);
     Ok(ending.code())

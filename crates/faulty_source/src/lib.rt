@@ -2,6 +2,7 @@
 #![tactic(auto)]
 
 pub mod bad_range;
+mod expected_reads;
 pub mod file;
 pub mod journal;
 pub mod source;

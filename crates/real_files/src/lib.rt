@@ -1,7 +1,8 @@
-//! What the forms for real files stand on: reads and writes at a place, what an error means, and which file a name
-//! reaches.
+//! What the forms for real files stand on: reads and writes at a place, what is read ahead, what an error means, and
+//! which file a name reaches.
 #![tactic(auto)]
 
 pub mod file_cursor;
 pub mod identity;
 pub mod outcome;
+pub mod read_ahead;

@@ -3,3 +3,4 @@ pub mod Looks
 pub mod Verified
 pub mod Looking
 pub mod Comparing
+pub mod Laws

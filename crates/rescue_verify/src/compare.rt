@@ -10,9 +10,8 @@ ghost use Rattle.rescue_verify.specs.Looking.{HaltsLooking};
 
 use crate::halt::Halt;
 use crate::look::{LookResult, look};
-use crate::piece::Comparison;
+use crate::piece::{Comparison, Piece};
 use crate::tally::Tally;
-use block_list::block::Range;
 use block_list::status::Status;
 use block_list::tiles::Tiles;
 use crash_site::site::Site;
@@ -20,10 +19,10 @@ use faulty_source::source::Source;
 use std::alloc::Global;
 
 /// Looks at a piece, marks it in the map where it differs, and counts it. Room for the mark is asked for first, so that
-/// no read is lost for want of it.
+/// no read is lost for want of it. The input is told how far reads go on from there.
 fn compare_piece<S: Source, D: Site, T: Tiles>(
     comparison: Comparison<'_>,
-    piece: Range,
+    piece: Piece,
     tally: &mut Tally,
     tiles: &mut T,
     given: &mut [u8],
@@ -60,6 +59,7 @@ fn compare_piece<S: Source, D: Site, T: Tiles>(
     let place = comparison.place_of(piece.from);
     let given = &mut given[..size as usize];
     let there = &mut there[..size as usize];
+    source.expect(piece.from, piece.run_end);
     match look(piece.from, place, given, there, source, site) {
         Ok(LookResult::Unread) => tally.unread += size,
         Ok(LookResult::Same) => tally.compared += size,

@@ -4,6 +4,7 @@
 
 pub mod compare;
 pub mod halt;
+pub mod laws;
 mod look;
 pub mod piece;
 pub mod tally;

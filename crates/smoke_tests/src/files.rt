@@ -55,3 +55,40 @@ fn an_image_and_a_mapfile_are_kept(rt: HostRuntime) -> Result<(), Fail> {
     fs::remove_dir_all(&rt, folder.as_path())?;
     Ok(())
 }
+
+#[test]
+fn what_is_expected_is_read_ahead(rt: HostRuntime) -> Result<(), Fail> {
+    let path = own_name(&rt, "ahead")?;
+    fs::write(&rt, &path, "abcdef")?;
+    let mut source = FileSource::new(rt.clone()?);
+    let mut buf = [0; 2];
+    source.read_ahead_in(vec![in rt.alloc(); 0; 16]?);
+    assert_eq!(rt; source.open_input(path.as_path().as_str())?, 6);
+    source.expect(0, 4);
+    assert_eq!(rt; source.read_at(0, &mut buf)?, Got::Read(2));
+    fs::write(&rt, &path, "ABCDEF")?;
+    for (pos, bytes) in [(2, *b"cd"), (2, *b"CD"), (4, *b"EF")] {
+        assert_eq!(rt; source.read_at(pos, &mut buf)?, Got::Read(2));
+        assert_eq!(rt; buf, bytes);
+    }
+    fs::remove_file(&rt, &path)?;
+    Ok(())
+}
+
+#[test]
+fn what_is_written_was_not_read_ahead(rt: HostRuntime) -> Result<(), Fail> {
+    let path = own_name(&rt, "image")?;
+    fs::write(&rt, &path, "abcdef")?;
+    let image = path.as_path().as_str();
+    let mut site = FolderSite::new(rt.clone()?);
+    let mut buf = [0; 2];
+    site.read_ahead_in(vec![in rt.alloc(); 0; 16]?);
+    assert_eq!(rt; site.image_open(image, false)?, ImageKind::Regular);
+    assert_eq!(rt; site.image_read(0, &mut buf)?, 2);
+    site.image_write(3, b"D")?;
+    assert_eq!(rt; site.image_read(2, &mut buf)?, 2);
+    assert_eq!(rt; buf, *b"cD");
+    assert_eq!(rt; site.image_read(5, &mut buf)?, 1);
+    fs::remove_file(&rt, &path)?;
+    Ok(())
+}

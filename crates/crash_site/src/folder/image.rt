@@ -1,13 +1,17 @@
-ghost use Rattle.std.specs.Prelude.{◌≡◌, true, false, IfOk, IsSome};
+ghost use Rattle.std.specs.Prelude.{◌≡◌, true, false, OnOk, IfOk, IsSome};
+ghost use Rattle.std.specs.Io.KnownBytes.{Appends};
+ghost use Rattle.real_files.specs.Ahead.{nothing_held};
 ghost use Rattle.crash_site.specs.Files.{is_absent};
 
 use crate::folder::apart::check_input;
 use crate::folder::names::{folder_for, folder_of, open_with, sync_both};
 use crate::site::ImageKind;
+use real_files::file_cursor::put;
 use real_files::identity::{Identity, OpenInput};
 use real_files::outcome::{if_there, not_held};
+use real_files::read_ahead::ReadAhead;
 use std::fs::{self, File, OpenOptions};
-use std::io;
+use std::io::{self, Write};
 
 /// An open image, and the folder in which it lies, where that could be opened.
 #[derive(Drop)]
@@ -67,4 +71,17 @@ pub(super) fn open_image(
         regular: found.is_file(),
         identity,
     }))
+}
+
+/// Writes a piece. What was read ahead may be other bytes from then on, and is dropped.
+pub(super) fn write_image<W: Write>(
+    ahead: &mut ReadAhead,
+    writer: &mut W,
+    piece: &[u8],
+) -> io::Result<()>
+    ensures written { OnOk result (Appends (W.contents writer.old) (W.contents writer.new) piece.now) }
+    ensures dropped { ahead.new ≡ nothing_held ahead.old.room }
+{
+    ahead.begin_anew();
+    put(writer, piece)
 }

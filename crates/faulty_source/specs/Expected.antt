@@ -1,0 +1,8 @@
+-- How far an input is read ahead.
+use Rattle.std.specs.Prelude.{ℕ, ◌-◌, ◌&&◌, nat_le, if◌then◌else◌}
+use Rattle.real_files.specs.Ahead.{Ahead}
+
+-- How many bytes may be read ahead from a position on, where positions from one up to another are expected: those up to
+-- the end of these, if the position is one of them or follows them. None after a read ahead that didn't come whole.
+abbrev pub most_ahead : Ahead → (from to pos : ℕ) → ℕ
+most_ahead ahead from to pos = if ahead.is_whole && nat_le from pos then to - pos else 0
