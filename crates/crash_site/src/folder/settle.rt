@@ -1,11 +1,12 @@
 use crate::folder::apart::Apart;
 use crate::folder::mapfile::find_map;
-use crate::folder::names::{folder_for, folder_of, make_new, open_with, sync_both, sync_entries};
+use crate::folder::names::{folder_for, folder_of, make_new, open_with, sync_entries};
 use real_files::outcome::{if_there, removable};
 use std::fs::{self, File, OpenOptions};
 use std::io::{self, ErrorKind};
 
-/// Makes a mapfile durable that is there, and the entries of its name's folder. Where more saves are to come it is asked
+/// Makes the entries of a mapfile's folder durable, and then the mapfile itself if it is there. A draft that took its place
+/// was synced before, so a file system without a journal loses a name sooner than a byte. If more saves are to come, asks
 /// first whether it can be saved.
 pub(super) fn settle(
     rt: &HostRuntime,
@@ -16,24 +17,26 @@ pub(super) fn settle(
     if saves {
         ask_for_saves(rt, apart, name)?;
     }
-    if find_map(rt, apart, name)?.is_some() {
+    let found = find_map(rt, apart, name)?;
+    sync_entries(&File::open(rt, folder_of(name))?)?;
+    if found.is_some() {
         settle_reached(rt, name)?;
     }
-    sync_entries(&File::open(rt, folder_of(name))?)
+    Ok(())
 }
 
-/// Makes the file durable that a name reaches, and where the name is a link the entry to which it leads, which may lie
-/// in another folder.
+/// Makes the file durable that a name reaches, and before it, if the name is a link, the entry to which it leads, which
+/// may lie in another folder.
 fn settle_reached(rt: &HostRuntime, name: &str) -> io::Result<()> {
     let mut rights = OpenOptions::new();
     rights.read(true);
     let file = open_with(rt, &rights, name)?;
-    let folder = if fs::symlink_metadata(rt, name)?.is_symlink() {
-        folder_for(rt, name, false)?
-    } else {
-        None
-    };
-    sync_both(&file, folder.as_ref())
+    if fs::symlink_metadata(rt, name)?.is_symlink() {
+        if let Some(folder) = folder_for(rt, name, false)? {
+            sync_entries(&folder)?;
+        }
+    }
+    file.sync_all()
 }
 
 /// Whether a draft could be made beside a mapfile, and take its place. Nothing that stands there is lost.
