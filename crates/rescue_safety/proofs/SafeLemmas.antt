@@ -1,5 +1,5 @@
 -- Any rescue is safe wherever it is stopped.
-use Rattle.std.proofs.Common.{◌≡◌, ◌⊎◌, inl, inr, ⊎_elim, ℕ, ◌+◌, ◌≤◌, true, false, List, [], ◌∷◌, length, take, map, Option, Some, None, option_map, is_some, refl, sym, ap, subst, ◌∙◌, arith}
+use Rattle.std.proofs.Common.{◌≡◌, ◌⊎◌, inl, inr, ⊎_elim, ℕ, ◌+◌, ◌≤◌, true, false, List, [], ◌∷◌, ◌++◌, length, take, map, Option, Some, None, option_map, is_some, refl, sym, ap, subst, ◌∙◌, arith}
 use Rattle.std.specs.List.{slice_get}
 use Rattle.std.proofs.lemmas.List.{append_cancel_left}
 use Rattle.block_list.specs.declared.status.Status.{Status}
@@ -30,15 +30,17 @@ use Rattle.ddrescue_cli.specs.Ddrescue.{Promise}
 use Rattle.ddrescue_cli.proofs.AskedLemmas.{sensible_to}
 use Rattle.ddrescue_laws.proofs.GivenLemmas.{given_is_input}
 use Rattle.rescue_safety.specs.Saves.{CallsFinished, IsOneSaved}
-use Rattle.rescue_safety.specs.Safe.{HasPlace, Run, reads_until, by_then, gives, IsHeld, IsSafe, IsSafeAnywhere}
+use Rattle.rescue_safety.specs.Safe.{Target, HasPlace, Run, reads_until, by_then, gives, IsHeld, IsSafe, IsSafeAnywhere}
 use Rattle.rescue_safety.specs.Rescue.{Rescue, target_of, run_by, run_of, files_at_first, AreSeen, NoRead, Untested, Tested, IsAskedFor}
-use Rattle.rescue_safety.specs.Laws.{AnyStopIsSafe, AnyTestedStopIsSafe, EachIsTold, GivesWhatIsAskedFor, LeavesTheRest, NoneIsReadAgain}
+use Rattle.rescue_safety.specs.Laws.{AnyStopIsSafe, AnyTestedStopIsSafe, EachIsTold, GivesWhatIsAskedFor, LeavesTheRest, NoneIsReadAgain, StaysResumable, WritesAreOfReads}
 use Rattle.rescue_safety.proofs.SaveLemmas.{goes_made, numbered}
 use Rattle.rescue_safety.proofs.QuietLemmas.{SavesNone, none_or_stands}
 use Rattle.rescue_safety.proofs.FinishedLemmas.{StandsAt, At, stands_at, StandsFinished, stands_finished, calls_finished, finished_has}
 use Rattle.rescue_safety.proofs.ClaimLemmas.{some_or_none, never_some, was_finished}
 use Rattle.rescue_safety.proofs.PromiseLemmas.{promise_goes, goes_domain}
 use Rattle.rescue_safety.proofs.ThenLemmas.{kept_given, goes_unwritten}
+use Rattle.rescue_safety.proofs.WrittenLemmas.{IsFront, goes_written}
+use Rattle.rescue_safety.specs.Written.{written_in, kept_in}
 use Rattle.rescue_safety.proofs.BegunLemmas.{writes_in, none_begun}
 use Rattle.rescue_safety.proofs.TestLemmas.{tested}
 use Rattle.rescue_safety.proofs.DomainLemmas.{asked_for, named_file}
@@ -195,6 +197,17 @@ module _ (r : Rescue) where
         (λ (at : StandsAt (files_before b s.names.map) s.end). mapfile_over is at)
         (none_or_stands s (files_before b) g on goes)
 
+    found_over : (end : ℕ) → has_barrier (take k g.calls) ≡ true → StandsAt (files_before b s.names.map) s.end
+        → StandsAt (files s.names.map) end
+    found_over end is (At began was there) =
+        let kept = safe.kept k files began was le left is there in
+        stands_at (files s.names.map) s.end end kept.statuses kept.shows kept.stands
+
+    pub found_stands : (end : ℕ) (map : List Status) (state : Option MapState) → has_barrier (take k g.calls) ≡ true
+        → Stands (files_before b s.names.map) end map state → StandsAt (files s.names.map) end
+    found_stands end map state is stands =
+        found_over end is (stands_at (files_before b s.names.map) end s.end map state stands)
+
     -- what a read had given it that had begun to be written
     abbrev then_gave : ℕ → Option ℕ
     then_gave x = given s.sector (reads_until s.sector (writes_in (take (k + 1) g.calls)) g.reads) x
@@ -323,6 +336,29 @@ none_is_read_again r reads k files x are le left is fin =
     (subst (λ (l : List Entry).
     given r.command.options.sector (reads_until r.command.options.sector (writes_in (take (k + 1) l)) (g r).reads) x
     ≡ given r.command.options.sector (g r).reads x) (sym (calls_are r)) same)
+
+pub writes_are_of_reads : WritesAreOfReads
+writes_are_of_reads r reads are =
+    let t : Target = target_of r.command r.mapfile in
+    let f : IsFront (written_in (g r).calls) (kept_in t r.command.options.sector (g r).reads)
+    = goes_written t (s r) (ok r) refl refl (files_before (b r)) (g r) (on r) (goes r) in (
+      f.rest,
+      ap (λ (l : List Reading). kept_in t r.command.options.sector l) (seen_alone r reads are) ∙ f.is
+          ∙ ap (λ (l : List Entry). written_in l ++ f.rest) (sym (calls_are r)),
+    )
+
+resumed : (mapfile : Option File) (end : ℕ) → StandsAt mapfile end
+    → (map : List Status) × (state : Option MapState) × Stands mapfile end map state
+resumed mapfile end (At map state stands) = (map, state, stands)
+
+pub stays_resumable : StaysResumable
+stays_resumable r k files end map state le left is stands =
+    resumed (files r.mapfile) end
+    (subst (λ (m : List ℕ). StandsAt (files m) end) (map_is r)
+    (found_stands r k files (subst (λ (l : List Entry). k ≤ length l) (calls_are r) le)
+    (subst (λ (l : List Entry). LeftBy (b r) l k files) (calls_are r) left) end map state
+    (subst (λ (l : List Entry). has_barrier (take k l) ≡ true) (calls_are r) is)
+    (subst (λ (m : List ℕ). Stands (files_before (b r) m) end map state) (sym (map_is r)) stands)))
 
 -- what a read gave that had begun to be written is asked for
 pub begun_asked_for : (r : Rescue) (reads : List Reading) (k x byte : ℕ) → AreSeen r reads

@@ -41,7 +41,7 @@ use Rattle.rescue_safety.proofs.ByThenLemmas.{unwritten_both, all_unwritten, run
 
 -- ---- calls that write nothing
 
-abbrev IsDry : Call → Type 0
+abbrev pub IsDry : Call → Type 0
 IsDry c = is_write (Done c) ≡ false
 
 dry_count : (cs : List Call) → All IsDry cs → writes_in (map Done cs) ≡ 0
@@ -55,7 +55,7 @@ read_dry : (c : Call) → is_map_read c ≡ true → IsDry c
 read_dry (map_read name at size answer) is = refl
 read_dry c is = absurd (cc)
 
-reads_dry : (calls : List Call) → AreMapReads calls → All IsDry calls
+pub reads_dry : (calls : List Call) → AreMapReads calls → All IsDry calls
 reads_dry [] reads = All-nil IsDry
 reads_dry (c ∷ calls) reads =
     All-cons IsDry c calls (read_dry c (All-head (λ c. is_map_read c ≡ true) c calls reads))
@@ -87,19 +87,22 @@ still_published cs still =
 -- ---- the calls before a run, and the run's
 
 module _ (s : Setting) (began : List Status) (state : Option MapState) (g : Gain) (made : Made s began state g) where
-  abbrev load : List Call
+  abbrev pub load : List Call
   load = load_of s made.given made.at made.answer
 
-  abbrev front : List Call
+  abbrev pub front : List Call
   front = made.maps ++ (opening_by s true ++ load)
 
-  abbrev run_calls : List Call
+  abbrev pub run_calls : List Call
   run_calls = calls_of_run s began state g
 
+  pub all_dry : All IsDry front
+  all_dry =
+      All-append IsDry made.maps (opening_by s true ++ load) (reads_dry made.maps made.are_reads)
+      (All-append IsDry (opening_by s true) load (opening_dry s) (load_dry s made.given made.at made.answer))
+
   front_dry : writes_in (map Done front) ≡ 0
-  front_dry =
-      dry_count front (All-append IsDry made.maps (opening_by s true ++ load) (reads_dry made.maps made.are_reads)
-      (All-append IsDry (opening_by s true) load (opening_dry s) (load_dry s made.given made.at made.answer)))
+  front_dry = dry_count front all_dry
 
   front_still : published (map Done front) ≡ 0
   front_still =

@@ -40,7 +40,7 @@ pub record IsOwedIn (t : Target) (gave : List (ℕ × ℕ)) (old : ℕ → Bool)
   pub each : (x : ℕ) → CallsFinished (files t.mapfile) x
       → (old x ≡ true) ⊎ HoldsLast t gave (bytes_of (files t.outfile)) x
 
--- So it is in all files that may be found after these calls.
+-- The same holds in all files that may be found after these calls.
 pub record IsOwedAt (t : Target) (gave : List (ℕ × ℕ)) (old : ℕ → Bool) (b : Behind) : Type 0 where
   pub each : (files : List ℕ → Option File) → MayBeLeft b.start b.earlier (length b.earlier) files
       → IsOwedIn t gave old files

@@ -24,14 +24,14 @@ pub record Invocation : Type 0 where
   pub calls : List Entry
   pub made : told.site'.calls ≡ told.site.calls ++ calls
 
--- One whose input tells, too: these are the reads that it answered.
+-- An invocation whose input tells, too, and the reads that the input answered.
 pub record Observed : Type 0 where
   pub call : Invocation
   pub source_tells : IsTrue call.told.source.tells
   pub reads : List Reading
   pub read : call.told.source'.journal ≡ call.told.source.journal ++ reads
 
--- One whose words ask for a rescue with a mapfile.
+-- An invocation whose words ask for a rescue with a mapfile.
 pub record Rescue : Type 0 where
   pub did : Observed
   pub command : Command
@@ -48,7 +48,7 @@ target_of c mapfile = record {
   to = unwrap_or c.options.output_position c.options.input_position;
 }
 
--- what it did on a target, in sectors of this size, by these reads
+-- what an invocation did on a target, in sectors of this size, by these reads
 abbrev pub run_by : Observed → Target → (sector : ℕ) → (reads : List Reading) → Run
 run_by o t sector reads = record {
   target = t;

@@ -29,14 +29,14 @@ pub record Run : Type 0 where
   pub sector : ℕ
   pub reads : List Reading
 
--- The reads up to the one whose bytes the last of so many writes wrote: each read of which something is kept is written
--- once, before the next read.
+-- The reads up to the one that the last of that many writes wrote. Each read of which something is kept is written once,
+-- before the next read.
 abbrev pub reads_until : (sector writes : ℕ) → List Reading → List Reading
 reads_until sector writes [] = []
 reads_until sector zero (r ∷ rs) = []
 reads_until sector (suc n) (r ∷ rs) = r ∷ reads_until sector (if nat_eq (kept sector r) 0 then suc n else n) rs
 
--- what it had read when the first k of its calls had returned: of later reads no byte had begun to be written
+-- the same with the reads alone that had begun to be written when the first k calls had returned and the next had begun
 abbrev pub by_then : Run → (k : ℕ) → Run
 by_then r k = record r { reads = reads_until r.sector (count_by is_write (take (k + 1) r.calls)) r.reads }
 
@@ -52,13 +52,13 @@ bytes_at_first r = bytes_of (files_before r.before r.target.outfile)
 pub record IsHeld (r : Run) (k : ℕ) (files : List ℕ → Option File) : Type 0 where
   -- The mapfile is the one that was there before, or one that was saved.
   pub mapfile : IsOneSaved (files_before r.before r.target.mapfile) r.calls k (files r.target.mapfile)
-  -- Each position that it calls finished was called finished before, or a read gave it a byte;
+  -- Each position that this mapfile calls finished was called finished before, or a read gave it a byte.
   pub claimed : (x : ℕ) → CallsFinished (files r.target.mapfile) x
       → CallsFinished (files_before r.before r.target.mapfile) x ⊎ ((b : ℕ) × (gives r x ≡ Some b))
-  -- then the output has the byte that was given last in the position's place.
+  -- The output has the byte that a read gave last in the place of each such position.
   pub rescued : (x y b : ℕ) → CallsFinished (files r.target.mapfile) x → gives r x ≡ Some b → HasPlace r.target x y
       → slice_get (bytes_of (files r.target.outfile)) y ≡ Some b
-  -- The output's old byte stands in each place whose position no read gave a byte.
+  -- The output has its old byte in each place whose position no read gave a byte.
   pub stood : (y : ℕ) → y < length (bytes_at_first r) → ((x : ℕ) → HasPlace r.target x y → gives r x ≡ None)
       → slice_get (bytes_of (files r.target.outfile)) y ≡ slice_get (bytes_at_first r) y
 
@@ -73,7 +73,7 @@ pub record IsSafe (r : Run) (k : ℕ) (files : List ℕ → Option File) : Type 
       → name ≢ r.target.mapfile ++ codes ".tmp" → (before : List ℕ → Option File)
       × MayBeLeft r.before.start r.before.earlier (length r.before.earlier) before × (files name ≡ before name)
 
--- A rescue is safe wherever it is stopped, by what it had read then; and its reads gave only the input's own bytes.
+-- A rescue is safe wherever it is stopped, by what it had read by then; and its reads gave only the input's own bytes.
 pub record IsSafeAnywhere (r : Run) : Type 0 where
   pub own : (x b : ℕ) → gives r x ≡ Some b → slice_get r.input x ≡ Some b
   pub safe : (k : ℕ) (files : List ℕ → Option File) → k ≤ length r.calls → LeftBy r.before r.calls k files
