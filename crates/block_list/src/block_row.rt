@@ -117,6 +117,20 @@ impl BlockRow {
         ensures kept { self.old.spare ≤ self.new.spare }
         ensures items { self.new.items ≡ self.old.items }
     {
+        let capacity = self.ends.capacity().min(self.statuses.capacity());
+        if n <= capacity.saturating_sub(self.ends.len()) {
+            return Ok(());
+        }
+        self.grow(n)
+    }
+
+    /// Asks for memory for n more blocks.
+    #[inline(never)]
+    fn grow(&mut self, n: usize) -> Result<(), NoMemory>
+        ensures spare { OnOk result (n ≤ self.new.spare) }
+        ensures kept { self.old.spare ≤ self.new.spare }
+        ensures items { self.new.items ≡ self.old.items }
+    {
         self.ends.reserve(n).map_err(|_| NoMemory)?;
         self.statuses.reserve(n).map_err(|_| NoMemory)
     }

@@ -35,6 +35,8 @@ fn marks(alloc: Global, ascending: &[u64], shape: Shape, end: u64) -> Result<Pla
     ensures { IfOk result (λ marks. marks.statuses ≡ map_by (mark_of shape ascending.now) end) }
 {
     let mut marks = PlainTiles::new(alloc);
+    // Blocks that join take less, so the marks may fit where there isn't memory for as many.
+    let _ = marks.reserve(ascending.len().saturating_mul(2).saturating_add(1));
     for number in ascending {
         let positions = positions_of(*number, shape);
         let from = positions.from.min(end);
@@ -88,6 +90,8 @@ fn created(
 {
     let end = marks.end();
     let mut map = PlainTiles::new(alloc);
+    // A domain of one interval leaves about as many blocks as there are marks; others make room as they go.
+    let _ = map.reserve(marks.blocks());
     let mut near = Nearby::start();
     let mut at = 0;
     while at < end {
