@@ -3,7 +3,7 @@ ghost use Rattle.std.specs.Prelude.{◌≡◌, ◌<◌, ◌^◌};
 
 use block_list::block::{Block, Range};
 use block_list::near::Near;
-use block_list::plain_tiles::PlainTiles;
+use block_list::plain_tiles::{PlainTiles, PushError};
 use block_list::status::Status;
 use block_list::tiles::Tiles;
 use paged_blocks::paged_tiles::PagedTiles;
@@ -13,6 +13,7 @@ use std::marker::Brand;
 use std::process::Abort;
 use std::sync::ledger::{Blank, Ledger};
 use std::test::Fail;
+use task_files::load::start_fresh;
 
 /// A map of blocks of one sector of 512 bytes, finished ones and bad ones in turn.
 fn in_turn(alloc: Global, blocks: u64) -> Result<PlainTiles, Fail> {
@@ -79,6 +80,48 @@ fn steps_are_counted(rt: HostRuntime) -> Result<(), Fail> {
     let tiles = PagedTiles::from_plain(rt.alloc(), &in_turn(rt.alloc(), 200)?)?;
     let none = found_counted::<Brand>(&tiles, 0, Status::NonTried, Blank::new(1));
     assert_eq!(rt; none, None);
+    Ok(())
+}
+
+// What a rescue begins with is a map in pages: with one of another type this doesn't compile.
+#[test]
+fn a_run_has_pages(rt: HostRuntime) -> Result<(), Fail> {
+    let pages: PagedTiles = start_fresh(rt.alloc(), 1_024)?.tiles;
+    assert_eq!(rt; pages.blocks(), 1);
+    Ok(())
+}
+
+#[test]
+fn a_list_has_no_gap_and_no_overlap(rt: HostRuntime) -> Result<(), Fail> {
+    let mut tiles = PlainTiles::new(rt.alloc());
+    let first = Block {
+        pos: 0,
+        size: 512,
+        status: Status::Finished,
+    };
+    tiles.push(first)?;
+    let status = Status::NonTried;
+    let behind = Block {
+        pos: 768,
+        size: 1,
+        status,
+    };
+    assert_eq!(rt; tiles.push(behind), Err(PushError::Gap { at: 512 }));
+    let within = Block {
+        pos: 256,
+        size: 1,
+        status,
+    };
+    assert_eq!(rt; tiles.push(within), Err(PushError::Overlap { at: 512 }));
+    let empty = Block {
+        pos: 512,
+        size: 0,
+        status,
+    };
+    assert_eq!(rt; tiles.push(empty), Ok(()));
+    assert_eq!(rt; tiles.blocks(), 1);
+    assert_eq!(rt; tiles.block(0), first);
+    assert_eq!(rt; tiles.end(), 512);
     Ok(())
 }
 
