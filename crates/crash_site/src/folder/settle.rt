@@ -5,9 +5,9 @@ use real_files::outcome::{if_there, removable};
 use std::fs::{self, File, OpenOptions};
 use std::io::{self, ErrorKind};
 
-/// Makes the entries of a mapfile's folder durable, and then the mapfile itself if it is there. A draft that took its place
-/// was synced before, so a file system without a journal loses a name sooner than a byte. If more saves are to come, asks
-/// first whether it can be saved.
+/// Makes the entries of a mapfile's folder durable, and then the mapfile itself if it is there. A saved draft was
+/// synced before its rename, so that its name alone can still be lost. If more saves are to come, asks first whether
+/// the mapfile can be saved.
 pub(super) fn settle(
     rt: &HostRuntime,
     apart: &Apart<'_>,
