@@ -16,13 +16,13 @@ module _ {C E O : Type 0} (p : Program C E O) where
   abbrev pub IsVerdict : E → Type 0
   IsVerdict e = IsVerdictKind (kind_of p e)
 
-  -- An answer where nothing was done has this row.
+  -- an answer of a call in which nothing was done
   pub record IsIdleAnswer (e : E) : Type 0 where
     pub also : (p.row e).also
     pub keeps : (w : WorldState) → p.Begins w → p.Keeps e w w
 
   pub record IsWellMade : Type 0 where
-    -- The answer for want of memory is of that kind, and so are those for words that are refused;
+    -- Want of memory has an answer of its kind, and so have words that are refused; then nothing may have been done;
     pub memory : kind_of p p.faults.memory ≡ Starved
     pub memory_idle : IsIdleAnswer p.faults.memory
     pub wrong : (fault : UsageFault) → p.HasFault fault → kind_of p (p.wrong fault) ≡ Wrong fault
