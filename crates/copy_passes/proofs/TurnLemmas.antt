@@ -4,10 +4,12 @@ use Rattle.std.specs.List.{slice_range}
 use Rattle.std.proofs.lemmas.List.{map-append}
 use Rattle.std.proofs.lemmas.List.Elements.{All-nil, All-cons, All-append}
 use Rattle.faulty_source.specs.Journal.{Reading}
-use Rattle.faulty_source.specs.SourceState.{SourceState, Stays as SourceStays, Reads}
+use Rattle.faulty_source.specs.SourceState.{SourceState}
+use Rattle.faulty_source.specs.SourceChanges.{Stays as SourceStays, Reads}
 use Rattle.faulty_source.proofs.Keeping.{stays_self, stays_more, reads_more}
 use Rattle.crash_site.specs.Calls.{Call}
-use Rattle.crash_site.specs.SiteState.{SiteState, Makes}
+use Rattle.crash_site.specs.SiteState.{SiteState}
+use Rattle.crash_site.specs.SiteChanges.{Makes}
 use Rattle.save_resume.proofs.CallLemmas.{made_more}
 use Rattle.save_resume.proofs.FillLemmas.{keeps_self, keeps_more}
 use Rattle.rescue_console.specs.declared.console.Channel.TheVariants.{Out}

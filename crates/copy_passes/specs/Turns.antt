@@ -1,8 +1,10 @@
 -- Whole turns of a run, by what the objects tell, and a turn that stopped behind them.
 use Rattle.std.specs.Prelude.{◌≡◌, ℕ, ◌+◌, true, false, IsTrue, List, length, slice_range, All, Result, IfOk, IfErr, OnOk, None}
 use Rattle.faulty_source.specs.Journal.{Reading}
-use Rattle.faulty_source.specs.SourceState.{SourceState, Stays as SourceStays, Reads}
-use Rattle.crash_site.specs.SiteState.{SiteState, Keeps as SiteKeeps, Makes}
+use Rattle.faulty_source.specs.SourceState.{SourceState}
+use Rattle.faulty_source.specs.SourceChanges.{Stays as SourceStays, Reads}
+use Rattle.crash_site.specs.SiteState.{SiteState}
+use Rattle.crash_site.specs.SiteChanges.{Keeps as SiteKeeps, Makes}
 use Rattle.rescue_console.specs.ClockState.{ClockState, Keeps as ClockKeeps, Reads as ReadsClock}
 use Rattle.rescue_console.specs.ConsoleState.{ConsoleState}
 use Rattle.rescue_console.specs.Speaking.{SpeaksOn, out_pieces}

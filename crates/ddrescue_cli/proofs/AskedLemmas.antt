@@ -2,7 +2,8 @@
 use Rattle.std.proofs.Common.{ℕ, List, refl, arith}
 use Rattle.rescue_rules.specs.Setting.{IsSensible}
 use Rattle.rescue_command.specs.Options.{sectors_of}
-use Rattle.rescue_command.specs.Command.{Command, Rescue, Asks, AreInLimits}
+use Rattle.rescue_command.specs.Command.{Command, Rescue}
+use Rattle.rescue_command.specs.Asking.{Asks, AreInLimits}
 use Rattle.rescue_command.proofs.CommandLemmas.{reading_asks}
 use Rattle.rescue_domain.proofs.PlaceLemmas.{whole_from}
 use Rattle.task_files.specs.Asked.{Maps, setting_of}

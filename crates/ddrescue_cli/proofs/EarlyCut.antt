@@ -3,7 +3,8 @@ use Rattle.std.proofs.Common.{◌≡◌, ◌⊎◌, ℕ, Bool, true, List, [], �
 use Rattle.std.proofs.lemmas.List.Elements.{All-nil}
 use Rattle.crash_site.specs.declared.site.SiteCall.TheVariants.{MapRead}
 use Rattle.crash_site.specs.Files.{File}
-use Rattle.crash_site.specs.Calls.{Call, Entry, Done, BrokeAt}
+use Rattle.crash_site.specs.Calls.{Call, Entry, Done}
+use Rattle.crash_site.specs.CallsMade.{BrokeAt}
 use Rattle.rescue_rules.specs.Setting.{Setting}
 use Rattle.rescue_rules.specs.Work.{AreMapReads}
 use Rattle.rescue_rules.proofs.CutLemmas.{Cut, cut_all, cut_more}

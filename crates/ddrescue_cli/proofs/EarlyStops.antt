@@ -6,8 +6,8 @@ use Rattle.crash_site.specs.Files.{File, bytes_of}
 use Rattle.crash_site.specs.Calls.{Entry}
 use Rattle.rescue_rules.specs.Setting.{Setting}
 use Rattle.rescue_rules.specs.Snapshots.{Snapshot}
-use Rattle.rescue_rules.specs.Stops.{Behind, files_before, has_barrier, returned, IsSave}
-use Rattle.rescue_rules.specs.StopsBy.{LeftBy, IsKeptBy, StopsBy}
+use Rattle.rescue_rules.specs.Stops.{Behind, files_before, has_barrier, returned, LeftBy}
+use Rattle.rescue_rules.specs.StopsBy.{IsSave, IsKeptBy, StopsBy}
 
 -- of no saves the mapfile that is found is the one that stood there
 only_old : (old : Option File) (began : List Status) (line : List ℕ) (n : ℕ) (found : Option File) (statuses : List Status)

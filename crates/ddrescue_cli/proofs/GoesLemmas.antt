@@ -6,7 +6,8 @@ use Rattle.mapfile_text.specs.declared.state.MapState.{MapState}
 use Rattle.mapfile_text.specs.declared.read.Mode.{Mode}
 use Rattle.crash_site.specs.declared.site.SiteCall.TheVariants.{MapRead}
 use Rattle.crash_site.specs.Files.{File, bytes_of}
-use Rattle.crash_site.specs.Calls.{Call, Entry, Done as Returned, Lost, BrokeAt, image_open, image_sync, map_settle}
+use Rattle.crash_site.specs.Calls.{Call, Entry, Done as Returned, image_open, image_sync, map_settle}
+use Rattle.crash_site.specs.CallsMade.{Lost, BrokeAt}
 use Rattle.crash_site.specs.Left.{MayBeLeft}
 use Rattle.save_resume.specs.MapNames.{MapNames, names_of}
 use Rattle.save_resume.specs.Loading.{BeginsLoad, IsLoad}
@@ -16,9 +17,9 @@ use Rattle.rescue_rules.specs.Setting.{Setting}
 use Rattle.rescue_rules.specs.Start.{Stands}
 use Rattle.rescue_rules.specs.Work.{Gain, IsNothing, Runs, mapfile_in, GoesOn, InOpening, InLoad, InRun, AreMapReads, Goes, InMaps, BehindMaps}
 use Rattle.rescue_rules.specs.Snapshots.{Snapshot}
-use Rattle.rescue_rules.specs.StopsBy.{LeftBy, StopsBy, RescueStopsBy}
+use Rattle.rescue_rules.specs.StopsBy.{StopsBy, RescueStopsBy, saves_of}
+use Rattle.rescue_rules.specs.Stops.{LeftBy, Behind, files_before, has_barrier}
 use Rattle.rescue_rules.specs.Held.{Held}
-use Rattle.rescue_rules.specs.Stops.{Behind, files_before, has_barrier, saves_of}
 use Rattle.task_files.specs.declared.ending.Ending.{Ending}
 use Rattle.task_files.specs.declared.ending.Which.{Which}
 use Rattle.task_files.specs.declared.ending.Which.TheVariants.{DomainMap, TestMap}

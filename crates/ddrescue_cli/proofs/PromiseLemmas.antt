@@ -2,9 +2,9 @@
 use Rattle.std.proofs.Common.{◌≡◌, ◌⊎◌, ℕ, ◌<◌, ◌^◌, Bool, true, not, List, Option, Some, None, is_some, refl, sym, inl, inr, subst, arith}
 use Rattle.std.specs.Prelude.{option_map}
 use Rattle.block_list.specs.declared.types.TypeSet.{TypeSet}
-use Rattle.faulty_source.specs.SourceState.{Keeps as SourceKeeps}
+use Rattle.faulty_source.specs.SourceChanges.{Keeps as SourceKeeps}
 use Rattle.crash_site.specs.Files.{bytes_of}
-use Rattle.crash_site.specs.SiteState.{Keeps as SiteKeeps}
+use Rattle.crash_site.specs.SiteChanges.{Keeps as SiteKeeps}
 use Rattle.save_resume.specs.MapNames.{names_of}
 use Rattle.rescue_console.specs.ClockState.{Keeps as ClockKeeps}
 use Rattle.rescue_console.specs.ConsoleState.{ConsoleState}
@@ -18,14 +18,16 @@ use Rattle.sweep_rules.specs.Sweep.{Swept}
 use Rattle.sweep_rules.specs.SweepLaws.{AreGiven}
 use Rattle.work_steps.specs.Work.{Deeds, Works}
 use Rattle.option_words.specs.Words.{command_line}
-use Rattle.rescue_command.specs.Command.{Command, Task, Rescue, Fill, Generate, Asks, HasMapfile, IsAsked}
+use Rattle.rescue_command.specs.Command.{Command, Task, Rescue, Fill, Generate}
+use Rattle.rescue_command.specs.Asking.{Asks, HasMapfile, IsAsked}
 use Rattle.task_files.specs.declared.ending.Ending.{Ending}
 use Rattle.task_files.specs.Names.{first_same, program_name}
 use Rattle.task_files.specs.Asked.{names_by, setting_of}
 use Rattle.task_files.specs.Maps.{Found, found_in}
 use Rattle.task_files.specs.Outside.{Outside, Agrees}
 use Rattle.ddrescue_cli.specs.Messages.{message_pieces}
-use Rattle.ddrescue_cli.specs.Told.{Told, across_of, calls_before, files_of, asked_of}
+use Rattle.ddrescue_cli.specs.Told.{Told, calls_before}
+use Rattle.ddrescue_cli.specs.ToldParts.{across_of, files_of, asked_of}
 use Rattle.task_files.specs.Work.{Rescues, rescue_faults, worked_rows}
 use Rattle.task_files.specs.Answers.{files_of_task, AreAccepted, SaysOfWords, Causes, drafting_left}
 use Rattle.task_files.specs.Steps.{IsOnlyMaps, Worked}

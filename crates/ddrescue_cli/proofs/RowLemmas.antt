@@ -4,7 +4,8 @@ use Rattle.crash_site.specs.declared.site.SiteCall.{SiteCall}
 use Rattle.crash_site.specs.declared.site.SiteCall.TheVariants.{ImageOpen, ImageSync, MapSettle}
 use Rattle.crash_site.specs.Files.{File}
 use Rattle.save_resume.specs.Saving.{IsNameIn}
-use Rattle.crash_site.specs.Calls.{Entry, BrokeAt, image_open}
+use Rattle.crash_site.specs.Calls.{Entry, image_open}
+use Rattle.crash_site.specs.CallsMade.{BrokeAt}
 use Rattle.save_resume.specs.Named.{map_mode}
 use Rattle.rescue_rules.specs.Setting.{Setting}
 use Rattle.rescue_rules.specs.declared.stop.Stop.TheVariants.{NoMemory as NoRoom}

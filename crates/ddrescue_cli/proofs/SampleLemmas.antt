@@ -8,7 +8,8 @@ use Rattle.rescue_console.specs.ConsoleState.{ConsoleState}
 use Rattle.rescue_console.specs.Speaking.{SpeaksOn}
 use Rattle.work_steps.specs.Work.{Works}
 use Rattle.work_steps.specs.Parts.{only_calls}
-use Rattle.rescue_command.specs.Command.{IsAsked, Task, Sample}
+use Rattle.rescue_command.specs.Command.{Task, Sample}
+use Rattle.rescue_command.specs.Asking.{IsAsked}
 use Rattle.task_files.specs.declared.ending.Ending.{Ending}
 use Rattle.task_files.specs.declared.ending.Ending.TheVariants.{Done, NoMemory}
 use Rattle.task_files.specs.Work.{rescue_faults}

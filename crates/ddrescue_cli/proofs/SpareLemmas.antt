@@ -3,7 +3,8 @@ use Rattle.std.specs.Bool.{⊤}
 use Rattle.std.proofs.Common.{◌≡◌, ℕ, zero, suc, Bool, true, false, ◌||◌, List, [], ◌∷◌, ◌++◌, take, map, refl, sym, ap, ◌∙◌, inl, inr, subst}
 use Rattle.std.specs.List.{list_any}
 use Rattle.std.proofs.lemmas.List.Elements.{All-head, All-tail}
-use Rattle.crash_site.specs.Calls.{Call, Entry, Done, Failed, unanswered, image_write, map_read}
+use Rattle.crash_site.specs.Calls.{Call, Entry, Done, Failed, image_write, map_read}
+use Rattle.crash_site.specs.CallsMade.{unanswered}
 use Rattle.rescue_rules.specs.Setting.{Setting}
 use Rattle.rescue_rules.specs.Work.{is_map_read, AreMapReads}
 use Rattle.rescue_rules.specs.Stops.{is_write}

@@ -7,7 +7,8 @@ use Rattle.faulty_source.proofs.Keeping.{keeps_self}
 use Rattle.crash_site.specs.SiteState.{SiteState, files_in}
 use Rattle.crash_site.specs.Files.{bytes_of}
 use Rattle.rescue_rules.specs.Held.{Held}
-use Rattle.rescue_rules.specs.Stops.{files_before, saves_of}
+use Rattle.rescue_rules.specs.Stops.{files_before}
+use Rattle.rescue_rules.specs.StopsBy.{saves_of}
 use Rattle.block_list.specs.declared.types.TypeSet.{TypeSet}
 use Rattle.option_words.specs.declared.fault.UsageFault.{UsageFault}
 use Rattle.rescue_console.specs.ClockState.{ClockState}
@@ -15,14 +16,16 @@ use Rattle.rescue_console.specs.ConsoleState.{ConsoleState}
 use Rattle.rescue_console.specs.Speaking.{SpeaksOn}
 use Rattle.rescue_rules.specs.declared.stop.Stop.TheVariants.{NoMemory as NoRoom}
 use Rattle.rescue_rules.specs.declared.stop.RunEnd.TheVariants.{Stopped as RunStopped}
-use Rattle.rescue_command.specs.Command.{Command, Task, Rescue, Fill, Generate, Sample, AskTask, IsAsked, IsRefusal as IsRefusedFor, AskQuiet, is_quiet}
+use Rattle.rescue_command.specs.Command.{Command, Task, Rescue, Fill, Generate, Sample}
+use Rattle.rescue_command.specs.Asking.{AskTask, IsAsked, IsRefusal as IsRefusedFor, AskQuiet, is_quiet}
 use Rattle.task_files.specs.declared.ending.Ending.{Ending}
 use Rattle.task_files.specs.declared.ending.Ending.TheVariants.{Usage, SameName, NoMemory}
 use Rattle.task_files.specs.Asked.{Maps}
 use Rattle.task_files.specs.Maps.{Found, found_in}
 use Rattle.task_files.specs.Outside.{Outside, Agrees}
 use Rattle.ddrescue_cli.specs.Messages.{message_pieces}
-use Rattle.ddrescue_cli.specs.Told.{Told, across_of, calls_before, asked_of}
+use Rattle.ddrescue_cli.specs.Told.{Told, calls_before}
+use Rattle.ddrescue_cli.specs.ToldParts.{across_of, asked_of}
 use Rattle.task_files.specs.Refusals.{NamesRefused}
 use Rattle.task_files.specs.Work.{Rescues, rescue_faults, rescue_rows}
 use Rattle.task_files.specs.Answers.{files_of_task, SaysOfWords, Causes, drafting_left}

@@ -2,7 +2,8 @@
 use Rattle.std.proofs.Common.{◌≡◌, ℕ, ◌≤◌, Bool, true, false, ◌⊎◌, List, [], ◌∷◌, ◌++◌, map, length, Option, Some, None, refl, sym, ap, ◌∙◌, inl, inr, subst, arith, append-nil}
 use Rattle.crash_site.specs.declared.site.SiteCall.TheVariants.{MapRead}
 use Rattle.crash_site.specs.Files.{File}
-use Rattle.crash_site.specs.Calls.{Call, Entry, Done as Returned, Lost, BrokeAt, image_open, image_sync, map_settle}
+use Rattle.crash_site.specs.Calls.{Call, Entry, Done as Returned, image_open, image_sync, map_settle}
+use Rattle.crash_site.specs.CallsMade.{Lost, BrokeAt}
 use Rattle.block_list.specs.declared.status.Status.{Status}
 use Rattle.mapfile_text.specs.declared.state.MapState.{MapState}
 use Rattle.save_resume.specs.Loading.{BeginsLoad, IsLoad}

@@ -4,8 +4,8 @@ use Rattle.std.specs.Prelude.{◌≡◌, ℕ, Bool, true, IsTrue, List, [], ◌+
 use Rattle.block_list.specs.declared.types.TypeSet.{TypeSet}
 use Rattle.crash_site.specs.Files.{bytes_of}
 use Rattle.option_words.specs.Words.{command_line}
-use Rattle.faulty_source.specs.SourceState.{Keeps as SourceKeeps}
-use Rattle.crash_site.specs.SiteState.{Keeps as SiteKeeps}
+use Rattle.faulty_source.specs.SourceChanges.{Keeps as SourceKeeps}
+use Rattle.crash_site.specs.SiteChanges.{Keeps as SiteKeeps}
 use Rattle.rescue_console.specs.ClockState.{Keeps as ClockKeeps}
 use Rattle.rescue_console.specs.ConsoleState.{ConsoleState}
 use Rattle.rescue_console.specs.Speaking.{Speaks, SpeaksOn, out_pieces}
@@ -15,12 +15,14 @@ use Rattle.sweep_rules.specs.Sweep.{Swept}
 use Rattle.sweep_rules.specs.SweepLaws.{AreGiven}
 use Rattle.work_steps.specs.Work.{Works}
 use Rattle.work_steps.specs.Parts.{only_calls}
-use Rattle.rescue_command.specs.Command.{Command, Task, Rescue, Fill, Generate, Sample, AskTask, AskQuiet}
+use Rattle.rescue_command.specs.Command.{Command, Task, Rescue, Fill, Generate, Sample}
+use Rattle.rescue_command.specs.Asking.{AskTask, AskQuiet}
 use Rattle.task_files.specs.declared.ending.Ending.TheVariants.{NoMemory}
 use Rattle.ddrescue_cli.specs.Messages.{message_pieces}
 use Rattle.task_files.specs.Maps.{AreAskedFor, AreMapsIn}
 use Rattle.task_files.specs.Outside.{Outside, Agrees}
-use Rattle.ddrescue_cli.specs.Told.{Told, across_of, calls_before, asked_of}
+use Rattle.ddrescue_cli.specs.Told.{Told, calls_before}
+use Rattle.ddrescue_cli.specs.ToldParts.{across_of, asked_of}
 use Rattle.task_files.specs.Work.{Rescues, rescue_faults, rescue_rows}
 use Rattle.task_files.specs.Names.{program_name}
 use Rattle.task_sample.specs.Sampled.{Samples, sample_rows}

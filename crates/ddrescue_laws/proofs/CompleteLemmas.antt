@@ -24,7 +24,8 @@ use Rattle.task_files.specs.declared.ending.Ending.{Ending}
 use Rattle.task_files.specs.declared.ending.Ending.TheVariants.{SourceFault, SourceLost, SiteFault, NoMemory}
 use Rattle.task_files.specs.Answers.{Causes}
 use Rattle.task_files.specs.Outside.{Outside}
-use Rattle.ddrescue_cli.specs.Told.{Told, asked_of}
+use Rattle.ddrescue_cli.specs.Told.{Told}
+use Rattle.ddrescue_cli.specs.ToldParts.{asked_of}
 use Rattle.task_files.specs.Work.{Rescues, RunsOver, answer_of, rescue_faults, rescue_rows}
 use Rattle.ddrescue_cli.specs.Ddrescue.{Promise}
 use Rattle.ddrescue_laws.specs.Laws.{AreUnlimited, IsDoneOrLimited, NothingFailed, NothingIsRefused, IsDoneUnless}

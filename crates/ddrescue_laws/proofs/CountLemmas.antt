@@ -17,7 +17,8 @@ use Rattle.rescue_rules.specs.Step.{Event}
 use Rattle.rescue_rules.specs.Moves.{Move, moves}
 use Rattle.rescue_rules.specs.Snapshots.{is_due}
 use Rattle.rescue_rules.specs.RunCalls.{write_calls, due_calls, move_calls, run_calls, end_calls}
-use Rattle.rescue_rules.specs.Stops.{is_settle, is_publish}
+use Rattle.rescue_rules.specs.Stops.{is_settle}
+use Rattle.rescue_rules.specs.StopsBy.{is_publish}
 use Rattle.rescue_rules.proofs.CutLemmas.{add, tally, tally_is}
 use Rattle.rescue_rules.proofs.MapfileLemmas.{end_is}
 use Rattle.ddrescue_cli.proofs.GoesLemmas.{settled}

@@ -40,17 +40,19 @@ use Rattle.rescue_rules.specs.declared.stop.Stop.{Stop}
 use Rattle.rescue_rules.specs.declared.stop.Stop.TheVariants.{SourceLost as InputLost, Site, LimitMet as Limited, NoMemory as NoRoom}
 use Rattle.rescue_rules.specs.declared.stop.RunEnd.{RunEnd}
 use Rattle.rescue_rules.specs.Work.{Gain, begins, events_in, opening_calls, mapfile_in, IsLoadOf, AreMapReads, EndsBy, end_of, Ends, IsSaved as RunSaved, IsUnsaved, IsBroken}
-use Rattle.rescue_rules.specs.StopsBy.{LeftBy, IsKept}
-use Rattle.rescue_rules.specs.Stops.{has_barrier, is_settle, is_publish, returned, published, files_before, IsSave}
+use Rattle.rescue_rules.specs.StopsBy.{IsKept, is_publish, published, IsSave}
+use Rattle.rescue_rules.specs.Stops.{LeftBy, has_barrier, is_settle, returned, files_before}
 use Rattle.task_files.specs.declared.ending.Ending.{Ending}
 use Rattle.task_files.specs.declared.ending.Ending.TheVariants.{Done, SameName, SourceLost, SiteFault, NoMemory, LimitMet}
-use Rattle.rescue_command.specs.Command.{Command, Asks, Rescue}
+use Rattle.rescue_command.specs.Command.{Command, Rescue}
+use Rattle.rescue_command.specs.Asking.{Asks}
 use Rattle.option_words.specs.Words.{command_line}
 use Rattle.rescue_rules.proofs.GoesLemmas.{timed}
 use Rattle.task_files.specs.Names.{program_name}
 use Rattle.task_files.specs.Asked.{Maps, setting_of}
 use Rattle.ddrescue_cli.proofs.AskedLemmas.{sensible_to}
-use Rattle.ddrescue_cli.specs.Told.{Told, calls_before, files_of, asked_of}
+use Rattle.ddrescue_cli.specs.Told.{Told, calls_before}
+use Rattle.ddrescue_cli.specs.ToldParts.{files_of, asked_of}
 use Rattle.work_steps.specs.Work.{Deeds, Works, with_calls, with_opens}
 use Rattle.task_files.specs.Maps.{Found, file_of, found_in, mapfile_of}
 use Rattle.task_files.specs.Outside.{Outside}

@@ -40,7 +40,7 @@ use Rattle.task_files.specs.declared.ending.Ending.TheVariants.{Done, SameName, 
 use Rattle.task_files.specs.Maps.{Found, seen_through}
 use Rattle.ddrescue_laws.specs.InputRead.{HasRead, IsBeforeReads, IsOfOpening}
 use Rattle.task_files.specs.Names.{program_name}
-use Rattle.ddrescue_cli.specs.Told.{asked_of}
+use Rattle.ddrescue_cli.specs.ToldParts.{asked_of}
 use Rattle.task_files.specs.Outside.{Outside, HasGainedReads}
 use Rattle.ddrescue_cli.specs.Ddrescue.{Promise}
 use Rattle.ddrescue_laws.specs.Laws.{ReadsAreARun}

@@ -5,7 +5,8 @@ use Rattle.crash_site.specs.declared.site.SiteCall.TheVariants.{ImageOpen, Image
 use Rattle.crash_site.specs.Files.{File, empty_file}
 use Rattle.crash_site.specs.Folder.{Folder, opened, after}
 use Rattle.crash_site.specs.SiteState.{files_in}
-use Rattle.crash_site.specs.Calls.{Call, Entry, Done as Returned, BrokeAt, image_open}
+use Rattle.crash_site.specs.Calls.{Call, Entry, Done as Returned, image_open}
+use Rattle.crash_site.specs.CallsMade.{BrokeAt}
 use Rattle.crash_site.proofs.LawLemmas.{put_other, after-append}
 use Rattle.save_resume.specs.Loading.{BeginsLoad}
 use Rattle.mapfile_text.specs.declared.read.Mode.{Mode}
@@ -24,7 +25,7 @@ use Rattle.task_files.specs.Maps.{Found, found_in}
 use Rattle.task_files.specs.Refusals.{is_other, NamedMapRefused, PlacesRefused}
 use Rattle.ddrescue_laws.specs.InputRead.{IsBeforeReads}
 use Rattle.ddrescue_laws.specs.LeftBehind.{names_maps, AllStand, made_of, OutputMade, IsBehindOutput, IsMapReadFault, IsLeft}
-use Rattle.ddrescue_cli.specs.Told.{files_of, asked_of}
+use Rattle.ddrescue_cli.specs.ToldParts.{files_of, asked_of}
 use Rattle.task_files.specs.Outside.{Outside}
 use Rattle.task_files.specs.Work.{Rescues, answer_of, rescue_faults, rescue_rows, barrier_of}
 use Rattle.ddrescue_cli.specs.Ddrescue.{Promise}

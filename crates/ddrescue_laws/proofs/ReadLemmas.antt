@@ -4,7 +4,8 @@ use Rattle.std.specs.List.{count_by}
 use Rattle.std.proofs.lemmas.List.Elements.{All-head, All-tail}
 use Rattle.crash_site.specs.Calls.{Call, Entry, Done as Returned, map_read}
 use Rattle.rescue_rules.specs.Work.{AreMapReads}
-use Rattle.rescue_rules.specs.Stops.{is_sync, is_settle, is_publish, has_barrier}
+use Rattle.rescue_rules.specs.Stops.{is_sync, is_settle, has_barrier}
+use Rattle.rescue_rules.specs.StopsBy.{is_publish}
 use Rattle.rescue_rules.proofs.CutLemmas.{add, tally, tally_is}
 use Rattle.work_steps.proofs.FrontLemmas.{IsMapRead}
 

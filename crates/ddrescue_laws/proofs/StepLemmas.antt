@@ -10,7 +10,7 @@ use Rattle.task_files.specs.declared.ending.Ending.{Ending}
 use Rattle.task_files.specs.declared.ending.Ending.TheVariants.{SameName, SourceFault, SiteFault, NoMemory}
 use Rattle.task_files.specs.Maps.{Found}
 use Rattle.task_files.specs.Outside.{Outside}
-use Rattle.ddrescue_cli.specs.Told.{asked_of}
+use Rattle.ddrescue_cli.specs.ToldParts.{asked_of}
 use Rattle.task_files.specs.Work.{Rescues, rescue_faults, rescue_rows, worked_rows}
 use Rattle.task_files.specs.Answers.{IsRescueCall}
 use Rattle.ddrescue_cli.specs.Ddrescue.{Promise}

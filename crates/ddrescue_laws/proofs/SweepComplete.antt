@@ -2,7 +2,8 @@
 use Rattle.std.proofs.Common.{◌≡◌, ◌≢◌, ℕ, true, List, Option, Some, None, inl, inr, ap, ◌∙◌}
 use Rattle.block_list.specs.declared.types.TypeSet.{TypeSet}
 use Rattle.crash_site.specs.Files.{File}
-use Rattle.crash_site.specs.Calls.{Entry, call_name}
+use Rattle.crash_site.specs.Calls.{Entry}
+use Rattle.crash_site.specs.CallsMade.{call_name}
 use Rattle.option_words.specs.Words.{command_line}
 use Rattle.rescue_rules.specs.declared.stop.Stop.TheVariants.{SourceLost as InputLost, Site, LimitMet as Limited, NoMemory as NoRoom}
 use Rattle.rescue_rules.specs.declared.stop.RunEnd.{RunEnd}
@@ -18,7 +19,8 @@ use Rattle.task_files.specs.declared.ending.Ending.{Ending}
 use Rattle.task_files.specs.declared.ending.Ending.TheVariants.{Done, PatternUnread}
 use Rattle.task_files.specs.Names.{program_name}
 use Rattle.task_files.specs.Outside.{Outside}
-use Rattle.ddrescue_cli.specs.Told.{Told, asked_of}
+use Rattle.ddrescue_cli.specs.Told.{Told}
+use Rattle.ddrescue_cli.specs.ToldParts.{asked_of}
 use Rattle.task_files.specs.Work.{answer_of, rescue_faults, files_rows}
 use Rattle.task_sweeps.specs.Pattern.{ThenPattern, IsLost, IsShort, IsRead}
 use Rattle.task_sweeps.specs.Modes.{MaySweep, ThenSweep, fill_rows, fill_setting, generate_rows}

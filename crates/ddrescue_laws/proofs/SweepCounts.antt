@@ -15,8 +15,8 @@ use Rattle.rescue_rules.specs.Snapshots.{Snapshot, text_of}
 use Rattle.rescue_rules.specs.RunCalls.{closing_calls}
 use Rattle.rescue_rules.specs.Deeds.{Deed, save_of, deed_calls, doing_calls, some_save}
 use Rattle.rescue_rules.specs.Work.{is_map_read, AreMapReads}
-use Rattle.rescue_rules.specs.Stops.{is_settle, is_publish, is_write}
-use Rattle.rescue_rules.specs.StopsBy.{IsUnwritten}
+use Rattle.rescue_rules.specs.Stops.{is_settle, is_write}
+use Rattle.rescue_rules.specs.StopsBy.{is_publish, IsUnwritten}
 use Rattle.rescue_rules.proofs.CutLemmas.{tally, tally_is}
 use Rattle.rescue_rules.proofs.MapfileLemmas.{opening_by}
 use Rattle.sweep_rules.specs.Sweep.{Sweeper, Sweep, Swept, filler, generator, behind_piece, is_save_due, sweep_snapshot, due_save, deeds_of}

@@ -15,21 +15,23 @@ use Rattle.rescue_rules.specs.Setting.{Setting}
 use Rattle.rescue_rules.specs.Events.{began_at}
 use Rattle.rescue_rules.specs.Snapshots.{Snapshot, text_of}
 use Rattle.rescue_rules.specs.Deeds.{saves_in}
-use Rattle.rescue_rules.specs.Stops.{has_barrier, is_settle, is_publish, is_write}
-use Rattle.rescue_rules.specs.StopsBy.{IsUnwritten, LeftBy, IsKeptBy, StopsBy}
+use Rattle.rescue_rules.specs.Stops.{has_barrier, is_settle, is_write, LeftBy}
+use Rattle.rescue_rules.specs.StopsBy.{is_publish, IsUnwritten, IsKeptBy, StopsBy}
 use Rattle.rescue_rules.proofs.MapfileLemmas.{opening_by}
 use Rattle.sweep_rules.specs.Sweep.{Sweeper, Sweep, Swept, filler, generator, sweep_over, behind_pieces, sweep_end, deeds_of}
 use Rattle.sweep_rules.specs.SweepLaws.{AreGiven}
 use Rattle.sweep_rules.specs.SweepStops.{AreFilled, FillPromise, has_swept_out, pieces_before}
 use Rattle.sweep_rules.proofs.SweepLemmas.{filled_map_stands, generates_what_is_held}
 use Rattle.work_steps.proofs.FrontLemmas.{load_reads}
-use Rattle.rescue_command.specs.Command.{Command, Fill, Generate, HasMapfile}
+use Rattle.rescue_command.specs.Command.{Command, Fill, Generate}
+use Rattle.rescue_command.specs.Asking.{HasMapfile}
 use Rattle.rescue_command.proofs.CommandLemmas.{reading_asks}
 use Rattle.task_files.specs.declared.ending.Ending.TheVariants.{Done}
 use Rattle.task_files.specs.Names.{program_name}
 use Rattle.task_files.specs.Maps.{Found}
 use Rattle.task_files.specs.Outside.{Outside}
-use Rattle.ddrescue_cli.specs.Told.{Told, calls_before, files_of, asked_of}
+use Rattle.ddrescue_cli.specs.Told.{Told, calls_before}
+use Rattle.ddrescue_cli.specs.ToldParts.{files_of, asked_of}
 use Rattle.task_sweeps.specs.Modes.{Fills, Generates}
 use Rattle.ddrescue_cli.specs.Ddrescue.{Ddrescue, FillModePromise, GenerateModePromise}
 use Rattle.ddrescue_laws.specs.ModeLaws.{DoneIsFilled, DoneIsGenerated, LeavesFilled, LeavesGenerated, HasNoPiece, IsSweptThrough, promised_fill, filling_setting, promised_generate}

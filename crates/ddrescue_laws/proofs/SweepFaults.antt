@@ -4,7 +4,8 @@ use Rattle.mapfile_text.specs.Pieces.{pieces_of}
 use Rattle.crash_site.specs.declared.site.SiteCall.{SiteCall}
 use Rattle.crash_site.specs.declared.site.SiteCall.TheVariants.{ImageOpen, ImageSync, MapRead, DraftBegin, DraftAppend, DraftSync, DraftPublish, MapSettle}
 use Rattle.crash_site.specs.Files.{File}
-use Rattle.crash_site.specs.Calls.{Call, Entry, Done as Returned, call_name, unanswered, image_read, image_sync, map_read, draft_append, draft_sync}
+use Rattle.crash_site.specs.Calls.{Call, Entry, Done as Returned, image_read, image_sync, map_read, draft_append, draft_sync}
+use Rattle.crash_site.specs.CallsMade.{call_name, unanswered}
 use Rattle.save_resume.specs.MapNames.{MapNames}
 use Rattle.save_resume.specs.Saving.{IsNameIn, publish_calls, save_calls}
 use Rattle.rescue_rules.specs.declared.stop.Stop.{Stop}
@@ -25,7 +26,7 @@ use Rattle.task_files.specs.declared.ending.Ending.{Ending}
 use Rattle.task_files.specs.declared.ending.Ending.TheVariants.{Done, SourceFault, SourceLost, PatternUnread, SameName, SiteFault, NoMemory}
 use Rattle.task_files.specs.Maps.{Found}
 use Rattle.task_files.specs.Outside.{Outside}
-use Rattle.ddrescue_cli.specs.Told.{asked_of}
+use Rattle.ddrescue_cli.specs.ToldParts.{asked_of}
 use Rattle.task_files.specs.Refusals.{NamesRefused}
 use Rattle.task_files.specs.Work.{answer_of, rescue_faults, files_rows}
 use Rattle.task_files.specs.Answers.{IsGenerateCall, IsRescueCall}

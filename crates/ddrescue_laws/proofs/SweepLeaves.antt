@@ -2,7 +2,8 @@
 use Rattle.std.proofs.Common.{◌≡◌, ◌⊎◌, ℕ, Bool, true, false, List, [], ◌∷◌, ◌++◌, map, Option, Some, None, refl, sym, ap, ◌∙◌, inl, inr, subst}
 use Rattle.std.proofs.lemmas.List.Elements.{All-head, All-tail}
 use Rattle.crash_site.specs.Files.{File}
-use Rattle.crash_site.specs.Calls.{Call, Entry, Done, Failed, unanswered, image_open, image_sync, map_read, map_settle}
+use Rattle.crash_site.specs.Calls.{Call, Entry, Done, Failed, image_open, image_sync, map_read, map_settle}
+use Rattle.crash_site.specs.CallsMade.{unanswered}
 use Rattle.crash_site.specs.Folder.{Folder, opened, after, after_done, after_failed}
 use Rattle.crash_site.specs.SiteState.{files_in}
 use Rattle.crash_site.proofs.LawLemmas.{after-append}
@@ -21,7 +22,8 @@ use Rattle.task_files.specs.Names.{program_name}
 use Rattle.task_files.specs.Maps.{Found}
 use Rattle.task_files.specs.Outside.{Outside}
 use Rattle.ddrescue_laws.specs.LeftBehind.{AllStand, OutputMade}
-use Rattle.ddrescue_cli.specs.Told.{Told, files_of, asked_of}
+use Rattle.ddrescue_cli.specs.Told.{Told}
+use Rattle.ddrescue_cli.specs.ToldParts.{files_of, asked_of}
 use Rattle.task_sweeps.specs.Modes.{Fills, Generates, fill_setting}
 use Rattle.ddrescue_cli.specs.Ddrescue.{FillModePromise, GenerateModePromise}
 use Rattle.ddrescue_laws.specs.ModeLaws.{UnbegunFillLeaves, UnbegunGenerateLeaves, promised_fill, promised_generate}

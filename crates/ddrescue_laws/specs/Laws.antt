@@ -20,14 +20,16 @@ use Rattle.rescue_rules.specs.Stops.{has_barrier}
 use Rattle.rescue_rules.specs.StopsBy.{IsKept}
 use Rattle.work_steps.specs.Work.{Deeds, Works}
 use Rattle.work_steps.specs.Verdicts.{RefuseNothing}
-use Rattle.rescue_command.specs.Command.{Command, Rescue, Sample, Asks, AskSample}
+use Rattle.rescue_command.specs.Command.{Command, Rescue, Sample}
+use Rattle.rescue_command.specs.Asking.{Asks, AskSample}
 use Rattle.rescue_rules.specs.declared.stop.Limit.{Limit}
 use Rattle.task_files.specs.declared.ending.Ending.{Ending}
 use Rattle.task_files.specs.declared.ending.Ending.TheVariants.{Done, SourceFault, SourceLost, SiteFault, LimitMet, NoMemory}
 use Rattle.task_files.specs.Asked.{Maps}
 use Rattle.task_files.specs.Maps.{Found, AreMapsIn}
 use Rattle.task_files.specs.Outside.{Outside}
-use Rattle.ddrescue_cli.specs.Told.{Told, calls_before, files_of, asked_of}
+use Rattle.ddrescue_cli.specs.Told.{Told, calls_before}
+use Rattle.ddrescue_cli.specs.ToldParts.{files_of, asked_of}
 use Rattle.task_files.specs.Work.{Rescues, rescue_faults, rescue_rows}
 use Rattle.task_files.specs.Answers.{IsRescueCall}
 use Rattle.ddrescue_laws.specs.InputRead.{HasRead}

@@ -19,7 +19,8 @@ use Rattle.sweep_rules.specs.SweepLaws.{AreGiven}
 use Rattle.sweep_rules.specs.SweepStops.{AreFilled}
 use Rattle.work_steps.specs.Work.{Deeds}
 use Rattle.work_steps.specs.Verdicts.{RefuseNothing}
-use Rattle.rescue_command.specs.Command.{Command, Fill, Generate, AskTask}
+use Rattle.rescue_command.specs.Command.{Command, Fill, Generate}
+use Rattle.rescue_command.specs.Asking.{AskTask}
 use Rattle.task_files.specs.declared.ending.Ending.{Ending}
 use Rattle.task_files.specs.declared.ending.Ending.TheVariants.{Done, PatternUnread, SiteFault, NoMemory}
 use Rattle.task_files.specs.Names.{program_name}
@@ -27,7 +28,8 @@ use Rattle.task_files.specs.Maps.{Found}
 use Rattle.task_files.specs.Outside.{Outside}
 use Rattle.task_files.specs.Answers.{IsGenerateCall, IsRescueCall}
 use Rattle.ddrescue_laws.specs.LeftBehind.{AllStand, OutputMade}
-use Rattle.ddrescue_cli.specs.Told.{Told, asked_of, files_of}
+use Rattle.ddrescue_cli.specs.Told.{Told}
+use Rattle.ddrescue_cli.specs.ToldParts.{asked_of, files_of}
 use Rattle.task_files.specs.Work.{files_rows}
 use Rattle.task_sweeps.specs.Modes.{Fills, Generates, fill_rows, fill_setting, generate_rows}
 use Rattle.ddrescue_cli.specs.Ddrescue.{Ddrescue, FillModePromise, GenerateModePromise}

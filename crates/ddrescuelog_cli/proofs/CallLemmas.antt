@@ -1,7 +1,8 @@
 -- Records of calls, taken apart where they grew.
 use Rattle.std.proofs.Common.{◌≡◌, List, [], ◌∷◌, ◌++◌, refl, sym, ◌∙◌, inl, inr, append_assoc, append-nil}
 use Rattle.crash_site.specs.declared.site.SiteCall.{SiteCall}
-use Rattle.crash_site.specs.Calls.{Call, Entry, Done, Failed, BrokeAt}
+use Rattle.crash_site.specs.Calls.{Call, Entry, Done, Failed}
+use Rattle.crash_site.specs.CallsMade.{BrokeAt}
 use Rattle.save_resume.specs.Saving.{IsNameIn}
 use Rattle.work_steps.proofs.GainLemmas.{broke_behind}
 

@@ -9,7 +9,8 @@ use Rattle.option_words.specs.declared.fault.UsageFault.TheVariants.{PlaceTooLar
 use Rattle.crash_site.specs.declared.site.SiteCall.{SiteCall}
 use Rattle.crash_site.specs.declared.site.SiteCall.TheVariants.{MapRead}
 use Rattle.crash_site.specs.Files.{File}
-use Rattle.crash_site.specs.Calls.{Call, call_name, Entry, BrokeAt, draft_append}
+use Rattle.crash_site.specs.Calls.{Call, Entry, draft_append}
+use Rattle.crash_site.specs.CallsMade.{call_name, BrokeAt}
 use Rattle.save_resume.specs.MapNames.{MapNames, names_of}
 use Rattle.save_resume.specs.Named.{map_mode}
 use Rattle.save_resume.specs.Saving.{fill_calls, save_calls}

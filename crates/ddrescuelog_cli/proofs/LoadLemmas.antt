@@ -9,7 +9,8 @@ use Rattle.crash_site.specs.declared.site.SiteCall.TheVariants.{MapRead as MapRe
 use Rattle.crash_site.specs.declared.site.MapRead.{MapRead}
 use Rattle.crash_site.specs.declared.site.MapRead.TheVariants.{Bytes, Absent}
 use Rattle.crash_site.specs.Files.{File}
-use Rattle.crash_site.specs.Calls.{Call, Entry, Done as Returned, BrokeAt}
+use Rattle.crash_site.specs.Calls.{Call, Entry, Done as Returned}
+use Rattle.crash_site.specs.CallsMade.{BrokeAt}
 use Rattle.crash_site.specs.SiteState.{SiteState, files_in}
 use Rattle.save_resume.specs.Loading.{load_reads, IsReadSize, BeginsLoad, IsLoad}
 use Rattle.save_resume.specs.Resuming.{IsReadAs, IsOfFile, LoadEnded, StarvedInLoad, BrokeInLoad}

@@ -8,7 +8,8 @@ use Rattle.mapfile_text.specs.declared.read.Mode.TheVariants.{Tight}
 use Rattle.mapfile_text.specs.declared.read.ReadMap.{ReadMap}
 use Rattle.crash_site.specs.Files.{File}
 use Rattle.crash_site.specs.Calls.{Entry, Done as Returned}
-use Rattle.crash_site.specs.SiteState.{SiteState, Stays, files_in}
+use Rattle.crash_site.specs.SiteState.{SiteState, files_in}
+use Rattle.crash_site.specs.SiteChanges.{Stays}
 use Rattle.save_resume.specs.Named.{map_mode}
 use Rattle.save_resume.specs.Resuming.{IsReadAs}
 use Rattle.work_steps.specs.Work.{WorkStep}

@@ -7,8 +7,10 @@ use Rattle.block_list.specs.Tiled.{Tiled}
 use Rattle.crash_site.specs.declared.site.SiteCall.TheVariants.{MapRead as MapReadCall}
 use Rattle.crash_site.specs.declared.site.MapRead.{MapRead}
 use Rattle.crash_site.specs.declared.site.MapRead.TheVariants.{Bytes, Absent}
-use Rattle.crash_site.specs.Files.{File, empty_file, IsRead}
-use Rattle.crash_site.specs.Calls.{Call, Entry, Done as Returned, Failed, Lost, map_read}
+use Rattle.crash_site.specs.Files.{File, empty_file}
+use Rattle.crash_site.specs.FileAnswers.{IsRead}
+use Rattle.crash_site.specs.Calls.{Call, Entry, Done as Returned, Failed, map_read}
+use Rattle.crash_site.specs.CallsMade.{Lost}
 use Rattle.crash_site.specs.Folder.{Folder, after}
 use Rattle.crash_site.specs.SiteState.{SiteState, files_in}
 use Rattle.crash_site.proofs.LawLemmas.{after-append}

@@ -1,7 +1,8 @@
 -- The promise of a call, by what its command did.
 use Rattle.std.proofs.Common.{◌≡◌, ◌≢◌, ◌⊎◌, ◌↔◌, ℕ, nat_eq, Bool, true, false, IsTrue, List, [], ◌∷◌, length, Option, Some, None, Result, Ok, Err, refl, sym, ap, ◌∙◌, inl, inr, subst}
 use Rattle.std.proofs.lemmas.Bool.{both_ways, cond_both}
-use Rattle.crash_site.specs.SiteState.{SiteState, Keeps as SiteKeeps, files_in}
+use Rattle.crash_site.specs.SiteState.{SiteState, files_in}
+use Rattle.crash_site.specs.SiteChanges.{Keeps as SiteKeeps}
 use Rattle.rescue_console.specs.FeedState.{FeedState}
 use Rattle.rescue_console.specs.ConsoleState.{ConsoleState, Puts, PutsPart, Answers as ConsoleAnswers}
 use Rattle.rescue_console.specs.declared.console.Channel.TheVariants.{Err as ErrorChannel}

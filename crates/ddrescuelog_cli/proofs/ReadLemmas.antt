@@ -4,7 +4,8 @@ use Rattle.std.specs.Prelude.{⊤}
 use Rattle.std.proofs.lemmas.List.Elements.{All-nil, All-head, All-tail, All-same, All-append, All-push, All-map}
 use Rattle.crash_site.specs.declared.site.SiteCall.{SiteCall}
 use Rattle.crash_site.specs.declared.site.SiteCall.TheVariants.{MapRead}
-use Rattle.crash_site.specs.Calls.{Call, Entry, Done as Returned, Failed, BrokeAt, map_read}
+use Rattle.crash_site.specs.Calls.{Call, Entry, Done as Returned, Failed, map_read}
+use Rattle.crash_site.specs.CallsMade.{BrokeAt}
 use Rattle.crash_site.specs.Folder.{Folder, after, after_entry}
 use Rattle.crash_site.specs.SiteState.{SiteState, files_in}
 use Rattle.crash_site.proofs.LawLemmas.{after-append}

@@ -7,7 +7,8 @@ use Rattle.rescue_domain.specs.Parts.{covers}
 use Rattle.map_algebra.specs.Compare.{IsDoneIn, IsOpenIn}
 use Rattle.crash_site.specs.declared.site.SiteCall.{SiteCall}
 use Rattle.crash_site.specs.declared.site.SiteCall.TheVariants.{MapSettle}
-use Rattle.crash_site.specs.Calls.{Entry, Done as Returned, Lost, BrokeAt, map_remove, map_settle}
+use Rattle.crash_site.specs.Calls.{Entry, Done as Returned, map_remove, map_settle}
+use Rattle.crash_site.specs.CallsMade.{Lost, BrokeAt}
 use Rattle.crash_site.specs.SiteState.{SiteState}
 use Rattle.save_resume.specs.Saving.{IsNameIn}
 use Rattle.work_steps.specs.Work.{Deeds}

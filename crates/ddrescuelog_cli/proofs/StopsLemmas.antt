@@ -8,7 +8,8 @@ use Rattle.fault_count.specs.Plan.{no_plan}
 use Rattle.block_list.specs.declared.status.Status.{Status}
 use Rattle.crash_site.specs.declared.site.SiteCall.{SiteCall}
 use Rattle.crash_site.specs.Files.{File}
-use Rattle.crash_site.specs.Calls.{Call, Entry, Done as Returned, BrokeAt, map_remove}
+use Rattle.crash_site.specs.Calls.{Call, Entry, Done as Returned, map_remove}
+use Rattle.crash_site.specs.CallsMade.{BrokeAt}
 use Rattle.crash_site.specs.Folder.{Folder}
 use Rattle.crash_site.specs.Disk.{Showing, Disk, only, or_this, at_rest, entered, disk_after}
 use Rattle.crash_site.specs.Left.{MayShow, Leaves, until, MayBeLeft}

@@ -1,7 +1,8 @@
 -- What a whole command did, by what its steps did.
 use Rattle.std.proofs.Common.{◌≡◌, ℕ, Bool, true, false, IsTrue, List, [], ◌∷◌, ◌++◌, Ok, Err, refl, sym, ap, ◌∙◌, inl, inr, subst, append_assoc, append-nil}
 use Rattle.crash_site.specs.Calls.{Entry}
-use Rattle.crash_site.specs.SiteState.{SiteState, Stays, files_in}
+use Rattle.crash_site.specs.SiteState.{SiteState, files_in}
+use Rattle.crash_site.specs.SiteChanges.{Stays}
 use Rattle.rescue_console.specs.FeedState.{FeedState}
 use Rattle.rescue_console.specs.ConsoleState.{ConsoleState}
 use Rattle.mapfile_text.specs.declared.heading.Program.TheVariants.{Ddrescuelog}

@@ -2,7 +2,8 @@
 -- for real files and streams their counts and what is open.
 use Rattle.std.specs.Prelude.{◌≡◌, ◌≢◌, ◌⊎◌, ℕ, true, false, IsTrue, List, []}
 use Rattle.fault_count.specs.Plan.{with_call}
-use Rattle.crash_site.specs.SiteState.{Keeps as SiteKeeps, files_in}
+use Rattle.crash_site.specs.SiteState.{files_in}
+use Rattle.crash_site.specs.SiteChanges.{Keeps as SiteKeeps}
 use Rattle.rescue_console.specs.FeedState.{Keeps as FeedKeeps}
 use Rattle.rescue_console.specs.ConsoleState.{ConsoleState, Puts, PutsPart}
 use Rattle.rescue_console.specs.declared.console.Channel.TheVariants.{Out, Err}

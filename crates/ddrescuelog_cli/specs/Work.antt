@@ -9,7 +9,8 @@ use Rattle.crash_site.specs.declared.site.SiteCall.TheVariants.{MapRead as MapRe
 use Rattle.crash_site.specs.declared.site.MapRead.{MapRead}
 use Rattle.crash_site.specs.declared.site.MapRead.TheVariants.{Bytes, Absent}
 use Rattle.crash_site.specs.Files.{File}
-use Rattle.crash_site.specs.Calls.{Call, Entry, Done as Returned, Lost, map_read, map_remove, map_settle}
+use Rattle.crash_site.specs.Calls.{Call, Entry, Done as Returned, map_read, map_remove, map_settle}
+use Rattle.crash_site.specs.CallsMade.{Lost}
 use Rattle.save_resume.specs.MapNames.{names_of}
 use Rattle.save_resume.specs.Loading.{piece_size}
 use Rattle.save_resume.specs.Named.{map_mode}

@@ -3,7 +3,7 @@ ghost use Rattle.std.specs.Prelude.{◌≡◌, ◌⊎◌, ℕ, List, ◌<◌, �
 ghost use Rattle.mapfile_text.specs.declared.heading.Program.TheVariants.{Ddrescuelog};
 ghost use Rattle.mapfile_text.specs.declared.state.Current.TheVariants.{Copying};
 ghost use Rattle.mapfile_text.specs.Printed.{printed};
-ghost use Rattle.crash_site.specs.SiteState.{Stays};
+ghost use Rattle.crash_site.specs.SiteChanges.{Stays};
 ghost use Rattle.map_algebra.specs.Blocks.{IsShape};
 ghost use Rattle.map_algebra.specs.Numbers.{IsInRange, list_limit, numbers_in};
 ghost use Rattle.log_command.specs.Options.{ends_beyond};

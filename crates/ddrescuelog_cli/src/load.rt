@@ -1,6 +1,6 @@
 //! Reads the maps that the words name, and says which positions of them are looked at.
 ghost use Rattle.std.specs.Prelude.{◌≡◌, false, OnOk, IfOk, IfErr, option_map};
-ghost use Rattle.crash_site.specs.SiteState.{Stays};
+ghost use Rattle.crash_site.specs.SiteChanges.{Stays};
 ghost use Rattle.save_resume.specs.Resuming.{IsWithinLimits};
 ghost use Rattle.save_resume.specs.Named.{map_mode};
 ghost use Rattle.log_command.specs.Modes.{creates};

@@ -1,6 +1,7 @@
 -- `ddrescuepart` as a program, and its promise.
 use Rattle.std.specs.Prelude.{⊤, ℕ, Bool, List}
-use Rattle.faulty_source.specs.SourceState.{SourceState, Keeps}
+use Rattle.faulty_source.specs.SourceState.{SourceState}
+use Rattle.faulty_source.specs.SourceChanges.{Keeps}
 use Rattle.rescue_console.specs.ConsoleState.{ConsoleState}
 use Rattle.program_promise.specs.World.{WorldState, no_clock, no_feed, no_site}
 use Rattle.program_promise.specs.WordFaults.{IsPlainFault}

@@ -3,14 +3,15 @@ use Rattle.std.proofs.Common.{◌≡◌, ℕ, Bool, true, false, cond, List, [],
 use Rattle.mapfile_text.specs.declared.read.MapError.{MapError}
 use Rattle.mapfile_text.specs.declared.read.Mode.TheVariants.{Tight}
 use Rattle.crash_site.specs.Files.{File}
-use Rattle.crash_site.specs.SiteState.{SiteState, Stays}
+use Rattle.crash_site.specs.SiteState.{SiteState}
+use Rattle.crash_site.specs.SiteChanges.{Stays}
 use Rattle.save_resume.proofs.AnswerLemmas.{not_there, refused_for_one}
 use Rattle.option_words.specs.Words.{word}
 use Rattle.option_words.specs.declared.fault.UsageFault.{UsageFault}
 use Rattle.option_words.specs.declared.fault.UsageFault.TheVariants.{BadValue}
 use Rattle.option_words.specs.declared.reading.Item.{Item}
 use Rattle.option_values.specs.Values.{is_empty_text}
-use Rattle.rescue_command.specs.Command.{is_too_large}
+use Rattle.rescue_command.specs.Asking.{is_too_large}
 use Rattle.work_steps.specs.Work.{Deeds}
 use Rattle.work_steps.specs.Verdicts.{IsOnce}
 use Rattle.program_promise.specs.World.{WorldState}

@@ -6,7 +6,8 @@ use Rattle.mapfile_text.specs.declared.read.Mode.TheVariants.{Tight}
 use Rattle.mapfile_text.specs.declared.read.ReadMap.{ReadMap}
 use Rattle.crash_site.specs.Files.{File}
 use Rattle.crash_site.specs.Calls.{Call, Entry, Done as Returned}
-use Rattle.crash_site.specs.SiteState.{SiteState, Stays, files_in}
+use Rattle.crash_site.specs.SiteState.{SiteState, files_in}
+use Rattle.crash_site.specs.SiteChanges.{Stays}
 use Rattle.save_resume.specs.declared.named.NamedFault.{NamedFault}
 use Rattle.save_resume.specs.declared.named.NamedFault.TheVariants.{ReadFailed, Absent, Refused, NoMemory as NoRoom}
 use Rattle.save_resume.specs.Loading.{IsLoad}

@@ -1,7 +1,8 @@
 -- `ddrescueplan` as a program, and its promise.
 use Rattle.std.specs.Prelude.{⊤, ℕ, Bool, List, Option}
 use Rattle.crash_site.specs.Files.{File}
-use Rattle.crash_site.specs.SiteState.{SiteState, Stays}
+use Rattle.crash_site.specs.SiteState.{SiteState}
+use Rattle.crash_site.specs.SiteChanges.{Stays}
 use Rattle.rescue_console.specs.ConsoleState.{ConsoleState}
 use Rattle.program_promise.specs.World.{WorldState, no_clock, no_feed, no_source}
 use Rattle.program_promise.specs.WordFaults.{IsPlainFault}

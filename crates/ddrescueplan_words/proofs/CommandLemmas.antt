@@ -11,7 +11,7 @@ use Rattle.option_values.proofs.MeaningLemmas.{reading_asks as asked_only}
 use Rattle.option_values.proofs.ValueLemmas.{in_range}
 use Rattle.rescue_command.specs.declared.options.Options.{Options}
 use Rattle.rescue_command.specs.Options.{cluster_limit, cluster_of}
-use Rattle.rescue_command.specs.Command.{AreInLimits as AreRescueLimits, is_too_large}
+use Rattle.rescue_command.specs.Asking.{AreInLimits as AreRescueLimits, is_too_large}
 use Rattle.rescue_command.proofs.OptionLemmas.{AreInRange}
 use Rattle.rescue_command.proofs.CommandLemmas.{some_sectors, not_above}
 use Rattle.ddrescueplan_words.specs.declared.options.PlanOptions.{PlanOptions}

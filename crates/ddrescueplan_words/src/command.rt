@@ -2,7 +2,7 @@
 ghost use Rattle.std.specs.Prelude.{◌≡◌, ◌<◌, ◌≤◌, All, Ok, Err, IfOk, IfErr};
 ghost use Rattle.option_words.specs.Spots.{HasSpot};
 ghost use Rattle.option_values.specs.Values.{IsWord};
-ghost use Rattle.rescue_command.specs.Command.{is_too_large};
+ghost use Rattle.rescue_command.specs.Asking.{is_too_large};
 ghost use Rattle.ddrescueplan_words.specs.Options.{options_in};
 ghost use Rattle.ddrescueplan_words.specs.Command.{AreOptions, IsAsked, IsErrorOf, command_read, command_with, length_by, told_by};
 

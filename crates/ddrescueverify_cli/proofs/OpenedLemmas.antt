@@ -5,11 +5,13 @@ use Rattle.mapfile_text.specs.declared.state.MapState.{MapState}
 use Rattle.mapfile_text.specs.HeadingLines.{HeadingLines}
 use Rattle.mapfile_text.specs.Printed.{printed}
 use Rattle.faulty_source.specs.Journal.{Reading}
-use Rattle.faulty_source.specs.SourceState.{SourceState, Stays as SourceStays, AnswersOpen, PlansOpen}
+use Rattle.faulty_source.specs.SourceState.{SourceState}
+use Rattle.faulty_source.specs.SourceChanges.{Stays as SourceStays, AnswersOpen, PlansOpen}
 use Rattle.crash_site.specs.Files.{File, bytes_of, file_at}
 use Rattle.crash_site.specs.Folder.{Folder, opened, after}
 use Rattle.crash_site.specs.Calls.{Call, Entry, Done as Returned, image_open}
-use Rattle.crash_site.specs.SiteState.{SiteState, files_in, image_in, Keeps, Stays as SiteStays}
+use Rattle.crash_site.specs.SiteState.{SiteState, files_in, image_in}
+use Rattle.crash_site.specs.SiteChanges.{Keeps, Stays as SiteStays}
 use Rattle.crash_site.proofs.LawLemmas.{after-append}
 use Rattle.save_resume.specs.MapNames.{MapNames, names_of}
 use Rattle.save_resume.specs.Saving.{save_calls}

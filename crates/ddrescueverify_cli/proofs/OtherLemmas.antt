@@ -6,7 +6,8 @@ use Rattle.crash_site.specs.Calls.{Call, Entry, Done as Returned, Failed, draft_
 use Rattle.crash_site.specs.Changes.{Changes}
 use Rattle.crash_site.specs.Folder.{Folder, after, after_done, after_entry, after_failed, appended}
 use Rattle.crash_site.specs.Along.{GoesAlong}
-use Rattle.crash_site.specs.SiteState.{Keeps as SiteKeeps, files_in}
+use Rattle.crash_site.specs.SiteState.{files_in}
+use Rattle.crash_site.specs.SiteChanges.{Keeps as SiteKeeps}
 use Rattle.crash_site.proofs.DiskLemmas.{failed_files}
 use Rattle.crash_site.proofs.LawLemmas.{after-append, done_other}
 use Rattle.crash_site.proofs.AlongLemmas.{WentOn, all_go, broke_goes, made_goes}

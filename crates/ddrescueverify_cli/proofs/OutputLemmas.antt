@@ -3,8 +3,10 @@ use Rattle.std.proofs.Common.{◌≡◌, ℕ, Bool, true, false, IsTrue, List, [
 use Rattle.crash_site.specs.declared.site.SiteCall.TheVariants.{ImageOpen}
 use Rattle.crash_site.specs.declared.site.ImageKind.{ImageKind}
 use Rattle.crash_site.specs.declared.site.ImageKind.TheVariants.{Regular, Other, Absent}
-use Rattle.crash_site.specs.Files.{File, empty_file, kind_of}
-use Rattle.crash_site.specs.Calls.{Done as Returned, Lost, image_open}
+use Rattle.crash_site.specs.Files.{File, empty_file}
+use Rattle.crash_site.specs.FileAnswers.{kind_of}
+use Rattle.crash_site.specs.Calls.{Done as Returned, image_open}
+use Rattle.crash_site.specs.CallsMade.{Lost}
 use Rattle.crash_site.specs.SiteState.{SiteState, files_in}
 use Rattle.work_steps.proofs.GainLemmas.{MayGain, may_gain}
 use Rattle.work_steps.proofs.LoadLemmas.{by_tells}

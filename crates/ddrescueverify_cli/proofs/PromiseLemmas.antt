@@ -2,8 +2,10 @@
 use Rattle.std.proofs.Common.{◌≡◌, ◌≢◌, ◌⊎◌, ℕ, Bool, false, List, [], ◌∷◌, length, Option, Some, None, Result, Ok, Err, refl, sym, ap, ◌∙◌, inl, inr, subst, append-nil}
 use Rattle.std.specs.Str.{bytes_eq}
 use Rattle.std.proofs.lemmas.Bool.{cond_both}
-use Rattle.crash_site.specs.SiteState.{SiteState, Keeps as SiteKeeps, files_in}
-use Rattle.faulty_source.specs.SourceState.{SourceState, Keeps as SourceKeeps}
+use Rattle.crash_site.specs.SiteState.{SiteState, files_in}
+use Rattle.crash_site.specs.SiteChanges.{Keeps as SiteKeeps}
+use Rattle.faulty_source.specs.SourceState.{SourceState}
+use Rattle.faulty_source.specs.SourceChanges.{Keeps as SourceKeeps}
 use Rattle.faulty_source.proofs.Keeping.{keeps_self}
 use Rattle.rescue_console.specs.ConsoleState.{ChannelState, ConsoleState}
 use Rattle.option_words.specs.declared.fault.WordFault.{WordFault}

@@ -10,7 +10,8 @@ use Rattle.faulty_source.specs.Journal.{Reading, is_whole}
 use Rattle.crash_site.specs.declared.site.SiteCall.{SiteCall}
 use Rattle.crash_site.specs.declared.site.SiteCall.TheVariants.{MapRead as MapReadCall}
 use Rattle.crash_site.specs.Files.{File}
-use Rattle.crash_site.specs.Calls.{Call, Entry, Done as Returned, Failed, BrokeAt, image_open, image_read, image_sync, map_read, map_settle}
+use Rattle.crash_site.specs.Calls.{Call, Entry, Done as Returned, Failed, image_open, image_read, image_sync, map_read, map_settle}
+use Rattle.crash_site.specs.CallsMade.{BrokeAt}
 use Rattle.crash_site.specs.Folder.{opened}
 use Rattle.crash_site.specs.Along.{GoesAlong}
 use Rattle.crash_site.specs.Disk.{Disk, only, entered, disk_after}

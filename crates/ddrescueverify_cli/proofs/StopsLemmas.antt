@@ -7,7 +7,8 @@ use Rattle.fault_count.specs.Plan.{no_plan}
 use Rattle.mapfile_text.specs.Printed.{printed}
 use Rattle.crash_site.specs.declared.site.SiteCall.{SiteCall}
 use Rattle.crash_site.specs.Files.{File, bytes_of}
-use Rattle.crash_site.specs.Calls.{Entry, Done as Returned, BrokeAt, image_open, image_sync, map_settle}
+use Rattle.crash_site.specs.Calls.{Entry, Done as Returned, image_open, image_sync, map_settle}
+use Rattle.crash_site.specs.CallsMade.{BrokeAt}
 use Rattle.crash_site.specs.Folder.{Folder, opened}
 use Rattle.crash_site.specs.Along.{Along, AlongCalls, GoesAlong}
 use Rattle.crash_site.specs.Disk.{Showing, Disk, only, with_opened, under_some, at_rest, entered, disk_after}

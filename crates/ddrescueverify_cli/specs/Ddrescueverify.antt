@@ -2,8 +2,9 @@
 -- for real files and streams their counts and what is open.
 use Rattle.std.specs.Prelude.{◌≡◌, ◌≢◌, ◌⊎◌, ℕ, Bool, true, false, IsTrue, List}
 use Rattle.fault_count.specs.Plan.{with_call}
-use Rattle.faulty_source.specs.SourceState.{Keeps as SourceKeeps}
-use Rattle.crash_site.specs.SiteState.{Keeps as SiteKeeps, files_in}
+use Rattle.faulty_source.specs.SourceChanges.{Keeps as SourceKeeps}
+use Rattle.crash_site.specs.SiteState.{files_in}
+use Rattle.crash_site.specs.SiteChanges.{Keeps as SiteKeeps}
 use Rattle.rescue_console.specs.ConsoleState.{ConsoleState, Puts, PutsPart}
 use Rattle.rescue_console.specs.declared.console.Channel.TheVariants.{Out, Err}
 use Rattle.save_resume.specs.MapNames.{names_of}

@@ -3,7 +3,8 @@
 use Rattle.std.specs.Prelude.{◌≡◌, ℕ, false, IsTrue, List, [], ◌∷◌, ◌++◌, length, map, Option}
 use Rattle.fault_count.specs.Counts.{raised}
 use Rattle.option_words.specs.Words.{command_line}
-use Rattle.faulty_source.specs.SourceState.{SourceState, OpenFails}
+use Rattle.faulty_source.specs.SourceState.{SourceState}
+use Rattle.faulty_source.specs.SourcePlan.{OpenFails}
 use Rattle.crash_site.specs.Files.{File, bytes_of}
 use Rattle.crash_site.specs.SiteState.{SiteState, files_in}
 use Rattle.rescue_console.specs.ConsoleState.{ConsoleState}

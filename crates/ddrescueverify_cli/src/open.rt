@@ -1,7 +1,7 @@
 //! Opens the output, and loads the map that the mapfile stands for.
 ghost use Rattle.std.specs.Prelude.{◌≡◌, ◌<◌, ◌≤◌, ◌^◌, true, length, OnOk, IfOk, IfErr};
 ghost use Rattle.block_list.specs.Map.{extended};
-ghost use Rattle.crash_site.specs.SiteState.{Keeps, Stays};
+ghost use Rattle.crash_site.specs.SiteChanges.{Keeps, Stays};
 ghost use Rattle.ddrescueverify_cli.specs.declared.ending.VerifyEnding.TheVariants.{NoMemory as OutOfMemory};
 ghost use Rattle.ddrescueverify_cli.specs.Steps.{LoadCause, Loads, OpensOutput, OutputCause};
 

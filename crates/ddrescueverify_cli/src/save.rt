@@ -1,7 +1,7 @@
 //! Saves the map of a comparison.
 ghost use Rattle.std.specs.Prelude.{◌≡◌, OnOk, IfErr, false};
 ghost use Rattle.mapfile_text.specs.Printed.{printed};
-ghost use Rattle.crash_site.specs.SiteState.{Keeps};
+ghost use Rattle.crash_site.specs.SiteChanges.{Keeps};
 ghost use Rattle.ddrescueverify_cli.specs.Asked.{shown_for};
 ghost use Rattle.ddrescueverify_cli.specs.Steps.{SaveCause, SavesText};
 

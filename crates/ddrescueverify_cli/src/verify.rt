@@ -1,8 +1,8 @@
 //! `ddrescueverify`: the top call.
 ghost use Rattle.std.specs.Prelude.{◌≡◌, ◌<◌, ◌≤◌, ◌^◌, true, false, length, OnOk, IfOk, IfErr, Ok};
 ghost use Rattle.option_words.specs.declared.fault.UsageFault.{UsageFault as Fault};
-ghost use Rattle.faulty_source.specs.SourceState.{Keeps as SourceKeeps, Stays as SourceStays};
-ghost use Rattle.crash_site.specs.SiteState.{Keeps as SiteKeeps, Stays as SiteStays};
+ghost use Rattle.faulty_source.specs.SourceChanges.{Keeps as SourceKeeps, Stays as SourceStays};
+ghost use Rattle.crash_site.specs.SiteChanges.{Keeps as SiteKeeps, Stays as SiteStays};
 ghost use Rattle.rescue_console.specs.ConsoleState.{ConsoleState};
 ghost use Rattle.rescue_verify.specs.Comparing.{Compares};
 ghost use Rattle.verify_command.specs.Command.{AreInLimits, AreRefused, told_by};

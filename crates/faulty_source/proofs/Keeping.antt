@@ -1,8 +1,10 @@
 -- What stays so from a state to itself, and across two things done one after the other.
 use Rattle.std.proofs.Common.{◌≡◌, List, [], ◌∷◌, ◌++◌, refl, ap, sym, ◌∙◌, arith, append_assoc}
 use Rattle.std.proofs.lemmas.List.{append-nil}
-use Rattle.faulty_source.specs.Journal.{Reading, JournalGains, AllGain}
-use Rattle.faulty_source.specs.SourceState.{SourceState, Keeps, Stays, Reads}
+use Rattle.faulty_source.specs.Journal.{Reading}
+use Rattle.faulty_source.specs.JournalGains.{JournalGains, AllGain}
+use Rattle.faulty_source.specs.SourceState.{SourceState}
+use Rattle.faulty_source.specs.SourceChanges.{Keeps, Stays, Reads}
 
 pub gains_none : (journal : List Reading) → JournalGains journal journal
 gains_none journal = record { reads = []; told = sym (append-nil journal) }

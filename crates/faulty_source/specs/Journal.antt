@@ -1,6 +1,5 @@
--- The reads of an input, as its journal has them.
-use Rattle.std.specs.Prelude.{◌≡◌, ℕ, ◌+◌, ◌-◌, ◌*◌, ◌/◌, Bool, List, [], ◌∷◌, ◌++◌, length, nat_eq, nat_le, nat_lt, ◌&&◌, ◌||◌, not, if◌then◌else◌, slice_range}
-use Rattle.faulty_source.specs.declared.journal.ReadEntry.{ReadEntry}
+-- The reads of an input, and how much of each is kept.
+use Rattle.std.specs.Prelude.{ℕ, ◌+◌, ◌-◌, ◌*◌, ◌/◌, Bool, List, length, nat_eq, nat_le, nat_lt, ◌&&◌, ◌||◌, not, if◌then◌else◌}
 
 -- one read that was answered: where it began, how many bytes were asked for, the bytes that were given, and whether the
 -- input ended behind them
@@ -31,24 +30,3 @@ kept sector r =
 -- the kept part of the read covers x
 abbrev pub covers : ℕ → Reading → ℕ → Bool
 covers sector r x = nat_le r.pos x && nat_lt x (r.pos + kept sector r)
-
--- a journal gained these reads at its end
-pub record JournalGains (old new : List Reading) : Type 0 where
-  pub reads : List Reading
-  pub told : new ≡ old ++ reads
-
--- each of these journals gained
-abbrev pub AllGain : List (List Reading) → List (List Reading) → Type 0
-AllGain [] [] = Unit {0}
-AllGain [] (new ∷ news) = ⊥
-AllGain (old ∷ olds) [] = ⊥
-AllGain (old ∷ olds) (new ∷ news) = JournalGains old new × AllGain olds news
-
--- what an entry of the list of reads says of a read that gave its bytes
-abbrev pub entry_of : Reading → ReadEntry
-entry_of r = record { pos = r.pos; asked = r.asked; given = length r.given; ended = r.ended }
-
--- the read that an entry stands for
-abbrev pub reading_of : List ℕ → ReadEntry → Reading
-reading_of bytes e =
-    record { pos = e.pos; asked = e.asked; given = slice_range bytes e.pos (e.pos + e.given); ended = e.ended }

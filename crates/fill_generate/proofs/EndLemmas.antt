@@ -3,8 +3,10 @@ use Rattle.std.specs.Prelude.{⊤}
 use Rattle.std.proofs.Common.{map, ◌≡◌, ℕ, Bool, List, [], ◌∷◌, ◌++◌, All, Option, Some, None, is_none, Ok, Err, refl, sym, ap, subst, ◌∙◌, append_assoc, inl, inr}
 use Rattle.block_list.specs.declared.types.TypeSet.{TypeSet}
 use Rattle.crash_site.specs.declared.site.SiteCall.{SiteCall}
-use Rattle.crash_site.specs.Calls.{Call, Entry, Done, Failed, BrokeAt, call_name}
-use Rattle.crash_site.specs.SiteState.{SiteState, Makes}
+use Rattle.crash_site.specs.Calls.{Call, Entry, Done, Failed}
+use Rattle.crash_site.specs.CallsMade.{BrokeAt, call_name}
+use Rattle.crash_site.specs.SiteState.{SiteState}
+use Rattle.crash_site.specs.SiteChanges.{Makes}
 use Rattle.rescue_console.specs.ClockState.{ClockState}
 use Rattle.rescue_console.specs.ConsoleState.{ConsoleState}
 use Rattle.rescue_console.specs.Speaking.{SpeaksOn, out_pieces}

@@ -3,7 +3,8 @@ use Rattle.std.proofs.Common.{◌≡◌, ℕ, ◌+◌, ◌/◌, ◌<◌, ◌^◌
 use Rattle.mapfile_text.specs.declared.state.MapState.{MapState}
 use Rattle.mapfile_text.specs.declared.state.Current.TheVariants.{Finished}
 use Rattle.crash_site.specs.Calls.{Call}
-use Rattle.crash_site.specs.SiteState.{SiteState, Makes, Breaks}
+use Rattle.crash_site.specs.SiteState.{SiteState}
+use Rattle.crash_site.specs.SiteChanges.{Makes, Breaks}
 use Rattle.save_resume.specs.declared.draft.SaveFault.{SaveFault}
 use Rattle.save_resume.specs.Saving.{save_calls, IsNameIn, drafting_after_fault, Saves}
 use Rattle.crash_site.specs.declared.site.SiteCall.{SiteCall}

@@ -5,7 +5,8 @@ use Rattle.std.proofs.lemmas.List.Elements.{All-weaker}
 use Rattle.crash_site.specs.Files.{File, bytes_of, empty_file, put, file_at}
 use Rattle.crash_site.specs.Calls.{Call, Entry, Done, draft_append, draft_sync, draft_publish, map_settle}
 use Rattle.crash_site.specs.Folder.{Folder, after}
-use Rattle.crash_site.specs.SiteState.{SiteState, Keeps, Makes, image_in}
+use Rattle.crash_site.specs.SiteState.{SiteState, image_in}
+use Rattle.crash_site.specs.SiteChanges.{Keeps, Makes}
 use Rattle.crash_site.proofs.LawLemmas.{put_other, after-append}
 use Rattle.mapfile_text.specs.Pieces.{pieces_of}
 use Rattle.save_resume.specs.MapNames.{MapNames}

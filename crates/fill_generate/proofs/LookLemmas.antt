@@ -3,9 +3,11 @@ use Rattle.std.proofs.Common.{◌≡◌, ℕ, ◌+◌, ◌-◌, ◌*◌, ◌/◌
 use Rattle.std.specs.Result.{is_err}
 use Rattle.std.proofs.lemmas.Bool.{true≢false}
 use Rattle.std.proofs.lemmas.List.{take_min, length-drop, length-take-le, take-append-le}
-use Rattle.crash_site.specs.Files.{File, bytes_of, IsImageRead}
+use Rattle.crash_site.specs.Files.{File, bytes_of}
+use Rattle.crash_site.specs.FileAnswers.{IsImageRead}
 use Rattle.crash_site.specs.Calls.{Call, Done, image_read}
-use Rattle.crash_site.specs.SiteState.{SiteState, Makes, image_in}
+use Rattle.crash_site.specs.SiteState.{SiteState, image_in}
+use Rattle.crash_site.specs.SiteChanges.{Makes}
 use Rattle.rescue_domain.specs.Parts.{covers}
 use Rattle.rescue_rules.specs.Setting.{place}
 use Rattle.rescue_core.specs.RunState.{Suits}

@@ -1,7 +1,9 @@
 -- A piece of a sweep, by what was done for it.
 use Rattle.std.proofs.Common.{◌≡◌, ℕ, ◌+◌, ◌-◌, ◌/◌, nat_le, Bool, true, false, IsTrue, List, [], ◌∷◌, ◌++◌, take, Some, None, if◌then◌else◌, refl, sym, ap, subst, ◌∙◌, arith, inl}
-use Rattle.crash_site.specs.Calls.{Call, Done, Lost, call_name, image_write, image_read}
-use Rattle.crash_site.specs.SiteState.{SiteState, Makes, Breaks}
+use Rattle.crash_site.specs.Calls.{Call, Done, image_write, image_read}
+use Rattle.crash_site.specs.CallsMade.{Lost, call_name}
+use Rattle.crash_site.specs.SiteState.{SiteState}
+use Rattle.crash_site.specs.SiteChanges.{Makes, Breaks}
 use Rattle.fault_count.specs.Counts.{Rose}
 use Rattle.mapfile_text.specs.declared.state.Current.{Current}
 use Rattle.save_resume.specs.Saving.{save_calls, IsNameIn}

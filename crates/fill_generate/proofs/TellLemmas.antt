@@ -2,8 +2,10 @@
 use Rattle.std.proofs.Common.{map, ◌≡◌, ℕ, Bool, true, false, List, [], ◌++◌, refl, sym, ap, subst, ◌∙◌, append_assoc, append-nil}
 use Rattle.std.proofs.lemmas.List.{map-append}
 use Rattle.crash_site.specs.declared.site.SiteCall.{SiteCall}
-use Rattle.crash_site.specs.Calls.{Call, Entry, Done, BrokeAt}
-use Rattle.crash_site.specs.SiteState.{SiteState, Makes, Breaks}
+use Rattle.crash_site.specs.Calls.{Call, Entry, Done}
+use Rattle.crash_site.specs.CallsMade.{BrokeAt}
+use Rattle.crash_site.specs.SiteState.{SiteState}
+use Rattle.crash_site.specs.SiteChanges.{Makes, Breaks}
 use Rattle.save_resume.specs.Saving.{IsNameIn}
 use Rattle.save_resume.proofs.CallLemmas.{made_more}
 use Rattle.save_resume.proofs.FillLemmas.{keeps_self, keeps_more}

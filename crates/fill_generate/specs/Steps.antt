@@ -3,8 +3,10 @@ use Rattle.std.specs.Prelude.{◌≡◌, ℕ, ◌+◌, ◌/◌, ◌<◌, ◌≤�
 use Rattle.crash_site.specs.declared.site.SiteCall.{SiteCall}
 use Rattle.crash_site.specs.declared.site.SiteCall.TheVariants.{ImageRead}
 use Rattle.crash_site.specs.Files.{bytes_of}
-use Rattle.crash_site.specs.Calls.{Call, call_name, image_read}
-use Rattle.crash_site.specs.SiteState.{SiteState, Keeps as SiteKeeps, Makes, Breaks, image_in}
+use Rattle.crash_site.specs.Calls.{Call, image_read}
+use Rattle.crash_site.specs.CallsMade.{call_name}
+use Rattle.crash_site.specs.SiteState.{SiteState, image_in}
+use Rattle.crash_site.specs.SiteChanges.{Keeps as SiteKeeps, Makes, Breaks}
 use Rattle.rescue_console.specs.ClockState.{Keeps as ClockKeeps, Reads as ReadsClock}
 use Rattle.rescue_console.specs.Speaking.{SpeaksOn, out_pieces}
 use Rattle.rescue_rules.specs.declared.stop.Stop.{Stop}

@@ -3,9 +3,11 @@ use Rattle.std.specs.Prelude.{◌≡◌, ◌≢◌, ℕ, Bool, false, IsTrue, Li
 use Rattle.fault_count.specs.Counts.{Rose}
 use Rattle.crash_site.specs.declared.site.SiteCall.{SiteCall}
 use Rattle.crash_site.specs.Files.{bytes_of}
-use Rattle.crash_site.specs.Calls.{Call, Entry, Done, BrokeAt, call_name}
+use Rattle.crash_site.specs.Calls.{Call, Entry, Done}
+use Rattle.crash_site.specs.CallsMade.{BrokeAt, call_name}
 use Rattle.crash_site.specs.Folder.{after}
-use Rattle.crash_site.specs.SiteState.{SiteState, Makes, image_in}
+use Rattle.crash_site.specs.SiteState.{SiteState, image_in}
+use Rattle.crash_site.specs.SiteChanges.{Makes}
 use Rattle.save_resume.specs.MapNames.{MapNames}
 use Rattle.save_resume.specs.Saving.{IsNameIn, drafting_after_fault}
 use Rattle.rescue_console.specs.ClockState.{ClockState, Reads as ReadsClock}

@@ -1,6 +1,6 @@
 //! Fill mode: a pattern is written to the output at the positions that have one of some statuses.
 ghost use Rattle.std.specs.Prelude.{◌≡◌, ◌+◌, ⊤, true, false, length, OnOk};
-ghost use Rattle.crash_site.specs.SiteState.{Keeps as SiteKeeps};
+ghost use Rattle.crash_site.specs.SiteChanges.{Keeps as SiteKeeps};
 ghost use Rattle.rescue_console.specs.ClockState.{Keeps as ClockKeeps};
 ghost use Rattle.mapfile_text.specs.declared.heading.Program.TheVariants.{Ddrescue};
 ghost use Rattle.rescue_domain.specs.Parts.{covers};

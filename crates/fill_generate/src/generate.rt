@@ -1,6 +1,6 @@
 //! Generate mode: what the output holds of what wasn't tried is marked as finished.
 ghost use Rattle.std.specs.Prelude.{◌≡◌, ◌-◌, true, false, length};
-ghost use Rattle.crash_site.specs.SiteState.{Keeps as SiteKeeps};
+ghost use Rattle.crash_site.specs.SiteChanges.{Keeps as SiteKeeps};
 ghost use Rattle.rescue_console.specs.ClockState.{Keeps as ClockKeeps};
 ghost use Rattle.mapfile_text.specs.declared.heading.Program.TheVariants.{Ddrescue};
 ghost use Rattle.rescue_domain.specs.Parts.{covers};

@@ -1,6 +1,6 @@
 //! A sweep between its pieces, and what each piece changes of it.
 ghost use Rattle.std.specs.Prelude.{◌≡◌, ◌+◌, ◌/◌, ◌<◌, ◌^◌, true, false, nat_le, [], ◌∷◌, Some, None, length, if◌then◌else◌, IfErr, IfSome, IfNone, OnOk};
-ghost use Rattle.crash_site.specs.SiteState.{Keeps as SiteKeeps, Stays as SiteStays};
+ghost use Rattle.crash_site.specs.SiteChanges.{Keeps as SiteKeeps, Stays as SiteStays};
 ghost use Rattle.rescue_console.specs.ClockState.{Keeps as ClockKeeps};
 ghost use Rattle.rescue_console.specs.Speaking.{SpeaksOn, out_pieces};
 ghost use Rattle.mapfile_text.specs.declared.heading.Program.TheVariants.{Ddrescue};

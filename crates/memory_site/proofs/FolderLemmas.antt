@@ -1,6 +1,7 @@
 use Rattle.std.proofs.Common.{◌≡◌, ℕ, Bool, true, false, cond, List, ◌++◌, Option, Some, None, Result, Ok, Err, OnErr, refl, sym, ◌∙◌, ap}
 use Rattle.crash_site.specs.declared.site.ImageKind.TheVariants.{Regular, Other}
-use Rattle.crash_site.specs.Files.{File, bytes_of, kind_of, is_absent, put, written_file}
+use Rattle.crash_site.specs.Files.{File, bytes_of, put, written_file}
+use Rattle.crash_site.specs.FileAnswers.{kind_of, is_absent}
 use Rattle.crash_site.specs.Calls.{image_open}
 use Rattle.crash_site.specs.Folder.{Folder, opened, with_piece, appended, after_done}
 use Rattle.memory_site.specs.Places.{opened_file}

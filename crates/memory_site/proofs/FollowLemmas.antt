@@ -1,7 +1,8 @@
 use Rattle.std.proofs.Common.{◌≡◌, inl, inr, ℕ, Bool, true, false, List, [], ◌∷◌, ◌++◌, Option, Some, None, is_some, Result, Ok, Err, IfOk, OnOk, OnErr, IsErr, refl, sym, ◌∙◌, ap, subst}
 use Rattle.std.specs.Bool.{⊤}
 use Rattle.crash_site.specs.Files.{File, empty_file, bytes_of, put, written_file}
-use Rattle.crash_site.specs.Calls.{Call, unanswered, Entry, Done, Failed, Lost, image_open, image_read, image_write, image_sync, map_read, draft_begin, draft_append, draft_sync, draft_publish, map_settle, map_remove}
+use Rattle.crash_site.specs.Calls.{Call, Entry, Done, Failed, image_open, image_read, image_write, image_sync, map_read, draft_begin, draft_append, draft_sync, draft_publish, map_settle, map_remove}
+use Rattle.crash_site.specs.CallsMade.{unanswered, Lost}
 use Rattle.crash_site.specs.Folder.{Folder, opened, with_piece, appended, published, after_done, after_failed, after_entry, after}
 use Rattle.memory_site.specs.Follows.{Follows}
 

@@ -2,7 +2,8 @@
 use Rattle.std.proofs.Common.{◌≡◌, ℕ, suc, Bool, true, false, List, [], ◌∷◌, ◌++◌, take, drop, Option, Some, None, refl, sym, ◌∙◌, ap, arith}
 use Rattle.memory_site.specs.declared.memory.stop.Left.TheVariants.{Newest}
 use Rattle.crash_site.specs.Files.{File, bytes_of, put, written_file}
-use Rattle.crash_site.specs.Calls.{Call, Entry, Done, Failed, IsDone, AllDone, image_open, image_read, image_write, image_sync, map_read, draft_begin, draft_append, draft_sync, draft_publish, map_settle, map_remove}
+use Rattle.crash_site.specs.Calls.{Call, Entry, Done, Failed, image_open, image_read, image_write, image_sync, map_read, draft_begin, draft_append, draft_sync, draft_publish, map_settle, map_remove}
+use Rattle.crash_site.specs.CallsMade.{IsDone, AllDone}
 use Rattle.crash_site.specs.Folder.{Folder, opened, with_piece, appended, published, after_done, after}
 use Rattle.crash_site.specs.Disk.{Disk, at_rest, entered, disk_after}
 use Rattle.crash_site.specs.Left.{in_progress}

@@ -4,7 +4,8 @@ use Rattle.memory_site.specs.declared.memory.call_log.Act.{Act}
 use Rattle.memory_site.specs.declared.memory.call_log.Act.TheVariants.{ImageOpen, ImageRead, ImageWrite, ImageSync, MapRead, DraftBegin, DraftAppend, DraftSync, DraftPublish, MapSettle, MapRemove}
 use Rattle.memory_site.specs.declared.memory.call_log.LoggedCall.{LoggedCall}
 use Rattle.memory_site.specs.declared.memory.call_log.CallLog.{CallLog}
-use Rattle.crash_site.specs.Calls.{Call, unanswered, Entry, Done, Failed, image_open, image_read, image_write, image_sync, map_read, draft_begin, draft_append, draft_sync, draft_publish, map_settle, map_remove}
+use Rattle.crash_site.specs.Calls.{Call, Entry, Done, Failed, image_open, image_read, image_write, image_sync, map_read, draft_begin, draft_append, draft_sync, draft_publish, map_settle, map_remove}
+use Rattle.crash_site.specs.CallsMade.{unanswered}
 
 -- the call that an act stands for
 abbrev pub call_of : Act → Call

@@ -3,7 +3,8 @@ use Rattle.std.specs.Prelude.{◌≡◌, ◌⊎◌, ⊤, ℕ, ◌<◌, ◌≤◌
 use Rattle.memory_site.specs.declared.memory.stop.Left.{Left}
 use Rattle.memory_site.specs.declared.memory.stop.Left.TheVariants.{Oldest, Newest, Garbage}
 use Rattle.crash_site.specs.Files.{File, bytes_of}
-use Rattle.crash_site.specs.Calls.{Entry, Done, AllDone}
+use Rattle.crash_site.specs.Calls.{Entry, Done}
+use Rattle.crash_site.specs.CallsMade.{AllDone}
 use Rattle.crash_site.specs.Changes.{call_in}
 use Rattle.crash_site.specs.Folder.{Folder, after}
 use Rattle.crash_site.specs.Disk.{Version, Showing, Disk, at_rest, disk_after}

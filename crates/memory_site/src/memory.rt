@@ -1,8 +1,10 @@
 ghost use Rattle.fault_count.specs.Counts.{raised, HasCause};
 ghost use Rattle.fault_count.specs.Plan.{no_plan, with_failing};
 ghost use Rattle.std.specs.Prelude.{not, ◌≡◌, ◌⊎◌, ℕ, ◌+◌, ◌<◌, ◌≤◌, ◌^◌, true, false, IsTrue, List, [], ◌∷◌, ◌++◌, length, take, slice_index_or, Some, None, is_some, IfOk, OnOk, OnErr, IsErr, MatchOption};
-ghost use Rattle.crash_site.specs.Files.{File, put, kind_of, is_absent, IsRead, IsWithin, IsImageRead};
-ghost use Rattle.crash_site.specs.Calls.{Entry, Done, Lost, call_name, image_open, image_read, image_write, image_sync, map_read, draft_begin, draft_append, draft_sync, draft_publish, map_settle, map_remove};
+ghost use Rattle.crash_site.specs.Files.{File, put};
+ghost use Rattle.crash_site.specs.FileAnswers.{kind_of, is_absent, IsRead, IsWithin, IsImageRead};
+ghost use Rattle.crash_site.specs.Calls.{Entry, Done, image_open, image_read, image_write, image_sync, map_read, draft_begin, draft_append, draft_sync, draft_publish, map_settle, map_remove};
+ghost use Rattle.crash_site.specs.CallsMade.{Lost, call_name};
 ghost use Rattle.crash_site.specs.Folder.{Folder, after};
 ghost use Rattle.crash_site.specs.Changes.{call_in};
 ghost use Rattle.memory_site.specs.Follows.{Follows, Follows-prop};
@@ -37,7 +39,8 @@ pub struct MemorySite {
 }
 
 impl MemorySite {
-    ghost use Rattle.crash_site.specs.SiteState.{files_in, fresh_site};
+    ghost use Rattle.crash_site.specs.SiteState.{files_in};
+    ghost use Rattle.crash_site.specs.SiteChanges.{fresh_site};
     ghost use Rattle.memory_site.specs.MemoryState.{open_image_name, begun_draft, state_of};
 
     /// No files, nothing open or begun, and no calls.

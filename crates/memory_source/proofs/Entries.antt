@@ -1,7 +1,7 @@
 use Rattle.std.proofs.Common.{◌≡◌, ℕ, ◌+◌, ◌-◌, ◌≤◌, List, [], ◌∷◌, length, map, take, drop, All, refl, ap, arith, length-take, length-drop}
 use Rattle.std.proofs.lemmas.List.Elements.{All-head, All-tail}
 use Rattle.faulty_source.specs.declared.journal.ReadEntry.{ReadEntry}
-use Rattle.faulty_source.specs.Journal.{entry_of, reading_of}
+use Rattle.faulty_source.specs.ReadEntries.{entry_of, reading_of}
 
 -- the bytes that the entry counts are there
 abbrev pub is_within : ℕ → ReadEntry → Type 0

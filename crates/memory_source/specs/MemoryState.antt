@@ -1,7 +1,7 @@
 -- What an input in memory tells of itself.
 use Rattle.std.specs.Prelude.{true, [], map}
 use Rattle.faulty_source.specs.SourceState.{SourceState}
-use Rattle.faulty_source.specs.Journal.{reading_of}
+use Rattle.faulty_source.specs.ReadEntries.{reading_of}
 use Rattle.memory_source.specs.declared.memory.MemorySource.{MemorySource}
 
 -- what an input in memory tells of itself

@@ -1,7 +1,7 @@
 ghost use Rattle.std.specs.Prelude.{◌≡◌, ◌↔◌, ℕ, ◌+◌, ◌-◌, ◌<◌, ◌≤◌, ◌^◌, true, false, IsTrue, if◌then◌else◌, [], ◌∷◌, ◌++◌, length, map, take, slice_range, Contains, All, vec_capacity, IfOk, OnOk, OnErr};
 ghost use Rattle.fault_count.specs.Plan.{no_plan, with_failing};
 ghost use Rattle.faulty_source.specs.Got.{count_of, is_end};
-ghost use Rattle.faulty_source.specs.Journal.{entry_of, reading_of};
+ghost use Rattle.faulty_source.specs.ReadEntries.{entry_of, reading_of};
 ghost use Rattle.faulty_source.specs.Memory.{name_limit, is_bad, met, ReadGives, bad_after, AreSeparate};
 
 use block_list::tiles::NoMemory;

@@ -3,7 +3,8 @@ use Rattle.std.proofs.Common.{◌≡◌, ℕ, zero, suc, ◌-◌, ◌<◌, ◌�
 use Rattle.std.specs.List.{list_any}
 use Rattle.std.specs.Option.{option_and_then}
 use Rattle.std.proofs.lemmas.Bool.{and_from, cond-true, le-leb, not_from_false}
-use Rattle.faulty_source.specs.SourceState.{SourceState, Stays}
+use Rattle.faulty_source.specs.SourceState.{SourceState}
+use Rattle.faulty_source.specs.SourceChanges.{Stays}
 use Rattle.partition_domain.specs.declared.table.TableEntry.{TableEntry}
 use Rattle.partition_domain.specs.declared.table.Partition.{Partition}
 use Rattle.partition_domain.specs.declared.stop.SearchStop.{SearchStop}

@@ -1,6 +1,6 @@
 //! The chain of records within an extended partition.
 ghost use Rattle.std.specs.Prelude.{◌≡◌, ℕ, ◌-◌, ◌<◌, ◌≤◌, ◌^◌, List, true, OnOk, IfOk, IfErr};
-ghost use Rattle.faulty_source.specs.SourceState.{Stays};
+ghost use Rattle.faulty_source.specs.SourceChanges.{Stays};
 ghost use Rattle.partition_domain.specs.Reads.{losses_after};
 ghost use Rattle.partition_domain.specs.Steps.{LeadsToChain, IsNear, LeadsNear, SearchesBehind, Turns, leads, link_past};
 

@@ -1,7 +1,7 @@
 //! Finds a partition of a disk by its number.
 ghost use Rattle.std.specs.Prelude.{◌≡◌, ◌<◌, ◌≤◌, ◌^◌, true, OnOk, IfOk, IfErr, IfSome, find as find_first};
 ghost use Rattle.std.specs.List.{list_any};
-ghost use Rattle.faulty_source.specs.SourceState.{Stays};
+ghost use Rattle.faulty_source.specs.SourceChanges.{Stays};
 ghost use Rattle.partition_domain.specs.Table.{is_extended, is_protective};
 ghost use Rattle.partition_domain.specs.Reads.{losses_after};
 ghost use Rattle.partition_domain.specs.Steps.{Searches, partition_at};

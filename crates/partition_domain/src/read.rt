@@ -1,6 +1,6 @@
 //! Reads a record.
 ghost use Rattle.std.specs.Prelude.{◌≡◌, ◌<◌, ◌^◌, true, OnOk, IfErr};
-ghost use Rattle.faulty_source.specs.SourceState.{Stays};
+ghost use Rattle.faulty_source.specs.SourceChanges.{Stays};
 ghost use Rattle.partition_domain.specs.Reads.{losses_after};
 ghost use Rattle.partition_domain.specs.Steps.{ReadsTable};
 

@@ -10,7 +10,7 @@ use Rattle.faulty_source.specs.declared.source.Got.{Got}
 use Rattle.faulty_source.specs.declared.source.Got.TheVariants.{Read, End}
 use Rattle.faulty_source.specs.Got.{count_of, is_end}
 use Rattle.faulty_source.specs.Journal.{Reading}
-use Rattle.faulty_source.specs.SourceState.{AnswersRead}
+use Rattle.faulty_source.specs.SourceChanges.{AnswersRead}
 use Rattle.rescue_domain.proofs.TestingLemmas.{front_is}
 use Rattle.plan_source.specs.Answering.{IsSeenIn, there, given_at, meets_end, got_at, reading_of, plan_source_state}
 

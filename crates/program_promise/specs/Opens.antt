@@ -1,7 +1,8 @@
 -- What a source tells of the opens that were asked for.
 use Rattle.std.specs.Prelude.{◌≡◌, false, IsTrue, List, [], ◌∷◌}
 use Rattle.fault_count.specs.Counts.{raised}
-use Rattle.faulty_source.specs.SourceState.{SourceState, OpenFails}
+use Rattle.faulty_source.specs.SourceState.{SourceState}
+use Rattle.faulty_source.specs.SourcePlan.{OpenFails}
 use Rattle.work_steps.specs.Work.{Opening, Opened, Unopened}
 
 -- The source was asked to open these. If it was asked for none, it stands still.

@@ -13,7 +13,8 @@ use Rattle.option_values.proofs.MeaningLemmas.{reading_asks as asked_only}
 use Rattle.rescue_command.specs.declared.options.Options.{Options}
 use Rattle.rescue_command.specs.declared.command.Task.{Task as TaskCode}
 use Rattle.rescue_command.specs.Options.{cluster_limit, cluster_of, option_meanings, options_in, quiet_letter, sectors_of}
-use Rattle.rescue_command.specs.Command.{Command, Task, Rescue, Fill, Generate, Sample, MapOptions, AreInLimits, AreOptions, HasMapfile, IsAsked, IsInLimits, IsSampleSize, IsTask, cluster_word, command_with, conflict_in, files_task, is_quiet, is_too_large, maps_in, mode_task, rescue_grammar, sample_task, task_by, task_from, task_in, task_with, unless_conflict, wants_mapfile}
+use Rattle.rescue_command.specs.Command.{Command, Task, Rescue, Fill, Generate, Sample}
+use Rattle.rescue_command.specs.Asking.{MapOptions, AreInLimits, AreOptions, HasMapfile, IsAsked, IsInLimits, IsSampleSize, IsTask, cluster_word, command_with, conflict_in, files_task, is_quiet, is_too_large, maps_in, mode_task, rescue_grammar, sample_task, task_by, task_from, task_in, task_with, unless_conflict, wants_mapfile}
 use Rattle.rescue_command.proofs.OptionLemmas.{AreInRange, AreKept, options_keep}
 
 abbrev told : Command → Result Command UsageFault

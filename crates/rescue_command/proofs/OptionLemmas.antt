@@ -16,7 +16,7 @@ use Rattle.option_values.proofs.TurnLemmas.{IsSector, sector_in_turn, turn_parts
 use Rattle.option_values.proofs.ValueLemmas.{in_range, map_part, or_part, size_by_below, then_part}
 use Rattle.option_values.proofs.QuietLemmas.{or_false, or_true}
 use Rattle.rescue_command.specs.declared.options.Options.{Options}
-use Rattle.rescue_command.specs.Command.{IsSampleSize}
+use Rattle.rescue_command.specs.Asking.{IsSampleSize}
 use Rattle.rescue_command.specs.Options.{area_limit_of, limit_with, no_options, option_meanings, option_rows, options_in, quiet_letter, sample_of, sector_letter, skips_of}
 use Rattle.rescue_command.proofs.SkipLemmas.{AreSkips, skips_of_are}
 

@@ -1,3 +1,4 @@
 pub mod Options
 pub mod Command
+pub mod Asking
 pub mod Laws

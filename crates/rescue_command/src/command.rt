@@ -3,7 +3,7 @@ ghost use Rattle.std.specs.Prelude.{◌≡◌, All, Ok, Err, is_some, IfOk, IfEr
 ghost use Rattle.option_words.specs.Spots.{HasSpot};
 ghost use Rattle.option_values.specs.Values.{IsWord};
 ghost use Rattle.rescue_command.specs.Options.{options_in};
-ghost use Rattle.rescue_command.specs.Command.{AreInLimits, AreOptions, IsErrorOf, IsTask, command_with, conflict_in, first_word, goes_with_sample, is_mode_given, later_word, maps_in, mode_task, modes_conflict, sample_command, sample_conflict, sample_task, task_by, task_read, task_with, test_conflict, told_by, wants_mapfile};
+ghost use Rattle.rescue_command.specs.Asking.{AreInLimits, AreOptions, IsErrorOf, IsTask, command_with, conflict_in, first_word, goes_with_sample, is_mode_given, later_word, maps_in, mode_task, modes_conflict, sample_command, sample_conflict, sample_task, task_by, task_read, task_with, test_conflict, told_by, wants_mapfile};
 
 use crate::options::{
     CLUSTER_SIZE, DOMAIN_MAPFILE, FILL_MODE, GENERATE_MODE, Options, QUIET, SAMPLE, SECTOR_SIZE,

@@ -4,7 +4,7 @@ ghost use Rattle.std.specs.Result.{result_ok};
 ghost use Rattle.size_suffixes.specs.Interval.{interval};
 ghost use Rattle.option_values.specs.Values.{number_by, row_of, set_by, size_by, within_range};
 ghost use Rattle.rescue_command.specs.Options.{area_limit_of, cluster_of, in_sectors, lettered_rows, limit_with, no_options, option_rows, sample_of, sample_row, sectors_of, skips_of};
-ghost use Rattle.rescue_command.specs.Command.{AreInLimits, AreOptions, is_too_large, wants_mapfile};
+ghost use Rattle.rescue_command.specs.Asking.{AreInLimits, AreOptions, is_too_large, wants_mapfile};
 
 use crate::skips::{DEFAULT_SKIP, DEFAULT_SKIP_MAX, in_sectors, read_skips};
 use block_list::types::TypeSet;

@@ -4,7 +4,8 @@ use Rattle.mapfile_text.specs.declared.heading.Program.{Program}
 use Rattle.mapfile_text.specs.declared.heading.Program.TheVariants.{Ddrescue}
 use Rattle.mapfile_text.specs.HeadingLines.{HeadingLines}
 use Rattle.crash_site.specs.Calls.{Call}
-use Rattle.crash_site.specs.SiteState.{SiteState, Makes, Breaks}
+use Rattle.crash_site.specs.SiteState.{SiteState}
+use Rattle.crash_site.specs.SiteChanges.{Makes, Breaks}
 use Rattle.save_resume.specs.declared.draft.SaveFault.{SaveFault}
 use Rattle.save_resume.specs.MapNames.{MapNames}
 use Rattle.save_resume.specs.Saving.{save_calls, IsNameIn, Saves}

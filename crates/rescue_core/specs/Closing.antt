@@ -1,7 +1,8 @@
 -- What the end of a run does.
 use Rattle.std.specs.Prelude.{◌≡◌, ⊤, false, Bool, List, [], ◌∷◌, Option, Some, None}
 use Rattle.crash_site.specs.declared.site.SiteCall.{SiteCall}
-use Rattle.crash_site.specs.SiteState.{SiteState, Makes, Breaks}
+use Rattle.crash_site.specs.SiteState.{SiteState}
+use Rattle.crash_site.specs.SiteChanges.{Makes, Breaks}
 use Rattle.save_resume.specs.Saving.{IsNameIn, drafting_after_fault}
 use Rattle.rescue_rules.specs.declared.stop.Stop.{Stop}
 use Rattle.rescue_rules.specs.declared.stop.Stop.TheVariants.{SourceLost, Site, LimitMet, NoMemory}

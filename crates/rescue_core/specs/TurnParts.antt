@@ -3,7 +3,8 @@ use Rattle.std.specs.Prelude.{◌≡◌, ⊤, ℕ, ◌+◌, ◌/◌, ◌≤◌, 
 use Rattle.faulty_source.specs.Got.{count_of, is_end}
 use Rattle.faulty_source.specs.Journal.{Reading}
 use Rattle.faulty_source.specs.SourceState.{SourceState}
-use Rattle.crash_site.specs.SiteState.{SiteState, Makes}
+use Rattle.crash_site.specs.SiteState.{SiteState}
+use Rattle.crash_site.specs.SiteChanges.{Makes}
 use Rattle.rescue_console.specs.ClockState.{ClockState}
 use Rattle.transfer_token.specs.declared.token.Request.{Request}
 use Rattle.transfer_token.specs.declared.fetch.Fetched.{Fetched}

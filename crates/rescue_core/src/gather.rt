@@ -1,7 +1,7 @@
 //! A read whose kept part stands in the output.
 ghost use Rattle.std.specs.Prelude.{◌≡◌, ◌+◌, ◌-◌, ◌<◌, ◌≤◌, ◌^◌, true, false, length, IfOk, IfErr};
-ghost use Rattle.faulty_source.specs.SourceState.{Stays as SourceStays};
-ghost use Rattle.crash_site.specs.SiteState.{Stays as SiteStays};
+ghost use Rattle.faulty_source.specs.SourceChanges.{Stays as SourceStays};
+ghost use Rattle.crash_site.specs.SiteChanges.{Stays as SiteStays};
 ghost use Rattle.rescue_console.specs.ClockState.{Keeps as ClockKeeps};
 ghost use Rattle.rescue_console.specs.ConsoleState.{ConsoleState};
 ghost use Rattle.transfer_token.specs.Tokens.{Spans};

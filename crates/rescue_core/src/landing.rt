@@ -1,7 +1,7 @@
 //! What was fetched stands in the output before it is marked.
 ghost use Rattle.std.specs.Prelude.{◌≡◌, ℕ, ◌+◌, ◌-◌, ◌<◌, ◌≤◌, ◌^◌, true, length, IfOk, OnOk, OnErr};
 ghost use Rattle.faulty_source.specs.Journal.{Reading, kept};
-ghost use Rattle.crash_site.specs.SiteState.{Stays, Makes, Breaks};
+ghost use Rattle.crash_site.specs.SiteChanges.{Stays, Makes, Breaks};
 ghost use Rattle.crash_site.specs.declared.site.SiteCall.TheVariants.{ImageWrite};
 ghost use Rattle.transfer_token.specs.Tokens.{size_of, IfLoaded, IsCut};
 ghost use Rattle.save_resume.specs.Saving.{IsNameIn};

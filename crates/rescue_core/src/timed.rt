@@ -1,6 +1,6 @@
 //! A read between two readings of the clock.
 ghost use Rattle.std.specs.Prelude.{◌≡◌, ℕ, ◌+◌, ◌<◌, ◌≤◌, ◌^◌, ◌∷◌, [], true, length, IfOk, OnErr};
-ghost use Rattle.faulty_source.specs.SourceState.{Stays, Loses};
+ghost use Rattle.faulty_source.specs.SourceChanges.{Stays, Loses};
 ghost use Rattle.rescue_console.specs.ClockState.{Keeps, Reads};
 ghost use Rattle.transfer_token.specs.Tokens.{Spans};
 ghost use Rattle.rescue_core.specs.TurnParts.{IsTimed};

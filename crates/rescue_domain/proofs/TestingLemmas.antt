@@ -10,8 +10,10 @@ use Rattle.block_list.specs.Places.{IsRangeUp}
 use Rattle.faulty_source.specs.declared.source.Got.{Got}
 use Rattle.faulty_source.specs.declared.source.Got.TheVariants.{Read}
 use Rattle.faulty_source.specs.Got.{count_of, is_end}
-use Rattle.faulty_source.specs.Journal.{Reading, JournalGains}
-use Rattle.faulty_source.specs.SourceState.{SourceState, Below, Keeps, Stays, Reads, AnswersRead}
+use Rattle.faulty_source.specs.Journal.{Reading}
+use Rattle.faulty_source.specs.JournalGains.{JournalGains}
+use Rattle.faulty_source.specs.SourceState.{SourceState, Below}
+use Rattle.faulty_source.specs.SourceChanges.{Keeps, Stays, Reads, AnswersRead}
 use Rattle.rescue_domain.specs.Finished.{is_finished, is_finished_at}
 use Rattle.rescue_domain.specs.Testing.{finished_front, IsFront, seen, state_seen, GainsSeen}
 

@@ -1,7 +1,8 @@
 -- What a source gives of its reads in test mode: what a test map says is finished.
 use Rattle.std.specs.Prelude.{◌≡◌, ℕ, zero, suc, ◌+◌, ◌<◌, ◌≤◌, true, false, nat_lt, List, ◌∷◌, length, map, take, if◌then◌else◌}
 use Rattle.block_list.specs.declared.status.Status.{Status}
-use Rattle.faulty_source.specs.Journal.{Reading, JournalGains}
+use Rattle.faulty_source.specs.Journal.{Reading}
+use Rattle.faulty_source.specs.JournalGains.{JournalGains}
 use Rattle.faulty_source.specs.SourceState.{SourceState}
 use Rattle.rescue_domain.specs.Finished.{is_finished_at}
 

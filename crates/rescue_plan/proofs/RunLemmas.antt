@@ -11,7 +11,8 @@ use Rattle.save_resume.specs.MapNames.{MapNames}
 use Rattle.crash_site.specs.Calls.{Entry}
 use Rattle.faulty_source.specs.declared.journal.ReadEntry.{ReadEntry}
 use Rattle.faulty_source.specs.Journal.{Reading}
-use Rattle.faulty_source.specs.SourceState.{SourceState, Below, Stays}
+use Rattle.faulty_source.specs.SourceState.{SourceState, Below}
+use Rattle.faulty_source.specs.SourceChanges.{Stays}
 use Rattle.rescue_console.specs.declared.console.Channel.TheVariants.{Out}
 use Rattle.rescue_console.specs.ConsoleState.{ConsoleState, Puts}
 use Rattle.rescue_domain.specs.Testing.{finished_front}

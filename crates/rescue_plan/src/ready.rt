@@ -1,6 +1,6 @@
 //! What a plan begins with.
 ghost use Rattle.std.specs.Prelude.{◌≡◌, ◌<◌, ◌^◌, IfOk};
-ghost use Rattle.rescue_command.specs.Command.{AreInLimits as AreOptionsInLimits};
+ghost use Rattle.rescue_command.specs.Asking.{AreInLimits as AreOptionsInLimits};
 ghost use Rattle.task_files.specs.Settings.{settings_by};
 ghost use Rattle.ddrescueplan_words.specs.Command.{AreInLimits, told_by};
 ghost use Rattle.rescue_plan.specs.Running.{BeginsPlannedRun, untried_map};

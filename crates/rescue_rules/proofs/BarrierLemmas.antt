@@ -3,7 +3,8 @@ use Rattle.std.specs.Bool.{⊤}
 use Rattle.std.proofs.Common.{◌≡◌, ℕ, Bool, true, false, List, Option, Some, None, refl, sym, ◌∙◌, ap}
 use Rattle.std.specs.Str.{bytes_eq}
 use Rattle.std.proofs.lemmas.Bool.{cond-true}
-use Rattle.crash_site.specs.Files.{File, empty_file, bytes_of, kind_of}
+use Rattle.crash_site.specs.Files.{File, empty_file, bytes_of}
+use Rattle.crash_site.specs.FileAnswers.{kind_of}
 use Rattle.crash_site.specs.Calls.{Done, image_open, image_sync, map_settle}
 use Rattle.crash_site.specs.Folder.{Folder, opened}
 use Rattle.crash_site.specs.Disk.{Disk, only, entered}

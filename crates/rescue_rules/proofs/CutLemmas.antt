@@ -2,10 +2,12 @@
 use Rattle.std.specs.Bool.{⊤}
 use Rattle.std.proofs.Common.{◌≡◌, ◌⊎◌, ℕ, zero, suc, ◌+◌, Bool, true, false, cond, List, [], ◌∷◌, ◌++◌, take, map, refl, sym, ap, ◌∙◌, subst, arith, inl, inr}
 use Rattle.std.specs.List.{count_by, fold}
-use Rattle.crash_site.specs.Calls.{Call, image_open, image_read, image_write, image_sync, map_read, draft_begin, draft_append, draft_sync, draft_publish, map_settle, map_remove, unanswered, Entry, Done, Failed, Lost}
+use Rattle.crash_site.specs.Calls.{Call, image_open, image_read, image_write, image_sync, map_read, draft_begin, draft_append, draft_sync, draft_publish, map_settle, map_remove, Entry, Done, Failed}
+use Rattle.crash_site.specs.CallsMade.{unanswered, Lost}
 use Rattle.crash_site.specs.Disk.{Disk, entered, disk_after}
 use Rattle.crash_site.specs.Left.{until}
-use Rattle.rescue_rules.specs.Stops.{is_settle, is_publish, is_write}
+use Rattle.rescue_rules.specs.Stops.{is_settle, is_write}
+use Rattle.rescue_rules.specs.StopsBy.{is_publish}
 
 -- an entry that failed is of this call, with the answer or without it
 abbrev pub IsOf : Call → Call → Type 0

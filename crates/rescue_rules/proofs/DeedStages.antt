@@ -5,7 +5,8 @@ use Rattle.std.specs.List.{concat, count_by, flat_map, slice_get}
 use Rattle.block_list.specs.declared.status.Status.{Status}
 use Rattle.mapfile_text.specs.Pieces.{pieces_of}
 use Rattle.mapfile_text.proofs.PieceLemmas.{in_pieces}
-use Rattle.crash_site.specs.Files.{File, empty_file, written, bytes_of, kind_of}
+use Rattle.crash_site.specs.Files.{File, empty_file, written, bytes_of}
+use Rattle.crash_site.specs.FileAnswers.{kind_of}
 use Rattle.crash_site.specs.Calls.{Call, Entry, Done, Failed, image_open, image_read, image_write, image_sync, map_read, draft_begin, draft_append, draft_sync, draft_publish, map_settle, map_remove}
 use Rattle.crash_site.specs.Disk.{Showing, Disk, only, or_this, entered, disk_after}
 use Rattle.crash_site.specs.Left.{MayShow, Leaves, until}
@@ -16,7 +17,8 @@ use Rattle.rescue_rules.specs.Snapshots.{Snapshot, text_of}
 use Rattle.rescue_rules.specs.Deeds.{Deed, save_of, deed_calls, doing_calls, some_save, saves_in, image_after, WritesAt, Outlasts, KeepsOn, KeepsUp}
 use Rattle.rescue_rules.specs.Laws.{AreThreeNames}
 use Rattle.rescue_rules.specs.RunStops.{Rests}
-use Rattle.rescue_rules.specs.Stops.{IsSave, is_settle, is_publish, is_write}
+use Rattle.rescue_rules.specs.Stops.{is_settle, is_write}
+use Rattle.rescue_rules.specs.StopsBy.{IsSave, is_publish}
 use Rattle.rescue_rules.proofs.WriteLemmas.{length-written}
 use Rattle.rescue_rules.proofs.CutLemmas.{Cut, tally, tally_is, Each, at_stop}
 use Rattle.rescue_rules.proofs.BeforeLemmas.{or_found}

@@ -4,7 +4,7 @@ use Rattle.std.specs.List.{flat_map, slice_get}
 use Rattle.block_list.specs.declared.status.Status.{Status}
 use Rattle.crash_site.specs.Files.{File}
 use Rattle.rescue_rules.specs.Snapshots.{Snapshot}
-use Rattle.rescue_rules.specs.Stops.{IsSave}
+use Rattle.rescue_rules.specs.StopsBy.{IsSave}
 use Rattle.rescue_rules.specs.Deeds.{Deed, some_save, saves_in, image_after, WritesAt, KeepsOn, KeepsUp}
 use Rattle.rescue_rules.proofs.DeedStages.{save_at}
 

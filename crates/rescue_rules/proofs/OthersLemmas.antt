@@ -20,7 +20,8 @@ use Rattle.save_resume.proofs.StageLemmas.{appended_draft}
 use Rattle.rescue_rules.specs.Setting.{Setting}
 use Rattle.rescue_rules.specs.Snapshots.{Snapshot, text_of}
 use Rattle.rescue_rules.specs.Deeds.{Deed, save_of, deed_calls, image_after, WritesAt, KeepsOn, KeepsUp}
-use Rattle.rescue_rules.specs.Stops.{Behind, is_settle, is_publish, is_write}
+use Rattle.rescue_rules.specs.Stops.{Behind, is_settle, is_write}
+use Rattle.rescue_rules.specs.StopsBy.{is_publish}
 use Rattle.rescue_rules.proofs.CutLemmas.{Cut, Each, at_stop, add}
 use Rattle.rescue_rules.proofs.SaveStages.{put_own, image_apart, image_stays}
 use Rattle.rescue_rules.proofs.BarrierLemmas.{Opens, opens_image, at_open, at_settle, at_barrier}

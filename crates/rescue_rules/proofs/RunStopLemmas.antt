@@ -7,7 +7,8 @@ use Rattle.crash_site.specs.Calls.{Call, Entry, Done, Failed}
 use Rattle.rescue_rules.specs.Moves.{state_after}
 use Rattle.rescue_rules.specs.Snapshots.{Snapshot, last_snapshot, snapshots}
 use Rattle.rescue_rules.specs.Held.{Held}
-use Rattle.rescue_rules.specs.Stops.{is_settle, is_publish, is_write}
+use Rattle.rescue_rules.specs.Stops.{is_settle, is_write}
+use Rattle.rescue_rules.specs.StopsBy.{is_publish}
 use Rattle.rescue_rules.specs.Deeds.{Deed}
 use Rattle.rescue_rules.specs.RunDeeds.{run_deeds}
 use Rattle.rescue_rules.specs.RunStops.{ComesTo, RunPromise, promise_of_run, RunStopsSafely}

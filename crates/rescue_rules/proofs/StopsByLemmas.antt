@@ -6,7 +6,8 @@ use Rattle.std.proofs.lemmas.Option.{slice_get-get_or}
 use Rattle.block_list.specs.declared.status.Status.{Status}
 use Rattle.mapfile_text.specs.declared.state.MapState.{MapState}
 use Rattle.crash_site.specs.declared.site.MapRead.{MapRead}
-use Rattle.crash_site.specs.Files.{File, bytes_of, kind_of}
+use Rattle.crash_site.specs.Files.{File, bytes_of}
+use Rattle.crash_site.specs.FileAnswers.{kind_of}
 use Rattle.crash_site.specs.Calls.{Call, Entry, Done, Failed, image_open, image_sync, map_read, map_settle}
 use Rattle.crash_site.specs.Folder.{Folder}
 use Rattle.crash_site.specs.Disk.{Disk, at_rest, disk_after}
@@ -18,8 +19,8 @@ use Rattle.rescue_rules.specs.Start.{Stands}
 use Rattle.rescue_rules.specs.Snapshots.{Snapshot, text_of}
 use Rattle.rescue_rules.specs.Laws.{AreThreeNames}
 use Rattle.rescue_rules.specs.Deeds.{Deed, saves_in, Outlasts, KeepsUp}
-use Rattle.rescue_rules.specs.Stops.{Behind, files_before, is_sync, is_settle, is_publish, is_write, has_barrier, IsSave, CouldBefore}
-use Rattle.rescue_rules.specs.StopsBy.{LeftBy, IsUnwritten, IsKeptBy, StopsBy}
+use Rattle.rescue_rules.specs.Stops.{Behind, files_before, is_sync, is_settle, is_write, has_barrier, CouldBefore, LeftBy}
+use Rattle.rescue_rules.specs.StopsBy.{is_publish, IsSave, IsUnwritten, IsKeptBy, StopsBy}
 use Rattle.rescue_rules.proofs.StandsLemmas.{stands_for_one, printed_stands}
 use Rattle.rescue_rules.proofs.SnapshotLemmas.{IsReadable, one_of}
 use Rattle.rescue_rules.proofs.CutLemmas.{Cut, add, tally, tally_is, Each, at_stop}

@@ -3,7 +3,8 @@ use Rattle.std.specs.Prelude.{◌≡◌, ⊤, ℕ, ◌+◌, ◌≤◌, true, fal
 use Rattle.block_list.specs.declared.status.Status.{Status}
 use Rattle.faulty_source.specs.Journal.{Reading}
 use Rattle.crash_site.specs.declared.site.ImageKind.{ImageKind}
-use Rattle.crash_site.specs.Files.{File, bytes_of, kind_of}
+use Rattle.crash_site.specs.Files.{File, bytes_of}
+use Rattle.crash_site.specs.FileAnswers.{kind_of}
 use Rattle.crash_site.specs.Calls.{Call, Entry, Done, Failed}
 use Rattle.crash_site.specs.Disk.{Disk, only, disk_after}
 use Rattle.crash_site.specs.Left.{Leaves, until}
@@ -15,7 +16,8 @@ use Rattle.rescue_rules.specs.Events.{reads_of}
 use Rattle.rescue_rules.specs.Snapshots.{Snapshot, snapshots}
 use Rattle.rescue_rules.specs.RunCalls.{run_calls, end_calls}
 use Rattle.rescue_rules.specs.Held.{Held}
-use Rattle.rescue_rules.specs.Stops.{is_settle, is_publish, is_write, IsSave}
+use Rattle.rescue_rules.specs.Stops.{is_settle, is_write}
+use Rattle.rescue_rules.specs.StopsBy.{is_publish, IsSave}
 use Rattle.rescue_rules.specs.Preparation.{AreFinishedAlike}
 use Rattle.rescue_rules.specs.Laws.{AreThreeNames}
 use Rattle.rescue_rules.specs.MachineLaws.{IsInOrder}

@@ -6,7 +6,8 @@ use Rattle.faulty_source.specs.Journal.{Reading}
 use Rattle.crash_site.specs.declared.site.SiteCall.{SiteCall}
 use Rattle.crash_site.specs.declared.site.SiteCall.TheVariants.{MapRead}
 use Rattle.crash_site.specs.Files.{File}
-use Rattle.crash_site.specs.Calls.{Call, Entry, Done, Lost, BrokeAt, image_open, map_read}
+use Rattle.crash_site.specs.Calls.{Call, Entry, Done, image_open, map_read}
+use Rattle.crash_site.specs.CallsMade.{Lost, BrokeAt}
 use Rattle.save_resume.specs.Resuming.{barrier_calls}
 use Rattle.save_resume.specs.Loading.{BeginsLoad, IsLoad}
 use Rattle.rescue_rules.specs.declared.stop.Stop.{Stop}

@@ -21,7 +21,8 @@ use Rattle.rescue_rules.specs.Deeds.{save_of, deed_calls}
 use Rattle.rescue_rules.specs.RunDeeds.{run_deeds}
 use Rattle.rescue_rules.specs.RunCalls.{write_calls}
 use Rattle.rescue_rules.specs.Snapshots.{Snapshot, text_of, snapshot_of, is_due, snapshots}
-use Rattle.rescue_rules.specs.Stops.{is_write, is_publish, published}
+use Rattle.rescue_rules.specs.Stops.{is_write}
+use Rattle.rescue_rules.specs.StopsBy.{is_publish, published}
 use Rattle.rescue_rules.proofs.CutLemmas.{Cut, add, tally, tally_is}
 use Rattle.rescue_rules.proofs.GivenLemmas.{Covered, covered_here}
 use Rattle.rescue_rules.proofs.DeedStages.{last_calls, all_calls}

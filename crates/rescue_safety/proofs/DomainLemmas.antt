@@ -14,7 +14,8 @@ use Rattle.rescue_command.specs.Command.{Command}
 use Rattle.task_files.specs.Asked.{Maps, domain_asked, in_list}
 use Rattle.task_files.specs.Maps.{Found, file_of, found_in, mapfile_of, MapfileLists}
 use Rattle.ddrescue_cli.specs.Ddrescue.{Promise}
-use Rattle.rescue_safety.specs.Rescue.{Rescue, files_at_first, IsAskedFor}
+use Rattle.rescue_safety.specs.Rescue.{Rescue, files_at_first}
+use Rattle.rescue_safety.specs.AskedFor.{IsAskedFor}
 
 some_finished : (status : Option Status) → is_finished status ≡ true → status ≡ Some Finished
 some_finished None is = absurd (cc)

@@ -14,7 +14,8 @@ use Rattle.rescue_rules.specs.Snapshots.{Snapshot, text_of}
 use Rattle.rescue_rules.proofs.StandsLemmas.{printed_stands}
 use Rattle.rescue_safety.specs.Saves.{CallsFinished}
 use Rattle.rescue_safety.specs.Safe.{Target}
-use Rattle.rescue_safety.specs.Owed.{pairs_of, HoldsLast, IsOwedIn, IsOwedAt}
+use Rattle.rescue_safety.specs.Owed.{pairs_of, HoldsLast}
+use Rattle.rescue_safety.specs.OwedFiles.{IsOwedIn, IsOwedAt}
 use Rattle.rescue_safety.specs.Runs.{resting}
 use Rattle.rescue_safety.specs.Early.{IsTooEarly, IsUnwrittenMap, unwritten}
 use Rattle.rescue_safety.proofs.FinishedLemmas.{calls_finished}

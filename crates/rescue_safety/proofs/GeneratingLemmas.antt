@@ -16,8 +16,8 @@ use Rattle.rescue_rules.specs.Setting.{Setting, IsSensible, place}
 use Rattle.rescue_rules.specs.Start.{Stands}
 use Rattle.rescue_rules.specs.Given.{last_of_both}
 use Rattle.rescue_rules.specs.Work.{Gain}
-use Rattle.rescue_rules.specs.Stops.{Behind, files_before, has_barrier, published}
-use Rattle.rescue_rules.specs.StopsBy.{LeftBy, IsKeptBy}
+use Rattle.rescue_rules.specs.Stops.{Behind, files_before, has_barrier, LeftBy}
+use Rattle.rescue_rules.specs.StopsBy.{published, IsKeptBy}
 use Rattle.rescue_rules.proofs.CutLemmas.{Cut, cut_past}
 use Rattle.rescue_rules.proofs.MapfileLemmas.{opening_by}
 use Rattle.rescue_core.specs.RunState.{names_in}
@@ -27,14 +27,16 @@ use Rattle.sweep_rules.specs.SweepStops.{GeneratePromise, has_swept_out, sweep_s
 use Rattle.sweep_rules.specs.SweepWork.{sweep_begins, sweep_opening}
 use Rattle.sweep_rules.proofs.SweepLemmas.{piece_within}
 use Rattle.option_words.specs.Words.{command_line}
-use Rattle.rescue_command.specs.Command.{Generate, HasMapfile}
+use Rattle.rescue_command.specs.Command.{Generate}
+use Rattle.rescue_command.specs.Asking.{HasMapfile}
 use Rattle.rescue_command.proofs.CommandLemmas.{reading_asks}
 use Rattle.work_steps.proofs.FrontLemmas.{load_reads}
 use Rattle.task_files.specs.Maps.{Found, found_in}
 use Rattle.task_files.specs.Names.{program_name}
 use Rattle.task_files.specs.Outside.{Outside}
 use Rattle.task_sweeps.specs.Modes.{Generates, GenerateStops}
-use Rattle.ddrescue_cli.specs.Told.{calls_before, files_of, asked_of}
+use Rattle.ddrescue_cli.specs.Told.{calls_before}
+use Rattle.ddrescue_cli.specs.ToldParts.{files_of, asked_of}
 use Rattle.ddrescue_cli.specs.Ddrescue.{GenerateModePromise}
 use Rattle.ddrescue_cli.proofs.AskedLemmas.{sensible_in}
 use Rattle.ddrescue_cli.proofs.EarlyCut.{EarlyCut, early_cut}
@@ -43,7 +45,8 @@ use Rattle.ddrescue_cli.proofs.SweepWay.{SweepWay, InMaps, BehindMaps, generate_
 use Rattle.ddrescue_laws.specs.ModeLaws.{promised_generate}
 use Rattle.rescue_safety.specs.Saves.{CallsFinished}
 use Rattle.rescue_safety.specs.Safe.{Target}
-use Rattle.rescue_safety.specs.Owed.{last_given, looked_at, HoldsLast, IsOwedIn, IsOwedAt}
+use Rattle.rescue_safety.specs.Owed.{last_given, looked_at, HoldsLast}
+use Rattle.rescue_safety.specs.OwedFiles.{IsOwedIn, IsOwedAt}
 use Rattle.rescue_safety.specs.Runs.{NextBegins, Link, IsGenerating, after_barrier}
 use Rattle.rescue_safety.proofs.Texts.{IsStill}
 use Rattle.rescue_safety.proofs.SaveLemmas.{reads_still, opening_still}

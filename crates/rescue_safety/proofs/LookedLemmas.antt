@@ -14,7 +14,7 @@ use Rattle.rescue_rules.specs.Setting.{Setting, place}
 use Rattle.rescue_rules.specs.Snapshots.{Snapshot}
 use Rattle.rescue_rules.specs.Given.{last_of_both}
 use Rattle.rescue_rules.specs.Deeds.{Deed, some_save, saves_in}
-use Rattle.rescue_rules.specs.Stops.{IsSave}
+use Rattle.rescue_rules.specs.StopsBy.{IsSave}
 use Rattle.rescue_rules.proofs.MarkLemmas.{slice_get-take}
 use Rattle.rescue_rules.proofs.SnapshotLemmas.{one_of}
 use Rattle.sweep_rules.specs.Sweep.{Sweep, Swept, generator, is_generated, is_there, part_of, behind_piece, behind_pieces, is_save_due, sweep_snapshot, sweep_end, due_save, deeds_of}

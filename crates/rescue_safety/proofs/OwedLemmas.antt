@@ -6,12 +6,12 @@ use Rattle.crash_site.specs.Folder.{Folder}
 use Rattle.crash_site.specs.Left.{MayBeLeft}
 use Rattle.crash_site.proofs.DiskLemmas.{reads_rest}
 use Rattle.crash_site.proofs.LawLemmas.{others_stand}
-use Rattle.rescue_rules.specs.Stops.{Behind, files_before, CouldBefore}
-use Rattle.rescue_rules.specs.StopsBy.{LeftBy}
+use Rattle.rescue_rules.specs.Stops.{Behind, files_before, CouldBefore, LeftBy}
 use Rattle.rescue_rules.proofs.BeforeLemmas.{left_before}
 use Rattle.rescue_safety.specs.Saves.{CallsFinished}
 use Rattle.rescue_safety.specs.Safe.{Target}
-use Rattle.rescue_safety.specs.Owed.{HoldsLast, IsOwedIn, IsOwedAt}
+use Rattle.rescue_safety.specs.Owed.{HoldsLast}
+use Rattle.rescue_safety.specs.OwedFiles.{IsOwedIn, IsOwedAt}
 use Rattle.rescue_safety.specs.Runs.{resting, NextBegins, Stopped, Ended}
 use Rattle.rescue_safety.proofs.PartLemmas.{ended_left}
 

@@ -18,7 +18,8 @@ use Rattle.task_files.specs.Maps.{found_in}
 use Rattle.task_files.specs.Names.{program_name}
 use Rattle.task_files.specs.Outside.{Outside}
 use Rattle.task_files.specs.Work.{Rescues, rescue_faults, rescue_rows}
-use Rattle.ddrescue_cli.specs.Told.{Told, files_of, asked_of}
+use Rattle.ddrescue_cli.specs.Told.{Told}
+use Rattle.ddrescue_cli.specs.ToldParts.{files_of, asked_of}
 use Rattle.ddrescue_cli.specs.Ddrescue.{Promise}
 use Rattle.ddrescue_cli.proofs.GoesLemmas.{work_goes}
 use Rattle.rescue_safety.proofs.ClaimLemmas.{given_domain}

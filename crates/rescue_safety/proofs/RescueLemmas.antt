@@ -9,7 +9,8 @@ use Rattle.rescue_rules.specs.Stops.{Behind, files_before, has_barrier}
 use Rattle.rescue_safety.specs.Saves.{CallsFinished}
 use Rattle.rescue_safety.specs.Safe.{Target, Run, by_then, gives, IsHeld, IsSafeAnywhere}
 use Rattle.rescue_safety.specs.Rescue.{run_of}
-use Rattle.rescue_safety.specs.Owed.{last_given, pairs_of, HoldsLast, IsOwedIn, IsOwedAt}
+use Rattle.rescue_safety.specs.Owed.{last_given, pairs_of, HoldsLast}
+use Rattle.rescue_safety.specs.OwedFiles.{IsOwedIn, IsOwedAt}
 use Rattle.rescue_safety.specs.Runs.{NextBegins, Link, IsRescue}
 use Rattle.rescue_safety.proofs.ClaimLemmas.{some_or_none, never_some}
 use Rattle.rescue_safety.proofs.LastGiven.{last_after, given_is_last}

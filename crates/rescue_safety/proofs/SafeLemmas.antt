@@ -16,8 +16,8 @@ use Rattle.rescue_rules.specs.Setting.{Setting, IsSensible, place}
 use Rattle.rescue_rules.specs.Start.{Stands}
 use Rattle.rescue_rules.specs.Given.{given}
 use Rattle.rescue_rules.specs.Work.{Gain, Goes}
-use Rattle.rescue_rules.specs.Stops.{Behind, files_before, has_barrier}
-use Rattle.rescue_rules.specs.StopsBy.{LeftBy, IsKept, RescueStopsBy}
+use Rattle.rescue_rules.specs.Stops.{Behind, files_before, has_barrier, LeftBy}
+use Rattle.rescue_rules.specs.StopsBy.{IsKept, RescueStopsBy}
 use Rattle.rescue_core.specs.RunState.{names_in}
 use Rattle.option_words.specs.Words.{command_line}
 use Rattle.rescue_command.specs.Command.{Command, Rescue as ForRescue}
@@ -25,14 +25,17 @@ use Rattle.task_files.specs.Names.{program_name}
 use Rattle.task_files.specs.Maps.{Found, seen_through}
 use Rattle.task_files.specs.Outside.{Outside, HasGainedReads}
 use Rattle.task_files.specs.Work.{Rescues}
-use Rattle.ddrescue_cli.specs.Told.{Told, calls_before, asked_of}
+use Rattle.ddrescue_cli.specs.Told.{Told, calls_before}
+use Rattle.ddrescue_cli.specs.ToldParts.{asked_of}
 use Rattle.ddrescue_cli.specs.Ddrescue.{Promise}
 use Rattle.ddrescue_cli.proofs.AskedLemmas.{sensible_to}
 use Rattle.ddrescue_laws.proofs.GivenLemmas.{given_is_input}
 use Rattle.rescue_safety.specs.Saves.{CallsFinished, IsOneSaved}
 use Rattle.rescue_safety.specs.Safe.{Target, HasPlace, Run, reads_until, by_then, gives, IsHeld, IsSafe, IsSafeAnywhere}
-use Rattle.rescue_safety.specs.Rescue.{Rescue, target_of, run_by, run_of, files_at_first, AreSeen, NoRead, Untested, Tested, IsAskedFor}
-use Rattle.rescue_safety.specs.Laws.{AnyStopIsSafe, AnyTestedStopIsSafe, EachIsTold, GivesWhatIsAskedFor, LeavesTheRest, NoneIsReadAgain, StaysResumable, WritesAreOfReads}
+use Rattle.rescue_safety.specs.Rescue.{Rescue, target_of, run_by, run_of, files_at_first}
+use Rattle.rescue_safety.specs.AskedFor.{AreSeen, NoRead, Untested, Tested, IsAskedFor}
+use Rattle.rescue_safety.specs.Laws.{AnyStopIsSafe, AnyTestedStopIsSafe}
+use Rattle.rescue_safety.specs.AskedLaws.{EachIsTold, GivesWhatIsAskedFor, LeavesTheRest, NoneIsReadAgain, StaysResumable, WritesAreOfReads}
 use Rattle.rescue_safety.proofs.SaveLemmas.{goes_made, numbered}
 use Rattle.rescue_safety.proofs.QuietLemmas.{SavesNone, none_or_stands}
 use Rattle.rescue_safety.proofs.FinishedLemmas.{StandsAt, At, stands_at, StandsFinished, stands_finished, calls_finished, finished_has}

@@ -21,8 +21,8 @@ use Rattle.rescue_rules.specs.Events.{began_at, reads_of}
 use Rattle.rescue_rules.specs.Given.{given}
 use Rattle.rescue_rules.specs.Snapshots.{last_snapshot}
 use Rattle.rescue_rules.specs.Work.{Gain, begins, events_in, is_map_read, AreMapReads, Goes, InMaps, BehindMaps}
-use Rattle.rescue_rules.specs.Stops.{Behind, files_before, is_write, is_publish, published, IsSave, saves_of}
-use Rattle.rescue_rules.specs.StopsBy.{IsUnwritten, IsKept}
+use Rattle.rescue_rules.specs.Stops.{Behind, files_before, is_write}
+use Rattle.rescue_rules.specs.StopsBy.{is_publish, published, IsSave, saves_of, IsUnwritten, IsKept}
 use Rattle.rescue_rules.proofs.CutLemmas.{Cut, add}
 use Rattle.rescue_rules.proofs.FinishLemmas.{finished_stands}
 use Rattle.rescue_rules.proofs.GoesLemmas.{Course, Way, AnyMap, OneMap, way, broke_cut}

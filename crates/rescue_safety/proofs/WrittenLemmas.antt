@@ -8,7 +8,8 @@ use Rattle.mapfile_text.specs.Pieces.{pieces_of}
 use Rattle.faulty_source.specs.Journal.{Reading, kept}
 use Rattle.crash_site.specs.declared.site.SiteCall.TheVariants.{MapRead as MapReadName}
 use Rattle.crash_site.specs.Files.{File}
-use Rattle.crash_site.specs.Calls.{Call, image_open, image_read, image_write, image_sync, map_read, draft_begin, draft_append, draft_sync, draft_publish, map_settle, map_remove, unanswered, Entry, Done, Failed}
+use Rattle.crash_site.specs.Calls.{Call, image_open, image_read, image_write, image_sync, map_read, draft_begin, draft_append, draft_sync, draft_publish, map_settle, map_remove, Entry, Done, Failed}
+use Rattle.crash_site.specs.CallsMade.{unanswered}
 use Rattle.save_resume.specs.MapNames.{MapNames}
 use Rattle.save_resume.specs.Saving.{fill_calls, save_calls}
 use Rattle.rescue_rules.specs.Setting.{Setting, IsSensible, place}

@@ -7,7 +7,8 @@ use Rattle.crash_site.specs.Folder.{Folder}
 use Rattle.crash_site.specs.Left.{MayBeLeft}
 use Rattle.crash_site.specs.Laws.{early, settles}
 use Rattle.rescue_safety.specs.Safe.{Target, HasPlace}
-use Rattle.rescue_safety.specs.Owed.{pairs_of, IsOwedIn, IsOwedAt}
+use Rattle.rescue_safety.specs.Owed.{pairs_of}
+use Rattle.rescue_safety.specs.OwedFiles.{IsOwedIn, IsOwedAt}
 
 -- A run with these calls, which gave these pairs, breaks the promise: all was owed when it began, and of what a stop
 -- after all of the calls may leave it isn't.

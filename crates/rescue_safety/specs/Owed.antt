@@ -1,13 +1,9 @@
 -- What an output owes to its mapfile, by all that was given to its positions.
-use Rattle.std.specs.Prelude.{◌≡◌, ◌⊎◌, ℕ, ◌+◌, ◌-◌, nat_eq, Bool, true, List, [], ◌∷◌, ◌++◌, length, take, drop, slice_get, Option, Some, None, if◌then◌else◌}
+use Rattle.std.specs.Prelude.{◌≡◌, ℕ, ◌+◌, ◌-◌, nat_eq, List, [], ◌∷◌, ◌++◌, take, drop, slice_get, Option, Some, None, if◌then◌else◌}
 use Rattle.std.specs.List.{flat_map, enumerate_from}
 use Rattle.faulty_source.specs.Journal.{Reading, kept}
-use Rattle.crash_site.specs.Files.{File, bytes_of}
 use Rattle.crash_site.specs.Calls.{Entry, Done, image_read}
-use Rattle.crash_site.specs.Left.{MayBeLeft}
 use Rattle.rescue_rules.specs.Given.{last_of_both}
-use Rattle.rescue_rules.specs.Stops.{Behind}
-use Rattle.rescue_safety.specs.Saves.{CallsFinished}
 use Rattle.rescue_safety.specs.Safe.{Target, HasPlace}
 
 -- the byte that the last pair of a list gives a position, if one does
@@ -33,14 +29,3 @@ pub record HoldsLast (t : Target) (gave : List (ℕ × ℕ)) (image : List ℕ) 
   pub place : ℕ
   pub at : HasPlace t x place
   pub holds : slice_get image place ≡ Some byte
-
--- Each position that the mapfile among these files calls finished is an old one, or the output holds its last byte.
-pub record IsOwedIn (t : Target) (gave : List (ℕ × ℕ)) (old : ℕ → Bool) (files : List ℕ → Option File)
-    : Type 0 where
-  pub each : (x : ℕ) → CallsFinished (files t.mapfile) x
-      → (old x ≡ true) ⊎ HoldsLast t gave (bytes_of (files t.outfile)) x
-
--- The same holds in all files that may be found after these calls.
-pub record IsOwedAt (t : Target) (gave : List (ℕ × ℕ)) (old : ℕ → Bool) (b : Behind) : Type 0 where
-  pub each : (files : List ℕ → Option File) → MayBeLeft b.start b.earlier (length b.earlier) files
-      → IsOwedIn t gave old files

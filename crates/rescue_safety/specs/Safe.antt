@@ -5,8 +5,7 @@ use Rattle.crash_site.specs.Files.{File, bytes_of}
 use Rattle.crash_site.specs.Calls.{Entry}
 use Rattle.crash_site.specs.Left.{MayBeLeft}
 use Rattle.rescue_rules.specs.Given.{given}
-use Rattle.rescue_rules.specs.Stops.{Behind, files_before, has_barrier, is_write, CouldBefore}
-use Rattle.rescue_rules.specs.StopsBy.{LeftBy}
+use Rattle.rescue_rules.specs.Stops.{Behind, files_before, has_barrier, is_write, CouldBefore, LeftBy}
 use Rattle.rescue_safety.specs.Saves.{CallsFinished, IsOneSaved}
 
 -- The names of an output and of its mapfile; and the place `to` that the position `from` has in the output.

@@ -7,7 +7,8 @@ use Rattle.std.proofs.lemmas.List.Sums.{sum_by-cons}
 use Rattle.std.proofs.lemmas.List.FromFn.{length-map-range_with_len, map-range_with_len_more, take-map-range_with_len}
 use Rattle.std.proofs.lemmas.List.Elements.{All-head, All-tail, All-nil, All-cons}
 use Rattle.faulty_source.specs.declared.journal.ReadEntry.{ReadEntry}
-use Rattle.faulty_source.specs.Journal.{Reading, is_failed, reading_of}
+use Rattle.faulty_source.specs.Journal.{Reading, is_failed}
+use Rattle.faulty_source.specs.ReadEntries.{reading_of}
 use Rattle.rescue_sample.specs.declared.source.Answered.{Answered}
 use Rattle.rescue_sample.specs.Sample.{drawn, next_drawn, sector_meant, sample_byte, sample_bytes, sample_size, entry_failed, AreSampleReads, IsSampleAnswer, IsSampleRead}
 

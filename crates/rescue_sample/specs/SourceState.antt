@@ -2,7 +2,7 @@
 use Rattle.std.specs.Prelude.{true, false, [], map}
 use Rattle.fault_count.specs.Plan.{no_plan}
 use Rattle.faulty_source.specs.SourceState.{SourceState}
-use Rattle.faulty_source.specs.Journal.{reading_of}
+use Rattle.faulty_source.specs.ReadEntries.{reading_of}
 use Rattle.rescue_sample.specs.Sample.{sample_bytes, sample_size}
 use Rattle.rescue_sample.specs.declared.source.SampleSource.{SampleSource}
 

@@ -10,13 +10,16 @@ use Rattle.block_list.specs.Map.{marked}
 use Rattle.block_list.proofs.Places.{length-marked}
 use Rattle.faulty_source.specs.Journal.{Reading, is_whole}
 use Rattle.rescue_domain.specs.Domain.{IsIn}
-use Rattle.faulty_source.specs.SourceState.{SourceState, Stays as SourceStays}
+use Rattle.faulty_source.specs.SourceState.{SourceState}
+use Rattle.faulty_source.specs.SourceChanges.{Stays as SourceStays}
 use Rattle.crash_site.specs.declared.site.SiteCall.{SiteCall}
-use Rattle.crash_site.specs.Calls.{Call, Entry, Done, Failed, Lost, BrokeAt, image_read}
+use Rattle.crash_site.specs.Calls.{Call, Entry, Done, Failed, image_read}
+use Rattle.crash_site.specs.CallsMade.{Lost, BrokeAt}
 use Rattle.crash_site.specs.Files.{File, bytes_of, file_at}
 use Rattle.crash_site.specs.Folder.{Folder, after}
 use Rattle.crash_site.proofs.LawLemmas.{after-append}
-use Rattle.crash_site.specs.SiteState.{SiteState, image_in, Stays as SiteStays}
+use Rattle.crash_site.specs.SiteState.{SiteState, image_in}
+use Rattle.crash_site.specs.SiteChanges.{Stays as SiteStays}
 use Rattle.rescue_verify.specs.declared.halt.Halt.{Halt}
 use Rattle.rescue_verify.specs.declared.halt.Halt.TheVariants.{NoMemory, SourceLost, ImageFault}
 use Rattle.rescue_verify.specs.declared.tally.Tally.{Tally}

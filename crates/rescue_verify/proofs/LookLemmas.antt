@@ -7,9 +7,11 @@ use Rattle.std.proofs.lemmas.Bool.Decides.{nat_tests}
 use Rattle.faulty_source.specs.declared.source.Got.{Got}
 use Rattle.faulty_source.specs.Got.{count_of, is_end}
 use Rattle.faulty_source.specs.Journal.{Reading, is_whole}
-use Rattle.faulty_source.specs.SourceState.{SourceState, Reads}
+use Rattle.faulty_source.specs.SourceState.{SourceState}
+use Rattle.faulty_source.specs.SourceChanges.{Reads}
 use Rattle.crash_site.specs.Calls.{Call, Done, image_read}
-use Rattle.crash_site.specs.Files.{bytes_of, IsImageRead}
+use Rattle.crash_site.specs.Files.{bytes_of}
+use Rattle.crash_site.specs.FileAnswers.{IsImageRead}
 use Rattle.crash_site.specs.SiteState.{SiteState, image_in}
 use Rattle.rescue_verify.specs.declared.look.LookResult.{LookResult}
 use Rattle.rescue_verify.specs.declared.look.LookResult.TheVariants.{Unread, Same, Different}

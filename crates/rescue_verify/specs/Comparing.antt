@@ -4,7 +4,8 @@ use Rattle.fault_count.specs.Counts.{Rose}
 use Rattle.block_list.specs.declared.status.Status.{Status}
 use Rattle.faulty_source.specs.Journal.{Reading, is_whole}
 use Rattle.faulty_source.specs.SourceState.{SourceState}
-use Rattle.crash_site.specs.Calls.{Entry, Done, Lost, image_read}
+use Rattle.crash_site.specs.Calls.{Entry, Done, image_read}
+use Rattle.crash_site.specs.CallsMade.{Lost}
 use Rattle.crash_site.specs.Files.{bytes_of}
 use Rattle.crash_site.specs.SiteState.{SiteState, image_in}
 use Rattle.rescue_domain.specs.Parts.{covers}

@@ -1,11 +1,13 @@
 -- What one look at a piece does, by what the objects tell.
 use Rattle.std.specs.Prelude.{◌≡◌, ℕ, true, IsTrue, [], ◌∷◌, None, if◌then◌else◌}
 use Rattle.faulty_source.specs.Journal.{Reading, is_whole}
-use Rattle.faulty_source.specs.SourceState.{SourceState, Reads, Loses}
+use Rattle.faulty_source.specs.SourceState.{SourceState}
+use Rattle.faulty_source.specs.SourceChanges.{Reads, Loses}
 use Rattle.crash_site.specs.declared.site.SiteCall.TheVariants.{ImageRead}
 use Rattle.crash_site.specs.Calls.{image_read}
 use Rattle.crash_site.specs.Files.{bytes_of}
-use Rattle.crash_site.specs.SiteState.{SiteState, image_in, Makes, Breaks}
+use Rattle.crash_site.specs.SiteState.{SiteState, image_in}
+use Rattle.crash_site.specs.SiteChanges.{Makes, Breaks}
 use Rattle.rescue_verify.specs.declared.halt.Halt.{Halt}
 use Rattle.rescue_verify.specs.declared.halt.Halt.TheVariants.{NoMemory, SourceLost, ImageFault}
 use Rattle.rescue_verify.specs.declared.look.LookResult.{LookResult}

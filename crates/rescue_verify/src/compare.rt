@@ -1,7 +1,7 @@
 //! The comparison: all pieces, in order.
 ghost use Rattle.std.specs.Prelude.{◌≡◌, ◌+◌, ◌-◌, ◌<◌, ◌≤◌, ◌^◌, ℕ, true, length, OnOk, IfErr};
-ghost use Rattle.faulty_source.specs.SourceState.{Stays as SourceStays};
-ghost use Rattle.crash_site.specs.SiteState.{Stays as SiteStays};
+ghost use Rattle.faulty_source.specs.SourceChanges.{Stays as SourceStays};
+ghost use Rattle.crash_site.specs.SiteChanges.{Stays as SiteStays};
 ghost use Rattle.rescue_domain.specs.Domain.{IsIn};
 ghost use Rattle.rescue_domain.specs.Parts.{covers};
 ghost use Rattle.rescue_domain.specs.Places.{AreAllPlaced, place_from};

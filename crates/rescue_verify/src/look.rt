@@ -1,7 +1,7 @@
 //! A look at one piece.
 ghost use Rattle.std.specs.Prelude.{◌≡◌, ◌+◌, ◌<◌, ◌^◌, true, length, OnErr, IfOk, IfErr};
-ghost use Rattle.faulty_source.specs.SourceState.{Stays as SourceStays};
-ghost use Rattle.crash_site.specs.SiteState.{Stays as SiteStays};
+ghost use Rattle.faulty_source.specs.SourceChanges.{Stays as SourceStays};
+ghost use Rattle.crash_site.specs.SiteChanges.{Stays as SiteStays};
 ghost use Rattle.rescue_verify.specs.Looks.{Look};
 ghost use Rattle.rescue_verify.specs.Looking.{SeesPiece, HaltsLooking, seen_by};
 

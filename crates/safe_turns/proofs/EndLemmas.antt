@@ -8,7 +8,8 @@ use Rattle.fault_count.specs.Plan.{no_plan}
 use Rattle.crash_site.specs.Calls.{Call, Entry, Done, image_sync}
 use Rattle.crash_site.specs.Disk.{Disk, only, at_rest, disk_after}
 use Rattle.crash_site.specs.Folder.{Folder}
-use Rattle.crash_site.specs.SiteState.{SiteState, Keeps}
+use Rattle.crash_site.specs.SiteState.{SiteState}
+use Rattle.crash_site.specs.SiteChanges.{Keeps}
 use Rattle.crash_site.proofs.DiskLemmas.{run-append}
 use Rattle.crash_site.proofs.LawLemmas.{sure_synced}
 use Rattle.save_resume.specs.Saving.{save_calls}

@@ -3,7 +3,8 @@ use Rattle.std.proofs.Common.{◌≡◌, ℕ, suc, ◌+◌, true, false, List, [
 use Rattle.std.specs.List.{count_by}
 use Rattle.block_list.specs.declared.status.Status.{Status}
 use Rattle.faulty_source.specs.Journal.{Reading}
-use Rattle.crash_site.specs.Files.{File, bytes_of, kind_of}
+use Rattle.crash_site.specs.Files.{File, bytes_of}
+use Rattle.crash_site.specs.FileAnswers.{kind_of}
 use Rattle.crash_site.specs.Calls.{Call, Entry}
 use Rattle.crash_site.specs.Disk.{Disk, disk_after}
 use Rattle.crash_site.specs.Left.{Leaves, until}
@@ -15,7 +16,8 @@ use Rattle.rescue_rules.specs.Events.{reads_of}
 use Rattle.rescue_rules.specs.Snapshots.{Snapshot, last_snapshot}
 use Rattle.rescue_rules.specs.RunCalls.{run_calls, closing_calls}
 use Rattle.rescue_rules.specs.RunStops.{ComesTo, Rests}
-use Rattle.rescue_rules.specs.Stops.{is_settle, is_publish, is_write, IsSave}
+use Rattle.rescue_rules.specs.Stops.{is_settle, is_write}
+use Rattle.rescue_rules.specs.StopsBy.{is_publish, IsSave}
 use Rattle.rescue_rules.specs.Held.{Held}
 use Rattle.rescue_rules.specs.Laws.{AreThreeNames}
 use Rattle.rescue_rules.specs.MachineLaws.{IsInOrder}

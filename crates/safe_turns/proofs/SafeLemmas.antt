@@ -20,7 +20,7 @@ use Rattle.rescue_rules.specs.Events.{reads_of}
 use Rattle.rescue_rules.specs.Snapshots.{Snapshot, snapshot_of}
 use Rattle.rescue_rules.specs.RunCalls.{move_calls, run_calls, closing_calls}
 use Rattle.rescue_rules.specs.RunStops.{ComesTo}
-use Rattle.rescue_rules.specs.Stops.{IsSave}
+use Rattle.rescue_rules.specs.StopsBy.{IsSave}
 use Rattle.rescue_rules.proofs.MoveLemmas.{run_rest}
 use Rattle.safe_turns.specs.Safe.{HasMap, Read, Saved, IsHeldIn, IsSafe}
 use Rattle.safe_turns.proofs.LastLemmas.{Holds, last_holds}

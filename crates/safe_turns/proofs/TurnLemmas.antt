@@ -7,7 +7,8 @@ use Rattle.crash_site.specs.declared.site.SiteCall.TheVariants.{ImageWrite}
 use Rattle.crash_site.specs.Files.{File}
 use Rattle.crash_site.specs.Calls.{Call, Entry, Done}
 use Rattle.crash_site.specs.Disk.{Disk, disk_after}
-use Rattle.crash_site.specs.SiteState.{SiteState, Keeps}
+use Rattle.crash_site.specs.SiteState.{SiteState}
+use Rattle.crash_site.specs.SiteChanges.{Keeps}
 use Rattle.save_resume.specs.SaveStops.{disk_of}
 use Rattle.save_resume.specs.Saving.{save_calls}
 use Rattle.transfer_token.specs.declared.token.Request.{Request}

@@ -7,7 +7,8 @@ use Rattle.crash_site.specs.Files.{File, bytes_of}
 use Rattle.crash_site.specs.Calls.{Entry, Done}
 use Rattle.crash_site.specs.Disk.{Disk, disk_after}
 use Rattle.crash_site.specs.Left.{Leaves, until, MayBeLeft}
-use Rattle.crash_site.specs.SiteState.{SiteState, Keeps}
+use Rattle.crash_site.specs.SiteState.{SiteState}
+use Rattle.crash_site.specs.SiteChanges.{Keeps}
 use Rattle.save_resume.specs.SaveStops.{disk_of}
 use Rattle.transfer_token.specs.declared.token.Request.{Request}
 use Rattle.rescue_rules.specs.declared.stop.Stop.{Stop}

@@ -3,7 +3,7 @@ use Rattle.std.specs.Prelude.{◌≡◌, ℕ, Bool, true, false, IsTrue, List, �
 use Rattle.faulty_source.specs.Journal.{Reading}
 use Rattle.crash_site.specs.Files.{File}
 use Rattle.crash_site.specs.Disk.{Disk}
-use Rattle.crash_site.specs.SiteState.{Keeps}
+use Rattle.crash_site.specs.SiteChanges.{Keeps}
 use Rattle.save_resume.specs.SaveStops.{disk_of}
 use Rattle.transfer_token.specs.declared.token.Request.{Request}
 use Rattle.rescue_rules.specs.declared.stop.Stop.{Stop}

@@ -4,10 +4,12 @@ use Rattle.std.proofs.Common.{◌≡◌, ℕ, ◌+◌, Bool, true, false, if◌t
 use Rattle.std.specs.Str.{bytes_eq}
 use Rattle.crash_site.specs.declared.site.SiteCall.{SiteCall}
 use Rattle.crash_site.specs.Files.{File}
-use Rattle.crash_site.specs.Calls.{Call, Entry, Done, Failed, Made, BrokeAt, map_settle}
+use Rattle.crash_site.specs.Calls.{Call, Entry, Done, Failed, map_settle}
+use Rattle.crash_site.specs.CallsMade.{Made, BrokeAt}
 use Rattle.crash_site.specs.Folder.{Folder, after}
 use Rattle.crash_site.specs.Disk.{Showing, Disk, only, at_rest, under_some, entered, disk_after}
-use Rattle.crash_site.specs.SiteState.{SiteState, Keeps, Makes, files_in}
+use Rattle.crash_site.specs.SiteState.{SiteState, files_in}
+use Rattle.crash_site.specs.SiteChanges.{Keeps, Makes}
 use Rattle.crash_site.proofs.DiskLemmas.{run-append}
 use Rattle.crash_site.proofs.LawLemmas.{sure_synced, after-append}
 use Rattle.save_resume.specs.MapNames.{MapNames}

@@ -2,7 +2,8 @@
 use Rattle.std.proofs.Common.{◌≡◌, List, [], ◌∷◌, ◌++◌, map, sym, ap, ◌∙◌, ⊎_elim, inl, inr, append_assoc, append-nil}
 use Rattle.std.proofs.lemmas.List.{map-append}
 use Rattle.crash_site.specs.declared.site.SiteCall.{SiteCall}
-use Rattle.crash_site.specs.Calls.{Call, Entry, Done, Made, BrokeAt}
+use Rattle.crash_site.specs.Calls.{Call, Entry, Done}
+use Rattle.crash_site.specs.CallsMade.{Made, BrokeAt}
 use Rattle.save_resume.specs.Saving.{IsNameIn}
 
 -- calls that were made, and then others

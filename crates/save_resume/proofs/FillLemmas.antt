@@ -3,8 +3,10 @@ use Rattle.std.proofs.Common.{◌≡◌, ℕ, Bool, true, IsTrue, List, [], ◌�
 use Rattle.std.proofs.lemmas.List.{map-append}
 use Rattle.fault_count.specs.Counts.{raised}
 use Rattle.crash_site.specs.declared.site.SiteCall.TheVariants.{DraftAppend}
-use Rattle.crash_site.specs.Calls.{Call, Entry, Done, Made, BrokeAt, image_sync, draft_begin, draft_append}
-use Rattle.crash_site.specs.SiteState.{SiteState, Keeps, Answers}
+use Rattle.crash_site.specs.Calls.{Call, Entry, Done, image_sync, draft_begin, draft_append}
+use Rattle.crash_site.specs.CallsMade.{Made, BrokeAt}
+use Rattle.crash_site.specs.SiteState.{SiteState}
+use Rattle.crash_site.specs.SiteChanges.{Keeps, Answers}
 use Rattle.mapfile_text.specs.Pieces.{pieces_of}
 use Rattle.save_resume.specs.Saving.{IsNameIn, fill_calls, EndsBegun, EndsFilled, Saves}
 use Rattle.save_resume.proofs.CallLemmas.{made_more, broke_back, named_back}

@@ -10,8 +10,10 @@ use Rattle.mapfile_text.specs.MapText.{text_limit}
 use Rattle.crash_site.specs.declared.site.MapRead.{MapRead}
 use Rattle.crash_site.specs.declared.site.MapRead.TheVariants.{Bytes, Absent}
 use Rattle.crash_site.specs.declared.site.SiteCall.TheVariants.{MapRead as ReadCall}
-use Rattle.crash_site.specs.Files.{File, bytes_of, IsRead}
-use Rattle.crash_site.specs.Calls.{Entry, Done, Made, Lost, map_read}
+use Rattle.crash_site.specs.Files.{File, bytes_of}
+use Rattle.crash_site.specs.FileAnswers.{IsRead}
+use Rattle.crash_site.specs.Calls.{Entry, Done, map_read}
+use Rattle.crash_site.specs.CallsMade.{Made, Lost}
 use Rattle.crash_site.specs.Folder.{Folder, after}
 use Rattle.save_resume.specs.declared.load.ResumeFault.{ResumeFault}
 use Rattle.save_resume.specs.declared.load.ResumeFault.TheVariants.{Site, Map as Refused, NoMemory}

@@ -8,9 +8,11 @@ use Rattle.mapfile_text.specs.declared.read.MapError.TheVariants.{NoStatusLine, 
 use Rattle.crash_site.specs.declared.site.SiteCall.{SiteCall}
 use Rattle.crash_site.specs.declared.site.SiteCall.TheVariants.{MapRead}
 use Rattle.crash_site.specs.Files.{File}
-use Rattle.crash_site.specs.Calls.{Entry, Made}
+use Rattle.crash_site.specs.Calls.{Entry}
+use Rattle.crash_site.specs.CallsMade.{Made}
 use Rattle.crash_site.specs.Disk.{at_rest, disk_after}
-use Rattle.crash_site.specs.SiteState.{SiteState, Keeps, Makes, files_in}
+use Rattle.crash_site.specs.SiteState.{SiteState, files_in}
+use Rattle.crash_site.specs.SiteChanges.{Keeps, Makes}
 use Rattle.save_resume.specs.declared.load.ResumeFault.{ResumeFault}
 use Rattle.save_resume.specs.declared.load.ResumeFault.TheVariants.{Site, Map as Refused, NoMemory}
 use Rattle.save_resume.specs.MapNames.{MapNames}

@@ -11,7 +11,8 @@ use Rattle.mapfile_text.specs.Checking.{IsRefused}
 use Rattle.crash_site.specs.declared.site.SiteCall.{SiteCall}
 use Rattle.crash_site.specs.declared.site.SiteCall.TheVariants.{ImageSync, MapRead, MapSettle}
 use Rattle.crash_site.specs.Files.{File}
-use Rattle.crash_site.specs.Calls.{Call, Entry, Made, BrokeAt, image_sync, map_settle}
+use Rattle.crash_site.specs.Calls.{Call, Entry, image_sync, map_settle}
+use Rattle.crash_site.specs.CallsMade.{Made, BrokeAt}
 use Rattle.crash_site.specs.Disk.{Disk, only}
 use Rattle.crash_site.specs.SiteState.{SiteState}
 use Rattle.save_resume.specs.declared.load.ResumeFault.{ResumeFault}

@@ -2,8 +2,10 @@
 use Rattle.std.specs.Prelude.{◌≡◌, ◌⊎◌, ℕ, Bool, true, false, List, [], ◌∷◌, ◌++◌, map, Result, OnOk, IfErr}
 use Rattle.crash_site.specs.declared.site.SiteCall.{SiteCall}
 use Rattle.crash_site.specs.declared.site.SiteCall.TheVariants.{ImageOpen, ImageRead, ImageWrite, ImageSync, MapRead, DraftBegin, DraftAppend, DraftSync, DraftPublish, MapSettle, MapRemove}
-use Rattle.crash_site.specs.Calls.{Call, call_name, Entry, Done, image_sync, draft_begin, draft_append, draft_sync, draft_publish, map_settle}
-use Rattle.crash_site.specs.SiteState.{SiteState, Keeps, Makes, Breaks}
+use Rattle.crash_site.specs.Calls.{Call, Entry, Done, image_sync, draft_begin, draft_append, draft_sync, draft_publish, map_settle}
+use Rattle.crash_site.specs.CallsMade.{call_name}
+use Rattle.crash_site.specs.SiteState.{SiteState}
+use Rattle.crash_site.specs.SiteChanges.{Keeps, Makes, Breaks}
 use Rattle.mapfile_text.specs.Pieces.{pieces_of}
 use Rattle.save_resume.specs.declared.draft.SaveFault.{SaveFault}
 use Rattle.save_resume.specs.MapNames.{MapNames}

@@ -4,7 +4,8 @@ ghost use Rattle.std.specs.Prelude.{◌≡◌, ◌⊎◌, ◌+◌, ◌<◌, ◌�
 ghost use Rattle.mapfile_text.specs.MapText.{IsMapText};
 ghost use Rattle.mapfile_text.specs.declared.read.MapError.{MapError as Error};
 ghost use Rattle.mapfile_text.specs.declared.read.MapError.TheVariants.{TooLong as LongText};
-ghost use Rattle.crash_site.specs.SiteState.{files_in, Stays};
+ghost use Rattle.crash_site.specs.SiteState.{files_in};
+ghost use Rattle.crash_site.specs.SiteChanges.{Stays};
 ghost use Rattle.save_resume.specs.declared.load.ResumeFault.TheVariants.{Map as Refused, NoMemory as OutOfMemory};
 ghost use Rattle.save_resume.specs.Resuming.{LoadEnded, LoadAnswers, CountsFaults, IsOfFile, ReadsAs, IsWithinLimits};
 ghost use Rattle.save_resume.specs.Text.{IsTextOf, TextStop, NoMapIn};

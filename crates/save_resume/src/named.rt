@@ -1,6 +1,7 @@
 //! Loads a map that an option names.
 ghost use Rattle.std.specs.Prelude.{◌≡◌, IsTrue, IfOk};
-ghost use Rattle.crash_site.specs.SiteState.{files_in, Stays};
+ghost use Rattle.crash_site.specs.SiteState.{files_in};
+ghost use Rattle.crash_site.specs.SiteChanges.{Stays};
 ghost use Rattle.save_resume.specs.Resuming.{IsOfFile, IsWithinLimits};
 ghost use Rattle.save_resume.specs.Named.{map_mode, named_of, LoadsNamed, IsNamedAs, NamedCounts};
 

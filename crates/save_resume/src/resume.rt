@@ -1,7 +1,8 @@
 //! Resumes from a mapfile, behind a barrier.
 ghost use Rattle.std.specs.Prelude.{◌≡◌, ◌≢◌, IsTrue, OnOk, IfErr};
 ghost use Rattle.mapfile_text.specs.declared.read.MapError.TheVariants.{NoStatusLine as Nothing};
-ghost use Rattle.crash_site.specs.SiteState.{files_in, Makes, Breaks, Stays};
+ghost use Rattle.crash_site.specs.SiteState.{files_in};
+ghost use Rattle.crash_site.specs.SiteChanges.{Makes, Breaks, Stays};
 ghost use Rattle.save_resume.specs.declared.load.ResumeFault.TheVariants.{Map as Refused};
 ghost use Rattle.save_resume.specs.Resuming.{barrier_calls, IsResumeCall, resumed_of, IsOfFile, ResumesAs, Resumes, CountsFaults, SettlesAll, ResumedWithinLimits};
 

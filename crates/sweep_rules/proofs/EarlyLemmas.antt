@@ -8,7 +8,8 @@ use Rattle.mapfile_text.specs.declared.state.Current.TheVariants.{Filling}
 use Rattle.crash_site.specs.declared.site.MapRead.{MapRead}
 use Rattle.crash_site.specs.declared.site.SiteCall.TheVariants.{MapRead as MapReadName}
 use Rattle.crash_site.specs.Files.{File, bytes_of}
-use Rattle.crash_site.specs.Calls.{Call, Entry, Done, Failed, BrokeAt, image_open, image_sync, map_read, map_settle}
+use Rattle.crash_site.specs.Calls.{Call, Entry, Done, Failed, image_open, image_sync, map_read, map_settle}
+use Rattle.crash_site.specs.CallsMade.{BrokeAt}
 use Rattle.crash_site.specs.Disk.{Showing, Disk, with_opened, entered, disk_after}
 use Rattle.crash_site.specs.Left.{MayShow, until, MayBeLeft}
 use Rattle.crash_site.proofs.LawLemmas.{at_other}
@@ -17,8 +18,8 @@ use Rattle.rescue_rules.specs.Setting.{Setting}
 use Rattle.rescue_rules.specs.Start.{Stands}
 use Rattle.rescue_rules.specs.Snapshots.{Snapshot}
 use Rattle.rescue_rules.specs.Laws.{AreThreeNames}
-use Rattle.rescue_rules.specs.Stops.{Behind, files_before, is_publish, has_barrier, IsSave}
-use Rattle.rescue_rules.specs.StopsBy.{LeftBy, IsKeptBy, StopsBy}
+use Rattle.rescue_rules.specs.Stops.{Behind, files_before, has_barrier, LeftBy}
+use Rattle.rescue_rules.specs.StopsBy.{is_publish, IsSave, IsKeptBy, StopsBy}
 use Rattle.rescue_rules.proofs.CutLemmas.{Cut, cut_all, cut_more, tally, tally_is, Each, at_stop}
 use Rattle.rescue_rules.proofs.BarrierLemmas.{Opens}
 use Rattle.rescue_rules.proofs.MapfileLemmas.{opening_by}

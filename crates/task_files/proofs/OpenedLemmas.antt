@@ -5,11 +5,14 @@ use Rattle.std.proofs.lemmas.Bool.{false_from_ne_true}
 use Rattle.std.proofs.lemmas.List.Elements.{All-nil}
 use Rattle.std.proofs.lemmas.Slice.Eq.{bytes_eq-Decides}
 use Rattle.block_list.specs.declared.status.Status.{Status}
-use Rattle.faulty_source.specs.SourceState.{SourceState, Stays as SourceStays, AnswersOpen, PlansOpen}
+use Rattle.faulty_source.specs.SourceState.{SourceState}
+use Rattle.faulty_source.specs.SourceChanges.{Stays as SourceStays, AnswersOpen, PlansOpen}
 use Rattle.crash_site.specs.Files.{File}
 use Rattle.crash_site.specs.Folder.{Folder, opened, after}
-use Rattle.crash_site.specs.Calls.{Entry, Done as Returned, Made, image_open}
-use Rattle.crash_site.specs.SiteState.{SiteState, files_in, Keeps}
+use Rattle.crash_site.specs.Calls.{Entry, Done as Returned, image_open}
+use Rattle.crash_site.specs.CallsMade.{Made}
+use Rattle.crash_site.specs.SiteState.{SiteState, files_in}
+use Rattle.crash_site.specs.SiteChanges.{Keeps}
 use Rattle.crash_site.proofs.LawLemmas.{after-append}
 use Rattle.save_resume.specs.MapNames.{MapNames, names_of}
 use Rattle.rescue_console.specs.ClockState.{ClockState}

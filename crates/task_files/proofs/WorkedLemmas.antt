@@ -8,8 +8,10 @@ use Rattle.faulty_source.specs.SourceState.{SourceState}
 use Rattle.crash_site.specs.declared.site.SiteCall.TheVariants.{MapRead}
 use Rattle.crash_site.specs.Files.{File}
 use Rattle.crash_site.specs.Folder.{Folder, after}
-use Rattle.crash_site.specs.Calls.{Call, Entry, Done as Returned, BrokeAt}
-use Rattle.crash_site.specs.SiteState.{SiteState, files_in, Stays}
+use Rattle.crash_site.specs.Calls.{Call, Entry, Done as Returned}
+use Rattle.crash_site.specs.CallsMade.{BrokeAt}
+use Rattle.crash_site.specs.SiteState.{SiteState, files_in}
+use Rattle.crash_site.specs.SiteChanges.{Stays}
 use Rattle.crash_site.proofs.LawLemmas.{after-append}
 use Rattle.save_resume.specs.Named.{map_mode}
 use Rattle.rescue_console.specs.ClockState.{ClockState}

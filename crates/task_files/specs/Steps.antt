@@ -10,7 +10,8 @@ use Rattle.mapfile_text.specs.declared.read.MapError.TheVariants.{NoStatusLine, 
 use Rattle.crash_site.specs.declared.site.SiteCall.{SiteCall}
 use Rattle.crash_site.specs.declared.site.SiteCall.TheVariants.{ImageOpen, MapRead}
 use Rattle.crash_site.specs.Files.{File}
-use Rattle.crash_site.specs.Calls.{Call, Done as Returned, BrokeAt}
+use Rattle.crash_site.specs.Calls.{Call, Done as Returned}
+use Rattle.crash_site.specs.CallsMade.{BrokeAt}
 use Rattle.crash_site.specs.SiteState.{SiteState, files_in}
 use Rattle.save_resume.specs.declared.named.NamedFault.{NamedFault}
 use Rattle.save_resume.specs.declared.named.NamedFault.TheVariants.{ReadFailed, Absent, Refused as NotRead, NoMemory as Starving}
@@ -27,7 +28,8 @@ use Rattle.rescue_core.specs.Across.{Across}
 use Rattle.work_steps.specs.Work.{Deeds, Works}
 use Rattle.work_steps.specs.Parts.{DidPart}
 use Rattle.rescue_command.specs.declared.options.Options.{Options}
-use Rattle.rescue_command.specs.Command.{Command, AreInLimits, told_by}
+use Rattle.rescue_command.specs.Command.{Command}
+use Rattle.rescue_command.specs.Asking.{AreInLimits, told_by}
 use Rattle.task_files.specs.declared.load.LoadedMap.{LoadedMap}
 use Rattle.task_files.specs.declared.checked.CheckedCommand.{CheckedCommand}
 use Rattle.task_files.specs.declared.ending.Which.{Which}

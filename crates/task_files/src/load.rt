@@ -1,7 +1,7 @@
 //! What a rescue begins with: the map that its mapfile stands for.
 ghost use Rattle.std.specs.Prelude.{◌≡◌, ◌<◌, ◌≤◌, ◌^◌, Some, length, OnOk, IfOk, IfErr};
 ghost use Rattle.block_list.specs.Map.{extended};
-ghost use Rattle.crash_site.specs.SiteState.{Stays};
+ghost use Rattle.crash_site.specs.SiteChanges.{Stays};
 ghost use Rattle.rescue_rules.specs.Start.{IsFresh};
 ghost use Rattle.task_files.specs.declared.ending.Ending.TheVariants.{NoMemory as OutOfMemory};
 ghost use Rattle.task_files.specs.Steps.{SuitsInput, LoadCause, Loads, mapfile_by};

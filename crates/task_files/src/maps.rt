@@ -1,7 +1,7 @@
 //! The maps that options name, and the positions that they leave to be rescued.
 ghost use Rattle.std.specs.Prelude.{◌≡◌, ◌<◌, ◌^◌, ℕ, Option, OnOk, IfOk, IfErr, option_map};
 ghost use Rattle.block_list.specs.Tiled.{Tiled};
-ghost use Rattle.crash_site.specs.SiteState.{Stays};
+ghost use Rattle.crash_site.specs.SiteChanges.{Stays};
 ghost use Rattle.rescue_domain.specs.Parts.{covers};
 ghost use Rattle.task_files.specs.Asked.{domain_asked};
 ghost use Rattle.save_resume.specs.Named.{map_mode};

@@ -1,5 +1,5 @@
 ghost use Rattle.std.specs.Prelude.{◌≡◌, true, OnOk, IfErr};
-ghost use Rattle.crash_site.specs.SiteState.{Keeps};
+ghost use Rattle.crash_site.specs.SiteChanges.{Keeps};
 ghost use Rattle.task_files.specs.Steps.{OpensOutput, OutputCause};
 
 use crate::ending::Ending;

@@ -1,6 +1,6 @@
 //! Whether each position of the domain has a place in the output.
 ghost use Rattle.std.specs.Prelude.{◌≡◌, ◌<◌, ◌^◌, true, false};
-ghost use Rattle.rescue_command.specs.Command.{AreInLimits};
+ghost use Rattle.rescue_command.specs.Asking.{AreInLimits};
 ghost use Rattle.task_files.specs.Asked.{output_from, ArePlacedBy, IsBeyond};
 
 use rescue_command::options::Options;

@@ -2,7 +2,7 @@
 ghost use Rattle.std.specs.Prelude.{◌≡◌, ℕ, ◌<◌, ◌≤◌, List, Option, IfOk, option_map};
 ghost use Rattle.rescue_domain.specs.Parts.{covers};
 ghost use Rattle.rescue_rules.specs.Lines.{opening_lines};
-ghost use Rattle.rescue_command.specs.Command.{AreInLimits, told_by};
+ghost use Rattle.rescue_command.specs.Asking.{AreInLimits, told_by};
 ghost use Rattle.task_files.specs.Asked.{Maps, domain_asked, setting_of};
 ghost use Rattle.task_files.specs.Settings.{lines_in, settings_by};
 

@@ -7,11 +7,14 @@ use Rattle.std.proofs.lemmas.List.Elements.{All-nil, All-cons, All-append}
 use Rattle.std.proofs.lemmas.Bool.{false_from_ne_true}
 use Rattle.std.proofs.Math.Bool.{and-false}
 use Rattle.block_list.specs.declared.status.Status.{Status}
-use Rattle.faulty_source.specs.SourceState.{SourceState, Stays as SourceStays}
+use Rattle.faulty_source.specs.SourceState.{SourceState}
+use Rattle.faulty_source.specs.SourceChanges.{Stays as SourceStays}
 use Rattle.crash_site.specs.declared.site.SiteCall.{SiteCall}
 use Rattle.crash_site.specs.declared.site.SiteCall.TheVariants.{ImageWrite}
-use Rattle.crash_site.specs.Calls.{Call, Entry, Done as Returned, Made, BrokeAt}
-use Rattle.crash_site.specs.SiteState.{SiteState, Breaks, Makes}
+use Rattle.crash_site.specs.Calls.{Call, Entry, Done as Returned}
+use Rattle.crash_site.specs.CallsMade.{Made, BrokeAt}
+use Rattle.crash_site.specs.SiteState.{SiteState}
+use Rattle.crash_site.specs.SiteChanges.{Breaks, Makes}
 use Rattle.mapfile_text.specs.declared.state.Current.TheVariants.{Finished}
 use Rattle.mapfile_text.specs.declared.state.MapState.{MapState}
 use Rattle.save_resume.specs.Saving.{save_calls, IsNameIn}

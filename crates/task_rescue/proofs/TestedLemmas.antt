@@ -3,8 +3,10 @@ use Rattle.std.proofs.Common.{◌≡◌, ℕ, Bool, IsTrue, List, ◌++◌, map,
 use Rattle.std.proofs.lemmas.List.{map-append, append_cancel_left}
 use Rattle.block_list.specs.declared.status.Status.{Status}
 use Rattle.mapfile_text.specs.declared.state.MapState.{MapState}
-use Rattle.faulty_source.specs.Journal.{Reading, JournalGains}
-use Rattle.faulty_source.specs.SourceState.{SourceState, Keeps as SourceKeeps}
+use Rattle.faulty_source.specs.Journal.{Reading}
+use Rattle.faulty_source.specs.JournalGains.{JournalGains}
+use Rattle.faulty_source.specs.SourceState.{SourceState}
+use Rattle.faulty_source.specs.SourceChanges.{Keeps as SourceKeeps}
 use Rattle.crash_site.specs.SiteState.{SiteState}
 use Rattle.rescue_console.specs.ClockState.{ClockState}
 use Rattle.rescue_console.specs.ConsoleState.{ConsoleState}

@@ -3,7 +3,8 @@ use Rattle.std.proofs.Common.{◌≡◌, ℕ, ◌+◌, ◌<◌, ◌≤◌, ◌^�
 use Rattle.std.specs.List.{slice_range}
 use Rattle.std.proofs.lemmas.List.Elements.{All-nil, All-cons, All-append}
 use Rattle.faulty_source.specs.Journal.{Reading}
-use Rattle.faulty_source.specs.SourceState.{SourceState, Stays as SourceStays, Reads}
+use Rattle.faulty_source.specs.SourceState.{SourceState}
+use Rattle.faulty_source.specs.SourceChanges.{Stays as SourceStays, Reads}
 use Rattle.faulty_source.proofs.Keeping.{reads_more}
 use Rattle.crash_site.specs.Calls.{Call}
 use Rattle.crash_site.specs.SiteState.{SiteState}

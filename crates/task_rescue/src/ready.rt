@@ -5,7 +5,7 @@ ghost use Rattle.block_list.specs.declared.status.Status.{Status};
 ghost use Rattle.mapfile_text.specs.declared.state.MapState.{MapState as State};
 ghost use Rattle.rescue_rules.specs.Beginning.{goes_on_from};
 ghost use Rattle.rescue_rules.specs.Snapshots.{heading_at};
-ghost use Rattle.rescue_command.specs.Command.{AreInLimits, told_by};
+ghost use Rattle.rescue_command.specs.Asking.{AreInLimits, told_by};
 ghost use Rattle.task_files.specs.Asked.{Maps, ArePlacedBy};
 ghost use Rattle.task_files.specs.Steps.{maps_read, SuitsInput};
 ghost use Rattle.task_rescue.specs.Running.{IsReady, IsRunOver, MayBegin};

@@ -1,7 +1,7 @@
 //! The run of a rescue: its phases, and behind them the last save and the last line.
 ghost use Rattle.std.specs.Prelude.{◌≡◌, IfOk};
-ghost use Rattle.faulty_source.specs.SourceState.{Stays as SourceStays};
-ghost use Rattle.crash_site.specs.SiteState.{Keeps as SiteKeeps};
+ghost use Rattle.faulty_source.specs.SourceChanges.{Stays as SourceStays};
+ghost use Rattle.crash_site.specs.SiteChanges.{Keeps as SiteKeeps};
 ghost use Rattle.rescue_console.specs.ClockState.{Keeps as ClockKeeps};
 ghost use Rattle.rescue_domain.specs.Parts.{covers};
 ghost use Rattle.rescue_rules.specs.declared.phase.Phase.TheVariants.{Retrying as LastPhase};

@@ -20,7 +20,7 @@ use Rattle.rescue_sample.specs.Sample.{sample_size}
 use Rattle.rescue_sample.specs.Line.{IsSampleLine}
 use Rattle.work_steps.specs.Work.{Deeds, WorkStep, Take, Works}
 use Rattle.work_steps.specs.Parts.{only_calls}
-use Rattle.rescue_command.specs.Command.{sample_command}
+use Rattle.rescue_command.specs.Asking.{sample_command}
 use Rattle.task_files.specs.declared.ending.Ending.{Ending}
 use Rattle.task_files.specs.declared.ending.Ending.TheVariants.{Done, NoMemory}
 use Rattle.task_files.specs.Asked.{no_maps, setting_of}

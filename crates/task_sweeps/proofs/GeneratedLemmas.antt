@@ -6,7 +6,8 @@ use Rattle.faulty_source.specs.SourceState.{SourceState}
 use Rattle.crash_site.specs.Files.{File, bytes_of, file_at}
 use Rattle.crash_site.specs.Folder.{Folder, opened, after}
 use Rattle.crash_site.specs.Calls.{Entry, Done as Returned, image_open}
-use Rattle.crash_site.specs.SiteState.{SiteState, Keeps, Stays}
+use Rattle.crash_site.specs.SiteState.{SiteState}
+use Rattle.crash_site.specs.SiteChanges.{Keeps, Stays}
 use Rattle.crash_site.proofs.LawLemmas.{after-append}
 use Rattle.save_resume.specs.MapNames.{MapNames, names_of}
 use Rattle.rescue_console.specs.ClockState.{ClockState}

@@ -1,7 +1,8 @@
 -- A sweep needs neither the names of its input and its output, nor the input's length, nor whether more is said.
 use Rattle.std.proofs.Common.{◌≡◌, ℕ, ◌+◌, List, [], ◌∷◌, ◌++◌, map, Option, Some, None, is_none, refl, ap, ◌∙◌, subst}
 use Rattle.std.specs.List.{flat_map}
-use Rattle.crash_site.specs.Calls.{Call, Entry, Done, BrokeAt, call_name}
+use Rattle.crash_site.specs.Calls.{Call, Entry, Done}
+use Rattle.crash_site.specs.CallsMade.{BrokeAt, call_name}
 use Rattle.rescue_rules.specs.declared.stop.Stop.{Stop}
 use Rattle.rescue_rules.specs.declared.stop.Stop.TheVariants.{SourceLost, Site, LimitMet, NoMemory}
 use Rattle.rescue_rules.specs.declared.stop.RunEnd.{RunEnd}

@@ -5,7 +5,8 @@ use Rattle.block_list.specs.Tiled.{Tiled}
 use Rattle.faulty_source.specs.SourceState.{SourceState}
 use Rattle.crash_site.specs.Files.{File}
 use Rattle.crash_site.specs.Calls.{Entry}
-use Rattle.crash_site.specs.SiteState.{SiteState, files_in, Stays}
+use Rattle.crash_site.specs.SiteState.{SiteState, files_in}
+use Rattle.crash_site.specs.SiteChanges.{Stays}
 use Rattle.rescue_console.specs.ClockState.{ClockState}
 use Rattle.rescue_console.specs.ConsoleState.{ConsoleState}
 use Rattle.rescue_rules.specs.Work.{IsNothing}

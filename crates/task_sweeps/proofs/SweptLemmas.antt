@@ -9,7 +9,8 @@ use Rattle.mapfile_text.specs.declared.state.MapState.{MapState}
 use Rattle.mapfile_text.specs.declared.heading.Program.TheVariants.{Ddrescue}
 use Rattle.mapfile_text.specs.HeadingLines.{HeadingLines}
 use Rattle.crash_site.specs.declared.site.SiteCall.{SiteCall}
-use Rattle.crash_site.specs.Calls.{Call, Entry, Done as Returned, BrokeAt, call_name}
+use Rattle.crash_site.specs.Calls.{Call, Entry, Done as Returned}
+use Rattle.crash_site.specs.CallsMade.{BrokeAt, call_name}
 use Rattle.crash_site.specs.SiteState.{SiteState}
 use Rattle.save_resume.specs.MapNames.{MapNames}
 use Rattle.rescue_console.specs.ClockState.{ClockState, Reads as ReadsClock}

@@ -1,11 +1,11 @@
 //! Fill mode: a pattern is written to the outfile where the mapfile has some statuses.
 ghost use Rattle.std.specs.Prelude.{◌≡◌, ◌<◌, true, false, is_some, length, Option};
 ghost use Rattle.block_list.specs.Tiled.{Tiled};
-ghost use Rattle.faulty_source.specs.SourceState.{Keeps as SourceKeeps};
-ghost use Rattle.crash_site.specs.SiteState.{Keeps as SiteKeeps};
+ghost use Rattle.faulty_source.specs.SourceChanges.{Keeps as SourceKeeps};
+ghost use Rattle.crash_site.specs.SiteChanges.{Keeps as SiteKeeps};
 ghost use Rattle.rescue_console.specs.ClockState.{Keeps as ClockKeeps};
 ghost use Rattle.rescue_command.specs.Options.{cluster_of};
-ghost use Rattle.rescue_command.specs.Command.{told_by};
+ghost use Rattle.rescue_command.specs.Asking.{told_by};
 ghost use Rattle.sweep_rules.specs.Sweep.{filler};
 ghost use Rattle.task_files.specs.Asked.{ArePlacedBy};
 ghost use Rattle.task_files.specs.Answers.{Causes, drafting_left};

@@ -1,6 +1,6 @@
 //! The pattern of fill mode: the infile's front, over and over.
 ghost use Rattle.std.specs.Prelude.{◌≡◌, ℕ, ◌<◌, ◌≤◌, ◌^◌, ◌%◌, true, length, slice_get};
-ghost use Rattle.faulty_source.specs.SourceState.{Stays};
+ghost use Rattle.faulty_source.specs.SourceChanges.{Stays};
 ghost use Rattle.task_sweeps.specs.Pattern.{PatternCause, ReadsPattern, TakesPattern, taken_as};
 
 use faulty_source::source::Source;

@@ -3,7 +3,7 @@ ghost use Rattle.std.specs.Prelude.{ℕ, ◌<◌, ◌≤◌, ◌^◌, List, Opti
 ghost use Rattle.block_list.specs.Tiled.{Tiled};
 ghost use Rattle.block_list.specs.declared.status.Status.{Status};
 ghost use Rattle.mapfile_text.specs.declared.state.MapState.{MapState as State};
-ghost use Rattle.rescue_command.specs.Command.{AreInLimits, told_by};
+ghost use Rattle.rescue_command.specs.Asking.{AreInLimits, told_by};
 ghost use Rattle.task_files.specs.Asked.{Maps, ArePlacedBy};
 ghost use Rattle.task_files.specs.Steps.{maps_read};
 ghost use Rattle.task_sweeps.specs.SweepSteps.{IsJobOver, IsSweepReady};

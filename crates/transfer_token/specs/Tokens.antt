@@ -6,7 +6,8 @@ use Rattle.block_list.specs.declared.status.Status.TheVariants.{NonTried, NonTri
 use Rattle.faulty_source.specs.declared.source.Got.{Got}
 use Rattle.faulty_source.specs.Got.{count_of, is_end}
 use Rattle.faulty_source.specs.Journal.{Reading, is_whole, is_failed, kept}
-use Rattle.faulty_source.specs.SourceState.{SourceState, Reads}
+use Rattle.faulty_source.specs.SourceState.{SourceState}
+use Rattle.faulty_source.specs.SourceChanges.{Reads}
 use Rattle.transfer_token.specs.declared.token.Request.{Request}
 use Rattle.transfer_token.specs.declared.fetch.Fetched.{Fetched}
 use Rattle.transfer_token.specs.declared.fetch.Fetched.TheVariants.{Whole, Part, Nothing, Ended, Empty}

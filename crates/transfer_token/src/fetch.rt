@@ -1,6 +1,6 @@
 ghost use Rattle.std.specs.Prelude.{◌≡◌, ◌+◌, ◌<◌, ◌≤◌, ◌^◌, true, false, length, IfOk, OnErr};
 ghost use Rattle.faulty_source.specs.Got.{count_of, is_end};
-ghost use Rattle.faulty_source.specs.SourceState.{Stays, Loses};
+ghost use Rattle.faulty_source.specs.SourceChanges.{Stays, Loses};
 ghost use Rattle.faulty_source.specs.Journal.{Reading};
 ghost use Rattle.transfer_token.specs.Tokens.{Fetches, IsCut, IsEndedCut, Spans};
 

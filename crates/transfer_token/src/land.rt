@@ -1,6 +1,6 @@
 ghost use Rattle.std.specs.Prelude.{◌≡◌, ◌+◌, ◌<◌, ◌≤◌, ◌^◌, true, length, take, IfOk, IfErr};
 ghost use Rattle.crash_site.specs.Calls.{image_write};
-ghost use Rattle.crash_site.specs.SiteState.{Answers};
+ghost use Rattle.crash_site.specs.SiteChanges.{Answers};
 ghost use Rattle.transfer_token.specs.Tokens.{size_of};
 
 use crate::token::{Landed, Loaded, Unlanded};

@@ -2,7 +2,8 @@
 use Rattle.std.specs.Prelude.{◌≡◌, ℕ, true, false, List, Option}
 use Rattle.block_list.specs.declared.status.Status.{Status}
 use Rattle.mapfile_text.specs.declared.state.MapState.{MapState}
-use Rattle.faulty_source.specs.SourceState.{SourceState, Stays as SourceStays}
+use Rattle.faulty_source.specs.SourceState.{SourceState}
+use Rattle.faulty_source.specs.SourceChanges.{Stays as SourceStays}
 use Rattle.crash_site.specs.SiteState.{SiteState}
 use Rattle.rescue_console.specs.ClockState.{ClockState}
 use Rattle.rescue_console.specs.ConsoleState.{ConsoleState}

@@ -3,7 +3,8 @@ use Rattle.std.proofs.Common.{◌≡◌, List, Option, inl, inr, subst}
 use Rattle.crash_site.specs.declared.site.SiteCall.{SiteCall}
 use Rattle.crash_site.specs.declared.site.SiteCall.TheVariants.{ImageSync, MapSettle, MapRead}
 use Rattle.crash_site.specs.Files.{File}
-use Rattle.crash_site.specs.Calls.{Entry, BrokeAt}
+use Rattle.crash_site.specs.Calls.{Entry}
+use Rattle.crash_site.specs.CallsMade.{BrokeAt}
 use Rattle.save_resume.specs.MapNames.{MapNames}
 use Rattle.save_resume.specs.Saving.{IsNameIn}
 use Rattle.save_resume.specs.Resuming.{barrier_calls, BrokeInLoad, BrokeAsResumed}

@@ -5,7 +5,8 @@ use Rattle.std.proofs.lemmas.List.Elements.{All-nil, All-cons, All-head, All-tai
 use Rattle.crash_site.specs.declared.site.SiteCall.{SiteCall}
 use Rattle.crash_site.specs.declared.site.MapRead.TheVariants.{Bytes}
 use Rattle.crash_site.specs.Files.{File}
-use Rattle.crash_site.specs.Calls.{Call, Entry, Done as Returned, Failed, Lost, BrokeAt, map_read}
+use Rattle.crash_site.specs.Calls.{Call, Entry, Done as Returned, Failed, map_read}
+use Rattle.crash_site.specs.CallsMade.{Lost, BrokeAt}
 use Rattle.crash_site.specs.Folder.{Folder, after, after_entry}
 use Rattle.crash_site.proofs.LawLemmas.{after-append}
 use Rattle.save_resume.specs.Loading.{piece_size, piece_reads, BeginsLoad}

@@ -1,7 +1,8 @@
 -- Records of calls, taken apart where they grew.
 use Rattle.std.proofs.Common.{◌≡◌, Bool, true, false, IsTrue, List, [], ◌∷◌, ◌++◌, map, refl, sym, ap, ◌∙◌, inl, inr, subst, append_assoc, append-nil}
 use Rattle.crash_site.specs.declared.site.SiteCall.{SiteCall}
-use Rattle.crash_site.specs.Calls.{Call, Entry, Done, Failed, Lost, BrokeAt}
+use Rattle.crash_site.specs.Calls.{Call, Entry, Done, Failed}
+use Rattle.crash_site.specs.CallsMade.{Lost, BrokeAt}
 use Rattle.save_resume.specs.Saving.{IsNameIn}
 
 -- a record that grew, behind other calls

@@ -1,7 +1,7 @@
 ghost use Rattle.std.specs.Prelude.{◌≡◌, true, false, OnOk, IfOk, IsSome};
 ghost use Rattle.std.specs.Io.KnownBytes.{Appends};
 ghost use Rattle.real_files.specs.Ahead.{nothing_held};
-ghost use Rattle.crash_site.specs.Files.{is_absent};
+ghost use Rattle.crash_site.specs.FileAnswers.{is_absent};
 
 use crate::folder::apart::check_input;
 use crate::folder::names::{folder_for, folder_of, open_with, sync_both};

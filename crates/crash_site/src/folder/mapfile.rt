@@ -1,6 +1,6 @@
 ghost use Rattle.std.specs.Prelude.{◌≡◌, ◌⊎◌, ◌≤◌, ℕ, length, take, IfOk};
 ghost use Rattle.std.specs.Io.KnownBytes.{Consumes, IsAtEnd};
-ghost use Rattle.crash_site.specs.Files.{IsWithin};
+ghost use Rattle.crash_site.specs.FileAnswers.{IsWithin};
 
 use crate::folder::apart::Apart;
 use crate::site::MapRead;

@@ -1,7 +1,8 @@
 ghost use Rattle.std.specs.Prelude.{◌≡◌, ◌⊎◌, ℕ, ◌+◌, ◌<◌, ◌≤◌, ◌↔◌, true, false, IsTrue, List, [], ◌∷◌, ◌++◌, Some, None, Ok, IfOk, OnOk, OnErr, IsErr, Contains};
 ghost use Rattle.fault_count.specs.Counts.{raised, HasCause};
 ghost use Rattle.fault_count.specs.Plan.{no_plan, with_call, with_failing, FailsNext};
-ghost use Rattle.crash_site.specs.Calls.{Entry, Done, Failed, Lost, unanswered, call_name};
+ghost use Rattle.crash_site.specs.Calls.{Entry, Done, Failed};
+ghost use Rattle.crash_site.specs.CallsMade.{Lost, unanswered, call_name};
 ghost use Rattle.memory_site.specs.CallLog.{call_of, entries_of};
 
 use crash_site::fault::fault;

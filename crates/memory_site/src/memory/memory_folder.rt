@@ -1,7 +1,8 @@
 #![tactic(auto, using(crate::proofs::FolderLemmas::folder_lemmas))]
 
 ghost use Rattle.std.specs.Prelude.{◌≡◌, ℕ, ◌+◌, ◌-◌, min, ◌<◌, ◌≤◌, ◌^◌, true, false, IsTrue, List, length, take, slice_range, Some, None, IsSome, is_some, IfOk, OnOk, OnErr, MatchOption, if◌then◌else◌};
-ghost use Rattle.crash_site.specs.Files.{File, kind_of, is_absent, put, file_at, IsRead, written_file, IsWithin, IsImageRead};
+ghost use Rattle.crash_site.specs.Files.{File, put, file_at, written_file};
+ghost use Rattle.crash_site.specs.FileAnswers.{kind_of, is_absent, IsRead, IsWithin, IsImageRead};
 ghost use Rattle.crash_site.specs.Calls.{image_open, image_write, draft_begin, draft_append, draft_publish, map_remove};
 ghost use Rattle.crash_site.specs.Folder.{Folder, after_done, after_failed};
 ghost use Rattle.memory_site.specs.CallLog.{call_of};

@@ -1,7 +1,8 @@
 ghost use Rattle.std.specs.Prelude.{◌≡◌, ℕ, ◌+◌, ◌<◌, ◌-◌, ◌≤◌, ◌^◌, true, false, List, ◌++◌, length, slice_index_or, take, drop, replicate, slice_range, Some, None, map, IfOk, OnOk, OnErr, MatchOption};
 ghost use Rattle.std.specs.Str.{bytes_eq};
 ghost use Rattle.memory_site.specs.declared.memory.places.NamedFile.{NamedFile};
-ghost use Rattle.crash_site.specs.Files.{File, bytes_of, empty_file, kind_of, put, written, written_file};
+ghost use Rattle.crash_site.specs.Files.{File, bytes_of, empty_file, put, written, written_file};
+ghost use Rattle.crash_site.specs.FileAnswers.{kind_of};
 ghost use Rattle.memory_site.specs.Places.{file_of, files_of, name_and_file, opened_file, IsPlaceOf};
 
 use crash_site::site::ImageKind;

@@ -2,7 +2,7 @@ use Rattle.std.specs.Prelude.{⊤}
 use Rattle.std.proofs.Common.{[], ◌∷◌, take, refl, ap, subst, ◌∙◌}
 use Rattle.save_resume.proofs.FillLemmas.{keeps_more}
 use Rattle.crash_site.specs.Calls.{image_write}
-use Rattle.crash_site.specs.SiteState.{Makes}
+use Rattle.crash_site.specs.SiteChanges.{Makes}
 use Rattle.sweep_rules.specs.Sweep.{filler}
 use Rattle.fill_generate.specs.SweepState.{setting_of}
 use Rattle.fill_generate.proofs.TellLemmas.{clock_self}

@@ -1,6 +1,6 @@
 -- The records so far lead on, and nothing was lost.
 use Rattle.std.proofs.Common.{◌≡◌, ℕ, ◌-◌, List}
-use Rattle.faulty_source.specs.SourceState.{Stays}
+use Rattle.faulty_source.specs.SourceChanges.{Stays}
 use Rattle.partition_domain.specs.Steps.{LeadsToChain, IsNear}
 use Rattle.partition_domain.proofs.TurnLemmas.{Searching}
 use Rattle.partition_domain.proofs.chain.follow_chain.Given as goal

@@ -1,5 +1,5 @@
 -- The files' options are those that were given.
-use Rattle.rescue_command.specs.Command.{task_by, told_by}
+use Rattle.rescue_command.specs.Asking.{task_by, told_by}
 use Rattle.rescue_command.proofs.CommandLemmas.{named_task}
 use Rattle.rescue_command.proofs.command.name_task.Goals as goal
 

@@ -4,7 +4,7 @@ use Rattle.option_words.specs.Rows.{meaning_of_row}
 use Rattle.option_values.specs.Values.{is_given}
 use Rattle.option_values.proofs.MeaningLemmas.{operands_named, reading_refused, unread_is}
 use Rattle.rescue_command.specs.Options.{option_meanings, quiet_letter}
-use Rattle.rescue_command.specs.Command.{rescue_grammar}
+use Rattle.rescue_command.specs.Asking.{rescue_grammar}
 use Rattle.rescue_command.proofs.CommandLemmas.{reading_tasks}
 use Rattle.rescue_command.proofs.command.read_command.Goals as goal
 

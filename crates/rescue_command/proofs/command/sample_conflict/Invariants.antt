@@ -1,6 +1,6 @@
 -- No option so far is in conflict.
 use Rattle.std.proofs.Common.{◌≡◌, drop}
-use Rattle.rescue_command.specs.Command.{sample_conflict}
+use Rattle.rescue_command.specs.Asking.{sample_conflict}
 use Rattle.rescue_command.proofs.command.sample_conflict.Given as goal
 
 abbrev pub invariant-loop-item : goal.invariant-loop-item

@@ -1,5 +1,5 @@
 use Rattle.option_values.proofs.MeaningLemmas.{one_meaning}
-use Rattle.rescue_command.specs.Command.{rescue_grammar}
+use Rattle.rescue_command.specs.Asking.{rescue_grammar}
 use Rattle.rescue_command.proofs.laws.words_have_one_meaning.Goals as goal
 
 pub returns : goal.returns

@@ -1,6 +1,6 @@
 use Rattle.std.proofs.Common.{◌≡◌, ◌+◌, ◌-◌, ◌≤◌, length}
-use Rattle.faulty_source.specs.SourceState.{Stays as SourceStays}
-use Rattle.crash_site.specs.SiteState.{Stays as SiteStays}
+use Rattle.faulty_source.specs.SourceChanges.{Stays as SourceStays}
+use Rattle.crash_site.specs.SiteChanges.{Stays as SiteStays}
 use Rattle.rescue_verify.specs.Comparing.{plan_by}
 use Rattle.rescue_verify.proofs.CompareLemmas.{UpTo}
 use Rattle.rescue_verify.proofs.compare.compare.Given as goal

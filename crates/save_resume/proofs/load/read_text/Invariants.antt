@@ -1,6 +1,7 @@
 -- The text so far is the file's beginning, read in pieces.
 use Rattle.std.proofs.Common.{◌≡◌, ◌-◌, ◌≤◌, IsTrue, length}
-use Rattle.crash_site.specs.SiteState.{files_in, Stays as SiteStays}
+use Rattle.crash_site.specs.SiteState.{files_in}
+use Rattle.crash_site.specs.SiteChanges.{Stays as SiteStays}
 use Rattle.mapfile_text.specs.MapText.{text_limit}
 use Rattle.save_resume.proofs.LoadLemmas.{Pieces}
 use Rattle.save_resume.proofs.load.read_text.Given as goal

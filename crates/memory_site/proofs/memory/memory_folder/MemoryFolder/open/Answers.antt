@@ -1,6 +1,7 @@
 use Rattle.std.proofs.Common.{refl, sym, ap, ◌∙◌, cond, List, ℕ, Option, Some, None}
 use Rattle.crash_site.specs.declared.site.ImageKind.{ImageKind}
-use Rattle.crash_site.specs.Files.{File, kind_of, is_absent}
+use Rattle.crash_site.specs.Files.{File}
+use Rattle.crash_site.specs.FileAnswers.{kind_of, is_absent}
 use Rattle.memory_site.specs.Places.{opened_file}
 use Rattle.memory_site.specs.MemoryFolder.{folder_of}
 use Rattle.memory_site.proofs.PlaceLemmas.{file_stood, file_changed}

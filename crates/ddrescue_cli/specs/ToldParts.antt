@@ -1,0 +1,33 @@
+-- Parts of what is told of a call: its objects, the files before it, and what its words asked for.
+use Rattle.std.specs.Prelude.{ℕ, List, Option}
+use Rattle.option_words.specs.Words.{command_line}
+use Rattle.crash_site.specs.Files.{File}
+use Rattle.crash_site.specs.SiteState.{files_in}
+use Rattle.rescue_rules.specs.Setting.{Setting}
+use Rattle.rescue_core.specs.Across.{Across}
+use Rattle.rescue_command.specs.Command.{Command}
+use Rattle.task_files.specs.Names.{program_name}
+use Rattle.task_files.specs.Asked.{setting_of}
+use Rattle.task_files.specs.Outside.{Outside}
+use Rattle.ddrescue_cli.specs.Told.{Told}
+
+-- the same without words and answer
+abbrev pub across_of : Told → Across
+across_of t = record {
+  source = t.source;
+  source' = t.source';
+  site = t.site;
+  site' = t.site';
+  clock = t.clock;
+  clock' = t.clock';
+  console = t.console;
+  console' = t.console';
+}
+
+-- the files as they read before the call
+abbrev pub files_of : Told → List ℕ → Option File
+files_of t = files_in t.site
+
+-- what a command asks for of what was outside
+abbrev pub asked_of : Command → Told → Outside → Setting
+asked_of c t o = setting_of c (command_line program_name t.words) o.end o.maps

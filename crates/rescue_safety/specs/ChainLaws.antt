@@ -1,0 +1,49 @@
+-- What the headlines stand on, and wrong runs that break what is owed.
+use Rattle.std.specs.Prelude.{◌≡◌, ◌↔◌, ℕ, Bool, true, List, [], ◌∷◌, ◌++◌, take, Option}
+use Rattle.block_list.specs.declared.status.Status.{Status}
+use Rattle.block_list.specs.declared.status.Status.TheVariants.{Finished}
+use Rattle.block_list.specs.Map.{Has}
+use Rattle.mapfile_text.specs.declared.state.MapState.{MapState}
+use Rattle.faulty_source.specs.Journal.{Reading}
+use Rattle.crash_site.specs.Files.{File}
+use Rattle.crash_site.specs.Folder.{Folder}
+use Rattle.rescue_rules.specs.Given.{given}
+use Rattle.rescue_rules.specs.Start.{Stands}
+use Rattle.rescue_rules.specs.Stops.{Behind, files_before, has_barrier}
+use Rattle.rescue_safety.specs.Saves.{CallsFinished}
+use Rattle.rescue_safety.specs.Safe.{Target}
+use Rattle.rescue_safety.specs.Owed.{last_given, pairs_of}
+use Rattle.rescue_safety.specs.OwedFiles.{IsOwedIn, IsOwedAt}
+use Rattle.rescue_safety.specs.Runs.{Link, IsRescue, IsChain, all_given}
+use Rattle.rescue_safety.specs.Early.{IsTooEarly, IsUnwrittenMap}
+
+-- If all is owed at each stop before a chain of runs, it is after them, with what they gave.
+abbrev pub ChainOwes : Type 0
+ChainOwes = (t : Target) (from to : Behind) (links : List Link) (gave : List (ℕ × ℕ)) (old : ℕ → Bool)
+    → IsChain t from links to → IsOwedAt t gave old from → IsOwedAt t (gave ++ all_given links) old to
+
+-- If all is owed as the files read, a rescue whose barrier has returned makes it owed at each stop.
+abbrev pub BarrierMakesSure : Type 0
+BarrierMakesSure = (t : Target) (l : Link) (gave : List (ℕ × ℕ)) (old : ℕ → Bool) (r : IsRescue t l)
+    → IsChain t l.before (l ∷ []) l.next → has_barrier (take r.step.moment r.rescue.did.call.calls) ≡ true
+    → IsOwedIn t gave old (files_before l.before) → IsOwedAt t (gave ++ l.gave) old l.next
+
+-- What reads gave a position is what the last of their pairs gives it.
+abbrev pub GivenIsLast : Type 0
+GivenIsLast =
+    (sector : ℕ) (reads : List Reading) (x : ℕ) → last_given (pairs_of sector reads) x ≡ given sector reads x
+
+-- A mapfile calls finished what each map finishes that it stands for, whatever the input's length.
+abbrev pub FinishesAlike : Type 0
+FinishesAlike = (mapfile : Option File) (end : ℕ) (map : List Status) (state : Option MapState) (x : ℕ)
+    → Stands mapfile end map state → CallsFinished mapfile x ↔ Has map Finished x
+
+-- ---- wrong runs
+
+-- A map that is published before the image is synced isn't owed.
+abbrev pub EarlyMapIsNotOwed : Type 0
+EarlyMapIsNotOwed = (t : Target) × (start : Folder) × (r : Reading) × IsTooEarly t start r
+
+-- A map that claims a place that was never written isn't owed.
+abbrev pub UnwrittenMapIsNotOwed : Type 0
+UnwrittenMapIsNotOwed = (t : Target) × (start : Folder) × (r : Reading) × IsUnwrittenMap t start r
