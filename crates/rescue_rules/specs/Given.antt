@@ -1,4 +1,4 @@
--- What the source gave.
+-- The byte that reads gave a position last.
 use Rattle.std.specs.Prelude.{ℕ, ◌-◌, List, [], ◌∷◌, slice_get, Option, Some, None, if◌then◌else◌}
 use Rattle.faulty_source.specs.Journal.{Reading, covers}
 
