@@ -1,5 +1,5 @@
--- The row of each answer, from which follows what it says of the words, which count rose, its exit status and its message.
--- No row stands for several answers.
+-- The row of each answer, from which follows what it says of the words, which count rose, its exit status and its
+-- message. No row stands for several answers.
 use Rattle.std.specs.Prelude.{ℕ, Bool, List, codes}
 use Rattle.fault_texts.specs.Texts.{numbered_text, message_of}
 use Rattle.program_promise.specs.Kinds.{AtOpen, AtRead, AtPut, is_silent_kind}

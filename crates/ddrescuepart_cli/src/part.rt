@@ -82,9 +82,10 @@ fn work<S: Source, P: Console>(
     (ending, command.quiet)
 }
 
-/// Prints the map of one partition of a disk, which a rescue takes as its domain: `[-q] infile k`. Partitions 1 to 4 are
-/// the entries of the table at sector 0, an extended one included; those from 5 on are given by the chain of records in
-/// the first extended partition. Unless the map was printed, one message says why, on the console's second channel.
+/// Prints the map of one partition of a disk, which a rescue takes as its domain: `[-q] infile k`. Partitions 1 to 4
+/// are the entries of the table at sector 0, an extended one included; those from 5 on are given by the chain of
+/// records in the first extended partition. Unless the map was printed, one message says why, on the console's second
+/// channel.
 ///
 /// The refusals come in this order: words that ask for nothing; and then, record by record, one that isn't read whole,
 /// has no signature or, the first alone, is protective; a partition that isn't there; a chain that is too long. Memory

@@ -1,5 +1,5 @@
--- The row of each answer, from which follows what it says of the words, which count rose, its exit status and its message.
--- No row stands for several answers.
+-- The row of each answer, from which follows what it says of the words, which count rose, its exit status and its
+-- message. No row stands for several answers.
 use Rattle.std.specs.Prelude.{◌≡◌, ◌≢◌, ℕ, Bool, List, ◌++◌, codes}
 use Rattle.mapfile_text.specs.declared.read.MapError.TheVariants.{NoMemory as OutOfMemory}
 use Rattle.crash_site.specs.declared.site.SiteCall.TheVariants.{MapRead}
@@ -15,7 +15,8 @@ use Rattle.ddrescueplan_cli.specs.declared.ending.PlanEnding.{PlanEnding}
 use Rattle.ddrescueplan_cli.specs.declared.ending.PlanEnding.TheVariants.{Done, Usage, NoMap, MapRefused, SiteFault, ConsoleFault, NoMemory}
 use Rattle.ddrescueplan_cli.specs.Names.{program_name}
 
--- Of the calls on the files only a read of the test map may fail, and want of memory isn't told as an error of that map.
+-- Of the calls on the files only a read of the test map may fail, and want of memory isn't told as an error of that
+-- map.
 abbrev pub row_of : PlanEnding → AnswerRow
 row_of Done = asked_row 0
 row_of (Usage fault) = wrong_row fault

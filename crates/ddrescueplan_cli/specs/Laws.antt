@@ -18,8 +18,8 @@ abbrev pub HasOneVerdict : Type 0
 HasOneVerdict = (c : Command) (file : Option File) (e e' : PlanEnding) (d d' : Deeds) → PlanWorks c file e d
     → PlanWorks c file e' d' → IsVerdict e → IsVerdict e' → e ≡ e'
 
--- If the words ask for something and nothing failed, the test map is refused, or the whole plan is put unless memory runs
--- out.
+-- If the words ask for something and nothing failed, the test map is refused, or the whole plan is put unless memory
+-- runs out.
 abbrev pub IsPutUnless : Type 0
 IsPutUnless = IsNoFaultUnless plan_program
 

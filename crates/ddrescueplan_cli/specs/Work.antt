@@ -58,8 +58,8 @@ pub record PutsOver (c : Command) (file : Option File) (end : PlanEnd) (old new 
   pub read : IsReadAs file Tight test
   pub puts : PutsPlan c test.tiles.statuses end old new
 
--- What is left if memory ran out: nothing was touched; or the test map wasn't read to its end, and nothing is put; or it
--- was, and the plan is put up to there.
+-- What is left if memory ran out: nothing was touched; or the test map wasn't read to its end, and nothing is put; or
+-- it was, and the plan is put up to there.
 pub data LeavesEarly (c : Command) (file : Option File) (did : Deeds) (old new : WorldState) : Type 0 where
   Untouched : new ≡ old → LeavesEarly c file did old new
   Loading : (load : List Call) → BeginsLoad c.test_map file load → did.gain.calls ≡ map Returned load
@@ -67,8 +67,8 @@ pub data LeavesEarly (c : Command) (file : Option File) (did : Deeds) (old new :
   Planning : (load : List Call) → IsLoad c.test_map file load → did.gain.calls ≡ map Returned load
       → PutsOver c file (Lost Memory) old.console new.console → LeavesEarly c file did old new
 
--- What is left by the answer: on standard output the whole plan, or if the put of a line failed the plan up to that; and
--- after every refusal nothing.
+-- What is left by the answer: on standard output the whole plan, or if the put of a line failed the plan up to that;
+-- and after every refusal nothing.
 abbrev pub LeavesAs : Command → (file : Option File) → PlanEnding → Deeds → (old new : WorldState) → Type 0
 LeavesAs c file e did old new =
     PutsByKind (row_of e).kind (PutsOver c file Whole old.console new.console)

@@ -67,8 +67,8 @@ fn work<D: Site, P: Console>(
 /// each read on the console's first channel: where it begins, how many bytes it asks for, and how many it gets, in
 /// decimal. Unless the whole plan was put, one message says why, on the second channel.
 ///
-/// The refusals come in this order: words that ask for nothing; a test map that isn't there, or is no map. A read of the
-/// test map may fail, a line may fail to be put, and memory may run out.
+/// The refusals come in this order: words that ask for nothing; a test map that isn't there, or is no map. A read of
+/// the test map may fail, a line may fail to be put, and memory may run out.
 pub fn ddrescueplan<D: Site, P: Console>(
     alloc: Global,
     words: &Words,

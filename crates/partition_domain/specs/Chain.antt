@@ -1,5 +1,5 @@
--- The chain of records within an extended partition, which begins at a base: where its records lie, and which partitions
--- they give.
+-- The chain of records within an extended partition, which begins at a base: where its records lie, and which
+-- partitions they give.
 use Rattle.std.specs.Prelude.{ℕ, ◌+◌, Bool, List, [], ◌∷◌, ◌++◌, if◌then◌else◌}
 use Rattle.partition_domain.specs.declared.table.Partition.{Partition}
 use Rattle.partition_domain.specs.Table.{table_entry, is_used}

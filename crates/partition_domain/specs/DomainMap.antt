@@ -16,8 +16,8 @@ start_of p = p.first * sector_size
 abbrev pub size_of : Partition → ℕ
 size_of p = p.count * sector_size
 
--- what lies in the partition is finished, and all else non-tried, up to the partition's end or, if that is greater, that
--- of an input with a length
+-- what lies in the partition is finished, and all else non-tried, up to the partition's end or, if that is greater,
+-- that of an input with a length
 abbrev pub domain_map : (length : ℕ) → Partition → List Status
 domain_map length p =
     replicate (start_of p) NonTried ++ replicate (size_of p) FinishedPosition

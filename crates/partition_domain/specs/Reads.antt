@@ -98,7 +98,8 @@ RefusedBy Protective k records = IsDiskProtected records
 RefusedBy NoPartition k records = LacksPartition k records
 RefusedBy ChainTooLong k records = IsChainTooLong k records
 
--- What a search that stopped says of them: the input was lost when a further record had to be read, or they are refused.
+-- What a search that stopped says of them: the input was lost when a further record had to be read, or they are
+-- refused.
 abbrev pub StoppedBy : SearchStop → (k : ℕ) → (records : List (List ℕ)) → Type 0
 StoppedBy SourceLost k records = is_some (next records k) ≡ true
 StoppedBy (Refused refusal) k records = RefusedBy refusal k records

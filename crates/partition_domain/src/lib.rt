@@ -1,5 +1,5 @@
-//! The partitions of a disk: the records of its partition table, the search for one partition by its number, and the map
-//! of a partition, which a rescue takes as its domain.
+//! The partitions of a disk: the records of its partition table, the search for one partition by its number, and the
+//! map of a partition, which a rescue takes as its domain.
 #![tactic(auto)]
 
 pub mod chain;

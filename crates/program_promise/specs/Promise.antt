@@ -1,5 +1,5 @@
--- What a program promises of a call. What an object tells is its own: the forms in memory tell all, those for real files
--- and streams their counts and what is open.
+-- What a program promises of a call. What an object tells is its own: the forms in memory tell all, those for real
+-- files and streams their counts and what is open.
 use Rattle.std.specs.Prelude.{◌≡◌, ◌⊎◌, ⊤, ℕ, Bool, true, false, IsTrue, List}
 use Rattle.fault_count.specs.Plan.{with_call}
 use Rattle.option_values.specs.Grammar.{AskFor, AreRefusedBy, AskSilence}

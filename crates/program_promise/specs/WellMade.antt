@@ -1,4 +1,5 @@
--- What a program has to show of its rows, of its grammar and of its work, so that it keeps the promises of all programs.
+-- What a program has to show of its rows, of its grammar and of its work, so that it keeps the promises of all
+-- programs.
 use Rattle.std.specs.Prelude.{◌≡◌, ◌≢◌, ℕ, List, Err}
 use Rattle.option_words.specs.declared.reading.Item.{Item}
 use Rattle.option_words.specs.declared.fault.WordFault.{WordFault}

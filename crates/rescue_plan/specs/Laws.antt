@@ -40,8 +40,8 @@ PlanIsBegun = (c : Command) (test : List Status) (end : PlanEnd) (old new : Cons
     → IsPlan (plan_setting c.options.rescue c.length) c.length test reads → IsTrue old.tells
     → TextGoesOn (lines_of reads) old.out.text new.out.text
 
--- The reads of a rescue, as they are seen in test mode, where the input gave all that it was asked for: a run over a map
--- that wasn't tried, at whatever times.
+-- The reads of a rescue, as they are seen in test mode, where the input gave all that it was asked for: a run over a
+-- map that wasn't tried, at whatever times.
 pub record RescueReads (c : RescueCommand) (line : List ℕ) (length time : ℕ) (test : List Status)
     (raw : List Reading) (events : List Event) : Type 0 where
   pub whole : All (λ r. is_whole r ≡ true) raw

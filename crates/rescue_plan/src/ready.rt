@@ -54,8 +54,8 @@ fn blank_map(alloc: Global, length: u64) -> Result<RunMap, NoMemory>
     PagedTiles::from_plain(alloc, &tiles)
 }
 
-/// The rescue that a command asks for, at its start, with all that it wants memory for but its journal. It says nothing,
-/// has no mapfile, and begins at the time 0.
+/// The rescue that a command asks for, at its start, with all that it wants memory for but its journal. It says
+/// nothing, has no mapfile, and begins at the time 0.
 pub fn make_rescue(
     alloc: Global,
     command: &Command<'_>,
