@@ -88,7 +88,6 @@ fn what_is_written_was_not_read_ahead(rt: HostRuntime) -> Result<(), Fail> {
     site.image_write(3, b"D")?;
     assert_eq!(rt; site.image_read(2, &mut buf)?, 2);
     assert_eq!(rt; buf, *b"cD");
-    assert_eq!(rt; site.image_read(5, &mut buf)?, 1);
     fs::remove_file(&rt, &path)?;
     Ok(())
 }
