@@ -55,8 +55,8 @@ impl ExpectedReads {
         }
     }
 
-    /// Fills a buffer with the bytes at a position: with those that were read ahead, or else by one read ahead of what is
-    /// expected from there. It leaves the buffer as it was where no more than the buffer takes may be read ahead, or
+    /// Fills a buffer with the bytes at a position: with those that were read ahead, or else by one read ahead of what
+    /// is expected from there. It leaves the buffer as it was where no more than the buffer takes may be read ahead, or
     /// where that gives too few. The first read ahead that doesn't come whole is the last one. The reader stands at the
     /// position.
     pub fn give<R: Read>(&mut self, reader: &mut R, pos: u64, buf: &mut [u8]) -> bool
