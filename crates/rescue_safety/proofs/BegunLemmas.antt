@@ -80,7 +80,7 @@ cut_published cs es cut =
     omega (arith, sum, texts_published es, texts_published (map Done cs))
 
 -- a save publishes once, and writes nothing
-save_published : (names : MapNames) (text : List ℕ) → published (map Done (save_calls names text)) ≡ 1
+pub save_published : (names : MapNames) (text : List ℕ) → published (map Done (save_calls names text)) ≡ 1
 save_published names text =
     let p = saved_publish names text [] [] (λ d. refl) [] in
     let one : length (texts_in (map Done (save_calls names text) ++ [])) ≡ 1 = ap (λ (l : List (List ℕ)). length l) p in

@@ -1,5 +1,5 @@
 -- A rescue that goes on from what is owed leaves it so.
-use Rattle.std.proofs.Common.{◌≡◌, ◌≢◌, ◌⊎◌, inl, inr, ⊎_elim, ℕ, ◌+◌, ◌-◌, ◌≤◌, Bool, true, false, if◌then◌else◌, List, [], ◌++◌, take, Option, Some, None, sym, ap, subst, ◌∙◌, arith, append-nil}
+use Rattle.std.proofs.Common.{◌≡◌, ◌≢◌, ◌⊎◌, inl, inr, ⊎_elim, ℕ, Bool, true, false, if◌then◌else◌, List, [], ◌++◌, take, Option, Some, None, sym, ap, subst, ◌∙◌, arith, append-nil}
 use Rattle.std.proofs.lemmas.Bool.{cases_Bool}
 use Rattle.std.proofs.lemmas.Option.{slice_get_within}
 use Rattle.crash_site.specs.Files.{File, bytes_of}
@@ -15,12 +15,11 @@ use Rattle.rescue_safety.specs.Runs.{NextBegins, Link, IsRescue}
 use Rattle.rescue_safety.proofs.ClaimLemmas.{some_or_none, never_some}
 use Rattle.rescue_safety.proofs.LastGiven.{last_after, given_is_last}
 use Rattle.rescue_safety.proofs.OwedLemmas.{IsSame, same_back, same_in, same_at, owed_before, next_owed, reads_left}
-use Rattle.rescue_safety.proofs.SafeLemmas.{safe_anywhere, begun_asked_for}
+use Rattle.rescue_safety.proofs.SafeLemmas.{safe_anywhere}
 
 -- what a run holds once its barrier has returned is owed
-module _ (d : Run) (from : (x byte : ℕ) → gives d x ≡ Some byte → d.target.from ≤ x) (k : ℕ)
-    (files : List ℕ → Option File) (held : IsHeld d k files) (gave : List (ℕ × ℕ)) (old : ℕ → Bool)
-    (owed : IsOwedIn d.target gave old (files_before d.before)) where
+module _ (d : Run) (k : ℕ) (files : List ℕ → Option File) (held : IsHeld d k files) (gave : List (ℕ × ℕ))
+    (old : ℕ → Bool) (owed : IsOwedIn d.target gave old (files_before d.past)) where
   abbrev pairs : List (ℕ × ℕ)
   pairs = pairs_of d.sector d.reads
 
@@ -31,18 +30,18 @@ module _ (d : Run) (from : (x byte : ℕ) → gives d x ≡ Some byte → d.targ
   given_now : (x byte : ℕ) → CallsFinished (files d.target.mapfile) x → gives d x ≡ Some byte
       → HoldsLast d.target (gave ++ pairs) image x
   given_now x byte fin some =
-      let at : x + d.target.to - d.target.from + d.target.from ≡ x + d.target.to = omega (arith, from x byte some) in
+      let h = held.rescued x byte fin some in
       record {
         byte = byte;
         given = last_after gave pairs x
             ∙ ap (λ (o : Option ℕ). last_of_both o (last_given gave x)) (given_is_last d.sector d.reads x ∙ some);
-        place = x + d.target.to - d.target.from;
-        at = at;
-        holds = held.rescued x (x + d.target.to - d.target.from) byte fin some at;
+        place = h.0;
+        at = h.1;
+        holds = h.2;
       }
 
   -- and one that none did
-  given_before : (x : ℕ) → gives d x ≡ None → HoldsLast d.target gave (bytes_of (files_before d.before d.target.outfile)) x
+  given_before : (x : ℕ) → gives d x ≡ None → HoldsLast d.target gave (bytes_of (files_before d.past d.target.outfile)) x
       → HoldsLast d.target (gave ++ pairs) image x
   given_before x none h = record {
     byte = h.byte;
@@ -51,7 +50,7 @@ module _ (d : Run) (from : (x byte : ℕ) → gives d x ≡ Some byte → d.targ
     place = h.place;
     at = h.at;
     holds = held.stood h.place
-        (slice_get_within (bytes_of (files_before d.before d.target.outfile)) h.place h.byte h.holds)
+        (slice_get_within (bytes_of (files_before d.past d.target.outfile)) h.place h.byte h.holds)
         (λ y at.
         let same : x ≡ y = omega (arith, at, h.at) in
         subst (λ (z : ℕ). gives d z ≡ None) same none)
@@ -62,9 +61,9 @@ module _ (d : Run) (from : (x byte : ℕ) → gives d x ≡ Some byte → d.targ
       → (old x ≡ true) ⊎ HoldsLast d.target (gave ++ pairs) image x
   before_or_now x fin none =
       ⊎_elim
-      (λ (was : CallsFinished (files_before d.before d.target.mapfile) x).
+      (λ (was : CallsFinished (files_before d.past d.target.mapfile) x).
       ⊎_elim (λ (is : old x ≡ true). inl is)
-      (λ (h : HoldsLast d.target gave (bytes_of (files_before d.before d.target.outfile)) x). inr (given_before x none h))
+      (λ (h : HoldsLast d.target gave (bytes_of (files_before d.past d.target.outfile)) x). inr (given_before x none h))
       (owed.each x was))
       (λ (some : (byte : ℕ) × (gives d x ≡ Some byte)). absurd (never_some some.0 (gives d x) none some.1))
       (held.claimed x fin)
@@ -86,9 +85,6 @@ module _ (t : Target) (l : Link) (apart : t.outfile ≢ t.mapfile) (q : IsRescue
   safe : IsSafeAnywhere (run_of q.rescue q.reads)
   safe = safe_anywhere q.rescue q.reads q.are_seen
 
-  from : (x byte : ℕ) → gives d x ≡ Some byte → d.target.from ≤ x
-  from x byte some = (begun_asked_for q.rescue q.reads q.step.moment x byte q.are_seen some).from
-
   some_same : (a b : List ℕ) → Some a ≡ Some b → a ≡ b
   some_same a b is = cc
 
@@ -102,29 +98,29 @@ module _ (t : Target) (l : Link) (apart : t.outfile ≢ t.mapfile) (q : IsRescue
   own_apart : d.target.outfile ≢ d.target.mapfile
   own_apart = λ is. apart (sym same.outfile ∙ is ∙ same.mapfile)
 
-  next : NextBegins d.before calls q.step.moment l.next
+  next : NextBegins d.past calls q.step.moment l.next
   next = subst (λ (n : Behind). NextBegins n calls q.step.moment l.next) q.step.before q.step.next
 
   -- once its barrier has returned, what is owed as the files read is owed at each stop
   late : (gave : List (ℕ × ℕ)) (old : ℕ → Bool) → has_barrier (take q.step.moment calls) ≡ true
-      → IsOwedIn t gave old (files_before d.before) → IsOwedAt t (gave ++ pairs_of d.sector d.reads) old l.next
+      → IsOwedIn t gave old (files_before d.past) → IsOwedAt t (gave ++ pairs_of d.sector d.reads) old l.next
   late gave old is owed =
-      let here : IsOwedIn d.target gave old (files_before d.before)
-      = same_in t d.target (same_back d.target t same) gave old (files_before d.before) owed in
+      let here : IsOwedIn d.target gave old (files_before d.past)
+      = same_in t d.target (same_back d.target t same) gave old (files_before d.past) owed in
       same_at d.target t same (gave ++ pairs_of d.sector d.reads) old l.next
-      (next_owed d.target (gave ++ pairs_of d.sector d.reads) old d.before calls q.step.moment l.next
-      (λ files left. owed_late d from q.step.moment files ((safe.safe q.step.moment files q.step.within left).after is) gave
+      (next_owed d.target (gave ++ pairs_of d.sector d.reads) old d.past calls q.step.moment l.next
+      (λ files left. owed_late d q.step.moment files ((safe.safe q.step.moment files q.step.within left).past_barrier is) gave
       old here) next)
 
   early : (gave : List (ℕ × ℕ)) (old : ℕ → Bool) → has_barrier (take q.step.moment calls) ≡ false
-      → IsOwedAt t gave old d.before → IsOwedAt t gave old l.next
+      → IsOwedAt t gave old d.past → IsOwedAt t gave old l.next
   early gave old off owed =
-      let here : IsOwedAt d.target gave old d.before
-      = same_at t d.target (same_back d.target t same) gave old d.before owed in
+      let here : IsOwedAt d.target gave old d.past
+      = same_at t d.target (same_back d.target t same) gave old d.past owed in
       same_at d.target t same gave old l.next
-      (next_owed d.target gave old d.before calls q.step.moment l.next
-      (λ files left. owed_before d.target d.before gave old files own_apart here
-      ((safe.safe q.step.moment files q.step.within left).before off)) next)
+      (next_owed d.target gave old d.past calls q.step.moment l.next
+      (λ files left. owed_before d.target d.past gave old files own_apart here
+      ((safe.safe q.step.moment files q.step.within left).until_barrier off)) next)
 
   -- with what it gave
   gave_late : (gave : List (ℕ × ℕ)) (old : ℕ → Bool) → has_barrier (take q.step.moment calls) ≡ true
@@ -148,9 +144,9 @@ module _ (t : Target) (l : Link) (apart : t.outfile ≢ t.mapfile) (q : IsRescue
   pub rescue_owes : (gave : List (ℕ × ℕ)) (old : ℕ → Bool) → IsOwedAt t gave old l.before
       → IsOwedAt t (gave ++ l.gave) old l.next
   rescue_owes gave old owed =
-      let here : IsOwedAt t gave old d.before = subst (λ (n : Behind). IsOwedAt t gave old n) q.step.before owed in
+      let here : IsOwedAt t gave old d.past = subst (λ (n : Behind). IsOwedAt t gave old n) q.step.before owed in
       ⊎_elim
       (λ (is : has_barrier (take q.step.moment calls) ≡ true).
-      gave_late gave old is (late gave old is (here.each (files_before d.before) (reads_left d.before))))
+      gave_late gave old is (late gave old is (here.each (files_before d.past) (reads_left d.past))))
       (λ (off : has_barrier (take q.step.moment calls) ≡ false). gave_early gave old off (early gave old off here))
       (cases_Bool (has_barrier (take q.step.moment calls)))

@@ -1,5 +1,5 @@
 -- Any rescue is safe wherever it is stopped.
-use Rattle.std.proofs.Common.{◌≡◌, ◌⊎◌, inl, inr, ⊎_elim, ℕ, ◌+◌, ◌≤◌, true, false, List, [], ◌∷◌, ◌++◌, length, take, map, Option, Some, None, option_map, is_some, refl, sym, ap, subst, ◌∙◌, arith}
+use Rattle.std.proofs.Common.{◌≡◌, ◌⊎◌, inl, inr, ⊎_elim, ℕ, ◌+◌, ◌≤◌, true, false, List, [], ◌∷◌, ◌++◌, length, take, map, All, Option, Some, None, option_map, is_some, refl, sym, ap, subst, ◌∙◌, arith}
 use Rattle.std.specs.List.{slice_get}
 use Rattle.std.proofs.lemmas.List.{append_cancel_left}
 use Rattle.block_list.specs.declared.status.Status.{Status}
@@ -29,9 +29,8 @@ use Rattle.ddrescue_cli.specs.Told.{Told, calls_before}
 use Rattle.ddrescue_cli.specs.ToldParts.{asked_of}
 use Rattle.ddrescue_cli.specs.Ddrescue.{Promise}
 use Rattle.ddrescue_cli.proofs.AskedLemmas.{sensible_to}
-use Rattle.ddrescue_laws.proofs.GivenLemmas.{given_is_input}
 use Rattle.rescue_safety.specs.Saves.{CallsFinished, IsOneSaved}
-use Rattle.rescue_safety.specs.Safe.{Target, HasPlace, Run, reads_until, by_then, gives, IsHeld, IsSafe, IsSafeAnywhere}
+use Rattle.rescue_safety.specs.Safe.{Target, HasPlace, Run, reads_until, by_then, gives, IsOwn, IsHeld, IsSafe, IsSafeAnywhere}
 use Rattle.rescue_safety.specs.Rescue.{Rescue, target_of, run_by, run_of, files_at_first}
 use Rattle.rescue_safety.specs.AskedFor.{AreSeen, NoRead, Untested, Tested, IsAskedFor}
 use Rattle.rescue_safety.specs.Laws.{AnyStopIsSafe, AnyTestedStopIsSafe}
@@ -39,9 +38,11 @@ use Rattle.rescue_safety.specs.AskedLaws.{EachIsTold, GivesWhatIsAskedFor, Leave
 use Rattle.rescue_safety.proofs.SaveLemmas.{goes_made, numbered}
 use Rattle.rescue_safety.proofs.QuietLemmas.{SavesNone, none_or_stands}
 use Rattle.rescue_safety.proofs.FinishedLemmas.{StandsAt, At, stands_at, StandsFinished, stands_finished, calls_finished, finished_has}
-use Rattle.rescue_safety.proofs.ClaimLemmas.{some_or_none, never_some, was_finished}
+use Rattle.rescue_safety.proofs.ClaimLemmas.{some_or_none, never_some, was_finished, still_finished}
+use Rattle.rescue_safety.proofs.OwnLemmas.{all_own}
 use Rattle.rescue_safety.proofs.PromiseLemmas.{promise_goes, goes_domain}
 use Rattle.rescue_safety.proofs.ThenLemmas.{kept_given, goes_unwritten}
+use Rattle.rescue_safety.proofs.SettleLemmas.{settled_before, none_settled}
 use Rattle.rescue_safety.proofs.WrittenLemmas.{IsFront, goes_written}
 use Rattle.rescue_safety.specs.Written.{written_in, kept_in}
 use Rattle.rescue_safety.proofs.BegunLemmas.{writes_in, none_begun}
@@ -148,8 +149,8 @@ module _ (r : Rescue) where
   seen_alone reads (Untested none is) = is ∙ sym (untested none)
   seen_alone reads (Tested name statuses named of is) = is ∙ sym (with_test name statuses named of)
 
-  own : (x byte : ℕ) → given c.options.sector g.reads x ≡ Some byte → slice_get t.source.bytes x ≡ Some byte
-  own x byte is = given_is_input t c x byte r.did.call.promised r.asks r.did.source_tells is
+  own : All (IsOwn t.source.bytes) g.reads
+  own = all_own t.source.bytes g.reads gained.right
 
   inside : (x byte : ℕ) → given c.options.sector g.reads x ≡ Some byte → s.domain x ≡ true
   inside x byte is = goes_domain s ok (files_before b) g x byte on goes is
@@ -184,7 +185,11 @@ module _ (r : Rescue) where
         let i = safe.kept k files began was le left is there in
         record {
           number = i.number;
-          no_older = i.no_older;
+          no_older = λ before after name cut. omega (
+            arith,
+            i.no_older,
+            settled_before s began was g (goes_made s (files_before b) g began was on goes there) k before after name cut,
+          );
           is = numbered s began was g (goes_made s (files_before b) g began was on goes there)
               (files_before b s.names.map) (files s.names.map) (k + 1) i.number i.statuses i.is_save i.no_newer;
         }
@@ -194,7 +199,7 @@ module _ (r : Rescue) where
         ⊎_elim
         (λ (n : (j : ℕ) → SavesNone g.calls j). record {
           number = 0;
-          no_older = omega (arith, (n k).returned);
+          no_older = λ before after name cut. none_settled g.calls k before after name n cut;
           is = safe.mapfile k files le left is (n k).published;
         })
         (λ (at : StandsAt (files_before b s.names.map) s.end). mapfile_over is at)
@@ -240,15 +245,24 @@ module _ (r : Rescue) where
         (was_finished b s g began was ok on goes there k files kept x (kept_has began was x kept fin) none)))
         (some_or_none (given s.sector g.reads x))
 
-    rescued_over : (x y byte : ℕ) → has_barrier (take k g.calls) ≡ true → CallsFinished (files s.names.map) x
-        → given s.sector g.reads x ≡ Some byte → HasPlace (target_of c r.mapfile) x y
-        → StandsAt (files_before b s.names.map) s.end → slice_get (bytes_of (files c.outfile)) y ≡ Some byte
-    rescued_over x y byte is fin gave at (At began was there) =
+    rescued_over : (x byte : ℕ) → has_barrier (take k g.calls) ≡ true → CallsFinished (files s.names.map) x
+        → given s.sector g.reads x ≡ Some byte → StandsAt (files_before b s.names.map) s.end
+        → (y : ℕ) × HasPlace (target_of c r.mapfile) x y × (slice_get (bytes_of (files c.outfile)) y ≡ Some byte)
+    rescued_over x byte is fin gave (At began was there) =
         let kept = safe.kept k files began was le left is there in
-        let in_domain : s.domain x ≡ true = inside x byte gave in
-        let same : place s x ≡ y = omega (arith, ok.from x in_domain, at) in
-        subst (λ (z : ℕ). slice_get (bytes_of (files c.outfile)) z ≡ Some byte) same
-        (kept.held.rescued x byte in_domain (kept_has began was x kept fin) gave)
+        let in_domain : s.domain x ≡ true = inside x byte gave in (
+          place s x,
+          omega (arith, ok.from x in_domain),
+          kept.held.rescued x byte in_domain (kept_has began was x kept fin) gave,
+        )
+
+    still : (x : ℕ) → has_barrier (take k g.calls) ≡ true → CallsFinished (files_before b s.names.map) x
+        → CallsFinished (files s.names.map) x
+    still x is fin =
+        let f : StandsFinished (files_before b s.names.map) s.end x = stands_finished (files_before b s.names.map) s.end x fin in
+        let kept = safe.kept k files f.map f.state le left is f.stands in
+        calls_finished (files s.names.map) s.end x kept.statuses kept.shows kept.stands
+        (still_finished b s g f.map f.state ok on goes f.stands k files kept x f.has)
 
     -- by the calls of the run
     abbrev run_with : (mapfile : List ℕ) → List Entry → Run
@@ -260,8 +274,9 @@ module _ (r : Rescue) where
       mapfile = subst (λ (l : List Entry). IsOneSaved (files_before b s.names.map) l k (files s.names.map)) (sym calls_are)
           (mapfile_at is);
       claimed = λ x fin. claimed_over x is fin (began_by x is fin);
-      rescued = λ x y byte fin gave at.
-          rescued_over x y byte is fin (sym (same_then x is fin) ∙ gave) at (began_by x is fin);
+      kept = λ x fin. still x is fin;
+      rescued = λ x byte fin gave.
+          rescued_over x byte is fin (sym (same_then x is fin) ∙ gave) (began_by x is fin);
       stood = λ y low none.
           safe.unwritten k files y le left is (goes_unwritten s ok y (files_before b) g (k + 1) on goes none) low;
     }
@@ -272,9 +287,9 @@ module _ (r : Rescue) where
       let le' : k ≤ length g.calls = subst (λ (l : List Entry). k ≤ length l) calls_are le in
       let left' : LeftBy b g.calls k files = subst (λ (l : List Entry). LeftBy b l k files) calls_are left in
       record {
-        before = λ off. safe.before k files le' left'
+        until_barrier = λ off. safe.before k files le' left'
             (subst (λ (l : List Entry). has_barrier (take k l) ≡ false) calls_are off);
-        after = λ is.
+        past_barrier = λ is.
             subst (λ (l : List Entry). IsHeld (run_with k files le' left' r.mapfile l) k files) (sym calls_are)
             (subst (λ (m : List ℕ). IsHeld (run_with k files le' left' m g.calls) k files) map_is
             (held k files le' left' (subst (λ (l : List Entry). has_barrier (take k l) ≡ true) calls_are is)));
@@ -364,7 +379,7 @@ stays_resumable r k files end map state le left is stands =
     (subst (λ (m : List ℕ). Stands (files_before (b r) m) end map state) (sym (map_is r)) stands)))
 
 -- what a read gave that had begun to be written is asked for
-pub begun_asked_for : (r : Rescue) (reads : List Reading) (k x byte : ℕ) → AreSeen r reads
+begun_asked_for : (r : Rescue) (reads : List Reading) (k x byte : ℕ) → AreSeen r reads
     → gives (by_then (run_of r reads) k) x ≡ Some byte → IsAskedFor r x
 begun_asked_for r reads k x byte are is =
     ⊎_elim
@@ -380,6 +395,6 @@ none_given (Some byte) never = absurd (never byte refl)
 
 pub leaves_the_rest : LeavesTheRest
 leaves_the_rest r k files y le left is low unasked =
-    ((safe_at r k files le left).after is).stood y low
+    ((safe_at r k files le left).past_barrier is).stood y low
     (λ x at. none_given (gives (by_then (run_of r (g r).reads) k) x)
     (λ byte gave. unasked x at (begun_asked_for r (g r).reads k x byte (seen_are r) gave)))

@@ -77,7 +77,7 @@ load_dry s given at answer =
     (pieces_dry s.names.map 0 given)
     (All-cons IsDry (map_read s.names.map at piece_size answer) [] refl (All-nil IsDry))
 
-still_published : (cs : List Call) → All IsStill cs → published (map Done cs) ≡ 0
+pub still_published : (cs : List Call) → All IsStill cs → published (map Done cs) ≡ 0
 still_published cs still =
     let whole : Publish (map Done cs) []
     = subst (λ (l : List Entry). Publish l []) (append-nil (map Done cs)) (still_publish cs [] [] still (λ d. refl)) in

@@ -36,21 +36,21 @@ WritesAreOfReads = (r : Rescue) (reads : List Reading) → AreSeen r reads → (
 -- No read after a stop gives a byte to a position that the mapfile found calls finished.
 abbrev pub NoneIsReadAgain : Type 0
 NoneIsReadAgain = (r : Rescue) (reads : List Reading) (k : ℕ) (files : List ℕ → Option File) (x : ℕ) → AreSeen r reads
-    → k ≤ length r.did.call.calls → LeftBy (run_of r reads).before r.did.call.calls k files
+    → k ≤ length r.did.call.calls → LeftBy (run_of r reads).past r.did.call.calls k files
     → has_barrier (take k r.did.call.calls) ≡ true → CallsFinished (files r.mapfile) x
     → gives (by_then (run_of r reads) k) x ≡ gives (run_of r reads) x
 
 -- If a rescue could be resumed from the mapfile that was there, it can be resumed from the one found.
 abbrev pub StaysResumable : Type 0
 StaysResumable = (r : Rescue) (k : ℕ) (files : List ℕ → Option File) (end : ℕ) (map : List Status)
-    (state : Option MapState) → k ≤ length r.did.call.calls → LeftBy (run_of r []).before r.did.call.calls k files
+    (state : Option MapState) → k ≤ length r.did.call.calls → LeftBy (run_of r []).past r.did.call.calls k files
     → has_barrier (take k r.did.call.calls) ≡ true → Stands (files_at_first r r.mapfile) end map state
     → (found : List Status) × (shown : Option MapState) × Stands (files r.mapfile) end found shown
 
 -- The output's old byte stands in a place whose position isn't asked for.
 abbrev pub LeavesTheRest : Type 0
 LeavesTheRest = (r : Rescue) (k : ℕ) (files : List ℕ → Option File) (y : ℕ) → k ≤ length r.did.call.calls
-    → LeftBy (run_of r []).before r.did.call.calls k files → has_barrier (take k r.did.call.calls) ≡ true
+    → LeftBy (run_of r []).past r.did.call.calls k files → has_barrier (take k r.did.call.calls) ≡ true
     → y < length (bytes_at_first (run_of r []))
     → ((x : ℕ) → HasPlace (target_of r.command r.mapfile) x y → IsAskedFor r x → ⊥)
     → slice_get (bytes_of (files r.command.outfile)) y ≡ slice_get (bytes_at_first (run_of r [])) y

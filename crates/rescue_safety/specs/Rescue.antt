@@ -10,6 +10,9 @@ use Rattle.ddrescue_cli.specs.Told.{Told, calls_before}
 use Rattle.ddrescue_cli.specs.Ddrescue.{Ddrescue}
 use Rattle.rescue_safety.specs.Safe.{Target, Run}
 
+-- An object tells if its contracts speak of what it holds; those in memory do. The real forms have the same contracts, and
+-- the programs can't see which they have.
+
 -- A call of `ddrescue` on files that tell what was done on them, and the calls that it made.
 pub record Invocation : Type 0 where
   pub told : Told
@@ -47,7 +50,7 @@ target_of c mapfile = record {
 abbrev pub run_by : Observed → Target → (sector : ℕ) → (reads : List Reading) → Run
 run_by o t sector reads = record {
   target = t;
-  before = calls_before o.call.told;
+  past = calls_before o.call.told;
   calls = o.call.calls;
   input = o.call.told.source.bytes;
   sector = sector;

@@ -24,18 +24,18 @@ resting files = record { start = record { files = files; image = None; draft = N
 abbrev pub part_written : (pos : ℕ) → (piece : List ℕ) → (ℕ × ℕ) → Entry
 part_written pos piece p = Done (image_write (pos + p.0) (take p.1 (drop p.0 piece)))
 
--- What a killed process leaves of the first of these calls, which it was in: nothing; the call as one that failed; of a
--- write, any parts in any order; or of an append, whatever bytes.
+-- Of the call that the process was in when it was killed, the first of these: nothing was done; or it counts as one that
+-- failed; or any parts of a write were done, in any order; or an append put any bytes into the draft.
 pub data LeavesPart (next : List Entry) (part : List Entry) : Type 0 where
   Nothing : part ≡ [] → LeavesPart next part
   Failing : part ≡ in_progress next → LeavesPart next part
   Writing : (pos : ℕ) (piece : List ℕ) (parts : List (ℕ × ℕ)) → in_progress next ≡ Failed (image_write pos piece) ∷ []
       → All (λ p. p.0 + p.1 ≤ length piece) parts → part ≡ map (part_written pos piece) parts → LeavesPart next part
-  Appending : (piece left : List ℕ) → in_progress next ≡ Failed (draft_append piece) ∷ []
-      → part ≡ Done (draft_append left) ∷ [] → LeavesPart next part
+  Appending : (piece torn : List ℕ) → in_progress next ≡ Failed (draft_append piece) ∷ []
+      → part ≡ Done (draft_append torn) ∷ [] → LeavesPart next part
 
--- Where the next run begins after the first k of these calls: the machine was stopped, and what it left is durable now;
--- or the process alone ended, between two calls or within one, and its files go on as they are.
+-- Where the next run begins, when the first k of these calls have returned and the next may be in progress: the machine
+-- was stopped, and what it left is durable now; or the process alone ended, and its files go on as they are.
 pub data NextBegins (from : Behind) (calls : List Entry) (k : ℕ) (next : Behind) : Type 0 where
   Stopped : (files : List ℕ → Option File) → LeftBy from calls k files → next ≡ resting files
       → NextBegins from calls k next
@@ -51,7 +51,8 @@ pub record Link : Type 0 where
   pub next : Behind
   pub gave : List (ℕ × ℕ)
 
--- What all runs of a chain have: the target's files and places; and how many calls had returned when the run ended.
+-- A run of a chain has the target's files, and its offset from infile to outfile is the target's. When it ended, that many
+-- calls had returned.
 pub record IsStep (t : Target) (l : Link) (i : Invocation) (c : Command) : Type 0 where
   pub outfile : c.outfile ≡ t.outfile
   pub mapfile : c.mapfile ≡ Some t.mapfile

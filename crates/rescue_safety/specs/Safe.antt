@@ -1,5 +1,5 @@
 -- What any stop of a rescue leaves, by what its input and its files tell.
-use Rattle.std.specs.Prelude.{◌≡◌, ◌≢◌, ◌⊎◌, ℕ, zero, suc, ◌+◌, ◌<◌, ◌≤◌, nat_eq, true, false, List, [], ◌∷◌, ◌++◌, length, take, count_by, slice_get, Option, Some, None, codes, if◌then◌else◌}
+use Rattle.std.specs.Prelude.{◌≡◌, ◌≢◌, ◌⊎◌, ℕ, zero, suc, ◌+◌, ◌<◌, ◌≤◌, nat_eq, true, false, List, [], ◌∷◌, ◌++◌, length, take, count_by, All, slice_get, Option, Some, None, codes, if◌then◌else◌}
 use Rattle.faulty_source.specs.Journal.{Reading, kept}
 use Rattle.crash_site.specs.Files.{File, bytes_of}
 use Rattle.crash_site.specs.Calls.{Entry}
@@ -22,7 +22,7 @@ HasPlace t x y = y + t.from ≡ x + t.to
 -- What a rescue did on its target: its calls, after all earlier ones; the bytes of its input; and its reads, by sectors.
 pub record Run : Type 0 where
   pub target : Target
-  pub before : Behind
+  pub past : Behind
   pub calls : List Entry
   pub input : List ℕ
   pub sector : ℕ
@@ -35,45 +35,53 @@ reads_until sector writes [] = []
 reads_until sector zero (r ∷ rs) = []
 reads_until sector (suc n) (r ∷ rs) = r ∷ reads_until sector (if nat_eq (kept sector r) 0 then suc n else n) rs
 
--- the same with the reads alone that had begun to be written when the first k calls had returned and the next had begun
+-- the same run with only the reads that had begun to be written by then: the first k calls have returned, the next is in
+-- progress
 abbrev pub by_then : Run → (k : ℕ) → Run
 by_then r k = record r { reads = reads_until r.sector (count_by is_write (take (k + 1) r.calls)) r.reads }
 
--- the byte that its last read of the position x gave, if there is one
+-- the byte that its reads gave the position x last, if they gave one
 abbrev pub gives : Run → (x : ℕ) → Option ℕ
 gives r x = given r.sector r.reads x
 
--- the bytes of its output as it read when the rescue began
+-- the bytes that its output had when it began
 abbrev pub bytes_at_first : Run → List ℕ
-bytes_at_first r = bytes_of (files_before r.before r.target.outfile)
+bytes_at_first r = bytes_of (files_before r.past r.target.outfile)
 
--- What a stop after the first k calls leaves once the barrier has returned:
+-- What a stop leaves after the barrier, when the first k calls have returned and the next is in progress:
 pub record IsHeld (r : Run) (k : ℕ) (files : List ℕ → Option File) : Type 0 where
   -- The mapfile is the one that was there before, or one that was saved.
-  pub mapfile : IsOneSaved (files_before r.before r.target.mapfile) r.calls k (files r.target.mapfile)
+  pub mapfile : IsOneSaved (files_before r.past r.target.mapfile) r.calls k (files r.target.mapfile)
   -- Each position that this mapfile calls finished was called finished before, or a read gave it a byte.
   pub claimed : (x : ℕ) → CallsFinished (files r.target.mapfile) x
-      → CallsFinished (files_before r.before r.target.mapfile) x ⊎ ((b : ℕ) × (gives r x ≡ Some b))
-  -- The output has the byte that a read gave last in the place of each such position.
-  pub rescued : (x y b : ℕ) → CallsFinished (files r.target.mapfile) x → gives r x ≡ Some b → HasPlace r.target x y
-      → slice_get (bytes_of (files r.target.outfile)) y ≡ Some b
-  -- The output has its old byte in each place whose position no read gave a byte.
+      → CallsFinished (files_before r.past r.target.mapfile) x ⊎ ((b : ℕ) × (gives r x ≡ Some b))
+  -- Each position that was called finished before is called finished by this mapfile, too.
+  pub kept : (x : ℕ) → CallsFinished (files_before r.past r.target.mapfile) x → CallsFinished (files r.target.mapfile) x
+  -- If a read gave such a position a byte, it has a place in the output, which holds the byte that was given last.
+  pub rescued : (x b : ℕ) → CallsFinished (files r.target.mapfile) x → gives r x ≡ Some b
+      → (y : ℕ) × HasPlace r.target x y × (slice_get (bytes_of (files r.target.outfile)) y ≡ Some b)
+  -- The output has its old byte in each place whose position no read gave one.
   pub stood : (y : ℕ) → y < length (bytes_at_first r) → ((x : ℕ) → HasPlace r.target x y → gives r x ≡ None)
       → slice_get (bytes_of (files r.target.outfile)) y ≡ slice_get (bytes_at_first r) y
 
--- What a stop after the first k calls leaves is safe:
+-- What a stop leaves is safe, when the first k calls have returned and the next is in progress:
 pub record IsSafe (r : Run) (k : ℕ) (files : List ℕ → Option File) : Type 0 where
-  -- Until the image sync of its barrier has returned, all could be found so before, but that an output may be made.
-  pub before : has_barrier (take k r.calls) ≡ false → CouldBefore r.before r.target.outfile files
+  -- Until the barrier has returned, all files are as they could be found before, except that an absent output may be
+  -- there, empty.
+  pub until_barrier : has_barrier (take k r.calls) ≡ false → CouldBefore r.past r.target.outfile files
   -- From then on the mapfile claims only what the output holds.
-  pub after : has_barrier (take k r.calls) ≡ true → IsHeld r k files
-  -- Any other file, but the mapfile's draft, is found as it could be found before.
+  pub past_barrier : has_barrier (take k r.calls) ≡ true → IsHeld r k files
+  -- Any other file, except the mapfile's draft, is as it could be found before.
   pub others : (name : List ℕ) → name ≢ r.target.outfile → name ≢ r.target.mapfile
       → name ≢ r.target.mapfile ++ codes ".tmp" → (before : List ℕ → Option File)
-      × MayBeLeft r.before.start r.before.earlier (length r.before.earlier) before × (files name ≡ before name)
+      × MayBeLeft r.past.start r.past.earlier (length r.past.earlier) before × (files name ≡ before name)
 
--- A rescue is safe wherever it is stopped, by what it had read by then; and its reads gave only the input's own bytes.
+-- the read gave the input's own bytes
+abbrev pub IsOwn : (input : List ℕ) → Reading → Type 0
+IsOwn input read = (i b : ℕ) → slice_get read.given i ≡ Some b → slice_get input (read.pos + i) ≡ Some b
+
+-- Each read of a rescue gave the input's own bytes; and wherever it is stopped, it is safe by what it had read by then.
 pub record IsSafeAnywhere (r : Run) : Type 0 where
-  pub own : (x b : ℕ) → gives r x ≡ Some b → slice_get r.input x ≡ Some b
-  pub safe : (k : ℕ) (files : List ℕ → Option File) → k ≤ length r.calls → LeftBy r.before r.calls k files
+  pub own : All (IsOwn r.input) r.reads
+  pub safe : (k : ℕ) (files : List ℕ → Option File) → k ≤ length r.calls → LeftBy r.past r.calls k files
       → IsSafe (by_then r k) k files

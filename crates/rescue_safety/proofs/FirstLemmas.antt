@@ -1,0 +1,226 @@
+-- What an output holds at first of the positions that its mapfile calls finished, as something that was given.
+use Rattle.std.proofs.Common.{◌≡◌, ◌⊎◌, inl, inr, ⊎_elim, ℕ, zero, suc, ◌+◌, ◌-◌, ◌<◌, ◌≤◌, Bool, true, false, nat_le, if◌then◌else◌, List, [], ◌∷◌, ◌++◌, length, Option, Some, None, is_none, refl, sym, ap, ◌∙◌, subst, arith}
+use Rattle.std.specs.List.{slice_get}
+use Rattle.std.proofs.lemmas.Bool.{cases_Bool, cases_lt, ne_eqb, eq-eqb, le-leb, leb-true, cond-true, cond-false}
+use Rattle.std.proofs.lemmas.Option.{slice_get_within}
+use Rattle.crash_site.specs.Files.{File, bytes_of}
+use Rattle.rescue_rules.specs.Given.{last_of_both}
+use Rattle.rescue_safety.specs.Saves.{CallsFinished}
+use Rattle.rescue_safety.specs.Safe.{Target, HasPlace}
+use Rattle.rescue_safety.specs.Holds.{StillHolds}
+use Rattle.rescue_safety.specs.Owed.{last_given, HoldsLast}
+use Rattle.rescue_safety.specs.OwedFiles.{IsOwedIn}
+use Rattle.rescue_safety.proofs.ClaimLemmas.{some_or_none, never_some}
+use Rattle.rescue_safety.proofs.FinishedLemmas.{TestsFinished, tests_finished}
+use Rattle.rescue_safety.proofs.LastGiven.{last_after}
+
+-- ---- a function as pairs
+
+abbrev one_pair : Option ℕ → ℕ → List (ℕ × ℕ)
+one_pair None n = []
+one_pair (Some b) n = (n, b) ∷ []
+
+other_pair : (o : Option ℕ) (n x : ℕ) → (n ≡ x → ⊥) → last_given (one_pair o n) x ≡ None
+other_pair None n x apart = refl
+other_pair (Some b) n x apart = cond-false _ (Some b) None (ne_eqb n x apart)
+
+same_pair : (o : Option ℕ) (n : ℕ) → last_given (one_pair o n) n ≡ o
+same_pair None n = refl
+same_pair (Some b) n = cond-true _ (Some b) None (eq-eqb n n refl)
+
+last_alone : (o : Option ℕ) → last_of_both o None ≡ o
+last_alone None = refl
+last_alone (Some b) = refl
+
+-- those of the first positions
+abbrev pairs_below : (ℕ → Option ℕ) → ℕ → List (ℕ × ℕ)
+pairs_below f zero = []
+pairs_below f (suc n) = pairs_below f n ++ one_pair (f n) n
+
+none_past : (f : ℕ → Option ℕ) (n x : ℕ) → n ≤ x → last_given (pairs_below f n) x ≡ None
+none_past f zero x le = refl
+none_past f (suc n) x le =
+    last_after (pairs_below f n) (one_pair (f n) n) x
+    ∙ ap (λ (o : Option ℕ). last_of_both o (last_given (pairs_below f n) x)) (other_pair (f n) n x (λ is. omega (arith, is, le)))
+    ∙ none_past f n x (omega (arith, le))
+
+given_below : (f : ℕ → Option ℕ) (n x : ℕ) → x < n → last_given (pairs_below f n) x ≡ f x
+given_below f zero x lt = absurd (let no : ⊥ = omega (arith, lt) in no)
+given_below f (suc n) x lt =
+    last_after (pairs_below f n) (one_pair (f n) n) x
+    ∙ ⊎_elim
+    (λ (less : x < n).
+    ap (λ (o : Option ℕ). last_of_both o (last_given (pairs_below f n) x)) (other_pair (f n) n x (λ is. omega (arith, is, less)))
+    ∙ given_below f n x less)
+    (λ (ge : n ≤ x).
+    let same : n ≡ x = omega (arith, lt, ge) in
+    subst (λ (y : ℕ). last_of_both (last_given (one_pair (f n) n) y) (last_given (pairs_below f n) y) ≡ f y) same
+    (ap (λ (o : Option ℕ). last_of_both (last_given (one_pair (f n) n) n) o) (none_past f n n (omega arith))
+    ∙ last_alone (last_given (one_pair (f n) n) n) ∙ same_pair (f n) n))
+    (cases_lt x n)
+
+-- ---- what is there at first
+
+module _ (t : Target) (image : List ℕ) (test : ℕ → Bool) where
+  abbrev placed : ℕ → Option ℕ
+  placed x = if nat_le t.from (x + t.to) then slice_get image (x + t.to - t.from) else None
+
+  abbrev first : ℕ → Option ℕ
+  first x = if test x then placed x else None
+
+  record IsFirst (x b : ℕ) : Type 0 where
+    passes : test x ≡ true
+    place : ℕ
+    at : HasPlace t x place
+    holds : slice_get image place ≡ Some b
+
+  some_placed : (x b : ℕ) → test x ≡ true → placed x ≡ Some b → IsFirst x b
+  some_placed x b passes is =
+      ⊎_elim
+      (λ (on : nat_le t.from (x + t.to) ≡ true).
+      record {
+        passes = passes;
+        place = x + t.to - t.from;
+        at = omega (arith, leb-true t.from (x + t.to) on);
+        holds = sym (cond-true _ (slice_get image (x + t.to - t.from)) None on) ∙ is;
+      })
+      (λ (off : nat_le t.from (x + t.to) ≡ false).
+      absurd (never_some b (placed x) (cond-false _ (slice_get image (x + t.to - t.from)) None off) is))
+      (cases_Bool (nat_le t.from (x + t.to)))
+
+  is_first : (x b : ℕ) → first x ≡ Some b → IsFirst x b
+  is_first x b is =
+      ⊎_elim
+      (λ (on : test x ≡ true). some_placed x b on (sym (cond-true _ (placed x) None on) ∙ is))
+      (λ (off : test x ≡ false). absurd (never_some b (first x) (cond-false _ (placed x) None off) is))
+      (cases_Bool (test x))
+
+  first_is : (x y b : ℕ) → test x ≡ true → HasPlace t x y → slice_get image y ≡ Some b → first x ≡ Some b
+  first_is x y b on at holds =
+      let same : y ≡ x + t.to - t.from = omega (arith, at) in
+      cond-true _ (placed x) None on
+      ∙ cond-true _ (slice_get image (x + t.to - t.from)) None (le-leb t.from (x + t.to) (omega (arith, at)))
+      ∙ sym (ap (λ (n : ℕ). slice_get image n) same) ∙ holds
+
+  abbrev pub gave_first : List (ℕ × ℕ)
+  gave_first = pairs_below first (length image + t.from)
+
+  gave_is : (x : ℕ) → last_given gave_first x ≡ first x
+  gave_is x =
+      ⊎_elim (λ (lt : x < length image + t.from). given_below first (length image + t.from) x lt)
+      (λ (ge : length image + t.from ≤ x).
+      none_past first (length image + t.from) x ge
+      ∙ ⊎_elim
+      (λ (some : (b : ℕ) × (first x ≡ Some b)).
+      let f : IsFirst x some.0 = is_first x some.0 some.1 in
+      let no : ⊥ = omega (arith, ge, f.at, slice_get_within image f.place some.0 f.holds) in
+      absurd no)
+      (λ (none : first x ≡ None). sym none)
+      (some_or_none (first x)))
+      (cases_lt x (length image + t.from))
+
+  -- finished, but without a byte
+  abbrev pub is_bare : ℕ → Bool
+  is_bare x = if test x then is_none (first x) else false
+
+  bare_is : (x : ℕ) → test x ≡ true → first x ≡ None → is_bare x ≡ true
+  bare_is x on none = cond-true _ (is_none (first x)) false on ∙ ap is_none none
+
+  record IsBare (x : ℕ) : Type 0 where
+    passes : test x ≡ true
+    none : first x ≡ None
+
+  never_none : (o : Option ℕ) → is_none o ≡ true → o ≡ None
+  never_none None is = refl
+  never_none (Some b) is = absurd (cc)
+
+  is_bare_so : (x : ℕ) → is_bare x ≡ true → IsBare x
+  is_bare_so x is =
+      ⊎_elim
+      (λ (on : test x ≡ true).
+      record { passes = on; none = never_none (first x) (sym (cond-true _ (is_none (first x)) false on) ∙ is) })
+      (λ (off : test x ≡ false).
+      let no : false ≡ true = sym (cond-false _ (is_none (first x)) false off) ∙ is in absurd (cc))
+      (cases_Bool (test x))
+
+-- ---- it is owed, and so it stays
+
+module _ (t : Target) (files : List ℕ → Option File) where
+  abbrev image : List ℕ
+  image = bytes_of (files t.outfile)
+
+  abbrev old : TestsFinished (files t.mapfile)
+  old = tests_finished (files t.mapfile)
+
+  abbrev pub gave_at_first : List (ℕ × ℕ)
+  gave_at_first = gave_first t image old.test
+
+  abbrev pub bare_at_first : ℕ → Bool
+  bare_at_first = is_bare t image old.test
+
+  owed_one : (x : ℕ) → CallsFinished (files t.mapfile) x → (bare_at_first x ≡ true) ⊎ HoldsLast t gave_at_first image x
+  owed_one x fin =
+      ⊎_elim
+      (λ (some : (b : ℕ) × (first t image old.test x ≡ Some b)).
+      let f : IsFirst t image old.test x some.0 = is_first t image old.test x some.0 some.1 in
+      inr (record {
+        byte = some.0;
+        given = gave_is t image old.test x ∙ some.1;
+        place = f.place;
+        at = f.at;
+        holds = f.holds;
+      }))
+      (λ (none : first t image old.test x ≡ None). inl (bare_is t image old.test x (old.true_where x fin) none))
+      (some_or_none (first t image old.test x))
+
+  pub first_owed : IsOwedIn t gave_at_first bare_at_first files
+  first_owed = record { each = owed_one }
+
+  same_some : (a b : ℕ) → Some a ≡ Some b → a ≡ b
+  same_some a b is = cc
+
+  module _ (found : List ℕ → Option File) (gave : List (ℕ × ℕ)) (x : ℕ) where
+    abbrev Holds : Type 0
+    Holds = StillHolds t files found x ⊎ HoldsLast t gave (bytes_of (found t.outfile)) x
+
+    bare_holds : bare_at_first x ≡ true → Holds
+    bare_holds is =
+        let bare : IsBare t image old.test x = is_bare_so t image old.test x is in
+        inl (record {
+          finished = old.true_only x bare.passes;
+          holds = λ y b at was.
+              absurd (never_some b (first t image old.test x) bare.none (first_is t image old.test x y b bare.passes at was));
+        })
+
+    last_holds : HoldsLast t (gave_at_first ++ gave) (bytes_of (found t.outfile)) x → Holds
+    last_holds h =
+        let both : last_of_both (last_given gave x) (last_given gave_at_first x) ≡ Some h.byte
+        = sym (last_after gave_at_first gave x) ∙ h.given in
+        ⊎_elim
+        (λ (some : (b : ℕ) × (last_given gave x ≡ Some b)).
+        inr (record {
+          byte = h.byte;
+          given = some.1 ∙ sym (ap (λ (o : Option ℕ). last_of_both o (last_given gave_at_first x)) some.1) ∙ both;
+          place = h.place;
+          at = h.at;
+          holds = h.holds;
+        }))
+        (λ (none : last_given gave x ≡ None).
+        let is : first t image old.test x ≡ Some h.byte
+        = sym (gave_is t image old.test x)
+        ∙ sym (ap (λ (o : Option ℕ). last_of_both o (last_given gave_at_first x)) none) ∙ both in
+        let f : IsFirst t image old.test x h.byte = is_first t image old.test x h.byte is in
+        inl (record {
+          finished = old.true_only x f.passes;
+          holds = λ y b at was.
+              let place : h.place ≡ y = omega (arith, at, h.at) in
+              let byte : Some h.byte ≡ Some b = sym is ∙ first_is t image old.test x y b f.passes at was in
+              subst (λ (n : ℕ). slice_get (bytes_of (found t.outfile)) n ≡ Some b) place (h.holds ∙ byte);
+        }))
+        (some_or_none (last_given gave x))
+
+    pub at_last : IsOwedIn t (gave_at_first ++ gave) bare_at_first found → CallsFinished (found t.mapfile) x → Holds
+    at_last owed fin =
+        ⊎_elim (λ (is : bare_at_first x ≡ true). bare_holds is)
+        (λ (h : HoldsLast t (gave_at_first ++ gave) (bytes_of (found t.outfile)) x). last_holds h)
+        (owed.each x fin)
