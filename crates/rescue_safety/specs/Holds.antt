@@ -14,8 +14,8 @@ pub record HoldsGiven (r : Run) (files : List ℕ → Option File) (x : ℕ) : T
   pub at : HasPlace r.target x place
   pub holds : slice_get (bytes_of (files r.target.outfile)) place ≡ Some byte
 
--- The mapfile called the position x finished before, and the output holds in the place of x, if it has one, the byte that
--- was there before, if there was one.
+-- The mapfile called the position x finished before, and the output holds in the place of x, if it has one, the byte
+-- that was there before, if there was one.
 pub record StillHolds (t : Target) (before found : List ℕ → Option File) (x : ℕ) : Type 0 where
   pub finished : CallsFinished (before t.mapfile) x
   pub holds : (y b : ℕ) → HasPlace t x y → slice_get (bytes_of (before t.outfile)) y ≡ Some b

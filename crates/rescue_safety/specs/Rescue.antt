@@ -10,8 +10,8 @@ use Rattle.ddrescue_cli.specs.Told.{Told, calls_before}
 use Rattle.ddrescue_cli.specs.Ddrescue.{Ddrescue}
 use Rattle.rescue_safety.specs.Safe.{Target, Run}
 
--- An object tells if its contracts speak of what it holds; those in memory do. The real forms have the same contracts, and
--- the programs can't see which they have.
+-- An object tells if its contracts speak of what it holds; those in memory do. The real forms have the same contracts,
+-- and the programs can't see which they have.
 
 -- A call of `ddrescue` on files that tell what was done on them, and the calls that it made.
 pub record Invocation : Type 0 where

@@ -24,8 +24,8 @@ resting files = record { start = record { files = files; image = None; draft = N
 abbrev pub part_written : (pos : ℕ) → (piece : List ℕ) → (ℕ × ℕ) → Entry
 part_written pos piece p = Done (image_write (pos + p.0) (take p.1 (drop p.0 piece)))
 
--- Of the call that the process was in when it was killed, the first of these: nothing was done; or it counts as one that
--- failed; or any parts of a write were done, in any order; or an append put any bytes into the draft.
+-- Of the call that the process was in when it was killed, the first of these: nothing was done; or it counts as one
+-- that failed; or any parts of a write were done, in any order; or an append put any bytes into the draft.
 pub data LeavesPart (next : List Entry) (part : List Entry) : Type 0 where
   Nothing : part ≡ [] → LeavesPart next part
   Failing : part ≡ in_progress next → LeavesPart next part
@@ -51,8 +51,8 @@ pub record Link : Type 0 where
   pub next : Behind
   pub gave : List (ℕ × ℕ)
 
--- A run of a chain has the target's files, and its offset from infile to outfile is the target's. When it ended, that many
--- calls had returned.
+-- A run of a chain has the target's files, and its offset from infile to outfile is the target's. When it ended, as
+-- many calls as `moment` says had returned.
 pub record IsStep (t : Target) (l : Link) (i : Invocation) (c : Command) : Type 0 where
   pub outfile : c.outfile ≡ t.outfile
   pub mapfile : c.mapfile ≡ Some t.mapfile
