@@ -176,9 +176,6 @@ module _ (t : Target) (files : List ℕ → Option File) where
   pub first_owed : IsOwedIn t gave_at_first bare_at_first files
   first_owed = record { each = owed_one }
 
-  same_some : (a b : ℕ) → Some a ≡ Some b → a ≡ b
-  same_some a b is = cc
-
   module _ (found : List ℕ → Option File) (gave : List (ℕ × ℕ)) (x : ℕ) where
     abbrev Holds : Type 0
     Holds = StillHolds t files found x ⊎ HoldsLast t gave (bytes_of (found t.outfile)) x

@@ -1,6 +1,6 @@
 -- A generating that goes on from what is owed leaves it so: what it marks is what the output holds.
 use Rattle.std.specs.Bool.{⊤}
-use Rattle.std.proofs.Common.{◌≡◌, ◌≢◌, ◌⊎◌, inl, inr, ⊎_elim, ℕ, ◌+◌, ◌<◌, ◌≤◌, Bool, true, false, if◌then◌else◌, List, [], ◌∷◌, ◌++◌, length, map, take, All, Option, Some, None, option_map, is_some, sym, ap, subst, ◌∙◌, arith, append-nil}
+use Rattle.std.proofs.Common.{◌≡◌, ◌≢◌, ◌⊎◌, inl, inr, ⊎_elim, ℕ, ◌+◌, ◌<◌, ◌≤◌, Bool, true, false, if◌then◌else◌, List, [], ◌∷◌, ◌++◌, length, map, take, drop, All, Option, Some, None, option_map, is_some, sym, ap, subst, ◌∙◌, arith, append-nil, append_assoc}
 use Rattle.std.specs.List.{slice_get}
 use Rattle.std.proofs.lemmas.Bool.{cases_Bool}
 use Rattle.std.proofs.lemmas.List.{append_cancel_left}
@@ -15,16 +15,21 @@ use Rattle.rescue_rules.specs.declared.stop.RunEnd.{RunEnd}
 use Rattle.rescue_rules.specs.Setting.{Setting, IsSensible, place}
 use Rattle.rescue_rules.specs.Start.{Stands}
 use Rattle.rescue_rules.specs.Given.{last_of_both}
-use Rattle.rescue_rules.specs.Work.{Gain}
+use Rattle.rescue_rules.specs.Work.{Gain, AreMapReads}
+use Rattle.rescue_rules.specs.Events.{began_at}
+use Rattle.rescue_rules.proofs.StandsLemmas.{stands_for_one}
+use Rattle.mapfile_text.specs.declared.state.MapState.{MapState}
+use Rattle.block_list.specs.declared.status.Status.{Status}
 use Rattle.rescue_rules.specs.Stops.{Behind, files_before, has_barrier, LeftBy}
 use Rattle.rescue_rules.specs.StopsBy.{published, IsKeptBy}
 use Rattle.rescue_rules.proofs.CutLemmas.{Cut, cut_past}
 use Rattle.rescue_rules.proofs.MapfileLemmas.{opening_by}
 use Rattle.rescue_core.specs.RunState.{names_in}
-use Rattle.sweep_rules.specs.Sweep.{Sweep, Swept, generator, IsSweep, behind_piece}
+use Rattle.sweep_rules.specs.Sweep.{Sweep, Swept, Sweeper, generator, IsSweep, behind_piece, behind_pieces, sweep_over, sweep_end}
 use Rattle.sweep_rules.specs.SweepLaws.{AreGiven}
-use Rattle.sweep_rules.specs.SweepStops.{GeneratePromise, has_swept_out, sweep_saves}
+use Rattle.sweep_rules.specs.SweepStops.{GeneratePromise, SweepsOver, has_swept_out, sweep_saves}
 use Rattle.sweep_rules.specs.SweepWork.{sweep_begins, sweep_opening}
+use Rattle.sweep_rules.proofs.EndLemmas.{tailed, opening_is}
 use Rattle.sweep_rules.proofs.SweepLemmas.{piece_within}
 use Rattle.option_words.specs.Words.{command_line}
 use Rattle.rescue_command.specs.Command.{Generate}
@@ -54,7 +59,8 @@ use Rattle.rescue_safety.proofs.QuietLemmas.{still_none}
 use Rattle.rescue_safety.proofs.FinishedLemmas.{StandsAt, At, stands_at, StandsFinished, stands_finished, calls_finished, finished_has}
 use Rattle.rescue_safety.proofs.ClaimLemmas.{some_or_none}
 use Rattle.rescue_safety.proofs.LastGiven.{last_after}
-use Rattle.rescue_safety.proofs.LookedLemmas.{pieces_given, StartFrom, given_placed, save_was_finished}
+use Rattle.rescue_safety.proofs.LookedLemmas.{pieces_given, StartFrom, given_placed, Gives, never_given}
+use Rattle.rescue_safety.proofs.SeenLemmas.{Begins, calls_of_pieces, seen_in, part_looks, first_pieces, save_seen, none_saved}
 use Rattle.rescue_safety.proofs.SweepLooks.{looks_in, look_pairs, looked_by, IsBlind, cut_looks, blind_before, reads_blind, opening_blind, sweep_opening_blind, piece_look, sweep_looks, looked_pieces}
 use Rattle.rescue_safety.proofs.OwedLemmas.{IsSame, same_back, same_at, owed_before, next_owed, reads_left}
 
@@ -127,6 +133,62 @@ module _ (s : Setting) (files : List ℕ → Option File) (pieces : List Swept) 
         ∙ sweep_looks s m sweeps.events rest end sweeps.ends
         ∙ ap (map (piece_look s)) is
 
+-- it published nothing, or it began over the map that its mapfile stood for
+module _ (b : Behind) (s : Setting) (pieces : List Swept) (end : RunEnd) (on : s.has_mapfile ≡ true) (began : List Status)
+    (was : Option MapState) (stood : Stands (files_before b s.names.map) s.end began was) where
+  pub way_begins : (g : Gain) → SweepWay ⊤ s (generator s) (files_before b) pieces end g
+      → ((n : ℕ) → published (take n g.calls) ≡ 0) ⊎ Begins s began was g pieces end
+  way_begins g (InMaps maps reads cut still) = inl (λ n. still_none maps g.calls n (reads_still maps reads) cut)
+  way_begins g (BehindMaps maps h reads grew timed ready (Unbegun ends opens none)) =
+      let e : EarlyCut s false h.calls = early_cut s false (files_before b) h.calls on ends in
+      let front : List Call = opening_by s false ++ e.load in
+      inl (λ n. still_none (maps ++ front) g.calls n
+      (All-append IsStill maps front (reads_still maps reads)
+      (All-append IsStill (opening_by s false) e.load (opening_still s false) (reads_still e.load e.reads)))
+      (subst (λ (l : List Entry). Cut (maps ++ front) l) (sym grew) (cut_past maps front h.calls e.cut)))
+  way_begins g
+      (BehindMaps maps h reads grew timed ready (Begun opens load statuses state rest loaded stands all sweeps is)) =
+      let w : Sweeper = generator s in
+      let o : SweepsOver s w b statuses state h = record {
+        load = load;
+        loads = record { all = λ has. loaded; none = λ off. let e : true ≡ false = sym on ∙ off in absurd (cc) };
+        stands = stands;
+        rest = rest;
+        calls = all;
+        end = end;
+        sweeps = sweeps;
+      } in
+      let t = tailed b s w h statuses state on o in
+      let same = stands_for_one (files_before b s.names.map) s.end statuses began state was stands stood in
+      let one : sweep_begins w statuses state h ≡ sweep_begins w began was g
+      = ap (λ (ts : List ℕ). sweep_over w statuses state (began_at ts)) timed
+      ∙ ap (λ (l : List Status). sweep_over w l state (began_at g.times)) same.0
+      ∙ ap (λ (n : Option MapState). sweep_over w began n (began_at g.times)) same.1 in
+      let Cuts : Sweep → List Swept → Type 0
+      = λ m es. Cut (calls_of_pieces s (sweep_end (has_swept_out end) (behind_pieces w m es)) t.tail m es) rest in
+      let last_cut : Cuts (sweep_begins w began was g) pieces
+      = subst (λ (es : List Swept). Cuts (sweep_begins w began was g) es) is
+      (subst (λ (m : Sweep). Cuts m sweeps.events) one t.cut) in
+      let more : List Call = calls_of_pieces s
+      (sweep_end (has_swept_out end) (behind_pieces w (sweep_begins w began was g) pieces)) t.tail
+      (sweep_begins w began was g) pieces in
+      let front : List Call = sweep_opening s false ++ load in
+      let are_reads : AreMapReads load = load_reads s.names.map (files_before b s.names.map) load loaded.begins in
+      inr (record {
+        front = maps ++ front;
+        still = All-append IsStill maps front (reads_still maps reads)
+            (All-append IsStill (sweep_opening s false) load
+            (subst (λ (l : List Call). All IsStill l) (sym (opening_is s false on)) (opening_still s false))
+            (reads_still load are_reads));
+        blind = All-append IsBlind maps front (reads_blind maps reads)
+            (All-append IsBlind (sweep_opening s false) load (sweep_opening_blind s false) (reads_blind load are_reads));
+        tail = t.tail;
+        cut = subst (λ (l : List Call). Cut l g.calls) (sym (append_assoc maps front more))
+            (subst (λ (l : List Entry). Cut (maps ++ (front ++ more)) l) (sym grew)
+            (cut_past maps (front ++ more) h.calls
+            (subst (λ (l : List Entry). Cut (front ++ more) l) (sym all) (cut_past front more rest last_cut))));
+      })
+
 -- ---- what is owed at each stop
 
 abbrev pub own_target : Setting → Target
@@ -135,7 +197,9 @@ own_target s = record { outfile = s.outfile; mapfile = s.names.map; from = s.fro
 module _ (b : Behind) (s : Setting) (g : Gain) (pieces : List Swept) (end : RunEnd)
     (comes : Comes s (files_before b) g.calls) (starts : StartFrom s.from pieces)
     (given : AreGiven s (bytes_of (files_before b s.outfile)) pieces) (stops : GenerateStops b s pieces end g)
-    (apart : s.outfile ≢ s.names.map) where
+    (apart : s.outfile ≢ s.names.map)
+    (begins : (began : List Status) (was : Option MapState) → Stands (files_before b s.names.map) s.end began was
+    → ((n : ℕ) → published (take n g.calls) ≡ 0) ⊎ Begins s began was g pieces end) where
   abbrev u : Target
   u = own_target s
 
@@ -155,27 +219,27 @@ module _ (b : Behind) (s : Setting) (g : Gain) (pieces : List Swept) (end : RunE
       (λ (at : StandsAt (files_before b s.names.map) s.end). at)
       comes
 
-  module _ (gave : List (ℕ × ℕ)) (old : ℕ → Bool) (image : List ℕ)
-      (stand : (y : ℕ) → y < length old_bytes → slice_get image y ≡ slice_get old_bytes y) where
+  module _ (gave : List (ℕ × ℕ)) (old : ℕ → Bool) (image : List ℕ) (front : List Swept) (first : StartFrom s.from front)
+      (got : AreGiven s old_bytes front) (stand : (y : ℕ) → y < length old_bytes → slice_get image y ≡ slice_get old_bytes y) where
     -- a position that some piece gave a byte
-    given_now : (x byte : ℕ) → last_given (pieces_given pieces) x ≡ Some byte
-        → HoldsLast u (gave ++ pieces_given pieces) image x
+    given_now : (x byte : ℕ) → last_given (pieces_given front) x ≡ Some byte
+        → HoldsLast u (gave ++ pieces_given front) image x
     given_now x byte is =
-        let p = given_placed s old_bytes pieces x byte starts given is in
+        let p = given_placed s old_bytes front x byte first got is in
         record {
           byte = byte;
-          given = last_after gave (pieces_given pieces) x ∙ ap (λ (o : Option ℕ). last_of_both o (last_given gave x)) is;
+          given = last_after gave (pieces_given front) x ∙ ap (λ (o : Option ℕ). last_of_both o (last_given gave x)) is;
           place = place s x;
           at = omega (arith, p.0);
           holds = stand (place s x) (slice_get_within old_bytes (place s x) byte p.1) ∙ p.1;
         }
 
     -- and one that none did
-    given_before : (x : ℕ) → last_given (pieces_given pieces) x ≡ None → HoldsLast u gave old_bytes x
-        → HoldsLast u (gave ++ pieces_given pieces) image x
+    given_before : (x : ℕ) → last_given (pieces_given front) x ≡ None → HoldsLast u gave old_bytes x
+        → HoldsLast u (gave ++ pieces_given front) image x
     given_before x none h = record {
       byte = h.byte;
-      given = last_after gave (pieces_given pieces) x ∙ ap (λ (o : Option ℕ). last_of_both o (last_given gave x)) none
+      given = last_after gave (pieces_given front) x ∙ ap (λ (o : Option ℕ). last_of_both o (last_given gave x)) none
           ∙ h.given;
       place = h.place;
       at = h.at;
@@ -187,9 +251,37 @@ module _ (b : Behind) (s : Setting) (g : Gain) (pieces : List Swept) (end : RunE
     abbrev image : List ℕ
     image = bytes_of (files s.outfile)
 
+    -- the pieces that it had read by then
+    abbrev front : List Swept
+    front = take (seen_in (take (k + 1) g.calls)) pieces
+
+    front_starts : StartFrom s.from front
+    front_starts = first_pieces (λ (e : Swept). s.from ≤ e.pos) (seen_in (take (k + 1) g.calls)) pieces starts
+
+    front_given : AreGiven s old_bytes front
+    front_given =
+        first_pieces (λ (e : Swept). e.got ≡ take e.len (drop (place s e.pos) old_bytes)) (seen_in (take (k + 1) g.calls)) pieces
+        given
+
+    was_began : (began : List Status) (was : Option MapState) (there : Stands (files_before b s.names.map) s.end began was)
+        (kept : IsKeptBy (sweep_saves (generator s) began was g pieces end)
+        (λ number map image. GeneratePromise s old_bytes began map image) b s g.calls began k files) (x : ℕ)
+        → last_given (pieces_given front) x ≡ None → Has kept.statuses Finished x → Has began Finished x
+    was_began began was there kept x none has =
+        ⊎_elim
+        (λ (quiet : (n : ℕ) → published (take n g.calls) ≡ 0).
+        none_saved (files_before b s.names.map) (files s.names.map) began s.line
+        (sweep_saves (generator s) began was g pieces end) kept.number kept.statuses x kept.is_save
+        (omega (arith, kept.no_newer, quiet (k + 1))) has)
+        (λ (bg : Begins s began was g pieces end).
+        ⊎_elim (λ (h : Has began Finished x). h) (λ (given : Gives front x). absurd (never_given front x none given))
+        (save_seen s began was g pieces end bg (files_before b s.names.map) (files s.names.map) s.line (k + 1) kept.number
+        kept.statuses x kept.is_save kept.no_newer has))
+        (begins began was there)
+
     -- once its barrier has returned
     owed_over : (x : ℕ) → IsOwedAt u gave old b → has_barrier (take k g.calls) ≡ true → CallsFinished (files s.names.map) x
-        → StandsAt (files_before b s.names.map) s.end → (old x ≡ true) ⊎ HoldsLast u (gave ++ pieces_given pieces) image x
+        → StandsAt (files_before b s.names.map) s.end → (old x ≡ true) ⊎ HoldsLast u (gave ++ pieces_given front) image x
     owed_over x owed is fin (At began was there) =
         let kept : IsKeptBy (sweep_saves (generator s) began was g pieces end)
         (λ number map image. GeneratePromise s old_bytes began map image) b s g.calls began k files
@@ -198,23 +290,21 @@ module _ (b : Behind) (s : Setting) (g : Gain) (pieces : List Swept) (end : RunE
         let has : Has kept.statuses Finished x
         = finished_has (files s.names.map) s.end x kept.statuses kept.shows kept.stands fin in
         ⊎_elim
-        (λ (some : (byte : ℕ) × (last_given (pieces_given pieces) x ≡ Some byte)).
-        inr (given_now gave old image kept.held.stands x some.0 some.1))
-        (λ (none : last_given (pieces_given pieces) x ≡ None).
+        (λ (some : (byte : ℕ) × (last_given (pieces_given front) x ≡ Some byte)).
+        inr (given_now gave old image front front_starts front_given kept.held.stands x some.0 some.1))
+        (λ (none : last_given (pieces_given front) x ≡ None).
         ⊎_elim (λ (is : old x ≡ true). inl is)
-        (λ (h : HoldsLast u gave old_bytes x). inr (given_before gave old image kept.held.stands x none h))
+        (λ (h : HoldsLast u gave old_bytes x). inr (given_before gave old image front front_starts front_given kept.held.stands x none h))
         (first.each x (calls_finished (files_before b s.names.map) s.end x began was there
-        (save_was_finished s (files_before b s.names.map) (files s.names.map) s.line
-        (sweep_begins (generator s) began was g) pieces (has_swept_out end) kept.number kept.statuses x kept.is_save none
-        has))))
-        (some_or_none (last_given (pieces_given pieces) x))
+        (was_began began was there kept x none has))))
+        (some_or_none (last_given (pieces_given front) x))
 
-    owed_late : IsOwedAt u gave old b → has_barrier (take k g.calls) ≡ true → IsOwedIn u (gave ++ pieces_given pieces) old files
+    owed_late : IsOwedAt u gave old b → has_barrier (take k g.calls) ≡ true → IsOwedIn u (gave ++ pieces_given front) old files
     owed_late owed is = record { each = λ x fin. owed_over x owed is fin (began_of k files x le left is fin) }
 
-    pub owed_at_stop : IsOwedAt u gave old b → IsOwedIn u (gave ++ after_barrier (take k g.calls) (pieces_given pieces)) old files
+    pub owed_at_stop : IsOwedAt u gave old b → IsOwedIn u (gave ++ after_barrier (take k g.calls) (pieces_given front)) old files
     owed_at_stop owed =
-        let some : Bool → List (ℕ × ℕ) = λ c. if c then pieces_given pieces else [] in
+        let some : Bool → List (ℕ × ℕ) = λ c. if c then pieces_given front else [] in
         ⊎_elim
         (λ (is : has_barrier (take k g.calls) ≡ true).
         subst (λ (c : Bool). IsOwedIn u (gave ++ some c) old files) (sym is) (owed_late owed is))
@@ -290,20 +380,32 @@ module _ (t : Target) (l : Link) (apart : t.outfile ≢ t.mapfile) (q : IsGenera
       subst (λ (n : Behind). NextBegins n g.calls q.step.moment l.next) q.step.before
       (subst (λ (cs : List Entry). NextBegins l.before cs q.step.moment l.next) calls_are q.step.next)
 
-  -- what it gave is what its pieces got
-  pairs_are : looked_at t (bytes_of (files_before l.before t.outfile)) q.call.calls ≡ pieces_given p.pieces
-  pairs_are =
-      ap (λ (n : Behind). looked_at t (bytes_of (files_before n t.outfile)) q.call.calls) q.step.before
-      ∙ ap (λ (n : List ℕ). looked_at t (bytes_of (files_before b n)) q.call.calls) (sym q.step.outfile)
-      ∙ looked_by t (bytes_of (files_before b s.outfile)) q.call.calls
-      ∙ ap (λ (ls : List (ℕ × ℕ)). look_pairs t (bytes_of (files_before b s.outfile)) ls)
-      (ap looks_in calls_are ∙ way_looks s (files_of q.call.told) p.pieces p.end on g silent way)
-      ∙ looked_pieces t s (bytes_of (files_before b s.outfile)) p.pieces q.step.places starts given
+  -- what it gave is what its pieces got that it had read by then
+  abbrev got_by_then : List Swept
+  got_by_then = take (seen_in (take (q.step.moment + 1) g.calls)) p.pieces
 
-  gave_is : l.gave ≡ after_barrier (take q.step.moment g.calls) (pieces_given p.pieces)
+  abbrev bytes : List ℕ
+  bytes = bytes_of (files_before b s.outfile)
+
+  pairs_are : looked_at t (bytes_of (files_before l.before t.outfile)) (take (q.step.moment + 1) q.call.calls)
+      ≡ pieces_given got_by_then
+  pairs_are =
+      let n : ℕ = seen_in (take (q.step.moment + 1) g.calls) in
+      let part : List Entry = take (q.step.moment + 1) q.call.calls in
+      ap (λ (n : Behind). looked_at t (bytes_of (files_before n t.outfile)) part) q.step.before
+      ∙ ap (λ (n : List ℕ). looked_at t (bytes_of (files_before b n)) part) (sym q.step.outfile)
+      ∙ looked_by t bytes part
+      ∙ ap (λ (ls : List (ℕ × ℕ)). look_pairs t bytes ls)
+      (ap (λ (cs : List Entry). looks_in (take (q.step.moment + 1) cs)) calls_are
+      ∙ part_looks s g.calls (q.step.moment + 1) p.pieces (way_looks s (files_of q.call.told) p.pieces p.end on g silent way))
+      ∙ looked_pieces t s bytes got_by_then q.step.places
+      (first_pieces (λ (e : Swept). s.from ≤ e.pos) n p.pieces starts)
+      (first_pieces (λ (e : Swept). e.got ≡ take e.len (drop (place s e.pos) bytes)) n p.pieces given)
+
+  gave_is : l.gave ≡ after_barrier (take q.step.moment g.calls) (pieces_given got_by_then)
   gave_is =
       q.gave ∙ ap (after_barrier (take q.step.moment q.call.calls)) pairs_are
-      ∙ ap (λ (cs : List Entry). after_barrier (take q.step.moment cs) (pieces_given p.pieces)) calls_are
+      ∙ ap (λ (cs : List Entry). after_barrier (take q.step.moment cs) (pieces_given got_by_then)) calls_are
 
   own_apart : s.outfile ≢ s.names.map
   own_apart = λ is. apart (sym same.outfile ∙ is ∙ same.mapfile)
@@ -311,7 +413,7 @@ module _ (t : Target) (l : Link) (apart : t.outfile ≢ t.mapfile) (q : IsGenera
   pub generating_owes : (gave : List (ℕ × ℕ)) (old : ℕ → Bool) → IsOwedAt t gave old l.before
       → IsOwedAt t (gave ++ l.gave) old l.next
   generating_owes gave old owed =
-      let gives : List (ℕ × ℕ) = after_barrier (take q.step.moment g.calls) (pieces_given p.pieces) in
+      let gives : List (ℕ × ℕ) = after_barrier (take q.step.moment g.calls) (pieces_given got_by_then) in
       let here : IsOwedAt (own_target s) gave old b
       = same_at t (own_target s) (same_back (own_target s) t same) gave old b
       (subst (λ (n : Behind). IsOwedAt t gave old n) q.step.before owed) in
@@ -320,4 +422,5 @@ module _ (t : Target) (l : Link) (apart : t.outfile ≢ t.mapfile) (q : IsGenera
       (next_owed (own_target s) (gave ++ gives) old b g.calls q.step.moment l.next
       (λ files left. owed_at_stop b s g p.pieces p.end
       (way_comes s (files_of q.call.told) p.pieces p.end on g way) starts given (p.stops q.call.site_tells) own_apart
+      (λ began was there. way_begins b s p.pieces p.end on began was there g way)
       gave old q.step.moment files within left here) next))

@@ -90,7 +90,7 @@ looked_by t image (e ∷ es) =
     ∙ ap (look_pairs t image) (sym (looks_step e es))
 
 -- calls one after the other
-looks_both : (es fs : List Entry) → looks_in (es ++ fs) ≡ looks_in es ++ looks_in fs
+pub looks_both : (es fs : List Entry) → looks_in (es ++ fs) ≡ looks_in es ++ looks_in fs
 looks_both [] fs = refl
 looks_both (e ∷ es) fs =
     looks_step e (es ++ fs) ∙ ap (λ (l : List (ℕ × ℕ)). look_of e ++ l) (looks_both es fs)
@@ -178,7 +178,7 @@ appends_blind : (ps : List (List ℕ)) → All IsBlind (map draft_append ps)
 appends_blind [] = All-nil IsBlind
 appends_blind (p ∷ ps) = All-cons IsBlind (draft_append p) (map draft_append ps) refl (appends_blind ps)
 
-save_blind : (names : MapNames) (text : List ℕ) → All IsBlind (save_calls names text)
+pub save_blind : (names : MapNames) (text : List ℕ) → All IsBlind (save_calls names text)
 save_blind names text =
     let end : List Call = draft_sync ∷ draft_publish names.map ∷ map_settle names.map ∷ [] in
     All-cons IsBlind image_sync (draft_begin names.draft ∷ (fill_calls text ++ end)) refl

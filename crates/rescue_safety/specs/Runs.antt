@@ -75,14 +75,14 @@ pub record IsRescue (t : Target) (l : Link) : Type 0 where
   pub gave : l.gave ≡ after_barrier (take step.moment rescue.did.call.calls)
       (pairs_of rescue.command.options.sector (by_then (run_of rescue reads) step.moment).reads)
 
--- A generating on the target, which marks what the output holds: it gave what it read there.
+-- A generating on the target, which marks what the output holds: it gave what it had read there by then.
 pub record IsGenerating (t : Target) (l : Link) : Type 0 where
   pub call : Invocation
   pub command : Command
   pub asks : AskTask call.told.words (Generate command)
   pub step : IsStep t l call command
   pub gave : l.gave ≡ after_barrier (take step.moment call.calls)
-      (looked_at t (bytes_of (files_before l.before t.outfile)) call.calls)
+      (looked_at t (bytes_of (files_before l.before t.outfile)) (take (step.moment + 1) call.calls))
 
 pub data IsLink (t : Target) (l : Link) : Type 0 where
   OfRescue : IsRescue t l → IsLink t l
