@@ -1,4 +1,5 @@
 -- By how far the reads came.
+use Rattle.std.proofs.Common.{◌∙◌}
 use Rattle.std.proofs.lemmas.Result.{err_from_is_err_and}
 use Rattle.log_command.specs.Command.{told_by}
 use Rattle.ddrescuelog_cli.proofs.LoadedLemmas.{mapfile_refused, other_refused, domain_refused, loaded_or_starved, cause_behind}
@@ -25,6 +26,13 @@ returns-in_err-other-clause-cause g c =
     let p = err_from_is_err_and c.from_residual-in_err-other.result c.from_residual-in_err-other.ensures.1 in
     rw (p.1, p.2)
     (cause_behind c.in_err-other.field-0.0 _ _ _ c.in_ok-map.ensures.kept c.in_err-other.ensures.cause)
+
+pub returns-in_err-domain_map-clause-cause : goal.returns-in_err-domain_map-clause-cause
+returns-in_err-domain_map-clause-cause g c =
+    let p = err_from_is_err_and c.from_residual-in_err-domain_map.result c.from_residual-in_err-domain_map.ensures.1 in
+    rw (p.1, p.2)
+    (cause_behind c.in_err-domain_map.field-0.0 _ _ _ (c.in_ok-other.ensures.kept ∙ c.in_ok-map.ensures.kept)
+    c.in_err-domain_map.ensures.cause)
 
 pub returns-in_err-domain_map-clause-maps : goal.returns-in_err-domain_map-clause-maps
 returns-in_err-domain_map-clause-maps g c =
