@@ -1,4 +1,4 @@
-ghost use Rattle.std.specs.Prelude.{◌≡◌, ◌+◌, ◌<◌, ◌≤◌, ◌^◌, true, false, length, vec_len};
+ghost use Rattle.std.specs.Prelude.{◌≡◌, ◌+◌, ◌<◌, ◌≤◌, ◌^◌, true, false, nat_le, length, vec_len};
 ghost use Rattle.real_files.specs.Ahead.{GivesHeld, ReadsAhead, asked_ahead, holds, nothing_held};
 ghost use Rattle.faulty_source.specs.Expected.{most_ahead};
 
@@ -42,6 +42,13 @@ impl ExpectedReads {
     {
         self.from = from;
         self.to = to;
+    }
+
+    /// Whether there is room for as many bytes. Without it no read of that many is served by `give`.
+    pub fn has_room(&self, asked: usize) -> bool
+        ensures { result ≡ nat_le asked self.now.ahead.room }
+    {
+        asked <= self.ahead.room()
     }
 
     /// How many bytes may be read ahead from a position on.

@@ -59,6 +59,13 @@ impl ReadAhead {
         self.is_whole = true;
     }
 
+    /// How many bytes there is room for.
+    pub fn room(&self) -> usize
+        ensures { result ≡ self.now.room }
+    {
+        self.room.len()
+    }
+
     /// Whether the last read ahead gave all that it asked for.
     pub fn is_whole(&self) -> bool
         ensures { result ≡ self.now.is_whole }
