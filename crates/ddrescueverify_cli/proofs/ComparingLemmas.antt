@@ -82,8 +82,8 @@ pub halt_cause : (halt : Halt) (source source' : SourceState) (site site' : Site
     → source'.faults ≡ source.faults → CountsCompared (Err halt) source source' site site'
     → StopCause (answer_of_halt halt) source source' site site'
 halt_cause NoRoom source source' site site' same counts =
-    record { faults = same; losses = counts.0; site_faults = counts.1 }
+    record { stops = tt; also = tt; counts = record { faults = same; losses = counts.0; site_faults = counts.1 } }
 halt_cause InputLost source source' site site' same counts =
-    record { faults = same; losses = counts.0; site_faults = counts.1 }
+    record { stops = tt; also = tt; counts = record { faults = same; losses = counts.0; site_faults = counts.1 } }
 halt_cause ImageFault source source' site site' same counts =
-    record { faults = same; losses = counts.0; site_faults = counts.1 }
+    record { stops = tt; also = tt; counts = record { faults = same; losses = counts.0; site_faults = counts.1 } }

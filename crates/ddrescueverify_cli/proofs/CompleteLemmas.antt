@@ -1,88 +1,178 @@
--- Nothing else is answered than whether something differs, a refusal, a failure or want of memory.
-use Rattle.std.proofs.Common.{◌≢◌, ℕ, Bool, true, false, if◌then◌else◌, nat_eq, List, [], ◌∷◌, inl, inr, refl, subst, sym}
-use Rattle.std.specs.Prelude.{⊤}
-use Rattle.fault_count.proofs.CountLemmas.{not_risen}
+-- One verdict on one outside; nothing else is answered than whether something differs, a refusal, a failure or want of
+-- memory; and no position is read twice.
+use Rattle.std.proofs.Common.{◌≡◌, ◌≢◌, ◌≤◌, ℕ, List, [], ◌∷◌, ◌++◌, Option, count_by, inl, inr, refl, sym, ap, ◌∙◌, subst, arith, append-nil}
+use Rattle.std.proofs.lemmas.Option.{same_Some}
+use Rattle.crash_site.specs.Files.{File}
+use Rattle.faulty_source.specs.Journal.{Reading}
+use Rattle.mapfile_text.specs.declared.read.MapError.{MapError}
+use Rattle.mapfile_text.specs.declared.read.Mode.TheVariants.{Tight}
+use Rattle.option_words.specs.declared.fault.UsageFault.{UsageFault}
+use Rattle.option_words.specs.declared.fault.UsageFault.TheVariants.{Word, BadValue, Conflict, Modes, Operands, PlaceTooLarge}
 use Rattle.save_resume.specs.MapNames.{names_of}
 use Rattle.save_resume.specs.Saving.{save_calls}
-use Rattle.work_steps.specs.Work.{Deeds, Make}
-use Rattle.work_steps.specs.Verdicts.{AreVerdicts}
+use Rattle.save_resume.proofs.AnswerLemmas.{none_says_nothing, refused_for_one}
+use Rattle.work_steps.specs.Work.{Deeds, Make, Works}
+use Rattle.work_steps.specs.Verdicts.{IsOnce, RefuseOnce}
+use Rattle.work_steps.proofs.AnswerLemmas.{Stopped, Went, came}
 use Rattle.work_steps.proofs.VerdictLemmas.{goes_to_run}
+use Rattle.program_promise.specs.Kinds.{Starved}
+use Rattle.program_promise.proofs.PromiseLemmas.{keeps_promises}
 use Rattle.rescue_verify.specs.declared.halt.Halt.{Halt}
 use Rattle.rescue_verify.specs.declared.halt.Halt.TheVariants.{NoMemory as NoRoom, SourceLost as InputLost, ImageFault}
-use Rattle.rescue_verify.specs.declared.tally.Tally.{Tally}
-use Rattle.rescue_verify.specs.Looks.{Look}
-use Rattle.rescue_verify.specs.Comparing.{tally_of}
+use Rattle.rescue_verify.specs.Pieces.{AskForPieces, end_of_reads}
+use Rattle.rescue_verify.specs.Looks.{Look, reads_of}
+use Rattle.rescue_verify.specs.Laws.{asks_for}
+use Rattle.rescue_verify.specs.Comparing.{ComparisonPlan, HaltsAt, tally_of}
+use Rattle.rescue_verify.proofs.PieceLemmas.{asks_push, none_is_read_twice}
+use Rattle.verify_command.specs.declared.options.VerifyOptions.{VerifyOptions}
 use Rattle.verify_command.specs.Command.{Command}
+use Rattle.ddrescueverify_cli.specs.declared.ending.Operand.{Operand}
+use Rattle.ddrescueverify_cli.specs.declared.ending.Which.TheVariants.{RunMap}
 use Rattle.ddrescueverify_cli.specs.declared.ending.VerifyEnding.{VerifyEnding}
-use Rattle.ddrescueverify_cli.specs.declared.ending.VerifyEnding.TheVariants.{Done, Differs, Usage, SameName, NoMap, NoOutput, MapRefused, SourceFault, SourceLost, SiteFault, ConsoleFault, NoMemory}
-use Rattle.ddrescueverify_cli.specs.Answers.{Causes}
-use Rattle.ddrescueverify_cli.specs.Asked.{text_of}
-use Rattle.ddrescueverify_cli.specs.Ddrescueverify.{Promise}
-use Rattle.ddrescueverify_cli.specs.Laws.{IsComparedUnless, IsOfLooks, NothingFailed}
-use Rattle.ddrescueverify_cli.specs.Told.{Found, Told, line_of}
-use Rattle.ddrescueverify_cli.specs.Work.{EndsSaved, Halts, Completes, Verifies, answer_of_halt, verify_faults, verify_rows}
+use Rattle.ddrescueverify_cli.specs.declared.ending.VerifyEnding.TheVariants.{Usage, SameName, MapRefused, NoMemory}
+use Rattle.ddrescueverify_cli.specs.Answers.{row_of, usage_kind}
+use Rattle.ddrescueverify_cli.specs.Asked.{plan_of, text_of}
+use Rattle.ddrescueverify_cli.specs.Ddrescueverify.{verify_program}
+use Rattle.ddrescueverify_cli.specs.Laws.{HasOneVerdict, IsComparedUnless, IsOfLooks, IsVerdict, NoneIsReadTwice, VerifyKeepsPromises}
+use Rattle.ddrescueverify_cli.specs.Outside.{Found, Outside}
+use Rattle.ddrescueverify_cli.specs.Refusals.{MapfileRefused, NamesRefused, OutputRefused, PlacesRefused}
+use Rattle.ddrescueverify_cli.specs.Work.{EndsSaved, Halts, Completes, Verifies, answer_of_halt, answer_of_tally, verify_faults, verify_rows}
+use Rattle.ddrescueverify_cli.proofs.AnswerLemmas.{of_tally}
+use Rattle.ddrescueverify_cli.proofs.PromiseLemmas.{verify_made}
 
--- an answer that isn't for a fault
-abbrev IsVerdict : VerifyEnding → Type 0
-IsVerdict Done = ⊤
-IsVerdict (Differs bytes) = ⊤
-IsVerdict (Usage fault) = ⊤
-IsVerdict (SameName first second) = ⊤
-IsVerdict NoMap = ⊤
-IsVerdict NoOutput = ⊤
-IsVerdict (MapRefused which error) = ⊤
-IsVerdict SourceFault = ⊥
-IsVerdict SourceLost = ⊥
-IsVerdict (SiteFault call) = ⊥
-IsVerdict ConsoleFault = ⊥
-IsVerdict NoMemory = ⊥
+pub verify_keeps_promises : VerifyKeepsPromises
+verify_keeps_promises = keeps_promises verify_program verify_made
 
-verdicts : AreVerdicts verify_faults IsVerdict
-verdicts = record { memory = λ v. v; input = λ v. v; call = λ call v. v }
+-- ---- what a comparison brings
 
 halts_never : (halt : Halt) → IsVerdict (answer_of_halt halt) → ⊥
 halts_never NoRoom v = v
 halts_never InputLost v = v
 halts_never ImageFault v = v
 
-of_tally : (none : Bool) (bytes : ℕ) → IsOfLooks (if none then Done else Differs bytes)
-of_tally true bytes = tt
-of_tally false bytes = tt
-
-compared_of : (c : Command) (line : List ℕ) (found : Found) (end : ℕ) (looks : List Look) (e : VerifyEnding) (d : Deeds)
-    → Verifies c line found end looks e d → IsVerdict e → IsOfLooks e
-compared_of c line found end looks e d w v =
+-- a verdict of a comparison is what its looks bring
+verdict_is : (c : Command) (line : List ℕ) (found : Found) (end : ℕ) (looks : List Look) (e : VerifyEnding) (d : Deeds)
+    → Verifies c line found end looks e d → IsVerdict e → e ≡ answer_of_tally (tally_of looks)
+verdict_is c line found end looks e d w v =
     elim w.compares.ends [
       | Halts halt answer opens times halts ↦ absurd (halts_never halt (subst IsVerdict answer v))
       | Completes none works ↦
-          let tally : Tally = tally_of looks in
-          let ran : (did : Deeds) × EndsSaved c.options.quiet tally e did =
-          goes_to_run verify_faults IsVerdict verdicts
+          let ran : (did : Deeds) × EndsSaved c.options.quiet (tally_of looks) e did =
+          goes_to_run verify_faults IsVerdict verify_made.faults
           (Make (save_calls (names_of c.mapfile) (text_of line w.statuses w.shown looks)) ∷ [])
-          (EndsSaved c.options.quiet tally) tt e w.compares.rest works v in
+          (EndsSaved c.options.quiet (tally_of looks)) tt e w.compares.rest works v in
           elim ran.1.0 [
-            | inl is ↦ subst IsOfLooks (sym is) (of_tally (nat_eq tally.differing 0) tally.differing)
+            | inl is ↦ is
             | inr failed ↦ absurd (subst IsVerdict failed.1 v)
           ]
     ]
 
--- what is left for an answer
-no_fault : (t : Told) (e : VerifyEnding) → NothingFailed t → Causes e t → e ≢ NoMemory → IsVerdict e
-no_fault t SourceFault f cause room =
-    not_risen t.source.faults t.source'.faults f.opens_count f.opens cause.faults
-no_fault t SourceLost f cause room = not_risen t.source.losses t.source'.losses f.reads_count f.reads cause.losses
-no_fault t (SiteFault call) f cause room =
-    not_risen t.site.faults t.site'.faults f.calls_count f.calls cause.site_faults
-no_fault t ConsoleFault f cause room =
-    not_risen t.console.out.faults t.console'.out.faults f.puts_count f.puts cause.out_faults
-no_fault t NoMemory f cause room = room refl
-no_fault t _ f cause room = tt
+-- ---- one verdict
+
+names_once : (c : Command) → IsOnce (NamesRefused c)
+names_once c v w (first, second, same, is) (first', second', same', is') =
+    is ∙ ap (λ (p : Operand × Operand). SameName p.0 p.1) (same_Some (first, second) (first', second') (sym same ∙ same'))
+    ∙ sym is'
+
+output_once : (output : Option File) → IsOnce (OutputRefused output)
+output_once output v w r r' = r.1 ∙ sym r'.1
+
+mapfile_once : (mapfile : Option File) → IsOnce (MapfileRefused mapfile)
+mapfile_once mapfile v w (inl n) (inl n') = n.1 ∙ sym n'.1
+mapfile_once mapfile v w (inl n) (inr r) = absurd (r.2 (none_says_nothing mapfile Tight r.0 n.0 r.1))
+mapfile_once mapfile v w (inr r) (inl n) = absurd (r.2 (none_says_nothing mapfile Tight r.0 n.0 r.1))
+mapfile_once mapfile v w (inr r) (inr r') =
+    r.3 ∙ ap (λ (error : MapError). MapRefused RunMap error) (refused_for_one mapfile Tight r.0 r'.0 r.1 r'.1) ∙ sym r'.3
+
+places_once : (o : VerifyOptions) (end : ℕ) → IsOnce (PlacesRefused o end)
+places_once o end v w r r' = r.1 ∙ sym r'.1
+
+refused_once : (c : Command) (found : Found) (end : ℕ) → RefuseOnce (verify_rows c found end)
+refused_once c found end =
+    (names_once c, (output_once found.output, (mapfile_once found.mapfile, (places_once c.options end, tt))))
+
+pub has_one_verdict : HasOneVerdict
+has_one_verdict c o e e' d d' w w' v v' =
+    verify_keeps_promises.verdict c o e e' d d' (refused_once c o.found o.end)
+    (λ x x' did did' r r' u u'.
+    verdict_is c o.line o.found o.end o.looks x did r u ∙ sym (verdict_is c o.line o.found o.end o.looks x' did' r' u'))
+    w w' v v'
+
+-- ---- nothing else is answered
+
+-- one answer says that memory wasn't there
+usage_room : (fault : UsageFault) → usage_kind fault ≢ Starved
+usage_room PlaceTooLarge is = cc
+usage_room (Word fault) is = cc
+usage_room (BadValue n) is = cc
+usage_room (Conflict n) is = cc
+usage_room (Modes given) is = cc
+usage_room (Operands given) is = cc
+
+starved_is : (e : VerifyEnding) → (row_of e).kind ≡ Starved → e ≡ NoMemory
+starved_is NoMemory is = refl
+starved_is (Usage fault) is = absurd (usage_room fault is)
+starved_is e is = absurd (cc)
 
 pub compared_unless : IsComparedUnless
 compared_unless t c d asks failed pass room =
-    let p : Promise c d.between t = d.asked_for c asks in
-    let v : IsVerdict t.answer = no_fault t t.answer failed d.cause room in
-    let ran : (did : Deeds) × Verifies c (line_of t) p.outside.found p.outside.end p.outside.looks t.answer did =
-    goes_to_run verify_faults IsVerdict verdicts (verify_rows c p.outside.found p.outside.end)
-    (Verifies c (line_of t) p.outside.found p.outside.end p.outside.looks) pass t.answer p.outside.did p.works v in
-    compared_of c (line_of t) p.outside.found p.outside.end p.outside.looks t.answer ran.0 ran.1 v
+    let p = d.asked_for c asks in
+    let o : Outside = p.outside in
+    let v : IsVerdict t.answer =
+    verify_keeps_promises.brought t c d asks failed (λ is. room (starved_is t.answer is)) in
+    let ran : (did : Deeds) × Verifies c o.line o.found o.end o.looks t.answer did =
+    goes_to_run verify_faults IsVerdict verify_made.faults (verify_rows c o.found o.end)
+    (Verifies c o.line o.found o.end o.looks) pass t.answer p.did p.work v in
+    subst IsOfLooks (sym (verdict_is c o.line o.found o.end o.looks t.answer ran.0 ran.1 v))
+    (of_tally (tally_of o.looks) IsOfLooks refl (λ k. refl))
+
+-- ---- no position is read twice
+
+module _ (x : ℕ) where
+  abbrev Once : List Reading → Type 0
+  Once reads = count_by (asks_for x) reads ≤ 1
+
+  none_once : (reads : List Reading) → reads ≡ [] → Once reads
+  none_once reads is = subst Once (sym is) (omega arith)
+
+  idle_once : (p : ComparisonPlan) (looks : List Look) (more : List Reading)
+      → AskForPieces p.compared p.sector 0 (reads_of looks) → more ≡ [] → Once (reads_of looks ++ more)
+  idle_once p looks more asks none =
+      subst Once (sym (ap (λ (m : List Reading). reads_of looks ++ m) none ∙ append-nil (reads_of looks)))
+      (none_is_read_twice p.compared p.sector 0 (reads_of looks) x asks)
+
+  halted_once : (halt : Halt) (p : ComparisonPlan) (looks : List Look) (d : Deeds)
+      → AskForPieces p.compared p.sector 0 (reads_of looks)
+      → HaltsAt halt p (end_of_reads 0 (reads_of looks)) d.gain.reads d.gain.calls → Once (reads_of looks ++ d.gain.reads)
+  halted_once NoRoom p looks d asks h = idle_once p looks d.gain.reads asks h.0
+  halted_once InputLost p looks d asks h = idle_once p looks d.gain.reads asks h.3
+  halted_once ImageFault p looks d asks (r, piece, whole, is, lost) =
+      subst (λ (more : List Reading). Once (reads_of looks ++ more)) (sym is)
+      (none_is_read_twice p.compared p.sector 0 (reads_of looks ++ r ∷ []) x
+      (asks_push p.compared p.sector 0 (reads_of looks) r asks piece))
+
+  saved_reads : (c : Command) (text : List ℕ) (looks : List Look) (e : VerifyEnding) (d : Deeds)
+      → Works verify_faults (Make (save_calls (names_of c.mapfile) text) ∷ [])
+      (EndsSaved c.options.quiet (tally_of looks)) e d → d.gain.reads ≡ []
+  saved_reads c text looks e d (inl (call, is, broke, only)) = only.reads
+  saved_reads c text looks e d (inr (rest, is, (answer, idle))) = idle.gain.reads
+
+  module _ (c : Command) (line : List ℕ) (found : Found) (end : ℕ) (looks : List Look) where
+    run_once : (e : VerifyEnding) (d : Deeds) → Verifies c line found end looks e d → Once d.gain.reads
+    run_once e d v =
+        let p : ComparisonPlan = plan_of c.options end v.statuses in
+        let all : d.gain.reads ≡ reads_of looks ++ v.compares.rest.gain.reads =
+        ap (λ (y : Deeds). y.gain.reads) v.compares.is in
+        subst Once (sym all) (elim v.compares.ends [
+          | Halts halt answer opens times halts ↦ halted_once halt p looks v.compares.rest v.compares.asks halts
+          | Completes none works ↦
+              idle_once p looks v.compares.rest.gain.reads v.compares.asks
+              (saved_reads c (text_of line v.statuses v.shown looks) looks e v.compares.rest works)
+        ])
+
+pub read_once : NoneIsReadTwice
+read_once c o e d x w =
+    elim (came verify_faults (verify_rows c o.found o.end) (Verifies c o.line o.found o.end o.looks) e d w) [
+      | Stopped why none ↦ none_once x d.gain.reads none
+      | Went did ran same find ↦ subst (Once x) same (run_once x c o.line o.found o.end o.looks e did ran)
+    ]

@@ -2,10 +2,11 @@ mod OutputLemmas
 mod LoadLemmas
 mod SaveLemmas
 mod OpenedLemmas
-mod SaysLemmas
+mod AnswerLemmas
 mod ShapeLemmas
 mod StopsLemmas
 mod OtherLemmas
+mod WorkedLemmas
 mod PromiseLemmas
 mod JudgeLemmas
 mod CompleteLemmas

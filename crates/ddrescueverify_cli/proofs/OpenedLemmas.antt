@@ -1,12 +1,13 @@
 -- What a comparison did behind its names, by where it ended, whatever the objects tell.
-use Rattle.std.proofs.Common.{◌≡◌, ℕ, false, IsTrue, List, [], ◌∷◌, ◌++◌, map, length, Option, Some, None, Result, Ok, Err, refl, sym, ap, ◌∙◌, inl, inr, subst, append_assoc, append-nil}
+use Rattle.std.proofs.Common.{◌≡◌, ℕ, false, IsTrue, List, [], ◌∷◌, ◌++◌, map, length, All, Option, Some, None, Result, Ok, Err, refl, sym, ap, ◌∙◌, inl, inr, subst, append_assoc, append-nil}
+use Rattle.std.proofs.lemmas.List.Elements.{All-nil}
 use Rattle.block_list.specs.declared.status.Status.{Status}
 use Rattle.mapfile_text.specs.declared.state.MapState.{MapState}
 use Rattle.mapfile_text.specs.HeadingLines.{HeadingLines}
 use Rattle.mapfile_text.specs.Printed.{printed}
 use Rattle.faulty_source.specs.Journal.{Reading}
 use Rattle.faulty_source.specs.SourceState.{SourceState}
-use Rattle.faulty_source.specs.SourceChanges.{Stays as SourceStays, AnswersOpen, PlansOpen}
+use Rattle.faulty_source.specs.SourceChanges.{Keeps as SourceKeeps, Stays as SourceStays, AnswersOpen, PlansOpen}
 use Rattle.crash_site.specs.Files.{File, bytes_of, file_at}
 use Rattle.crash_site.specs.Folder.{Folder, opened, after}
 use Rattle.crash_site.specs.Calls.{Call, Entry, Done as Returned, image_open}
@@ -25,18 +26,20 @@ use Rattle.work_steps.proofs.FrontLemmas.{load_reads, reads_stand}
 use Rattle.work_steps.proofs.PartLemmas.{stopped_more, through_then, grew_both}
 use Rattle.rescue_verify.specs.declared.tally.Tally.{Tally}
 use Rattle.rescue_verify.specs.Looks.{Look, reads_of, seen_in, look_calls}
+use Rattle.rescue_verify.specs.Looking.{IsFrom}
 use Rattle.rescue_verify.specs.Verified.{judged_by}
 use Rattle.rescue_verify.specs.Comparing.{ComparisonPlan, tally_of, Compares}
 use Rattle.verify_command.specs.declared.options.VerifyOptions.{VerifyOptions}
 use Rattle.verify_command.specs.Command.{Command}
+use Rattle.program_promise.specs.Opens.{AreOpens}
 use Rattle.ddrescueverify_cli.specs.declared.ending.VerifyEnding.{VerifyEnding}
 use Rattle.ddrescueverify_cli.specs.declared.ending.VerifyEnding.TheVariants.{NoOutput, SourceFault}
 use Rattle.ddrescueverify_cli.specs.declared.open.LoadedMap.{LoadedMap}
 use Rattle.ddrescueverify_cli.specs.Asked.{IsBeyond, heading_of, plan_of, shown_for, text_of}
 use Rattle.ddrescueverify_cli.specs.Refusals.{OutputRefused, PlacesRefused}
-use Rattle.ddrescueverify_cli.specs.Told.{Found, AreOpens, found_in, place_by}
+use Rattle.ddrescueverify_cli.specs.Outside.{Found, found_in, place_by}
 use Rattle.ddrescueverify_cli.specs.Work.{ComparesOver, EndsBehind, EndsSaved, Halts, IsAnswer, Completes, Verifies, behind_looks, load_rows, opened_rows, output_rows, verify_faults}
-use Rattle.ddrescueverify_cli.specs.Steps.{Beyond, DidWork, Halted, Loads, OpensOutput, SavesText, Starved, StopsComparing, Worked}
+use Rattle.ddrescueverify_cli.specs.Steps.{Beyond, DidWork, Halted, Loads, OpensOutput, SavesText, Starved, StopsComparing, WentOn}
 
 -- ---- the open of the input
 
@@ -44,7 +47,7 @@ use Rattle.ddrescueverify_cli.specs.Steps.{Beyond, DidWork, Halted, Loads, Opens
 pub record HasInput (infile : List ℕ) (end : ℕ) (s0 s1 : SourceState) : Type 0 where
   pub opened : AreOpens (IsOpened infile ∷ []) s0 s1
   pub same : IsTrue s0.tells → s1.journal ≡ s0.journal
-  pub tells : s1.tells ≡ s0.tells
+  pub keeps : SourceKeeps s0 s1
   pub all : IsTrue s0.tells → end ≡ length s0.bytes
 
 pub not_opened : {E : Type 0} (infile : List ℕ) (r : Result ℕ E) (s0 s1 : SourceState) → ((n : ℕ) → r ≡ Ok n → ⊥)
@@ -56,20 +59,20 @@ not_opened infile (Err e) s0 s1 never call plan =
 
 pub input_fails : (c : Command) (l : List ℕ) (s0 s1 : SourceState) (d : SiteState)
     → (IsTrue s0.tells → s1.journal ≡ s0.journal) → AreOpens (Unopened c.infile ∷ []) s0 s1
-    → Worked c l (Err SourceFault) s0 s1 d d
+    → WentOn c l (Err SourceFault) s0 s1 d d
 input_fails c l s0 s1 d same opens = record {
-  outside = record {
-    found = found_in c (files_in d);
-    end = length s0.bytes;
-    looks = [];
-    did = record { opens = Unopened c.infile ∷ []; gain = record { calls = []; reads = []; times = [] } };
+  outside = record { line = l; found = found_in c (files_in d); end = length s0.bytes; looks = [] };
+  did = record { opens = Unopened c.infile ∷ []; gain = record { calls = []; reads = []; times = [] } };
+  line_is = refl;
+  agrees = record {
+    opens = opens;
+    end = λ tells. refl;
+    reads = λ tells. same tells ∙ sym (append-nil s0.journal);
+    right = λ tells. All-nil (IsFrom s0.bytes);
+    found = λ tells. refl;
+    calls = λ tells. sym (append-nil d.calls);
+    seen = λ tells. refl;
   };
-  opens = opens;
-  end = λ tells. refl;
-  reads = λ tells. same tells ∙ sym (append-nil s0.journal);
-  found = λ tells. refl;
-  calls = λ tells. sym (append-nil d.calls);
-  seen = λ tells. refl;
   works = inl (refl, refl, record { calls = refl; reads = refl; times = refl });
 }
 
@@ -80,17 +83,23 @@ abbrev later_rows : (c : Command) → (mapfile : Option File) → (end : ℕ) �
 later_rows c mapfile end = load_rows c.mapfile mapfile ++ LookAt (PlacesRefused c.options end) ∷ Take ∷ []
 
 pub output_fails : (c : Command) (l : List ℕ) (end : ℕ) (e : VerifyEnding) (s0 s1 : SourceState) (d0 d1 : SiteState)
-    → HasInput c.infile end s0 s1 → OpensOutput {T = Unit {0}} c.outfile (Err e) d0 d1 → Worked c l (Err e) s0 s1 d0 d1
+    → HasInput c.infile end s0 s1 → OpensOutput {T = Unit {0}} c.outfile (Err e) d0 d1 → WentOn c l (Err e) s0 s1 d0 d1
 output_fails c l end e s0 s1 d0 d1 input o =
     let found : Found = record { output = o.file; mapfile = files_in d0 c.mapfile } in
     record {
-      outside = record { found = found; end = end; looks = []; did = behind_open c.infile (only_calls o.calls) };
-      opens = input.opened;
-      end = input.all;
-      reads = λ tells. input.same tells ∙ sym (append-nil s0.journal);
-      found = λ tells. ap (λ (f : Option File). record { output = f; mapfile = files_in d0 c.mapfile }) (o.is_own tells);
-      calls = o.gained;
-      seen = λ tells. refl;
+      outside = record { line = l; found = found; end = end; looks = [] };
+      did = behind_open c.infile (only_calls o.calls);
+      line_is = refl;
+      agrees = record {
+        opens = input.opened;
+        end = input.all;
+        reads = λ tells. input.same tells ∙ sym (append-nil s0.journal);
+        right = λ tells. All-nil (IsFrom s0.bytes);
+        found = λ tells.
+            ap (λ (f : Option File). record { output = f; mapfile = files_in d0 c.mapfile }) (o.is_own tells);
+        calls = o.gained;
+        seen = λ tells. refl;
+      };
       works = inr (
         [],
         refl,
@@ -154,25 +163,25 @@ own_found c n end r d0 d1 d2 h p tells =
 
 pub load_fails : (c : Command) (l : List ℕ) (n : MapNames) (end : ℕ) (e : VerifyEnding) (s0 s1 : SourceState)
     (d0 d1 d2 : SiteState) → HasInput c.infile end s0 s1 → HasLoaded c n end (Err e) d0 d1 d2
-    → Worked c l (Err e) s0 s1 d0 d2
+    → WentOn c l (Err e) s0 s1 d0 d2
 load_fails c l n end e s0 s1 d0 d1 d2 input h =
     let o : OpensOutput {T = Unit {0}} c.outfile (Ok tt) d0 d1 = h.output in
     let p : Loads c.mapfile end (Err e) d1 d2 = own_loads c n end (Err e) d0 d1 d2 h in
     let found : Found = record { output = o.file; mapfile = p.file } in
     record {
-      outside = record {
-        found = found;
-        end = end;
-        looks = [];
-        did = behind_open c.infile (behind_entries o.calls (only_calls p.calls));
+      outside = record { line = l; found = found; end = end; looks = [] };
+      did = behind_open c.infile (behind_entries o.calls (only_calls p.calls));
+      line_is = refl;
+      agrees = record {
+        opens = input.opened;
+        end = input.all;
+        reads = λ tells. input.same tells ∙ sym (append-nil s0.journal);
+        right = λ tells. All-nil (IsFrom s0.bytes);
+        found = own_found c n end (Err e) d0 d1 d2 h p;
+        calls = λ tells. p.gained (rw h.keeps.tells tells) ∙ ap (λ (r : List Entry). r ++ p.calls) (o.gained tells)
+            ∙ append_assoc d0.calls o.calls p.calls;
+        seen = λ tells. refl;
       };
-      opens = input.opened;
-      end = input.all;
-      reads = λ tells. input.same tells ∙ sym (append-nil s0.journal);
-      found = own_found c n end (Err e) d0 d1 d2 h p;
-      calls = λ tells. p.gained (rw h.keeps.tells tells) ∙ ap (λ (r : List Entry). r ++ p.calls) (o.gained tells)
-          ∙ append_assoc d0.calls o.calls p.calls;
-      seen = λ tells. refl;
       works = inr (
         [],
         refl,
@@ -207,12 +216,8 @@ record GoesOn (c : Command) (l : List ℕ) (end : ℕ) (result : Result Tally Ve
     (found : Found) (d : Deeds) : Type 0 where
   works : (output load : List Entry) → WentThrough (output_rows c.outfile found.output) output
       → WentThrough (load_rows c.mapfile found.mapfile) load
-      → DidWork c l (record {
-        found = found;
-        end = end;
-        looks = looks;
-        did = behind_open c.infile (behind_entries output (behind_entries load d));
-      }) result
+      → DidWork c (record { line = l; found = found; end = end; looks = looks })
+      (behind_open c.infile (behind_entries output (behind_entries load d))) result
 
 -- the image that is open behind the load is the output, as it was
 still_open : (file : Option File) → ((v : VerifyEnding) → OutputRefused file v → ⊥) → (d : Folder) (out : List ℕ)
@@ -260,6 +265,7 @@ record Behind (c : Command) (l : List ℕ) (end : ℕ) (found : Found) (result :
   reads : List Reading
   goes : GoesOn c l end result looks found (record { opens = []; gain = record { calls = calls; reads = reads; times = [] } })
   journal : IsTrue s1.tells → s2.journal ≡ s1.journal ++ reads
+  right : IsTrue s1.tells → All (IsFrom s1.bytes) reads
   grew : IsTrue d2.tells → d3.calls ≡ d2.calls ++ calls
   seen : IsTrue d0.tells
       → looks ≡ map (seen_in (bytes_of (files_in d0 c.outfile)) (place_by c)) (reads_of looks)
@@ -271,27 +277,29 @@ all_worked : (c : Command) (l : List ℕ) (n : MapNames) (end : ℕ) (loaded : L
     → (h : HasLoaded c n end (Ok loaded) d0 d1 d2) → d2.tells ≡ d0.tells
     → Behind c l end (record { output = h.output.file; mapfile = (own_loads c n end (Ok loaded) d0 d1 d2 h).file })
     result s1 s2 d0 d2 d3
-    → Worked c l result s0 s2 d0 d3
+    → WentOn c l result s0 s2 d0 d3
 all_worked c l n end loaded result s0 s1 s2 d0 d1 d2 d3 input h told b =
     let o : OpensOutput {T = Unit {0}} c.outfile (Ok tt) d0 d1 = h.output in
     let p : Loads c.mapfile end (Ok loaded) d1 d2 = own_loads c n end (Ok loaded) d0 d1 d2 h in
     let found : Found = record { output = o.file; mapfile = p.file } in
     let deeds : Deeds = record { opens = []; gain = record { calls = b.calls; reads = b.reads; times = [] } } in
     record {
-      outside = record {
-        found = found;
-        end = end;
-        looks = b.looks;
-        did = behind_open c.infile (behind_entries o.calls (behind_entries p.calls deeds));
+      outside = record { line = l; found = found; end = end; looks = b.looks };
+      did = behind_open c.infile (behind_entries o.calls (behind_entries p.calls deeds));
+      line_is = refl;
+      agrees = record {
+        opens = (b.opens ∙ input.opened.0, λ tells. b.name (rw input.keeps.tells tells) ∙ input.opened.1 tells);
+        end = input.all;
+        reads = λ tells. b.journal (rw input.keeps.tells tells)
+            ∙ ap (λ (j : List Reading). j ++ b.reads) (input.same tells);
+        right = λ tells. subst (λ (bytes : List ℕ). All (IsFrom bytes) b.reads) (input.keeps.bytes tells)
+            (b.right (rw input.keeps.tells tells));
+        found = own_found c n end (Ok loaded) d0 d1 d2 h p;
+        calls = λ tells. b.grew (rw told tells)
+            ∙ grew_both d0.calls d1.calls d2.calls b.calls o.calls p.calls (o.gained tells)
+            (p.gained (rw h.keeps.tells tells));
+        seen = b.seen;
       };
-      opens = (b.opens ∙ input.opened.0, λ tells. b.name (rw input.tells tells) ∙ input.opened.1 tells);
-      end = input.all;
-      reads = λ tells. b.journal (rw input.tells tells) ∙ ap (λ (j : List Reading). j ++ b.reads) (input.same tells);
-      found = own_found c n end (Ok loaded) d0 d1 d2 h p;
-      calls = λ tells. b.grew (rw told tells)
-          ∙ grew_both d0.calls d1.calls d2.calls b.calls o.calls p.calls (o.gained tells)
-          (p.gained (rw h.keeps.tells tells));
-      seen = b.seen;
       works = b.goes.works o.calls p.calls o.did.1 p.did.1;
     }
 
@@ -309,6 +317,7 @@ nothing_behind c l end found e s1 s2 d0 d2 d3 same stands w = record {
   reads = [];
   goes = record { works = λ output load t u. loaded_goes c found end (Verifies c l found end []) e output load still t u w };
   journal = λ tells. ap (λ (s : SourceState). s.journal) same ∙ sym (append-nil s1.journal);
+  right = λ tells. All-nil (IsFrom s1.bytes);
   grew = λ tells. ap (λ (d : SiteState). d.calls) stands ∙ sym (append-nil d2.calls);
   seen = λ tells. refl;
   opens = ap (λ (s : SourceState). s.opens) same;
@@ -340,7 +349,7 @@ own_looks c looks image output same are =
 pub compare_fails : (c : Command) (l : List ℕ) (n : MapNames) (end : ℕ) (loaded : LoadedMap) (new : List Status)
     (e : VerifyEnding) (s0 s1 s2 : SourceState) (d0 d1 d2 d3 : SiteState) → HasInput c.infile end s0 s1
     → HasLoaded c n end (Ok loaded) d0 d1 d2 → Keeps d1 d2 → SourceStays s1 s2
-    → StopsComparing c.options end loaded.tiles.statuses new e s1 s2 d2 d3 → Worked c l (Err e) s0 s2 d0 d3
+    → StopsComparing c.options end loaded.tiles.statuses new e s1 s2 d2 d3 → WentOn c l (Err e) s0 s2 d0 d3
 compare_fails c l n end loaded new e s0 s1 s2 d0 d1 d2 d3 input h keeps stays (Beyond far is same stands) =
     all_worked c l n end loaded (Err e) s0 s1 s2 d0 d1 d2 d3 input h (keeps.tells ∙ h.keeps.tells)
     (nothing_behind c l end _ e s1 s2 d0 d2 d3 same stands
@@ -378,6 +387,7 @@ compare_fails c l n end loaded new e s0 s1 s2 d0 d1 d2 d3 input h keeps stays (H
             }));
       };
       journal = compares.journal;
+      right = compares.right;
       grew = compares.record_;
       seen = λ tells.
           own_looks c looks (image_in d2) (files_in d0 c.outfile)
@@ -465,7 +475,7 @@ pub compare_saves : (c : Command) (l : List ℕ) (n : MapNames) (h : HeadingLine
     → Keeps d1 d2 → SourceStays s1 s2 → SiteStays d2 d3 → (IsBeyond c.options end → ⊥) → h ≡ heading_of l
     → Compares (plan_of c.options end loaded.tiles.statuses) loaded.tiles.statuses new (Ok tally) s1 s2 d2 d3
     → SavesText n (printed h (shown_for loaded.state tally.differing) new) result d3 d4
-    → Worked c l (tally_or tally result) s0 s2 d0 d4
+    → WentOn c l (tally_or tally result) s0 s2 d0 d4
 compare_saves c l n h end loaded new tally result s0 s1 s2 d0 d1 d2 d3 d4 input loads keeps stays site_stays near heads
     compares saved =
     let p : Loads c.mapfile end (Ok loaded) d1 d2 = own_loads c n end (Ok loaded) d0 d1 d2 loads in
@@ -486,6 +496,8 @@ compare_saves c l n h end loaded new tally result s0 s1 s2 d0 d1 d2 d3 d4 input 
           (λ e calls works. Completes compares.ends.0 works) compares.ends.2 s;
       journal = λ tells. compares.journal tells
           ∙ ap (λ (r : List Reading). s1.journal ++ (reads_of looks ++ r)) compares.ends.3;
+      right = λ tells.
+          subst (λ (r : List Reading). All (IsFrom s1.bytes) (reads_of looks ++ r)) compares.ends.3 (compares.right tells);
       grew = λ tells.
           s.gained (rw site_stays.keeps.tells tells)
           ∙ ap (λ (r : List Entry). r ++ s.calls) (compares.record_ tells

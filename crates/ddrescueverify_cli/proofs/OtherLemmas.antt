@@ -1,12 +1,13 @@
 -- Files that a call leaves as they read.
 use Rattle.std.proofs.Common.{◌≡◌, ◌≢◌, Bool, ℕ, IsTrue, List, [], ◌∷◌, ◌++◌, map, Option, Some, refl, sym, ap, ◌∙◌, inl, inr, subst}
 use Rattle.std.specs.Prelude.{⊤}
+use Rattle.faulty_source.specs.SourceState.{SourceState}
 use Rattle.crash_site.specs.Files.{File}
 use Rattle.crash_site.specs.Calls.{Call, Entry, Done as Returned, Failed, draft_append, draft_begin, draft_sync, image_read, map_read}
 use Rattle.crash_site.specs.Changes.{Changes}
 use Rattle.crash_site.specs.Folder.{Folder, after, after_done, after_entry, after_failed, appended}
 use Rattle.crash_site.specs.Along.{GoesAlong}
-use Rattle.crash_site.specs.SiteState.{files_in}
+use Rattle.crash_site.specs.SiteState.{SiteState, files_in}
 use Rattle.crash_site.specs.SiteChanges.{Keeps as SiteKeeps}
 use Rattle.crash_site.proofs.DiskLemmas.{failed_files}
 use Rattle.crash_site.proofs.LawLemmas.{after-append, done_other}
@@ -14,10 +15,11 @@ use Rattle.crash_site.proofs.AlongLemmas.{WentOn, all_go, broke_goes, made_goes}
 use Rattle.mapfile_text.specs.Pieces.{pieces_of}
 use Rattle.save_resume.specs.MapNames.{MapNames, names_of}
 use Rattle.save_resume.specs.Saving.{publish_calls, save_calls}
-use Rattle.work_steps.specs.Work.{Works}
+use Rattle.work_steps.specs.Work.{Deeds, Works}
 use Rattle.verify_command.specs.Command.{Command}
 use Rattle.save_resume.proofs.StageLemmas.{appended_draft}
-use Rattle.ddrescueverify_cli.specs.Told.{Agrees, Outside, Told, files_of, line_of}
+use Rattle.ddrescueverify_cli.specs.declared.ending.VerifyEnding.{VerifyEnding}
+use Rattle.ddrescueverify_cli.specs.Outside.{Agrees, Outside}
 use Rattle.ddrescueverify_cli.specs.Work.{Verifies, verify_faults, verify_rows}
 use Rattle.ddrescueverify_cli.proofs.ShapeLemmas.{AreReads, Early, HasSaved, IsRead, Reads, Saving, Shape, opening, opening_calls}
 use Rattle.ddrescueverify_cli.proofs.StopsLemmas.{own_shape}
@@ -145,13 +147,14 @@ module _ (c : Command) (d : Folder) (n : List ℕ) (other : n ≢ c.mapfile) (ap
       (ap (λ (f : Folder). f.files) (reads_leave (after d (opening c)) reads are) ∙ opened_at)
 
 -- a file that isn't the mapfile nor its draft reads as it did
-pub others_stand : (c : Command) (t : Told) (o : Outside) → Agrees c t o → SiteKeeps t.site t.site' → IsTrue t.site.tells
-    → Works verify_faults (verify_rows c o.found o.end) (Verifies c (line_of t) o.found o.end o.looks) t.answer o.did
+pub others_stand : (c : Command) (o : Outside) (did : Deeds) (e : VerifyEnding) (source source' : SourceState)
+    (site site' : SiteState) → Agrees c o did source source' site site' → SiteKeeps site site' → IsTrue site.tells
+    → Works verify_faults (verify_rows c o.found o.end) (Verifies c o.line o.found o.end o.looks) e did
     → (name : List ℕ) → name ≢ c.mapfile → name ≢ (names_of c.mapfile).draft
-    → files_in t.site' name ≡ files_of t name
-others_stand c t o agrees keeps tells works name other apart =
-    ap (λ (s : Folder). (after s t.site'.calls).files name) (keeps.start tells)
-    ∙ ap (λ (r : List Entry). (after t.site.start r).files name) (agrees.calls tells)
-    ∙ ap (λ (f : Folder). f.files name) (after-append t.site.start t.site.calls o.did.gain.calls)
-    ∙ shape_leaves c (after t.site.start t.site.calls) name other apart _ _ _ o.did.gain.calls
-    (own_shape c t o agrees tells works)
+    → files_in site' name ≡ files_in site name
+others_stand c o did e source source' site site' agrees keeps tells works name other apart =
+    ap (λ (s : Folder). (after s site'.calls).files name) (keeps.start tells)
+    ∙ ap (λ (r : List Entry). (after site.start r).files name) (agrees.calls tells)
+    ∙ ap (λ (f : Folder). f.files name) (after-append site.start site.calls did.gain.calls)
+    ∙ shape_leaves c (after site.start site.calls) name other apart _ _ _ did.gain.calls
+    (own_shape c o did e source source' site site' agrees tells works)

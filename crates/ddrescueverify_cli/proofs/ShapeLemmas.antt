@@ -37,7 +37,7 @@ use Rattle.ddrescueverify_cli.specs.declared.ending.VerifyEnding.TheVariants.{No
 use Rattle.ddrescueverify_cli.specs.Answers.{is_saved}
 use Rattle.ddrescueverify_cli.specs.Asked.{plan_of, text_of}
 use Rattle.ddrescueverify_cli.specs.Refusals.{MapfileRefused, OutputRefused, PlacesRefused}
-use Rattle.ddrescueverify_cli.specs.Told.{Found}
+use Rattle.ddrescueverify_cli.specs.Outside.{Found}
 use Rattle.ddrescueverify_cli.specs.Work.{EndsSaved, Halts, Completes as SavesAll, Verifies, answer_of_halt, verify_faults, verify_rows}
 
 -- ---- calls that read

@@ -5,6 +5,7 @@ use Rattle.std.specs.List.{list_any}
 use Rattle.std.proofs.lemmas.Bool.{cases_lt, cond_both}
 use Rattle.fault_count.specs.Plan.{no_plan}
 use Rattle.mapfile_text.specs.Printed.{printed}
+use Rattle.faulty_source.specs.SourceState.{SourceState}
 use Rattle.crash_site.specs.declared.site.SiteCall.{SiteCall}
 use Rattle.crash_site.specs.Files.{File, bytes_of}
 use Rattle.crash_site.specs.Calls.{Entry, Done as Returned, image_open, image_sync, map_settle}
@@ -24,17 +25,18 @@ use Rattle.save_resume.specs.SaveStops.{disk_of, text_file, IsOldOrNew, Old, New
 use Rattle.save_resume.proofs.StopLemmas.{stops_in_save, saved_where_ok}
 use Rattle.rescue_rules.specs.Start.{Stands as StandsFor}
 use Rattle.rescue_rules.specs.Stops.{has_barrier, is_sync}
-use Rattle.work_steps.specs.Work.{Works}
+use Rattle.work_steps.specs.Work.{Deeds, Works}
 use Rattle.work_steps.proofs.GainLemmas.{broke_behind, broke_named}
 use Rattle.rescue_verify.specs.Looks.{Look, reads_of, seen_in}
 use Rattle.rescue_verify.specs.Verified.{judged_by}
 use Rattle.verify_command.specs.Command.{Command}
 use Rattle.save_resume.proofs.NameLemmas.{apart_draft}
 use Rattle.rescue_rules.proofs.SearchLemmas.{never_both}
+use Rattle.ddrescueverify_cli.specs.declared.ending.VerifyEnding.{VerifyEnding}
 use Rattle.ddrescueverify_cli.specs.Answers.{is_saved}
 use Rattle.ddrescueverify_cli.specs.Asked.{heading_of, shown_by}
 use Rattle.ddrescueverify_cli.specs.Stops.{CouldBefore, IsVerifiedMap, LeftAt, StopsSafely}
-use Rattle.ddrescueverify_cli.specs.Told.{Agrees, Found, Outside, Told, files_of, line_of, place_by}
+use Rattle.ddrescueverify_cli.specs.Outside.{Agrees, Found, Outside, place_by}
 use Rattle.ddrescueverify_cli.specs.Work.{Verifies, verify_faults, verify_rows}
 use Rattle.ddrescueverify_cli.proofs.ShapeLemmas.{AreReads, Early, HasSaved, IsNewText, Reads, Saving, Shape, opening, opening_calls, reads_at, reads_keep, reads_until, shape_of}
 
@@ -399,86 +401,82 @@ module _ (c : Command) (site : SiteState) (apart : c.outfile ≢ c.mapfile)
 
 -- ---- all of it
 
--- a text is that of the verified map
-new_is : (c : Command) (t : Told) (o : Outside) → Agrees c t o → IsTrue t.site.tells → (text : List ℕ)
-    (found : Option File) → IsNewText c (line_of t) o.found.mapfile o.end o.looks text → found ≡ Some (text_file text)
-    → IsVerifiedMap c (line_of t) o t.site found
-new_is c t o agrees tells text found n is =
-    let looks : o.looks ≡ map (seen_in (bytes_of (files_of t c.outfile)) (place_by c)) (reads_of o.looks) =
-    agrees.seen tells in
-    record {
-      statuses = n.statuses;
-      shown = n.shown;
-      stands = subst (λ (f : Option File). StandsFor f o.end n.statuses (Some n.shown))
-          (ap (λ (x : Found). x.mapfile) (agrees.found tells)) n.stands;
-      all = n.all;
-      is = is ∙ ap (λ (x : List ℕ). Some (text_file x))
-          (n.is ∙ ap (λ (ls : List Look). printed (heading_of (line_of t)) (shown_by n.shown o.looks)
-          (judged_by n.statuses ls)) looks);
-    }
-
--- the shape of the calls of a whole call
-pub own_shape : (c : Command) (t : Told) (o : Outside) → Agrees c t o → IsTrue t.site.tells
-    → Works verify_faults (verify_rows c o.found o.end) (Verifies c (line_of t) o.found o.end o.looks) t.answer o.did
-    → Shape c (files_of t c.outfile ≡ None → ⊥) (is_saved t.answer)
-    (IsNewText c (line_of t) o.found.mapfile o.end o.looks) o.did.gain.calls
-own_shape c t o agrees tells works =
-    subst (λ (f : Option File). Shape c (f ≡ None → ⊥) (is_saved t.answer)
-    (IsNewText c (line_of t) o.found.mapfile o.end o.looks) o.did.gain.calls)
-    (ap (λ (x : Found). x.output) (agrees.found tells))
-    (shape_of c (line_of t) o.found o.end o.looks t.answer o.did works)
-
-module _ (c : Command) (t : Told) (o : Outside) (agrees : Agrees c t o) (apart : c.outfile ≢ c.mapfile)
-    (draft : c.outfile ≢ (names_of c.mapfile).draft) (tells : IsTrue t.site.tells)
-    (works : Works verify_faults (verify_rows c o.found o.end) (Verifies c (line_of t) o.found o.end o.looks) t.answer
-    o.did) where
-  abbrev IsNewMap : Option File → Type 0
-  IsNewMap = IsVerifiedMap c (line_of t) o t.site
-
-  stop_at : (k : ℕ) → k ≤ length o.did.gain.calls → (files : List ℕ → Option File)
-      → LeftAt t.site o.did.gain.calls k files → AtStop c IsNewMap t.site o.did.gain.calls k files
-  stop_at k le files left =
-      at_stop c t.site apart draft IsNewMap (is_saved t.answer) (IsNewText c (line_of t) o.found.mapfile o.end o.looks)
-      o.did.gain.calls (new_is c t o agrees tells) (own_shape c t o agrees tells works) k le files left
-
-  pub stops_safely : StopsSafely c (line_of t) o t.site t.answer
-  stops_safely = record {
-    before = λ k files name le left early. elim (stop_at k le files left) [
-      | Before none could ↦ could name
-      | Behind behind output map others ↦ absurd (never_both _ behind early)
-    ];
-    output = λ k files le left late. elim (stop_at k le files left) [
-      | Before none could ↦ absurd (never_both _ late none)
-      | Behind behind output map others ↦ output
-    ];
-    mapfile = λ k files le left late. elim (stop_at k le files left) [
-      | Before none could ↦ absurd (never_both _ late none)
-      | Behind behind output map others ↦ map
-    ];
-    kept = λ files saved left.
-        kept_at_end c t.site apart draft IsNewMap (IsNewText c (line_of t) o.found.mapfile o.end o.looks) (is_saved t.answer)
-        o.did.gain.calls (new_is c t o agrees tells) (own_shape c t o agrees tells works) saved files left;
-    others = λ k files name le left output map other. elim (stop_at k le files left) [
-      | Before none could ↦ could name
-      | Behind behind out map' others ↦ others name output map other
-    ];
-  }
-
 -- a call that made none leaves at any stop what could be found before
-pub nothing_stops : (c : Command) (t : Told) (o : Outside) → o.did.gain.calls ≡ [] → is_saved t.answer ≡ false
-    → StopsSafely c (line_of t) o t.site t.answer
-nothing_stops c t o none short =
-    let could : (k : ℕ) (files : List ℕ → Option File) (name : List ℕ) → LeftAt t.site o.did.gain.calls k files
-    → CouldBefore t.site name (files name) =
-    λ k files name left. along_until (Narrower (disk_of t.site)) (disk_of t.site) o.did.gain.calls k
-    (subst (Along (Narrower (disk_of t.site)) (disk_of t.site)) (sym none) (λ n found h. h)) name (files name)
-    (left_past t.site.start t.site.calls o.did.gain.calls k (length t.site.calls + k) files refl left name) in
-    let early : (k : ℕ) → has_barrier (take k o.did.gain.calls) ≡ false =
-    λ k. no_sync o.did.gain.calls k (ap (list_any is_sync) none) in
+pub nothing_stops : (c : Command) (line : List ℕ) (o : Outside) (did : Deeds) (site : SiteState) (e : VerifyEnding)
+    → did.gain.calls ≡ [] → is_saved e ≡ false → StopsSafely c line o did site e
+nothing_stops c line o did site e none short =
+    let could : (k : ℕ) (files : List ℕ → Option File) (name : List ℕ) → LeftAt site did.gain.calls k files
+    → CouldBefore site name (files name) =
+    λ k files name left. along_until (Narrower (disk_of site)) (disk_of site) did.gain.calls k
+    (subst (Along (Narrower (disk_of site)) (disk_of site)) (sym none) (λ n found h. h)) name (files name)
+    (left_past site.start site.calls did.gain.calls k (length site.calls + k) files refl left name) in
+    let early : (k : ℕ) → has_barrier (take k did.gain.calls) ≡ false =
+    λ k. no_sync did.gain.calls k (ap (list_any is_sync) none) in
     record {
       before = λ k files name le left before. could k files name left;
       output = λ k files le left late. absurd (never_both _ late (early k));
       mapfile = λ k files le left late. absurd (never_both _ late (early k));
       kept = λ files saved left. absurd (never_both _ saved short);
       others = λ k files name le left output map other. could k files name left;
+    }
+
+module _ (c : Command) (o : Outside) (did : Deeds) (e : VerifyEnding) (source source' : SourceState)
+    (site site' : SiteState) (agrees : Agrees c o did source source' site site') (tells : IsTrue site.tells)
+    (works : Works verify_faults (verify_rows c o.found o.end) (Verifies c o.line o.found o.end o.looks) e did) where
+  -- the shape of the calls of a whole call
+  pub own_shape : Shape c (files_in site c.outfile ≡ None → ⊥) (is_saved e)
+      (IsNewText c o.line o.found.mapfile o.end o.looks) did.gain.calls
+  own_shape =
+      subst (λ (f : Option File). Shape c (f ≡ None → ⊥) (is_saved e)
+      (IsNewText c o.line o.found.mapfile o.end o.looks) did.gain.calls)
+      (ap (λ (x : Found). x.output) (agrees.found tells)) (shape_of c o.line o.found o.end o.looks e did works)
+
+  abbrev IsNewMap : Option File → Type 0
+  IsNewMap = IsVerifiedMap c o.line o site
+
+  -- a text is that of the verified map
+  new_is : (text : List ℕ) (found : Option File) → IsNewText c o.line o.found.mapfile o.end o.looks text
+      → found ≡ Some (text_file text) → IsNewMap found
+  new_is text found n is =
+      let looks : o.looks ≡ map (seen_in (bytes_of (files_in site c.outfile)) (place_by c)) (reads_of o.looks) =
+      agrees.seen tells in
+      record {
+        statuses = n.statuses;
+        shown = n.shown;
+        stands = subst (λ (f : Option File). StandsFor f o.end n.statuses (Some n.shown))
+            (ap (λ (x : Found). x.mapfile) (agrees.found tells)) n.stands;
+        all = n.all;
+        is = is ∙ ap (λ (x : List ℕ). Some (text_file x))
+            (n.is ∙ ap (λ (ls : List Look). printed (heading_of o.line) (shown_by n.shown o.looks)
+            (judged_by n.statuses ls)) looks);
+      }
+
+  module _ (apart : c.outfile ≢ c.mapfile) (draft : c.outfile ≢ (names_of c.mapfile).draft) where
+    stop_at : (k : ℕ) → k ≤ length did.gain.calls → (files : List ℕ → Option File)
+        → LeftAt site did.gain.calls k files → AtStop c IsNewMap site did.gain.calls k files
+    stop_at k le files left =
+        at_stop c site apart draft IsNewMap (is_saved e) (IsNewText c o.line o.found.mapfile o.end o.looks)
+        did.gain.calls new_is own_shape k le files left
+
+    pub stops_safely : StopsSafely c o.line o did site e
+    stops_safely = record {
+      before = λ k files name le left early. elim (stop_at k le files left) [
+        | Before none could ↦ could name
+        | Behind behind output map others ↦ absurd (never_both _ behind early)
+      ];
+      output = λ k files le left late. elim (stop_at k le files left) [
+        | Before none could ↦ absurd (never_both _ late none)
+        | Behind behind output map others ↦ output
+      ];
+      mapfile = λ k files le left late. elim (stop_at k le files left) [
+        | Before none could ↦ absurd (never_both _ late none)
+        | Behind behind output map others ↦ map
+      ];
+      kept = λ files saved left.
+          kept_at_end c site apart draft IsNewMap (IsNewText c o.line o.found.mapfile o.end o.looks) (is_saved e)
+          did.gain.calls new_is own_shape saved files left;
+      others = λ k files name le left output map other. elim (stop_at k le files left) [
+        | Before none could ↦ could name
+        | Behind behind out map' others ↦ others name output map other
+      ];
     }

@@ -1,99 +1,85 @@
--- The promise of `ddrescueverify`, field by field. What an object tells is its own: the forms in memory tell all, those
--- for real files and streams their counts and what is open.
-use Rattle.std.specs.Prelude.{◌≡◌, ◌≢◌, ◌⊎◌, ℕ, Bool, true, false, IsTrue, List}
-use Rattle.fault_count.specs.Plan.{with_call}
+-- `ddrescueverify` as a program, and its promise.
+use Rattle.std.specs.Prelude.{◌≡◌, ◌≢◌, ℕ, Bool, false, IsTrue, List}
+use Rattle.faulty_source.specs.SourceState.{SourceState}
 use Rattle.faulty_source.specs.SourceChanges.{Keeps as SourceKeeps}
-use Rattle.crash_site.specs.SiteState.{files_in}
+use Rattle.crash_site.specs.SiteState.{SiteState, files_in}
 use Rattle.crash_site.specs.SiteChanges.{Keeps as SiteKeeps}
-use Rattle.rescue_console.specs.ConsoleState.{ConsoleState, Puts, PutsPart}
-use Rattle.rescue_console.specs.declared.console.Channel.TheVariants.{Out, Err}
+use Rattle.rescue_console.specs.ConsoleState.{ConsoleState}
 use Rattle.save_resume.specs.MapNames.{names_of}
-use Rattle.work_steps.specs.Work.{Works}
+use Rattle.work_steps.specs.Work.{Deeds}
 use Rattle.rescue_verify.specs.Comparing.{tally_of}
-use Rattle.verify_command.specs.Command.{Command, Asks, AskQuiet}
+use Rattle.verify_command.specs.Command.{Command, verify_grammar}
+use Rattle.program_promise.specs.World.{WorldState, no_clock, no_feed}
+use Rattle.program_promise.specs.WordFaults.{IsPlainFault}
+use Rattle.program_promise.specs.Printing.{PutsByKind}
+use Rattle.program_promise.specs.Program.{Program}
+use Rattle.program_promise.specs.Promise.{Told, IsDone, Promise, Worked}
 use Rattle.ddrescueverify_cli.specs.declared.ending.VerifyEnding.{VerifyEnding}
-use Rattle.ddrescueverify_cli.specs.declared.ending.VerifyEnding.TheVariants.{Done, Differs, Usage, SameName, NoMap, NoOutput, MapRefused, SourceFault, SourceLost, SiteFault, ConsoleFault, NoMemory}
-use Rattle.ddrescueverify_cli.specs.Answers.{SaysOfWords, Causes, drafting_left, is_silent}
-use Rattle.ddrescueverify_cli.specs.Messages.{line_of_tally, message}
+use Rattle.ddrescueverify_cli.specs.declared.ending.VerifyEnding.TheVariants.{Usage}
+use Rattle.ddrescueverify_cli.specs.Answers.{drafting_left, row_of}
+use Rattle.ddrescueverify_cli.specs.Names.{program_name}
+use Rattle.ddrescueverify_cli.specs.Refusals.{FitsNames, same_of}
+use Rattle.ddrescueverify_cli.specs.Reporting.{FailsLine, PutsLine, line_of_tally}
 use Rattle.ddrescueverify_cli.specs.Stops.{StopsSafely}
-use Rattle.ddrescueverify_cli.specs.Told.{Told, Outside, Agrees, files_of, line_of}
+use Rattle.ddrescueverify_cli.specs.Outside.{Outside, Agrees}
 use Rattle.ddrescueverify_cli.specs.Work.{Verifies, verify_faults, verify_rows}
 
--- nothing was done on the input, on the files and on standard output
-pub record IsUntouched (t : Told) (between : ConsoleState) : Type 0 where
-  pub input : t.source' ≡ t.source
-  pub files : t.site' ≡ t.site
-  pub out : between ≡ t.console
+-- what it is handed: a source, a site and a console
+abbrev pub handed : SourceState → SiteState → ConsoleState → WorldState
+handed source site console =
+    record { source = source; site = site; clock = no_clock; feed_ = no_feed; console = console }
 
--- What is said on standard error, behind what was put on standard output: nothing of an answer that was asked for, nor
--- where the words ask for that; else the message of the answer, or where the console failed a beginning of it, and it
--- is one put. Where the words ask for silence, a message comes only if memory ran out before they were read.
-pub data Says (t : Told) (between : ConsoleState) : Type 0 where
-  Nothing : (is_silent t.answer ≡ true) ⊎ AskQuiet t.words → t.console' ≡ between → Says t between
-  Message : is_silent t.answer ≡ false
-      → (AskQuiet t.words → (t.answer ≡ NoMemory) × IsUntouched t between)
-      → Puts Err (message t.answer) between t.console' ⊎ PutsPart Err (message t.answer) between t.console'
-      → (IsTrue between.is_planned → t.console'.plan ≡ with_call between.plan) → Says t between
-
--- unless nothing is to be said
-abbrev pub UnlessQuiet : (quiet : Bool) → Type 0 → (old new : ConsoleState) → Type 0
-UnlessQuiet true puts old new = new ≡ old
-UnlessQuiet false puts old new = puts
-
--- What is put on standard output by the answer: the line of a comparison that came to its end, or where the console failed
--- a beginning of it, and unless nothing is to be said; behind every refusal and every other fault nothing.
+-- what is put on standard output by the answer: the line on these looks, or if that failed a beginning of it
 abbrev pub PutsAs : VerifyEnding → (quiet : Bool) → (line : List ℕ) → (old new : ConsoleState) → Type 0
-PutsAs Done quiet line old new = UnlessQuiet quiet (Puts Out line old new) old new
-PutsAs (Differs bytes) quiet line old new = UnlessQuiet quiet (Puts Out line old new) old new
-PutsAs (Usage fault) quiet line old new = new ≡ old
-PutsAs (SameName first second) quiet line old new = new ≡ old
-PutsAs NoMap quiet line old new = new ≡ old
-PutsAs NoOutput quiet line old new = new ≡ old
-PutsAs (MapRefused which error) quiet line old new = new ≡ old
-PutsAs SourceFault quiet line old new = new ≡ old
-PutsAs SourceLost quiet line old new = new ≡ old
-PutsAs (SiteFault call) quiet line old new = new ≡ old
-PutsAs ConsoleFault quiet line old new = (quiet ≡ false) × PutsPart Out line old new
-PutsAs NoMemory quiet line old new = new ≡ old
+PutsAs e quiet line old new =
+    PutsByKind (row_of e).kind (PutsLine quiet line old new) (FailsLine quiet line old new) (new ≡ old) old new
 
--- What `ddrescueverify` promises of a call whose words ask for this. `between` is the console once standard output was
--- put.
-pub record Promise (c : Command) (between : ConsoleState) (t : Told) : Type 0 where
-  -- There is an outside that agrees with all that is told of it;
-  pub outside : Outside
-  pub agrees : Agrees c t outside
-  -- on it the answer is the first refusal of the work, or how the comparison ended, and what was done is the work up to
-  -- there, whatever the objects tell. Of the files it reads the output and the mapfile, and saves the mapfile.
-  pub works : Works verify_faults (verify_rows c outside.found outside.end)
-      (Verifies c (line_of t) outside.found outside.end outside.looks) t.answer outside.did
-  -- What is put on standard output is the line on these looks, or where that failed a beginning of it.
-  pub out : PutsAs t.answer c.options.quiet (line_of_tally (tally_of outside.looks)) t.console between
-  -- Where the files tell: at whatever moment the call is stopped, the output is found as it was, and the mapfile as it was
+-- What the work leaves:
+pub record LeavesAs (c : Command) (line : List ℕ) (o : Outside) (e : VerifyEnding) (did : Deeds) (old new : WorldState)
+    : Type 0 where
+  -- the command line that a saved map shows is the call's own;
+  pub line_is : o.line ≡ line
+  -- on standard output the line of a comparison that came to its end, and after every refusal nothing.
+  pub out : PutsAs e c.options.quiet (line_of_tally (tally_of o.looks)) old.console new.console
+  -- If the files tell: at whatever moment the call is stopped, the output is found as it was, and the mapfile as it was
   -- or as the new one, whole.
-  pub stops : IsTrue t.site.tells → StopsSafely c (line_of t) outside t.site t.answer
-  -- Every file reads as it did, but for the mapfile and its draft.
-  pub others : IsTrue t.site.tells → (name : List ℕ) → name ≢ c.mapfile → name ≢ (names_of c.mapfile).draft
-      → files_in t.site' name ≡ files_of t name
+  pub stops : IsTrue old.site.tells → StopsSafely c line o did old.site e
+  -- Every file reads as it did, except for the mapfile and its draft.
+  pub others : IsTrue old.site.tells → (name : List ℕ) → name ≢ c.mapfile → name ≢ (names_of c.mapfile).draft
+      → files_in new.site name ≡ files_in old.site name
 
--- What `ddrescueverify` promises of a call, by all that is told of it
-pub record Ddrescueverify (t : Told) : Type 0 where
-  -- Words that ask for nothing, or name two files of one name, are refused, whatever the objects tell; only memory may
-  -- run out before.
-  pub words : SaysOfWords t.answer t.words
-  -- Each answer has its cause: a fault is answered exactly where its count rose, and no other answer hides one.
-  pub cause : Causes t.answer t
-  -- What is put on standard output comes first, and only where the words ask for something;
-  pub between : ConsoleState
-  pub asked_for : (c : Command) → Asks t.words c → Promise c between t
-  pub nothing_out : ((c : Command) → Asks t.words c → ⊥) → between ≡ t.console
-  -- then what is said on standard error is the message of the answer.
-  pub says : Says t between
-  -- A draft is left begun exactly where an append to it failed, or its sync.
-  pub draft : t.site'.is_drafting ≡ drafting_left t.answer
-  -- What was told before stays.
-  pub source : SourceKeeps t.source t.source'
-  pub site : SiteKeeps t.site t.site'
+-- What was told before stays, and a draft is left begun exactly if an append to it failed, or its sync.
+pub record KeepsAs (e : VerifyEnding) (old new : WorldState) : Type 0 where
+  pub draft : new.site.is_drafting ≡ drafting_left e
+  pub source : SourceKeeps old.source new.source
+  pub site : SiteKeeps old.site new.site
 
--- that, once the right thing is said on standard error
-abbrev pub Promised : (between : ConsoleState) → Told → Type 0
-Promised between t = Says t between → Ddrescueverify t
+-- Of the files its work reads the output and the mapfile, and it saves the mapfile. No draft is begun before the call.
+abbrev pub verify_program : Program Command VerifyEnding Outside
+verify_program = record {
+  name = program_name;
+  grammar = verify_grammar;
+  HasFault = IsPlainFault;
+  row = row_of;
+  wrong = λ fault. Usage fault;
+  faults = verify_faults;
+  Fits = λ c e. FitsNames (same_of c) e;
+  rows = λ c o. verify_rows c o.found o.end;
+  Run = λ c o. Verifies c o.line o.found o.end o.looks;
+  Agrees = λ c o did old new. Agrees c o did old.source new.source old.site new.site;
+  Leaves = LeavesAs;
+  Begins = λ w. w.site.is_drafting ≡ false;
+  Keeps = KeepsAs;
+}
+
+-- what is done for a command
+abbrev pub VerifyWorked : Command → (words : List (List ℕ)) → VerifyEnding → (old new : WorldState) → Type 0
+VerifyWorked c words e old new = Worked verify_program c words e old new
+
+-- what is done before anything is said on standard error
+abbrev pub VerifyDone : (words : List (List ℕ)) → VerifyEnding → (quiet : Bool) → (old new : WorldState) → Type 0
+VerifyDone words e quiet old new = IsDone verify_program words e quiet old new
+
+-- What is promised of a call.
+abbrev pub Ddrescueverify : Told VerifyEnding → Type 0
+Ddrescueverify t = Promise verify_program t

@@ -1,13 +1,12 @@
 pub mod Names
 pub mod Asked
-pub mod Told
+pub mod Outside
 pub mod Refusals
 pub mod Work
 pub mod Steps
 pub mod Counting
 pub mod Reporting
 pub mod Answers
-pub mod Messages
 pub mod Stops
 pub mod Ddrescueverify
 pub mod Laws

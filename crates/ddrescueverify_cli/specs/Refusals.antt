@@ -1,5 +1,5 @@
 -- The refusals, one a row.
-use Rattle.std.specs.Prelude.{◌≡◌, ◌≢◌, ◌⊎◌, ℕ, Option, Some, None}
+use Rattle.std.specs.Prelude.{◌≡◌, ◌≢◌, ◌⊎◌, ℕ, List, Option, Some, None}
 use Rattle.mapfile_text.specs.declared.read.Mode.TheVariants.{Tight}
 use Rattle.mapfile_text.specs.declared.read.MapError.{MapError}
 use Rattle.mapfile_text.specs.declared.read.MapError.TheVariants.{NoStatusLine}
@@ -8,19 +8,22 @@ use Rattle.save_resume.specs.MapNames.{names_of}
 use Rattle.save_resume.specs.Resuming.{IsLikeNone, IsRefusedFor}
 use Rattle.option_words.specs.declared.fault.UsageFault.TheVariants.{PlaceTooLarge}
 use Rattle.verify_command.specs.declared.options.VerifyOptions.{VerifyOptions}
-use Rattle.verify_command.specs.Command.{Command}
+use Rattle.verify_command.specs.Command.{Command, Asks}
 use Rattle.ddrescueverify_cli.specs.declared.ending.Operand.{Operand}
 use Rattle.ddrescueverify_cli.specs.declared.ending.Which.TheVariants.{RunMap}
 use Rattle.ddrescueverify_cli.specs.declared.ending.VerifyEnding.{VerifyEnding}
-use Rattle.ddrescueverify_cli.specs.declared.ending.VerifyEnding.TheVariants.{Usage, SameName, NoMap, NoOutput, MapRefused}
+use Rattle.ddrescueverify_cli.specs.declared.ending.VerifyEnding.TheVariants.{Usage, SameName, NoMap, NoOutput, MapRefused, NoMemory}
 use Rattle.ddrescueverify_cli.specs.Asked.{IsBeyond}
 use Rattle.ddrescueverify_cli.specs.Names.{first_same}
+
+-- the first two files of a command that have one name, in the order infile, outfile, mapfile, draft
+abbrev pub same_of : Command → Option (Operand × Operand)
+same_of c = first_same c.infile c.outfile (names_of c.mapfile)
 
 -- two files have one name
 abbrev pub NamesRefused : Command → VerifyEnding → Type 0
 NamesRefused c e =
-    (first second : Operand) × (first_same c.infile c.outfile (names_of c.mapfile) ≡ Some (first, second))
-    × (e ≡ SameName first second)
+    (first second : Operand) × (same_of c ≡ Some (first, second)) × (e ≡ SameName first second)
 
 -- the outfile isn't there
 abbrev pub OutputRefused : (output : Option File) → VerifyEnding → Type 0
@@ -32,6 +35,19 @@ MapfileRefused mapfile e =
     (IsLikeNone mapfile × (e ≡ NoMap))
     ⊎ ((error : MapError) × IsRefusedFor mapfile Tight error × (error ≢ NoStatusLine) × (e ≡ MapRefused RunMap error))
 
--- a position that is asked for would end too far behind in the output, whatever the mapfile says of it
+-- a position that is asked for would end too far into the output, whatever the mapfile says of it
 abbrev pub PlacesRefused : VerifyOptions → (end : ℕ) → VerifyEnding → Type 0
 PlacesRefused o end e = IsBeyond o end × (e ≡ Usage PlaceTooLarge)
+
+-- ---- what an answer says of the names
+
+-- Two files that have one name are answered, the first such pair, unless memory runs out before; and no others are.
+abbrev pub FitsNames : Option (Operand × Operand) → VerifyEnding → Type 0
+FitsNames None e = (first second : Operand) → e ≢ SameName first second
+FitsNames (Some pair) e = (e ≡ SameName pair.0 pair.1) ⊎ (e ≡ NoMemory)
+
+-- the words name two files of one name, the first such pair
+pub record NameOneFileTwice (words : List (List ℕ)) (first second : Operand) : Type 0 where
+  pub command : Command
+  pub asks : Asks words command
+  pub same : same_of command ≡ Some (first, second)

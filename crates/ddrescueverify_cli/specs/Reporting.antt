@@ -1,16 +1,36 @@
--- What is answered and said once the map is saved.
-use Rattle.std.specs.Prelude.{◌≡◌, ◌⊎◌, Bool, true, false}
+-- What is said of a comparison on standard output, and what is answered once the map is saved.
+use Rattle.std.specs.Prelude.{◌≡◌, ◌⊎◌, ℕ, Bool, true, false, IsTrue, List, ◌++◌, codes}
+use Rattle.std.specs.Fmt.{decimal}
+use Rattle.fault_count.specs.Plan.{with_call}
+use Rattle.mapfile_text.specs.Printed.{with_newline}
 use Rattle.rescue_console.specs.declared.console.Channel.TheVariants.{Out}
 use Rattle.rescue_console.specs.ConsoleState.{ConsoleState, Puts, PutsPart}
 use Rattle.rescue_verify.specs.declared.tally.Tally.{Tally}
 use Rattle.ddrescueverify_cli.specs.declared.ending.VerifyEnding.{VerifyEnding}
 use Rattle.ddrescueverify_cli.specs.declared.ending.VerifyEnding.TheVariants.{ConsoleFault}
-use Rattle.ddrescueverify_cli.specs.Messages.{line_of_tally}
 use Rattle.ddrescueverify_cli.specs.Work.{answer_of_tally}
 
--- Nothing is said where that is asked for. Else the line is put, whole, or the console failed, and that is answered.
+-- `compared 1536 B, differing 512 B, unread 0 B`: how much was compared, how much of that differs, and how much couldn't
+-- be read whole
+abbrev pub line_of_tally : Tally → List ℕ
+line_of_tally t =
+    with_newline (codes "compared " ++ decimal t.compared ++ codes " B, differing " ++ decimal t.differing
+    ++ codes " B, unread " ++ decimal t.unread ++ codes " B")
+
+-- it was one put, by the plan of a console that has one
+abbrev pub IsOnePut : (old new : ConsoleState) → Type 0
+IsOnePut old new = IsTrue old.is_planned → new.plan ≡ with_call old.plan
+
+-- The line is put, in one put, unless nothing is to be said; or the console failed at that.
+abbrev pub PutsLine : (quiet : Bool) → (line : List ℕ) → (old new : ConsoleState) → Type 0
+PutsLine true line old new = new ≡ old
+PutsLine false line old new = Puts Out line old new × IsOnePut old new
+
+abbrev pub FailsLine : (quiet : Bool) → (line : List ℕ) → (old new : ConsoleState) → Type 0
+FailsLine quiet line old new = (quiet ≡ false) × PutsPart Out line old new × IsOnePut old new
+
+-- What is answered, by that.
 abbrev pub Reports : Tally → (quiet : Bool) → VerifyEnding → (old new : ConsoleState) → Type 0
-Reports t true e old new = (e ≡ answer_of_tally t) × (new ≡ old)
-Reports t false e old new =
-    ((e ≡ answer_of_tally t) × Puts Out (line_of_tally t) old new)
-    ⊎ ((e ≡ ConsoleFault) × PutsPart Out (line_of_tally t) old new)
+Reports t quiet e old new =
+    ((e ≡ answer_of_tally t) × PutsLine quiet (line_of_tally t) old new)
+    ⊎ ((e ≡ ConsoleFault) × FailsLine quiet (line_of_tally t) old new)

@@ -1,5 +1,5 @@
 -- What the steps of `ddrescueverify` did, whether the objects tell or not.
-use Rattle.std.specs.Prelude.{◌≡◌, ◌≢◌, ◌⊎◌, ⊤, ℕ, IsTrue, List, [], ◌∷◌, ◌++◌, length, map, Option, Some, None, Result, Ok, Err}
+use Rattle.std.specs.Prelude.{◌≡◌, ◌≢◌, ◌⊎◌, ⊤, ℕ, IsTrue, List, [], ◌∷◌, ◌++◌, Option, Some, None, Result, Ok, Err}
 use Rattle.fault_count.specs.Counts.{Rose}
 use Rattle.block_list.specs.declared.status.Status.{Status}
 use Rattle.mapfile_text.specs.declared.read.MapError.{MapError}
@@ -7,7 +7,7 @@ use Rattle.mapfile_text.specs.declared.read.MapError.TheVariants.{NoStatusLine, 
 use Rattle.faulty_source.specs.SourceState.{SourceState}
 use Rattle.crash_site.specs.declared.site.SiteCall.{SiteCall}
 use Rattle.crash_site.specs.declared.site.SiteCall.TheVariants.{ImageOpen}
-use Rattle.crash_site.specs.Files.{File, bytes_of}
+use Rattle.crash_site.specs.Files.{File}
 use Rattle.crash_site.specs.Calls.{Entry}
 use Rattle.crash_site.specs.SiteState.{SiteState, files_in}
 use Rattle.option_words.specs.declared.fault.UsageFault.TheVariants.{PlaceTooLarge}
@@ -15,11 +15,10 @@ use Rattle.save_resume.specs.MapNames.{MapNames, names_of}
 use Rattle.save_resume.specs.Saving.{save_calls, drafting_after_fault}
 use Rattle.save_resume.specs.Resuming.{IsResumeCall}
 use Rattle.rescue_rules.specs.Start.{Stands}
-use Rattle.work_steps.specs.Work.{Make, Works}
+use Rattle.work_steps.specs.Work.{Deeds, Make, Works}
 use Rattle.work_steps.specs.Parts.{Did, DidPart}
 use Rattle.rescue_verify.specs.declared.halt.Halt.{Halt}
 use Rattle.rescue_verify.specs.declared.tally.Tally.{Tally}
-use Rattle.rescue_verify.specs.Looks.{reads_of, seen_in}
 use Rattle.rescue_verify.specs.Comparing.{Compares, tally_of}
 use Rattle.verify_command.specs.declared.options.VerifyOptions.{VerifyOptions}
 use Rattle.verify_command.specs.Command.{Command, AreInLimits, told_by}
@@ -30,7 +29,7 @@ use Rattle.ddrescueverify_cli.specs.declared.open.LoadedMap.{LoadedMap}
 use Rattle.ddrescueverify_cli.specs.declared.plan.CheckedCommand.{CheckedCommand}
 use Rattle.ddrescueverify_cli.specs.Asked.{IsBeyond, heading_of, plan_of}
 use Rattle.ddrescueverify_cli.specs.Names.{first_same}
-use Rattle.ddrescueverify_cli.specs.Told.{Outside, AreOpens, found_in, place_by}
+use Rattle.ddrescueverify_cli.specs.Outside.{Agrees, Outside}
 use Rattle.ddrescueverify_cli.specs.Work.{IsAnswer, Verifies, answer_of_halt, load_rows, opened_rows, output_rows, verify_faults}
 
 -- what a comparison needs before it opens a file
@@ -92,24 +91,20 @@ SaveCause e old new =
     (call : SiteCall) × (e ≡ SiteFault call) × Rose old.faults new.faults
     × (new.is_drafting ≡ drafting_after_fault call old.is_drafting)
 
--- The work went as these steps do: it answers so, or counted so much and answers that.
-abbrev pub DidWork : Command → (line : List ℕ) → Outside → Result Tally VerifyEnding → Type 0
-DidWork c line o (Ok tally) =
+-- The work went as these steps do: it answers so, or counted that much and answers by that.
+abbrev pub DidWork : Command → Outside → Deeds → Result Tally VerifyEnding → Type 0
+DidWork c o did (Ok tally) =
     (tally ≡ tally_of o.looks)
     × ((e : VerifyEnding) → IsAnswer c.options.quiet tally e
-    → Works verify_faults (opened_rows c o.found o.end) (Verifies c line o.found o.end o.looks) e o.did)
-DidWork c line o (Err e) =
-    Works verify_faults (opened_rows c o.found o.end) (Verifies c line o.found o.end o.looks) e o.did
+    → Works verify_faults (opened_rows c o.found o.end) (Verifies c o.line o.found o.end o.looks) e did)
+DidWork c o did (Err e) =
+    Works verify_faults (opened_rows c o.found o.end) (Verifies c o.line o.found o.end o.looks) e did
 
--- What the work did behind the names: there is an outside that agrees with what the objects tell.
-pub record Worked (c : Command) (line : List ℕ) (result : Result Tally VerifyEnding) (source source' : SourceState)
+-- What the work did once the names were looked at: there is an outside that agrees with what the objects tell.
+pub record WentOn (c : Command) (line : List ℕ) (result : Result Tally VerifyEnding) (source source' : SourceState)
     (site site' : SiteState) : Type 0 where
   pub outside : Outside
-  pub opens : AreOpens outside.did.opens source source'
-  pub end : IsTrue source.tells → outside.end ≡ length source.bytes
-  pub reads : IsTrue source.tells → source'.journal ≡ source.journal ++ outside.did.gain.reads
-  pub found : IsTrue site.tells → outside.found ≡ found_in c (files_in site)
-  pub calls : IsTrue site.tells → site'.calls ≡ site.calls ++ outside.did.gain.calls
-  pub seen : IsTrue site.tells
-      → outside.looks ≡ map (seen_in (bytes_of (files_in site c.outfile)) (place_by c)) (reads_of outside.looks)
-  pub works : DidWork c line outside result
+  pub did : Deeds
+  pub line_is : outside.line ≡ line
+  pub agrees : Agrees c outside did source source' site site'
+  pub works : DidWork c outside did result

@@ -11,6 +11,7 @@ use Rattle.save_resume.specs.MapNames.{names_of}
 use Rattle.save_resume.specs.SaveStops.{disk_of, text_file}
 use Rattle.rescue_rules.specs.Start.{Stands}
 use Rattle.rescue_rules.specs.Stops.{has_barrier}
+use Rattle.work_steps.specs.Work.{Deeds}
 use Rattle.rescue_verify.specs.Pieces.{NoneFrom, end_of_reads}
 use Rattle.rescue_verify.specs.Looks.{reads_of}
 use Rattle.rescue_verify.specs.Verified.{verified}
@@ -18,7 +19,7 @@ use Rattle.verify_command.specs.Command.{Command}
 use Rattle.ddrescueverify_cli.specs.declared.ending.VerifyEnding.{VerifyEnding}
 use Rattle.ddrescueverify_cli.specs.Answers.{is_saved}
 use Rattle.ddrescueverify_cli.specs.Asked.{heading_of, plan_of, shown_by}
-use Rattle.ddrescueverify_cli.specs.Told.{Outside, place_by}
+use Rattle.ddrescueverify_cli.specs.Outside.{Outside, place_by}
 
 -- a stop after the first k calls may leave these files
 abbrev pub LeftAt : SiteState → List Entry → ℕ → (List ℕ → Option File) → Type 0
@@ -40,24 +41,24 @@ pub record IsVerifiedMap (c : Command) (line : List ℕ) (o : Outside) (site : S
       (verified statuses (reads_of o.looks) (bytes_of (files_in site c.outfile)) (place_by c))))
 
 -- At whatever moment a call is stopped, between or within its calls on the files:
-pub record StopsSafely (c : Command) (line : List ℕ) (o : Outside) (site : SiteState) (answer : VerifyEnding)
-    : Type 0 where
+pub record StopsSafely (c : Command) (line : List ℕ) (o : Outside) (did : Deeds) (site : SiteState)
+    (answer : VerifyEnding) : Type 0 where
   -- before the barrier has returned, each file could be found so before
-  pub before : (k : ℕ) (files : List ℕ → Option File) (name : List ℕ) → k ≤ length o.did.gain.calls
-      → LeftAt site o.did.gain.calls k files → has_barrier (take k o.did.gain.calls) ≡ false
+  pub before : (k : ℕ) (files : List ℕ → Option File) (name : List ℕ) → k ≤ length did.gain.calls
+      → LeftAt site did.gain.calls k files → has_barrier (take k did.gain.calls) ≡ false
       → CouldBefore site name (files name)
   -- from then on the output is found as it was,
-  pub output : (k : ℕ) (files : List ℕ → Option File) → k ≤ length o.did.gain.calls
-      → LeftAt site o.did.gain.calls k files → has_barrier (take k o.did.gain.calls) ≡ true
+  pub output : (k : ℕ) (files : List ℕ → Option File) → k ≤ length did.gain.calls
+      → LeftAt site did.gain.calls k files → has_barrier (take k did.gain.calls) ≡ true
       → files c.outfile ≡ files_in site c.outfile
   -- and the mapfile as it was, or the new one, whole;
-  pub mapfile : (k : ℕ) (files : List ℕ → Option File) → k ≤ length o.did.gain.calls
-      → LeftAt site o.did.gain.calls k files → has_barrier (take k o.did.gain.calls) ≡ true
+  pub mapfile : (k : ℕ) (files : List ℕ → Option File) → k ≤ length did.gain.calls
+      → LeftAt site did.gain.calls k files → has_barrier (take k did.gain.calls) ≡ true
       → (files c.mapfile ≡ files_in site c.mapfile) ⊎ IsVerifiedMap c line o site (files c.mapfile)
   -- once the call has answered that it is done, or that something differs, the new one.
   pub kept : (files : List ℕ → Option File) → is_saved answer ≡ true
-      → LeftAt site o.did.gain.calls (length o.did.gain.calls) files → IsVerifiedMap c line o site (files c.mapfile)
+      → LeftAt site did.gain.calls (length did.gain.calls) files → IsVerifiedMap c line o site (files c.mapfile)
   -- Any other file could be found so before, but for the draft.
-  pub others : (k : ℕ) (files : List ℕ → Option File) (name : List ℕ) → k ≤ length o.did.gain.calls
-      → LeftAt site o.did.gain.calls k files → name ≢ c.outfile → name ≢ c.mapfile
+  pub others : (k : ℕ) (files : List ℕ → Option File) (name : List ℕ) → k ≤ length did.gain.calls
+      → LeftAt site did.gain.calls k files → name ≢ c.outfile → name ≢ c.mapfile
       → name ≢ (names_of c.mapfile).draft → CouldBefore site name (files name)

@@ -1,5 +1,5 @@
 -- The work of `ddrescueverify`: its steps in order, each a row of the fold that all programs share, and the comparison
--- behind them, with its save.
+-- after them, with its save.
 use Rattle.std.specs.Prelude.{◌≡◌, ◌⊎◌, ℕ, Bool, false, nat_eq, List, [], ◌∷◌, ◌++◌, map, Option, Some, if◌then◌else◌}
 use Rattle.block_list.specs.declared.status.Status.{Status}
 use Rattle.mapfile_text.specs.declared.state.MapState.{MapState}
@@ -22,7 +22,7 @@ use Rattle.ddrescueverify_cli.specs.declared.ending.VerifyEnding.{VerifyEnding}
 use Rattle.ddrescueverify_cli.specs.declared.ending.VerifyEnding.TheVariants.{Done, Differs, SourceFault, SourceLost, SiteFault, ConsoleFault, NoMemory}
 use Rattle.ddrescueverify_cli.specs.Asked.{plan_of, text_of}
 use Rattle.ddrescueverify_cli.specs.Refusals.{NamesRefused, OutputRefused, MapfileRefused, PlacesRefused}
-use Rattle.ddrescueverify_cli.specs.Told.{Found}
+use Rattle.ddrescueverify_cli.specs.Outside.{Found}
 
 -- how faults are answered
 abbrev pub verify_faults : Faults VerifyEnding

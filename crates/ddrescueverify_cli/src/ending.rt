@@ -1,5 +1,5 @@
 ghost use Rattle.std.specs.Prelude.{◌≡◌};
-ghost use Rattle.ddrescueverify_cli.specs.Answers.{is_silent, status_of_ending};
+ghost use Rattle.ddrescueverify_cli.specs.Answers.{status_of_ending};
 
 use crash_site::site::SiteCall;
 use mapfile_text::read::MapError;
@@ -63,12 +63,5 @@ impl VerifyEnding {
             VerifyEnding::NoMemory => 4,
             _ => 1,
         }
-    }
-
-    /// Whether nothing is said of it on standard error, since it is what was asked.
-    pub(crate) fn is_silent(&self) -> bool
-        ensures { result ≡ is_silent self.now }
-    {
-        matches!(self, VerifyEnding::Done | VerifyEnding::Differs { .. })
     }
 }

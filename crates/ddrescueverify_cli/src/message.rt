@@ -1,13 +1,14 @@
 //! What is said of an answer on standard error.
 ghost use Rattle.std.specs.Prelude.{◌≡◌, ◌+◌, ◌≤◌, ◌++◌};
 ghost use Rattle.arrayvec.specs.ArrayVec.{array_vec_len};
-ghost use Rattle.ddrescueverify_cli.specs.Messages.{which_text, map_error_text, text_of_ending, message};
+ghost use Rattle.ddrescueverify_cli.specs.Answers.{is_silent, map_error_text, message, text_of_ending, which_text};
 
 use crate::ending::{VerifyEnding, Which};
 use crate::plan::PROGRAM;
 use fault_texts::faults::{add_map_error, add_site_fault, add_usage};
 use fault_texts::message::{Message, add, begin, end};
 use mapfile_text::read::MapError;
+use program_promise::answer::Answer;
 
 /// Adds which map it is.
 fn add_which(message: &mut Message, which: Which)
@@ -55,12 +56,19 @@ fn add_ending(message: &mut Message, ending: VerifyEnding)
     }
 }
 
-/// The message of an answer, with the program's name and a newline.
-pub(crate) fn message_of(ending: VerifyEnding) -> Message
-    ensures { result.items ≡ message ending }
-{
-    let mut message = begin(PROGRAM);
-    add_ending(&mut message, ending);
-    end(&mut message);
-    message
+impl Answer for VerifyEnding {
+    ghost silent = { is_silent };
+
+    ghost said = { message };
+
+    fn is_silent(self) -> bool {
+        matches!(self, VerifyEnding::Done | VerifyEnding::Differs { .. })
+    }
+
+    fn message(self) -> Message {
+        let mut message = begin(PROGRAM);
+        add_ending(&mut message, self);
+        end(&mut message);
+        message
+    }
 }

@@ -2,8 +2,7 @@
 ghost use Rattle.std.specs.Prelude.{◌≡◌, ◌+◌, ◌≤◌, ◌++◌, length};
 ghost use Rattle.std.specs.Fmt.{decimal};
 ghost use Rattle.arrayvec.specs.ArrayVec.{array_vec_len};
-ghost use Rattle.ddrescueverify_cli.specs.Messages.{line_of_tally};
-ghost use Rattle.ddrescueverify_cli.specs.Reporting.{Reports};
+ghost use Rattle.ddrescueverify_cli.specs.Reporting.{Reports, line_of_tally};
 ghost use Rattle.ddrescueverify_cli.specs.Work.{answer_of_tally};
 
 use crate::ending::VerifyEnding;
@@ -25,7 +24,7 @@ fn answer_of(tally: Tally) -> VerifyEnding
     }
 }
 
-/// Adds a text and a number behind it, which has up to 20 digits.
+/// Adds a text and a number after it, which has up to 20 digits.
 fn add_bytes(line: &mut Message, text: &str, n: u64)
     requires { array_vec_len line.old + length text.now ≤ 108 }
     ensures text { line.new.items ≡ line.old.items ++ text.now ++ decimal n }

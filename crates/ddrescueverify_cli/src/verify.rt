@@ -1,21 +1,20 @@
 //! `ddrescueverify`: the top call.
-ghost use Rattle.std.specs.Prelude.{◌≡◌, ◌<◌, ◌≤◌, ◌^◌, true, false, length, OnOk, IfOk, IfErr, Ok};
+ghost use Rattle.std.specs.Prelude.{◌≡◌, ◌<◌, ◌≤◌, ◌^◌, true, false, length, Some, OnOk, IfOk, IfErr, Ok};
 ghost use Rattle.option_words.specs.declared.fault.UsageFault.{UsageFault as Fault};
 ghost use Rattle.faulty_source.specs.SourceChanges.{Keeps as SourceKeeps, Stays as SourceStays};
 ghost use Rattle.crash_site.specs.SiteChanges.{Keeps as SiteKeeps, Stays as SiteStays};
-ghost use Rattle.rescue_console.specs.ConsoleState.{ConsoleState};
 ghost use Rattle.rescue_verify.specs.Comparing.{Compares};
 ghost use Rattle.verify_command.specs.Command.{AreInLimits, AreRefused, told_by};
+ghost use Rattle.program_promise.specs.Promise.{told};
 ghost use Rattle.ddrescueverify_cli.specs.declared.ending.Operand.{Operand};
-ghost use Rattle.ddrescueverify_cli.specs.Answers.{MaySay, NameOneFileTwice};
 ghost use Rattle.ddrescueverify_cli.specs.Asked.{IsBeyond, output_from, plan_of};
-ghost use Rattle.ddrescueverify_cli.specs.Counting.{WorkCause, drafting_behind};
-ghost use Rattle.ddrescueverify_cli.specs.Ddrescueverify.{Ddrescueverify, IsUntouched, Promised};
-ghost use Rattle.ddrescueverify_cli.specs.Steps.{IsPlanned, StopsComparing, Worked};
+ghost use Rattle.ddrescueverify_cli.specs.Counting.{WorkCause, drafting_after};
+ghost use Rattle.ddrescueverify_cli.specs.Ddrescueverify.{Ddrescueverify, VerifyDone, VerifyWorked, handed};
+ghost use Rattle.ddrescueverify_cli.specs.Refusals.{NameOneFileTwice, same_of};
+ghost use Rattle.ddrescueverify_cli.specs.Steps.{IsPlanned, StopsComparing, WentOn};
 ghost use Rattle.ddrescueverify_cli.specs.Work.{answer_of_halt};
 
 use crate::ending::VerifyEnding;
-use crate::message::message_of;
 use crate::open::{LoadedMap, load, open_output};
 use crate::out::report;
 use crate::plan::{CheckedCommand, check_command};
@@ -25,7 +24,8 @@ use faulty_source::source::Source;
 use option_values::command_error::CommandError;
 use option_words::fault::UsageFault;
 use option_words::words::Words;
-use rescue_console::console::{Channel, Console};
+use program_promise::answer::say_ending;
+use rescue_console::console::Console;
 use rescue_domain::domain::Domain;
 use rescue_domain::places::places_fit;
 use rescue_verify::compare::compare;
@@ -33,7 +33,7 @@ use rescue_verify::halt::Halt;
 use rescue_verify::piece::Comparison;
 use rescue_verify::tally::Tally;
 use std::alloc::Global;
-use verify_command::command::read_command;
+use verify_command::command::{Command, read_command};
 use verify_command::options::VerifyOptions;
 
 /// Where the comparison begins in the output.
@@ -113,10 +113,10 @@ fn verify<S: Source, D: Site>(
 ) -> Result<Tally, VerifyEnding>
     requires no_draft { (D.state site.old).is_drafting ≡ false }
     requires planned { IsPlanned plan.now }
-    ensures worked { Worked (told_by plan.now.command) plan.now.heading.line result (S.state source.old)
+    ensures went { WentOn (told_by plan.now.command) plan.now.heading.line result (S.state source.old)
         (S.state source.new) (D.state site.old) (D.state site.new) }
     ensures cause { WorkCause result (S.state source.old) (S.state source.new) (D.state site.old) (D.state site.new) }
-    ensures draft { (D.state site.new).is_drafting ≡ drafting_behind result }
+    ensures draft { (D.state site.new).is_drafting ≡ drafting_after result }
     ensures source { SourceKeeps (S.state source.old) (S.state source.new) }
     ensures site { SiteKeeps (D.state site.old) (D.state site.new) }
 {
@@ -132,6 +132,33 @@ fn verify<S: Source, D: Site>(
     Ok(tally)
 }
 
+/// Does what a command asks for: looks at the names, compares, and puts the line.
+fn run<S: Source, D: Site, P: Console>(
+    alloc: Global,
+    words: &Words,
+    command: &Command<'_>,
+    source: &mut S,
+    site: &mut D,
+    console: &mut P,
+) -> VerifyEnding
+    requires no_draft { (D.state site.old).is_drafting ≡ false }
+    requires limits { AreInLimits command.now.options }
+    ensures worked { VerifyWorked (told_by command.now) words.now result (handed (S.state source.old)
+        (D.state site.old) (P.state console.old)) (handed (S.state source.new) (D.state site.new)
+        (P.state console.new)) }
+    ensures unopened { (first second : Operand) → same_of (told_by command.now) ≡ Some (first, second)
+        → (source.new ≡ source.old) × (site.new ≡ site.old) }
+{
+    let plan = match check_command(alloc, words, *command) {
+        Ok(plan) => plan,
+        Err(refusal) => return refusal,
+    };
+    match verify(alloc, &plan, source, site) {
+        Ok(tally) => report(tally, command.options.quiet, console),
+        Err(refusal) => refusal,
+    }
+}
+
 /// Does what the words ask for. Says how that ended, and whether nothing is to be said of it.
 fn work<S: Source, D: Site, P: Console>(
     alloc: Global,
@@ -141,26 +168,8 @@ fn work<S: Source, D: Site, P: Console>(
     console: &mut P,
 ) -> (VerifyEnding, bool)
     requires { (D.state site.old).is_drafting ≡ false }
-    ensures promise { (now : ConsoleState) → Promised (P.state console.new) (record {
-      words = words.now;
-      answer = result.0;
-      source = S.state source.old;
-      source' = S.state source.new;
-      site = D.state site.old;
-      site' = D.state site.new;
-      console = P.state console.old;
-      console' = now;
-    }) }
-    ensures quiet { (now : ConsoleState) → MaySay words.now result.0 result.1 (IsUntouched (record {
-      words = words.now;
-      answer = result.0;
-      source = S.state source.old;
-      source' = S.state source.new;
-      site = D.state site.old;
-      site' = D.state site.new;
-      console = P.state console.old;
-      console' = now;
-    }) (P.state console.new)) }
+    ensures done { VerifyDone words.now result.0 result.1 (handed (S.state source.old) (D.state site.old)
+        (P.state console.old)) (handed (S.state source.new) (D.state site.new) (P.state console.new)) }
     ensures untouched { (fault : Fault) → AreRefused words.now fault
         → (source.new ≡ source.old) × (site.new ≡ site.old) }
     ensures unopened { (first second : Operand) → NameOneFileTwice words.now first second
@@ -171,15 +180,8 @@ fn work<S: Source, D: Site, P: Console>(
         Err(CommandError::NoMemory) => return (VerifyEnding::NoMemory, false),
         Err(CommandError::Usage { fault, quiet }) => return (VerifyEnding::Usage(fault), quiet),
     };
-    let quiet = command.options.quiet;
-    let plan = match check_command(alloc, words, command) {
-        Ok(plan) => plan,
-        Err(refusal) => return (refusal, quiet),
-    };
-    match verify(alloc, &plan, source, site) {
-        Ok(tally) => (report(tally, quiet, console), quiet),
-        Err(refusal) => (refusal, quiet),
-    }
+    let ending = run(alloc, words, &command, source, site, console);
+    (ending, command.options.quiet)
 }
 
 /// Compares what a mapfile calls finished with the infile, once more: `[options] infile outfile mapfile`, with the
@@ -203,16 +205,8 @@ pub fn ddrescueverify<S: Source, D: Site, P: Console>(
     console: &mut P,
 ) -> VerifyEnding
     requires { (D.state site.old).is_drafting ≡ false }
-    ensures promise { Ddrescueverify (record {
-      words = words.now;
-      answer = result;
-      source = S.state source.old;
-      source' = S.state source.new;
-      site = D.state site.old;
-      site' = D.state site.new;
-      console = P.state console.old;
-      console' = P.state console.new;
-    }) }
+    ensures promise { Ddrescueverify (told words.now result (handed (S.state source.old) (D.state site.old)
+        (P.state console.old)) (handed (S.state source.new) (D.state site.new) (P.state console.new))) }
 
     // Words that are refused touch nothing but standard error,
     ensures untouched { (fault : Fault) → AreRefused words.now fault
@@ -223,9 +217,6 @@ pub fn ddrescueverify<S: Source, D: Site, P: Console>(
         → (source.new ≡ source.old) × (site.new ≡ site.old) }
 {
     let (ending, quiet) = work(alloc, words, source, site, console);
-    if !quiet && !ending.is_silent() {
-        // A console that fails changes no answer.
-        let _put = console.put(Channel::Err, &message_of(ending));
-    }
+    say_ending(console, ending, quiet);
     ending
 }

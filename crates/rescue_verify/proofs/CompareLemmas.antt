@@ -1,7 +1,8 @@
 -- How looks follow each other.
-use Rattle.std.proofs.Common.{◌≡◌, ℕ, ◌+◌, ◌-◌, ◌<◌, ◌≤◌, Bool, true, false, not, if◌then◌else◌, IsTrue, List, [], ◌∷◌, ◌++◌, ◌&&◌, map, length, Option, Some, None, Err, refl, sym, ap, ◌∙◌, subst, arith, append-nil, append_assoc, inl, inr, drop, length-append, length-take-le, take}
+use Rattle.std.proofs.Common.{◌≡◌, ℕ, ◌+◌, ◌-◌, ◌<◌, ◌≤◌, Bool, true, false, not, if◌then◌else◌, IsTrue, List, [], ◌∷◌, ◌++◌, ◌&&◌, map, length, All, Option, Some, None, Err, refl, sym, ap, ◌∙◌, subst, arith, append-nil, append_assoc, inl, inr, drop, length-append, length-take-le, take}
 use Rattle.std.specs.Str.{bytes_eq}
 use Rattle.std.proofs.lemmas.List.{map-append, map_push}
+use Rattle.std.proofs.lemmas.List.Elements.{All-append, All-cons, All-nil}
 use Rattle.std.proofs.lemmas.List.Sums.{sum_by_push}
 use Rattle.fault_count.specs.Counts.{raised}
 use Rattle.block_list.specs.declared.status.Status.{Status}
@@ -11,7 +12,7 @@ use Rattle.block_list.proofs.Places.{length-marked}
 use Rattle.faulty_source.specs.Journal.{Reading, is_whole}
 use Rattle.rescue_domain.specs.Domain.{IsIn}
 use Rattle.faulty_source.specs.SourceState.{SourceState}
-use Rattle.faulty_source.specs.SourceChanges.{Stays as SourceStays}
+use Rattle.faulty_source.specs.SourceChanges.{Keeps as SourceKeeps, Stays as SourceStays}
 use Rattle.crash_site.specs.declared.site.SiteCall.{SiteCall}
 use Rattle.crash_site.specs.Calls.{Call, Entry, Done, Failed, image_read}
 use Rattle.crash_site.specs.CallsMade.{Lost, BrokeAt}
@@ -24,8 +25,9 @@ use Rattle.rescue_verify.specs.declared.halt.Halt.{Halt}
 use Rattle.rescue_verify.specs.declared.halt.Halt.TheVariants.{NoMemory, SourceLost, ImageFault}
 use Rattle.rescue_verify.specs.declared.tally.Tally.{Tally}
 use Rattle.rescue_verify.specs.Pieces.{IsPiece, AskForPieces, end_of_reads}
+use Rattle.rescue_verify.proofs.PieceLemmas.{asks_push}
 use Rattle.rescue_verify.specs.Looks.{Look, reads_of, differs, seen_at, seen_in, look_call, look_calls}
-use Rattle.rescue_verify.specs.Looking.{SeesPiece, HaltsLooking}
+use Rattle.rescue_verify.specs.Looking.{HaltsLooking, IsFrom, SeesPiece}
 use Rattle.rescue_verify.specs.Verified.{judged, judged_by}
 use Rattle.rescue_verify.specs.Comparing.{ComparisonPlan, LossesRise, place_in, tally_of, tally_with, TakesPiece, HaltsAt, HasLooked, Compares}
 
@@ -38,14 +40,6 @@ judged_push map (k ∷ looks) l = judged_push (judged map k) looks l
 end_push : (from : ℕ) (reads : List Reading) (r : Reading) → end_of_reads from (reads ++ r ∷ []) ≡ r.pos + r.asked
 end_push from [] r = refl
 end_push from (q ∷ reads) r = end_push (q.pos + q.asked) reads r
-
-asks_push : (compared : ℕ → Bool) (sector from : ℕ) (reads : List Reading) (r : Reading)
-    → AskForPieces compared sector from reads
-    → IsPiece compared sector (end_of_reads from reads) r.pos (r.pos + r.asked)
-    → AskForPieces compared sector from (reads ++ r ∷ [])
-asks_push compared sector from [] r asks piece = (piece, tt)
-asks_push compared sector from (q ∷ reads) r asks piece =
-    (asks.0, asks_push compared sector (q.pos + q.asked) reads r asks.1 piece)
 
 calls_push : (place : ℕ → ℕ) (looks : List Look) (l : Look)
     → look_calls place (looks ++ l ∷ []) ≡ look_calls place looks ++ look_call (place l.read.pos) l
@@ -82,6 +76,7 @@ none_yet p map source site = record {
   looked = record {
     asks = tt;
     journal = λ tells. sym (append-nil source.journal);
+    right = λ tells. All-nil (IsFrom source.bytes);
     record_ = λ tells. sym (append-nil site.calls);
     seen = λ tells. refl;
   };
@@ -90,6 +85,13 @@ none_yet p map source site = record {
   map_is = refl;
 }
 
+-- reads gave the input's own bytes, and so did further ones
+right_more : (source s1 : SourceState) (xs ys : List Reading) → SourceKeeps source s1 → IsTrue source.tells
+    → All (IsFrom source.bytes) xs → (IsTrue s1.tells → All (IsFrom s1.bytes) ys) → All (IsFrom source.bytes) (xs ++ ys)
+right_more source s1 xs ys keeps tells first more =
+    All-append (IsFrom source.bytes) xs ys first
+    (subst (λ (b : List ℕ). All (IsFrom b) ys) (keeps.bytes tells) (more (rw keeps.tells tells)))
+
 -- an image that no call changed reads as it did
 pub record SameImage (site site' : SiteState) : Type 0 where
   pub tells : site'.tells ≡ site.tells
@@ -97,10 +99,10 @@ pub record SameImage (site site' : SiteState) : Type 0 where
 
 pub one_more : (p : ComparisonPlan) (from pos size : ℕ) (tally : Tally) (old new : List Status) (l : Look)
     (source s1 s2 : SourceState) (site d1 d2 : SiteState) → UpTo p from tally old new source s1 site d1
-    → s1.tells ≡ source.tells → SameImage site d1
+    → SourceKeeps source s1 → SameImage site d1
     → IsPiece p.compared p.sector from pos (pos + size) → SeesPiece pos size (place_in p pos) l s1 s2 d1 d2
     → UpTo p (pos + size) (tally_with tally l) old (judged new l) source s2 site d2
-one_more p from pos size tally old new l source s1 s2 site d1 d2 u told image piece sees =
+one_more p from pos size tally old new l source s1 s2 site d1 d2 u keeps image piece sees =
     let looks : List Look = u.looks in
     let at : place_in p l.read.pos ≡ place_in p pos = ap (place_in p) sees.pos_is in
     let place : ℕ → ℕ = place_in p in
@@ -111,9 +113,13 @@ one_more p from pos size tally old new l source s1 s2 site d1 d2 u told image pi
             (asks_push p.compared p.sector 0 (reads_of looks) l.read u.looked.asks
             (rw (u.ends, sees.pos_is, sees.size_is) piece));
         journal = λ tells.
-            sees.read.told (rw told tells) ∙ ap (λ (j : List Reading). j ++ l.read ∷ []) (u.looked.journal tells)
+            sees.read.told (rw keeps.tells tells) ∙ ap (λ (j : List Reading). j ++ l.read ∷ []) (u.looked.journal tells)
             ∙ append_assoc source.journal (reads_of looks) (l.read ∷ [])
             ∙ ap (λ (j : List Reading). source.journal ++ j) (sym (reads_push looks l));
+        right = λ tells.
+            subst (All (IsFrom source.bytes)) (sym (reads_push looks l))
+            (right_more source s1 (reads_of looks) (l.read ∷ []) keeps tells (u.looked.right tells)
+            (λ t. All-cons (IsFrom s1.bytes) l.read [] (sees.right t) (All-nil (IsFrom s1.bytes))));
         record_ = λ tells.
             sees.made.made (rw image.tells tells)
             ∙ ap (λ (c : List Entry). c ++ map Done (look_call (place pos) l)) (u.looked.record_ tells)
@@ -182,7 +188,7 @@ takes_one p from pos to tally tally' old new new' source s1 s2 site d1 d2 u stay
     let own : IsPiece p.compared p.sector from pos (pos + (to - pos)) =
     subst (IsPiece p.compared p.sector from pos) (sym end) piece in
     let more : UpTo p (pos + (to - pos)) (tally_with tally takes.look) old (judged new takes.look) source s2 site d2 =
-    one_more p from pos (to - pos) tally old new takes.look source s1 s2 site d1 d2 u stays.keeps.tells
+    one_more p from pos (to - pos) tally old new takes.look source s1 s2 site d1 d2 u stays.keeps
     (same_image p from tally old new source s1 site d1 u site_stays) own takes.sees in
     rw (takes.counts, takes.map_is) (subst (λ (n : ℕ). UpTo p n (tally_with tally takes.look) old (judged new takes.look)
     source s2 site d2) end more)
@@ -232,6 +238,7 @@ record Halted (halt : Halt) (p : ComparisonPlan) (from : ℕ) (source source' : 
   calls : List Entry
   halts : HaltsAt halt p from reads calls
   journal : IsTrue source.tells → source'.journal ≡ source.journal ++ reads
+  right : IsTrue source.tells → All (IsFrom source.bytes) reads
   record_ : IsTrue site.tells → site'.calls ≡ site.calls ++ calls
 
 lost_gains : (call : Call) (old new : List Entry) → Lost call old new → (calls : List Entry) × Lost call [] calls × (new ≡ old ++ calls)
@@ -254,6 +261,7 @@ halted_looking NoMemory p from pos size source source' site site' piece h = reco
   calls = [];
   halts = (refl, refl);
   journal = λ tells. ap (λ (s : SourceState). s.journal) h.0 ∙ sym (append-nil source.journal);
+  right = λ tells. All-nil (IsFrom source.bytes);
   record_ = λ tells. ap (λ (d : SiteState). d.calls) h.1 ∙ sym (append-nil site.calls);
 }
 halted_looking SourceLost p from pos size source source' site site' piece h = record {
@@ -261,6 +269,7 @@ halted_looking SourceLost p from pos size source source' site site' piece h = re
   calls = [];
   halts = (pos, pos + size, piece, refl, refl);
   journal = λ tells. h.0.untold tells ∙ sym (append-nil source.journal);
+  right = λ tells. All-nil (IsFrom source.bytes);
   record_ = λ tells. ap (λ (d : SiteState). d.calls) h.1 ∙ sym (append-nil site.calls);
 }
 halted_looking ImageFault p from pos size source source' site site' piece h =
@@ -270,6 +279,8 @@ halted_looking ImageFault p from pos size source source' site site' piece h =
     let call : image_read (place_in p pos) size None ≡ image_read (place_in p r.pos) r.asked None =
     ap (λ (x : ℕ). image_read (place_in p x) size None) (sym h.1)
     ∙ ap (λ (n : ℕ). image_read (place_in p r.pos) n None) (sym h.2) in
+    let one_right : IsTrue source.tells → All (IsFrom source.bytes) (r ∷ []) =
+    λ tells. All-cons (IsFrom source.bytes) r [] (h.6 tells) (All-nil (IsFrom source.bytes)) in
     halted_by_tells site.tells (Halted ImageFault p from source source' site site')
     (λ t.
     let l = lost_gains (image_read (place_in p pos) size None) site.calls site'.calls
@@ -279,6 +290,7 @@ halted_looking ImageFault p from pos size source source' site site' piece h =
       calls = l.0;
       halts = (r, own, h.3, refl, subst (λ (c : Call). Lost c [] l.0) call l.1);
       journal = h.4.told;
+      right = one_right;
       record_ = λ tells. l.2;
     })
     (λ n. record {
@@ -286,15 +298,16 @@ halted_looking ImageFault p from pos size source source' site site' piece h =
       calls = [];
       halts = (r, own, h.3, refl, inr refl);
       journal = h.4.told;
+      right = one_right;
       record_ = λ tells. absurd (n tells);
     })
 
 pub came_to_halt : (halt : Halt) (p : ComparisonPlan) (from pos size : ℕ) (tally : Tally) (old new now : List Status)
     (source s1 s2 : SourceState) (site d1 d2 : SiteState) → UpTo p from tally old new source s1 site d1
-    → s1.tells ≡ source.tells → d1.tells ≡ site.tells → IsPiece p.compared p.sector from pos (pos + size)
+    → SourceKeeps source s1 → d1.tells ≡ site.tells → IsPiece p.compared p.sector from pos (pos + size)
     → HaltsLooking halt pos size (place_in p pos) s1 s2 d1 d2
     → Compares p old now (Err halt) source s2 site d2
-came_to_halt halt p from pos size tally old new now source s1 s2 site d1 d2 u told tells piece h =
+came_to_halt halt p from pos size tally old new now source s1 s2 site d1 d2 u keeps tells piece h =
     let halted : Halted halt p from s1 s2 d1 d2 = halted_looking halt p from pos size s1 s2 d1 d2 piece h in
     record {
       looks = u.looks;
@@ -303,13 +316,29 @@ came_to_halt halt p from pos size tally old new now source s1 s2 site d1 d2 u to
       asks = u.looked.asks;
       ends = subst (λ (n : ℕ). HaltsAt halt p n halted.reads halted.calls) (sym u.ends) halted.halts;
       journal = λ t.
-          halted.journal (rw told t) ∙ ap (λ (j : List Reading). j ++ halted.reads) (u.looked.journal t)
+          halted.journal (rw keeps.tells t) ∙ ap (λ (j : List Reading). j ++ halted.reads) (u.looked.journal t)
           ∙ append_assoc source.journal (reads_of u.looks) halted.reads;
+      right = λ t. right_more source s1 (reads_of u.looks) halted.reads keeps t (u.looked.right t) halted.right;
       record_ = λ t.
           halted.record_ (rw tells t) ∙ ap (λ (c : List Entry). c ++ halted.calls) (u.looked.record_ t)
           ∙ append_assoc site.calls (map Done (look_calls (place_in p) u.looks)) halted.calls;
       seen = u.looked.seen;
     }
+
+-- memory ran out before the first piece
+pub nothing_compared : (p : ComparisonPlan) (map : List Status) (source : SourceState) (site : SiteState)
+    → Compares p map map (Err NoMemory) source source site site
+nothing_compared p map source site = record {
+  looks = [];
+  reads = [];
+  calls = [];
+  asks = tt;
+  ends = (refl, refl);
+  journal = λ tells. sym (append-nil source.journal);
+  right = λ tells. All-nil (IsFrom source.bytes);
+  record_ = λ tells. sym (append-nil site.calls);
+  seen = λ tells. refl;
+}
 
 -- what is counted of a look that halted, behind looks that counted nothing
 pub halted_counts : (halt : Halt) (pos size place : ℕ) (s0 s s' : SourceState) (d0 d d' : SiteState)

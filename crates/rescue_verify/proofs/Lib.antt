@@ -1,3 +1,3 @@
 mod LookLemmas
 mod CompareLemmas
-mod PieceLemmas
+pub mod PieceLemmas

@@ -16,7 +16,7 @@ use Rattle.crash_site.specs.SiteState.{SiteState, image_in}
 use Rattle.rescue_verify.specs.declared.look.LookResult.{LookResult}
 use Rattle.rescue_verify.specs.declared.look.LookResult.TheVariants.{Unread, Same, Different}
 use Rattle.rescue_verify.specs.Looks.{Look, differs, seen_at, look_call}
-use Rattle.rescue_verify.specs.Looking.{SeesPiece, seen_by}
+use Rattle.rescue_verify.specs.Looking.{IsFrom, SeesPiece, seen_by}
 
 -- what a read of so many bytes that left this in its buffer is in the journal
 abbrev pub reading : (pos asked : ℕ) → (buf : List ℕ) → Got → Reading
@@ -52,6 +52,14 @@ whole_read pos asked buf got long h =
     length-take-le (count_of got) buf (omega (arith, h, long)) in
     all_whole (length (take (count_of got) buf)) asked (omega (arith, count, h))
 
+-- what a read left in its buffer is what the input has there
+pub read_right : (pos asked : ℕ) (buf bytes : List ℕ) (got : Got) → length buf ≡ asked → count_of got ≤ asked
+    → take (count_of got) buf ≡ slice_range bytes pos (pos + count_of got) → IsFrom bytes (reading pos asked buf got)
+read_right pos asked buf bytes got long few is =
+    let count : length (take (count_of got) buf) ≡ count_of got =
+    length-take-le (count_of got) buf (omega (arith, few, long)) in
+    is ∙ ap (λ (n : ℕ). slice_range bytes pos (pos + n)) (sym count)
+
 -- a read that wasn't whole is all of a look
 module _ (r : Reading) (part : is_whole r ≡ false) where
   abbrev unread_look : Look
@@ -70,8 +78,9 @@ module _ (r : Reading) (part : is_whole r ≡ false) where
 
 pub sees_unread : (pos place asked : ℕ) (buf : List ℕ) (got : Got) (source source' : SourceState) (site : SiteState)
     → length buf ≡ asked → count_of got < asked → Reads (reading pos asked buf got ∷ []) source source'
+    → (IsTrue source.tells → take (count_of got) buf ≡ slice_range source.bytes pos (pos + count_of got))
     → (l : Look) × (Unread ≡ seen_by l) × SeesPiece pos asked place l source source' site site
-sees_unread pos place asked buf got source source' site long less read =
+sees_unread pos place asked buf got source source' site long less read right =
     let r : Reading = reading pos asked buf got in
     let part : is_whole r ≡ false = part_read pos asked buf got long less in (
       record { read = r; there = [] },
@@ -80,6 +89,7 @@ sees_unread pos place asked buf got source source' site long less read =
         pos_is = refl;
         size_is = refl;
         read = read;
+        right = λ tells. read_right pos asked buf source.bytes got long (omega (arith, less)) (right tells);
         made = record {
           made = λ tells. sym (append-nil site.calls)
               ∙ ap (λ (cs : List Call). site.calls ++ map Done cs) (sym (unread_calls r part place));
@@ -127,11 +137,12 @@ pub sees_read : (pos place asked n : ℕ) (buf image : List ℕ) (got : Got) (sa
     (source source' : SourceState) (site site' : SiteState) → length buf ≡ asked → length image ≡ asked
     → count_of got ≡ asked → n ≤ asked → same ≡ bytes_eq buf (take n image)
     → seen ≡ (if not same then Different else Same) → Reads (reading pos asked buf got ∷ []) source source'
+    → (IsTrue source.tells → take (count_of got) buf ≡ slice_range source.bytes pos (pos + count_of got))
     → (IsTrue site.tells → site'.calls ≡ site.calls ++ Done (image_read place asked (Some n)) ∷ [])
     → site'.faults ≡ site.faults → (IsTrue site.tells → IsImageRead (image_in site) place image n)
     → (l : Look) × (seen ≡ seen_by l) × SeesPiece pos asked place l source source' site site'
-sees_read pos place asked n buf image got same seen source source' site site' long wide all few is are read made kept
-    told =
+sees_read pos place asked n buf image got same seen source source' site site' long wide all few is are read right made
+    kept told =
     let r : Reading = reading pos asked buf got in
     let whole : is_whole r ≡ true = whole_read pos asked buf got long all in
     let there : List ℕ = take n image in
@@ -145,6 +156,7 @@ sees_read pos place asked n buf image got same seen source source' site site' lo
         pos_is = refl;
         size_is = refl;
         read = read;
+        right = λ tells. read_right pos asked buf source.bytes got long (omega (arith, all)) (right tells);
         made = record {
           made = λ tells. made tells
               ∙ ap (λ (k : ℕ). site.calls ++ Done (image_read place asked (Some k)) ∷ []) (sym count)

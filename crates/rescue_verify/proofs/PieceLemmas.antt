@@ -1,10 +1,19 @@
--- No position is asked for by two reads of pieces.
-use Rattle.std.proofs.Common.{◌≡◌, ℕ, ◌+◌, ◌<◌, ◌≤◌, Bool, true, false, cond, List, [], ◌∷◌, count_by, arith, refl}
+-- Reads of pieces: one more, and that no position is asked for by two of them.
+use Rattle.std.proofs.Common.{◌≡◌, ℕ, ◌+◌, ◌<◌, ◌≤◌, Bool, true, false, cond, List, [], ◌∷◌, ◌++◌, count_by, arith, refl}
 use Rattle.std.proofs.lemmas.Bool.Decides.{nat_tests}
 use Rattle.std.proofs.lemmas.List.Sums.{sum_by-cons}
 use Rattle.faulty_source.specs.Journal.{Reading}
 use Rattle.rescue_verify.specs.Laws.{NoneIsReadTwice, asks_for}
-use Rattle.rescue_verify.specs.Pieces.{AskForPieces}
+use Rattle.rescue_verify.specs.Pieces.{IsPiece, AskForPieces, end_of_reads}
+
+-- reads ask for the first pieces, and one more for the next
+pub asks_push : (compared : ℕ → Bool) (sector from : ℕ) (reads : List Reading) (r : Reading)
+    → AskForPieces compared sector from reads
+    → IsPiece compared sector (end_of_reads from reads) r.pos (r.pos + r.asked)
+    → AskForPieces compared sector from (reads ++ r ∷ [])
+asks_push compared sector from [] r asks piece = (piece, tt)
+asks_push compared sector from (q ∷ reads) r asks piece =
+    (asks.0, asks_push compared sector (q.pos + q.asked) reads r asks.1 piece)
 
 -- a read that begins after a position doesn't ask for it
 later_is_other : (x : ℕ) (r : Reading) → x < r.pos → asks_for x r ≡ false

@@ -1,5 +1,5 @@
 -- How a comparison goes over its pieces, and how far it comes.
-use Rattle.std.specs.Prelude.{◌≡◌, ℕ, ◌+◌, ◌-◌, Bool, true, not, IsTrue, List, [], ◌∷◌, ◌++◌, map, None, Result, Ok, Err, if◌then◌else◌}
+use Rattle.std.specs.Prelude.{◌≡◌, ℕ, ◌+◌, ◌-◌, Bool, true, not, IsTrue, List, [], ◌∷◌, ◌++◌, map, All, None, Result, Ok, Err, if◌then◌else◌}
 use Rattle.fault_count.specs.Counts.{Rose}
 use Rattle.block_list.specs.declared.status.Status.{Status}
 use Rattle.faulty_source.specs.Journal.{Reading, is_whole}
@@ -16,7 +16,7 @@ use Rattle.rescue_verify.specs.declared.tally.Tally.{Tally}
 use Rattle.rescue_verify.specs.declared.piece.Comparison.{Comparison}
 use Rattle.rescue_verify.specs.Pieces.{IsPiece, NoneFrom, AskForPieces, end_of_reads}
 use Rattle.rescue_verify.specs.Looks.{Look, reads_of, differs, seen_in, look_calls, compared_bytes, differing_bytes, unread_bytes}
-use Rattle.rescue_verify.specs.Looking.{SeesPiece}
+use Rattle.rescue_verify.specs.Looking.{IsFrom, SeesPiece}
 use Rattle.rescue_verify.specs.Verified.{judged, judged_by}
 
 -- What is compared, in sectors of this size, and where a position stands in the image: `from` stands at `to`.
@@ -82,12 +82,13 @@ LossesRise (Err NoMemory) source source' site site' = (source'.losses ≡ source
 LossesRise (Err SourceLost) source source' site site' = Rose source.losses source'.losses × (site'.faults ≡ site.faults)
 LossesRise (Err ImageFault) source source' site site' = (source'.losses ≡ source.losses) × Rose site.faults site'.faults
 
--- Looks at the first pieces, in order: they are reads of the input and calls on the files, where these tell; and what the
--- image gave is what it has there, where the files tell.
+-- Looks at the first pieces, in order: they are reads of the input and calls on the files, if these tell; and what each
+-- of the two gave is what it has there.
 pub record HasLooked (p : ComparisonPlan) (looks : List Look) (source source' : SourceState) (site site' : SiteState)
     : Type 0 where
   pub asks : AskForPieces p.compared p.sector 0 (reads_of looks)
   pub journal : IsTrue source.tells → source'.journal ≡ source.journal ++ reads_of looks
+  pub right : IsTrue source.tells → All (IsFrom source.bytes) (reads_of looks)
   pub record_ : IsTrue site.tells → site'.calls ≡ site.calls ++ map Done (look_calls (place_in p) looks)
   pub seen : IsTrue site.tells
       → looks ≡ map (seen_in (bytes_of (image_in site)) (place_in p)) (reads_of looks)
@@ -101,6 +102,7 @@ pub record Compares (p : ComparisonPlan) (old new : List Status) (result : Resul
   pub asks : AskForPieces p.compared p.sector 0 (reads_of looks)
   pub ends : EndsComparing p old new result looks reads calls
   pub journal : IsTrue source.tells → source'.journal ≡ source.journal ++ (reads_of looks ++ reads)
+  pub right : IsTrue source.tells → All (IsFrom source.bytes) (reads_of looks ++ reads)
   pub record_ : IsTrue site.tells → site'.calls ≡ site.calls ++ (map Done (look_calls (place_in p) looks) ++ calls)
   pub seen : IsTrue site.tells
       → looks ≡ map (seen_in (bytes_of (image_in site)) (place_in p)) (reads_of looks)

@@ -1,5 +1,5 @@
 -- What one look at a piece does, by what the objects tell.
-use Rattle.std.specs.Prelude.{◌≡◌, ℕ, true, IsTrue, [], ◌∷◌, None, if◌then◌else◌}
+use Rattle.std.specs.Prelude.{◌≡◌, ℕ, ◌+◌, true, IsTrue, List, [], ◌∷◌, length, slice_range, None, if◌then◌else◌}
 use Rattle.faulty_source.specs.Journal.{Reading, is_whole}
 use Rattle.faulty_source.specs.SourceState.{SourceState}
 use Rattle.faulty_source.specs.SourceChanges.{Reads, Loses}
@@ -18,13 +18,18 @@ use Rattle.rescue_verify.specs.Looks.{Look, differs, seen_at, look_call}
 abbrev pub seen_by : Look → LookResult
 seen_by l = if is_whole l.read then (if differs l then Different else Same) else Unread
 
--- The piece from a position on, of so many bytes, was read once, and if that was whole the image at a place; and what the
--- image gave is what it has there.
+-- a read gave the input's own bytes
+abbrev pub IsFrom : (bytes : List ℕ) → Reading → Type 0
+IsFrom bytes r = r.given ≡ slice_range bytes r.pos (r.pos + length r.given)
+
+-- The piece from a position on, of so many bytes, was read once, and if that was whole the image at a place. What each of
+-- the two gave is what it has there.
 pub record SeesPiece (pos size place : ℕ) (look : Look) (source source' : SourceState) (site site' : SiteState)
     : Type 0 where
   pub pos_is : look.read.pos ≡ pos
   pub size_is : look.read.asked ≡ size
   pub read : Reads (look.read ∷ []) source source'
+  pub right : IsTrue source.tells → IsFrom source.bytes look.read
   pub made : Makes (look_call place look) site site'
   pub own : IsTrue site.tells → look ≡ seen_at (bytes_of (image_in site)) place look.read
 
@@ -35,4 +40,4 @@ HaltsLooking NoMemory pos size place source source' site site' = (source' ≡ so
 HaltsLooking SourceLost pos size place source source' site site' = Loses source source' × (site' ≡ site)
 HaltsLooking ImageFault pos size place source source' site site' =
     (r : Reading) × (r.pos ≡ pos) × (r.asked ≡ size) × (is_whole r ≡ true) × Reads (r ∷ []) source source'
-    × Breaks ImageRead (image_read place size None ∷ []) site site'
+    × Breaks ImageRead (image_read place size None ∷ []) site site' × (IsTrue source.tells → IsFrom source.bytes r)

@@ -2,7 +2,7 @@
 use Rattle.std.proofs.Common.{arith, refl, rules, ◌∙◌}
 use Rattle.std.proofs.lemmas.Result.{err_from_is_err_and}
 use Rattle.faulty_source.proofs.Keeping.{stays_more, stays_self}
-use Rattle.rescue_verify.proofs.CompareLemmas.{buffer_same, came_to_halt, halted_counts, long_piece, none_yet, piece_holds, takes_grow, takes_one}
+use Rattle.rescue_verify.proofs.CompareLemmas.{buffer_same, came_to_halt, halted_counts, long_piece, none_yet, nothing_compared, piece_holds, takes_grow, takes_one}
 use Rattle.rescue_verify.proofs.compare.compare.Goals as goal
 
 pub returns-in_default-clause-source : goal.returns-in_default-clause-source
@@ -10,6 +10,12 @@ returns-in_default-clause-source g c = stays_self _
 
 pub returns-in_default-vec-clause-source : goal.returns-in_default-vec-clause-source
 returns-in_default-vec-clause-source g c = stays_self _
+
+pub returns-in_default-clause-compares : goal.returns-in_default-clause-compares
+returns-in_default-clause-compares g c = nothing_compared _ _ _ _
+
+pub returns-in_default-vec-clause-compares : goal.returns-in_default-vec-clause-compares
+returns-in_default-vec-clause-compares g c = nothing_compared _ _ _ _
 
 pub pieces-init : goal.pieces-init
 pieces-init g c = record {
@@ -42,7 +48,7 @@ pub returns-in_err-compare_piece-clause-compares : goal.returns-in_err-compare_p
 returns-in_err-compare_piece-clause-compares g c =
     let p = err_from_is_err_and c.from_residual.result c.from_residual.ensures.1 in
     rw (p.1, p.2)
-    (came_to_halt _ _ _ _ _ _ _ _ _ _ _ _ _ _ _ c.pieces.invariant.up_to c.pieces.invariant.source.keeps.tells
+    (came_to_halt _ _ _ _ _ _ _ _ _ _ _ _ _ _ _ c.pieces.invariant.up_to c.pieces.invariant.source.keeps
     c.pieces.invariant.site.keeps.tells (long_piece _ _ _ _ _ c.in-Some.ensures.some c.in-Some.ensures.piece)
     c.in_err-compare_piece.ensures.halts)
 
