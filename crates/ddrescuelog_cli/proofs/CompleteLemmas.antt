@@ -1,53 +1,37 @@
 -- Nothing else is answered than what a mode finds, a refusal, a failure or want of memory.
-use Rattle.std.proofs.Common.{◌≡◌, ◌≢◌, ℕ, Bool, true, false, List, [], ◌∷◌, Option, refl, sym, inl, inr, subst}
-use Rattle.std.specs.Prelude.{⊤}
-use Rattle.fault_count.proofs.CountLemmas.{not_risen}
+use Rattle.std.proofs.Common.{◌≡◌, ℕ, Bool, true, false, List, [], ◌∷◌, Option, refl, sym, inl, inr, subst}
 use Rattle.block_list.specs.declared.status.Status.{Status}
 use Rattle.crash_site.specs.Files.{File}
 use Rattle.work_steps.specs.Work.{Deeds, with_calls, Take, Look, Works}
 use Rattle.work_steps.specs.Verdicts.{RefuseNothing}
 use Rattle.work_steps.proofs.VerdictLemmas.{goes_to_run}
+use Rattle.option_words.specs.declared.fault.UsageFault.TheVariants.{PlaceTooLarge}
+use Rattle.program_promise.specs.Kinds.{Kind, Asked, Starved}
 use Rattle.log_command.specs.declared.mode.LogMode.{LogMode}
 use Rattle.log_command.specs.declared.mode.LogMode.TheVariants.{Create, Test, Compare}
 use Rattle.log_command.specs.Modes.{creates}
 use Rattle.log_command.specs.Command.{Command}
 use Rattle.ddrescuelog_cli.specs.declared.ending.LogEnding.{LogEnding}
-use Rattle.ddrescuelog_cli.specs.declared.ending.LogEnding.TheVariants.{Done, NotDone, Differ, Usage, Exists, NoMap, MapRefused, BadNumber, ListTooLong, SiteFault, FeedFault, ConsoleFault, NoMemory}
-use Rattle.ddrescuelog_cli.specs.Told.{Told, line_of, only_calls}
+use Rattle.ddrescuelog_cli.specs.declared.ending.LogEnding.TheVariants.{Done, NotDone, Differ, Usage, NoMemory}
 use Rattle.ddrescuelog_cli.specs.Maps.{Found, Maps}
 use Rattle.ddrescuelog_cli.specs.Refusals.{ListRefused, MapIsThere, PlacesRefused}
 use Rattle.ddrescuelog_cli.specs.Results.{Finds}
-use Rattle.ddrescuelog_cli.specs.Answers.{Causes}
+use Rattle.ddrescuelog_cli.specs.Answers.{row_of}
 use Rattle.ddrescuelog_cli.specs.Work.{log_faults, named_rows, read_rows, EndsPrinted, EndsCreated, EndsAs, UnlessThere, WorksOver, WorksAs}
-use Rattle.ddrescuelog_cli.specs.Ddrescuelog.{Promise}
-use Rattle.ddrescuelog_cli.specs.Laws.{IsModeAnswer, IsFoundUnless, IsVerdict, NothingFailed, NothingIsRefused, rows_of_maps}
+use Rattle.ddrescuelog_cli.specs.Laws.{IfAsked, IsModeAnswer, IsFoundUnless, IsVerdict, NothingIsRefused, rows_of_maps}
 use Rattle.ddrescuelog_cli.proofs.FoundLemmas.{answers_are_found}
+use Rattle.ddrescuelog_cli.proofs.PromiseLemmas.{log_keeps_promises}
 use Rattle.ddrescuelog_cli.proofs.VerdictLemmas.{Saves, saved_done, verdicts}
 
 -- ---- an answer of a mode
 
 -- it is an answer of a mode itself
 abbrev IsOfMode : LogEnding → Type 0
-IsOfMode Done = ⊤
-IsOfMode NotDone = ⊤
-IsOfMode Differ = ⊤
-IsOfMode (Usage fault) = ⊥
-IsOfMode Exists = ⊥
-IsOfMode (NoMap which) = ⊥
-IsOfMode (MapRefused which error) = ⊥
-IsOfMode (BadNumber line) = ⊥
-IsOfMode ListTooLong = ⊥
-IsOfMode (SiteFault call) = ⊥
-IsOfMode FeedFault = ⊥
-IsOfMode ConsoleFault = ⊥
-IsOfMode NoMemory = ⊥
+IsOfMode e = (row_of e).kind ≡ Asked
 
 -- so it is what the mode finds
 found_by : (e : LogEnding) (F : LogEnding → Type 0) → IsOfMode e → IsModeAnswer e F → F e
-found_by Done F of found = found
-found_by NotDone F of found = found
-found_by Differ F of found = found
-found_by _ F of found = absurd of
+found_by e F of found = subst (λ (k : Kind). IfAsked k (F e)) of found
 
 of_as : (e v : LogEnding) → e ≡ v → IsOfMode v → IsOfMode e
 of_as e v is of = subst IsOfMode (sym is) of
@@ -56,7 +40,7 @@ of_as e v is of = subst IsOfMode (sym is) of
 
 printed_of : (e : LogEnding) (d : Deeds) → EndsPrinted e d → IsVerdict e → IsOfMode e
 printed_of e d (inl a) v = absurd (subst IsVerdict a.0 v)
-printed_of e d (inr a) v = of_as e Done a.0 tt
+printed_of e d (inr a) v = of_as e Done a.0 refl
 
 -- a list isn't refused
 abbrev ListPasses : Command → List ℕ → Type 0
@@ -69,21 +53,21 @@ created_of listed rest c line list m e d pass (inr w) v =
     let ran : (did : Deeds) × Saves listed rest c line list m e did =
     goes_to_run log_faults IsVerdict verdicts (Look (ListRefused c.options list) ∷ [])
     (Saves listed rest c line list m) (pass, tt) e d w v in
-    of_as e Done (saved_done c ran.1.1 e ran.0 ran.1.4 v) tt
+    of_as e Done (saved_done c ran.1.1 e ran.0 ran.1.4 v) refl
 
 ends_of : (mode : LogMode) (c : Command) (line list : List ℕ) (m : Maps) (e : LogEnding) (d : Deeds)
     → (creates mode ≡ true → ListPasses c list) → EndsAs mode c line list m e d → IsVerdict e → IsOfMode e
 ends_of (Create listed rest) c line list m e d pass w v =
     created_of listed rest c line list m e d (pass refl) w v
-ends_of (Test true) c line list m e d pass (inl (r, idle)) v = of_as e NotDone r.1 tt
+ends_of (Test true) c line list m e d pass (inl (r, idle)) v = of_as e NotDone r.1 refl
 ends_of (Test true) c line list m e d pass (inr (passed, inl b)) v = absurd (subst IsVerdict b.1 v)
-ends_of (Test true) c line list m e d pass (inr (passed, inr w)) v = of_as e Done w.2.0 tt
-ends_of (Test false) c line list m e d pass (inl a, idle) v = of_as e Done a.0 tt
-ends_of (Test false) c line list m e d pass (inr a, idle) v = of_as e NotDone a.0 tt
-ends_of (Compare false) c line list m e d pass (inl a, idle) v = of_as e Done a.0 tt
-ends_of (Compare false) c line list m e d pass (inr a, idle) v = of_as e Differ a.0 tt
-ends_of (Compare true) c line list m e d pass (inl a, idle) v = of_as e Done a.0 tt
-ends_of (Compare true) c line list m e d pass (inr a, idle) v = of_as e Differ a.0 tt
+ends_of (Test true) c line list m e d pass (inr (passed, inr w)) v = of_as e Done w.2.0 refl
+ends_of (Test false) c line list m e d pass (inl a, idle) v = of_as e Done a.0 refl
+ends_of (Test false) c line list m e d pass (inr a, idle) v = of_as e NotDone a.0 refl
+ends_of (Compare false) c line list m e d pass (inl a, idle) v = of_as e Done a.0 refl
+ends_of (Compare false) c line list m e d pass (inr a, idle) v = of_as e Differ a.0 refl
+ends_of (Compare true) c line list m e d pass (inl a, idle) v = of_as e Done a.0 refl
+ends_of (Compare true) c line list m e d pass (inr a, idle) v = of_as e Differ a.0 refl
 ends_of _ c line list m e d pass w v = printed_of e d w v
 
 over_of : (c : Command) (line list : List ℕ) (found : Found) (m : Maps) (e : LogEnding) (d : Deeds)
@@ -123,20 +107,19 @@ works_of true c is line list found m e d maps pass w v =
 
 -- ---- no fault
 
--- what is left for an answer
-no_fault : (t : Told) (e : LogEnding) → NothingFailed t → Causes e t → e ≢ NoMemory → IsVerdict e
-no_fault t (SiteFault call) f cause room = not_risen t.site.faults t.site'.faults f.calls_count f.calls cause.site
-no_fault t FeedFault f cause room = not_risen t.feed.faults t.feed'.faults f.takes_count f.takes cause.feed_
-no_fault t ConsoleFault f cause room =
-    not_risen t.console.out.faults t.console'.out.faults f.puts_count f.puts cause.out
-no_fault t NoMemory f cause room = room refl
-no_fault t _ f cause room = tt
+-- one answer says that memory wasn't there
+starved_is : (e : LogEnding) → (row_of e).kind ≡ Starved → e ≡ NoMemory
+starved_is NoMemory is = refl
+starved_is (Usage PlaceTooLarge) is = absurd (cc)
+starved_is (Usage fault) is = absurd (cc)
+starved_is e is = absurd (cc)
 
 pub is_found_unless : IsFoundUnless
 is_found_unless t c d asks failed pass room =
-    let p : Promise c d.between t = d.asked_for c asks in
-    let v : IsVerdict t.answer = no_fault t t.answer failed d.cause room in
-    found_by t.answer (Finds c.mode c p.maps)
-    (works_of (creates c.mode) c refl (line_of t) p.outside.list p.outside.found p.maps t.answer
-    (only_calls p.outside.calls) pass.maps pass p.work v)
-    (answers_are_found c (line_of t) p.outside.list p.outside.found p.maps t.answer (only_calls p.outside.calls) p.work)
+    let p = d.asked_for c asks in
+    let v : IsVerdict t.answer =
+    log_keeps_promises.brought t c d asks failed (λ is. room (starved_is t.answer is)) in
+    found_by t.answer (Finds c.mode c p.outside.maps)
+    (works_of (creates c.mode) c refl p.outside.line p.outside.list p.outside.found p.outside.maps t.answer p.did
+    pass.maps pass p.work v)
+    (answers_are_found c p.outside.line p.outside.list p.outside.found p.outside.maps t.answer p.did p.work)

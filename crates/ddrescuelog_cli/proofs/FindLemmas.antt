@@ -1,5 +1,5 @@
 -- What a mode that reads finds and prints, as its work.
-use Rattle.std.proofs.Common.{◌≡◌, ◌≢◌, ◌⊎◌, ℕ, Bool, false, List, [], length, flat_map, Result, Ok, Err, OnOk, OnErr, IfOk, refl, sym, ap, ◌∙◌, inl, inr, subst}
+use Rattle.std.proofs.Common.{◌≡◌, ◌≢◌, ◌⊎◌, ℕ, Bool, true, false, List, [], length, flat_map, Result, Ok, Err, OnOk, OnErr, IfOk, refl, sym, ap, ◌∙◌, inl, inr, subst}
 use Rattle.std.proofs.Math.Path.{fun_ext}
 use Rattle.std.proofs.lemmas.Bool.{both_ways}
 use Rattle.block_list.specs.declared.status.Status.{Status}
@@ -29,13 +29,13 @@ use Rattle.log_command.specs.Command.{Command}
 use Rattle.ddrescuelog_cli.specs.declared.load.LoadedMaps.{LoadedMaps}
 use Rattle.ddrescuelog_cli.specs.declared.ending.LogEnding.{LogEnding}
 use Rattle.ddrescuelog_cli.specs.declared.ending.LogEnding.TheVariants.{Done, Usage, ConsoleFault, NoMemory}
-use Rattle.ddrescuelog_cli.specs.Modes.{looks_at_places}
+use Rattle.ddrescuelog_cli.specs.Modes.{looks_at_places, prints}
 use Rattle.ddrescuelog_cli.specs.Maps.{Maps, output_from, shape_of, domain_of}
 use Rattle.ddrescuelog_cli.specs.Results.{map_text, number_line, summary_text, text_of}
 use Rattle.ddrescuelog_cli.specs.Refusals.{PlacesRefused}
-use Rattle.ddrescuelog_cli.specs.Told.{only_calls}
+use Rattle.ddrescuelog_cli.specs.Outside.{only_calls}
 use Rattle.ddrescuelog_cli.specs.Work.{EndsPrinted, EndsAs, WorksOver}
-use Rattle.ddrescuelog_cli.specs.Ddrescuelog.{PutsAs}
+use Rattle.ddrescuelog_cli.specs.Printing.{PutsAs}
 use Rattle.ddrescuelog_cli.specs.Steps.{IsLoadedAs, HasFound, printed_as}
 
 -- no calls are no work
@@ -55,14 +55,16 @@ passes c mode m is looks e refused = both_ways (looks_at_places c.mode) (ap look
 found_as : (c : Command) (mode : LogMode) (h : HeadingLines) (m : Maps) (e : LogEnding) (old new : ConsoleState)
     → c.mode ≡ mode → looks_at_places mode ≡ false
     → ((line list : List ℕ) → EndsAs mode c line list m e (only_calls []))
-    → ((line : List ℕ) → h ≡ heading_of line → PutsAs e (text_of mode c line m) old new) → HasFound c h m e old new
+    → ((line : List ℕ) → h ≡ heading_of line → PutsAs (prints mode) e (text_of mode c line m) old new)
+    → HasFound c h m e old new
 found_as c mode h m e old new is looks ends out = record {
   ends = λ line list.
       inr (inr (
         passes c mode m is looks,
         subst (λ (x : LogMode). EndsAs x c line list m e (only_calls [])) (sym is) (ends line list),
       ));
-  out = λ line heads. subst (λ (x : LogMode). PutsAs e (text_of x c line m) old new) (sym is) (out line heads);
+  out = λ line heads.
+      subst (λ (x : LogMode). PutsAs (prints x) e (text_of x c line m) old new) (sym is) (out line heads);
 }
 
 -- memory ran out for what was to be printed
@@ -70,7 +72,8 @@ starved_as : (c : Command) (h : HeadingLines) (m : Maps) (e : LogEnding) (old ne
     → new ≡ old → HasFound c h m e old new
 starved_as c h m e old new is same = record {
   ends = λ line list. inl (is, idle);
-  out = λ line heads. subst (λ (x : LogEnding). PutsAs x (text_of c.mode c line m) old new) (sym is) same;
+  out = λ line heads.
+      subst (λ (x : LogEnding). PutsAs (prints c.mode) x (text_of c.mode c line m) old new) (sym is) same;
 }
 
 -- ---- a text that was put, or not all of it
@@ -88,10 +91,10 @@ is_printed (Err f) e is = inr is
 
 puts_as : {T E : Type 0} (r : Result T E) (e : LogEnding) (text : List ℕ) (old new : ConsoleState) → e ≡ printed_as r
     → OnOk r (Puts Out text old new) → OnErr r (PutsPart Out text old new) → OnErr r (text ≢ [])
-    → PutsAs e text old new
-puts_as (Ok x) e text old new is put part some = subst (λ (x : LogEnding). PutsAs x text old new) (sym is) put
+    → PutsAs true e text old new
+puts_as (Ok x) e text old new is put part some = subst (λ (x : LogEnding). PutsAs true x text old new) (sym is) put
 puts_as (Err f) e text old new is put part some =
-    subst (λ (x : LogEnding). PutsAs x text old new) (sym is) (some, part)
+    subst (λ (x : LogEnding). PutsAs true x text old new) (sym is) (some, part)
 
 -- ---- maps
 
@@ -113,17 +116,18 @@ same_text line h shown shown' s t heads shows same =
 -- the map that a mode makes was printed, if there was memory for it
 made_printed : {F : Type 0} (c : Command) (mode : LogMode) (h : HeadingLines) (m : Maps) (made : Result Tiled F)
     (shown : MapState) (statuses : List Status) (e : LogEnding) (old new : ConsoleState) → c.mode ≡ mode
-    → looks_at_places mode ≡ false → ((line list : List ℕ) → EndsPrinted e (only_calls [])
+    → prints mode ≡ true → looks_at_places mode ≡ false → ((line list : List ℕ) → EndsPrinted e (only_calls [])
     → EndsAs mode c line list m e (only_calls []))
     → ((line : List ℕ) → map_text line m.shown statuses ≡ text_of mode c line m) → shown ≡ m.shown
     → IfOk made (λ t. t.statuses ≡ statuses) → OnErr made ((e ≡ NoMemory) × (new ≡ old)) → OnOk made (IsPrinted e)
-    → IfOk made (λ t. PutsAs e (printed h shown t.statuses) old new) → HasFound c h m e old new
-made_printed c mode h m (Ok t) shown statuses e old new is looks ends texts shows makes starved answers put =
+    → IfOk made (λ t. PutsAs true e (printed h shown t.statuses) old new) → HasFound c h m e old new
+made_printed c mode h m (Ok t) shown statuses e old new is has looks ends texts shows makes starved answers put =
     found_as c mode h m e old new is looks (λ line list. ends line list (ends_printed e answers))
     (λ line heads.
-    subst (λ (x : List ℕ). PutsAs e x old new)
-    (same_text line h shown m.shown t.statuses statuses heads shows makes ∙ texts line) put)
-made_printed c mode h m (Err f) shown statuses e old new is looks ends texts shows makes starved answers put =
+    subst (λ (b : Bool). PutsAs b e (text_of mode c line m) old new) (sym has)
+    (subst (λ (x : List ℕ). PutsAs true e x old new)
+    (same_text line h shown m.shown t.statuses statuses heads shows makes ∙ texts line) put))
+made_printed c mode h m (Err f) shown statuses e old new is has looks ends texts shows makes starved answers put =
     starved_as c h m e old new starved.0 starved.1
 
 domain_is : (c : Command) (m : Maps) (l : LoadedMaps) → IsLoadedAs c m l → covers l.domain ≡ domain_of c m
@@ -152,9 +156,10 @@ pub changed_found : {F : Type 0} (c : Command) (change : TypeChange) (h : Headin
     (made : Result Tiled F) (e : LogEnding) (old new : ConsoleState) → c.mode ≡ Change change → IsLoadedAs c m l
     → IfOk made (λ t. t.statuses ≡ changed_map (covers l.domain) change l.tiles.statuses)
     → OnErr made ((e ≡ NoMemory) × (new ≡ old)) → OnOk made (IsPrinted e)
-    → IfOk made (λ t. PutsAs e (printed h l.state t.statuses) old new) → HasFound c h m e old new
+    → IfOk made (λ t. PutsAs true e (printed h l.state t.statuses) old new) → HasFound c h m e old new
 changed_found c change h m l made e old new is loaded makes starved answers put =
     made_printed c (Change change) h m made l.state (changed_map (domain_of c m) change m.statuses) e old new is refl
+    refl
     (λ line list ends. ends) (λ line. refl) loaded.shown
     (then_is made (changed_map (covers l.domain) change l.tiles.statuses)
     (changed_map (domain_of c m) change m.statuses)
@@ -165,9 +170,10 @@ pub combined_found : {F : Type 0} (c : Command) (op : Op) (h : HeadingLines) (m 
     (made : Result Tiled F) (e : LogEnding) (old new : ConsoleState) → c.mode ≡ Combine op → IsLoadedAs c m l
     → IfOk made (λ t. t.statuses ≡ combined_map op (covers l.domain) l.tiles.statuses l.other.statuses)
     → OnErr made ((e ≡ NoMemory) × (new ≡ old)) → OnOk made (IsPrinted e)
-    → IfOk made (λ t. PutsAs e (printed h l.state t.statuses) old new) → HasFound c h m e old new
+    → IfOk made (λ t. PutsAs true e (printed h l.state t.statuses) old new) → HasFound c h m e old new
 combined_found c op h m l made e old new is loaded makes starved answers put =
     made_printed c (Combine op) h m made l.state (combined_map op (domain_of c m) m.statuses m.other) e old new is refl
+    refl
     (λ line list ends. ends) (λ line. refl) loaded.shown
     (then_is made (combined_map op (covers l.domain) l.tiles.statuses l.other.statuses)
     (combined_map op (domain_of c m) m.statuses m.other) (combined_is c op m l loaded) makes)
@@ -180,7 +186,7 @@ pub completed_found : {T F : Type 0} (c : Command) (status : Status) (h : Headin
 completed_found c status h m l r e old new is loaded answers put part =
     found_as c (Complete status) h m e old new is refl (λ line list. ends_printed e (is_printed r e answers))
     (λ line heads.
-    subst (λ (x : List ℕ). PutsAs e x old new)
+    subst (λ (x : List ℕ). PutsAs true e x old new)
     (same_text line h l.state m.shown l.tiles.statuses m.statuses heads loaded.shown loaded.statuses)
     (puts_as r e (printed h l.state l.tiles.statuses) old new answers put part
     (on_err r (printed h l.state l.tiles.statuses ≢ []) (map_is_some h l.state l.tiles.statuses))))
@@ -203,7 +209,7 @@ pub summarized_found : {T F : Type 0} (c : Command) (h : HeadingLines) (m : Maps
 summarized_found c h m l text r e old new is loaded makes answers put part some =
     found_as c Summarize h m e old new is refl (λ line list. ends_printed e (is_printed r e answers))
     (λ line heads.
-    subst (λ (x : List ℕ). PutsAs e x old new) (makes ∙ summary_is c m l loaded)
+    subst (λ (x : List ℕ). PutsAs true e x old new) (makes ∙ summary_is c m l loaded)
     (puts_as r e text old new answers put part some))
 
 -- ---- numbers of blocks
@@ -274,7 +280,7 @@ pub listed_found : (c : Command) (types : TypeSet) (h : HeadingLines) (m : Maps)
     → ((IsPlaceRefused e → ⊥)
     → AreAllPlaced (whole_of c l.tiles.statuses) c.options.input_position (output_from c.options))
     → IsPlaceRefused e ⊎ (e ≡ Done) ⊎ (e ≡ ConsoleFault)
-    → PutsAs e (flat_map number_line (listed_in c types l)) old new → HasFound c h m e old new
+    → PutsAs true e (flat_map number_line (listed_in c types l)) old new → HasFound c h m e old new
 listed_found c types h m l e old new is loaded beyond fit answers put = record {
   ends = list_ends c types m e is
       (λ refused. subst (λ (s : List Status). IsAnyBeyond (whole_of c s) c.options.input_position
@@ -285,6 +291,6 @@ listed_found c types h m l e old new is loaded beyond fit answers put = record {
       loaded.statuses (fit passed))
       answers;
   out = λ line heads.
-      subst (λ (x : LogMode). PutsAs e (text_of x c line m) old new) (sym is)
-      (subst (λ (x : List ℕ). PutsAs e x old new) (listed_is c types line m l loaded) put);
+      subst (λ (x : LogMode). PutsAs (prints x) e (text_of x c line m) old new) (sym is)
+      (subst (λ (x : List ℕ). PutsAs true e x old new) (listed_is c types line m l loaded) put);
 }

@@ -1,5 +1,5 @@
 -- Numbers that are put one by one.
-use Rattle.std.proofs.Common.{◌≡◌, ℕ, ◌+◌, ◌-◌, ◌≤◌, ◌<◌, Bool, List, [], ◌∷◌, ◌++◌, length, flat_map, Result, Ok, Err, OnOk, OnErr, refl, sym, ap, ◌∙◌, subst, append_assoc, append-nil, arith, length-append}
+use Rattle.std.proofs.Common.{◌≡◌, ℕ, ◌+◌, ◌-◌, ◌≤◌, ◌<◌, Bool, true, List, [], ◌∷◌, ◌++◌, length, flat_map, Result, Ok, Err, OnOk, OnErr, refl, sym, ap, ◌∙◌, subst, append_assoc, append-nil, arith, length-append}
 use Rattle.std.specs.Fmt.{decimal}
 use Rattle.block_list.specs.declared.status.Status.{Status}
 use Rattle.block_list.specs.declared.types.TypeSet.{TypeSet}
@@ -15,7 +15,7 @@ use Rattle.ddrescuelog_cli.specs.Printing.{Adds}
 use Rattle.log_command.specs.declared.options.LogOptions.{LogOptions}
 use Rattle.ddrescuelog_cli.specs.declared.ending.LogEnding.{LogEnding}
 use Rattle.ddrescuelog_cli.specs.Maps.{output_from, shape_of}
-use Rattle.ddrescuelog_cli.specs.Ddrescuelog.{PutsAs}
+use Rattle.ddrescuelog_cli.specs.Printing.{PutsAs}
 use Rattle.ddrescuelog_cli.specs.Steps.{printed_as}
 use Rattle.ddrescuelog_cli.specs.Results.{number_line}
 use Rattle.rescue_console.proofs.PutLemmas.{puts_none, puts_both, puts_then_part, part_of_longer}
@@ -192,7 +192,7 @@ begun_as o types to begun domain statuses is at =
 -- what was put, by the answer of the mode
 put_as : {T : Type 0} (r : Result T ConsoleFault) (text : List ℕ) (old new : ConsoleState)
     → OnOk r (Puts Out text old new) → OnErr r (PutsPart Out text old new) → OnErr r (text ≡ [] → ⊥)
-    → PutsAs (printed_as r) text old new
+    → PutsAs true (printed_as r) text old new
 put_as (Ok x) text old new puts broke some = puts
 put_as (Err e) text old new puts broke some = (some, broke)
 
@@ -203,12 +203,12 @@ pub listed_as : {T : Type 0} (o : LogOptions) (types : TypeSet) (to : ℕ) (begu
     → OnOk r (Puts Out (lines_of (listed (wanted_of begun domain statuses))) old new)
     → OnErr r (PutsPart Out (lines_of (listed (wanted_of begun domain statuses))) old new)
     → OnErr r (lines_of (listed (wanted_of begun domain statuses)) ≡ [] → ⊥)
-    → PutsAs e
+    → PutsAs true e
     (lines_of (listed (record { domain = domain; types = types; shape = shape_of o; statuses = statuses }))) old new
 listed_as o types to begun domain statuses r e old new is at answer puts broke some =
-    subst (λ v. PutsAs v
+    subst (λ v. PutsAs true v
     (lines_of (listed (record { domain = domain; types = types; shape = shape_of o; statuses = statuses }))) old new)
     (sym answer)
-    (subst (λ (w : Wanted). PutsAs (printed_as r) (lines_of (listed w)) old new)
+    (subst (λ (w : Wanted). PutsAs true (printed_as r) (lines_of (listed w)) old new)
     (begun_as o types to begun domain statuses is at)
     (put_as r (lines_of (listed (wanted_of begun domain statuses))) old new puts broke some))

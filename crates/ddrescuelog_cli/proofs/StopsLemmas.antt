@@ -35,10 +35,11 @@ use Rattle.save_resume.proofs.NameLemmas.{apart_draft}
 use Rattle.work_steps.proofs.GainLemmas.{broke_behind, broke_named}
 use Rattle.ddrescuelog_cli.specs.declared.ending.LogEnding.{LogEnding}
 use Rattle.ddrescuelog_cli.specs.declared.ending.LogEnding.TheVariants.{Done, NotDone, ListTooLong}
-use Rattle.ddrescuelog_cli.specs.Told.{only_calls}
+use Rattle.ddrescuelog_cli.specs.Outside.{only_calls}
 use Rattle.ddrescuelog_cli.specs.Maps.{Found, Maps, domain_of, shape_of}
 use Rattle.ddrescuelog_cli.specs.Refusals.{ListRefused}
 use Rattle.ddrescuelog_cli.specs.Results.{IsCreated}
+use Rattle.ddrescuelog_cli.specs.Answers.{row_of}
 use Rattle.ddrescuelog_cli.specs.Work.{EndsSaved, EndsCreated, EndsAs, removal_calls, LogWorks}
 use Rattle.ddrescuelog_cli.specs.Stops.{LeftAt, CouldBefore, Replaces, IsChanging, StopsSafely, OnlyReads, LeavesFiles}
 use Rattle.ddrescuelog_cli.proofs.FoundLemmas.{done_of}
@@ -376,14 +377,14 @@ reads_early (Create listed other) c line list m e rest leaves (inl (is, idle)) =
 reads_early (Create listed other) c line list m e rest leaves (inr (inl (refused, idle))) = idle.gain.calls
 reads_early (Create listed other) c line list m e rest leaves
     (inr (inr (passed, (numbers, text, are, is, inl (call, at, broke, alone))))) =
-    absurd (subst LeavesFiles at leaves)
+    absurd (leaves.kept (ap (λ (x : LogEnding). (row_of x).kind) at))
 reads_early (Create listed other) c line list m e rest leaves
-    (inr (inr (passed, (numbers, text, are, is, inr (more, made, ends))))) = absurd (subst LeavesFiles ends.0 leaves)
+    (inr (inr (passed, (numbers, text, are, is, inr (more, made, ends))))) = absurd (leaves.short ends.0)
 reads_early (Test true) c line list m e rest leaves (inl (refused, idle)) = idle.gain.calls
 reads_early (Test true) c line list m e rest leaves (inr (passed, inl (call, at, broke, alone))) =
-    absurd (subst LeavesFiles at leaves)
+    absurd (leaves.kept (ap (λ (x : LogEnding). (row_of x).kind) at))
 reads_early (Test true) c line list m e rest leaves (inr (passed, inr (more, made, ends))) =
-    absurd (subst LeavesFiles ends.0 leaves)
+    absurd (leaves.short ends.0)
 reads_early o c line list m e rest leaves w =
     reads_run o c line list m e rest (λ x. x) w
 

@@ -1,7 +1,7 @@
--- What each answer says of the words, of the counts and of the feed, and its exit status. No row stands for several
--- answers.
-use Rattle.std.specs.Prelude.{◌≡◌, ◌≢◌, ◌⊎◌, ⊤, ℕ, ◌<◌, Bool, true, false, IsTrue, List, [], ◌++◌, length, is_some}
-use Rattle.fault_count.specs.Counts.{raised}
+-- The row of each answer, from which follows what it says of the words, which count rose, its exit status and its
+-- message; to which commands it may be given; and what it leaves. No row stands for several answers.
+use Rattle.std.specs.Prelude.{◌≡◌, ◌≢◌, ◌⊎◌, ⊤, ℕ, ◌<◌, Bool, true, false, IsTrue, List, [], ◌++◌, length, is_some, codes}
+use Rattle.mapfile_text.specs.declared.read.MapError.{MapError}
 use Rattle.mapfile_text.specs.declared.read.MapError.TheVariants.{NoMemory as OutOfMemory}
 use Rattle.map_algebra.specs.Numbers.{list_limit}
 use Rattle.crash_site.specs.declared.site.SiteCall.{SiteCall}
@@ -11,78 +11,83 @@ use Rattle.save_resume.specs.Saving.{drafting_after_fault}
 use Rattle.option_words.specs.declared.fault.WordFault.TheVariants.{NoMemory as WordNoMemory}
 use Rattle.option_words.specs.declared.fault.UsageFault.{UsageFault}
 use Rattle.option_words.specs.declared.fault.UsageFault.TheVariants.{Word, BadValue, Conflict, Modes, Operands, PlaceTooLarge}
+use Rattle.fault_texts.specs.Texts.{usage_text, error_text, fault_text, at_line, message_of}
+use Rattle.program_promise.specs.Kinds.{Kind, Brought, Wrong, AtCall, AtTake, AtPut, is_silent_kind}
+use Rattle.program_promise.specs.Rows.{AnswerRow, asked_row, brought_row, failed_row, only_where, starved_row}
 use Rattle.log_command.specs.Modes.{creates}
-use Rattle.log_command.specs.Command.{Command, Asks, AreRefused}
+use Rattle.log_command.specs.Command.{Command}
 use Rattle.ddrescuelog_cli.specs.declared.ending.Which.{Which}
 use Rattle.ddrescuelog_cli.specs.declared.ending.Which.TheVariants.{DomainMap, RunMap, OtherMap}
 use Rattle.ddrescuelog_cli.specs.declared.ending.LogEnding.{LogEnding}
 use Rattle.ddrescuelog_cli.specs.declared.ending.LogEnding.TheVariants.{Done, NotDone, Differ, Usage, Exists, NoMap, MapRefused, BadNumber, ListTooLong, SiteFault, FeedFault, ConsoleFault, NoMemory}
+use Rattle.ddrescuelog_cli.specs.Names.{program_name}
 use Rattle.ddrescuelog_cli.specs.Modes.{compares, looks_at_places, prints, removes_map, tests}
-use Rattle.ddrescuelog_cli.specs.Told.{Told}
 
--- ---- the words
+-- ---- the row
 
--- the words ask for something
-pub record AreAccepted (words : List (List ℕ)) : Type 0 where
-  pub command : Command
-  pub asks : Asks words command
+-- which map it is
+abbrev pub which_text : Which → List ℕ
+which_text DomainMap = codes "domain mapfile"
+which_text RunMap = codes "mapfile"
+which_text OtherMap = codes "other mapfile"
 
--- words are refused for a fault, which is never want of memory; only a place is looked at behind the words
-abbrev pub SaysOfUsage : UsageFault → (words : List (List ℕ)) → Type 0
-SaysOfUsage (Word fault) words = AreRefused words (Word fault) × (fault ≢ WordNoMemory)
-SaysOfUsage (BadValue n) words = AreRefused words (BadValue n)
-SaysOfUsage (Conflict n) words = AreRefused words (Conflict n)
-SaysOfUsage (Modes given) words = AreRefused words (Modes given)
-SaysOfUsage (Operands given) words = AreRefused words (Operands given)
-SaysOfUsage PlaceTooLarge words = AreAccepted words
+-- why a map is refused
+abbrev pub map_error_text : Which → MapError → List ℕ
+map_error_text which error = which_text which ++ codes ": " ++ error_text error
 
--- what an answer says of the words: they are refused exactly where they bring a refusal, but for want of memory
-abbrev pub SaysOfWords : LogEnding → (words : List (List ℕ)) → Type 0
-SaysOfWords Done words = AreAccepted words
-SaysOfWords NotDone words = AreAccepted words
-SaysOfWords Differ words = AreAccepted words
-SaysOfWords (Usage fault) words = SaysOfUsage fault words
-SaysOfWords Exists words = AreAccepted words
-SaysOfWords (NoMap which) words = AreAccepted words
-SaysOfWords (MapRefused which error) words = AreAccepted words
-SaysOfWords (BadNumber line) words = AreAccepted words
-SaysOfWords ListTooLong words = AreAccepted words
-SaysOfWords (SiteFault call) words = AreAccepted words
-SaysOfWords FeedFault words = AreAccepted words
-SaysOfWords ConsoleFault words = AreAccepted words
-SaysOfWords NoMemory words = ⊤
+-- a fault of words that ask for nothing; a place is looked at after the words
+abbrev pub usage_kind : UsageFault → Kind
+usage_kind (Word fault) = Wrong (Word fault)
+usage_kind (BadValue n) = Wrong (BadValue n)
+usage_kind (Conflict n) = Wrong (Conflict n)
+usage_kind (Modes given) = Wrong (Modes given)
+usage_kind (Operands given) = Wrong (Operands given)
+usage_kind PlaceTooLarge = Brought
 
--- ---- the counts
+abbrev pub usage_row : UsageFault → AnswerRow
+usage_row fault = record { kind = usage_kind fault; status = 1; text = usage_text fault; also = ⊤ }
 
--- a count that stands
-abbrev pub unchanged : ℕ → ℕ
-unchanged n = n
+-- Want of memory isn't told as an error of a map.
+abbrev pub row_of : LogEnding → AnswerRow
+row_of Done = asked_row 0
+row_of NotDone = asked_row 1
+row_of Differ = asked_row 1
+row_of (Usage fault) = usage_row fault
+row_of Exists = brought_row 1 (codes "mapfile exists, use --force")
+row_of (NoMap which) = brought_row 1 (which_text which ++ codes " does not exist")
+row_of (MapRefused which error) = only_where (brought_row 2 (map_error_text which error)) (error ≢ OutOfMemory)
+row_of (BadNumber line) = brought_row 2 (at_line line (codes "not a block number"))
+row_of ListTooLong = brought_row 2 (codes "list too long")
+row_of (SiteFault call) = failed_row AtCall (fault_text call)
+row_of FeedFault = failed_row AtTake (codes "cannot read standard input")
+row_of ConsoleFault = failed_row AtPut (codes "cannot write standard output")
+row_of NoMemory = starved_row
 
--- by how much the counts rose: of calls on the files, of takes, and of puts on standard output that failed; a count at
--- the end of its type stands
-pub record Rises (calls takes puts : ℕ → ℕ) (t : Told) : Type 0 where
-  pub site : t.site'.faults ≡ calls t.site.faults
-  pub feed_ : t.feed'.faults ≡ takes t.feed.faults
-  pub out : t.console'.out.faults ≡ puts t.console.out.faults
+-- the exit status
+abbrev pub status_of_ending : LogEnding → ℕ
+status_of_ending e = (row_of e).status
 
--- A fault is answered exactly where its count rose, by one, and no other rose. So no other answer hides one. Want of
--- memory isn't told as an error of a map.
-abbrev pub Causes : LogEnding → Told → Type 0
-Causes Done t = Rises unchanged unchanged unchanged t
-Causes NotDone t = Rises unchanged unchanged unchanged t
-Causes Differ t = Rises unchanged unchanged unchanged t
-Causes (Usage fault) t = Rises unchanged unchanged unchanged t
-Causes Exists t = Rises unchanged unchanged unchanged t
-Causes (NoMap which) t = Rises unchanged unchanged unchanged t
-Causes (MapRefused which error) t = (error ≢ OutOfMemory) × Rises unchanged unchanged unchanged t
-Causes (BadNumber line) t = Rises unchanged unchanged unchanged t
-Causes ListTooLong t = Rises unchanged unchanged unchanged t
-Causes (SiteFault call) t = Rises raised unchanged unchanged t
-Causes FeedFault t = Rises unchanged raised unchanged t
-Causes ConsoleFault t = Rises unchanged unchanged raised t
-Causes NoMemory t = Rises unchanged unchanged unchanged t
+-- nothing is said of an answer, since it is what was asked for
+abbrev pub is_silent : LogEnding → Bool
+is_silent e = is_silent_kind (row_of e).kind
 
--- ---- the mode
+-- what is said of an answer, and the message on standard error
+abbrev pub text_of_ending : LogEnding → List ℕ
+text_of_ending e = (row_of e).text
+
+abbrev pub message : LogEnding → List ℕ
+message e = message_of program_name (text_of_ending e)
+
+-- the faults that words may have; no options conflict, and want of memory is no fault of words
+abbrev pub IsModeFault : UsageFault → Type 0
+IsModeFault (Word fault) = fault ≢ WordNoMemory
+IsModeFault (BadValue n) = ⊤
+IsModeFault (Conflict n) = ⊥
+IsModeFault (Modes given) = ⊤
+IsModeFault (Operands given) = ⊤
+IsModeFault PlaceTooLarge = ⊥
+
+-- ---- the command
 
 -- the words name the map that is meant; the mapfile is read in every mode but -c
 abbrev pub IsNamedMap : Which → Command → Type 0
@@ -162,73 +167,44 @@ TakenBefore DraftPublish old new = AllTaken old new
 TakenBefore MapSettle old new = AllTaken old new
 TakenBefore MapRemove old new = ⊥
 
--- what a map to be created takes of the feed, by the answer
+-- ---- what is left
+
+-- What an answer leaves: what a map to be created took of the feed by then, and whether a draft is left begun.
+pub record Leftovers : Type 1 where
+  pub takes : (old new : FeedState) → Type 0
+  pub drafting : Bool
+
+-- no draft is left
+abbrev pub only_takes : ((old new : FeedState) → Type 0) → Leftovers
+only_takes takes = record { takes = takes; drafting = false }
+
+-- a map to be created has no such answer
+abbrev pub never : (old new : FeedState) → Type 0
+never old new = ⊥
+
+-- A draft that was begun is left so after a failed append or sync.
+abbrev pub left_of : LogEnding → Leftovers
+left_of Done = only_takes AllTaken
+left_of NotDone = only_takes never
+left_of Differ = only_takes never
+left_of (Usage fault) = only_takes Untaken
+left_of Exists = only_takes Untaken
+left_of (NoMap which) = only_takes Untaken
+left_of (MapRefused which error) = only_takes Untaken
+left_of (BadNumber line) = only_takes AllTaken
+left_of ListTooLong = only_takes TooMuchTaken
+left_of (SiteFault call) = record { takes = TakenBefore call; drafting = drafting_after_fault call false }
+left_of FeedFault = only_takes TookFront
+left_of ConsoleFault = only_takes never
+left_of NoMemory = only_takes TookFront
+
 abbrev pub TakesAs : LogEnding → (old new : FeedState) → Type 0
-TakesAs Done old new = AllTaken old new
-TakesAs NotDone old new = ⊥
-TakesAs Differ old new = ⊥
-TakesAs (Usage fault) old new = Untaken old new
-TakesAs Exists old new = Untaken old new
-TakesAs (NoMap which) old new = Untaken old new
-TakesAs (MapRefused which error) old new = Untaken old new
-TakesAs (BadNumber line) old new = AllTaken old new
-TakesAs ListTooLong old new = TooMuchTaken old new
-TakesAs (SiteFault call) old new = TakenBefore call old new
-TakesAs FeedFault old new = TookFront old new
-TakesAs ConsoleFault old new = ⊥
-TakesAs NoMemory old new = TookFront old new
+TakesAs e old new = (left_of e).takes old new
 
 -- only a map to be created takes anything
 abbrev pub TakesFeed : (creates_map : Bool) → LogEnding → (old new : FeedState) → Type 0
 TakesFeed true e old new = TakesAs e old new
 TakesFeed false e old new = Untaken old new
 
--- ---- the draft, the status, and whether anything is said
-
--- whether a draft is left begun: one that was begun is so behind a failed append or sync
 abbrev pub drafting_left : LogEnding → Bool
-drafting_left Done = false
-drafting_left NotDone = false
-drafting_left Differ = false
-drafting_left (Usage fault) = false
-drafting_left Exists = false
-drafting_left (NoMap which) = false
-drafting_left (MapRefused which error) = false
-drafting_left (BadNumber line) = false
-drafting_left ListTooLong = false
-drafting_left (SiteFault call) = drafting_after_fault call false
-drafting_left FeedFault = false
-drafting_left ConsoleFault = false
-drafting_left NoMemory = false
-
--- the exit status
-abbrev pub status_of_ending : LogEnding → ℕ
-status_of_ending Done = 0
-status_of_ending NotDone = 1
-status_of_ending Differ = 1
-status_of_ending (Usage fault) = 1
-status_of_ending Exists = 1
-status_of_ending (NoMap which) = 1
-status_of_ending (MapRefused which error) = 2
-status_of_ending (BadNumber line) = 2
-status_of_ending ListTooLong = 2
-status_of_ending (SiteFault call) = 1
-status_of_ending FeedFault = 1
-status_of_ending ConsoleFault = 1
-status_of_ending NoMemory = 4
-
--- an answer of which nothing is said: it is what was asked
-abbrev pub is_silent : LogEnding → Bool
-is_silent Done = true
-is_silent NotDone = true
-is_silent Differ = true
-is_silent (Usage fault) = false
-is_silent Exists = false
-is_silent (NoMap which) = false
-is_silent (MapRefused which error) = false
-is_silent (BadNumber line) = false
-is_silent ListTooLong = false
-is_silent (SiteFault call) = false
-is_silent FeedFault = false
-is_silent ConsoleFault = false
-is_silent NoMemory = false
+drafting_left e = (left_of e).drafting

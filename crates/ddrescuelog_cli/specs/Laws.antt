@@ -1,5 +1,5 @@
 -- What the definitions mean.
-use Rattle.std.specs.Prelude.{◌≡◌, ◌≢◌, ⊤, ℕ, ◌-◌, ◌^◌, ◌<◌, ◌≤◌, Bool, true, false, IsTrue, List, length, Some}
+use Rattle.std.specs.Prelude.{◌≡◌, ◌≢◌, ⊤, ℕ, ◌^◌, ◌<◌, ◌≤◌, Bool, true, false, IsTrue, List, length, Some}
 use Rattle.block_list.specs.declared.status.Status.{Status}
 use Rattle.mapfile_text.specs.MapText.{text_limit}
 use Rattle.mapfile_text.specs.declared.state.Current.TheVariants.{Copying}
@@ -9,55 +9,42 @@ use Rattle.save_resume.specs.SaveStops.{text_file}
 use Rattle.map_algebra.specs.Create.{created_map}
 use Rattle.work_steps.specs.Work.{Deeds, WorkStep}
 use Rattle.work_steps.specs.Verdicts.{RefuseNothing}
+use Rattle.program_promise.specs.Kinds.{Kind, Asked, Brought, Wrong, Failed, Starved}
+use Rattle.program_promise.specs.Promise.{Told}
+use Rattle.program_promise.specs.WellMade.{IsVerdict as IsVerdictOf}
+use Rattle.program_promise.specs.Laws.{KeepsPromises, NothingFailed}
 use Rattle.log_command.specs.Modes.{creates}
 use Rattle.log_command.specs.Command.{Command, Asks}
 use Rattle.ddrescuelog_cli.specs.declared.ending.LogEnding.{LogEnding}
-use Rattle.ddrescuelog_cli.specs.declared.ending.LogEnding.TheVariants.{Done, NotDone, Differ, Usage, Exists, NoMap, MapRefused, BadNumber, ListTooLong, SiteFault, FeedFault, ConsoleFault, NoMemory}
+use Rattle.ddrescuelog_cli.specs.declared.ending.LogEnding.TheVariants.{NoMemory}
 use Rattle.ddrescuelog_cli.specs.Maps.{Found, Maps, AreMapsOf, AreAskedFor, IsShownBy, shape_of, domain_below}
 use Rattle.ddrescuelog_cli.specs.Refusals.{ListRefused, MapIsThere, PlacesRefused}
 use Rattle.ddrescuelog_cli.specs.Results.{Finds, IsCreated}
-use Rattle.ddrescuelog_cli.specs.Answers.{FitsCommand}
+use Rattle.ddrescuelog_cli.specs.Answers.{FitsCommand, row_of}
 use Rattle.ddrescuelog_cli.specs.Stops.{OnlyReads}
-use Rattle.ddrescuelog_cli.specs.Told.{Told, files_of}
 use Rattle.ddrescuelog_cli.specs.Work.{LogWorks, named_rows, read_rows}
-use Rattle.ddrescuelog_cli.specs.Ddrescuelog.{Ddrescuelog}
+use Rattle.ddrescuelog_cli.specs.Ddrescuelog.{Ddrescuelog, log_program}
 
 -- an answer that words, files and a list bring, whatever calls, streams and memory do
 abbrev pub IsVerdict : LogEnding → Type 0
-IsVerdict Done = ⊤
-IsVerdict NotDone = ⊤
-IsVerdict Differ = ⊤
-IsVerdict (Usage fault) = ⊤
-IsVerdict Exists = ⊤
-IsVerdict (NoMap which) = ⊤
-IsVerdict (MapRefused which error) = ⊤
-IsVerdict (BadNumber line) = ⊤
-IsVerdict ListTooLong = ⊤
-IsVerdict (SiteFault call) = ⊥
-IsVerdict FeedFault = ⊥
-IsVerdict ConsoleFault = ⊥
-IsVerdict NoMemory = ⊥
+IsVerdict e = IsVerdictOf log_program e
 
--- They bring one such answer at most.
+-- The work over some maps has one such answer at most.
 abbrev pub HasOneVerdict : Type 0
 HasOneVerdict = (c : Command) (line list : List ℕ) (found : Found) (m : Maps) (e e' : LogEnding) (d d' : Deeds)
     → LogWorks c line list found m e d → LogWorks c line list found m e' d' → IsVerdict e → IsVerdict e' → e ≡ e'
 
--- what a mode itself answers; of other answers nothing is said
+-- of an answer that was asked for; of others nothing is said
+abbrev pub IfAsked : Kind → Type 0 → Type 0
+IfAsked Asked found = found
+IfAsked Brought found = ⊤
+IfAsked (Wrong fault) found = ⊤
+IfAsked (Failed at) found = ⊤
+IfAsked Starved found = ⊤
+
+-- what a mode itself answers
 abbrev pub IsModeAnswer : LogEnding → (finds : LogEnding → Type 0) → Type 0
-IsModeAnswer Done finds = finds Done
-IsModeAnswer NotDone finds = finds NotDone
-IsModeAnswer Differ finds = finds Differ
-IsModeAnswer (Usage fault) finds = ⊤
-IsModeAnswer Exists finds = ⊤
-IsModeAnswer (NoMap which) finds = ⊤
-IsModeAnswer (MapRefused which error) finds = ⊤
-IsModeAnswer (BadNumber line) finds = ⊤
-IsModeAnswer ListTooLong finds = ⊤
-IsModeAnswer (SiteFault call) finds = ⊤
-IsModeAnswer FeedFault finds = ⊤
-IsModeAnswer ConsoleFault finds = ⊤
-IsModeAnswer NoMemory finds = ⊤
+IsModeAnswer e finds = IfAsked (row_of e).kind (finds e)
 
 -- An answer of a mode is what it finds in the maps, whatever the objects tell.
 abbrev pub AnswersAreFound : Type 0
@@ -71,21 +58,12 @@ AnswersFit = (c : Command) (line list : List ℕ) (found : Found) (m : Maps) (e 
 
 -- A mode that only reads leaves every file as it read.
 abbrev pub FilesStand : Type 0
-FilesStand = (t : Told) (c : Command) (d : Ddrescuelog t) (asks : Asks t.words c) → OnlyReads c.mode
-    → IsTrue t.site.tells → (name : List ℕ) → files_in t.site' name ≡ files_of t name
+FilesStand = (t : Told LogEnding) (c : Command) (d : Ddrescuelog t) (asks : Asks t.words c) → OnlyReads c.mode
+    → IsTrue t.before.site.tells → (name : List ℕ) → files_in t.after.site name ≡ files_in t.before.site name
 
 -- Whatever files are found, there are maps by which a command goes.
 abbrev pub MapsAreThere : Type 0
 MapsAreThere = (c : Command) (found : Found) → (m : Maps) × AreAskedFor c m × AreMapsOf c found m
-
--- no call on the files, no take and no put on standard output failed; and the counts say so
-pub record NothingFailed (t : Told) : Type 0 where
-  pub calls : t.site'.faults ≡ t.site.faults
-  pub takes : t.feed'.faults ≡ t.feed.faults
-  pub puts : t.console'.out.faults ≡ t.console.out.faults
-  pub calls_count : t.site.faults < 2 ^ 64 - 1
-  pub takes_count : t.feed.faults < 2 ^ 64 - 1
-  pub puts_count : t.console.out.faults < 2 ^ 64 - 1
 
 -- the rows of the maps that are read: one that is created isn't
 abbrev pub rows_of_maps : (creates_map : Bool) → Command → Found → List (WorkStep LogEnding)
@@ -102,9 +80,10 @@ pub record NothingIsRefused (c : Command) (list : List ℕ) (found : Found) (m :
 
 -- Where nothing failed, nothing is refused and memory doesn't run out, the answer is what the mode finds.
 abbrev pub IsFoundUnless : Type 0
-IsFoundUnless = (t : Told) (c : Command) (d : Ddrescuelog t) (asks : Asks t.words c) → NothingFailed t
-    → NothingIsRefused c (d.asked_for c asks).outside.list (d.asked_for c asks).outside.found (d.asked_for c asks).maps
-    → t.answer ≢ NoMemory → Finds c.mode c (d.asked_for c asks).maps t.answer
+IsFoundUnless = (t : Told LogEnding) (c : Command) (d : Ddrescuelog t) (asks : Asks t.words c) → NothingFailed t
+    → NothingIsRefused c (d.asked_for c asks).outside.list (d.asked_for c asks).outside.found
+    (d.asked_for c asks).outside.maps
+    → t.answer ≢ NoMemory → Finds c.mode c (d.asked_for c asks).outside.maps t.answer
 
 -- A map that -c saved is read again as it was: the state at position 0, and the statuses.
 abbrev pub CreatedIsRead : Type 0
@@ -112,3 +91,7 @@ CreatedIsRead = (c : Command) (listed rest : Status) (line : List ℕ) (m : Maps
     → (made : IsCreated c listed rest line m numbers text) → made.end < 2 ^ 63 → length text ≤ text_limit
     → IsShownBy (Some (text_file text)) Tight (record { pos = 0; current = Copying; pass = 1 })
     (created_map (shape_of c.options) numbers (domain_below c.options m made.end) listed rest made.end)
+
+-- What every program keeps.
+abbrev pub LogKeepsPromises : Type 0
+LogKeepsPromises = KeepsPromises log_program

@@ -4,9 +4,9 @@ pub mod Maps
 pub mod Refusals
 pub mod Results
 pub mod Work
-pub mod Told
+pub mod Outside
 pub mod Answers
-pub mod Messages
+pub mod Printing
 pub mod Stops
 pub mod Ddrescuelog
 pub mod Steps
@@ -14,5 +14,4 @@ pub mod Behind
 pub mod Creating
 pub mod Removing
 pub mod Worked
-pub mod Printing
 pub mod Laws

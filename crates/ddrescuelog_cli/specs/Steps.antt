@@ -26,8 +26,9 @@ use Rattle.ddrescuelog_cli.specs.declared.ending.LogEnding.{LogEnding}
 use Rattle.ddrescuelog_cli.specs.declared.ending.LogEnding.TheVariants.{Done, NoMap, MapRefused, SiteFault, ConsoleFault, NoMemory}
 use Rattle.ddrescuelog_cli.specs.Maps.{Found, Maps, file_of, found_in, AreMapsOf, AreAskedFor, domain_of}
 use Rattle.ddrescuelog_cli.specs.Results.{text_of}
-use Rattle.ddrescuelog_cli.specs.Ddrescuelog.{PutsAs}
-use Rattle.ddrescuelog_cli.specs.Told.{only_calls}
+use Rattle.ddrescuelog_cli.specs.Modes.{prints}
+use Rattle.ddrescuelog_cli.specs.Printing.{PutsAs}
+use Rattle.ddrescuelog_cli.specs.Outside.{only_calls}
 use Rattle.ddrescuelog_cli.specs.Work.{log_faults, map_rows, read_rows, WorksOver}
 
 -- the work stopped in one of these rows
@@ -149,4 +150,4 @@ answer_if false otherwise = otherwise
 pub record HasFound (c : Command) (h : HeadingLines) (m : Maps) (e : LogEnding) (old new : ConsoleState) : Type 0 where
   pub ends : (line list : List ℕ) → WorksOver c line list m e (only_calls [])
   pub out : (line : List ℕ) → h ≡ record { program = Ddrescuelog; line = line; start_s = 0; now_s = 0 }
-      → PutsAs e (text_of c.mode c line m) old new
+      → PutsAs (prints c.mode) e (text_of c.mode c line m) old new

@@ -8,14 +8,16 @@ use Rattle.save_resume.specs.MapNames.{names_of}
 use Rattle.save_resume.specs.SaveStops.{disk_of, text_file}
 use Rattle.map_algebra.specs.Compare.{IsDoneIn}
 use Rattle.map_algebra.specs.Numbers.{numbers_in}
+use Rattle.program_promise.specs.Kinds.{AtCall, Failed}
 use Rattle.log_command.specs.declared.mode.LogMode.{LogMode}
 use Rattle.log_command.specs.declared.mode.LogMode.TheVariants.{Change, Combine, Complete, ListBlocks, Create, Test, Compare, Summarize}
 use Rattle.log_command.specs.Modes.{creates}
 use Rattle.log_command.specs.Command.{Command}
 use Rattle.ddrescuelog_cli.specs.declared.ending.LogEnding.{LogEnding}
-use Rattle.ddrescuelog_cli.specs.declared.ending.LogEnding.TheVariants.{Done, NotDone, Differ, Usage, Exists, NoMap, MapRefused, BadNumber, ListTooLong, SiteFault, FeedFault, ConsoleFault, NoMemory}
+use Rattle.ddrescuelog_cli.specs.declared.ending.LogEnding.TheVariants.{Done}
 use Rattle.ddrescuelog_cli.specs.Maps.{Maps, shape_of, domain_of}
 use Rattle.ddrescuelog_cli.specs.Results.{IsCreated}
+use Rattle.ddrescuelog_cli.specs.Answers.{row_of}
 
 -- a stop after the first k calls may leave these files
 abbrev pub LeftAt : SiteState → List Entry → ℕ → (List ℕ → Option File) → Type 0
@@ -71,20 +73,9 @@ abbrev pub OnlyReads : LogMode → Type 0
 OnlyReads mode = IsChanging mode → ⊥
 
 -- Whatever the mode, an answer leaves everything as it was unless the work is done or a call on the files failed.
-abbrev pub LeavesFiles : LogEnding → Type 0
-LeavesFiles Done = ⊥
-LeavesFiles NotDone = Unit {0}
-LeavesFiles Differ = Unit {0}
-LeavesFiles (Usage fault) = Unit {0}
-LeavesFiles Exists = Unit {0}
-LeavesFiles (NoMap which) = Unit {0}
-LeavesFiles (MapRefused which error) = Unit {0}
-LeavesFiles (BadNumber line) = Unit {0}
-LeavesFiles ListTooLong = Unit {0}
-LeavesFiles (SiteFault call) = ⊥
-LeavesFiles FeedFault = Unit {0}
-LeavesFiles ConsoleFault = Unit {0}
-LeavesFiles NoMemory = Unit {0}
+pub record LeavesFiles (e : LogEnding) : Type 0 where
+  pub short : e ≢ Done
+  pub kept : (row_of e).kind ≢ Failed AtCall
 
 -- it leaves everything as it could be found before, under every name
 abbrev pub LeavesAll : SiteState → List Entry → Type 0

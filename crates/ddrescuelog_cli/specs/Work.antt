@@ -121,13 +121,20 @@ UnlessThere false name file more e d =
     × (d.gain.calls ≡ Returned (map_read name 0 piece_size (Some answer)) ∷ rest)
     × Works log_faults (Look (MapIsThere file) ∷ []) more e (with_calls d rest))
 
--- by whether a map is created: one that isn't there, or the one that is read
+-- the first rows, by whether a map is created: one that isn't there, or the one that is read
+abbrev pub first_rows : (new : Bool) → Command → Found → List (WorkStep LogEnding)
+first_rows false c found = Take ∷ read_rows c found
+first_rows true c found = Take ∷ []
+
+-- and what is run after them
+abbrev pub RunsAs : (new : Bool) → Command → (line list : List ℕ) → Found → Maps → LogEnding → Deeds → Type 0
+RunsAs false c line list found m = WorksOver c line list m
+RunsAs true c line list found m =
+    UnlessThere c.options.forced c.mapfile found.mapfile
+    (Works log_faults (named_rows c found) (WorksOver c line list m))
+
 abbrev pub WorksAs : (new : Bool) → Command → (line list : List ℕ) → Found → Maps → LogEnding → Deeds → Type 0
-WorksAs false c line list found m = Works log_faults (Take ∷ read_rows c found) (WorksOver c line list m)
-WorksAs true c line list found m =
-    Works log_faults (Take ∷ [])
-    (UnlessThere c.options.forced c.mapfile found.mapfile
-    (Works log_faults (named_rows c found) (WorksOver c line list m)))
+WorksAs new c line list found m = Works log_faults (first_rows new c found) (RunsAs new c line list found m)
 
 -- The whole work for a command, with its command line, over the list that a feed has, the files that its steps find and
 -- the maps that these are.

@@ -1,5 +1,5 @@
 ghost use Rattle.std.specs.Prelude.{◌≡◌};
-ghost use Rattle.ddrescuelog_cli.specs.Answers.{is_silent, status_of_ending};
+ghost use Rattle.ddrescuelog_cli.specs.Answers.{status_of_ending};
 
 use crash_site::site::SiteCall;
 use mapfile_text::read::MapError;
@@ -60,15 +60,5 @@ impl LogEnding {
             LogEnding::NoMemory => 4,
             _ => 1,
         }
-    }
-
-    /// Whether nothing is said of it, since it is what was asked.
-    pub(crate) fn is_silent(&self) -> bool
-        ensures { result ≡ is_silent self.now }
-    {
-        matches!(
-            self,
-            LogEnding::Done | LogEnding::NotDone | LogEnding::Differ
-        )
     }
 }

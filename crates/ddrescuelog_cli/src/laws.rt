@@ -1,7 +1,7 @@
 //! What the definitions mean.
-ghost use Rattle.ddrescuelog_cli.specs.Laws.{AnswersAreFound, AnswersFit, CreatedIsRead, FilesStand, HasOneVerdict, IsFoundUnless, MapsAreThere};
+ghost use Rattle.ddrescuelog_cli.specs.Laws.{AnswersAreFound, AnswersFit, CreatedIsRead, FilesStand, HasOneVerdict, IsFoundUnless, LogKeepsPromises, MapsAreThere};
 
-/// Words, files and a list bring one verdict at most.
+/// Work over some maps brings one verdict at most.
 pub fn works_have_one_verdict()
     ensures { HasOneVerdict }
 {}
@@ -34,4 +34,9 @@ pub fn nothing_else_is_answered()
 /// A map that is made of a list, and saved, is read again as it was.
 pub fn created_is_read()
     ensures { CreatedIsRead }
+{}
+
+/// `ddrescuelog` keeps what every program promises.
+pub fn promises_are_kept()
+    ensures { LogKeepsPromises }
 {}

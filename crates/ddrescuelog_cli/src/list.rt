@@ -9,7 +9,7 @@ ghost use Rattle.map_algebra.specs.At.{IsWithinMap};
 ghost use Rattle.map_algebra.specs.Listing.{listed, wanted_of};
 ghost use Rattle.ddrescuelog_cli.specs.Maps.{output_from, shape_of};
 ghost use Rattle.ddrescuelog_cli.specs.Results.{number_line};
-ghost use Rattle.ddrescuelog_cli.specs.Ddrescuelog.{PutsAs};
+ghost use Rattle.ddrescuelog_cli.specs.Printing.{PutsAs};
 
 use crate::ending::LogEnding;
 use crate::load::LoadedMaps;
@@ -84,7 +84,7 @@ pub(crate) fn list_blocks<P: Console>(
         options.now.input_position (output_from options.now) }
     ensures answers { (result ≡ LogEnding.Usage UsageFault.PlaceTooLarge) ⊎ (result ≡ LogEnding.Done)
         ⊎ (result ≡ LogEnding.ConsoleFault) }
-    ensures put { PutsAs result
+    ensures put { PutsAs true result
         (flat_map number_line (listed (record {
           domain = covers loaded.now.domain;
           types = types;

@@ -2,22 +2,22 @@
 ghost use Rattle.std.specs.Prelude.{◌≡◌, ℕ, List, false, IfOk};
 ghost use Rattle.mapfile_text.specs.declared.heading.Program.TheVariants.{Ddrescuelog as Log};
 ghost use Rattle.rescue_console.specs.FeedState.{FeedState};
-ghost use Rattle.rescue_console.specs.ConsoleState.{ConsoleState};
 ghost use Rattle.option_words.specs.declared.fault.UsageFault.{UsageFault as Fault};
 ghost use Rattle.option_words.specs.Words.{command_line};
+ghost use Rattle.program_promise.specs.Promise.{told};
 ghost use Rattle.log_command.specs.Modes.{creates};
 ghost use Rattle.log_command.specs.Command.{AreInLimits, AreRefused, told_by};
 ghost use Rattle.ddrescuelog_cli.specs.Modes.{removes_map};
 ghost use Rattle.ddrescuelog_cli.specs.Names.{program_name};
 ghost use Rattle.ddrescuelog_cli.specs.Behind.{SiteBehind};
-ghost use Rattle.ddrescuelog_cli.specs.Worked.{FeedAfter, MaySay, Worked};
-ghost use Rattle.ddrescuelog_cli.specs.Ddrescuelog.{Ddrescuelog, IsUntouched, Promised};
+ghost use Rattle.ddrescuelog_cli.specs.Worked.{Ran};
+ghost use Rattle.ddrescuelog_cli.specs.Ddrescuelog.{Ddrescuelog, LogDone, LogWorked, handed};
 
 use crate::create::create_map;
 use crate::ending::LogEnding;
 use crate::find::find;
 use crate::load::load_maps;
-use crate::message::{PROGRAM, message_of};
+use crate::message::PROGRAM;
 use crate::remove::remove_done;
 use block_list::tiles::NoMemory;
 use crash_site::site::Site;
@@ -26,7 +26,8 @@ use log_command::mode::LogMode;
 use mapfile_text::heading::{Heading, Program};
 use option_values::command_error::CommandError;
 use option_words::words::Words;
-use rescue_console::console::{Channel, Console};
+use program_promise::answer::say_ending;
+use rescue_console::console::Console;
 use rescue_console::feed::Feed;
 use std::alloc::Global;
 
@@ -58,8 +59,8 @@ fn run_over_maps<D: Site, P: Console>(
     requires reads { creates (told_by command.now).mode ≡ false }
     ensures work { (line : List ℕ) (feed : FeedState)
         → heading.now ≡ record { program = Log; line = line; start_s = 0; now_s = 0 }
-        → Worked (told_by command.now) line result (D.state site.old) (D.state site.new) feed
-        (P.state console.old) (P.state console.new) }
+        → Ran (told_by command.now) line result (handed (D.state site.old) feed (P.state console.old))
+        (handed (D.state site.new) feed (P.state console.new)) }
     ensures site { SiteBehind result (D.state site.old) (D.state site.new) }
 {
     let loaded = match load_maps(alloc, site, command) {
@@ -82,11 +83,11 @@ fn run<D: Site, I: Feed, P: Console>(
     feed: &mut I,
     console: &mut P,
 ) -> LogEnding
-    requires { AreInLimits (told_by command.now) }
-    ensures work { Worked (told_by command.now) (command_line program_name words.now) result
-        (D.state site.old) (D.state site.new) (I.state feed.old) (P.state console.old) (P.state console.new) }
-    ensures site { SiteBehind result (D.state site.old) (D.state site.new) }
-    ensures feed { FeedAfter (creates (told_by command.now).mode) result (I.state feed.old) (I.state feed.new) }
+    requires limits { AreInLimits (told_by command.now) }
+    requires none { (D.state site.old).is_drafting ≡ false }
+    ensures { LogWorked (told_by command.now) words.now result
+        (handed (D.state site.old) (I.state feed.old) (P.state console.old))
+        (handed (D.state site.new) (I.state feed.new) (P.state console.new)) }
 {
     let Ok(heading) = make_heading(alloc, words) else {
         return LogEnding::NoMemory;
@@ -108,26 +109,9 @@ fn work<D: Site, I: Feed, P: Console>(
     console: &mut P,
 ) -> (LogEnding, bool)
     requires { (D.state site.old).is_drafting ≡ false }
-    ensures promise { (now : ConsoleState) → Promised (P.state console.new) (record {
-      words = words.now;
-      answer = result.0;
-      site = D.state site.old;
-      site' = D.state site.new;
-      feed = I.state feed.old;
-      feed' = I.state feed.new;
-      console = P.state console.old;
-      console' = now;
-    }) }
-    ensures quiet { (now : ConsoleState) → MaySay words.now result.0 result.1 (IsUntouched (record {
-      words = words.now;
-      answer = result.0;
-      site = D.state site.old;
-      site' = D.state site.new;
-      feed = I.state feed.old;
-      feed' = I.state feed.new;
-      console = P.state console.old;
-      console' = now;
-    }) (P.state console.new)) }
+    ensures done { LogDone words.now result.0 result.1
+        (handed (D.state site.old) (I.state feed.old) (P.state console.old))
+        (handed (D.state site.new) (I.state feed.new) (P.state console.new)) }
     ensures untouched { (fault : Fault) → AreRefused words.now fault
         → (site.new ≡ site.old) × (feed.new ≡ feed.old) }
 {
@@ -155,25 +139,15 @@ pub fn ddrescuelog<D: Site, I: Feed, P: Console>(
     console: &mut P,
 ) -> LogEnding
     requires { (D.state site.old).is_drafting ≡ false }
-    ensures promise { Ddrescuelog (record {
-      words = words.now;
-      answer = result;
-      site = D.state site.old;
-      site' = D.state site.new;
-      feed = I.state feed.old;
-      feed' = I.state feed.new;
-      console = P.state console.old;
-      console' = P.state console.new;
-    }) }
+    ensures promise { Ddrescuelog (told words.now result
+        (handed (D.state site.old) (I.state feed.old) (P.state console.old))
+        (handed (D.state site.new) (I.state feed.new) (P.state console.new))) }
 
     // Words that are refused touch nothing but standard error.
     ensures untouched { (fault : Fault) → AreRefused words.now fault
         → (site.new ≡ site.old) × (feed.new ≡ feed.old) }
 {
     let (ending, quiet) = work(alloc, words, site, feed, console);
-    if !quiet && !ending.is_silent() {
-        // A console that fails changes no answer.
-        let _put = console.put(Channel::Err, &message_of(ending));
-    }
+    say_ending(console, ending, quiet);
     ending
 }

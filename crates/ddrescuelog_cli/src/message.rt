@@ -1,12 +1,13 @@
 //! What is said of an answer on standard error.
 ghost use Rattle.std.specs.Prelude.{◌≡◌, ◌+◌, ◌≤◌, ◌++◌};
 ghost use Rattle.arrayvec.specs.ArrayVec.{array_vec_len};
-ghost use Rattle.ddrescuelog_cli.specs.Messages.{which_text, map_error_text, text_of_ending, message};
+ghost use Rattle.ddrescuelog_cli.specs.Answers.{is_silent, map_error_text, message, text_of_ending, which_text};
 
 use crate::ending::{LogEnding, Which};
 use fault_texts::faults::{add_map_error, add_site_fault, add_usage};
 use fault_texts::message::{Message, add, add_number, begin, end};
 use mapfile_text::read::MapError;
+use program_promise::answer::Answer;
 
 /// The program's name, which begins its command line and its messages.
 pub(crate) const PROGRAM: &str = "ddrescuelog";
@@ -61,12 +62,22 @@ fn add_ending(message: &mut Message, ending: LogEnding)
     }
 }
 
-/// The message of an answer, with the program's name and a newline.
-pub(crate) fn message_of(ending: LogEnding) -> Message
-    ensures { result.items ≡ message ending }
-{
-    let mut message = begin(PROGRAM);
-    add_ending(&mut message, ending);
-    end(&mut message);
-    message
+impl Answer for LogEnding {
+    ghost silent = { is_silent };
+
+    ghost said = { message };
+
+    fn is_silent(self) -> bool {
+        matches!(
+            self,
+            LogEnding::Done | LogEnding::NotDone | LogEnding::Differ
+        )
+    }
+
+    fn message(self) -> Message {
+        let mut message = begin(PROGRAM);
+        add_ending(&mut message, self);
+        end(&mut message);
+        message
+    }
 }

@@ -1,9 +1,9 @@
 //! Prints maps on standard output, under a heading.
-ghost use Rattle.std.specs.Prelude.{◌≡◌, ◌⊎◌, OnOk, OnErr, IfOk};
+ghost use Rattle.std.specs.Prelude.{◌≡◌, ◌⊎◌, true, OnOk, OnErr, IfOk};
 ghost use Rattle.rescue_console.specs.declared.console.Channel.TheVariants.{Out};
 ghost use Rattle.rescue_console.specs.ConsoleState.{Puts, PutsPart};
 ghost use Rattle.mapfile_text.specs.Printed.{printed};
-ghost use Rattle.ddrescuelog_cli.specs.Ddrescuelog.{PutsAs};
+ghost use Rattle.ddrescuelog_cli.specs.Printing.{PutsAs};
 
 use crate::ending::LogEnding;
 use crate::out::printed;
@@ -46,7 +46,7 @@ pub(crate) fn print_map<P: Console>(
 ) -> LogEnding
     ensures starved { OnErr made ((result ≡ LogEnding.NoMemory) × (P.state console.new ≡ P.state console.old)) }
     ensures answers { OnOk made ((result ≡ LogEnding.Done) ⊎ (result ≡ LogEnding.ConsoleFault)) }
-    ensures put { IfOk made (λ t. PutsAs result (printed heading.now state t.statuses)
+    ensures put { IfOk made (λ t. PutsAs true result (printed heading.now state t.statuses)
         (P.state console.old) (P.state console.new)) }
 {
     match made {

@@ -2,29 +2,26 @@
 use Rattle.std.proofs.Common.{subst}
 use Rattle.option_values.specs.declared.command_error.CommandError.{CommandError}
 use Rattle.option_values.specs.declared.command_error.CommandError.TheVariants.{Usage}
+use Rattle.program_promise.proofs.PromiseLemmas.{refused, starved}
 use Rattle.log_command.specs.Command.{told_by, IsErrorOf}
-use Rattle.ddrescuelog_cli.proofs.PromiseLemmas.{asked_kept, refused_kept, starved_kept}
+use Rattle.ddrescuelog_cli.specs.Ddrescuelog.{log_program}
+use Rattle.ddrescuelog_cli.proofs.PromiseLemmas.{asked_done, log_made}
 use Rattle.ddrescuelog_cli.proofs.log.work.Goals as goal
 
-pub returns-in-Err-NoMemory-clause-promise : goal.returns-in-Err-NoMemory-clause-promise
-returns-in-Err-NoMemory-clause-promise g c = λ now says.
-    starved_kept c.args.words.now (g.D.Site.state c.args.site.now) (g.I.Feed.state c.args.feed.now)
-    (g.P.Console.state c.args.console.now) now c.requires says
+pub returns-in-Err-NoMemory-clause-done : goal.returns-in-Err-NoMemory-clause-done
+returns-in-Err-NoMemory-clause-done g c = starved log_program log_made c.args.words.now _ c.requires
 
-pub returns-in-Err-Usage-clause-promise : goal.returns-in-Err-Usage-clause-promise
-returns-in-Err-Usage-clause-promise g c =
-    let refused : IsErrorOf c.args.words.now (Usage c.in-Err-Usage.fault c.in-Err-Usage.quiet) =
+pub returns-in-Err-Usage-clause-done : goal.returns-in-Err-Usage-clause-done
+returns-in-Err-Usage-clause-done g c =
+    let refusal : IsErrorOf c.args.words.now (Usage c.in-Err-Usage.fault c.in-Err-Usage.quiet) =
     subst (λ (e : CommandError). IsErrorOf c.args.words.now e) c.in-Err-Usage.field-0-is
     c.in-Err-Usage.ensures.refused in
-    rw c.in-Err-Usage.fault-is
-    (λ now says.
-    refused_kept c.args.words.now c.in-Err-Usage.fault c.in-Err-Usage.quiet (g.D.Site.state c.args.site.now)
-    (g.I.Feed.state c.args.feed.now) (g.P.Console.state c.args.console.now) now refused c.requires says)
+    rw c.in-Err-Usage.fault-is (rw c.in-Err-Usage.quiet-is
+    (refused log_program log_made c.args.words.now c.in-Err-Usage.fault c.in-Err-Usage.quiet _ c.requires refusal))
 
-pub returns-clause-promise : goal.returns-clause-promise
-returns-clause-promise g c = λ now says.
-    asked_kept (told_by c.in-Ok.command) (g.P.Console.state c.run-ending.new.console) _ c.in-Ok.ensures.asked c.requires
-    c.run-ending.ensures.work c.run-ending.ensures.site c.run-ending.ensures.feed says
+pub returns-clause-done : goal.returns-clause-done
+returns-clause-done g c =
+    asked_done c.args.words.now (told_by c.in-Ok.command) _ _ _ c.in-Ok.ensures.asked c.run-ending.ensures
 
 pub returns-clause-untouched : goal.returns-clause-untouched
-returns-clause-untouched g c = λ fault refused. absurd (c.in-Ok.ensures.asked.accepted fault refused)
+returns-clause-untouched g c = λ fault refusal. absurd (c.in-Ok.ensures.asked.accepted fault refusal)
