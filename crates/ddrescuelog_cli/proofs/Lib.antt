@@ -18,6 +18,7 @@ mod PromiseLemmas
 mod ReadLemmas
 mod RemoveLemmas
 mod RowLemmas
+mod SameLemmas
 mod StandLemmas
 mod StopsLemmas
 mod TakeLemmas

@@ -27,7 +27,7 @@ use Rattle.ddrescuelog_cli.specs.Work.{log_faults, named_rows, read_rows, OnlyAn
 use Rattle.ddrescuelog_cli.specs.Laws.{IsVerdict, HasOneVerdict}
 
 -- some work has one verdict
-abbrev Once : (LogEnding → Deeds → Type 0) → Type 0
+abbrev pub Once : (LogEnding → Deeds → Type 0) → Type 0
 Once run = (e e' : LogEnding) (d d' : Deeds) → run e d → run e' d' → IsVerdict e → IsVerdict e' → e ≡ e'
 
 -- no fault is a verdict
@@ -56,13 +56,13 @@ one_places c m e e' a b = a.is ∙ sym b.is
 one_not_done : (c : Command) (m : Maps) → IsOnce (IsNotDone c m)
 one_not_done c m e e' a b = a.1 ∙ sym b.1
 
-named_once : (c : Command) (found : Found) → RefuseOnce (named_rows c found)
+pub named_once : (c : Command) (found : Found) → RefuseOnce (named_rows c found)
 named_once c found = (
   one_named OtherMap Tight c.other found.other,
   (one_named DomainMap (map_mode c.options.loose) c.domain_map found.domain, tt),
 )
 
-read_once : (c : Command) (found : Found) → RefuseOnce (read_rows c found)
+pub read_once : (c : Command) (found : Found) → RefuseOnce (read_rows c found)
 read_once c found = (one_named RunMap (mapfile_mode c.mode) (Some c.mapfile) found.mapfile, named_once c found)
 
 -- ---- what a mode does
@@ -92,7 +92,7 @@ found_once (Compare true) c m e e' (inr a) (inl b) = absurd (a.1.other (b.1.each
 found_once (Compare true) c m e e' (inr a) (inr b) = a.0 ∙ sym b.0
 found_once _ c m e e' a b = a ∙ sym b
 
-one_list : (o : LogOptions) (list : List ℕ) → IsOnce (ListRefused o list)
+pub one_list : (o : LogOptions) (list : List ℕ) → IsOnce (ListRefused o list)
 one_list o list e e' (inl a) (inl b) = a.1 ∙ sym b.1
 one_list o list e e' (inl a) (inr b) = let no : ⊥ = omega (arith, a.0, b.1) in absurd no
 one_list o list e e' (inr a) (inl b) = let no : ⊥ = omega (arith, b.0, a.1) in absurd no
@@ -138,12 +138,12 @@ ends_as_once _ c line list m = printed_once
 
 -- ---- all of it
 
-over_once : (c : Command) (line list : List ℕ) (m : Maps) → Once (WorksOver c line list m)
+pub over_once : (c : Command) (line list : List ℕ) (m : Maps) → Once (WorksOver c line list m)
 over_once c line list m =
     one_verdict LogEnding log_faults IsVerdict verdicts (Take ∷ Look (PlacesRefused c m) ∷ [])
     (EndsAs c.mode c line list m) (one_places c m, tt) (ends_as_once c.mode c line list m)
 
-there_once : (forced : Bool) (name : List ℕ) (file : Option File) (more : LogEnding → Deeds → Type 0) → Once more
+pub there_once : (forced : Bool) (name : List ℕ) (file : Option File) (more : LogEnding → Deeds → Type 0) → Once more
     → Once (UnlessThere forced name file more)
 there_once true name file more once e e' d d' a b v v' = once e e' d d' a b v v'
 there_once false name file more once e e' d d' (inl a) b v v' = absurd (subst IsVerdict a.0 v)

@@ -34,6 +34,12 @@ abbrev pub HasOneVerdict : Type 0
 HasOneVerdict = (c : Command) (line list : List ℕ) (found : Found) (m : Maps) (e e' : LogEnding) (d d' : Deeds)
     → LogWorks c line list found m e d → LogWorks c line list found m e' d' → IsVerdict e → IsVerdict e' → e ≡ e'
 
+-- So have words, files and a list, whatever maps two calls went by.
+abbrev pub FilesHaveOneVerdict : Type 0
+FilesHaveOneVerdict = (c : Command) (line list : List ℕ) (found : Found) (m m' : Maps) (e e' : LogEnding)
+    (d d' : Deeds) → AreMapsOf c found m → AreAskedFor c m → AreMapsOf c found m' → AreAskedFor c m'
+    → LogWorks c line list found m e d → LogWorks c line list found m' e' d' → IsVerdict e → IsVerdict e' → e ≡ e'
+
 -- of an answer that was asked for; of others nothing is said
 abbrev pub IfAsked : Kind → Type 0 → Type 0
 IfAsked Asked found = found

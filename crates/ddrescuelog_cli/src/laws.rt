@@ -1,9 +1,14 @@
 //! What the definitions mean.
-ghost use Rattle.ddrescuelog_cli.specs.Laws.{AnswersAreFound, AnswersFit, CreatedIsRead, FilesStand, HasOneVerdict, IsFoundUnless, LogKeepsPromises, MapsAreThere};
+ghost use Rattle.ddrescuelog_cli.specs.Laws.{AnswersAreFound, AnswersFit, CreatedIsRead, FilesHaveOneVerdict, FilesStand, HasOneVerdict, IsFoundUnless, LogKeepsPromises, MapsAreThere};
 
 /// Work over some maps brings one verdict at most.
 pub fn works_have_one_verdict()
     ensures { HasOneVerdict }
+{}
+
+/// Words, files and a list bring one verdict at most, whatever maps two calls went by.
+pub fn files_have_one_verdict()
+    ensures { FilesHaveOneVerdict }
 {}
 
 /// An answer of a mode is what it finds in the maps, whatever the objects tell.
