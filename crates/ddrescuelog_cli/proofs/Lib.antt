@@ -7,6 +7,7 @@ mod CreatedLemmas
 mod FindLemmas
 mod FitLemmas
 mod FoundLemmas
+mod LeftLemmas
 mod LineLemmas
 mod LoadLemmas
 mod LoadedLemmas

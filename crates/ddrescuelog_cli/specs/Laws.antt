@@ -10,18 +10,19 @@ use Rattle.map_algebra.specs.Create.{created_map}
 use Rattle.work_steps.specs.Work.{Deeds, WorkStep}
 use Rattle.work_steps.specs.Verdicts.{RefuseNothing}
 use Rattle.program_promise.specs.Kinds.{Kind, Asked, Brought, Wrong, Failed, Starved}
+use Rattle.program_promise.specs.Program.{line_by}
 use Rattle.program_promise.specs.Promise.{Told}
 use Rattle.program_promise.specs.WellMade.{IsVerdict as IsVerdictOf}
 use Rattle.program_promise.specs.Laws.{KeepsPromises, NothingFailed}
 use Rattle.log_command.specs.Modes.{creates}
 use Rattle.log_command.specs.Command.{Command, Asks}
 use Rattle.ddrescuelog_cli.specs.declared.ending.LogEnding.{LogEnding}
-use Rattle.ddrescuelog_cli.specs.declared.ending.LogEnding.TheVariants.{NoMemory}
+use Rattle.ddrescuelog_cli.specs.declared.ending.LogEnding.TheVariants.{Done, NoMemory}
 use Rattle.ddrescuelog_cli.specs.Maps.{Found, Maps, AreMapsOf, AreAskedFor, IsShownBy, shape_of, domain_below}
 use Rattle.ddrescuelog_cli.specs.Refusals.{ListRefused, MapIsThere, PlacesRefused}
 use Rattle.ddrescuelog_cli.specs.Results.{Finds, IsCreated}
 use Rattle.ddrescuelog_cli.specs.Answers.{FitsCommand, row_of}
-use Rattle.ddrescuelog_cli.specs.Stops.{OnlyReads}
+use Rattle.ddrescuelog_cli.specs.Stops.{IsChanging, OnlyReads, Replaces}
 use Rattle.ddrescuelog_cli.specs.Work.{LogWorks, named_rows, read_rows}
 use Rattle.ddrescuelog_cli.specs.Ddrescuelog.{Ddrescuelog, log_program}
 
@@ -66,6 +67,13 @@ AnswersFit = (c : Command) (line list : List ℕ) (found : Found) (m : Maps) (e 
 abbrev pub FilesStand : Type 0
 FilesStand = (t : Told LogEnding) (c : Command) (d : Ddrescuelog t) (asks : Asks t.words c) → OnlyReads c.mode
     → IsTrue t.before.site.tells → (name : List ℕ) → files_in t.after.site name ≡ files_in t.before.site name
+
+-- Once -c or -d has answered that it is done, the mapfile reads as the created map, or is absent.
+abbrev pub MapfileIsLeft : Type 0
+MapfileIsLeft = (t : Told LogEnding) (c : Command) (d : Ddrescuelog t) (asks : Asks t.words c) → t.answer ≡ Done
+    → IsChanging c.mode → IsTrue t.before.site.tells
+    → Replaces c.mode c (line_by log_program t.words) (d.asked_for c asks).outside.list
+    (d.asked_for c asks).outside.maps (files_in t.after.site c.mapfile)
 
 -- Whatever files are found, there are maps by which a command goes.
 abbrev pub MapsAreThere : Type 0

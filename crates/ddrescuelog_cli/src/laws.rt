@@ -1,5 +1,5 @@
 //! What the definitions mean.
-ghost use Rattle.ddrescuelog_cli.specs.Laws.{AnswersAreFound, AnswersFit, CreatedIsRead, FilesHaveOneVerdict, FilesStand, HasOneVerdict, IsFoundUnless, LogKeepsPromises, MapsAreThere};
+ghost use Rattle.ddrescuelog_cli.specs.Laws.{AnswersAreFound, AnswersFit, CreatedIsRead, FilesHaveOneVerdict, FilesStand, HasOneVerdict, IsFoundUnless, LogKeepsPromises, MapfileIsLeft, MapsAreThere};
 
 /// Work over some maps brings one verdict at most.
 pub fn works_have_one_verdict()
@@ -24,6 +24,11 @@ pub fn answers_fit()
 /// A mode that only reads leaves every file as it read.
 pub fn files_stand()
     ensures { FilesStand }
+{}
+
+/// Once a map was made, or removed, and that was answered, the mapfile reads as that map, or is absent.
+pub fn the_mapfile_is_left()
+    ensures { MapfileIsLeft }
 {}
 
 /// Whatever files are found, there are maps by which a command goes.
