@@ -5,7 +5,7 @@
 # `make install` installs, as a tarball and as a package for Debian. With `BUILT=FOLDER` these three take the programs
 # from a folder, and prove and build nothing.
 PREFIX ?= /usr/local
-PROGRAMS := ddrescue ddrescuelog ddrescuepart ddrescueverify ddrescueplan
+PROGRAMS := ddrescue ddrescuelog ddrescuepart ddrescueverify ddrescueplan ddrescueshow
 DOCUMENTS := NEWS.md $(shell find docs -name "*.md" -o -name "*.png")
 SHARE := $(PREFIX)/share
 MANUAL := $(SHARE)/man/man1

@@ -1,0 +1,11 @@
+mod WalkLemmas
+mod DrawLemmas
+mod SizeLemmas
+mod LoadLemmas
+mod WorkedLemmas
+mod PromiseLemmas
+mod ShownLemmas
+mod CellLemmas
+mod MarkLemmas
+mod FigureLemmas
+mod StandLemmas

@@ -1,0 +1,11 @@
+use Rattle.std.proofs.Common.{◌≡◌, ◌≤◌, ◌-◌, ◌++◌, replicate}
+use Rattle.ddrescueshow_cli.proofs.text.add_blanks.Given as goal
+
+abbrev pub invariant-loop-done : goal.invariant-loop-done
+invariant-loop-done l = record {
+  text : l.text.items ≡ l.initial.text.items ++ replicate l.done 32;
+  within : l.done ≤ l.count;
+}
+
+abbrev pub decreases-loop-done : goal.decreases-loop-done
+decreases-loop-done l = l.count - l.done

@@ -1,0 +1,50 @@
+-- `ddrescueshow` as a program, and its promise.
+use Rattle.std.specs.Prelude.{⊤, ℕ, Bool, List}
+use Rattle.crash_site.specs.SiteState.{SiteState}
+use Rattle.crash_site.specs.SiteChanges.{Stays}
+use Rattle.rescue_console.specs.ConsoleState.{ConsoleState}
+use Rattle.program_promise.specs.World.{WorldState, no_clock, no_feed, no_source}
+use Rattle.program_promise.specs.WordFaults.{IsPlainFault}
+use Rattle.program_promise.specs.Program.{Program}
+use Rattle.program_promise.specs.Promise.{Told, IsDone, Promise, Worked}
+use Rattle.ddrescueshow_words.specs.Command.{Command, show_grammar}
+use Rattle.ddrescueshow_cli.specs.declared.ending.ShowEnding.{ShowEnding}
+use Rattle.ddrescueshow_cli.specs.declared.ending.ShowEnding.TheVariants.{Usage}
+use Rattle.ddrescueshow_cli.specs.Names.{program_name}
+use Rattle.ddrescueshow_cli.specs.Answers.{row_of}
+use Rattle.ddrescueshow_cli.specs.Work.{Agrees, Found, LeavesAs, PutsAll, show_faults, show_rows}
+
+-- what it is handed: a site and a console
+abbrev pub handed : SiteState → ConsoleState → WorldState
+handed site console =
+    record { source = no_source; site = site; clock = no_clock; feed_ = no_feed; console = console }
+
+-- Its work finds the files of the maps outside of it, and leaves the picture on standard output.
+abbrev pub show_program : Program Command ShowEnding Found
+show_program = record {
+  name = program_name;
+  grammar = show_grammar;
+  HasFault = IsPlainFault;
+  row = row_of;
+  wrong = λ fault. Usage fault;
+  faults = show_faults;
+  Fits = λ c e. ⊤;
+  rows = show_rows;
+  Run = λ c found. PutsAll;
+  Agrees = λ c found did old new. Agrees c found did old.site new.site;
+  Leaves = λ c line found e did old new. LeavesAs c found e old.console new.console;
+  Begins = λ w. ⊤;
+  Keeps = λ e old new. Stays old.site new.site;
+}
+
+-- what is done for a command
+abbrev pub ShowWorked : Command → (words : List (List ℕ)) → ShowEnding → (old new : WorldState) → Type 0
+ShowWorked c words e old new = Worked show_program c words e old new
+
+-- what is done before anything is said
+abbrev pub ShowDone : (words : List (List ℕ)) → ShowEnding → (quiet : Bool) → (old new : WorldState) → Type 0
+ShowDone words e quiet old new = IsDone show_program words e quiet old new
+
+-- What is promised of a call.
+abbrev pub Ddrescueshow : Told ShowEnding → Type 0
+Ddrescueshow t = Promise show_program t

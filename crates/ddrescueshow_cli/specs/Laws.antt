@@ -1,0 +1,132 @@
+-- What the definitions mean.
+use Rattle.std.specs.Prelude.{◌≡◌, ◌↔◌, ℕ, ◌+◌, ◌*◌, ◌<◌, ◌≤◌, ◌^◌, Bool, true, false, IsTrue, List, [], ◌∷◌, length, Option, Some, None, codes}
+use Rattle.block_list.specs.declared.status.Status.{Status}
+use Rattle.block_list.specs.declared.status.Status.TheVariants.{NonTried, NonTrimmed, NonScraped, BadSector, Finished}
+use Rattle.crash_site.specs.SiteState.{files_in}
+use Rattle.map_algebra.specs.At.{status_at}
+use Rattle.map_algebra.specs.Compare.{IsDoneIn}
+use Rattle.map_algebra.specs.Summary.{summary_of}
+use Rattle.program_promise.specs.Promise.{Told}
+use Rattle.program_promise.specs.WellMade.{IsVerdict as IsVerdictOf}
+use Rattle.program_promise.specs.Laws.{KeepsPromises}
+use Rattle.work_steps.specs.Work.{Deeds}
+use Rattle.ddrescueshow_words.specs.Command.{AreInLimits, Asks, Command}
+use Rattle.ddrescueshow_words.specs.declared.options.ShowOptions.{ShowOptions}
+use Rattle.ddrescueshow_cli.specs.declared.ending.ShowEnding.{ShowEnding}
+use Rattle.ddrescueshow_cli.specs.declared.frame.Frame.{Frame}
+use Rattle.ddrescueshow_cli.specs.Cells.{IsFrame, begin_of, cells_in, end_of, end_shown, frame_of, mark, rows_in}
+use Rattle.ddrescueshow_cli.specs.Picture.{line_of, row_symbols, share}
+use Rattle.ddrescueshow_cli.specs.Work.{Found, ShowWorks}
+use Rattle.ddrescueshow_cli.specs.Ddrescueshow.{Ddrescueshow, show_program}
+
+-- ---- the cells
+
+-- a position is in a cell
+abbrev pub IsInCell : Frame → (x k : ℕ) → Type 0
+IsInCell f x k = (begin_of f k ≤ x) × (x < end_of f k)
+
+-- Each position of what is shown is in one cell, and no other position is in any.
+pub record CellsTile (f : Frame) : Type 0 where
+  pub one : (x : ℕ) → f.from ≤ x → x < f.to
+      → (k : ℕ) × (k < cells_in f) × IsInCell f x k × ((other : ℕ) → IsInCell f x other → other ≡ k)
+  pub none : (x k : ℕ) → IsInCell f x k → (f.from ≤ x) × (x < f.to)
+
+abbrev pub AllCellsTile : Type 0
+AllCellsTile = (f : Frame) → IsFrame f → CellsTile f
+
+-- A cell is a whole number of sectors, at least one, and the picture fits into its rows. With fewer sectors it
+-- wouldn't.
+pub record IsLeastCell (o : ShowOptions) (end : ℕ) : Type 0 where
+  pub sectors : ℕ
+  pub some : 0 < sectors
+  pub whole : (frame_of o end).cell ≡ o.sector * sectors
+  pub fits : cells_in (frame_of o end) ≤ o.width * o.rows
+  pub least : (fewer : ℕ) → 0 < fewer
+      → end_shown o.input_position o.size end ≤ o.input_position + o.sector * fewer * (o.width * o.rows)
+      → sectors ≤ fewer
+
+abbrev pub CellsAreLeast : Type 0
+CellsAreLeast = (o : ShowOptions) (end : ℕ) → AreInLimits o → IsLeastCell o end
+
+-- how bad a mark is, and a status
+abbrev pub badness : Status → ℕ
+badness Finished = 1
+badness NonTried = 2
+badness NonTrimmed = 3
+badness NonScraped = 4
+badness BadSector = 5
+
+abbrev pub badness_of : Option Status → ℕ
+badness_of None = 0
+badness_of (Some s) = badness s
+
+-- some position of a domain, from one position up to another, is as bad as a status or worse
+pub record HasAsBad (domain : ℕ → Bool) (statuses : List Status) (from to : ℕ) (s : Status) : Type 0 where
+  pub position : ℕ
+  pub after : from ≤ position
+  pub before : position < to
+  pub inside : domain position ≡ true
+  pub bad : badness s ≤ badness (status_at statuses position)
+
+-- A cell hides nothing: what it shows is as bad as a status or worse exactly if some position of its range and of the
+-- domain is.
+abbrev pub MarksHideNothing : Type 0
+MarksHideNothing = (f : Frame) (domain : ℕ → Bool) (statuses : List Status) (k : ℕ) (s : Status)
+    → (badness s ≤ badness_of (mark f domain statuses k))
+    ↔ HasAsBad domain statuses (begin_of f k) (end_of f k) s
+
+-- ---- the figures
+
+-- The share is 100.00 % exactly if each position of the domain is finished.
+abbrev pub AllIsFinishedAt100 : Type 0
+AllIsFinishedAt100 = (domain : ℕ → Bool) (statuses : List Status)
+    → ((x : ℕ) → domain x ≡ true → x < length statuses)
+    → (share (line_of (summary_of domain statuses) 4).bytes (summary_of domain statuses).domain ≡ 10000)
+    ↔ IsDoneIn domain statuses
+
+-- ---- the calls
+
+-- What every program keeps.
+abbrev pub ShowKeepsPromises : Type 0
+ShowKeepsPromises = KeepsPromises show_program
+
+-- an answer that the maps bring, whatever reads, puts and memory do
+abbrev pub IsVerdict : ShowEnding → Type 0
+IsVerdict e = IsVerdictOf show_program e
+
+-- The files bring one such answer at most.
+abbrev pub HasOneVerdict : Type 0
+HasOneVerdict = (c : Command) (found : Found) (e e' : ShowEnding) (d d' : Deeds) → ShowWorks c found e d
+    → ShowWorks c found e' d' → IsVerdict e → IsVerdict e' → e ≡ e'
+
+-- Whatever is asked for, and however it ends, all files read as they did.
+abbrev pub FilesStand : Type 0
+FilesStand = (t : Told ShowEnding) (c : Command) → Ddrescueshow t → Asks t.words c → IsTrue t.before.site.tells
+    → (name : List ℕ) → files_in t.after.site name ≡ files_in t.before.site name
+
+-- ---- a small picture
+
+-- A map of ten bytes, in cells of two: `++++-++++?` at four cells a row and two rows, with sectors of one byte.
+abbrev pub small_map : List Status
+small_map =
+    Finished ∷ Finished ∷ Finished ∷ Finished ∷ BadSector ∷ Finished ∷ Finished ∷ Finished ∷ Finished ∷ NonTried ∷ []
+
+abbrev pub small_options : ShowOptions
+small_options = record {
+  sector = 1;
+  input_position = 0;
+  size = None;
+  width = 4;
+  rows = 2;
+  loose = false;
+  quiet = false;
+}
+
+-- Its picture has two rows, `++-+` and `?`; 8 of its 10 bytes are rescued, which is 80.00 %.
+abbrev pub SmallPicture : Type 0
+SmallPicture =
+    (frame_of small_options 10 ≡ record { from = 0; to = 10; cell = 2; width = 4 })
+    × (rows_in (frame_of small_options 10) ≡ 2)
+    × (row_symbols (frame_of small_options 10) (λ x. true) small_map 0 ≡ codes "++-+")
+    × (row_symbols (frame_of small_options 10) (λ x. true) small_map 1 ≡ codes "?")
+    × ((line_of (summary_of (λ x. true) small_map) 4).bytes ≡ 8) × (share 8 10 ≡ 8000)

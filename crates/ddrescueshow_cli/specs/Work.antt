@@ -1,0 +1,115 @@
+-- The work of `ddrescueshow`: the maps that its words name are read, and the picture of them is put.
+use Rattle.std.specs.Prelude.{◌≡◌, ◌⊎◌, ℕ, Bool, true, IsTrue, List, [], ◌∷◌, ◌++◌, length, Option, Some, None, is_some}
+use Rattle.block_list.specs.declared.status.Status.{Status}
+use Rattle.mapfile_text.specs.declared.read.MapError.{MapError}
+use Rattle.mapfile_text.specs.declared.read.Mode.{Mode}
+use Rattle.mapfile_text.specs.declared.read.Mode.TheVariants.{Tight}
+use Rattle.crash_site.specs.Files.{File}
+use Rattle.crash_site.specs.SiteState.{SiteState, files_in}
+use Rattle.save_resume.specs.Named.{IsMapOf, map_mode}
+use Rattle.save_resume.specs.Resuming.{IsRefusedFor}
+use Rattle.rescue_console.specs.declared.console.Channel.TheVariants.{Out}
+use Rattle.rescue_console.specs.ConsoleState.{ConsoleState, Puts, PutsPart}
+use Rattle.rescue_domain.specs.Domain.{in_map, whole_domain}
+use Rattle.work_steps.specs.Work.{Deeds, IsIdle, Faults, WorkStep, Take, Look, Read, Works}
+use Rattle.program_promise.specs.Printing.{PutsByKind}
+use Rattle.ddrescueshow_words.specs.Command.{Command}
+use Rattle.ddrescueshow_cli.specs.declared.ending.Which.{Which}
+use Rattle.ddrescueshow_cli.specs.declared.ending.Which.TheVariants.{RunMap, DomainMap}
+use Rattle.ddrescueshow_cli.specs.declared.ending.ShowEnding.{ShowEnding}
+use Rattle.ddrescueshow_cli.specs.declared.ending.ShowEnding.TheVariants.{Done, NoMap, MapRefused, SiteFault, ConsoleFault, NoMemory}
+use Rattle.ddrescueshow_cli.specs.Answers.{row_of}
+use Rattle.ddrescueshow_cli.specs.Cells.{frame_of}
+use Rattle.ddrescueshow_cli.specs.Picture.{picture_text}
+
+-- how faults are answered; no input is opened
+abbrev pub show_faults : Faults ShowEnding
+show_faults = record { call = λ call. SiteFault call; memory = NoMemory; input = NoMemory }
+
+-- ---- the maps
+
+-- the files that the work found, each by its own name; none if no domain map is named
+pub record Found : Type 0 where
+  pub mapfile : Option File
+  pub domain : Option File
+
+-- a file by its name, if it has one
+abbrev pub file_of : Option (List ℕ) → (List ℕ → Option File) → Option File
+file_of None files = None
+file_of (Some name) files = files name
+
+-- what a command finds among files
+abbrev pub found_in : Command → (List ℕ → Option File) → Found
+found_in c files = record { mapfile = files c.mapfile; domain = file_of c.domain_map files }
+
+-- a map that is named isn't there, or is no map, or is too long
+abbrev pub MapIsRefused : Which → Mode → (name : Option (List ℕ)) → (file : Option File) → ShowEnding → Type 0
+MapIsRefused which mode name file e =
+    (is_some name ≡ true)
+    × (((file ≡ None) × (e ≡ NoMap which))
+    ⊎ ((error : MapError) × IsRefusedFor file mode error × (e ≡ MapRefused which error)))
+
+-- A map that is named, if one is, is read, and may be absent or refused.
+abbrev pub map_rows : Which → Mode → (name : Option (List ℕ)) → (file : Option File) → List (WorkStep ShowEnding)
+map_rows which mode name file = Read name file ∷ Look (MapIsRefused which mode name file) ∷ []
+
+-- The rows before the picture is put: memory may run out, the mapfile is read and then the domain map, and memory for
+-- the picture may run out.
+abbrev pub show_rows : Command → Found → List (WorkStep ShowEnding)
+show_rows c found =
+    Take
+    ∷ (map_rows RunMap Tight (Some c.mapfile) found.mapfile
+    ++ map_rows DomainMap (map_mode c.options.loose) c.domain_map found.domain ++ Take ∷ [])
+
+-- After them nothing more is done on the files: the picture is put, or the console fails.
+abbrev pub PutsAll : ShowEnding → Deeds → Type 0
+PutsAll e d = ((e ≡ Done) ⊎ (e ≡ ConsoleFault)) × IsIdle d
+
+-- The whole work for a command, by the files.
+abbrev pub ShowWorks : Command → Found → ShowEnding → Deeds → Type 0
+ShowWorks c found e d = Works show_faults (show_rows c found) PutsAll e d
+
+-- If the files tell, those that were found are theirs, and so are the calls.
+pub record Agrees (c : Command) (found : Found) (did : Deeds) (old new : SiteState) : Type 0 where
+  pub files : IsTrue old.tells → found ≡ found_in c (files_in old)
+  pub calls : IsTrue old.tells → new.calls ≡ old.calls ++ did.gain.calls
+
+-- ---- the picture
+
+-- the statuses of the mapfile, and of the domain map, if one is named
+pub record Maps : Type 0 where
+  pub statuses : List Status
+  pub domain : Option (List Status)
+
+-- a file that may be named has these statuses
+abbrev pub HasStatuses : Option (List ℕ) → Mode → Option File → Option (List Status) → Type 0
+HasStatuses None mode file statuses = statuses ≡ None
+HasStatuses (Some name) mode file None = ⊥
+HasStatuses (Some name) mode file (Some statuses) = IsMapOf file mode statuses
+
+-- the maps are what the files are
+pub record AreMapsOf (c : Command) (found : Found) (m : Maps) : Type 0 where
+  pub mapfile : IsMapOf found.mapfile Tight m.statuses
+  pub domain : HasStatuses c.domain_map (map_mode c.options.loose) found.domain m.domain
+
+-- The domain: each position of the mapfile from the input position on, no more than the size, and of these what is
+-- finished in the domain map.
+abbrev pub domain_of : Command → Maps → ℕ → Bool
+domain_of c m = in_map (whole_domain c.options.input_position c.options.size (length m.statuses)) m.domain
+
+-- the picture of a command's maps
+abbrev pub text_of : Command → Maps → List ℕ
+text_of c m = picture_text (frame_of c.options (length m.statuses)) (domain_of c m) m.statuses
+
+-- the picture of the maps that the files are was put, or a beginning of it
+pub record PutsPicture (c : Command) (found : Found) (Put : (text : List ℕ) → Type 0) : Type 0 where
+  pub maps : Maps
+  pub are : AreMapsOf c found maps
+  pub puts : Put (text_of c maps)
+
+-- What is left by the answer: on standard output the picture, or if the put failed a beginning of it; and after every
+-- refusal, or if memory ran out, nothing.
+abbrev pub LeavesAs : Command → Found → ShowEnding → (old new : ConsoleState) → Type 0
+LeavesAs c found e old new =
+    PutsByKind (row_of e).kind (PutsPicture c found (λ text. Puts Out text old new))
+    (PutsPicture c found (λ text. PutsPart Out text old new)) (new ≡ old) old new

@@ -1,0 +1,42 @@
+//! What the definitions mean.
+ghost use Rattle.ddrescueshow_cli.specs.Laws.{AllCellsTile, AllIsFinishedAt100, CellsAreLeast, FilesStand, HasOneVerdict, MarksHideNothing, ShowKeepsPromises, SmallPicture};
+
+/// Each position of what is shown is in one cell, and no other position is in any.
+pub fn cells_tile_the_picture()
+    ensures { AllCellsTile }
+{}
+
+/// A cell is the least whole number of sectors with which the picture fits into its rows.
+pub fn cells_are_least()
+    ensures { CellsAreLeast }
+{}
+
+/// A cell hides nothing that is worse than what it shows, and shows nothing that isn't there.
+pub fn marks_hide_nothing()
+    ensures { MarksHideNothing }
+{}
+
+/// 100.00 % is said exactly if all is finished.
+pub fn all_is_finished_at_100()
+    ensures { AllIsFinishedAt100 }
+{}
+
+/// A small map has the picture that was drawn of it by hand.
+pub fn a_small_map_is_drawn()
+    ensures { SmallPicture }
+{}
+
+/// Maps bring one verdict at most.
+pub fn maps_have_one_verdict()
+    ensures { HasOneVerdict }
+{}
+
+/// All files read as they did.
+pub fn files_stand()
+    ensures { FilesStand }
+{}
+
+/// `ddrescueshow` keeps what every program promises.
+pub fn promises_are_kept()
+    ensures { ShowKeepsPromises }
+{}

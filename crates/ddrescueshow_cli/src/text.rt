@@ -1,0 +1,50 @@
+//! Texts and numbers that are added to a picture.
+ghost use Rattle.std.specs.Prelude.{◌≡◌, ◌+◌, ◌-◌, ◌<◌, ◌≤◌, ◌++◌, ◌∷◌, [], length, replicate, OnOk};
+ghost use Rattle.std.specs.Fmt.{decimal};
+ghost use Rattle.ddrescueshow_cli.specs.Picture.{padded};
+
+use block_list::tiles::NoMemory;
+use itoa::Buffer;
+
+/// Adds a text.
+pub(crate) fn add(text: &mut Vec<u8>, part: &str) -> Result<(), NoMemory>
+    ensures { OnOk result (text.new.items ≡ text.old.items ++ part.now) }
+{
+    text.extend_from_slice(part.as_bytes())
+        .map_err(|_| NoMemory)
+}
+
+/// Adds a number, and a text after it.
+pub(crate) fn add_number(text: &mut Vec<u8>, number: u64, part: &str) -> Result<(), NoMemory>
+    ensures { OnOk result (text.new.items ≡ text.old.items ++ decimal number ++ part.now) }
+{
+    add(text, Buffer::new().format(number))?;
+    add(text, part)
+}
+
+/// How many digits a number has.
+pub(crate) fn digits(number: u64) -> usize
+    ensures { result ≡ length (decimal number) }
+{
+    Buffer::new().format(number).len()
+}
+
+/// Adds so many blanks.
+fn add_blanks(text: &mut Vec<u8>, count: usize) -> Result<(), NoMemory>
+    ensures { OnOk result (text.new.items ≡ text.old.items ++ replicate count 32) }
+{
+    let mut done = 0;
+    while done < count {
+        text.push(b' ').map_err(|_| NoMemory)?;
+        done += 1;
+    }
+    Ok(())
+}
+
+/// Adds a number after as many blanks as make it `len` bytes long, and a blank.
+pub(crate) fn add_padded(text: &mut Vec<u8>, len: usize, number: u64) -> Result<(), NoMemory>
+    ensures { OnOk result (text.new.items ≡ text.old.items ++ padded len number) }
+{
+    add_blanks(text, len.saturating_sub(digits(number)))?;
+    add_number(text, number, " ")
+}

@@ -1,0 +1,78 @@
+-- The options of `ddrescueshow`, one a row, and what they ask for. A later option is a row more.
+use Rattle.std.specs.Prelude.{ℕ, Bool, true, false, List, [], ◌∷◌, ◌++◌, length, Option, Some, None, Result, option_map, option_and_then, codes, if◌then◌else◌}
+use Rattle.option_words.specs.declared.row.Takes.TheVariants.{Never, Always}
+use Rattle.option_words.specs.declared.reading.Item.{Item}
+use Rattle.option_values.specs.Values.{Meaning, OptionRow, is_name, meanings_of, number_by, size_by, within_range}
+use Rattle.option_values.specs.Values.{options_in as options_by}
+use Rattle.ddrescueshow_words.specs.declared.options.ShowOptions.{ShowOptions}
+
+-- an option that stands alone, and one with a value
+abbrev pub flag : (letter : ℕ) → List ℕ → (ShowOptions → ShowOptions) → OptionRow ShowOptions
+flag letter name sets =
+    record { letter = Some letter; name = name; takes = Never; sets = λ sector o value. Some (sets o) }
+
+abbrev pub valued : (letter : ℕ) → List ℕ → (ℕ → ShowOptions → Option (List ℕ) → Option ShowOptions)
+    → OptionRow ShowOptions
+valued letter name sets = record { letter = Some letter; name = name; takes = Always; sets = sets }
+
+-- The letters of options that are looked at by themselves: the size of a sector (`-b`) is set before all others, `-m`
+-- names the domain map, and `-q` asks that nothing be said.
+abbrev pub sector_letter : ℕ
+sector_letter = 98
+
+abbrev pub domain_letter : ℕ
+domain_letter = 109
+
+abbrev pub quiet_letter : ℕ
+quiet_letter = 113
+
+-- the number of cells in a row, or of rows, that a value gives
+abbrev pub count_by : Option (List ℕ) → Option ℕ
+count_by value = option_and_then (within_range 1 1000) (number_by value)
+
+-- the options that have a letter, each with what it sets by the size of a sector and the text of its value
+abbrev pub lettered_rows : List (OptionRow ShowOptions)
+lettered_rows =
+    valued sector_letter (codes "sector-size") (λ sector o value. Some o)
+    ∷ valued 105 (codes "input-position") (λ sector o value. option_map (λ n. record o { input_position = n })
+    (size_by sector value))
+    ∷ flag 76 (codes "loose-domain") (λ o. record o { loose = true })
+    ∷ valued domain_letter (codes "domain-mapfile") (λ sector o value. if is_name value then Some o else None)
+    ∷ flag quiet_letter (codes "quiet") (λ o. record o { quiet = true })
+    ∷ valued 115 (codes "size") (λ sector o value. option_map (λ n. record o { size = Some n }) (size_by sector value))
+    ∷ []
+
+-- one that has none
+abbrev pub unlettered : List ℕ → (ShowOptions → Option (List ℕ) → Option ShowOptions) → OptionRow ShowOptions
+unlettered name sets = record { letter = None; name = name; takes = Always; sets = λ sector o value. sets o value }
+
+-- how many rows of cells there are at most, and how many cells a row has
+abbrev pub rows_row : OptionRow ShowOptions
+rows_row = unlettered (codes "rows") (λ o value. option_map (λ n. record o { rows = n }) (count_by value))
+
+abbrev pub width_row : OptionRow ShowOptions
+width_row = unlettered (codes "width") (λ o value. option_map (λ n. record o { width = n }) (count_by value))
+
+-- all options, those without a letter last
+abbrev pub option_rows : List (OptionRow ShowOptions)
+option_rows = lettered_rows ++ rows_row ∷ width_row ∷ []
+
+-- each option's letter, its long name, and whether it takes a value
+abbrev pub option_meanings : List Meaning
+option_meanings = meanings_of option_rows
+
+-- what is asked for if no option but the sector's is given
+abbrev pub no_options : (sector : ℕ) → ShowOptions
+no_options sector = record {
+  sector = sector;
+  input_position = 0;
+  size = None;
+  width = 64;
+  rows = 16;
+  loose = false;
+  quiet = false;
+}
+
+-- what all options ask for, or the word of the first bad value
+abbrev pub options_in : List (List ℕ) → List Item → Result ShowOptions ℕ
+options_in words items = options_by option_rows sector_letter no_options words items

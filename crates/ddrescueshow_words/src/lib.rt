@@ -1,0 +1,6 @@
+//! The command line of `ddrescueverify`: from its words to what is asked for.
+#![tactic(auto)]
+
+pub mod command;
+pub mod laws;
+pub mod options;

@@ -1,0 +1,193 @@
+//! The options of `ddrescueshow`, and what they ask for.
+ghost use Rattle.std.specs.Prelude.{◌≡◌, ◌<◌, ◌≤◌, Some, option_map};
+ghost use Rattle.option_values.specs.Values.{row_of, set_by};
+ghost use Rattle.ddrescueshow_words.specs.Options.{count_by, lettered_rows, no_options, option_rows, rows_row, width_row};
+ghost use Rattle.ddrescueshow_words.specs.Command.{AreOptions};
+
+use option_values::given::letter_of;
+use option_values::settings::Settings;
+use option_values::values::{is_name, number_by, size_by, within_range};
+use option_words::row::{Row, Takes};
+use option_words::table::OptionTable;
+
+/// The letter of the option that gives the size of a sector.
+pub(crate) const SECTOR_SIZE: char = 'b';
+
+/// The letter of the one that names the domain map.
+pub(crate) const DOMAIN_MAPFILE: char = 'm';
+
+/// The letter of the one that asks that nothing be said.
+pub(crate) const QUIET: char = 'q';
+
+/// The row of the option that gives the most rows of cells, counted from 0. It has no letter.
+const ROW_LIMIT: usize = 6;
+
+/// The row of the one that gives the cells of a row. It has no letter either.
+const WIDTH: usize = 7;
+
+/// The most rows, and the most cells in a row.
+const MOST_CELLS: u64 = 1000;
+
+/// The options. A later one with a letter is a row here, before the last two, and an arm in `with_letter`.
+pub static ROWS: [Row; 8] = [
+    Row {
+        short: Some('b'),
+        long: "sector-size",
+        takes: Takes::Always,
+    },
+    Row {
+        short: Some('i'),
+        long: "input-position",
+        takes: Takes::Always,
+    },
+    Row {
+        short: Some('L'),
+        long: "loose-domain",
+        takes: Takes::Never,
+    },
+    Row {
+        short: Some('m'),
+        long: "domain-mapfile",
+        takes: Takes::Always,
+    },
+    Row {
+        short: Some('q'),
+        long: "quiet",
+        takes: Takes::Never,
+    },
+    Row {
+        short: Some('s'),
+        long: "size",
+        takes: Takes::Always,
+    },
+    Row {
+        short: None,
+        long: "rows",
+        takes: Takes::Always,
+    },
+    Row {
+        short: None,
+        long: "width",
+        takes: Takes::Always,
+    },
+];
+
+/// What the options of a command line ask for.
+#[derive(Clone, Copy, Debug, PartialEq, Eq)]
+pub struct ShowOptions {
+    /// The size of a sector in bytes; 512 if it isn't given.
+    pub sector: u64,
+    /// Where the picture begins in the map, in bytes; 0 if it isn't given.
+    pub input_position: u64,
+    /// How many bytes are shown, at most; no limit if it isn't given.
+    pub size: Option<u64>,
+    /// The cells of a row; 64 if it isn't given.
+    pub width: u64,
+    /// The most rows of cells; 16 if it isn't given.
+    pub rows: u64,
+    /// The domain map may have gaps; by default it may not.
+    pub loose: bool,
+    /// No message is put; by default it is. The picture is put all the same.
+    pub quiet: bool,
+}
+
+impl ShowOptions {
+    /// What is asked for if no option but the sector's is given.
+    pub(crate) fn none(sector: u64) -> ShowOptions
+        ensures { result ≡ no_options sector }
+    {
+        ShowOptions {
+            sector,
+            input_position: 0,
+            size: None,
+            width: 64,
+            rows: 16,
+            loose: false,
+            quiet: false,
+        }
+    }
+}
+
+/// The table of the options.
+pub(crate) fn option_table() -> OptionTable
+    ensures { AreOptions result }
+{
+    match OptionTable::checked(&ROWS) {
+        Some(table) => table,
+        None => unreachable!(),
+    }
+}
+
+/// The number of cells or rows that a value gives, if it does.
+fn read_count(value: Option<&str>) -> Option<u64>
+    ensures { result ≡ count_by (option_map (λ v. v.now) value.entry) }
+{
+    within_range(number_by(value)?, 1, MOST_CELLS)
+}
+
+/// What the option of the rows sets by its value; nothing if that is a bad one.
+fn with_rows(options: ShowOptions, sector: u64, value: Option<&str>) -> Option<ShowOptions>
+    ensures { result ≡ set_by (Some rows_row) sector options (option_map (λ v. v.now) value.entry) }
+{
+    let rows = read_count(value)?;
+    Some(ShowOptions { rows, ..options })
+}
+
+/// What the option of the width sets by its value; nothing if that is a bad one.
+fn with_width(options: ShowOptions, sector: u64, value: Option<&str>) -> Option<ShowOptions>
+    ensures { result ≡ set_by (Some width_row) sector options (option_map (λ v. v.now) value.entry) }
+{
+    let width = read_count(value)?;
+    Some(ShowOptions { width, ..options })
+}
+
+/// Writes the arms of a `match` over the letters: each sets a field. The size of a sector is set before, and the name
+/// of the domain map is read apart.
+macro_rules! set_by_letter {
+    ($options:ident, $letter:ident, $value:ident; $($char:literal => $field:ident = $set:expr;)*) => {
+        match $letter {
+            SECTOR_SIZE => Some($options),
+            DOMAIN_MAPFILE => if is_name($value) { Some($options) } else { None },
+            $($char => {
+                let $field = $set;
+                Some(ShowOptions { $field, ..$options })
+            })*
+            _ => None,
+        }
+    };
+}
+
+/// What the option of a letter sets by its value; nothing if that is a bad one, or if no option has the letter.
+fn with_letter(
+    options: ShowOptions,
+    sector: u64,
+    letter: char,
+    value: Option<&str>,
+) -> Option<ShowOptions>
+    requires low { 0 < sector }
+    requires high { sector ≤ 1048576 }
+    ensures { result ≡ set_by (row_of letter lettered_rows) sector options (option_map (λ v. v.now) value.entry) }
+{
+    let size = size_by(sector, value);
+    set_by_letter!(options, letter, value;
+        'i' => input_position = size?;
+        'L' => loose = true;
+        'q' => quiet = true;
+        's' => size = Some(size?);
+    )
+}
+
+impl Settings for ShowOptions {
+    ghost rows = { option_rows };
+
+    fn with_row(self, sector: u64, row: usize, value: Option<&str>) -> Option<ShowOptions> {
+        match row {
+            ROW_LIMIT => with_rows(self, sector, value),
+            WIDTH => with_width(self, sector, value),
+            _ => match letter_of(&ROWS, row) {
+                Some(letter) => with_letter(self, sector, letter, value),
+                None => None,
+            },
+        }
+    }
+}
