@@ -24,7 +24,7 @@ use Rattle.safe_turns.proofs.SiteLemmas.{Grew, broke_grew, left_within}
 use Rattle.safe_turns.proofs.TurnLemmas.{still_is_held}
 
 -- what a run saves at its close, by whatever it was stopped, is its map
-closing_map : (stop : Option Stop) (r : RunState) → (closing_snapshot stop r).map ≡ r.machine.map
+pub closing_map : (stop : Option Stop) (r : RunState) → (closing_snapshot stop r).map ≡ r.machine.map
 closing_map None r = refl
 closing_map (Some stop) r = refl
 
@@ -32,7 +32,7 @@ closing_named : (s : Setting) (r : RunState) (p : Snapshot) → setting_in r ≡
     → closing_calls (setting_in r) p ≡ closing_calls s p
 closing_named s r p setting = ap (λ (x : Setting). closing_calls x p) setting
 
-saves_grew : (s : Setting) (stop : Option Stop) (r : RunState) (end : RunEnd) (site site' : SiteState)
+pub saves_grew : (s : Setting) (stop : Option Stop) (r : RunState) (end : RunEnd) (site site' : SiteState)
     → setting_in r ≡ nameless s → IsTrue site.tells → LastSave stop r end site site'
     → Grew (closing_calls s (closing_snapshot stop r)) site.calls site'.calls
 saves_grew s stop r end site site' setting tells (Saved is makes draft) =

@@ -35,6 +35,7 @@ use Rattle.rescue_rules.specs.Work.{EndsBy, end_of, Ends, IsSaved as RunSaved, I
 use Rattle.rescue_rules.proofs.MoveLemmas.{moves_more}
 use Rattle.rescue_rules.proofs.NamelessLemmas.{run_named}
 use Rattle.rescue_rules.proofs.RunDeedLemmas.{last_map}
+use Rattle.rescue_rules.proofs.RunStopLemmas.{run_stops_safely}
 use Rattle.rescue_core.specs.Across.{Across}
 use Rattle.rescue_core.specs.RunState.{RunState, setting_in}
 use Rattle.rescue_core.specs.Closing.{LastSave, Saved, Unsaved}
@@ -45,7 +46,7 @@ use Rattle.task_rescue.proofs.LastLemmas.{behind_all}
 use Rattle.ddrescue_laws.proofs.DoneLemmas.{last_finished}
 use Rattle.safe_turns.specs.UnderWay.{StillComes, Now, Later, IsUnderWay}
 use Rattle.safe_turns.specs.Ended.{IsLastSaved, IsWellEnded}
-use Rattle.safe_turns.specs.EndLaws.{PhasesEndWell, DoneEndsWell, StoppedIsSaved, WholeRunIsHeld}
+use Rattle.safe_turns.specs.EndLaws.{PhasesEndWell, DoneEndsWell, StoppedIsSaved, WholeRunIsHeld, WholeRunIsKept}
 use Rattle.safe_turns.specs.PhaseLaws.{is_at_call}
 use Rattle.safe_turns.proofs.SafeLemmas.{comes_all, comes_past, comes_more}
 use Rattle.safe_turns.proofs.SiteLemmas.{Grew, broke_grew, left_within}
@@ -303,4 +304,11 @@ whole_run_is_held s start reads r end heard o files setting tells keeps w safe l
     safe.each w.events last w.gained (l.moment - length o.site.calls) files (named_run s r end heard o setting w)
     (last_map s (state_after s m w.events))
     (ends_come s m w.events (length w.spare) w.gained end (named_ends s r end heard o setting w))
+    (left_within o.site o.site' w.gained files tells keeps (w.grew tells) l)
+
+pub whole_run_is_kept : WholeRunIsKept
+whole_run_is_kept s began r end heard o files by setting tells keeps w alike rests l =
+    run_stops_safely s began r.machine w.events (disk_of o.site) w.gained (l.moment - length o.site.calls) files
+    by.sensible by.mapfile by.names by.order alike (named_run s r end heard o setting w) rests
+    (ends_come s r.machine w.events (length w.spare) w.gained end (named_ends s r end heard o setting w))
     (left_within o.site o.site' w.gained files tells keeps (w.grew tells) l)

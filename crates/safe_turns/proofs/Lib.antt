@@ -4,6 +4,11 @@ mod SiteLemmas
 mod TurnLemmas
 mod PhaseLemmas
 mod CloseLemmas
+mod NowLemmas
+mod NowSaves
+mod NowRuns
+mod NowTurns
+mod NowClose
 mod WayLemmas
 mod WellLemmas
 mod PassLemmas

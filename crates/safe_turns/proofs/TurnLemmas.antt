@@ -39,12 +39,12 @@ pub calls_named : (s n : Setting) (m : Machine) (es : List Event) → n ≡ name
 calls_named s n m es is = ap (λ (x : Setting). run_calls x m es) is ∙ (runs_alike s m es).calls
 
 -- A turn's event is a run of its own, by the setting with all names.
-record TurnRun (s : Setting) (r : RunState) (e : Event) : Type 0 where
-  run : IsRun s r.machine (e ∷ [])
-  calls : run_calls s r.machine (e ∷ []) ≡ move_calls (setting_in r) (move_by r e)
-  state : state_after s r.machine (e ∷ []) ≡ step (setting_in r) r.machine e
+pub record TurnRun (s : Setting) (r : RunState) (e : Event) : Type 0 where
+  pub run : IsRun s r.machine (e ∷ [])
+  pub calls : run_calls s r.machine (e ∷ []) ≡ move_calls (setting_in r) (move_by r e)
+  pub state : state_after s r.machine (e ∷ []) ≡ step (setting_in r) r.machine e
 
-turn_run : (s : Setting) (request : Request) (r : RunState) (o : Across) (e : Event) → IsTurnOf s request r o
+pub turn_run : (s : Setting) (request : Request) (r : RunState) (o : Across) (e : Event) → IsTurnOf s request r o
     → IsEvent request e o.source o.source' o.clock o.clock' → TurnRun s r e
 turn_run s request r o e h is =
     let n : Setting = setting_in r in

@@ -1,5 +1,5 @@
 -- What a run leaves that goes on to its end, wherever it began.
-use Rattle.std.specs.Prelude.{◌≡◌, ℕ, Bool, true, false, IsTrue, List, ◌∷◌, ◌++◌, map, Option, None}
+use Rattle.std.specs.Prelude.{◌≡◌, ℕ, ◌+◌, ◌-◌, Bool, true, false, IsTrue, List, ◌∷◌, ◌++◌, length, map, take, count_by, Option, None}
 use Rattle.block_list.specs.declared.status.Status.{Status}
 use Rattle.mapfile_text.specs.declared.state.MapState.{MapState}
 use Rattle.faulty_source.specs.Journal.{Reading}
@@ -23,6 +23,10 @@ use Rattle.rescue_rules.specs.Events.{reads_of}
 use Rattle.rescue_rules.specs.Snapshots.{snapshot_of}
 use Rattle.rescue_rules.specs.RunCalls.{run_calls}
 use Rattle.rescue_rules.specs.Nameless.{nameless}
+use Rattle.rescue_rules.specs.Preparation.{AreFinishedAlike}
+use Rattle.rescue_rules.specs.RunStops.{Rests, KeepsPromise, promise_of_run}
+use Rattle.rescue_rules.specs.Stops.{is_settle, is_write}
+use Rattle.rescue_rules.specs.StopsBy.{is_publish}
 use Rattle.rescue_core.specs.Across.{Across}
 use Rattle.rescue_core.specs.RunState.{RunState, setting_in}
 use Rattle.rescue_core.specs.Closing.{Closes}
@@ -35,6 +39,7 @@ use Rattle.safe_turns.specs.Laws.{IsLeftWithin}
 use Rattle.safe_turns.specs.UnderWay.{IsUnderWay, EndsWellSince}
 use Rattle.safe_turns.specs.Ended.{IsLastSaved, IsWellEnded}
 use Rattle.safe_turns.specs.PhaseLaws.{is_at_call}
+use Rattle.safe_turns.specs.NowLaws.{IsMapped}
 
 -- A run is under way at its start,
 abbrev pub StartIsUnderWay : Type 0
@@ -89,3 +94,16 @@ WholeRunIsHeld = (s : Setting) (start : List ℕ) (reads : List Reading) (r : Ru
     (o : Across) (files : List ℕ → Option File) → setting_in r ≡ nameless s → IsTrue o.site.tells
     → Keeps o.site o.site' → (w : WentToEnd r end heard o) → IsSafe s start reads r.machine (disk_of o.site)
     → IsLeftWithin o.site o.site' files → IsHeldIn s start (reads ++ reads_of w.events) files
+
+-- At each stop within a whole run over an open output and a mapfile that are durable, the mapfile found is one that the
+-- run saved, in order, or the one that it began with: no older than the last save that had returned, and no newer than
+-- the last that had begun to be published. The output found holds what that mapfile's map promises.
+abbrev pub WholeRunIsKept : Type 0
+WholeRunIsKept = (s : Setting) (began : List Status) (r : RunState) (end : RunEnd) (heard : Bool) (o : Across)
+    (files : List ℕ → Option File) → IsMapped s r.machine → setting_in r ≡ nameless s → IsTrue o.site.tells
+    → Keeps o.site o.site' → (w : WentToEnd r end heard o) → AreFinishedAlike began r.machine.map
+    → Rests s (disk_of o.site) → (l : IsLeftWithin o.site o.site' files)
+    → KeepsPromise (promise_of_run s began r.machine w.events (disk_of o.site))
+    (count_by is_settle (take (l.moment - length o.site.calls) w.gained))
+    (count_by is_publish (take (l.moment - length o.site.calls + 1) w.gained))
+    (count_by is_write (take (l.moment - length o.site.calls + 1) w.gained)) files

@@ -1,7 +1,9 @@
 pub mod Safe
+pub mod SafeNow
 pub mod UnderWay
 pub mod Ended
 pub mod Laws
 pub mod PhaseLaws
+pub mod NowLaws
 pub mod PassLaws
 pub mod EndLaws

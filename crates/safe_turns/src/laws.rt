@@ -1,6 +1,7 @@
 //! What the definitions mean.
-ghost use Rattle.safe_turns.specs.EndLaws.{DoneEndsWell, NextPassIsUnderWay, PhasesEndWell, RunStaysUnderWay, SinceStartIsWell, StartIsUnderWay, StoppedIsSaved, UnderWayEndsWell, WholeRunIsHeld};
+ghost use Rattle.safe_turns.specs.EndLaws.{DoneEndsWell, NextPassIsUnderWay, PhasesEndWell, RunStaysUnderWay, SinceStartIsWell, StartIsUnderWay, StoppedIsSaved, UnderWayEndsWell, WholeRunIsHeld, WholeRunIsKept};
 ghost use Rattle.safe_turns.specs.Laws.{CloseIsHeld, HaltedTurnIsHeld, RestIsSafe, RunIsHeld, RunStaysSafe, SafeIsHeld, TurnIsHeld, TurnStaysSafe};
+ghost use Rattle.safe_turns.specs.NowLaws.{CloseStaysSafeNow, HaltedStaysSafeNow, NowIsSafe, PhaseStaysSafeNow, RestIsSafeNow, RunStaysSafeNow, StoppedStaysSafeNow, TurnStaysSafeNow};
 ghost use Rattle.safe_turns.specs.PassLaws.{BehindIsUnderWay, CopyingIsUnderWay, SpentLeadsBehind, TypedLeadsBehind, UnderWayMayCopy};
 ghost use Rattle.safe_turns.specs.PhaseLaws.{AlikeAreSafe, HaltedTurnStaysSafe, PhaseIsHeld, PhaseStaysSafe, StoppedTurnsAreHeld, StoppedTurnsStaySafe};
 
@@ -74,6 +75,46 @@ pub fn a_close_is_held()
     ensures { CloseIsHeld }
 {}
 
+/// A run whose files stand as `IsSafeNow` says is safe however it goes on.
+pub fn what_is_safe_now_is_safe()
+    ensures { NowIsSafe }
+{}
+
+/// Files that are durable as they read stand so when a run begins.
+pub fn a_run_begins_safe_now()
+    ensures { RestIsSafeNow }
+{}
+
+/// Events with all their calls leave them so.
+pub fn a_run_stays_safe_now()
+    ensures { RunStaysSafeNow }
+{}
+
+/// A whole turn leaves them so.
+pub fn a_turn_stays_safe_now()
+    ensures { TurnStaysSafeNow }
+{}
+
+/// A turn that stopped leaves them so, also at a call on the files that failed.
+pub fn a_halted_turn_stays_safe_now()
+    ensures { HaltedStaysSafeNow }
+{}
+
+/// The whole turns of a phase leave them so.
+pub fn a_phase_stays_safe_now()
+    ensures { PhaseStaysSafeNow }
+{}
+
+/// Turns up to one that stopped leave them so, for whatever cause it stopped.
+pub fn stopped_turns_stay_safe_now()
+    ensures { StoppedStaysSafeNow }
+{}
+
+/// The last save leaves them so, whole or stopped at whatever call.
+pub fn a_close_stays_safe_now()
+    ensures { CloseStaysSafeNow }
+{}
+
 /// A run is under way at its start.
 pub fn a_start_is_under_way()
     ensures { StartIsUnderWay }
@@ -119,6 +160,12 @@ pub fn a_stopped_run_is_saved()
 /// At each stop within a whole run of a safe beginning, however it ends, what is held is held.
 pub fn a_whole_run_is_held()
     ensures { WholeRunIsHeld }
+{}
+
+/// The mapfile found then is one that the run saved, or the one that it began with, and it is no older than the last save
+/// that returned.
+pub fn a_whole_run_is_kept()
+    ensures { WholeRunIsKept }
 {}
 
 /// A run whose earlier passes are spent may begin those that are left of them, and is behind that phase then.
