@@ -1,7 +1,7 @@
 -- There is one plan at most, and what a rescue reads in test mode is the plan's.
-use Rattle.std.proofs.Common.{◌≡◌, ℕ, ◌+◌, ◌≤◌, true, false, nat_eq, nat_lt, is_none, List, [], ◌∷◌, ◌++◌, length, map, take, All, None, slice_get, refl, sym, ap, subst, ◌∙◌, arith, length-append}
+use Rattle.std.proofs.Common.{◌≡◌, ⊎_elim, ℕ, ◌+◌, ◌≤◌, true, false, nat_eq, nat_lt, is_none, List, [], ◌∷◌, ◌++◌, length, map, take, All, None, slice_get, refl, sym, ap, subst, ◌∙◌, arith, length-append}
 use Rattle.std.proofs.lemmas.Bool.Decides.{nat_tests}
-use Rattle.std.proofs.lemmas.Bool.{and_parts, cond_both}
+use Rattle.std.proofs.lemmas.Bool.{and_parts, cases_Bool, cond_both}
 use Rattle.std.proofs.lemmas.List.{append-nil, length-take-le, nil_from_length}
 use Rattle.std.proofs.lemmas.List.Elements.{All-nil, All-cons, All-head, All-tail}
 use Rattle.block_list.specs.declared.status.Status.{Status}
@@ -25,7 +25,7 @@ use Rattle.task_files.specs.Asked.{setting_of}
 use Rattle.ddrescueplan_words.specs.Command.{ArePlain}
 use Rattle.plan_source.specs.Lines.{PlannedRead, planned}
 use Rattle.rescue_plan.specs.Plan.{IsPlannedIn, BeginsPlan, IsPlan, untried_map, plan_setting, plan_start}
-use Rattle.rescue_plan.specs.Laws.{BeginWith, PlanIsOne, RescuesArePlanned}
+use Rattle.rescue_plan.specs.Laws.{BeginWith, EndsShort, PlanIsOne, RescuesArePlanned}
 use Rattle.rescue_plan.proofs.SimilarLemmas.{IsUnlimited, SameShape, SameShapes, plain, quiet, ready_alike, request_alike, after_alike, run_alike, state_alike, ended_alike}
 
 -- an event at the time 0
@@ -169,7 +169,13 @@ plan_is_one o n test reads are p = record {
 passed_eq : (m n : ℕ) → nat_eq m n ≡ true → m ≡ n
 passed_eq m n e = grind (arith, nat_tests)
 
--- a whole read is seen as one of a plan
+-- a whole read doesn't meet the end
+not_ended : (r : Reading) → is_whole r ≡ true → EndsShort r → r.ended ≡ false
+not_ended r whole ends =
+    ⊎_elim (λ (end : r.ended ≡ true). absurd (omega (arith, passed_eq (length r.given) r.asked whole, ends end)))
+    (λ (on : r.ended ≡ false). on) (cases_Bool r.ended)
+
+-- and is seen as one of a plan
 seen_planned : (test : List Status) (r : Reading) → is_whole r ≡ true → r.ended ≡ false → IsPlannedIn test (seen test r)
 seen_planned test r whole on =
     let n : ℕ = length r.given in
@@ -188,15 +194,16 @@ seen_planned test r whole on =
       ended = on;
     })
 
-all_seen : (test : List Status) (raw : List Reading) → All (λ r. is_whole r ≡ true) raw → All (λ r. r.ended ≡ false) raw
-    → All (IsPlannedIn test) (map (seen test) raw)
+all_seen : (test : List Status) (raw : List Reading) → All (λ r. is_whole r ≡ true) raw
+    → All EndsShort raw → All (IsPlannedIn test) (map (seen test) raw)
 all_seen test [] whole on = All-nil (IsPlannedIn test)
 all_seen test (r ∷ raw) whole on =
     All-cons (IsPlannedIn test) (seen test r) (map (seen test) raw)
     (seen_planned test r (All-head (λ (r : Reading). is_whole r ≡ true) r raw whole)
-    (All-head (λ (r : Reading). r.ended ≡ false) r raw on))
+    (not_ended r (All-head (λ (r : Reading). is_whole r ≡ true) r raw whole)
+    (All-head EndsShort r raw on)))
     (all_seen test raw (All-tail (λ (r : Reading). is_whole r ≡ true) r raw whole)
-    (All-tail (λ (r : Reading). r.ended ≡ false) r raw on))
+    (All-tail EndsShort r raw on))
 
 pub rescues_are_planned : RescuesArePlanned
 rescues_are_planned c line n time test raw es are k =
@@ -205,7 +212,7 @@ rescues_are_planned c line n time test raw es are k =
     let run : IsRun s (start_of_run s n time) es =
     subst (λ (map : List Status). IsRun s (machine_over s map None time) es) k.fresh.map_is k.run in
     let seen_all : All (IsPlannedIn test) (reads_of es) =
-    subst (λ (rs : List Reading). All (IsPlannedIn test) rs) k.seen_are (all_seen test raw k.whole k.went_on) in
+    subst (λ (rs : List Reading). All (IsPlannedIn test) rs) k.seen_are (all_seen test raw k.whole k.ends) in
     record {
       first = begins_by s u n time test es run seen_all;
       all = λ over. plan_by s u n time test es run seen_all over;

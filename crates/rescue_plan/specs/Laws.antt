@@ -1,5 +1,5 @@
 -- What the definitions mean.
-use Rattle.std.specs.Prelude.{◌≡◌, ℕ, true, false, IsTrue, List, ◌++◌, map, All, None}
+use Rattle.std.specs.Prelude.{◌≡◌, ℕ, ◌<◌, true, IsTrue, List, ◌++◌, length, map, All, None}
 use Rattle.block_list.specs.declared.status.Status.{Status}
 use Rattle.faulty_source.specs.Journal.{Reading, is_whole}
 use Rattle.rescue_domain.specs.Testing.{seen}
@@ -40,17 +40,28 @@ PlanIsBegun = (c : Command) (test : List Status) (end : PlanEnd) (old new : Cons
     → IsPlan (plan_setting c.options.rescue c.length) c.length test reads → IsTrue old.tells
     → TextGoesOn (lines_of reads) old.out.text new.out.text
 
+-- a read that meets the input's end gives less than it was asked for, as each read of a source does
+abbrev pub EndsShort : Reading → Type 0
+EndsShort r = r.ended ≡ true → length r.given < r.asked
+
 -- The reads of a rescue, as they are seen in test mode, where the input gave all that it was asked for: a run over a
 -- map that wasn't tried, at whatever times.
 pub record RescueReads (c : RescueCommand) (line : List ℕ) (length time : ℕ) (test : List Status)
     (raw : List Reading) (events : List Event) : Type 0 where
   pub whole : All (λ r. is_whole r ≡ true) raw
-  pub went_on : All (λ r. r.ended ≡ false) raw
+  pub ends : All EndsShort raw
   pub seen_are : map (seen test) raw ≡ reads_of events
   pub statuses : List Status
   pub fresh : IsFresh length statuses None
   pub run : IsRun (setting_of c line length no_maps) (machine_over (setting_of c line length no_maps) statuses None time)
       events
+
+-- no option sets a limit, and no read is slow
+pub record AreUnlimited (o : Options) : Type 0 where
+  pub rate : o.min_rate ≡ 0
+  pub errors : o.max_read_errors ≡ None
+  pub areas : o.max_bad_areas ≡ None
+  pub time : o.timeout ≡ None
 
 -- They are the first ones of the plan for the rescue's options, and all of it where no request is left.
 pub record RescueIsPlanned (c : RescueCommand) (line : List ℕ) (length time : ℕ) (test : List Status)
@@ -63,5 +74,5 @@ pub record RescueIsPlanned (c : RescueCommand) (line : List ℕ) (length time : 
 
 abbrev pub RescuesArePlanned : Type 0
 RescuesArePlanned = (c : RescueCommand) (line : List ℕ) (length time : ℕ) (test : List Status) (raw : List Reading)
-    (events : List Event) → ArePlain c.options → RescueReads c line length time test raw events
+    (events : List Event) → AreUnlimited c.options → RescueReads c line length time test raw events
     → RescueIsPlanned c line length time test events
