@@ -8,12 +8,14 @@ pub mod OutputLemmas
 pub mod ReadLemmas
 pub mod SampleLines
 pub mod StepLemmas
+pub mod SweepBefore
 pub mod SweepComplete
 pub mod SweepCounts
 pub mod SweepDone
 pub mod SweepDoneLemmas
 pub mod SweepFaults
 pub mod SweepLeaves
+pub mod SweepPattern
 pub mod SweepVerdict
 pub mod ThereLemmas
 pub mod VerdictLemmas

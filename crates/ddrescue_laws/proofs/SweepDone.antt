@@ -80,14 +80,14 @@ out_by (Stopped NoRoom) is = absurd (cc)
 out_by (SaveFailed call earlier) is = absurd (cc)
 
 -- no row stops as work that is done
-undone_by : (rows : List (WorkStep Ending)) (e : Ending) → (IsRefused rows e → e ≡ Done → ⊥) → e ≡ Done
+pub undone_by : (rows : List (WorkStep Ending)) (e : Ending) → (IsRefused rows e → e ≡ Done → ⊥) → e ≡ Done
     → Stops rescue_faults rows e → ⊥
 undone_by rows e plain done (Starved is) = let no : NoMemory ≡ Done = sym is ∙ done in cc
 undone_by rows e plain done (Unopened is) = let no : SourceFault ≡ Done = sym is ∙ done in cc
 undone_by rows e plain done (Broken call is called) = let no : SiteFault call None ≡ Done = sym is ∙ done in cc
 undone_by rows e plain done (Refused refused) = plain refused done
 
-unnamed : (c : Command) (e : Ending) → e ≡ Done → NamesRefused c e → ⊥
+pub unnamed : (c : Command) (e : Ending) → e ≡ Done → NamesRefused c e → ⊥
 unnamed c e done refused = let no : SameName refused.0 refused.1 ≡ Done = sym refused.3 ∙ done in cc
 
 -- ---- over files

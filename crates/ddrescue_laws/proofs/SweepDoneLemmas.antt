@@ -23,6 +23,7 @@ use Rattle.sweep_rules.specs.SweepLaws.{AreGiven}
 use Rattle.sweep_rules.specs.SweepStops.{AreFilled, FillPromise, has_swept_out, pieces_before}
 use Rattle.sweep_rules.proofs.SweepLemmas.{filled_map_stands, generates_what_is_held}
 use Rattle.work_steps.proofs.FrontLemmas.{load_reads}
+use Rattle.rescue_command.specs.Options.{cluster_of}
 use Rattle.rescue_command.specs.Command.{Command, Fill, Generate}
 use Rattle.rescue_command.specs.Asking.{HasMapfile}
 use Rattle.rescue_command.proofs.CommandLemmas.{reading_asks}
@@ -32,6 +33,7 @@ use Rattle.task_files.specs.Maps.{Found}
 use Rattle.task_files.specs.Outside.{Outside}
 use Rattle.ddrescue_cli.specs.Told.{Told, calls_before}
 use Rattle.ddrescue_cli.specs.ToldParts.{files_of, asked_of}
+use Rattle.task_sweeps.specs.Pattern.{IsRepeated}
 use Rattle.task_sweeps.specs.Modes.{Fills, Generates}
 use Rattle.ddrescue_cli.specs.Ddrescue.{Ddrescue, FillModePromise, GenerateModePromise}
 use Rattle.ddrescue_laws.specs.ModeLaws.{DoneIsFilled, DoneIsGenerated, LeavesFilled, LeavesGenerated, HasNoPiece, IsSweptThrough, promised_fill, filling_setting, promised_generate}
@@ -40,6 +42,7 @@ use Rattle.ddrescue_cli.proofs.PromiseLemmas.{named_on}
 use Rattle.ddrescue_laws.proofs.ReadLemmas.{barrier_behind}
 use Rattle.ddrescue_cli.proofs.SpareLemmas.{spare_append, spare_opening, spare_reads, none_written}
 use Rattle.ddrescue_laws.proofs.SweepCounts.{IgnoresPieces, all_before, dues_of, publishes_in, settles_in, spare_generating, spares_append, spares_filling, spares_spare, sweep_calls_of, whole_calls}
+use Rattle.ddrescue_laws.proofs.SweepPattern.{pattern_read, pattern_is_front}
 use Rattle.ddrescue_laws.proofs.SweepDone.{DoneSweep, fill_done, generate_done}
 
 -- ---- behind all calls of a sweep
@@ -166,6 +169,12 @@ module _ (t : Told) (types : TypeSet) (c : Command) (d : Ddrescue t) (p : FillMo
       (barrier t s w p.pieces p.end o.did.gain.times calls done on (d.site.start tells) (p.agrees.calls tells))
       (subst (λ (es : List Entry). IsUnwritten es y) (sym (whole ∙ done.calls_are)) spares) low
 
+  pattern : IsTrue t.source.tells → IsRepeated (take s.cluster t.source.bytes) s.cluster p.buffer
+  pattern told =
+      pattern_is_front (cluster_of c.options) o.end p.buffer t.source.bytes o.did.gain.reads
+      (pattern_read types c o.found o.end p.top s p.buffer p.pieces p.end o.lines t.answer o.did is p.works)
+      (p.agrees.end told) (p.agrees.reads told).right
+
   is_filled : LeavesFilled t s types p.buffer p.pieces
   is_filled = record {
     statuses = done.statuses;
@@ -175,6 +184,7 @@ module _ (t : Told) (types : TypeSet) (c : Command) (d : Ddrescue t) (p : FillMo
         (last_saved t s w p.pieces p.end o.did.gain.times calls done on (d.site.start tells) (p.agrees.calls tells) pledge
         true (λ e. refl) (λ e. refl) (p.stops tells));
     map = filled_map_stands s types p.buffer start p.pieces;
+    pattern = pattern;
     filled = filled;
     elsewhere = elsewhere;
   }

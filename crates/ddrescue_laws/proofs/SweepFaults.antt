@@ -48,7 +48,7 @@ record OfSteps (P : SiteCall → Type 0) : Type 0 where
   publishes : P DraftPublish
   settles : P MapSettle
 
-name_alike : (c : Call) → call_name (unanswered c) ≡ call_name c
+pub name_alike : (c : Call) → call_name (unanswered c) ≡ call_name c
 name_alike (image_read pos asked answer) = refl
 name_alike (map_read name pos asked answer) = refl
 name_alike c = refl

@@ -1,5 +1,5 @@
 -- What the definitions of fill mode and generate mode mean.
-use Rattle.std.specs.Prelude.{◌≡◌, ◌≢◌, ◌⊎◌, ℕ, ◌+◌, ◌≤◌, ◌<◌, true, IsTrue, List, [], length, slice_get, All, Option, Some}
+use Rattle.std.specs.Prelude.{◌≡◌, ◌≢◌, ◌⊎◌, ℕ, ◌+◌, ◌≤◌, ◌<◌, true, IsTrue, List, [], length, slice_get, take, All, Option, Some}
 use Rattle.block_list.specs.declared.status.Status.{Status}
 use Rattle.block_list.specs.declared.status.Status.TheVariants.{Finished}
 use Rattle.block_list.specs.declared.types.TypeSet.{TypeSet}
@@ -27,10 +27,12 @@ use Rattle.task_files.specs.Names.{program_name}
 use Rattle.task_files.specs.Maps.{Found}
 use Rattle.task_files.specs.Outside.{Outside}
 use Rattle.task_files.specs.Answers.{IsGenerateCall, IsRescueCall}
+use Rattle.ddrescue_laws.specs.InputRead.{IsOfOpening}
 use Rattle.ddrescue_laws.specs.LeftBehind.{AllStand, OutputMade}
 use Rattle.ddrescue_cli.specs.Told.{Told}
 use Rattle.ddrescue_cli.specs.ToldParts.{asked_of, files_of}
 use Rattle.task_files.specs.Work.{files_rows}
+use Rattle.task_sweeps.specs.Pattern.{IsRepeated}
 use Rattle.task_sweeps.specs.Modes.{Fills, Generates, fill_rows, fill_setting, generate_rows}
 use Rattle.ddrescue_cli.specs.Ddrescue.{Ddrescue, FillModePromise, GenerateModePromise}
 use Rattle.ddrescue_laws.specs.Laws.{IsVerdict, NothingFailed}
@@ -85,6 +87,23 @@ abbrev pub UnbegunGenerateLeaves : Type 0
 UnbegunGenerateLeaves = (t : Told) (c : Command) (d : Ddrescue t) (asks : AskTask t.words (Generate c))
     → IsTrue t.site.tells → (promised_generate d asks).outside.did.gain.times ≡ [] → AllStand (files_of t) (files_in t.site')
 
+-- an answer that comes before a sweep: a refusal, a pattern that was lost, or a call of the opening that failed
+pub record IsBeforeSweep (e : Ending) : Type 0 where
+  pub done : e ≢ Done
+  pub room : e ≢ NoMemory
+  pub call : (call : SiteCall) (earlier : Option Stop) → e ≡ SiteFault call earlier → IsOfOpening call
+
+-- By the answer: where the files tell, a filling with such an answer leaves every file as it was, but that an absent
+-- output may be made, empty; and such a generating leaves every file.
+abbrev pub RefusedFillLeaves : Type 0
+RefusedFillLeaves = (t : Told) (types : TypeSet) (c : Command) (d : Ddrescue t) → AskTask t.words (Fill types c)
+    → IsTrue t.site.tells → IsBeforeSweep t.answer
+    → AllStand (files_of t) (files_in t.site') ⊎ OutputMade c.outfile (files_of t) (files_in t.site')
+
+abbrev pub RefusedGenerateLeaves : Type 0
+RefusedGenerateLeaves = (t : Told) (c : Command) (d : Ddrescue t) → AskTask t.words (Generate c)
+    → IsTrue t.site.tells → IsBeforeSweep t.answer → AllStand (files_of t) (files_in t.site')
+
 -- A filling whose pattern comes whole has one verdict at most, by its command, its pattern's length and the files that it
 -- finds, and so has a generating.
 abbrev pub FillHasOneVerdict : Type 0
@@ -116,7 +135,8 @@ pub record IsSweptThrough (t : Told) (s : Setting) (w : Sweeper) (pieces : List 
 abbrev pub HasNoPiece : Setting → List Swept → (y : ℕ) → Type 0
 HasNoPiece s pieces y = All (λ e. (y < place s e.pos) ⊎ (place s e.pos + e.len ≤ y)) pieces
 
--- What a filling leaves that is done: its map as it was, the pattern in each piece, and the old bytes elsewhere.
+-- What a filling leaves that is done: its map as it was, the pattern in each piece, and the old bytes elsewhere. If the
+-- source tells, the pattern is the infile's front.
 pub record LeavesFilled (t : Told) (s : Setting) (types : TypeSet) (buffer : List ℕ) (pieces : List Swept) : Type 0 where
   pub statuses : List Status
   pub state : Option MapState
@@ -124,6 +144,7 @@ pub record LeavesFilled (t : Told) (s : Setting) (types : TypeSet) (buffer : Lis
   pub through : IsSweptThrough t s (filler s types buffer) pieces statuses state time
   pub map : (behind_pieces (filler s types buffer) (sweep_over (filler s types buffer) statuses state time) pieces).map
       ≡ statuses
+  pub pattern : IsTrue t.source.tells → IsRepeated (take s.cluster t.source.bytes) s.cluster buffer
   pub filled : AreFilled s buffer pieces (bytes_of (files_in t.site' s.outfile))
   pub elsewhere : (y : ℕ) → y < length (bytes_of (files_of t s.outfile)) → HasNoPiece s pieces y
       → slice_get (bytes_of (files_in t.site' s.outfile)) y ≡ slice_get (bytes_of (files_of t s.outfile)) y

@@ -1,6 +1,6 @@
 //! What the definitions mean.
 ghost use Rattle.ddrescue_laws.specs.Laws.{DoneIsSaved, FaultsAreOfSteps, FilesAreLeft, GivenIsInput, HasOneVerdict, HoldsAtEnd, IsDoneUnless, MapsAreThere, ReadsAreARun, SampleIsOneLine};
-ghost use Rattle.ddrescue_laws.specs.ModeLaws.{DoneIsFilled, DoneIsGenerated, FillFaultsAreOfSteps, FillHasOneVerdict, FillIsDoneUnless, GenerateFaultsAreOfSteps, GenerateHasOneVerdict, GenerateIsDoneUnless, UnbegunFillLeaves, UnbegunGenerateLeaves};
+ghost use Rattle.ddrescue_laws.specs.ModeLaws.{DoneIsFilled, DoneIsGenerated, FillFaultsAreOfSteps, FillHasOneVerdict, FillIsDoneUnless, GenerateFaultsAreOfSteps, GenerateHasOneVerdict, GenerateIsDoneUnless, RefusedFillLeaves, RefusedGenerateLeaves, UnbegunFillLeaves, UnbegunGenerateLeaves};
 
 /// What an answer before the first read leaves of the files is known by the answer.
 pub fn files_are_left()
@@ -80,6 +80,17 @@ pub fn a_filling_leaves_files_before_it_begins()
 /// A generating that came to no sweep leaves every file.
 pub fn a_generating_leaves_files_before_it_begins()
     ensures { UnbegunGenerateLeaves }
+{}
+
+/// A filling whose answer comes before its sweep leaves every file as it was, but that an absent output may be made,
+/// empty.
+pub fn a_refused_filling_leaves()
+    ensures { RefusedFillLeaves }
+{}
+
+/// Such a generating leaves every file as it was.
+pub fn a_refused_generating_leaves()
+    ensures { RefusedGenerateLeaves }
 {}
 
 /// A command, a pattern's length and files have one verdict at most of a filling whose pattern comes whole.
