@@ -1,10 +1,10 @@
 -- What words ask for is sensible.
 use Rattle.std.proofs.Common.{ℕ, List, refl, arith}
 use Rattle.rescue_rules.specs.Setting.{IsSensible}
-use Rattle.rescue_command.specs.Options.{sectors_of}
-use Rattle.rescue_command.specs.Command.{Command, Rescue}
-use Rattle.rescue_command.specs.Asking.{Asks, AreInLimits}
-use Rattle.rescue_command.proofs.CommandLemmas.{reading_asks}
+use Rattle.ddrescue_words.specs.Options.{sectors_of}
+use Rattle.ddrescue_words.specs.Command.{Command, Rescue}
+use Rattle.ddrescue_words.specs.Asking.{Asks, AreInLimits}
+use Rattle.ddrescue_words.proofs.CommandLemmas.{reading_asks}
 use Rattle.rescue_domain.proofs.PlaceLemmas.{whole_from}
 use Rattle.task_files.specs.Asked.{Maps, setting_of}
 use Rattle.task_sweeps.specs.Modes.{fill_setting}

@@ -20,8 +20,8 @@ use Rattle.rescue_rules.specs.declared.stop.Stop.{Stop}
 use Rattle.rescue_rules.specs.declared.stop.Stop.TheVariants.{SourceLost as InputLost, Site, LimitMet as Limited, NoMemory as NoRoom}
 use Rattle.rescue_rules.specs.declared.stop.RunEnd.{RunEnd}
 use Rattle.rescue_rules.specs.Work.{EndsBy, Ends, IsSaved, IsUnsaved, IsBroken, end_of}
-use Rattle.work_steps.specs.Work.{Deeds}
-use Rattle.work_steps.proofs.GainLemmas.{broke_named}
+use Rattle.work_rules.specs.Work.{Deeds}
+use Rattle.work_rules.proofs.GainLemmas.{broke_named}
 use Rattle.task_files.specs.declared.ending.Ending.{Ending}
 use Rattle.task_files.specs.declared.ending.Ending.TheVariants.{SiteFault}
 use Rattle.task_files.specs.Work.{Rescues, answer_of}

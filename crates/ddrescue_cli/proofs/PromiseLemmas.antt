@@ -16,10 +16,10 @@ use Rattle.rescue_core.specs.Across.{Across}
 use Rattle.rescue_rules.specs.declared.stop.RunEnd.{RunEnd}
 use Rattle.sweep_rules.specs.Sweep.{Swept}
 use Rattle.sweep_rules.specs.SweepLaws.{AreGiven}
-use Rattle.work_steps.specs.Work.{Deeds, Works}
+use Rattle.work_rules.specs.Work.{Deeds, Works}
 use Rattle.option_words.specs.Words.{command_line}
-use Rattle.rescue_command.specs.Command.{Command, Task, Rescue, Fill, Generate}
-use Rattle.rescue_command.specs.Asking.{Asks, HasMapfile, IsAsked}
+use Rattle.ddrescue_words.specs.Command.{Command, Task, Rescue, Fill, Generate}
+use Rattle.ddrescue_words.specs.Asking.{Asks, HasMapfile, IsAsked}
 use Rattle.task_files.specs.declared.ending.Ending.{Ending}
 use Rattle.task_files.specs.Names.{first_same, program_name}
 use Rattle.task_files.specs.Asked.{names_by, setting_of}

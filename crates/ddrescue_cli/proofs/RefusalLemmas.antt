@@ -6,9 +6,9 @@ use Rattle.crash_site.specs.Files.{File}
 use Rattle.rescue_rules.specs.declared.stop.Stop.{Stop}
 use Rattle.rescue_rules.specs.declared.stop.Stop.TheVariants.{SourceLost as InputLost, Site, LimitMet as Limited, NoMemory as NoRoom}
 use Rattle.rescue_rules.specs.declared.stop.RunEnd.TheVariants.{Done as Finished, Stopped as RunStopped, SaveFailed}
-use Rattle.work_steps.specs.Work.{Deeds, Works}
-use Rattle.work_steps.proofs.AnswerLemmas.{Stops, IsRefused, Starved, Unopened, Broken, Refused, Came, Stopped, Went, came}
-use Rattle.rescue_command.specs.Command.{Command}
+use Rattle.work_rules.specs.Work.{Deeds, Works}
+use Rattle.work_rules.proofs.AnswerLemmas.{Stops, IsRefused, Starved, Unopened, Broken, Refused, Came, Stopped, Went, came}
+use Rattle.ddrescue_words.specs.Command.{Command}
 use Rattle.task_files.specs.declared.ending.Ending.{Ending}
 use Rattle.task_files.specs.declared.ending.Ending.TheVariants.{Done, SourceFault, SiteFault, NoMemory}
 use Rattle.task_files.specs.declared.ending.Which.{Which}

@@ -6,10 +6,10 @@ use Rattle.crash_site.specs.SiteState.{SiteState}
 use Rattle.rescue_console.specs.ClockState.{ClockState}
 use Rattle.rescue_console.specs.ConsoleState.{ConsoleState}
 use Rattle.rescue_console.specs.Speaking.{SpeaksOn}
-use Rattle.work_steps.specs.Work.{Works}
-use Rattle.work_steps.specs.Parts.{only_calls}
-use Rattle.rescue_command.specs.Command.{Task, Sample}
-use Rattle.rescue_command.specs.Asking.{IsAsked}
+use Rattle.work_rules.specs.Work.{Works}
+use Rattle.work_rules.specs.Parts.{only_calls}
+use Rattle.ddrescue_words.specs.Command.{Task, Sample}
+use Rattle.ddrescue_words.specs.Asking.{IsAsked}
 use Rattle.task_files.specs.declared.ending.Ending.{Ending}
 use Rattle.task_files.specs.declared.ending.Ending.TheVariants.{Done, NoMemory}
 use Rattle.task_files.specs.Work.{rescue_faults}

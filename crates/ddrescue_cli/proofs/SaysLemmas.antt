@@ -5,7 +5,7 @@ use Rattle.rescue_console.specs.declared.console.Channel.TheVariants.{Err as Err
 use Rattle.rescue_console.specs.ConsoleState.{ConsoleState, Answers}
 use Rattle.rescue_console.specs.Speaking.{SpokenPiece, SpeaksOn, out_pieces}
 use Rattle.rescue_console.proofs.SpeakingLemmas.{heard_speak, speeches_join}
-use Rattle.rescue_command.specs.Asking.{AskQuiet}
+use Rattle.ddrescue_words.specs.Asking.{AskQuiet}
 use Rattle.task_files.specs.declared.ending.Ending.{Ending}
 use Rattle.task_files.specs.declared.ending.Ending.TheVariants.{Done, NoMemory}
 use Rattle.ddrescue_cli.specs.Messages.{message, message_pieces}

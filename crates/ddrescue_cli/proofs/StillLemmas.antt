@@ -16,8 +16,8 @@ use Rattle.rescue_console.specs.ConsoleState.{ConsoleState}
 use Rattle.rescue_console.specs.Speaking.{SpeaksOn}
 use Rattle.rescue_rules.specs.declared.stop.Stop.TheVariants.{NoMemory as NoRoom}
 use Rattle.rescue_rules.specs.declared.stop.RunEnd.TheVariants.{Stopped as RunStopped}
-use Rattle.rescue_command.specs.Command.{Command, Task, Rescue, Fill, Generate, Sample}
-use Rattle.rescue_command.specs.Asking.{AskTask, IsAsked, IsRefusal as IsRefusedFor, AskQuiet, is_quiet}
+use Rattle.ddrescue_words.specs.Command.{Command, Task, Rescue, Fill, Generate, Sample}
+use Rattle.ddrescue_words.specs.Asking.{AskTask, IsAsked, IsRefusal as IsRefusedFor, AskQuiet, is_quiet}
 use Rattle.task_files.specs.declared.ending.Ending.{Ending}
 use Rattle.task_files.specs.declared.ending.Ending.TheVariants.{Usage, SameName, NoMemory}
 use Rattle.task_files.specs.Asked.{Maps}
@@ -31,8 +31,8 @@ use Rattle.task_files.specs.Work.{Rescues, rescue_faults, rescue_rows}
 use Rattle.task_files.specs.Answers.{files_of_task, SaysOfWords, Causes, drafting_left}
 use Rattle.task_sweeps.specs.Modes.{fill_rows, generate_rows}
 use Rattle.ddrescue_cli.specs.Ddrescue.{Says, Promise, FillModePromise, GenerateModePromise, SamplePromise, PromiseOf, Ddrescue}
-use Rattle.work_steps.specs.Work.{Deeds, IsIdle, Works}
-use Rattle.work_steps.specs.Parts.{only_calls}
+use Rattle.work_rules.specs.Work.{Deeds, IsIdle, Works}
+use Rattle.work_rules.specs.Parts.{only_calls}
 use Rattle.copy_passes.specs.Turns.{IsFrom}
 use Rattle.ddrescue_cli.proofs.GoesLemmas.{nothing_stops_by}
 use Rattle.task_files.proofs.ListingLemmas.{OneListing, one_listing}

@@ -18,9 +18,9 @@ use Rattle.sweep_rules.specs.Sweep.{Sweeper, Swept}
 use Rattle.sweep_rules.specs.SweepWork.{Sweeps, sweep_opening}
 use Rattle.sweep_rules.specs.SweepOpens.{EndsEarly, InOpening, InLoad, OpensOrEnds}
 use Rattle.sweep_rules.proofs.EndLemmas.{opening_is}
-use Rattle.work_steps.specs.Work.{Deeds, WorkStep, Read, Look, Works, IsIdle, with_calls}
-use Rattle.work_steps.proofs.GainLemmas.{lost_behind, broke_behind}
-use Rattle.rescue_command.specs.declared.options.Options.{Options}
+use Rattle.work_rules.specs.Work.{Deeds, WorkStep, Read, Look, Works, IsIdle, with_calls}
+use Rattle.work_rules.proofs.GainLemmas.{lost_behind, broke_behind}
+use Rattle.ddrescue_words.specs.declared.options.Options.{Options}
 use Rattle.task_files.specs.declared.ending.Ending.{Ending}
 use Rattle.task_files.specs.declared.ending.Ending.TheVariants.{NoOutput}
 use Rattle.task_files.specs.Refusals.{MapfileRefused, OutputRefused, PlacesRefused}

@@ -7,11 +7,11 @@ use Rattle.rescue_rules.specs.declared.stop.RunEnd.{RunEnd}
 use Rattle.rescue_rules.specs.declared.stop.RunEnd.TheVariants.{Stopped as RunStopped}
 use Rattle.rescue_rules.specs.Setting.{Setting}
 use Rattle.sweep_rules.specs.Sweep.{Sweeper, Swept}
-use Rattle.work_steps.specs.Work.{Deeds, WorkStep, Works}
-use Rattle.work_steps.proofs.AnswerLemmas.{IsRefused, Starved, Unopened, Broken, Refused, Came, Stopped, Went, came}
-use Rattle.rescue_command.specs.declared.options.Options.{Options}
-use Rattle.rescue_command.specs.Options.{cluster_of}
-use Rattle.rescue_command.specs.Command.{Command}
+use Rattle.work_rules.specs.Work.{Deeds, WorkStep, Works}
+use Rattle.work_rules.proofs.AnswerLemmas.{IsRefused, Starved, Unopened, Broken, Refused, Came, Stopped, Went, came}
+use Rattle.ddrescue_words.specs.declared.options.Options.{Options}
+use Rattle.ddrescue_words.specs.Options.{cluster_of}
+use Rattle.ddrescue_words.specs.Command.{Command}
 use Rattle.task_files.specs.declared.ending.Ending.{Ending}
 use Rattle.task_files.specs.declared.ending.Which.TheVariants.{DomainMap}
 use Rattle.task_files.specs.Maps.{Found}

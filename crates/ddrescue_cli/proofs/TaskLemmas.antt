@@ -6,9 +6,9 @@ use Rattle.rescue_console.specs.ConsoleState.{ConsoleState}
 use Rattle.rescue_console.specs.Speaking.{SpeaksOn}
 use Rattle.rescue_rules.specs.Snapshots.{heading_at}
 use Rattle.save_resume.specs.MapNames.{MapNames}
-use Rattle.rescue_command.specs.declared.command.Task.{Task as TaskCode}
-use Rattle.rescue_command.specs.Command.{Command, Sample}
-use Rattle.rescue_command.specs.Asking.{AreInLimits, AskSample, IsAsked, IsInLimits, IsTask, is_quiet, told_by}
+use Rattle.ddrescue_words.specs.declared.command.Task.{Task as TaskCode}
+use Rattle.ddrescue_words.specs.Command.{Command, Sample}
+use Rattle.ddrescue_words.specs.Asking.{AreInLimits, AskSample, IsAsked, IsInLimits, IsTask, is_quiet, told_by}
 use Rattle.ddrescue_cli.specs.declared.aim.Aim.{Aim}
 use Rattle.ddrescue_cli.specs.declared.aim.Aim.TheVariants.{Rescue as ToRescue, Fill as ToFill, Generate as ToGenerate}
 use Rattle.task_files.specs.declared.checked.CheckedCommand.{CheckedCommand}

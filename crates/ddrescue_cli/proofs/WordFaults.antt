@@ -10,10 +10,10 @@ use Rattle.option_words.specs.Words.{word}
 use Rattle.option_words.specs.declared.reading.Item.{Item}
 use Rattle.option_words.specs.Reading.{WordFaultAt}
 use Rattle.option_words.proofs.MemoryLemmas.{never_memory}
-use Rattle.rescue_command.specs.declared.options.Options.{Options}
-use Rattle.rescue_command.specs.Command.{Command, Task, Sample}
-use Rattle.rescue_command.specs.Asking.{AreRefused, Unread, Wrong, MapOptions, cluster_word, command_with, conflict_in, empty_operand, files_task, is_too_large, maps_in, sample_task, task_from, task_with, unless_conflict, unless_empty, wants_mapfile}
-use Rattle.rescue_command.specs.Options.{options_in}
+use Rattle.ddrescue_words.specs.declared.options.Options.{Options}
+use Rattle.ddrescue_words.specs.Command.{Command, Task, Sample}
+use Rattle.ddrescue_words.specs.Asking.{AreRefused, Unread, Wrong, MapOptions, cluster_word, command_with, conflict_in, empty_operand, files_task, is_too_large, maps_in, sample_task, task_from, task_with, unless_conflict, unless_empty, wants_mapfile}
+use Rattle.ddrescue_words.specs.Options.{options_in}
 use Rattle.task_files.specs.declared.ending.Ending.TheVariants.{Usage}
 use Rattle.task_files.specs.Answers.{is_of_words, AreAccepted, SaysOfWords}
 

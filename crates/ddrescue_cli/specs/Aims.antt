@@ -1,6 +1,6 @@
 -- The work of fill mode and of generate mode: their steps in order, and the sweep behind them.
 use Rattle.std.specs.Prelude.{◌≡◌, ⊤, true, is_some, ℕ, Bool, List}
-use Rattle.rescue_command.specs.Command.{Command, Task, Rescue, Fill, Generate}
+use Rattle.ddrescue_words.specs.Command.{Command, Task, Rescue, Fill, Generate}
 use Rattle.ddrescue_cli.specs.declared.aim.Aim.{Aim}
 use Rattle.ddrescue_cli.specs.declared.aim.Aim.TheVariants.{Rescue as ToRescue, Fill as ToFill, Generate as ToGenerate}
 use Rattle.rescue_core.specs.Across.{Across}

@@ -13,10 +13,10 @@ use Rattle.rescue_rules.specs.declared.stop.RunEnd.{RunEnd}
 use Rattle.rescue_rules.specs.StopsBy.{RescueStopsBy}
 use Rattle.sweep_rules.specs.Sweep.{Swept}
 use Rattle.sweep_rules.specs.SweepLaws.{AreGiven}
-use Rattle.work_steps.specs.Work.{Works}
-use Rattle.work_steps.specs.Parts.{only_calls}
-use Rattle.rescue_command.specs.Command.{Command, Task, Rescue, Fill, Generate, Sample}
-use Rattle.rescue_command.specs.Asking.{AskTask, AskQuiet}
+use Rattle.work_rules.specs.Work.{Works}
+use Rattle.work_rules.specs.Parts.{only_calls}
+use Rattle.ddrescue_words.specs.Command.{Command, Task, Rescue, Fill, Generate, Sample}
+use Rattle.ddrescue_words.specs.Asking.{AskTask, AskQuiet}
 use Rattle.task_files.specs.declared.ending.Ending.TheVariants.{NoMemory}
 use Rattle.ddrescue_cli.specs.Messages.{message_pieces}
 use Rattle.task_files.specs.Maps.{AreAskedFor, AreMapsIn}

@@ -5,7 +5,7 @@ use Rattle.crash_site.specs.Files.{File}
 use Rattle.crash_site.specs.SiteState.{files_in}
 use Rattle.rescue_rules.specs.Setting.{Setting}
 use Rattle.rescue_core.specs.Across.{Across}
-use Rattle.rescue_command.specs.Command.{Command}
+use Rattle.ddrescue_words.specs.Command.{Command}
 use Rattle.task_files.specs.Names.{program_name}
 use Rattle.task_files.specs.Asked.{setting_of}
 use Rattle.task_files.specs.Outside.{Outside}

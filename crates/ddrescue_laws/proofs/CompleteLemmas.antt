@@ -15,11 +15,11 @@ use Rattle.rescue_rules.specs.Machine.{Machine}
 use Rattle.rescue_rules.specs.Step.{Event, limit_met}
 use Rattle.rescue_rules.specs.Moves.{state_after}
 use Rattle.rescue_rules.specs.Work.{Gain, Ends, IsSaved, IsUnsaved, IsBroken}
-use Rattle.work_steps.specs.Work.{Deeds}
-use Rattle.work_steps.specs.Verdicts.{AreVerdicts}
-use Rattle.work_steps.proofs.VerdictLemmas.{goes_to_run}
-use Rattle.rescue_command.specs.declared.options.Options.{Options}
-use Rattle.rescue_command.specs.Command.{Command, Rescue}
+use Rattle.work_rules.specs.Work.{Deeds}
+use Rattle.work_rules.specs.Verdicts.{AreVerdicts}
+use Rattle.work_rules.proofs.VerdictLemmas.{goes_to_run}
+use Rattle.ddrescue_words.specs.declared.options.Options.{Options}
+use Rattle.ddrescue_words.specs.Command.{Command, Rescue}
 use Rattle.task_files.specs.declared.ending.Ending.{Ending}
 use Rattle.task_files.specs.declared.ending.Ending.TheVariants.{SourceFault, SourceLost, SiteFault, NoMemory}
 use Rattle.task_files.specs.Answers.{Causes}

@@ -1,6 +1,6 @@
 -- What stands behind the answer of a rescue.
 use Rattle.ddrescue_cli.proofs.RefusalLemmas.{undone}
-use Rattle.work_steps.proofs.AnswerLemmas.{IsLoadIf, Passed, passed}
+use Rattle.work_rules.proofs.AnswerLemmas.{IsLoadIf, Passed, passed}
 use Rattle.std.proofs.Common.{◌≡◌, ℕ, ◌+◌, ◌-◌, ◌≤◌, zero, suc, Bool, true, false, IsTrue, if◌then◌else◌, refl, List, [], ◌++◌, ◌∷◌, map, filter, length, take, drop, Option, Some, None, option_map, sym, ◌∙◌, ap, subst, arith, inl, inr, ⊎_elim, length-append}
 use Rattle.std.specs.List.{count_by, slice_get}
 use Rattle.std.proofs.Math.Seq.{take-length}
@@ -44,8 +44,8 @@ use Rattle.rescue_rules.specs.StopsBy.{IsKept, is_publish, published, IsSave}
 use Rattle.rescue_rules.specs.Stops.{LeftBy, has_barrier, is_settle, returned, files_before}
 use Rattle.task_files.specs.declared.ending.Ending.{Ending}
 use Rattle.task_files.specs.declared.ending.Ending.TheVariants.{Done, SameName, SourceLost, SiteFault, NoMemory, LimitMet}
-use Rattle.rescue_command.specs.Command.{Command, Rescue}
-use Rattle.rescue_command.specs.Asking.{Asks}
+use Rattle.ddrescue_words.specs.Command.{Command, Rescue}
+use Rattle.ddrescue_words.specs.Asking.{Asks}
 use Rattle.option_words.specs.Words.{command_line}
 use Rattle.rescue_rules.proofs.GoesLemmas.{timed}
 use Rattle.task_files.specs.Names.{program_name}
@@ -53,7 +53,7 @@ use Rattle.task_files.specs.Asked.{Maps, setting_of}
 use Rattle.ddrescue_cli.proofs.AskedLemmas.{sensible_to}
 use Rattle.ddrescue_cli.specs.Told.{Told, calls_before}
 use Rattle.ddrescue_cli.specs.ToldParts.{files_of, asked_of}
-use Rattle.work_steps.specs.Work.{Deeds, Works, with_calls, with_opens}
+use Rattle.work_rules.specs.Work.{Deeds, Works, with_calls, with_opens}
 use Rattle.task_files.specs.Maps.{Found, file_of, found_in, mapfile_of}
 use Rattle.task_files.specs.Outside.{Outside}
 use Rattle.task_files.specs.Work.{answer_of, Rescues, RunsOver, rescue_faults, rescue_rows, worked_rows, barrier_of}
@@ -63,7 +63,7 @@ use Rattle.trim_scrape.proofs.EndingLemmas.{run_ends_well}
 use Rattle.ddrescue_laws.proofs.OutputLemmas.{holds_whole}
 use Rattle.ddrescue_cli.proofs.GoesLemmas.{setting_by, opened, settled}
 use Rattle.ddrescue_laws.proofs.CountLemmas.{dues, run_entries, settles_once_more, publishes_each}
-use Rattle.work_steps.proofs.FrontLemmas.{IsMapRead, load_reads, reads_stand, made_both}
+use Rattle.work_rules.proofs.FrontLemmas.{IsMapRead, load_reads, reads_stand, made_both}
 use Rattle.ddrescue_laws.proofs.ReadLemmas.{settles_behind, publishes_behind, barrier_behind}
 
 -- a stop behind all calls may leave the files as they read

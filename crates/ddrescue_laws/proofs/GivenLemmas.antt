@@ -11,7 +11,7 @@ use Rattle.rescue_rules.specs.Given.{given, last_of_both}
 use Rattle.rescue_rules.proofs.GivenLemmas.{given_covered, given_uncovered}
 use Rattle.rescue_rules.proofs.MarkLemmas.{slice_get-take}
 use Rattle.copy_passes.specs.Turns.{IsFrom}
-use Rattle.rescue_command.specs.Command.{Rescue}
+use Rattle.ddrescue_words.specs.Command.{Rescue}
 use Rattle.ddrescue_cli.specs.Ddrescue.{Promise}
 use Rattle.ddrescue_laws.specs.Laws.{GivenIsInput}
 

@@ -33,7 +33,7 @@ use Rattle.trim_scrape.proofs.EndingLemmas.{run_ends_well}
 use Rattle.copy_passes.specs.Turns.{IsFrom}
 use Rattle.save_resume.specs.MapNames.{names_of}
 use Rattle.option_words.specs.Words.{command_line}
-use Rattle.rescue_command.specs.Command.{Command, Rescue}
+use Rattle.ddrescue_words.specs.Command.{Command, Rescue}
 use Rattle.rescue_rules.proofs.GoesLemmas.{timed}
 use Rattle.task_files.specs.declared.ending.Ending.{Ending}
 use Rattle.task_files.specs.declared.ending.Ending.TheVariants.{Done, SameName, SiteFault, NoMemory}
@@ -45,8 +45,8 @@ use Rattle.task_files.specs.Outside.{Outside, HasGainedReads}
 use Rattle.ddrescue_cli.specs.Ddrescue.{Promise}
 use Rattle.ddrescue_laws.specs.Laws.{ReadsAreARun}
 use Rattle.task_files.specs.Work.{Rescues, rescue_faults, rescue_rows, worked_rows, answer_of}
-use Rattle.work_steps.specs.Work.{Deeds, Works}
-use Rattle.work_steps.proofs.AnswerLemmas.{FindNone, Came, Stopped, Went, came}
+use Rattle.work_rules.specs.Work.{Deeds, Works}
+use Rattle.work_rules.proofs.AnswerLemmas.{FindNone, Came, Stopped, Went, came}
 use Rattle.ddrescue_cli.proofs.AskedLemmas.{sensible_to}
 use Rattle.ddrescue_cli.proofs.LateLemmas.{IsLate, rescue_late}
 use Rattle.task_files.proofs.OpenedLemmas.{none_seen}

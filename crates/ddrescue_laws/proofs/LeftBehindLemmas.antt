@@ -16,7 +16,7 @@ use Rattle.rescue_rules.specs.declared.stop.Stop.TheVariants.{SourceLost as Inpu
 use Rattle.option_words.specs.declared.fault.UsageFault.TheVariants.{PlaceTooLarge}
 use Rattle.rescue_rules.specs.declared.stop.RunEnd.{RunEnd}
 use Rattle.rescue_rules.specs.declared.stop.RunEnd.TheVariants.{Done as Finished, Stopped, SaveFailed}
-use Rattle.rescue_command.specs.Command.{Command, Rescue}
+use Rattle.ddrescue_words.specs.Command.{Command, Rescue}
 use Rattle.task_files.specs.declared.ending.Ending.{Ending}
 use Rattle.task_files.specs.declared.ending.Ending.TheVariants.{Done, Usage, SameName, NoMap, SourceFault, NotRegular, MapRefused, SourceLost, SiteFault, NoMemory, LimitMet}
 use Rattle.task_files.specs.declared.ending.Which.{Which}
@@ -30,13 +30,13 @@ use Rattle.task_files.specs.Outside.{Outside}
 use Rattle.task_files.specs.Work.{Rescues, answer_of, rescue_faults, rescue_rows, barrier_of}
 use Rattle.ddrescue_cli.specs.Ddrescue.{Promise}
 use Rattle.ddrescue_laws.specs.Laws.{FilesAreLeft}
-use Rattle.work_steps.proofs.FrontLemmas.{load_reads, reads_stand, broken_stands}
-use Rattle.work_steps.specs.Work.{Deeds, Look, Read, Works}
-use Rattle.work_steps.specs.Holds.{Holds, behind_calls}
-use Rattle.work_steps.proofs.HoldsLemmas.{holds, holds_more}
+use Rattle.work_rules.proofs.FrontLemmas.{load_reads, reads_stand, broken_stands}
+use Rattle.work_rules.specs.Work.{Deeds, Look, Read, Works}
+use Rattle.work_rules.specs.Holds.{Holds, behind_calls}
+use Rattle.work_rules.proofs.HoldsLemmas.{holds, holds_more}
 use Rattle.save_resume.specs.Saving.{IsNameIn}
 use Rattle.rescue_rules.proofs.SaveStages.{put_own}
-use Rattle.work_steps.proofs.GainLemmas.{broke_named}
+use Rattle.work_rules.proofs.GainLemmas.{broke_named}
 use Rattle.ddrescue_cli.proofs.RowLemmas.{EndsRun, rescue_ends, behind_domain, behind_mapfile, behind_test, open_call, of_barrier}
 use Rattle.ddrescue_cli.proofs.LateLemmas.{IsRunCall, IsLate, rescue_late}
 

@@ -2,7 +2,7 @@
 use Rattle.std.proofs.Common.{◌≡◌, ℕ, List, [], ◌∷◌, inl, inr, sym, ap, ◌∙◌}
 use Rattle.rescue_sample.specs.Sample.{sample_size}
 use Rattle.rescue_sample.proofs.RunLemmas.{one_line}
-use Rattle.rescue_command.specs.Command.{Sample}
+use Rattle.ddrescue_words.specs.Command.{Sample}
 use Rattle.task_files.specs.declared.ending.Ending.{Ending}
 use Rattle.task_files.specs.declared.ending.Ending.TheVariants.{Done, NoMemory}
 use Rattle.task_sample.specs.Sampled.{sample_setting, sample_start, IsLineOf}

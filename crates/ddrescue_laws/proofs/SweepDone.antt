@@ -19,11 +19,11 @@ use Rattle.rescue_rules.proofs.MapfileLemmas.{opening_by}
 use Rattle.sweep_rules.specs.Sweep.{Sweeper, Sweep, Swept, filler, generator, IsSweep, IsSweptOut, sweep_over, behind_pieces, sweep_end}
 use Rattle.sweep_rules.specs.SweepStops.{has_swept_out}
 use Rattle.sweep_rules.specs.SweepWork.{SweepEnds, IsSaved, IsUnsaved, IsCut, IsBroken}
-use Rattle.work_steps.specs.Work.{Deeds, WorkStep, Works, with_calls, with_opens}
-use Rattle.work_steps.proofs.AnswerLemmas.{Stops, IsRefused, Starved, Unopened, Broken, Refused, Passed, passed}
-use Rattle.work_steps.proofs.FrontLemmas.{made_both}
-use Rattle.rescue_command.specs.Options.{cluster_of}
-use Rattle.rescue_command.specs.Command.{Command}
+use Rattle.work_rules.specs.Work.{Deeds, WorkStep, Works, with_calls, with_opens}
+use Rattle.work_rules.proofs.AnswerLemmas.{Stops, IsRefused, Starved, Unopened, Broken, Refused, Passed, passed}
+use Rattle.work_rules.proofs.FrontLemmas.{made_both}
+use Rattle.ddrescue_words.specs.Options.{cluster_of}
+use Rattle.ddrescue_words.specs.Command.{Command}
 use Rattle.task_files.specs.declared.ending.Ending.{Ending}
 use Rattle.task_files.specs.declared.ending.Ending.TheVariants.{Done, SameName, SourceFault, SourceLost, PatternUnread, SiteFault, NoMemory}
 use Rattle.task_files.specs.Asked.{Maps, setting_of}

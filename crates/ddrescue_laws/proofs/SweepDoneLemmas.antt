@@ -22,11 +22,11 @@ use Rattle.sweep_rules.specs.Sweep.{Sweeper, Sweep, Swept, filler, generator, sw
 use Rattle.sweep_rules.specs.SweepLaws.{AreGiven}
 use Rattle.sweep_rules.specs.SweepStops.{AreFilled, FillPromise, has_swept_out, pieces_before}
 use Rattle.sweep_rules.proofs.SweepLemmas.{filled_map_stands, generates_what_is_held}
-use Rattle.work_steps.proofs.FrontLemmas.{load_reads}
-use Rattle.rescue_command.specs.Options.{cluster_of}
-use Rattle.rescue_command.specs.Command.{Command, Fill, Generate}
-use Rattle.rescue_command.specs.Asking.{HasMapfile}
-use Rattle.rescue_command.proofs.CommandLemmas.{reading_asks}
+use Rattle.work_rules.proofs.FrontLemmas.{load_reads}
+use Rattle.ddrescue_words.specs.Options.{cluster_of}
+use Rattle.ddrescue_words.specs.Command.{Command, Fill, Generate}
+use Rattle.ddrescue_words.specs.Asking.{HasMapfile}
+use Rattle.ddrescue_words.proofs.CommandLemmas.{reading_asks}
 use Rattle.task_files.specs.declared.ending.Ending.TheVariants.{Done}
 use Rattle.task_files.specs.Names.{program_name}
 use Rattle.task_files.specs.Maps.{Found}

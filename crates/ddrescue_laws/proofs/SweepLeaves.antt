@@ -15,9 +15,9 @@ use Rattle.rescue_rules.proofs.CutLemmas.{IsOf, Cut}
 use Rattle.rescue_rules.proofs.MapfileLemmas.{opening_by}
 use Rattle.save_resume.specs.Resuming.{barrier_calls}
 use Rattle.sweep_rules.specs.Sweep.{Sweeper, Swept, filler, generator}
-use Rattle.work_steps.proofs.FrontLemmas.{reads_stand}
-use Rattle.rescue_command.specs.Command.{Fill, Generate}
-use Rattle.rescue_command.proofs.CommandLemmas.{reading_asks}
+use Rattle.work_rules.proofs.FrontLemmas.{reads_stand}
+use Rattle.ddrescue_words.specs.Command.{Fill, Generate}
+use Rattle.ddrescue_words.proofs.CommandLemmas.{reading_asks}
 use Rattle.task_files.specs.Names.{program_name}
 use Rattle.task_files.specs.Maps.{Found}
 use Rattle.task_files.specs.Outside.{Outside}

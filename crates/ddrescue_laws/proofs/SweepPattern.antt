@@ -9,10 +9,10 @@ use Rattle.copy_passes.specs.Turns.{IsFrom}
 use Rattle.rescue_rules.specs.declared.stop.RunEnd.{RunEnd}
 use Rattle.rescue_rules.specs.Setting.{Setting}
 use Rattle.sweep_rules.specs.Sweep.{Swept}
-use Rattle.work_steps.specs.Work.{Deeds}
-use Rattle.work_steps.proofs.AnswerLemmas.{Passed, passed}
-use Rattle.rescue_command.specs.Options.{cluster_of}
-use Rattle.rescue_command.specs.Command.{Command}
+use Rattle.work_rules.specs.Work.{Deeds}
+use Rattle.work_rules.proofs.AnswerLemmas.{Passed, passed}
+use Rattle.ddrescue_words.specs.Options.{cluster_of}
+use Rattle.ddrescue_words.specs.Command.{Command}
 use Rattle.task_files.specs.declared.ending.Ending.{Ending}
 use Rattle.task_files.specs.declared.ending.Ending.TheVariants.{Done, SourceLost, PatternUnread}
 use Rattle.task_files.specs.Maps.{Found}

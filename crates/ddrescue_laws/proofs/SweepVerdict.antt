@@ -6,12 +6,12 @@ use Rattle.save_resume.specs.Named.{map_mode}
 use Rattle.rescue_rules.specs.declared.stop.RunEnd.{RunEnd}
 use Rattle.rescue_rules.specs.Setting.{Setting}
 use Rattle.sweep_rules.specs.Sweep.{Sweeper, Swept, filler, generator}
-use Rattle.work_steps.specs.Work.{Deeds, Works}
-use Rattle.work_steps.specs.Verdicts.{IsOnce, RefuseOnce, AreVerdicts}
-use Rattle.work_steps.proofs.VerdictLemmas.{one_verdict}
-use Rattle.work_steps.proofs.PartLemmas.{works_as}
-use Rattle.rescue_command.specs.Options.{cluster_of}
-use Rattle.rescue_command.specs.Command.{Command}
+use Rattle.work_rules.specs.Work.{Deeds, Works}
+use Rattle.work_rules.specs.Verdicts.{IsOnce, RefuseOnce, AreVerdicts}
+use Rattle.work_rules.proofs.VerdictLemmas.{one_verdict}
+use Rattle.work_rules.proofs.PartLemmas.{works_as}
+use Rattle.ddrescue_words.specs.Options.{cluster_of}
+use Rattle.ddrescue_words.specs.Command.{Command}
 use Rattle.task_files.specs.declared.ending.Ending.{Ending}
 use Rattle.task_files.specs.declared.ending.Ending.TheVariants.{Done, PatternUnread}
 use Rattle.task_files.specs.declared.ending.Which.TheVariants.{DomainMap}

@@ -12,12 +12,12 @@ use Rattle.rescue_rules.specs.declared.stop.Stop.TheVariants.{SourceLost as Inpu
 use Rattle.rescue_rules.specs.declared.stop.RunEnd.{RunEnd}
 use Rattle.rescue_rules.specs.declared.stop.RunEnd.TheVariants.{Done as Finished, Stopped, SaveFailed}
 use Rattle.rescue_rules.specs.Work.{Gain}
-use Rattle.work_steps.specs.Work.{Deeds, WorkStep}
-use Rattle.work_steps.specs.Verdicts.{IsOnce, RefuseOnce, AreVerdicts}
-use Rattle.work_steps.proofs.PartLemmas.{works_as}
-use Rattle.work_steps.proofs.VerdictLemmas.{one_verdict}
-use Rattle.rescue_command.specs.declared.options.Options.{Options}
-use Rattle.rescue_command.specs.Command.{Command}
+use Rattle.work_rules.specs.Work.{Deeds, WorkStep}
+use Rattle.work_rules.specs.Verdicts.{IsOnce, RefuseOnce, AreVerdicts}
+use Rattle.work_rules.proofs.PartLemmas.{works_as}
+use Rattle.work_rules.proofs.VerdictLemmas.{one_verdict}
+use Rattle.ddrescue_words.specs.declared.options.Options.{Options}
+use Rattle.ddrescue_words.specs.Command.{Command}
 use Rattle.task_files.specs.declared.ending.Operand.{Operand}
 use Rattle.task_files.specs.declared.ending.Ending.{Ending}
 use Rattle.task_files.specs.declared.ending.Ending.TheVariants.{Done, SameName, MapRefused}

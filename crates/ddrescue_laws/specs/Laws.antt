@@ -1,5 +1,5 @@
 -- What the definitions mean.
-use Rattle.rescue_command.specs.declared.options.Options.{Options}
+use Rattle.ddrescue_words.specs.declared.options.Options.{Options}
 use Rattle.std.specs.Prelude.{◌≡◌, ◌≢◌, ℕ, ◌-◌, ◌^◌, ◌<◌, Bool, true, IsTrue, List, length, slice_get, Option, Some, ◌⊎◌, None}
 use Rattle.block_list.specs.declared.status.Status.{Status}
 use Rattle.mapfile_text.specs.declared.state.MapState.{MapState}
@@ -18,10 +18,10 @@ use Rattle.rescue_rules.specs.Snapshots.{text_of, finished_snapshot}
 use Rattle.rescue_rules.specs.Work.{Gain, begins, events_in, mapfile_in}
 use Rattle.rescue_rules.specs.Stops.{has_barrier}
 use Rattle.rescue_rules.specs.StopsBy.{IsKept}
-use Rattle.work_steps.specs.Work.{Deeds, Works}
-use Rattle.work_steps.specs.Verdicts.{RefuseNothing}
-use Rattle.rescue_command.specs.Command.{Command, Rescue, Sample}
-use Rattle.rescue_command.specs.Asking.{Asks, AskSample}
+use Rattle.work_rules.specs.Work.{Deeds, Works}
+use Rattle.work_rules.specs.Verdicts.{RefuseNothing}
+use Rattle.ddrescue_words.specs.Command.{Command, Rescue, Sample}
+use Rattle.ddrescue_words.specs.Asking.{Asks, AskSample}
 use Rattle.rescue_rules.specs.declared.stop.Limit.{Limit}
 use Rattle.task_files.specs.declared.ending.Ending.{Ending}
 use Rattle.task_files.specs.declared.ending.Ending.TheVariants.{Done, SourceFault, SourceLost, SiteFault, LimitMet, NoMemory}

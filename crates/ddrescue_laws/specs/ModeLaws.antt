@@ -17,10 +17,10 @@ use Rattle.rescue_rules.specs.Snapshots.{text_of}
 use Rattle.sweep_rules.specs.Sweep.{Sweeper, Swept, filler, generator, sweep_over, behind_pieces, sweep_end, IsSweep, IsSweptOut}
 use Rattle.sweep_rules.specs.SweepLaws.{AreGiven}
 use Rattle.sweep_rules.specs.SweepStops.{AreFilled}
-use Rattle.work_steps.specs.Work.{Deeds}
-use Rattle.work_steps.specs.Verdicts.{RefuseNothing}
-use Rattle.rescue_command.specs.Command.{Command, Fill, Generate}
-use Rattle.rescue_command.specs.Asking.{AskTask}
+use Rattle.work_rules.specs.Work.{Deeds}
+use Rattle.work_rules.specs.Verdicts.{RefuseNothing}
+use Rattle.ddrescue_words.specs.Command.{Command, Fill, Generate}
+use Rattle.ddrescue_words.specs.Asking.{AskTask}
 use Rattle.task_files.specs.declared.ending.Ending.{Ending}
 use Rattle.task_files.specs.declared.ending.Ending.TheVariants.{Done, PatternUnread, SiteFault, NoMemory}
 use Rattle.task_files.specs.Names.{program_name}

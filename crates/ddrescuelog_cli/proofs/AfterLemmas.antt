@@ -6,13 +6,13 @@ use Rattle.crash_site.specs.SiteChanges.{Stays}
 use Rattle.rescue_console.specs.FeedState.{FeedState, Keeps as FeedKeeps}
 use Rattle.rescue_console.specs.ConsoleState.{ConsoleState, PutsPart}
 use Rattle.rescue_console.specs.declared.console.Channel.TheVariants.{Out}
-use Rattle.log_command.specs.declared.mode.LogMode.{LogMode}
-use Rattle.log_command.specs.declared.mode.LogMode.TheVariants.{Create, Test, Compare}
-use Rattle.log_command.specs.Modes.{creates}
-use Rattle.log_command.specs.Command.{Command}
+use Rattle.ddrescuelog_words.specs.declared.mode.LogMode.{LogMode}
+use Rattle.ddrescuelog_words.specs.declared.mode.LogMode.TheVariants.{Create, Test, Compare}
+use Rattle.ddrescuelog_words.specs.Modes.{creates}
+use Rattle.ddrescuelog_words.specs.Command.{Command}
 use Rattle.option_words.specs.declared.fault.UsageFault.{UsageFault}
 use Rattle.option_words.specs.declared.fault.UsageFault.TheVariants.{PlaceTooLarge}
-use Rattle.work_steps.specs.Work.{Deeds, Take, Look}
+use Rattle.work_rules.specs.Work.{Deeds, Take, Look}
 use Rattle.program_promise.specs.Kinds.{AtPut, Kind, Asked, Failed}
 use Rattle.program_promise.specs.Causes.{Changed, changes_of}
 use Rattle.program_promise.specs.Printing.{PutsByKind}

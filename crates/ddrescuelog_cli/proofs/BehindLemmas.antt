@@ -8,9 +8,9 @@ use Rattle.crash_site.specs.Calls.{Call, Entry, Done as Returned, map_read}
 use Rattle.crash_site.specs.declared.site.SiteCall.TheVariants.{MapRead}
 use Rattle.save_resume.specs.Loading.{piece_size}
 use Rattle.save_resume.specs.Named.{map_mode}
-use Rattle.work_steps.specs.Work.{Deeds, WorkStep, Take, Look, Open, Make, Read, Works}
-use Rattle.work_steps.proofs.FrontLemmas.{IsMapRead, load_reads}
-use Rattle.log_command.specs.Command.{Command}
+use Rattle.work_rules.specs.Work.{Deeds, WorkStep, Take, Look, Open, Make, Read, Works}
+use Rattle.work_rules.proofs.FrontLemmas.{IsMapRead, load_reads}
+use Rattle.ddrescuelog_words.specs.Command.{Command}
 use Rattle.ddrescuelog_cli.specs.declared.ending.Which.{Which}
 use Rattle.ddrescuelog_cli.specs.declared.ending.Which.TheVariants.{DomainMap, RunMap, OtherMap}
 use Rattle.ddrescuelog_cli.specs.declared.ending.LogEnding.{LogEnding}

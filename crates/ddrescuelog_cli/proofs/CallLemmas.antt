@@ -4,7 +4,7 @@ use Rattle.crash_site.specs.declared.site.SiteCall.{SiteCall}
 use Rattle.crash_site.specs.Calls.{Call, Entry, Done, Failed}
 use Rattle.crash_site.specs.CallsMade.{BrokeAt}
 use Rattle.save_resume.specs.Saving.{IsNameIn}
-use Rattle.work_steps.proofs.GainLemmas.{broke_behind}
+use Rattle.work_rules.proofs.GainLemmas.{broke_behind}
 
 -- what a record gained with a call that failed
 pub record GainsBroken (at : SiteCall) (calls : List Call) (old new : List Entry) : Type 0 where

@@ -2,15 +2,15 @@
 use Rattle.std.proofs.Common.{◌≡◌, ℕ, Bool, true, false, List, [], ◌∷◌, Option, refl, sym, inl, inr, subst}
 use Rattle.block_list.specs.declared.status.Status.{Status}
 use Rattle.crash_site.specs.Files.{File}
-use Rattle.work_steps.specs.Work.{Deeds, with_calls, Take, Look, Works}
-use Rattle.work_steps.specs.Verdicts.{RefuseNothing}
-use Rattle.work_steps.proofs.VerdictLemmas.{goes_to_run}
+use Rattle.work_rules.specs.Work.{Deeds, with_calls, Take, Look, Works}
+use Rattle.work_rules.specs.Verdicts.{RefuseNothing}
+use Rattle.work_rules.proofs.VerdictLemmas.{goes_to_run}
 use Rattle.option_words.specs.declared.fault.UsageFault.TheVariants.{PlaceTooLarge}
 use Rattle.program_promise.specs.Kinds.{Kind, Asked, Starved}
-use Rattle.log_command.specs.declared.mode.LogMode.{LogMode}
-use Rattle.log_command.specs.declared.mode.LogMode.TheVariants.{Create, Test, Compare}
-use Rattle.log_command.specs.Modes.{creates}
-use Rattle.log_command.specs.Command.{Command}
+use Rattle.ddrescuelog_words.specs.declared.mode.LogMode.{LogMode}
+use Rattle.ddrescuelog_words.specs.declared.mode.LogMode.TheVariants.{Create, Test, Compare}
+use Rattle.ddrescuelog_words.specs.Modes.{creates}
+use Rattle.ddrescuelog_words.specs.Command.{Command}
 use Rattle.ddrescuelog_cli.specs.declared.ending.LogEnding.{LogEnding}
 use Rattle.ddrescuelog_cli.specs.declared.ending.LogEnding.TheVariants.{Done, NotDone, Differ, Usage, NoMemory}
 use Rattle.ddrescuelog_cli.specs.Maps.{Found, Maps}

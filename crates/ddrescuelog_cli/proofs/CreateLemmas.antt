@@ -20,13 +20,13 @@ use Rattle.save_resume.specs.MapNames.{MapNames, names_of}
 use Rattle.save_resume.specs.Named.{IsMapOf, map_mode}
 use Rattle.save_resume.specs.Saving.{save_calls, publish_calls, IsNameIn, Saves}
 use Rattle.map_algebra.specs.Numbers.{list_limit, numbers_in}
-use Rattle.work_steps.specs.Work.{Deeds, Works, Make}
-use Rattle.log_command.specs.declared.mode.LogMode.TheVariants.{Create}
-use Rattle.log_command.specs.Modes.{creates, has_other}
-use Rattle.log_command.specs.Command.{Command, AreInLimits}
+use Rattle.work_rules.specs.Work.{Deeds, Works, Make}
+use Rattle.ddrescuelog_words.specs.declared.mode.LogMode.TheVariants.{Create}
+use Rattle.ddrescuelog_words.specs.Modes.{creates, has_other}
+use Rattle.ddrescuelog_words.specs.Command.{Command, AreInLimits}
 use Rattle.save_resume.proofs.NamedLemmas.{map_is_one}
-use Rattle.work_steps.proofs.LoadLemmas.{by_tells}
-use Rattle.work_steps.proofs.GainLemmas.{broke_named}
+use Rattle.work_rules.proofs.LoadLemmas.{by_tells}
+use Rattle.work_rules.proofs.GainLemmas.{broke_named}
 use Rattle.ddrescuelog_cli.specs.declared.ending.LogEnding.{LogEnding}
 use Rattle.ddrescuelog_cli.specs.declared.ending.LogEnding.TheVariants.{Done, SiteFault, FeedFault, NoMemory}
 use Rattle.ddrescuelog_cli.specs.Maps.{Found, Maps, AreMapsOf, AreAskedFor, found_in, shape_of}

@@ -22,10 +22,10 @@ use Rattle.map_algebra.specs.Change.{changed_map}
 use Rattle.map_algebra.specs.Combine.{combined_map}
 use Rattle.map_algebra.specs.Listing.{listed}
 use Rattle.map_algebra.specs.Summary.{summary_of}
-use Rattle.work_steps.specs.Work.{IsIdle}
-use Rattle.log_command.specs.declared.mode.LogMode.{LogMode}
-use Rattle.log_command.specs.declared.mode.LogMode.TheVariants.{Change, Combine, Complete, ListBlocks, Summarize}
-use Rattle.log_command.specs.Command.{Command}
+use Rattle.work_rules.specs.Work.{IsIdle}
+use Rattle.ddrescuelog_words.specs.declared.mode.LogMode.{LogMode}
+use Rattle.ddrescuelog_words.specs.declared.mode.LogMode.TheVariants.{Change, Combine, Complete, ListBlocks, Summarize}
+use Rattle.ddrescuelog_words.specs.Command.{Command}
 use Rattle.ddrescuelog_cli.specs.declared.load.LoadedMaps.{LoadedMaps}
 use Rattle.ddrescuelog_cli.specs.declared.ending.LogEnding.{LogEnding}
 use Rattle.ddrescuelog_cli.specs.declared.ending.LogEnding.TheVariants.{Done, Usage, ConsoleFault, NoMemory}

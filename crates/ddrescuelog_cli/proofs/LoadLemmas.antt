@@ -15,7 +15,7 @@ use Rattle.crash_site.specs.SiteState.{SiteState, files_in}
 use Rattle.save_resume.specs.Loading.{load_reads, IsReadSize, BeginsLoad, IsLoad}
 use Rattle.save_resume.specs.Resuming.{IsReadAs, IsOfFile, LoadEnded, StarvedInLoad, BrokeInLoad}
 use Rattle.save_resume.proofs.AnswerLemmas.{read_is_not_refused}
-use Rattle.work_steps.proofs.LoadLemmas.{ones_sum, one_is_piece, by_tells}
+use Rattle.work_rules.proofs.LoadLemmas.{ones_sum, one_is_piece, by_tells}
 use Rattle.ddrescuelog_cli.specs.declared.ending.Which.{Which}
 use Rattle.ddrescuelog_cli.specs.declared.ending.LogEnding.{LogEnding}
 use Rattle.ddrescuelog_cli.specs.declared.ending.LogEnding.TheVariants.{SiteFault, NoMemory}

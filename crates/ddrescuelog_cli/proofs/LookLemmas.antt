@@ -16,9 +16,9 @@ use Rattle.crash_site.specs.SiteState.{SiteState, files_in}
 use Rattle.crash_site.proofs.LawLemmas.{after-append}
 use Rattle.save_resume.specs.Loading.{piece_size}
 use Rattle.save_resume.specs.Named.{map_mode}
-use Rattle.work_steps.specs.Work.{Deeds, Works}
-use Rattle.log_command.specs.Command.{Command}
-use Rattle.work_steps.proofs.LoadLemmas.{by_tells}
+use Rattle.work_rules.specs.Work.{Deeds, Works}
+use Rattle.ddrescuelog_words.specs.Command.{Command}
+use Rattle.work_rules.proofs.LoadLemmas.{by_tells}
 use Rattle.ddrescuelog_cli.specs.declared.ending.Which.{Which}
 use Rattle.ddrescuelog_cli.specs.declared.ending.Which.TheVariants.{DomainMap, OtherMap}
 use Rattle.ddrescuelog_cli.specs.declared.ending.LogEnding.{LogEnding}

@@ -13,8 +13,8 @@ use Rattle.mapfile_text.proofs.OneFault.{map_has_no_fault}
 use Rattle.mapfile_text.proofs.MapOrFault.{is_map_or_has_fault}
 use Rattle.crash_site.specs.Files.{File}
 use Rattle.save_resume.specs.Named.{IsMapOf, map_mode}
-use Rattle.log_command.specs.Modes.{creates}
-use Rattle.log_command.specs.Command.{Command}
+use Rattle.ddrescuelog_words.specs.Modes.{creates}
+use Rattle.ddrescuelog_words.specs.Command.{Command}
 use Rattle.save_resume.proofs.NamedLemmas.{map_is_one}
 use Rattle.save_resume.proofs.AnswerLemmas.{not_there}
 use Rattle.ddrescuelog_cli.specs.Maps.{Found, Maps, IsShownBy, mapfile_mode, AreMapsOf, AreAskedFor}

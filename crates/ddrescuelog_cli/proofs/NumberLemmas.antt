@@ -12,7 +12,7 @@ use Rattle.map_algebra.proofs.ListedLemmas.{block_mono, one_from}
 use Rattle.map_algebra.proofs.ListingLemmas.{listings_go_on}
 use Rattle.rescue_console.specs.declared.console.ConsoleFault.{ConsoleFault}
 use Rattle.ddrescuelog_cli.specs.Printing.{Adds}
-use Rattle.log_command.specs.declared.options.LogOptions.{LogOptions}
+use Rattle.ddrescuelog_words.specs.declared.options.LogOptions.{LogOptions}
 use Rattle.ddrescuelog_cli.specs.declared.ending.LogEnding.{LogEnding}
 use Rattle.ddrescuelog_cli.specs.Maps.{output_from, shape_of}
 use Rattle.ddrescuelog_cli.specs.Printing.{PutsAs}

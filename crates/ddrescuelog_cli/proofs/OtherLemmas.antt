@@ -13,10 +13,10 @@ use Rattle.crash_site.proofs.AlongLemmas.{WentOn, broke_goes, made_goes}
 use Rattle.mapfile_text.specs.Pieces.{pieces_of}
 use Rattle.save_resume.specs.MapNames.{MapNames, names_of}
 use Rattle.save_resume.specs.Saving.{publish_calls, save_calls}
-use Rattle.log_command.specs.declared.mode.LogMode.{LogMode}
-use Rattle.log_command.specs.declared.mode.LogMode.TheVariants.{Create, Test}
-use Rattle.log_command.specs.Modes.{creates}
-use Rattle.log_command.specs.Command.{Command}
+use Rattle.ddrescuelog_words.specs.declared.mode.LogMode.{LogMode}
+use Rattle.ddrescuelog_words.specs.declared.mode.LogMode.TheVariants.{Create, Test}
+use Rattle.ddrescuelog_words.specs.Modes.{creates}
+use Rattle.ddrescuelog_words.specs.Command.{Command}
 use Rattle.save_resume.proofs.StageLemmas.{appended_draft}
 use Rattle.ddrescuelog_cli.specs.declared.ending.LogEnding.{LogEnding}
 use Rattle.ddrescuelog_cli.specs.Outside.{only_calls}

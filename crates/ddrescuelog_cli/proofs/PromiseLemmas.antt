@@ -12,10 +12,10 @@ use Rattle.program_promise.specs.WellMade.{IsWellMade}
 use Rattle.program_promise.specs.Promise.{IsDone, Nothing, Message, Says, Told}
 use Rattle.program_promise.proofs.GrammarLemmas.{IsRefusedBy, refused_by}
 use Rattle.program_promise.proofs.PromiseLemmas.{asked, keeps_promises}
-use Rattle.log_command.specs.declared.mode.LogMode.{LogMode}
-use Rattle.log_command.specs.declared.options.LogOptions.{LogOptions}
-use Rattle.log_command.specs.Options.{options_in}
-use Rattle.log_command.specs.Command.{Command, IsAsked, is_too_long, modes_given, command_by, command_in, size_word, unless_too_long, with_mode, with_operand}
+use Rattle.ddrescuelog_words.specs.declared.mode.LogMode.{LogMode}
+use Rattle.ddrescuelog_words.specs.declared.options.LogOptions.{LogOptions}
+use Rattle.ddrescuelog_words.specs.Options.{options_in}
+use Rattle.ddrescuelog_words.specs.Command.{Command, IsAsked, is_too_long, modes_given, command_by, command_in, size_word, unless_too_long, with_mode, with_operand}
 use Rattle.save_resume.proofs.FillLemmas.{keeps_self}
 use Rattle.ddrescuelog_cli.specs.declared.ending.LogEnding.{LogEnding}
 use Rattle.ddrescuelog_cli.specs.declared.ending.LogEnding.TheVariants.{Usage, NoMemory}

@@ -10,8 +10,8 @@ use Rattle.crash_site.specs.Folder.{Folder, after, after_entry}
 use Rattle.crash_site.specs.SiteState.{SiteState, files_in}
 use Rattle.crash_site.proofs.LawLemmas.{after-append}
 use Rattle.rescue_rules.specs.Work.{is_map_read, AreMapReads}
-use Rattle.work_steps.specs.Work.{Deeds, WorkStep, Take, Look, Open, Make, Read, Works, with_calls}
-use Rattle.work_steps.proofs.FrontLemmas.{IsMapRead, load_reads}
+use Rattle.work_rules.specs.Work.{Deeds, WorkStep, Take, Look, Open, Make, Read, Works, with_calls}
+use Rattle.work_rules.proofs.FrontLemmas.{IsMapRead, load_reads}
 use Rattle.ddrescuelog_cli.specs.declared.ending.LogEnding.{LogEnding}
 use Rattle.ddrescuelog_cli.specs.Outside.{only_calls}
 use Rattle.ddrescuelog_cli.specs.Work.{log_faults}

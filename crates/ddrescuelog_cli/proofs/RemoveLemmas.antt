@@ -11,10 +11,10 @@ use Rattle.crash_site.specs.Calls.{Entry, Done as Returned, map_remove, map_sett
 use Rattle.crash_site.specs.CallsMade.{Lost, BrokeAt}
 use Rattle.crash_site.specs.SiteState.{SiteState}
 use Rattle.save_resume.specs.Saving.{IsNameIn}
-use Rattle.work_steps.specs.Work.{Deeds}
-use Rattle.log_command.specs.declared.mode.LogMode.TheVariants.{Test}
-use Rattle.log_command.specs.Command.{Command}
-use Rattle.work_steps.proofs.LoadLemmas.{by_tells}
+use Rattle.work_rules.specs.Work.{Deeds}
+use Rattle.ddrescuelog_words.specs.declared.mode.LogMode.TheVariants.{Test}
+use Rattle.ddrescuelog_words.specs.Command.{Command}
+use Rattle.work_rules.proofs.LoadLemmas.{by_tells}
 use Rattle.ddrescuelog_cli.specs.declared.ending.LogEnding.{LogEnding}
 use Rattle.ddrescuelog_cli.specs.declared.ending.LogEnding.TheVariants.{Done, SiteFault}
 use Rattle.ddrescuelog_cli.specs.declared.load.LoadedMaps.{LoadedMaps}

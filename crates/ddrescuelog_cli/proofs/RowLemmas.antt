@@ -1,8 +1,8 @@
 -- Work that stopped in some rows, or went through them, in front of others.
 use Rattle.std.proofs.Common.{List, [], ◌∷◌, ◌++◌, map, Some, None, sym, inl, inr, subst}
 use Rattle.crash_site.specs.Calls.{Entry, Done as Returned}
-use Rattle.work_steps.specs.Work.{Deeds, WorkStep, Take, Look, Open, Make, Read, Works}
-use Rattle.work_steps.proofs.PartLemmas.{grown}
+use Rattle.work_rules.specs.Work.{Deeds, WorkStep, Take, Look, Open, Make, Read, Works}
+use Rattle.work_rules.proofs.PartLemmas.{grown}
 use Rattle.ddrescuelog_cli.specs.declared.ending.LogEnding.{LogEnding}
 use Rattle.ddrescuelog_cli.specs.Outside.{only_calls}
 use Rattle.ddrescuelog_cli.specs.Work.{log_faults}

@@ -10,13 +10,13 @@ use Rattle.mapfile_text.specs.MapText.{text_limit}
 use Rattle.mapfile_text.proofs.MapOrFault.{is_map_or_has_fault}
 use Rattle.crash_site.specs.Files.{File}
 use Rattle.save_resume.specs.Named.{IsMapOf, map_mode}
-use Rattle.work_steps.specs.Work.{Deeds, with_calls, WorkStep, Take, Look, Open, Make, Read, Works}
-use Rattle.work_steps.specs.Verdicts.{RefuseNothing}
-use Rattle.work_steps.proofs.VerdictLemmas.{one_verdict}
-use Rattle.log_command.specs.declared.mode.LogMode.{LogMode}
-use Rattle.log_command.specs.declared.mode.LogMode.TheVariants.{Create}
-use Rattle.log_command.specs.Modes.{creates}
-use Rattle.log_command.specs.Command.{Command}
+use Rattle.work_rules.specs.Work.{Deeds, with_calls, WorkStep, Take, Look, Open, Make, Read, Works}
+use Rattle.work_rules.specs.Verdicts.{RefuseNothing}
+use Rattle.work_rules.proofs.VerdictLemmas.{one_verdict}
+use Rattle.ddrescuelog_words.specs.declared.mode.LogMode.{LogMode}
+use Rattle.ddrescuelog_words.specs.declared.mode.LogMode.TheVariants.{Create}
+use Rattle.ddrescuelog_words.specs.Modes.{creates}
+use Rattle.ddrescuelog_words.specs.Command.{Command}
 use Rattle.ddrescuelog_cli.specs.declared.ending.Which.{Which}
 use Rattle.ddrescuelog_cli.specs.declared.ending.Which.TheVariants.{DomainMap, RunMap, OtherMap}
 use Rattle.ddrescuelog_cli.specs.declared.ending.LogEnding.{LogEnding}

@@ -24,15 +24,15 @@ use Rattle.save_resume.specs.Saving.{save_calls, drafting_after_fault, Saves}
 use Rattle.save_resume.specs.SaveStops.{disk_of, text_file, IsOldOrNew, Old, New, IsSaved}
 use Rattle.save_resume.proofs.StopLemmas.{stops_in_save, saved_where_ok}
 use Rattle.rescue_rules.proofs.BeforeLemmas.{or_found}
-use Rattle.work_steps.specs.Work.{IsIdle}
-use Rattle.log_command.specs.declared.mode.LogMode.{LogMode}
-use Rattle.log_command.specs.declared.mode.LogMode.TheVariants.{Change, Combine, Complete, ListBlocks, Create, Test, Compare, Summarize}
-use Rattle.log_command.specs.Modes.{creates}
-use Rattle.log_command.specs.Command.{Command}
+use Rattle.work_rules.specs.Work.{IsIdle}
+use Rattle.ddrescuelog_words.specs.declared.mode.LogMode.{LogMode}
+use Rattle.ddrescuelog_words.specs.declared.mode.LogMode.TheVariants.{Change, Combine, Complete, ListBlocks, Create, Test, Compare, Summarize}
+use Rattle.ddrescuelog_words.specs.Modes.{creates}
+use Rattle.ddrescuelog_words.specs.Command.{Command}
 use Rattle.map_algebra.specs.Compare.{IsDoneIn}
 use Rattle.map_algebra.specs.Numbers.{numbers_in}
 use Rattle.save_resume.proofs.NameLemmas.{apart_draft}
-use Rattle.work_steps.proofs.GainLemmas.{broke_behind, broke_named}
+use Rattle.work_rules.proofs.GainLemmas.{broke_behind, broke_named}
 use Rattle.ddrescuelog_cli.specs.declared.ending.LogEnding.{LogEnding}
 use Rattle.ddrescuelog_cli.specs.declared.ending.LogEnding.TheVariants.{Done, NotDone, ListTooLong}
 use Rattle.ddrescuelog_cli.specs.Outside.{only_calls}

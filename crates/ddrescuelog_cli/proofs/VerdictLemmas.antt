@@ -7,15 +7,15 @@ use Rattle.mapfile_text.specs.declared.read.Mode.TheVariants.{Tight}
 use Rattle.crash_site.specs.Files.{File}
 use Rattle.save_resume.specs.Named.{map_mode}
 use Rattle.save_resume.proofs.AnswerLemmas.{refused_for_one}
-use Rattle.work_steps.specs.Work.{Deeds, Take, Look, Make, Works}
-use Rattle.work_steps.specs.Verdicts.{IsOnce, RefuseOnce, AreVerdicts}
-use Rattle.work_steps.proofs.VerdictLemmas.{one_verdict}
-use Rattle.log_command.specs.declared.mode.LogMode.{LogMode}
-use Rattle.log_command.specs.declared.mode.LogMode.TheVariants.{Create, Test, Compare}
+use Rattle.work_rules.specs.Work.{Deeds, Take, Look, Make, Works}
+use Rattle.work_rules.specs.Verdicts.{IsOnce, RefuseOnce, AreVerdicts}
+use Rattle.work_rules.proofs.VerdictLemmas.{one_verdict}
+use Rattle.ddrescuelog_words.specs.declared.mode.LogMode.{LogMode}
+use Rattle.ddrescuelog_words.specs.declared.mode.LogMode.TheVariants.{Create, Test, Compare}
 use Rattle.map_algebra.specs.Numbers.{numbers_in}
-use Rattle.log_command.specs.declared.options.LogOptions.{LogOptions}
-use Rattle.log_command.specs.Modes.{creates}
-use Rattle.log_command.specs.Command.{Command}
+use Rattle.ddrescuelog_words.specs.declared.options.LogOptions.{LogOptions}
+use Rattle.ddrescuelog_words.specs.Modes.{creates}
+use Rattle.ddrescuelog_words.specs.Command.{Command}
 use Rattle.ddrescuelog_cli.specs.declared.ending.Which.{Which}
 use Rattle.ddrescuelog_cli.specs.declared.ending.Which.TheVariants.{DomainMap, RunMap, OtherMap}
 use Rattle.ddrescuelog_cli.specs.declared.ending.LogEnding.{LogEnding}

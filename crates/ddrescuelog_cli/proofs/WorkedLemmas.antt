@@ -7,12 +7,12 @@ use Rattle.rescue_console.specs.FeedState.{FeedState}
 use Rattle.rescue_console.specs.ConsoleState.{ConsoleState}
 use Rattle.mapfile_text.specs.declared.heading.Program.TheVariants.{Ddrescuelog}
 use Rattle.mapfile_text.specs.HeadingLines.{HeadingLines}
-use Rattle.work_steps.specs.Work.{IsOnlyCalls, Take}
+use Rattle.work_rules.specs.Work.{IsOnlyCalls, Take}
 use Rattle.program_promise.specs.World.{WorldState}
 use Rattle.program_promise.specs.Program.{line_by}
 use Rattle.program_promise.specs.Promise.{DoneFor}
-use Rattle.log_command.specs.Modes.{creates}
-use Rattle.log_command.specs.Command.{Command}
+use Rattle.ddrescuelog_words.specs.Modes.{creates}
+use Rattle.ddrescuelog_words.specs.Command.{Command}
 use Rattle.save_resume.proofs.FillLemmas.{keeps_self}
 use Rattle.ddrescuelog_cli.specs.declared.load.LoadedMaps.{LoadedMaps}
 use Rattle.ddrescuelog_cli.specs.declared.ending.LogEnding.{LogEnding}

@@ -14,9 +14,9 @@ use Rattle.save_resume.specs.Named.{map_mode}
 use Rattle.save_resume.specs.Saving.{save_calls}
 use Rattle.map_algebra.specs.Create.{created_map}
 use Rattle.map_algebra.specs.Numbers.{list_limit, numbers_in}
-use Rattle.work_steps.specs.Work.{Make, Works}
-use Rattle.log_command.specs.declared.options.LogOptions.{LogOptions}
-use Rattle.log_command.specs.Command.{Command}
+use Rattle.work_rules.specs.Work.{Make, Works}
+use Rattle.ddrescuelog_words.specs.declared.options.LogOptions.{LogOptions}
+use Rattle.ddrescuelog_words.specs.Command.{Command}
 use Rattle.ddrescuelog_cli.specs.declared.ending.LogEnding.{LogEnding}
 use Rattle.ddrescuelog_cli.specs.declared.ending.LogEnding.TheVariants.{Done, Exists, ListTooLong, FeedFault, NoMemory}
 use Rattle.ddrescuelog_cli.specs.Maps.{Found, Maps, found_in, AreMapsOf, AreAskedFor, shape_of}

@@ -7,15 +7,15 @@ use Rattle.mapfile_text.specs.declared.read.Mode.TheVariants.{Tight}
 use Rattle.crash_site.specs.SiteState.{files_in}
 use Rattle.save_resume.specs.SaveStops.{text_file}
 use Rattle.map_algebra.specs.Create.{created_map}
-use Rattle.work_steps.specs.Work.{Deeds, WorkStep}
-use Rattle.work_steps.specs.Verdicts.{RefuseNothing}
+use Rattle.work_rules.specs.Work.{Deeds, WorkStep}
+use Rattle.work_rules.specs.Verdicts.{RefuseNothing}
 use Rattle.program_promise.specs.Kinds.{Kind, Asked, Brought, Wrong, Failed, Starved}
 use Rattle.program_promise.specs.Program.{line_by}
 use Rattle.program_promise.specs.Promise.{Told}
 use Rattle.program_promise.specs.WellMade.{IsVerdict as IsVerdictOf}
 use Rattle.program_promise.specs.Laws.{KeepsPromises, NothingFailed}
-use Rattle.log_command.specs.Modes.{creates}
-use Rattle.log_command.specs.Command.{Command, Asks}
+use Rattle.ddrescuelog_words.specs.Modes.{creates}
+use Rattle.ddrescuelog_words.specs.Command.{Command, Asks}
 use Rattle.ddrescuelog_cli.specs.declared.ending.LogEnding.{LogEnding}
 use Rattle.ddrescuelog_cli.specs.declared.ending.LogEnding.TheVariants.{Done, NoMemory}
 use Rattle.ddrescuelog_cli.specs.Maps.{Found, Maps, AreMapsOf, AreAskedFor, IsShownBy, shape_of, domain_below}

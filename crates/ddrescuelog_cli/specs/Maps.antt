@@ -9,11 +9,11 @@ use Rattle.crash_site.specs.Files.{File}
 use Rattle.save_resume.specs.Named.{IsMapOf, map_mode}
 use Rattle.rescue_domain.specs.Domain.{whole_domain, in_map}
 use Rattle.map_algebra.specs.declared.shape.Shape.{Shape}
-use Rattle.log_command.specs.declared.mode.LogMode.{LogMode}
-use Rattle.log_command.specs.declared.mode.LogMode.TheVariants.{Change, Combine, Complete, ListBlocks, Create, Test, Compare, Summarize}
-use Rattle.log_command.specs.declared.options.LogOptions.{LogOptions}
-use Rattle.log_command.specs.Modes.{creates}
-use Rattle.log_command.specs.Command.{Command}
+use Rattle.ddrescuelog_words.specs.declared.mode.LogMode.{LogMode}
+use Rattle.ddrescuelog_words.specs.declared.mode.LogMode.TheVariants.{Change, Combine, Complete, ListBlocks, Create, Test, Compare, Summarize}
+use Rattle.ddrescuelog_words.specs.declared.options.LogOptions.{LogOptions}
+use Rattle.ddrescuelog_words.specs.Modes.{creates}
+use Rattle.ddrescuelog_words.specs.Command.{Command}
 
 -- The files that steps of the work found, each by its own name; none where no name is given.
 pub record Found : Type 0 where

@@ -1,7 +1,7 @@
 -- What kinds of modes there are.
 use Rattle.std.specs.Prelude.{Bool, true, false}
-use Rattle.log_command.specs.declared.mode.LogMode.{LogMode}
-use Rattle.log_command.specs.declared.mode.LogMode.TheVariants.{Change, Combine, Complete, ListBlocks, Create, Test, Compare, Summarize}
+use Rattle.ddrescuelog_words.specs.declared.mode.LogMode.{LogMode}
+use Rattle.ddrescuelog_words.specs.declared.mode.LogMode.TheVariants.{Change, Combine, Complete, ListBlocks, Create, Test, Compare, Summarize}
 
 -- it tests whether a map is done
 abbrev pub tests : LogMode → Bool

@@ -2,9 +2,9 @@
 use Rattle.std.specs.Prelude.{◌≡◌, ℕ, IsTrue, List, [], ◌++◌}
 use Rattle.crash_site.specs.Calls.{Entry}
 use Rattle.crash_site.specs.SiteState.{files_in}
-use Rattle.work_steps.specs.Work.{Deeds, IsOnlyCalls}
+use Rattle.work_rules.specs.Work.{Deeds, IsOnlyCalls}
 use Rattle.program_promise.specs.World.{WorldState}
-use Rattle.log_command.specs.Command.{Command}
+use Rattle.ddrescuelog_words.specs.Command.{Command}
 use Rattle.ddrescuelog_cli.specs.Maps.{Found, Maps, found_in, AreMapsOf, AreAskedFor}
 
 -- The command line, which a saved map shows, the list that the feed gives, the files of the steps, and the maps by

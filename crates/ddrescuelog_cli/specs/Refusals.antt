@@ -8,8 +8,8 @@ use Rattle.option_words.specs.declared.fault.UsageFault.TheVariants.{PlaceTooLar
 use Rattle.rescue_domain.specs.Domain.{whole_domain}
 use Rattle.rescue_domain.specs.Places.{IsAnyBeyond}
 use Rattle.map_algebra.specs.Numbers.{list_limit, numbers_in}
-use Rattle.log_command.specs.declared.options.LogOptions.{LogOptions}
-use Rattle.log_command.specs.Command.{Command}
+use Rattle.ddrescuelog_words.specs.declared.options.LogOptions.{LogOptions}
+use Rattle.ddrescuelog_words.specs.Command.{Command}
 use Rattle.ddrescuelog_cli.specs.declared.ending.Which.{Which}
 use Rattle.ddrescuelog_cli.specs.declared.ending.LogEnding.{LogEnding}
 use Rattle.ddrescuelog_cli.specs.declared.ending.LogEnding.TheVariants.{Usage, Exists, NoMap, MapRefused, BadNumber, ListTooLong}

@@ -17,10 +17,10 @@ use Rattle.map_algebra.specs.Listing.{Wanted, listed}
 use Rattle.map_algebra.specs.Blocks.{IsEndOfBlocks}
 use Rattle.map_algebra.specs.Create.{created_map}
 use Rattle.map_algebra.specs.Summary.{summary_of}
-use Rattle.log_command.specs.declared.mode.LogMode.{LogMode}
-use Rattle.log_command.specs.declared.mode.LogMode.TheVariants.{Change, Combine, Complete, ListBlocks, Create, Test, Compare, Summarize}
-use Rattle.log_command.specs.declared.options.LogOptions.{LogOptions}
-use Rattle.log_command.specs.Command.{Command}
+use Rattle.ddrescuelog_words.specs.declared.mode.LogMode.{LogMode}
+use Rattle.ddrescuelog_words.specs.declared.mode.LogMode.TheVariants.{Change, Combine, Complete, ListBlocks, Create, Test, Compare, Summarize}
+use Rattle.ddrescuelog_words.specs.declared.options.LogOptions.{LogOptions}
+use Rattle.ddrescuelog_words.specs.Command.{Command}
 use Rattle.ddrescuelog_cli.specs.declared.ending.LogEnding.{LogEnding}
 use Rattle.ddrescuelog_cli.specs.declared.ending.LogEnding.TheVariants.{Done, NotDone, Differ}
 use Rattle.ddrescuelog_cli.specs.Maps.{Maps, shape_of, domain_below, domain_of}

@@ -18,8 +18,8 @@ use Rattle.crash_site.specs.SiteState.{SiteState, files_in}
 use Rattle.save_resume.specs.Loading.{IsLoad}
 use Rattle.save_resume.specs.Named.{IsMapOf}
 use Rattle.save_resume.specs.Resuming.{IsReadAs}
-use Rattle.work_steps.specs.Work.{WorkStep, Take, Look, Open, Make, Read, Works}
-use Rattle.log_command.specs.Command.{Command}
+use Rattle.work_rules.specs.Work.{WorkStep, Take, Look, Open, Make, Read, Works}
+use Rattle.ddrescuelog_words.specs.Command.{Command}
 use Rattle.ddrescuelog_cli.specs.declared.ending.Which.{Which}
 use Rattle.ddrescuelog_cli.specs.declared.load.LoadedMaps.{LoadedMaps}
 use Rattle.ddrescuelog_cli.specs.declared.ending.LogEnding.{LogEnding}

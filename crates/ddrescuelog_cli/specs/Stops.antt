@@ -9,10 +9,10 @@ use Rattle.save_resume.specs.SaveStops.{disk_of, text_file}
 use Rattle.map_algebra.specs.Compare.{IsDoneIn}
 use Rattle.map_algebra.specs.Numbers.{numbers_in}
 use Rattle.program_promise.specs.Kinds.{AtCall, Failed}
-use Rattle.log_command.specs.declared.mode.LogMode.{LogMode}
-use Rattle.log_command.specs.declared.mode.LogMode.TheVariants.{Change, Combine, Complete, ListBlocks, Create, Test, Compare, Summarize}
-use Rattle.log_command.specs.Modes.{creates}
-use Rattle.log_command.specs.Command.{Command}
+use Rattle.ddrescuelog_words.specs.declared.mode.LogMode.{LogMode}
+use Rattle.ddrescuelog_words.specs.declared.mode.LogMode.TheVariants.{Change, Combine, Complete, ListBlocks, Create, Test, Compare, Summarize}
+use Rattle.ddrescuelog_words.specs.Modes.{creates}
+use Rattle.ddrescuelog_words.specs.Command.{Command}
 use Rattle.ddrescuelog_cli.specs.declared.ending.LogEnding.{LogEnding}
 use Rattle.ddrescuelog_cli.specs.declared.ending.LogEnding.TheVariants.{Done}
 use Rattle.ddrescuelog_cli.specs.Maps.{Maps, shape_of, domain_of}

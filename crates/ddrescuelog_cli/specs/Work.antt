@@ -17,11 +17,11 @@ use Rattle.save_resume.specs.Named.{map_mode}
 use Rattle.save_resume.specs.Saving.{save_calls}
 use Rattle.map_algebra.specs.Compare.{IsOpenIn}
 use Rattle.map_algebra.specs.Numbers.{numbers_in}
-use Rattle.work_steps.specs.Work.{Deeds, IsIdle, IsOnlyCalls, with_calls, Faults, WorkStep, Take, Look, Make, Read, Works}
-use Rattle.log_command.specs.declared.mode.LogMode.{LogMode}
-use Rattle.log_command.specs.declared.mode.LogMode.TheVariants.{Change, Combine, Complete, ListBlocks, Create, Test, Compare, Summarize}
-use Rattle.log_command.specs.Modes.{creates}
-use Rattle.log_command.specs.Command.{Command}
+use Rattle.work_rules.specs.Work.{Deeds, IsIdle, IsOnlyCalls, with_calls, Faults, WorkStep, Take, Look, Make, Read, Works}
+use Rattle.ddrescuelog_words.specs.declared.mode.LogMode.{LogMode}
+use Rattle.ddrescuelog_words.specs.declared.mode.LogMode.TheVariants.{Change, Combine, Complete, ListBlocks, Create, Test, Compare, Summarize}
+use Rattle.ddrescuelog_words.specs.Modes.{creates}
+use Rattle.ddrescuelog_words.specs.Command.{Command}
 use Rattle.ddrescuelog_cli.specs.declared.ending.Which.{Which}
 use Rattle.ddrescuelog_cli.specs.declared.ending.Which.TheVariants.{DomainMap, RunMap, OtherMap}
 use Rattle.ddrescuelog_cli.specs.declared.ending.LogEnding.{LogEnding}

@@ -3,7 +3,7 @@ use Rattle.std.specs.Prelude.{◌≡◌, ℕ, Bool, List}
 use Rattle.crash_site.specs.Calls.{Entry}
 use Rattle.rescue_console.specs.FeedState.{FeedState, Keeps as FeedKeeps}
 use Rattle.program_promise.specs.World.{WorldState}
-use Rattle.log_command.specs.Command.{Command}
+use Rattle.ddrescuelog_words.specs.Command.{Command}
 use Rattle.ddrescuelog_cli.specs.declared.ending.LogEnding.{LogEnding}
 use Rattle.ddrescuelog_cli.specs.Modes.{prints}
 use Rattle.ddrescuelog_cli.specs.Results.{text_of}

@@ -5,8 +5,8 @@ ghost use Rattle.rescue_console.specs.FeedState.{FeedState};
 ghost use Rattle.option_words.specs.declared.fault.UsageFault.{UsageFault as Fault};
 ghost use Rattle.option_words.specs.Words.{command_line};
 ghost use Rattle.program_promise.specs.Promise.{told};
-ghost use Rattle.log_command.specs.Modes.{creates};
-ghost use Rattle.log_command.specs.Command.{AreInLimits, AreRefused, told_by};
+ghost use Rattle.ddrescuelog_words.specs.Modes.{creates};
+ghost use Rattle.ddrescuelog_words.specs.Command.{AreInLimits, AreRefused, told_by};
 ghost use Rattle.ddrescuelog_cli.specs.Modes.{removes_map};
 ghost use Rattle.ddrescuelog_cli.specs.Names.{program_name};
 ghost use Rattle.ddrescuelog_cli.specs.Behind.{SiteBehind};
@@ -21,8 +21,8 @@ use crate::message::PROGRAM;
 use crate::remove::remove_done;
 use block_list::tiles::NoMemory;
 use crash_site::site::Site;
-use log_command::command::{Command, read_command};
-use log_command::mode::LogMode;
+use ddrescuelog_words::command::{Command, read_command};
+use ddrescuelog_words::mode::LogMode;
 use mapfile_text::heading::{Heading, Program};
 use option_values::command_error::CommandError;
 use option_words::words::Words;
@@ -125,7 +125,7 @@ fn work<D: Site, I: Feed, P: Console>(
 }
 
 /// Reads, compares, prints, makes or removes mapfiles: `[options] mapfile`, with one mode among the options, which are
-/// those of `log_command::options`. Unless the answer is what was asked, one message says why, on the console's second
+/// those of `ddrescuelog_words::options`. Unless the answer is what was asked, one message says why, on the console's second
 /// channel.
 ///
 /// The refusals come in this order: words that ask for nothing; the mapfile, which is absent or no map, or, where one

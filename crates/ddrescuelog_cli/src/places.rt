@@ -2,7 +2,7 @@
 ghost use Rattle.std.specs.Prelude.{◌≡◌};
 ghost use Rattle.ddrescuelog_cli.specs.Maps.{output_from, shape_of};
 
-use log_command::options::LogOptions;
+use ddrescuelog_words::options::LogOptions;
 use map_algebra::shape::Shape;
 
 /// Where what is looked at begins in the output.

@@ -2,7 +2,7 @@
 ghost use Rattle.std.specs.Prelude.{◌≡◌, true};
 ghost use Rattle.rescue_domain.specs.Parts.{covers};
 ghost use Rattle.map_algebra.specs.At.{IsWithinMap};
-ghost use Rattle.log_command.specs.Command.{told_by};
+ghost use Rattle.ddrescuelog_words.specs.Command.{told_by};
 ghost use Rattle.ddrescuelog_cli.specs.Maps.{Maps};
 ghost use Rattle.ddrescuelog_cli.specs.Steps.{IsLoadedAs};
 ghost use Rattle.ddrescuelog_cli.specs.Behind.{SiteBehind};
@@ -11,8 +11,8 @@ ghost use Rattle.ddrescuelog_cli.specs.Removing.{RemovesDone};
 use crate::ending::LogEnding;
 use crate::load::LoadedMaps;
 use crash_site::site::{Site, SiteCall};
-use log_command::command::Command;
-use log_command::mode::LogMode;
+use ddrescuelog_words::command::Command;
+use ddrescuelog_words::mode::LogMode;
 use map_algebra::compare::is_done;
 
 /// Removes the mapfile and settles that, if each position that is looked at is finished.

@@ -11,7 +11,7 @@ use Rattle.faulty_source.specs.SourceChanges.{AnswersOpen, PlansOpen, Stays}
 use Rattle.faulty_source.proofs.Keeping.{keeps_more, keeps_self}
 use Rattle.rescue_console.specs.declared.console.Channel.TheVariants.{Out}
 use Rattle.rescue_console.specs.ConsoleState.{ConsoleState, Puts, PutsPart}
-use Rattle.work_steps.specs.Work.{Deeds, Opened, Unopened}
+use Rattle.work_rules.specs.Work.{Deeds, Opened, Unopened}
 use Rattle.program_promise.specs.World.{WorldState}
 use Rattle.program_promise.specs.Printing.{PutsText}
 use Rattle.program_promise.specs.Program.{line_by}

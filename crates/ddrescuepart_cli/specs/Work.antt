@@ -1,7 +1,7 @@
 -- The work of `ddrescuepart`: memory is taken, the input is opened, and then records are read.
 use Rattle.std.specs.Prelude.{◌≡◌, ℕ, ◌≤◌, IsTrue, true, List, [], ◌∷◌, ◌++◌, length, All, is_some, Option, Some, None}
 use Rattle.faulty_source.specs.SourceState.{SourceState}
-use Rattle.work_steps.specs.Work.{Deeds, Faults, WorkStep, Take, Open, Works}
+use Rattle.work_rules.specs.Work.{Deeds, Faults, WorkStep, Take, Open, Works}
 use Rattle.program_promise.specs.Opens.{AreOpens}
 use Rattle.partition_domain.specs.declared.table.Partition.{Partition}
 use Rattle.partition_domain.specs.Part.{next, partition_of}

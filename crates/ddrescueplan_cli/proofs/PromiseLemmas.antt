@@ -11,9 +11,9 @@ use Rattle.option_words.specs.declared.fault.UsageFault.{UsageFault}
 use Rattle.option_words.specs.declared.fault.UsageFault.TheVariants.{BadValue}
 use Rattle.option_words.specs.declared.reading.Item.{Item}
 use Rattle.option_values.specs.Values.{is_empty_text}
-use Rattle.rescue_command.specs.Asking.{is_too_large}
-use Rattle.work_steps.specs.Work.{Deeds}
-use Rattle.work_steps.specs.Verdicts.{IsOnce}
+use Rattle.ddrescue_words.specs.Asking.{is_too_large}
+use Rattle.work_rules.specs.Work.{Deeds}
+use Rattle.work_rules.specs.Verdicts.{IsOnce}
 use Rattle.program_promise.specs.World.{WorldState}
 use Rattle.program_promise.specs.Kinds.{IsWorkKind}
 use Rattle.program_promise.specs.WordFaults.{IsPlainFault}

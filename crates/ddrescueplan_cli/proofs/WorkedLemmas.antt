@@ -17,9 +17,9 @@ use Rattle.save_resume.proofs.AnswerLemmas.{read_is_not_refused}
 use Rattle.rescue_console.specs.ConsoleState.{ConsoleState}
 use Rattle.rescue_sample.specs.Line.{IsStill}
 use Rattle.rescue_rules.specs.Moves.{IsMove}
-use Rattle.work_steps.specs.Work.{IsIdle}
-use Rattle.work_steps.specs.Parts.{only_calls}
-use Rattle.work_steps.proofs.LoadLemmas.{broke_off, ended, ran_out}
+use Rattle.work_rules.specs.Work.{IsIdle}
+use Rattle.work_rules.specs.Parts.{only_calls}
+use Rattle.work_rules.proofs.LoadLemmas.{broke_off, ended, ran_out}
 use Rattle.program_promise.specs.World.{WorldState}
 use Rattle.program_promise.specs.Causes.{Changed, changes_of}
 use Rattle.program_promise.specs.Promise.{DoneFor}

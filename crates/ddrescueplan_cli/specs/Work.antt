@@ -9,7 +9,7 @@ use Rattle.crash_site.specs.SiteState.{SiteState, files_in}
 use Rattle.save_resume.specs.Loading.{BeginsLoad, IsLoad}
 use Rattle.save_resume.specs.Resuming.{IsReadAs, IsRefusedFor}
 use Rattle.rescue_console.specs.ConsoleState.{ConsoleState}
-use Rattle.work_steps.specs.Work.{Deeds, IsIdle, Faults, WorkStep, Take, Look, Read, Works}
+use Rattle.work_rules.specs.Work.{Deeds, IsIdle, Faults, WorkStep, Take, Look, Read, Works}
 use Rattle.program_promise.specs.World.{WorldState}
 use Rattle.program_promise.specs.Printing.{PutsByKind}
 use Rattle.plan_source.specs.declared.loss.PlanLoss.TheVariants.{Memory, Console}

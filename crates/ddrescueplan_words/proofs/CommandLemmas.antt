@@ -9,11 +9,11 @@ use Rattle.option_words.specs.Reading.{IsReading}
 use Rattle.option_values.specs.Values.{is_empty_text, size_by}
 use Rattle.option_values.proofs.MeaningLemmas.{reading_asks as asked_only}
 use Rattle.option_values.proofs.ValueLemmas.{in_range}
-use Rattle.rescue_command.specs.declared.options.Options.{Options}
-use Rattle.rescue_command.specs.Options.{cluster_limit, cluster_of}
-use Rattle.rescue_command.specs.Asking.{AreInLimits as AreRescueLimits, is_too_large}
-use Rattle.rescue_command.proofs.OptionLemmas.{AreInRange}
-use Rattle.rescue_command.proofs.CommandLemmas.{some_sectors, not_above}
+use Rattle.ddrescue_words.specs.declared.options.Options.{Options}
+use Rattle.ddrescue_words.specs.Options.{cluster_limit, cluster_of}
+use Rattle.ddrescue_words.specs.Asking.{AreInLimits as AreRescueLimits, is_too_large}
+use Rattle.ddrescue_words.proofs.OptionLemmas.{AreInRange}
+use Rattle.ddrescue_words.proofs.CommandLemmas.{some_sectors, not_above}
 use Rattle.ddrescueplan_words.specs.declared.options.PlanOptions.{PlanOptions}
 use Rattle.ddrescueplan_words.specs.Options.{options_in}
 use Rattle.ddrescueplan_words.specs.Command.{Command, AreInLimits, AreOptions, IsAsked, cluster_word, command_with, command_by, command_in, length_by, length_limit, with_length, plan_grammar}

@@ -9,10 +9,10 @@ use Rattle.option_values.proofs.RowLemmas.{EachRow, letter_given, row_passes}
 use Rattle.option_values.proofs.TurnLemmas.{IsSector, sector_in_turn, turn_parts, default_is}
 use Rattle.option_values.proofs.ValueLemmas.{in_range, map_part, or_part, size_by_below, then_part}
 use Rattle.option_values.proofs.QuietLemmas.{or_false, or_true}
-use Rattle.rescue_command.specs.declared.options.Options.{Options}
-use Rattle.rescue_command.specs.Options.{skips_of, option_rows as rescue_rows, no_options as no_rescue_options}
-use Rattle.rescue_command.proofs.SkipLemmas.{AreSkips, skips_of_are}
-use Rattle.rescue_command.proofs.OptionLemmas.{AreInRange, within_count, default_fits}
+use Rattle.ddrescue_words.specs.declared.options.Options.{Options}
+use Rattle.ddrescue_words.specs.Options.{skips_of, option_rows as rescue_rows, no_options as no_rescue_options}
+use Rattle.ddrescue_words.proofs.SkipLemmas.{AreSkips, skips_of_are}
+use Rattle.ddrescue_words.proofs.OptionLemmas.{AreInRange, within_count, default_fits}
 use Rattle.ddrescueplan_words.specs.declared.options.PlanOptions.{PlanOptions}
 use Rattle.ddrescueplan_words.specs.Options.{of_rescue, no_options, rescue_places, option_meanings, option_rows, options_in, quiet_letter, sector_letter}
 use Rattle.ddrescueplan_words.specs.Command.{ArePlain}

@@ -9,8 +9,8 @@ use Rattle.option_words.specs.declared.fault.UsageFault.TheVariants.{BadValue, O
 use Rattle.option_values.specs.declared.command_error.CommandError.{CommandError}
 use Rattle.option_values.specs.Values.{is_empty_text, last_of, size_by, within_range, word_in}
 use Rattle.option_values.specs.Grammar.{Grammar, AreOptionsOf, AskFor, AreRefusedBy, AskSilence, IsErrorBy}
-use Rattle.rescue_command.specs.declared.options.Options.{Options}
-use Rattle.rescue_command.specs.Asking.{is_too_large, AreInLimits as AreRescueLimits}
+use Rattle.ddrescue_words.specs.declared.options.Options.{Options}
+use Rattle.ddrescue_words.specs.Asking.{is_too_large, AreInLimits as AreRescueLimits}
 use Rattle.ddrescueplan_words.specs.declared.options.PlanOptions.{PlanOptions}
 use Rattle.ddrescueplan_words.specs.declared.command.Command.{Command as CommandCode}
 use Rattle.ddrescueplan_words.specs.Options.{cluster_letter, option_meanings, options_in, quiet_letter}

@@ -3,10 +3,10 @@ ghost use Rattle.std.specs.Prelude.{◌≡◌, slice_get, option_map};
 ghost use Rattle.ddrescueplan_words.specs.Options.{no_options, of_rescue, option_rows, rescue_places};
 ghost use Rattle.ddrescueplan_words.specs.Command.{AreOptions};
 
+use ddrescue_words::options::Options;
 use option_values::settings::Settings;
 use option_words::row::{Row, Takes};
 use option_words::table::OptionTable;
-use rescue_command::options::Options;
 
 /// The letter of the option that gives the size of a sector.
 pub(crate) const SECTOR_SIZE: char = 'b';

@@ -12,7 +12,7 @@ use Rattle.save_resume.specs.declared.named.NamedFault.TheVariants.{ReadFailed, 
 use Rattle.save_resume.specs.Named.{LoadsNamed, IsNamedAs, NamedCounts}
 use Rattle.save_resume.specs.Resuming.{IsReadAs, IsRefusedFor, IsOfFile, LoadEnded, StarvedInLoad, BrokeInLoad}
 use Rattle.save_resume.proofs.AnswerLemmas.{read_is_not_refused}
-use Rattle.work_steps.proofs.LoadLemmas.{Ended, ended, RanOut, ran_out, BrokeOff, broke_off, read_through, read_refused, read_broke, read_starved}
+use Rattle.work_rules.proofs.LoadLemmas.{Ended, ended, RanOut, ran_out, BrokeOff, broke_off, read_through, read_refused, read_broke, read_starved}
 use Rattle.ddrescueshow_cli.specs.declared.ending.Which.{Which}
 use Rattle.ddrescueshow_cli.specs.declared.ending.ShowEnding.{ShowEnding}
 use Rattle.ddrescueshow_cli.specs.declared.ending.ShowEnding.TheVariants.{NoMap, MapRefused, SiteFault, NoMemory}

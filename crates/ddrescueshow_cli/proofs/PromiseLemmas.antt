@@ -12,8 +12,8 @@ use Rattle.option_words.specs.declared.fault.UsageFault.{UsageFault}
 use Rattle.option_words.specs.declared.reading.Item.{Item}
 use Rattle.option_values.specs.Values.{empty_operand}
 use Rattle.option_values.specs.Grammar.{unless_empty}
-use Rattle.work_steps.specs.Work.{Deeds, Take, WorkStep, Works}
-use Rattle.work_steps.specs.Verdicts.{IsOnce}
+use Rattle.work_rules.specs.Work.{Deeds, Take, WorkStep, Works}
+use Rattle.work_rules.specs.Verdicts.{IsOnce}
 use Rattle.program_promise.specs.World.{WorldState}
 use Rattle.program_promise.specs.Kinds.{IsWorkKind}
 use Rattle.program_promise.specs.WordFaults.{IsPlainFault}

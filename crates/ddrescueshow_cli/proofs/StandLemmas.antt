@@ -10,8 +10,8 @@ use Rattle.crash_site.specs.SiteState.{SiteState, files_in}
 use Rattle.crash_site.proofs.LawLemmas.{after-append}
 use Rattle.save_resume.specs.Loading.{BeginsLoad}
 use Rattle.save_resume.specs.Named.{map_mode}
-use Rattle.work_steps.specs.Work.{Deeds, Take, WorkStep, Works}
-use Rattle.work_steps.proofs.FrontLemmas.{broken_stands, load_reads, reads_stand}
+use Rattle.work_rules.specs.Work.{Deeds, Take, WorkStep, Works}
+use Rattle.work_rules.proofs.FrontLemmas.{broken_stands, load_reads, reads_stand}
 use Rattle.program_promise.specs.World.{WorldState}
 use Rattle.program_promise.specs.Promise.{DoneFor, Told, Says, Nothing, Message}
 use Rattle.ddrescueshow_words.specs.Command.{Command}

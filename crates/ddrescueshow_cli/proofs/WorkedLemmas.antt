@@ -16,10 +16,10 @@ use Rattle.rescue_rules.specs.Work.{AreMapReads}
 use Rattle.save_resume.specs.Named.{map_mode}
 use Rattle.rescue_console.specs.declared.console.Channel.TheVariants.{Out}
 use Rattle.rescue_console.specs.ConsoleState.{ConsoleState, Puts, PutsPart}
-use Rattle.work_steps.specs.Work.{Deeds, IsIdle, Take, WorkStep, Works}
-use Rattle.work_steps.specs.Parts.{only_calls, StoppedIn, WentThrough}
-use Rattle.work_steps.proofs.FrontLemmas.{load_reads, reads_stand}
-use Rattle.work_steps.proofs.PartLemmas.{stopped_more, through_then}
+use Rattle.work_rules.specs.Work.{Deeds, IsIdle, Take, WorkStep, Works}
+use Rattle.work_rules.specs.Parts.{only_calls, StoppedIn, WentThrough}
+use Rattle.work_rules.proofs.FrontLemmas.{load_reads, reads_stand}
+use Rattle.work_rules.proofs.PartLemmas.{stopped_more, through_then}
 use Rattle.program_promise.specs.World.{WorldState}
 use Rattle.program_promise.specs.Causes.{Changed, changes_of}
 use Rattle.program_promise.specs.Promise.{DoneFor}

@@ -9,7 +9,7 @@ use Rattle.map_algebra.specs.Summary.{summary_of}
 use Rattle.program_promise.specs.Promise.{Told}
 use Rattle.program_promise.specs.WellMade.{IsVerdict as IsVerdictOf}
 use Rattle.program_promise.specs.Laws.{KeepsPromises}
-use Rattle.work_steps.specs.Work.{Deeds}
+use Rattle.work_rules.specs.Work.{Deeds}
 use Rattle.ddrescueshow_words.specs.Command.{AreInLimits, Asks, Command}
 use Rattle.ddrescueshow_words.specs.declared.options.ShowOptions.{ShowOptions}
 use Rattle.ddrescueshow_cli.specs.declared.ending.ShowEnding.{ShowEnding}

@@ -10,7 +10,7 @@ use Rattle.mapfile_text.specs.declared.read.Mode.TheVariants.{Tight}
 use Rattle.crash_site.specs.declared.site.SiteCall.TheVariants.{MapRead}
 use Rattle.crash_site.specs.SiteState.{SiteState, files_in}
 use Rattle.save_resume.specs.Named.{IsMapOf}
-use Rattle.work_steps.specs.Parts.{DidPart}
+use Rattle.work_rules.specs.Parts.{DidPart}
 use Rattle.ddrescueshow_cli.specs.declared.ending.Which.{Which}
 use Rattle.ddrescueshow_cli.specs.declared.ending.Which.TheVariants.{RunMap}
 use Rattle.ddrescueshow_cli.specs.declared.ending.ShowEnding.{ShowEnding}

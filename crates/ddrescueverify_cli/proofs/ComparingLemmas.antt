@@ -12,7 +12,7 @@ use Rattle.rescue_verify.specs.declared.halt.Halt.{Halt}
 use Rattle.rescue_verify.specs.declared.halt.Halt.TheVariants.{NoMemory as NoRoom, SourceLost as InputLost, ImageFault}
 use Rattle.rescue_verify.specs.declared.tally.Tally.{Tally}
 use Rattle.rescue_verify.specs.Comparing.{ComparisonPlan, Compares, LossesRise as CountsCompared}
-use Rattle.verify_command.specs.declared.options.VerifyOptions.{VerifyOptions}
+use Rattle.ddrescueverify_words.specs.declared.options.VerifyOptions.{VerifyOptions}
 use Rattle.rescue_domain.proofs.PlaceLemmas.{whole_from, never_beyond}
 use Rattle.ddrescueverify_cli.specs.Asked.{IsBeyond, domain_asked, output_from, plan_of}
 use Rattle.ddrescueverify_cli.specs.Counting.{StopCause}

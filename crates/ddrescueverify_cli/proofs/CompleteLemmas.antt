@@ -11,10 +11,10 @@ use Rattle.option_words.specs.declared.fault.UsageFault.TheVariants.{Word, BadVa
 use Rattle.save_resume.specs.MapNames.{names_of}
 use Rattle.save_resume.specs.Saving.{save_calls}
 use Rattle.save_resume.proofs.AnswerLemmas.{none_says_nothing, refused_for_one}
-use Rattle.work_steps.specs.Work.{Deeds, Make, Works}
-use Rattle.work_steps.specs.Verdicts.{IsOnce, RefuseOnce}
-use Rattle.work_steps.proofs.AnswerLemmas.{Stopped, Went, came}
-use Rattle.work_steps.proofs.VerdictLemmas.{goes_to_run}
+use Rattle.work_rules.specs.Work.{Deeds, Make, Works}
+use Rattle.work_rules.specs.Verdicts.{IsOnce, RefuseOnce}
+use Rattle.work_rules.proofs.AnswerLemmas.{Stopped, Went, came}
+use Rattle.work_rules.proofs.VerdictLemmas.{goes_to_run}
 use Rattle.program_promise.specs.Kinds.{Starved}
 use Rattle.program_promise.proofs.PromiseLemmas.{keeps_promises}
 use Rattle.rescue_verify.specs.declared.halt.Halt.{Halt}
@@ -24,8 +24,8 @@ use Rattle.rescue_verify.specs.Looks.{Look, reads_of}
 use Rattle.rescue_verify.specs.Laws.{asks_for}
 use Rattle.rescue_verify.specs.Comparing.{ComparisonPlan, HaltsAt, tally_of}
 use Rattle.rescue_verify.proofs.PieceLemmas.{asks_push, none_is_read_twice}
-use Rattle.verify_command.specs.declared.options.VerifyOptions.{VerifyOptions}
-use Rattle.verify_command.specs.Command.{Command}
+use Rattle.ddrescueverify_words.specs.declared.options.VerifyOptions.{VerifyOptions}
+use Rattle.ddrescueverify_words.specs.Command.{Command}
 use Rattle.ddrescueverify_cli.specs.declared.ending.Operand.{Operand}
 use Rattle.ddrescueverify_cli.specs.declared.ending.Which.TheVariants.{RunMap}
 use Rattle.ddrescueverify_cli.specs.declared.ending.VerifyEnding.{VerifyEnding}

@@ -15,9 +15,9 @@ use Rattle.save_resume.specs.Saving.{IsNameIn}
 use Rattle.save_resume.specs.Resuming.{barrier_calls, LoadEnded, StarvedInLoad, BrokeAsResumed, IsReadAs, IsRefusedFor, IsLikeNone, IsResumeCall, IsOfFile}
 use Rattle.save_resume.proofs.AnswerLemmas.{read_is_not_refused, none_is_not_read}
 use Rattle.rescue_rules.specs.Start.{StandsFor, AsMap}
-use Rattle.work_steps.proofs.GainLemmas.{MayGain, may_gain}
-use Rattle.work_steps.proofs.LoadLemmas.{Ended, ended, RanOut, ran_out, BrokeOff, broke_off, read_through, read_refused, read_broke, read_starved}
-use Rattle.work_steps.proofs.BarrierLemmas.{in_load, in_barrier, no_read}
+use Rattle.work_rules.proofs.GainLemmas.{MayGain, may_gain}
+use Rattle.work_rules.proofs.LoadLemmas.{Ended, ended, RanOut, ran_out, BrokeOff, broke_off, read_through, read_refused, read_broke, read_starved}
+use Rattle.work_rules.proofs.BarrierLemmas.{in_load, in_barrier, no_read}
 use Rattle.ddrescueverify_cli.specs.declared.ending.VerifyEnding.{VerifyEnding}
 use Rattle.ddrescueverify_cli.specs.declared.ending.VerifyEnding.TheVariants.{NoMap, MapRefused, SiteFault, NoMemory}
 use Rattle.ddrescueverify_cli.specs.declared.ending.Which.TheVariants.{RunMap}

@@ -15,8 +15,8 @@ use Rattle.crash_site.proofs.AlongLemmas.{WentOn, all_go, broke_goes, made_goes}
 use Rattle.mapfile_text.specs.Pieces.{pieces_of}
 use Rattle.save_resume.specs.MapNames.{MapNames, names_of}
 use Rattle.save_resume.specs.Saving.{publish_calls, save_calls}
-use Rattle.work_steps.specs.Work.{Deeds, Works}
-use Rattle.verify_command.specs.Command.{Command}
+use Rattle.work_rules.specs.Work.{Deeds, Works}
+use Rattle.ddrescueverify_words.specs.Command.{Command}
 use Rattle.save_resume.proofs.StageLemmas.{appended_draft}
 use Rattle.ddrescueverify_cli.specs.declared.ending.VerifyEnding.{VerifyEnding}
 use Rattle.ddrescueverify_cli.specs.Outside.{Agrees, Outside}

@@ -6,15 +6,15 @@ use Rattle.option_words.specs.declared.fault.UsageFault.TheVariants.{Word, BadVa
 use Rattle.option_values.specs.Grammar.{unless_empty}
 use Rattle.option_values.specs.Values.{empty_operand}
 use Rattle.save_resume.proofs.FillLemmas.{keeps_self as site_keeps}
-use Rattle.work_steps.specs.Work.{Deeds, Works}
-use Rattle.work_steps.proofs.AnswerLemmas.{Stops, Broken, Refused, Starved, Stopped, Unopened as NotOpened, Went, came}
+use Rattle.work_rules.specs.Work.{Deeds, Works}
+use Rattle.work_rules.proofs.AnswerLemmas.{Stops, Broken, Refused, Starved, Stopped, Unopened as NotOpened, Went, came}
 use Rattle.rescue_verify.specs.declared.halt.Halt.{Halt}
 use Rattle.rescue_verify.specs.declared.halt.Halt.TheVariants.{NoMemory as NoRoom, SourceLost as InputLost, ImageFault}
 use Rattle.rescue_verify.specs.Comparing.{tally_of}
 use Rattle.rescue_verify.specs.Looks.{Look}
-use Rattle.verify_command.specs.declared.options.VerifyOptions.{VerifyOptions}
-use Rattle.verify_command.specs.Options.{options_in}
-use Rattle.verify_command.specs.Command.{Command, IsAsked, command_by, command_in, command_with}
+use Rattle.ddrescueverify_words.specs.declared.options.VerifyOptions.{VerifyOptions}
+use Rattle.ddrescueverify_words.specs.Options.{options_in}
+use Rattle.ddrescueverify_words.specs.Command.{Command, IsAsked, command_by, command_in, command_with}
 use Rattle.program_promise.specs.World.{WorldState}
 use Rattle.program_promise.specs.Kinds.{IsWorkKind, Wrong}
 use Rattle.program_promise.specs.WordFaults.{IsPlainFault}

@@ -23,15 +23,15 @@ use Rattle.save_resume.specs.Resuming.{barrier_calls}
 use Rattle.rescue_rules.specs.Start.{Stands as StandsFor}
 use Rattle.rescue_rules.specs.Stops.{is_sync}
 use Rattle.rescue_rules.specs.Work.{is_map_read, AreMapReads}
-use Rattle.work_steps.specs.Work.{Deeds, IsIdle, Take, Look as LookAt, Make, Works}
-use Rattle.work_steps.proofs.FrontLemmas.{load_reads}
+use Rattle.work_rules.specs.Work.{Deeds, IsIdle, Take, Look as LookAt, Make, Works}
+use Rattle.work_rules.proofs.FrontLemmas.{load_reads}
 use Rattle.rescue_verify.specs.declared.halt.Halt.{Halt}
 use Rattle.rescue_verify.specs.declared.halt.Halt.TheVariants.{NoMemory as NoRoom, SourceLost as InputLost, ImageFault}
 use Rattle.rescue_verify.specs.declared.tally.Tally.{Tally}
 use Rattle.rescue_verify.specs.Pieces.{NoneFrom, end_of_reads}
 use Rattle.rescue_verify.specs.Looks.{Look, reads_of, look_call, look_calls}
 use Rattle.rescue_verify.specs.Comparing.{ComparisonPlan, place_in, tally_of, HaltsAt}
-use Rattle.verify_command.specs.Command.{Command}
+use Rattle.ddrescueverify_words.specs.Command.{Command}
 use Rattle.ddrescueverify_cli.specs.declared.ending.VerifyEnding.{VerifyEnding}
 use Rattle.ddrescueverify_cli.specs.declared.ending.VerifyEnding.TheVariants.{NoOutput}
 use Rattle.ddrescueverify_cli.specs.Answers.{is_saved}

@@ -25,11 +25,11 @@ use Rattle.save_resume.specs.SaveStops.{disk_of, text_file, IsOldOrNew, Old, New
 use Rattle.save_resume.proofs.StopLemmas.{stops_in_save, saved_where_ok}
 use Rattle.rescue_rules.specs.Start.{Stands as StandsFor}
 use Rattle.rescue_rules.specs.Stops.{has_barrier, is_sync}
-use Rattle.work_steps.specs.Work.{Deeds, Works}
-use Rattle.work_steps.proofs.GainLemmas.{broke_behind, broke_named}
+use Rattle.work_rules.specs.Work.{Deeds, Works}
+use Rattle.work_rules.proofs.GainLemmas.{broke_behind, broke_named}
 use Rattle.rescue_verify.specs.Looks.{Look, reads_of, seen_in}
 use Rattle.rescue_verify.specs.Verified.{judged_by}
-use Rattle.verify_command.specs.Command.{Command}
+use Rattle.ddrescueverify_words.specs.Command.{Command}
 use Rattle.save_resume.proofs.NameLemmas.{apart_draft}
 use Rattle.rescue_rules.proofs.SearchLemmas.{never_both}
 use Rattle.ddrescueverify_cli.specs.declared.ending.VerifyEnding.{VerifyEnding}

@@ -12,7 +12,7 @@ use Rattle.rescue_verify.specs.Pieces.{compared_in}
 use Rattle.rescue_verify.specs.Looks.{Look, differing_bytes}
 use Rattle.rescue_verify.specs.Verified.{judged_by}
 use Rattle.rescue_verify.specs.Comparing.{ComparisonPlan}
-use Rattle.verify_command.specs.declared.options.VerifyOptions.{VerifyOptions}
+use Rattle.ddrescueverify_words.specs.declared.options.VerifyOptions.{VerifyOptions}
 
 -- where the comparison begins in the output
 abbrev pub output_from : VerifyOptions → ℕ

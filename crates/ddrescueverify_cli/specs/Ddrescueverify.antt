@@ -6,9 +6,9 @@ use Rattle.crash_site.specs.SiteState.{SiteState, files_in}
 use Rattle.crash_site.specs.SiteChanges.{Keeps as SiteKeeps}
 use Rattle.rescue_console.specs.ConsoleState.{ConsoleState}
 use Rattle.save_resume.specs.MapNames.{names_of}
-use Rattle.work_steps.specs.Work.{Deeds}
+use Rattle.work_rules.specs.Work.{Deeds}
 use Rattle.rescue_verify.specs.Comparing.{tally_of}
-use Rattle.verify_command.specs.Command.{Command, verify_grammar}
+use Rattle.ddrescueverify_words.specs.Command.{Command, verify_grammar}
 use Rattle.program_promise.specs.World.{WorldState, no_clock, no_feed}
 use Rattle.program_promise.specs.WordFaults.{IsPlainFault}
 use Rattle.program_promise.specs.Printing.{PutsByKind}

@@ -4,12 +4,12 @@ use Rattle.block_list.specs.declared.status.Status.{Status}
 use Rattle.block_list.specs.declared.status.Status.TheVariants.{Finished}
 use Rattle.block_list.specs.Map.{Has}
 use Rattle.crash_site.specs.SiteState.{files_in}
-use Rattle.work_steps.specs.Work.{Deeds, Works}
-use Rattle.work_steps.specs.Verdicts.{RefuseNothing}
+use Rattle.work_rules.specs.Work.{Deeds, Works}
+use Rattle.work_rules.specs.Verdicts.{RefuseNothing}
 use Rattle.rescue_verify.specs.Looks.{Look}
 use Rattle.rescue_verify.specs.Laws.{asks_for}
 use Rattle.rescue_verify.specs.Verified.{IsJudged, is_doubted, judged_by}
-use Rattle.verify_command.specs.Command.{Command, Asks}
+use Rattle.ddrescueverify_words.specs.Command.{Command, Asks}
 use Rattle.program_promise.specs.Kinds.{Asked}
 use Rattle.program_promise.specs.Program.{line_by}
 use Rattle.program_promise.specs.Promise.{Told}

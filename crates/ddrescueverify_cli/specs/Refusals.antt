@@ -7,8 +7,8 @@ use Rattle.crash_site.specs.Files.{File}
 use Rattle.save_resume.specs.MapNames.{names_of}
 use Rattle.save_resume.specs.Resuming.{IsLikeNone, IsRefusedFor}
 use Rattle.option_words.specs.declared.fault.UsageFault.TheVariants.{PlaceTooLarge}
-use Rattle.verify_command.specs.declared.options.VerifyOptions.{VerifyOptions}
-use Rattle.verify_command.specs.Command.{Command, Asks}
+use Rattle.ddrescueverify_words.specs.declared.options.VerifyOptions.{VerifyOptions}
+use Rattle.ddrescueverify_words.specs.Command.{Command, Asks}
 use Rattle.ddrescueverify_cli.specs.declared.ending.Operand.{Operand}
 use Rattle.ddrescueverify_cli.specs.declared.ending.Which.TheVariants.{RunMap}
 use Rattle.ddrescueverify_cli.specs.declared.ending.VerifyEnding.{VerifyEnding}

@@ -15,13 +15,13 @@ use Rattle.save_resume.specs.MapNames.{MapNames, names_of}
 use Rattle.save_resume.specs.Saving.{save_calls, drafting_after_fault}
 use Rattle.save_resume.specs.Resuming.{IsResumeCall}
 use Rattle.rescue_rules.specs.Start.{Stands}
-use Rattle.work_steps.specs.Work.{Deeds, Make, Works}
-use Rattle.work_steps.specs.Parts.{Did, DidPart}
+use Rattle.work_rules.specs.Work.{Deeds, Make, Works}
+use Rattle.work_rules.specs.Parts.{Did, DidPart}
 use Rattle.rescue_verify.specs.declared.halt.Halt.{Halt}
 use Rattle.rescue_verify.specs.declared.tally.Tally.{Tally}
 use Rattle.rescue_verify.specs.Comparing.{Compares, tally_of}
-use Rattle.verify_command.specs.declared.options.VerifyOptions.{VerifyOptions}
-use Rattle.verify_command.specs.Command.{Command, AreInLimits, told_by}
+use Rattle.ddrescueverify_words.specs.declared.options.VerifyOptions.{VerifyOptions}
+use Rattle.ddrescueverify_words.specs.Command.{Command, AreInLimits, told_by}
 use Rattle.ddrescueverify_cli.specs.declared.ending.VerifyEnding.{VerifyEnding}
 use Rattle.ddrescueverify_cli.specs.declared.ending.VerifyEnding.TheVariants.{Usage, NoMap, NoOutput, MapRefused, SiteFault, NoMemory}
 use Rattle.ddrescueverify_cli.specs.declared.ending.Which.TheVariants.{RunMap}

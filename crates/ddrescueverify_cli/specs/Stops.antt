@@ -11,11 +11,11 @@ use Rattle.save_resume.specs.MapNames.{names_of}
 use Rattle.save_resume.specs.SaveStops.{disk_of, text_file}
 use Rattle.rescue_rules.specs.Start.{Stands}
 use Rattle.rescue_rules.specs.Stops.{has_barrier}
-use Rattle.work_steps.specs.Work.{Deeds}
+use Rattle.work_rules.specs.Work.{Deeds}
 use Rattle.rescue_verify.specs.Pieces.{NoneFrom, end_of_reads}
 use Rattle.rescue_verify.specs.Looks.{reads_of}
 use Rattle.rescue_verify.specs.Verified.{verified}
-use Rattle.verify_command.specs.Command.{Command}
+use Rattle.ddrescueverify_words.specs.Command.{Command}
 use Rattle.ddrescueverify_cli.specs.declared.ending.VerifyEnding.{VerifyEnding}
 use Rattle.ddrescueverify_cli.specs.Answers.{is_saved}
 use Rattle.ddrescueverify_cli.specs.Asked.{heading_of, plan_of, shown_by}

@@ -10,14 +10,14 @@ use Rattle.save_resume.specs.MapNames.{names_of}
 use Rattle.save_resume.specs.Saving.{save_calls}
 use Rattle.save_resume.specs.Resuming.{barrier_calls}
 use Rattle.rescue_rules.specs.Start.{Stands}
-use Rattle.work_steps.specs.Work.{Deeds, IsIdle, Faults, WorkStep, Take, Look as LookAt, Open, Make, Read, Works}
+use Rattle.work_rules.specs.Work.{Deeds, IsIdle, Faults, WorkStep, Take, Look as LookAt, Open, Make, Read, Works}
 use Rattle.rescue_verify.specs.declared.halt.Halt.{Halt}
 use Rattle.rescue_verify.specs.declared.halt.Halt.TheVariants.{NoMemory as NoRoom, SourceLost as InputLost, ImageFault}
 use Rattle.rescue_verify.specs.declared.tally.Tally.{Tally}
 use Rattle.rescue_verify.specs.Pieces.{NoneFrom, AskForPieces, end_of_reads}
 use Rattle.rescue_verify.specs.Looks.{Look, reads_of, look_calls}
 use Rattle.rescue_verify.specs.Comparing.{ComparisonPlan, place_in, tally_of, HaltsAt}
-use Rattle.verify_command.specs.Command.{Command}
+use Rattle.ddrescueverify_words.specs.Command.{Command}
 use Rattle.ddrescueverify_cli.specs.declared.ending.VerifyEnding.{VerifyEnding}
 use Rattle.ddrescueverify_cli.specs.declared.ending.VerifyEnding.TheVariants.{Done, Differs, SourceFault, SourceLost, SiteFault, ConsoleFault, NoMemory}
 use Rattle.ddrescueverify_cli.specs.Asked.{plan_of, text_of}

@@ -2,7 +2,7 @@
 ghost use Rattle.std.specs.Prelude.{◌≡◌, ◌⊎◌, None, IfOk, IfErr, OnOk};
 ghost use Rattle.option_words.specs.Words.{command_line};
 ghost use Rattle.save_resume.specs.MapNames.{names_of};
-ghost use Rattle.verify_command.specs.Command.{told_by};
+ghost use Rattle.ddrescueverify_words.specs.Command.{told_by};
 ghost use Rattle.ddrescueverify_cli.specs.declared.ending.VerifyEnding.TheVariants.{NoMemory as OutOfMemory};
 ghost use Rattle.ddrescueverify_cli.specs.Asked.{heading_of};
 ghost use Rattle.ddrescueverify_cli.specs.Names.{first_same, program_name};
@@ -10,11 +10,11 @@ ghost use Rattle.ddrescueverify_cli.specs.Refusals.{NamesRefused};
 
 use crate::ending::{Operand, VerifyEnding};
 use block_list::tiles::NoMemory;
+use ddrescueverify_words::command::Command;
 use mapfile_text::heading::{Heading, Program};
 use option_words::words::Words;
 use save_resume::names::Names;
 use std::alloc::Global;
-use verify_command::command::Command;
 
 /// The program's name, which begins its command line and its messages.
 pub(crate) const PROGRAM: &str = "ddrescueverify";

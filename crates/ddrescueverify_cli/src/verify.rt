@@ -4,7 +4,7 @@ ghost use Rattle.option_words.specs.declared.fault.UsageFault.{UsageFault as Fau
 ghost use Rattle.faulty_source.specs.SourceChanges.{Keeps as SourceKeeps, Stays as SourceStays};
 ghost use Rattle.crash_site.specs.SiteChanges.{Keeps as SiteKeeps, Stays as SiteStays};
 ghost use Rattle.rescue_verify.specs.Comparing.{Compares};
-ghost use Rattle.verify_command.specs.Command.{AreInLimits, AreRefused, told_by};
+ghost use Rattle.ddrescueverify_words.specs.Command.{AreInLimits, AreRefused, told_by};
 ghost use Rattle.program_promise.specs.Promise.{told};
 ghost use Rattle.ddrescueverify_cli.specs.declared.ending.Operand.{Operand};
 ghost use Rattle.ddrescueverify_cli.specs.Asked.{IsBeyond, output_from, plan_of};
@@ -20,6 +20,8 @@ use crate::out::report;
 use crate::plan::{CheckedCommand, check_command};
 use crate::save::save_map;
 use crash_site::site::{Site, SiteCall};
+use ddrescueverify_words::command::{Command, read_command};
+use ddrescueverify_words::options::VerifyOptions;
 use faulty_source::source::Source;
 use option_values::command_error::CommandError;
 use option_words::fault::UsageFault;
@@ -33,8 +35,6 @@ use rescue_verify::halt::Halt;
 use rescue_verify::piece::Comparison;
 use rescue_verify::tally::Tally;
 use std::alloc::Global;
-use verify_command::command::{Command, read_command};
-use verify_command::options::VerifyOptions;
 
 /// Where the comparison begins in the output.
 fn output_from(options: &VerifyOptions) -> u64
@@ -185,7 +185,7 @@ fn work<S: Source, D: Site, P: Console>(
 }
 
 /// Compares what a mapfile calls finished with the infile, once more: `[options] infile outfile mapfile`, with the
-/// options of `verify_command::options`. Each piece, which is a sector or what of one is finished, is read of the
+/// options of `ddrescueverify_words::options`. Each piece, which is a sector or what of one is finished, is read of the
 /// infile once, and if that gave all of it the outfile is read at the piece's place. A piece that the outfile hasn't so
 /// becomes non-tried in the mapfile, so that the next rescue copies it again. A piece that the infile doesn't give any
 /// more stays finished. The outfile is never written; before the mapfile is read, both are made durable as they read.

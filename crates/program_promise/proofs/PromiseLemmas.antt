@@ -9,7 +9,7 @@ use Rattle.option_words.proofs.MemoryLemmas.{never_memory}
 use Rattle.option_values.specs.Grammar.{AskFor, AreRefusedBy, AskSilence, IsRefusalBy, Unread as UnreadWords, Wrong as WrongWords}
 use Rattle.option_values.proofs.MeaningLemmas.{asked_or_refused}
 use Rattle.rescue_console.specs.ConsoleState.{ChannelState, ConsoleState, TextGoesOn}
-use Rattle.work_steps.proofs.VerdictLemmas.{one_verdict}
+use Rattle.work_rules.proofs.VerdictLemmas.{one_verdict}
 use Rattle.program_promise.specs.World.{WorldState, with_console}
 use Rattle.program_promise.specs.Kinds.{Failure, AtOpen, AtRead, AtCall, AtTake, AtPut, Kind, Asked, Brought, Wrong, Failed, Starved, IsNoFaultKind, IsVerdictKind, IsWorkKind}
 use Rattle.program_promise.specs.Causes.{Changed, Changes, changes_of, none_rises}

@@ -3,7 +3,7 @@ use Rattle.std.specs.Prelude.{◌≡◌, false, IsTrue, List, [], ◌∷◌}
 use Rattle.fault_count.specs.Counts.{raised}
 use Rattle.faulty_source.specs.SourceState.{SourceState}
 use Rattle.faulty_source.specs.SourcePlan.{OpenFails}
-use Rattle.work_steps.specs.Work.{Opening, Opened, Unopened}
+use Rattle.work_rules.specs.Work.{Opening, Opened, Unopened}
 
 -- The source was asked to open these. If it was asked for none, it stands still.
 abbrev pub AreOpens : List Opening → (old new : SourceState) → Type 0

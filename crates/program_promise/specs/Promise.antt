@@ -5,7 +5,7 @@ use Rattle.fault_count.specs.Plan.{with_call}
 use Rattle.option_values.specs.Grammar.{AskFor, AreRefusedBy, AskSilence}
 use Rattle.rescue_console.specs.declared.console.Channel.TheVariants.{Err}
 use Rattle.rescue_console.specs.ConsoleState.{Puts, PutsPart}
-use Rattle.work_steps.specs.Work.{Deeds, Works}
+use Rattle.work_rules.specs.Work.{Deeds, Works}
 use Rattle.program_promise.specs.World.{WorldState, with_console}
 use Rattle.program_promise.specs.Kinds.{Kind, Asked, Brought, Wrong, Failed, Starved}
 use Rattle.program_promise.specs.Causes.{Changed, changes_of}

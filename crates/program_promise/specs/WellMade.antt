@@ -6,7 +6,7 @@ use Rattle.option_words.specs.declared.fault.WordFault.{WordFault}
 use Rattle.option_words.specs.declared.fault.WordFault.TheVariants.{NoMemory as WordNoMemory}
 use Rattle.option_words.specs.declared.fault.UsageFault.{UsageFault}
 use Rattle.option_words.specs.declared.fault.UsageFault.TheVariants.{Word}
-use Rattle.work_steps.specs.Verdicts.{AreVerdicts}
+use Rattle.work_rules.specs.Verdicts.{AreVerdicts}
 use Rattle.program_promise.specs.World.{WorldState}
 use Rattle.program_promise.specs.Kinds.{Wrong, Starved, IsVerdictKind, IsWorkKind}
 use Rattle.program_promise.specs.Program.{Program, kind_of}

@@ -18,8 +18,8 @@ use Rattle.rescue_rules.specs.Events.{reads_of}
 use Rattle.rescue_rules.proofs.MoveLemmas.{run_first, run_rest}
 use Rattle.rescue_rules.proofs.RequestLemmas.{one_request}
 use Rattle.rescue_rules.proofs.SearchLemmas.{wanted_found, request_seen}
-use Rattle.rescue_command.specs.declared.options.Options.{Options}
-use Rattle.rescue_command.proofs.CommandLemmas.{not_above}
+use Rattle.ddrescue_words.specs.declared.options.Options.{Options}
+use Rattle.ddrescue_words.proofs.CommandLemmas.{not_above}
 use Rattle.rescue_sample.specs.Line.{IsStill}
 use Rattle.task_files.specs.Asked.{setting_of}
 use Rattle.ddrescueplan_words.specs.Command.{ArePlain}

@@ -36,7 +36,7 @@ use Rattle.rescue_rules.proofs.StepLemmas.{move_steps}
 use Rattle.rescue_core.proofs.PrepareLemmas.{change_is_made}
 use Rattle.rescue_core.specs.declared.settings.Settings.{Settings}
 use Rattle.rescue_core.specs.RunState.{RunState, names_in, setting_with, setting_in}
-use Rattle.rescue_command.specs.declared.options.Options.{Options}
+use Rattle.ddrescue_words.specs.declared.options.Options.{Options}
 use Rattle.task_files.specs.Asked.{domain_asked, no_maps}
 use Rattle.task_files.specs.Settings.{settings_by}
 use Rattle.ddrescueplan_words.specs.Command.{Command, AreInLimits}

@@ -10,8 +10,8 @@ use Rattle.rescue_rules.specs.Beginning.{machine_over}
 use Rattle.rescue_rules.specs.Events.{reads_of}
 use Rattle.rescue_rules.specs.Start.{IsFresh}
 use Rattle.rescue_console.specs.ConsoleState.{ConsoleState, TextGoesOn}
-use Rattle.rescue_command.specs.declared.options.Options.{Options}
-use Rattle.rescue_command.specs.Command.{Command as RescueCommand}
+use Rattle.ddrescue_words.specs.declared.options.Options.{Options}
+use Rattle.ddrescue_words.specs.Command.{Command as RescueCommand}
 use Rattle.task_files.specs.Asked.{setting_of, no_maps}
 use Rattle.ddrescueplan_words.specs.Command.{Command, ArePlain}
 use Rattle.rescue_plan.specs.declared.run.PlanEnd.{PlanEnd}

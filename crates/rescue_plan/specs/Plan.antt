@@ -11,7 +11,7 @@ use Rattle.rescue_rules.specs.Step.{Event}
 use Rattle.rescue_rules.specs.Moves.{state_after, has_ended, IsRun}
 use Rattle.rescue_rules.specs.Beginning.{machine_over}
 use Rattle.rescue_rules.specs.Events.{reads_of}
-use Rattle.rescue_command.specs.declared.options.Options.{Options}
+use Rattle.ddrescue_words.specs.declared.options.Options.{Options}
 use Rattle.rescue_sample.specs.Line.{IsStill}
 use Rattle.task_files.specs.Asked.{setting_asked, no_maps}
 use Rattle.plan_source.specs.Lines.{PlannedRead, planned}

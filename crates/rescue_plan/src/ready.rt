@@ -1,16 +1,16 @@
 //! What a plan begins with.
 ghost use Rattle.std.specs.Prelude.{◌≡◌, ◌<◌, ◌^◌, IfOk};
-ghost use Rattle.rescue_command.specs.Asking.{AreInLimits as AreOptionsInLimits};
+ghost use Rattle.ddrescue_words.specs.Asking.{AreInLimits as AreOptionsInLimits};
 ghost use Rattle.task_files.specs.Settings.{settings_by};
 ghost use Rattle.ddrescueplan_words.specs.Command.{AreInLimits, told_by};
 ghost use Rattle.rescue_plan.specs.Running.{BeginsPlannedRun, untried_map};
 
 use block_list::plain_tiles::PlainTiles;
 use block_list::tiles::{NoMemory, Tiles};
+use ddrescue_words::options::Options;
 use ddrescueplan_words::command::Command;
 use mapfile_text::heading::{Heading, Program};
 use paged_blocks::paged_tiles::PagedTiles;
-use rescue_command::options::Options;
 use rescue_core::phases::{Copying, Rescue};
 use rescue_core::prepare::prepare;
 use rescue_core::settings::Settings;

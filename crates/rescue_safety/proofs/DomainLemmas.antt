@@ -10,7 +10,7 @@ use Rattle.crash_site.specs.Files.{File}
 use Rattle.save_resume.specs.Named.{map_mode, IsMapOf}
 use Rattle.rescue_domain.specs.Domain.{is_below, whole_domain, in_map}
 use Rattle.rescue_domain.specs.Finished.{is_finished, is_finished_at}
-use Rattle.rescue_command.specs.Command.{Command}
+use Rattle.ddrescue_words.specs.Command.{Command}
 use Rattle.task_files.specs.Asked.{Maps, domain_asked, in_list}
 use Rattle.task_files.specs.Maps.{Found, file_of, found_in, mapfile_of, MapfileLists}
 use Rattle.ddrescue_cli.specs.Ddrescue.{Promise}

@@ -32,10 +32,10 @@ use Rattle.sweep_rules.specs.SweepWork.{sweep_begins, sweep_opening}
 use Rattle.sweep_rules.proofs.EndLemmas.{tailed, opening_is}
 use Rattle.sweep_rules.proofs.SweepLemmas.{piece_within}
 use Rattle.option_words.specs.Words.{command_line}
-use Rattle.rescue_command.specs.Command.{Generate}
-use Rattle.rescue_command.specs.Asking.{HasMapfile}
-use Rattle.rescue_command.proofs.CommandLemmas.{reading_asks}
-use Rattle.work_steps.proofs.FrontLemmas.{load_reads}
+use Rattle.ddrescue_words.specs.Command.{Generate}
+use Rattle.ddrescue_words.specs.Asking.{HasMapfile}
+use Rattle.ddrescue_words.proofs.CommandLemmas.{reading_asks}
+use Rattle.work_rules.proofs.FrontLemmas.{load_reads}
 use Rattle.task_files.specs.Maps.{Found, found_in}
 use Rattle.task_files.specs.Names.{program_name}
 use Rattle.task_files.specs.Outside.{Outside}

@@ -7,9 +7,9 @@ use Rattle.option_words.specs.Reading.{Bring}
 use Rattle.option_words.specs.Rows.{meaning_of_row}
 use Rattle.option_values.specs.Values.{Meaning, is_empty_text, empty_operand}
 use Rattle.option_values.specs.Grammar.{unless_empty}
-use Rattle.rescue_command.specs.Options.{option_meanings, no_options}
-use Rattle.rescue_command.specs.Command.{Command, Rescue as Rescues}
-use Rattle.rescue_command.specs.Asking.{Asks}
+use Rattle.ddrescue_words.specs.Options.{option_meanings, no_options}
+use Rattle.ddrescue_words.specs.Command.{Command, Rescue as Rescues}
+use Rattle.ddrescue_words.specs.Asking.{Asks}
 use Rattle.rescue_safety.specs.Safe.{IsSafeAnywhere}
 use Rattle.rescue_safety.specs.Rescue.{Rescue}
 use Rattle.rescue_safety.specs.Plain.{IsName, PlainCall, plain_run}

@@ -12,8 +12,8 @@ use Rattle.rescue_rules.specs.Work.{Gain, begins, events_in, opening_calls, InOp
 use Rattle.rescue_rules.proofs.GoesLemmas.{Course, Way, AnyMap, OneMap, way}
 use Rattle.rescue_rules.proofs.ReadyLemmas.{order_over}
 use Rattle.option_words.specs.Words.{command_line}
-use Rattle.rescue_command.specs.Command.{Command}
-use Rattle.work_steps.specs.Work.{Works}
+use Rattle.ddrescue_words.specs.Command.{Command}
+use Rattle.work_rules.specs.Work.{Works}
 use Rattle.task_files.specs.Maps.{found_in}
 use Rattle.task_files.specs.Names.{program_name}
 use Rattle.task_files.specs.Outside.{Outside}

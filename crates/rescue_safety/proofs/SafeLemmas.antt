@@ -20,7 +20,7 @@ use Rattle.rescue_rules.specs.Stops.{Behind, files_before, has_barrier, LeftBy}
 use Rattle.rescue_rules.specs.StopsBy.{IsKept, RescueStopsBy}
 use Rattle.rescue_core.specs.RunState.{names_in}
 use Rattle.option_words.specs.Words.{command_line}
-use Rattle.rescue_command.specs.Command.{Command, Rescue as ForRescue}
+use Rattle.ddrescue_words.specs.Command.{Command, Rescue as ForRescue}
 use Rattle.task_files.specs.Names.{program_name}
 use Rattle.task_files.specs.Maps.{Found, seen_through}
 use Rattle.task_files.specs.Outside.{Outside, HasGainedReads}

@@ -8,8 +8,8 @@ use Rattle.mapfile_text.specs.MapText.{text_limit}
 use Rattle.mapfile_text.proofs.MapOrFault.{is_map_or_has_fault}
 use Rattle.crash_site.specs.Files.{File}
 use Rattle.save_resume.specs.Named.{map_mode, IsMapOf}
-use Rattle.work_steps.specs.Work.{Deeds, WorkStep, Works, with_calls}
-use Rattle.rescue_command.specs.Command.{Command}
+use Rattle.work_rules.specs.Work.{Deeds, WorkStep, Works, with_calls}
+use Rattle.ddrescue_words.specs.Command.{Command}
 use Rattle.task_files.specs.declared.ending.Ending.{Ending}
 use Rattle.task_files.specs.declared.ending.Ending.TheVariants.{NoMap, MapRefused}
 use Rattle.task_files.specs.declared.ending.Which.{Which}

@@ -6,8 +6,8 @@ use Rattle.faulty_source.specs.Journal.{Reading}
 use Rattle.crash_site.specs.Files.{File, bytes_of}
 use Rattle.rescue_rules.specs.Start.{Stands}
 use Rattle.rescue_rules.specs.Stops.{has_barrier, LeftBy}
-use Rattle.rescue_command.specs.Command.{Command}
-use Rattle.rescue_command.specs.Asking.{Asks}
+use Rattle.ddrescue_words.specs.Command.{Command}
+use Rattle.ddrescue_words.specs.Asking.{Asks}
 use Rattle.ddrescue_cli.specs.Told.{Told}
 use Rattle.ddrescue_cli.specs.Ddrescue.{Ddrescue}
 use Rattle.rescue_safety.specs.Saves.{CallsFinished}

@@ -4,8 +4,8 @@ use Rattle.faulty_source.specs.Journal.{Reading}
 use Rattle.crash_site.specs.Files.{File}
 use Rattle.crash_site.specs.Calls.{Entry}
 use Rattle.crash_site.specs.SiteState.{files_in}
-use Rattle.rescue_command.specs.Command.{Command}
-use Rattle.rescue_command.specs.Asking.{Asks}
+use Rattle.ddrescue_words.specs.Command.{Command}
+use Rattle.ddrescue_words.specs.Asking.{Asks}
 use Rattle.ddrescue_cli.specs.Told.{Told, calls_before}
 use Rattle.ddrescue_cli.specs.Ddrescue.{Ddrescue}
 use Rattle.rescue_safety.specs.Safe.{Target, Run}

@@ -6,8 +6,8 @@ use Rattle.crash_site.specs.Files.{File, bytes_of}
 use Rattle.crash_site.specs.Calls.{Entry, Done, Failed, image_write, draft_append}
 use Rattle.crash_site.specs.Left.{in_progress}
 use Rattle.rescue_rules.specs.Stops.{Behind, files_before, has_barrier, LeftBy}
-use Rattle.rescue_command.specs.Command.{Command, Generate}
-use Rattle.rescue_command.specs.Asking.{AskTask}
+use Rattle.ddrescue_words.specs.Command.{Command, Generate}
+use Rattle.ddrescue_words.specs.Asking.{AskTask}
 use Rattle.ddrescue_cli.specs.Told.{calls_before}
 use Rattle.rescue_safety.specs.Safe.{Target, by_then}
 use Rattle.rescue_safety.specs.Owed.{pairs_of, looked_at}

@@ -6,8 +6,8 @@ use Rattle.std.proofs.lemmas.Bool.{cond_both}
 use Rattle.save_resume.specs.MapNames.{MapNames, names_of}
 use Rattle.rescue_rules.specs.Laws.{AreThreeNames}
 use Rattle.rescue_core.specs.RunState.{names_in}
-use Rattle.rescue_command.specs.Command.{Command, Task}
-use Rattle.rescue_command.specs.Asking.{IsAsked}
+use Rattle.ddrescue_words.specs.Command.{Command, Task}
+use Rattle.ddrescue_words.specs.Asking.{IsAsked}
 use Rattle.save_resume.proofs.NameLemmas.{apart_draft, ne_of}
 use Rattle.task_files.specs.declared.ending.Operand.{Operand}
 use Rattle.task_files.specs.declared.ending.Operand.TheVariants.{Infile, Outfile, Mapfile, Draft}

@@ -11,7 +11,7 @@ use Rattle.crash_site.specs.Files.{File}
 use Rattle.save_resume.specs.Resuming.{IsReadAs, IsRefusedFor, IsLikeNone, NoFile as Absent, Silent}
 use Rattle.save_resume.proofs.AnswerLemmas.{has_answer, read_as_one, read_is_not_refused, not_there, one_there}
 use Rattle.save_resume.proofs.MapLemmas.{map_is_not_blank}
-use Rattle.rescue_command.specs.Command.{Command}
+use Rattle.ddrescue_words.specs.Command.{Command}
 use Rattle.task_files.specs.Maps.{MapfileLists, NoFile, NoText, Blocks, IsListing}
 
 -- a listing begins and ends here

@@ -17,9 +17,9 @@ use Rattle.save_resume.specs.Saving.{IsNameIn}
 use Rattle.save_resume.specs.Resuming.{barrier_calls, LoadEnded, StarvedInLoad, BrokeAsResumed, IsReadAs, IsRefusedFor, IsLikeNone, NoFile, Silent, IsResumeCall, IsOfFile}
 use Rattle.save_resume.proofs.AnswerLemmas.{read_is_not_refused, none_says_nothing}
 use Rattle.rescue_rules.specs.Start.{IsFresh, StandsFor, AsNone, AsMap, Stands}
-use Rattle.work_steps.proofs.GainLemmas.{MayGain, may_gain}
-use Rattle.work_steps.proofs.LoadLemmas.{Ended, ended, RanOut, ran_out, BrokeOff, broke_off, read_through, read_refused, read_broke, read_starved}
-use Rattle.work_steps.proofs.BarrierLemmas.{in_load, in_barrier, no_read}
+use Rattle.work_rules.proofs.GainLemmas.{MayGain, may_gain}
+use Rattle.work_rules.proofs.LoadLemmas.{Ended, ended, RanOut, ran_out, BrokeOff, broke_off, read_through, read_refused, read_broke, read_starved}
+use Rattle.work_rules.proofs.BarrierLemmas.{in_load, in_barrier, no_read}
 use Rattle.task_files.specs.declared.ending.Ending.{Ending}
 use Rattle.task_files.specs.declared.ending.Ending.TheVariants.{MapRefused, SiteFault, NoMemory}
 use Rattle.task_files.specs.declared.ending.Which.TheVariants.{RunMap}

@@ -8,7 +8,7 @@ use Rattle.mapfile_text.specs.MapText.{text_limit, IsMapText}
 use Rattle.mapfile_text.proofs.OneFault.{map_has_no_fault}
 use Rattle.mapfile_text.proofs.MapOrFault.{is_map_or_has_fault}
 use Rattle.crash_site.specs.Files.{File}
-use Rattle.rescue_command.specs.Command.{Command}
+use Rattle.ddrescue_words.specs.Command.{Command}
 use Rattle.task_files.specs.Asked.{Maps}
 use Rattle.save_resume.specs.Named.{IsMapOf, map_mode}
 use Rattle.save_resume.proofs.NamedLemmas.{map_is_one}

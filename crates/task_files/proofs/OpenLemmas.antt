@@ -8,10 +8,10 @@ use Rattle.crash_site.specs.FileAnswers.{is_absent, kind_of}
 use Rattle.crash_site.specs.Calls.{Done as Returned, image_open}
 use Rattle.crash_site.specs.CallsMade.{Lost}
 use Rattle.crash_site.specs.SiteState.{SiteState, files_in}
-use Rattle.work_steps.specs.Work.{IsIdle}
-use Rattle.work_steps.specs.Parts.{StoppedIn, WentThrough, only_calls}
-use Rattle.work_steps.proofs.GainLemmas.{MayGain, may_gain}
-use Rattle.work_steps.proofs.LoadLemmas.{by_tells}
+use Rattle.work_rules.specs.Work.{IsIdle}
+use Rattle.work_rules.specs.Parts.{StoppedIn, WentThrough, only_calls}
+use Rattle.work_rules.proofs.GainLemmas.{MayGain, may_gain}
+use Rattle.work_rules.proofs.LoadLemmas.{by_tells}
 use Rattle.task_files.specs.declared.ending.Ending.{Ending}
 use Rattle.task_files.specs.declared.ending.Ending.TheVariants.{NoOutput, NotRegular, SiteFault}
 use Rattle.task_files.specs.Refusals.{is_other, OutputMissing, OutputRefused}

@@ -21,12 +21,12 @@ use Rattle.option_words.specs.declared.fault.UsageFault.TheVariants.{PlaceTooLar
 use Rattle.rescue_core.proofs.TurnEndLemmas.{says_none}
 use Rattle.copy_passes.specs.Turns.{IsFrom}
 use Rattle.copy_passes.proofs.TurnLemmas.{between as across}
-use Rattle.work_steps.specs.Work.{Opened as IsOpened, Unopened, Deeds, Look, Works}
-use Rattle.work_steps.specs.Parts.{only_calls, WentThrough}
-use Rattle.work_steps.specs.Holds.{behind_entries, behind_open}
-use Rattle.work_steps.proofs.PartLemmas.{stopped_more, through_then, grew_both}
-use Rattle.rescue_command.specs.declared.options.Options.{Options}
-use Rattle.rescue_command.specs.Command.{Command}
+use Rattle.work_rules.specs.Work.{Opened as IsOpened, Unopened, Deeds, Look, Works}
+use Rattle.work_rules.specs.Parts.{only_calls, WentThrough}
+use Rattle.work_rules.specs.Holds.{behind_entries, behind_open}
+use Rattle.work_rules.proofs.PartLemmas.{stopped_more, through_then, grew_both}
+use Rattle.ddrescue_words.specs.declared.options.Options.{Options}
+use Rattle.ddrescue_words.specs.Command.{Command}
 use Rattle.task_files.specs.declared.ending.Ending.{Ending}
 use Rattle.task_files.specs.declared.ending.Ending.TheVariants.{Usage, SourceFault}
 use Rattle.task_files.specs.declared.load.LoadedMap.{LoadedMap}

@@ -9,8 +9,8 @@ use Rattle.mapfile_text.specs.Printed.{shown_byte}
 use Rattle.rescue_domain.specs.Domain.{IsSize}
 use Rattle.rescue_domain.specs.Parts.{covers}
 use Rattle.rescue_rules.specs.Lines.{opening_lines}
-use Rattle.rescue_command.specs.declared.options.Options.{Options}
-use Rattle.rescue_command.specs.Command.{Command}
+use Rattle.ddrescue_words.specs.declared.options.Options.{Options}
+use Rattle.ddrescue_words.specs.Command.{Command}
 use Rattle.task_files.specs.Asked.{Maps, domain_asked, setting_of}
 use Rattle.task_files.specs.Settings.{settings_by}
 use Rattle.task_files.proofs.PlacedLemmas.{asked_suits}

@@ -7,9 +7,9 @@ use Rattle.rescue_domain.specs.Domain.{whole_domain, in_map}
 use Rattle.rescue_domain.specs.Parts.{covers}
 use Rattle.rescue_core.specs.declared.settings.Settings.{Settings}
 use Rattle.rescue_core.specs.RunState.{HasPlaces, Suits, IsSound as SettingsSound}
-use Rattle.rescue_command.specs.declared.options.Options.{Options}
-use Rattle.rescue_command.specs.Options.{sectors_of}
-use Rattle.rescue_command.specs.Asking.{AreInLimits}
+use Rattle.ddrescue_words.specs.declared.options.Options.{Options}
+use Rattle.ddrescue_words.specs.Options.{sectors_of}
+use Rattle.ddrescue_words.specs.Asking.{AreInLimits}
 use Rattle.rescue_domain.proofs.PlaceLemmas.{whole_from}
 use Rattle.task_files.specs.Asked.{Maps, ArePlacedBy, in_list, domain_asked}
 use Rattle.task_files.specs.Settings.{settings_by}

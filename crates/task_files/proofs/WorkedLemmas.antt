@@ -18,12 +18,12 @@ use Rattle.rescue_console.specs.ClockState.{ClockState}
 use Rattle.rescue_console.specs.ConsoleState.{ConsoleState}
 use Rattle.rescue_rules.specs.Work.{Gain, IsNothing, AreMapReads}
 use Rattle.copy_passes.specs.Turns.{IsFrom}
-use Rattle.work_steps.specs.Work.{Deeds, Works}
-use Rattle.work_steps.specs.Parts.{only_calls, StoppedIn, WentThrough}
-use Rattle.work_steps.specs.Holds.{behind_entries}
-use Rattle.work_steps.proofs.GainLemmas.{broke_behind}
-use Rattle.work_steps.proofs.PartLemmas.{stopped_more, through_then}
-use Rattle.rescue_command.specs.Command.{Command}
+use Rattle.work_rules.specs.Work.{Deeds, Works}
+use Rattle.work_rules.specs.Parts.{only_calls, StoppedIn, WentThrough}
+use Rattle.work_rules.specs.Holds.{behind_entries}
+use Rattle.work_rules.proofs.GainLemmas.{broke_behind}
+use Rattle.work_rules.proofs.PartLemmas.{stopped_more, through_then}
+use Rattle.ddrescue_words.specs.Command.{Command}
 use Rattle.save_resume.proofs.NamedLemmas.{map_is_one}
 use Rattle.task_files.specs.declared.ending.Which.{Which}
 use Rattle.task_files.specs.declared.ending.Which.TheVariants.{DomainMap, TestMap}
@@ -36,7 +36,7 @@ use Rattle.task_files.proofs.OpenedLemmas.{none_seen}
 use Rattle.copy_passes.proofs.TurnLemmas.{between as across}
 use Rattle.rescue_core.proofs.TurnEndLemmas.{says_none}
 use Rattle.task_files.proofs.MapsLemmas.{MapsOf, maps_for}
-use Rattle.work_steps.proofs.FrontLemmas.{IsMapRead, load_reads, reads_stand, broke_in_both, made_both}
+use Rattle.work_rules.proofs.FrontLemmas.{IsMapRead, load_reads, reads_stand, broke_in_both, made_both}
 
 -- ---- reads of maps alone
 

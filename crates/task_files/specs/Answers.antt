@@ -16,8 +16,8 @@ use Rattle.task_files.specs.declared.ending.Operand.{Operand}
 use Rattle.task_files.specs.declared.ending.Which.TheVariants.{RunMap}
 use Rattle.task_files.specs.declared.ending.Ending.{Ending}
 use Rattle.task_files.specs.declared.ending.Ending.TheVariants.{Done, Usage, SameName, NoMap, SourceFault, NotRegular, MapRefused, SourceLost, EmptyPattern, PatternUnread, NoOutput, SiteFault, LimitMet, NoMemory}
-use Rattle.rescue_command.specs.Command.{Command, Task, Rescue, Fill, Generate, Sample}
-use Rattle.rescue_command.specs.Asking.{AskTask, AskSample, AreRefused}
+use Rattle.ddrescue_words.specs.Command.{Command, Task, Rescue, Fill, Generate, Sample}
+use Rattle.ddrescue_words.specs.Asking.{AskTask, AskSample, AreRefused}
 use Rattle.task_files.specs.Names.{first_same}
 use Rattle.task_files.specs.Asked.{names_by}
 

@@ -6,9 +6,9 @@ use Rattle.rescue_domain.specs.Domain.{whole_domain, in_map, listed_in}
 use Rattle.rescue_domain.specs.Places.{place_from, AreAllPlaced, IsAnyBeyond}
 use Rattle.rescue_rules.specs.Setting.{Setting}
 use Rattle.rescue_core.specs.RunState.{names_in}
-use Rattle.rescue_command.specs.declared.options.Options.{Options}
-use Rattle.rescue_command.specs.Options.{cluster_of, in_sectors}
-use Rattle.rescue_command.specs.Command.{Command}
+use Rattle.ddrescue_words.specs.declared.options.Options.{Options}
+use Rattle.ddrescue_words.specs.Options.{cluster_of, in_sectors}
+use Rattle.ddrescue_words.specs.Command.{Command}
 
 -- where the rescue begins in the output
 abbrev pub output_from : Options → ℕ

@@ -9,7 +9,7 @@ use Rattle.faulty_source.specs.Journal.{Reading}
 use Rattle.crash_site.specs.Files.{File}
 use Rattle.save_resume.specs.Named.{map_mode, IsMapOf}
 use Rattle.rescue_domain.specs.Testing.{seen}
-use Rattle.rescue_command.specs.Command.{Command}
+use Rattle.ddrescue_words.specs.Command.{Command}
 use Rattle.task_files.specs.Asked.{Maps}
 
 -- The positions that a mapfile lists, from the first block's beginning up to the last one's end. A mapfile without

@@ -8,8 +8,8 @@ use Rattle.faulty_source.specs.SourcePlan.{OpenFails}
 use Rattle.crash_site.specs.SiteState.{files_in}
 use Rattle.rescue_core.specs.Across.{Across}
 use Rattle.copy_passes.specs.Turns.{IsFrom}
-use Rattle.work_steps.specs.Work.{Opening, Opened, Unopened, Deeds}
-use Rattle.rescue_command.specs.Command.{Command}
+use Rattle.work_rules.specs.Work.{Opening, Opened, Unopened, Deeds}
+use Rattle.ddrescue_words.specs.Command.{Command}
 use Rattle.task_files.specs.Asked.{Maps}
 use Rattle.task_files.specs.Maps.{Found, found_in, seen_through}
 

@@ -1,8 +1,8 @@
 -- How the run of a rescue goes, by what the objects tell.
 use Rattle.std.specs.Prelude.{ℕ, List, [], ◌∷◌, Option, Some, None}
 use Rattle.rescue_core.specs.declared.settings.Settings.{Settings}
-use Rattle.rescue_command.specs.declared.options.Options.{Options}
-use Rattle.rescue_command.specs.Options.{cluster_of, in_sectors}
+use Rattle.ddrescue_words.specs.declared.options.Options.{Options}
+use Rattle.ddrescue_words.specs.Options.{cluster_of, in_sectors}
 use Rattle.task_files.specs.Asked.{output_from}
 
 -- what options ask of a run

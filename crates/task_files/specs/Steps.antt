@@ -25,11 +25,11 @@ use Rattle.rescue_rules.specs.Start.{Stands}
 use Rattle.rescue_rules.specs.Laws.{AreTimes}
 use Rattle.rescue_rules.specs.Work.{Gain, IsNothing, AreMapReads}
 use Rattle.rescue_core.specs.Across.{Across}
-use Rattle.work_steps.specs.Work.{Deeds, Works}
-use Rattle.work_steps.specs.Parts.{DidPart}
-use Rattle.rescue_command.specs.declared.options.Options.{Options}
-use Rattle.rescue_command.specs.Command.{Command}
-use Rattle.rescue_command.specs.Asking.{AreInLimits, told_by}
+use Rattle.work_rules.specs.Work.{Deeds, Works}
+use Rattle.work_rules.specs.Parts.{DidPart}
+use Rattle.ddrescue_words.specs.declared.options.Options.{Options}
+use Rattle.ddrescue_words.specs.Command.{Command}
+use Rattle.ddrescue_words.specs.Asking.{AreInLimits, told_by}
 use Rattle.task_files.specs.declared.load.LoadedMap.{LoadedMap}
 use Rattle.task_files.specs.declared.checked.CheckedCommand.{CheckedCommand}
 use Rattle.task_files.specs.declared.ending.Which.{Which}

@@ -2,7 +2,7 @@
 ghost use Rattle.std.specs.Prelude.{◌≡◌, ◌⊎◌, None, IfOk, IfErr, OnOk, option_map};
 ghost use Rattle.rescue_rules.specs.Snapshots.{heading_at};
 ghost use Rattle.save_resume.specs.MapNames.{names_of};
-ghost use Rattle.rescue_command.specs.Asking.{told_by};
+ghost use Rattle.ddrescue_words.specs.Asking.{told_by};
 ghost use Rattle.option_words.specs.Words.{command_line};
 ghost use Rattle.task_files.specs.Names.{first_same, program_name};
 ghost use Rattle.task_files.specs.Asked.{names_by};
@@ -11,9 +11,9 @@ ghost use Rattle.task_files.specs.declared.ending.Ending.TheVariants.{NoMemory a
 
 use crate::ending::{Ending, Operand};
 use block_list::tiles::NoMemory;
+use ddrescue_words::command::Command;
 use mapfile_text::heading::{Heading, Program};
 use option_words::words::Words;
-use rescue_command::command::Command;
 use save_resume::names::Names;
 use std::alloc::Global;
 

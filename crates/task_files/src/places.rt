@@ -1,9 +1,9 @@
 //! Whether each position of the domain has a place in the output.
 ghost use Rattle.std.specs.Prelude.{◌≡◌, ◌<◌, ◌^◌, true, false};
-ghost use Rattle.rescue_command.specs.Asking.{AreInLimits};
+ghost use Rattle.ddrescue_words.specs.Asking.{AreInLimits};
 ghost use Rattle.task_files.specs.Asked.{output_from, ArePlacedBy, IsBeyond};
 
-use rescue_command::options::Options;
+use ddrescue_words::options::Options;
 use rescue_domain::places;
 
 /// Where the rescue begins in the output.

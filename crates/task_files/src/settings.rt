@@ -2,15 +2,15 @@
 ghost use Rattle.std.specs.Prelude.{◌≡◌, ℕ, ◌<◌, ◌≤◌, List, Option, IfOk, option_map};
 ghost use Rattle.rescue_domain.specs.Parts.{covers};
 ghost use Rattle.rescue_rules.specs.Lines.{opening_lines};
-ghost use Rattle.rescue_command.specs.Asking.{AreInLimits, told_by};
+ghost use Rattle.ddrescue_words.specs.Asking.{AreInLimits, told_by};
 ghost use Rattle.task_files.specs.Asked.{Maps, domain_asked, setting_of};
 ghost use Rattle.task_files.specs.Settings.{lines_in, settings_by};
 
 use crate::opening::opening_line;
 use crate::places::output_from;
 use block_list::tiles::NoMemory;
-use rescue_command::command::Command;
-use rescue_command::options::Options;
+use ddrescue_words::command::Command;
+use ddrescue_words::options::Options;
 use rescue_core::settings::Settings;
 use rescue_domain::domain::Domain;
 use std::alloc::Global;

@@ -14,8 +14,8 @@ use Rattle.rescue_core.specs.RunState.{RunState, setting_with, setting_in, start
 use Rattle.rescue_core.proofs.PrepareLemmas.{change_is_made}
 use Rattle.copy_passes.specs.Copying.{MayCopy}
 use Rattle.copy_passes.proofs.StartLemmas.{start_may_copy, shown_may_copy}
-use Rattle.rescue_command.specs.declared.options.Options.{Options}
-use Rattle.rescue_command.specs.Asking.{AreInLimits}
+use Rattle.ddrescue_words.specs.declared.options.Options.{Options}
+use Rattle.ddrescue_words.specs.Asking.{AreInLimits}
 use Rattle.task_files.specs.Asked.{Maps, ArePlacedBy, domain_asked}
 use Rattle.task_files.specs.Steps.{SuitsInput}
 use Rattle.task_files.specs.Settings.{settings_by}

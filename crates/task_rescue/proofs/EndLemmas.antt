@@ -49,7 +49,7 @@ use Rattle.trim_scrape.specs.Behind.{IsBehind}
 use Rattle.task_rescue.specs.Running.{WentToEnd}
 use Rattle.task_rescue.proofs.LastLemmas.{behind_all}
 use Rattle.task_rescue.proofs.SpokenLemmas.{SaidMore, said_more, save_writes_none, saves_written, says_all, says_front}
-use Rattle.work_steps.proofs.GainLemmas.{MayGain, may_gain, broke_behind}
+use Rattle.work_rules.proofs.GainLemmas.{MayGain, may_gain, broke_behind}
 use Rattle.task_rescue.proofs.TurnLemmas.{EventMore, event_more, ReadsMore, read_more}
 
 ends_as : (stop : Option Stop) → core_end stop ≡ end_of stop

@@ -31,8 +31,8 @@ use Rattle.rescue_core.specs.declared.settings.Settings.{Settings}
 use Rattle.rescue_core.specs.RunState.{RunState, names_in, setting_with as core_setting, setting_in}
 use Rattle.task_files.specs.declared.ending.Ending.{Ending}
 use Rattle.task_files.specs.declared.ending.Ending.TheVariants.{NoMemory}
-use Rattle.rescue_command.specs.declared.options.Options.{Options}
-use Rattle.rescue_command.specs.Command.{Command}
+use Rattle.ddrescue_words.specs.declared.options.Options.{Options}
+use Rattle.ddrescue_words.specs.Command.{Command}
 use Rattle.task_rescue.specs.declared.ready.RunMemory.{RunMemory}
 use Rattle.task_files.specs.Asked.{Maps, names_by, setting_asked, setting_of, domain_asked}
 use Rattle.rescue_core.specs.Across.{Across}

@@ -22,9 +22,9 @@ use Rattle.rescue_core.specs.RunState.{RunState, setting_in, HasPlaces, Suits}
 use Rattle.rescue_core.specs.Across.{Across}
 use Rattle.copy_passes.specs.Turns.{IsFrom}
 use Rattle.copy_passes.specs.Copying.{MayCopy}
-use Rattle.rescue_command.specs.declared.options.Options.{Options}
-use Rattle.rescue_command.specs.Options.{cluster_of}
-use Rattle.rescue_command.specs.Command.{Command}
+use Rattle.ddrescue_words.specs.declared.options.Options.{Options}
+use Rattle.ddrescue_words.specs.Options.{cluster_of}
+use Rattle.ddrescue_words.specs.Command.{Command}
 use Rattle.task_rescue.specs.declared.ready.RunMemory.{RunMemory}
 use Rattle.task_files.specs.Asked.{Maps, domain_asked, setting_of}
 use Rattle.task_files.specs.Settings.{settings_by, lines_in}

@@ -5,16 +5,16 @@ ghost use Rattle.block_list.specs.declared.status.Status.{Status};
 ghost use Rattle.mapfile_text.specs.declared.state.MapState.{MapState as State};
 ghost use Rattle.rescue_rules.specs.Beginning.{goes_on_from};
 ghost use Rattle.rescue_rules.specs.Snapshots.{heading_at};
-ghost use Rattle.rescue_command.specs.Asking.{AreInLimits, told_by};
+ghost use Rattle.ddrescue_words.specs.Asking.{AreInLimits, told_by};
 ghost use Rattle.task_files.specs.Asked.{Maps, ArePlacedBy};
 ghost use Rattle.task_files.specs.Steps.{maps_read, SuitsInput};
 ghost use Rattle.task_rescue.specs.Running.{IsReady, IsRunOver, MayBegin};
 
 use block_list::plain_tiles::PlainTiles;
 use block_list::tiles::NoMemory;
+use ddrescue_words::command::Command;
 use mapfile_text::heading::Heading;
 use mapfile_text::state::{Current, MapState};
-use rescue_command::command::Command;
 use rescue_core::phases::{Copying, Rescue};
 use rescue_core::prepare::prepare;
 use rescue_domain::domain::Domain;

@@ -4,7 +4,7 @@ ghost use Rattle.faulty_source.specs.SourceChanges.{Keeps as SourceKeeps, Stays 
 ghost use Rattle.crash_site.specs.SiteChanges.{Keeps as SiteKeeps};
 ghost use Rattle.rescue_console.specs.ClockState.{Keeps as ClockKeeps};
 ghost use Rattle.block_list.specs.Tiled.{Tiled};
-ghost use Rattle.rescue_command.specs.Asking.{told_by};
+ghost use Rattle.ddrescue_words.specs.Asking.{told_by};
 ghost use Rattle.task_files.specs.Asked.{setting_of, ArePlacedBy};
 ghost use Rattle.task_files.specs.Answers.{Causes, drafting_left};
 ghost use Rattle.task_files.specs.Steps.{ending_of, heard_behind, maps_read, statuses_in, DidRun, SuitsInput, IsPlanned, DidBehindMaps, Worked};

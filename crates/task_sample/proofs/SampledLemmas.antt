@@ -36,8 +36,8 @@ use Rattle.rescue_sample.specs.declared.source.Answered.{Answered}
 use Rattle.rescue_sample.specs.Sample.{sample_bytes, sample_size, AreSampleReads, IsSampleRead}
 use Rattle.rescue_sample.specs.Line.{sample_text, IsStill, IsSampleRun}
 use Rattle.rescue_sample.proofs.SampleLemmas.{size_of}
-use Rattle.rescue_command.specs.Command.{Command}
-use Rattle.rescue_command.specs.Asking.{sample_command}
+use Rattle.ddrescue_words.specs.Command.{Command}
+use Rattle.ddrescue_words.specs.Asking.{sample_command}
 use Rattle.task_files.specs.declared.ending.Ending.TheVariants.{Done}
 use Rattle.task_files.specs.declared.load.LoadedMap.{LoadedMap}
 use Rattle.task_files.specs.Asked.{no_maps, ArePlacedBy, names_by}

@@ -10,12 +10,12 @@ ghost use Rattle.task_sample.specs.Sampled.{IsLineOf, RanSample, RanToEnd, Tells
 use block_list::status::Status;
 use block_list::tiles::{NoMemory, Tiles};
 use crash_site::site::Site;
+use ddrescue_words::command::sample_command;
 use faulty_source::source::Source;
 use map_algebra::summary::count_statuses;
 use mapfile_text::heading::{Heading, Program};
 use memory_console::memory::MemoryConsole;
 use memory_site::memory::MemorySite;
-use rescue_command::command::sample_command;
 use rescue_console::clock::Clock;
 use rescue_console::console::Console;
 use rescue_core::phases::{Copying, Rescue};

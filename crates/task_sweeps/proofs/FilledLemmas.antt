@@ -25,10 +25,10 @@ use Rattle.rescue_core.proofs.TurnEndLemmas.{says_none}
 use Rattle.copy_passes.proofs.TurnLemmas.{between as across}
 use Rattle.sweep_rules.specs.Sweep.{Sweeper, Swept, filler}
 use Rattle.fill_generate.proofs.TellLemmas.{between}
-use Rattle.work_steps.specs.Work.{Deeds, WorkStep, Take, Look, Open, Works}
-use Rattle.work_steps.specs.Parts.{only_calls}
-use Rattle.rescue_command.specs.Options.{cluster_of}
-use Rattle.rescue_command.specs.Command.{Command}
+use Rattle.work_rules.specs.Work.{Deeds, WorkStep, Take, Look, Open, Works}
+use Rattle.work_rules.specs.Parts.{only_calls}
+use Rattle.ddrescue_words.specs.Options.{cluster_of}
+use Rattle.ddrescue_words.specs.Command.{Command}
 use Rattle.task_files.specs.declared.ending.Ending.{Ending}
 use Rattle.task_files.specs.declared.ending.Ending.TheVariants.{Usage, SourceFault, EmptyPattern, NoMemory}
 use Rattle.task_files.specs.declared.ending.Which.TheVariants.{DomainMap}

@@ -24,9 +24,9 @@ use Rattle.sweep_rules.specs.Sweep.{Sweeper, Swept, generator}
 use Rattle.sweep_rules.specs.SweepLaws.{AreGiven}
 use Rattle.fill_generate.specs.Sweeping.{IsApart}
 use Rattle.fill_generate.proofs.TellLemmas.{between}
-use Rattle.work_steps.specs.Work.{Open, Works}
-use Rattle.work_steps.specs.Parts.{only_calls}
-use Rattle.rescue_command.specs.Command.{Command}
+use Rattle.work_rules.specs.Work.{Open, Works}
+use Rattle.work_rules.specs.Parts.{only_calls}
+use Rattle.ddrescue_words.specs.Command.{Command}
 use Rattle.task_files.specs.declared.ending.Ending.{Ending}
 use Rattle.task_files.specs.declared.ending.Ending.TheVariants.{Usage, SourceFault, NoOutput}
 use Rattle.task_files.specs.declared.ending.Which.TheVariants.{DomainMap}

@@ -21,9 +21,9 @@ use Rattle.rescue_rules.specs.Start.{IsFresh, TextStands, AsNone, AsMap, StandsF
 use Rattle.rescue_rules.specs.Laws.{AreTimes}
 use Rattle.copy_passes.specs.Turns.{IsFrom}
 use Rattle.copy_passes.proofs.TurnLemmas.{between as across}
-use Rattle.work_steps.specs.Work.{Opened, Unopened, Deeds}
-use Rattle.rescue_command.specs.Command.{Command}
-use Rattle.work_steps.proofs.PartLemmas.{grew_both}
+use Rattle.work_rules.specs.Work.{Opened, Unopened, Deeds}
+use Rattle.ddrescue_words.specs.Command.{Command}
+use Rattle.work_rules.proofs.PartLemmas.{grew_both}
 use Rattle.task_files.specs.declared.ending.Ending.{Ending}
 use Rattle.task_files.specs.declared.load.LoadedMap.{LoadedMap}
 use Rattle.task_files.specs.Maps.{NoFile, NoText, Blocks, mapfile_of}

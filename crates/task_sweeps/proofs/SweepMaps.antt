@@ -1,6 +1,6 @@
 -- Files have maps, and each of them one.
 use Rattle.std.proofs.Common.{None, refl}
-use Rattle.rescue_command.specs.Command.{Command}
+use Rattle.ddrescue_words.specs.Command.{Command}
 use Rattle.task_files.specs.Asked.{Maps}
 use Rattle.task_files.specs.Maps.{Found, AreAskedFor}
 use Rattle.task_sweeps.specs.Modes.{AreMapsOfSweep}

@@ -13,12 +13,12 @@ use Rattle.rescue_rules.specs.Work.{IsNothing}
 use Rattle.rescue_core.specs.Across.{Across}
 use Rattle.copy_passes.specs.Turns.{IsFrom}
 use Rattle.copy_passes.proofs.TurnLemmas.{between as across}
-use Rattle.work_steps.specs.Work.{Deeds, WorkStep, Works}
-use Rattle.work_steps.specs.Parts.{only_calls}
-use Rattle.work_steps.specs.Holds.{behind_entries}
-use Rattle.work_steps.proofs.FrontLemmas.{IsMapRead}
-use Rattle.work_steps.proofs.PartLemmas.{stopped_more, through_then}
-use Rattle.rescue_command.specs.Command.{Command}
+use Rattle.work_rules.specs.Work.{Deeds, WorkStep, Works}
+use Rattle.work_rules.specs.Parts.{only_calls}
+use Rattle.work_rules.specs.Holds.{behind_entries}
+use Rattle.work_rules.proofs.FrontLemmas.{IsMapRead}
+use Rattle.work_rules.proofs.PartLemmas.{stopped_more, through_then}
+use Rattle.ddrescue_words.specs.Command.{Command}
 use Rattle.task_files.specs.declared.ending.Which.TheVariants.{DomainMap}
 use Rattle.task_files.specs.declared.ending.Ending.{Ending}
 use Rattle.task_files.specs.Names.{first_same}

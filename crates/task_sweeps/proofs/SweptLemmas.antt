@@ -35,9 +35,9 @@ use Rattle.fill_generate.specs.declared.job.Job.{Job}
 use Rattle.fill_generate.specs.SweepState.{setting_for}
 use Rattle.fill_generate.specs.Sweeping.{Around, BreaksBehind, EndsSweep, Saved, Unsaved, Cut, Broken, SweepTold, LookupTold, times_behind}
 use Rattle.fill_generate.proofs.TellLemmas.{between}
-use Rattle.work_steps.proofs.GainLemmas.{MayGain, may_gain, broke_behind}
-use Rattle.rescue_command.specs.declared.options.Options.{Options}
-use Rattle.rescue_command.specs.Command.{Command}
+use Rattle.work_rules.proofs.GainLemmas.{MayGain, may_gain, broke_behind}
+use Rattle.ddrescue_words.specs.declared.options.Options.{Options}
+use Rattle.ddrescue_words.specs.Command.{Command}
 use Rattle.task_sweeps.specs.declared.sweep.SweepReady.{SweepReady}
 use Rattle.task_files.specs.declared.ending.Ending.{Ending}
 use Rattle.task_files.specs.declared.ending.Ending.TheVariants.{NoMemory}

@@ -15,9 +15,9 @@ use Rattle.rescue_rules.specs.StopsBy.{StopsBy}
 use Rattle.sweep_rules.specs.Sweep.{Sweeper, Swept, filler, generator}
 use Rattle.sweep_rules.specs.SweepWork.{Sweeps, sweep_begins, sweep_lines}
 use Rattle.sweep_rules.specs.SweepStops.{FillPromise, GeneratePromise, pieces_before, sweep_saves}
-use Rattle.work_steps.specs.Work.{Deeds, WorkStep, Take, Look, Open, Works}
-use Rattle.rescue_command.specs.Options.{cluster_of}
-use Rattle.rescue_command.specs.Command.{Command}
+use Rattle.work_rules.specs.Work.{Deeds, WorkStep, Take, Look, Open, Works}
+use Rattle.ddrescue_words.specs.Options.{cluster_of}
+use Rattle.ddrescue_words.specs.Command.{Command}
 use Rattle.task_files.specs.declared.ending.Ending.{Ending}
 use Rattle.task_files.specs.declared.ending.Which.TheVariants.{DomainMap}
 use Rattle.task_files.specs.Asked.{Maps, setting_of}

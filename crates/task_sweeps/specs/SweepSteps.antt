@@ -23,8 +23,8 @@ use Rattle.sweep_rules.specs.Sweep.{Sweeper, Swept, generator}
 use Rattle.sweep_rules.specs.SweepLaws.{AreGiven}
 use Rattle.fill_generate.specs.declared.job.Job.{Job}
 use Rattle.fill_generate.specs.Sweeping.{Around, IsApart}
-use Rattle.rescue_command.specs.declared.options.Options.{Options}
-use Rattle.rescue_command.specs.Command.{Command}
+use Rattle.ddrescue_words.specs.declared.options.Options.{Options}
+use Rattle.ddrescue_words.specs.Command.{Command}
 use Rattle.task_sweeps.specs.declared.sweep.SweepReady.{SweepReady}
 use Rattle.task_files.specs.declared.ending.Ending.{Ending}
 use Rattle.task_files.specs.Asked.{Maps, domain_asked, setting_of}

@@ -3,17 +3,17 @@ ghost use Rattle.std.specs.Prelude.{ℕ, ◌<◌, ◌≤◌, ◌^◌, List, Opti
 ghost use Rattle.block_list.specs.Tiled.{Tiled};
 ghost use Rattle.block_list.specs.declared.status.Status.{Status};
 ghost use Rattle.mapfile_text.specs.declared.state.MapState.{MapState as State};
-ghost use Rattle.rescue_command.specs.Asking.{AreInLimits, told_by};
+ghost use Rattle.ddrescue_words.specs.Asking.{AreInLimits, told_by};
 ghost use Rattle.task_files.specs.Asked.{Maps, ArePlacedBy};
 ghost use Rattle.task_files.specs.Steps.{maps_read};
 ghost use Rattle.task_sweeps.specs.SweepSteps.{IsJobOver, IsSweepReady};
 
 use block_list::plain_tiles::PlainTiles;
 use block_list::tiles::NoMemory;
+use ddrescue_words::command::Command;
 use fill_generate::job::Job;
 use mapfile_text::heading::Heading;
 use mapfile_text::state::MapState;
-use rescue_command::command::Command;
 use rescue_domain::domain::Domain;
 use save_resume::names::Names;
 use std::alloc::Global;

@@ -1,7 +1,7 @@
 use Rattle.std.proofs.Common.{subst}
 use Rattle.option_values.specs.declared.command_error.CommandError.{CommandError}
 use Rattle.option_values.specs.declared.command_error.CommandError.TheVariants.{Usage}
-use Rattle.rescue_command.specs.Asking.{IsErrorOf}
+use Rattle.ddrescue_words.specs.Asking.{IsErrorOf}
 use Rattle.ddrescue_cli.proofs.StillLemmas.{starved_kept, refused_kept}
 use Rattle.ddrescue_cli.proofs.rescue.work.Goals as goal
 

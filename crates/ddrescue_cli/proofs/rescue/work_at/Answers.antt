@@ -1,4 +1,4 @@
-use Rattle.rescue_command.specs.Asking.{told_by}
+use Rattle.ddrescue_words.specs.Asking.{told_by}
 use Rattle.ddrescue_cli.specs.declared.aim.Aim.TheVariants.{Rescue as ToRescue, Fill as ToFill, Generate as ToGenerate}
 use Rattle.ddrescue_cli.proofs.SampleLemmas.{sample_kept}
 use Rattle.ddrescue_cli.proofs.TaskLemmas.{asked_task, never_sampled}

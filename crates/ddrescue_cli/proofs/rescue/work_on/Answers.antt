@@ -1,5 +1,5 @@
 use Rattle.option_words.specs.Words.{command_line}
-use Rattle.rescue_command.specs.Asking.{told_by}
+use Rattle.ddrescue_words.specs.Asking.{told_by}
 use Rattle.task_files.specs.Names.{program_name}
 use Rattle.task_files.proofs.ApartLemmas.{named_apart}
 use Rattle.ddrescue_cli.proofs.StillLemmas.{plan_kept}

@@ -1,5 +1,5 @@
 -- By the step at which the work stopped.
-use Rattle.log_command.specs.Command.{told_by}
+use Rattle.ddrescuelog_words.specs.Command.{told_by}
 use Rattle.ddrescuelog_cli.proofs.CreateLemmas.{created_starved, created_stopped, created_refused, created, is_alone, feed_behind_save}
 use Rattle.ddrescuelog_cli.proofs.create.create_map.Goals as goal
 

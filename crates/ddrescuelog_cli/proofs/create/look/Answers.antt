@@ -1,5 +1,5 @@
 -- By whether a file stands there, and what the read of the domain map answered.
-use Rattle.log_command.specs.Command.{told_by}
+use Rattle.ddrescuelog_words.specs.Command.{told_by}
 use Rattle.ddrescuelog_cli.proofs.LookLemmas.{looks_stopped, looks_by}
 use Rattle.ddrescuelog_cli.proofs.create.look.Goals as goal
 

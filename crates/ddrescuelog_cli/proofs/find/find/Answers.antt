@@ -1,6 +1,6 @@
 -- By what each mode made and printed.
 use Rattle.std.proofs.Common.{ap, ◌∙◌}
-use Rattle.log_command.specs.Command.{told_by}
+use Rattle.ddrescuelog_words.specs.Command.{told_by}
 use Rattle.ddrescuelog_cli.specs.Results.{summary_text}
 use Rattle.ddrescuelog_cli.proofs.FindLemmas.{changed_found, combined_found, completed_found, summarized_found, listed_found}
 use Rattle.ddrescuelog_cli.proofs.find.find.Goals as goal

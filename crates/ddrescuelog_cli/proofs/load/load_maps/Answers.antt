@@ -1,7 +1,7 @@
 -- By how far the reads came.
 use Rattle.std.proofs.Common.{◌∙◌}
 use Rattle.std.proofs.lemmas.Result.{err_from_is_err_and}
-use Rattle.log_command.specs.Command.{told_by}
+use Rattle.ddrescuelog_words.specs.Command.{told_by}
 use Rattle.ddrescuelog_cli.proofs.LoadedLemmas.{mapfile_refused, other_refused, domain_refused, loaded_or_starved, cause_behind}
 use Rattle.ddrescuelog_cli.proofs.load.load_maps.Goals as goal
 

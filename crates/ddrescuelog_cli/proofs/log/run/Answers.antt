@@ -1,8 +1,8 @@
 -- By what the command asks for.
 use Rattle.std.proofs.Common.{◌≡◌, false, ap, rules}
 use Rattle.option_words.specs.Words.{command_line}
-use Rattle.log_command.specs.Modes.{creates}
-use Rattle.log_command.specs.Command.{told_by}
+use Rattle.ddrescuelog_words.specs.Modes.{creates}
+use Rattle.ddrescuelog_words.specs.Command.{told_by}
 use Rattle.ddrescuelog_cli.specs.Names.{program_name}
 use Rattle.ddrescuelog_cli.specs.Modes.{prints}
 use Rattle.ddrescuelog_cli.proofs.WorkedLemmas.{creates_ran, feed_created, ran_untaken, ran_worked, starved_worked}

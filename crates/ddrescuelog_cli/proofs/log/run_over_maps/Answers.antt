@@ -1,6 +1,6 @@
 -- By how far it came.
 use Rattle.std.proofs.Common.{sym, ◌∙◌}
-use Rattle.log_command.specs.Command.{told_by}
+use Rattle.ddrescuelog_words.specs.Command.{told_by}
 use Rattle.ddrescuelog_cli.proofs.AfterLemmas.{removing_prints_nothing}
 use Rattle.ddrescuelog_cli.proofs.WorkedLemmas.{load_stopped, load_removed, load_found, found_behind}
 use Rattle.ddrescuelog_cli.proofs.log.run_over_maps.Goals as goal

@@ -3,7 +3,7 @@ use Rattle.std.proofs.Common.{subst}
 use Rattle.option_values.specs.declared.command_error.CommandError.{CommandError}
 use Rattle.option_values.specs.declared.command_error.CommandError.TheVariants.{Usage}
 use Rattle.program_promise.proofs.PromiseLemmas.{refused, starved}
-use Rattle.log_command.specs.Command.{told_by, IsErrorOf}
+use Rattle.ddrescuelog_words.specs.Command.{told_by, IsErrorOf}
 use Rattle.ddrescuelog_cli.specs.Ddrescuelog.{log_program}
 use Rattle.ddrescuelog_cli.proofs.PromiseLemmas.{asked_done, log_made}
 use Rattle.ddrescuelog_cli.proofs.log.work.Goals as goal

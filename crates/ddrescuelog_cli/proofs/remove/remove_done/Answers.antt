@@ -1,7 +1,7 @@
 -- By the call that failed, if one did.
 use Rattle.std.proofs.Common.{refl, inl, inr}
 use Rattle.crash_site.specs.declared.site.SiteCall.TheVariants.{MapRemove, MapSettle}
-use Rattle.log_command.specs.Command.{told_by}
+use Rattle.ddrescuelog_words.specs.Command.{told_by}
 use Rattle.ddrescuelog_cli.proofs.RemoveLemmas.{removes_broke, broke_settling, removes}
 use Rattle.ddrescuelog_cli.proofs.remove.remove_done.Goals as goal
 

@@ -1,7 +1,7 @@
 -- By how far the work came.
 use Rattle.std.proofs.Common.{Err, Ok, ap, refl, subst, sym}
 use Rattle.mapfile_text.specs.HeadingLines.{HeadingLines}
-use Rattle.verify_command.specs.Command.{Command, told_by}
+use Rattle.ddrescueverify_words.specs.Command.{Command, told_by}
 use Rattle.ddrescueverify_cli.proofs.AnswerLemmas.{AnswersAs}
 use Rattle.ddrescueverify_cli.proofs.PromiseLemmas.{apart_never}
 use Rattle.ddrescueverify_cli.proofs.WorkedLemmas.{planned_worked, still_worked}

@@ -1,7 +1,7 @@
 -- What was done behind the names, by where it ended.
 use Rattle.std.proofs.lemmas.Result.{err_from_is_err_and}
 use Rattle.faulty_source.proofs.Keeping.{keeps_more}
-use Rattle.verify_command.specs.Command.{told_by}
+use Rattle.ddrescueverify_words.specs.Command.{told_by}
 use Rattle.ddrescueverify_cli.proofs.OpenedLemmas.{compare_fails, compare_saves, input_fails, load_fails, not_opened, output_fails}
 use Rattle.ddrescueverify_cli.proofs.verify.verify.Goals as goal
 

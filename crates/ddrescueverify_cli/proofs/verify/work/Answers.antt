@@ -3,7 +3,7 @@ use Rattle.std.proofs.Common.{subst}
 use Rattle.option_values.specs.declared.command_error.CommandError.{CommandError}
 use Rattle.option_values.specs.declared.command_error.CommandError.TheVariants.{Usage}
 use Rattle.program_promise.proofs.PromiseLemmas.{refused, starved}
-use Rattle.verify_command.specs.Command.{told_by, IsErrorOf}
+use Rattle.ddrescueverify_words.specs.Command.{told_by, IsErrorOf}
 use Rattle.ddrescueverify_cli.specs.Ddrescueverify.{verify_program}
 use Rattle.ddrescueverify_cli.proofs.PromiseLemmas.{asked_done, named, verify_made}
 use Rattle.ddrescueverify_cli.proofs.verify.work.Goals as goal

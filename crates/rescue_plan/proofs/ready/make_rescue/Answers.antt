@@ -7,7 +7,7 @@ use Rattle.rescue_domain.specs.Domain.{whole_domain}
 use Rattle.rescue_domain.specs.Parts.{covers}
 use Rattle.rescue_rules.specs.Preparation.{prepared}
 use Rattle.rescue_core.specs.RunState.{started}
-use Rattle.rescue_command.specs.declared.options.Options.{Options}
+use Rattle.ddrescue_words.specs.declared.options.Options.{Options}
 use Rattle.task_files.specs.Asked.{ArePlacedBy, no_maps}
 use Rattle.task_rescue.proofs.BeginLemmas.{begun_over, shows_nothing, short_made, suits_made}
 use Rattle.task_files.proofs.PlacedLemmas.{sound_settings}

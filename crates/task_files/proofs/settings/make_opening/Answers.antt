@@ -1,5 +1,5 @@
 use Rattle.std.proofs.Common.{rules}
-use Rattle.rescue_command.specs.Asking.{told_by}
+use Rattle.ddrescue_words.specs.Asking.{told_by}
 use Rattle.task_files.proofs.OpeningLemmas.{says_size}
 use Rattle.task_files.proofs.settings.make_opening.Goals as goal
 

@@ -2,7 +2,7 @@ use Rattle.std.proofs.Common.{sym, ◌∙◌}
 use Rattle.std.proofs.lemmas.Result.{err_from_is_err_and}
 use Rattle.faulty_source.proofs.Keeping.{keeps_self}
 use Rattle.save_resume.proofs.FillLemmas.{keeps_more as site_keeps_more}
-use Rattle.rescue_command.specs.Asking.{told_by}
+use Rattle.ddrescue_words.specs.Asking.{told_by}
 use Rattle.task_files.specs.declared.ending.Which.TheVariants.{DomainMap, TestMap}
 use Rattle.task_files.proofs.CauseLemmas.{map_causes, map_drafts, causes_behind}
 use Rattle.task_files.proofs.WorkedLemmas.{worked_domain, worked_test, worked_behind}

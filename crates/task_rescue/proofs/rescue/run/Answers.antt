@@ -1,6 +1,6 @@
 use Rattle.std.proofs.Common.{None, arith}
 use Rattle.faulty_source.proofs.Keeping.{stays_self}
-use Rattle.rescue_command.specs.Asking.{told_by}
+use Rattle.ddrescue_words.specs.Asking.{told_by}
 use Rattle.task_files.specs.Asked.{Maps}
 use Rattle.task_files.specs.Steps.{maps_read}
 use Rattle.task_rescue.proofs.RanLemmas.{ran_by, ran_unbegun}

@@ -1,7 +1,7 @@
 use Rattle.std.proofs.Common.{subst, rules, None, Some}
 use Rattle.faulty_source.specs.SourceChanges.{Stays as SourceStays}
 use Rattle.rescue_domain.proofs.TestingLemmas.{stays_below}
-use Rattle.rescue_command.specs.Asking.{told_by}
+use Rattle.ddrescue_words.specs.Asking.{told_by}
 use Rattle.copy_passes.proofs.TurnLemmas.{between}
 use Rattle.task_files.specs.Asked.{setting_of}
 use Rattle.task_files.specs.Answers.{Causes}

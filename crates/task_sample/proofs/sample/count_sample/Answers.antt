@@ -1,5 +1,5 @@
 use Rattle.std.proofs.Common.{◌∙◌, None, ap}
-use Rattle.rescue_command.specs.Asking.{told_by}
+use Rattle.ddrescue_words.specs.Asking.{told_by}
 use Rattle.mapfile_text.specs.HeadingLines.{HeadingLines}
 use Rattle.task_files.specs.Steps.{maps_read}
 use Rattle.task_sample.proofs.SampledLemmas.{names_alike, sample_counted, sample_placed}

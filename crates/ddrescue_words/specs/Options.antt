@@ -1,0 +1,230 @@
+-- The options of a rescue, one a row, and what they ask for. A later option is a row more.
+use Rattle.std.specs.Prelude.{ℕ, ◌+◌, ◌-◌, ◌*◌, ◌/◌, ◌^◌, min, max, Bool, true, false, nat_eq, nat_le, nat_lt, List, [], ◌∷◌, ◌++◌, length, Option, Some, None, Result, option_map, option_and_then, codes, if◌then◌else◌}
+use Rattle.std.specs.Result.{result_ok}
+use Rattle.size_suffixes.specs.Number.{number}
+use Rattle.size_suffixes.specs.Interval.{interval}
+use Rattle.block_list.specs.Types.{types_of}
+use Rattle.option_words.specs.declared.row.Takes.TheVariants.{Never, Always}
+use Rattle.option_words.specs.declared.reading.Item.{Item}
+use Rattle.option_values.specs.Values.{Meaning, OptionRow, is_empty_text, is_name, meanings_of, number_by, size_by, within_range}
+use Rattle.option_values.specs.Values.{options_in as options_by}
+use Rattle.ddrescue_words.specs.declared.options.Options.{Options}
+
+-- ---- sizes in sectors
+
+-- a cluster in sectors: that of the option, or as many as 65,536 bytes have, but one at least
+abbrev pub sectors_of : Options → Option ℕ → ℕ
+sectors_of o (Some n) = n
+sectors_of o None = max 1 (65536 / o.sector)
+
+-- a cluster in bytes
+abbrev pub cluster_of : Options → ℕ
+cluster_of o = sectors_of o o.cluster_sectors * o.sector
+
+-- no cluster is larger than this, in bytes
+abbrev pub cluster_limit : ℕ
+cluster_limit = 16777216
+
+-- a size rounded up to whole sectors
+abbrev pub whole_sectors : (sector : ℕ) → ℕ → ℕ
+whole_sectors sector n = (n + (sector - 1)) / sector * sector
+
+abbrev pub in_sectors : Options → ℕ → ℕ
+in_sectors o n = whole_sectors o.sector n
+
+-- ---- how far copying skips
+
+-- how far copying skips behind a failed read in bytes, at first and at most, where no option says it
+abbrev pub default_skip : ℕ
+default_skip = 65536
+
+abbrev pub default_skip_max : ℕ
+default_skip_max = 2 ^ 30
+
+-- the parts of a text between its commas
+abbrev pub with_first : ℕ → List (List ℕ) → List (List ℕ)
+with_first c [] = (c ∷ []) ∷ []
+with_first c (part ∷ parts) = (c ∷ part) ∷ parts
+
+abbrev pub comma_parts : List ℕ → List (List ℕ)
+comma_parts [] = [] ∷ []
+comma_parts (c ∷ text) = if nat_eq c 44 then [] ∷ comma_parts text else with_first c (comma_parts text)
+
+-- a size that may be left out
+abbrev pub size_if_given : (sector : ℕ) → List ℕ → Option (Option ℕ)
+size_if_given sector text = if is_empty_text text then Some None else option_map Some (size_by sector (Some text))
+
+-- Both skip sizes, before they are rounded to whole sectors. If the largest isn't given it is 1 GiB, or the first if
+-- that is more; if the first isn't given it is 64 KiB, or the largest if that is less. The first may not be above the
+-- largest.
+abbrev pub skips_given : (first most : Option ℕ) → Option (ℕ × ℕ)
+skips_given None None = Some (default_skip, default_skip_max)
+skips_given (Some first) None = Some (first, max first default_skip_max)
+skips_given None (Some most) = Some (min most default_skip, most)
+skips_given (Some first) (Some most) = if nat_le first most then Some (first, most) else None
+
+abbrev pub skips_in_parts : (sector : ℕ) → List (List ℕ) → Option (ℕ × ℕ)
+skips_in_parts sector [] = None
+skips_in_parts sector (first ∷ []) = option_and_then (λ f. skips_given f None) (size_if_given sector first)
+skips_in_parts sector (first ∷ most ∷ []) =
+    option_and_then (λ f. option_and_then (λ m. skips_given f m) (size_if_given sector most))
+    (size_if_given sector first)
+skips_in_parts sector (first ∷ most ∷ third ∷ more) = None
+
+-- The skip sizes of `initial`, `initial,largest`, `,largest` or `initial,`; an empty value is bad, and so is a size
+-- that is 2^63 or more in whole sectors.
+abbrev pub skips_of : (sector : ℕ) → List ℕ → Option (ℕ × ℕ)
+skips_of sector text =
+    if is_empty_text text then None
+    else option_and_then (λ (k : ℕ × ℕ). if nat_lt (whole_sectors sector k.1) (2 ^ 63) then Some k else None)
+    (skips_in_parts sector (comma_parts text))
+
+-- ---- limits
+
+-- a limit of areas: how many there may be, and whether that many new ones
+abbrev pub limit_with : (new : Bool) → List ℕ → Option (Bool × Option ℕ)
+limit_with new text = option_map (λ n. (new, Some n)) (result_ok (number text))
+
+-- It is a number, or, where new areas alone count, a number behind a `+`.
+abbrev pub area_limit_of : List ℕ → Option (Bool × Option ℕ)
+area_limit_of [] = None
+area_limit_of (c ∷ text) = if nat_eq c 43 then limit_with true text else limit_with false (c ∷ text)
+
+-- ---- the rows
+
+-- an option that stands alone, and one with a value
+abbrev pub flag : (letter : ℕ) → List ℕ → (Options → Options) → OptionRow Options
+flag letter name sets =
+    record { letter = Some letter; name = name; takes = Never; sets = λ sector o value. Some (sets o) }
+
+abbrev pub valued : (letter : ℕ) → List ℕ → (ℕ → Options → Option (List ℕ) → Option Options) → OptionRow Options
+valued letter name sets = record { letter = Some letter; name = name; takes = Always; sets = sets }
+
+-- The letters of options that are looked at by themselves. The size of a sector (`-b`) is set before all others, the
+-- size of a cluster (`-c`) is looked at again behind all, `-F` and `-G` are modes, which don't go together and not with
+-- `-H`; `-H` and `-m` name maps, and `-q` asks that nothing be said.
+abbrev pub sector_letter : ℕ
+sector_letter = 98
+
+abbrev pub cluster_letter : ℕ
+cluster_letter = 99
+
+abbrev pub fill_letter : ℕ
+fill_letter = 70
+
+abbrev pub generate_letter : ℕ
+generate_letter = 71
+
+abbrev pub test_letter : ℕ
+test_letter = 72
+
+abbrev pub domain_letter : ℕ
+domain_letter = 109
+
+abbrev pub quiet_letter : ℕ
+quiet_letter = 113
+
+-- the options that have a letter, each with what it sets by the size of a sector and the text of its value
+abbrev pub lettered_rows : List (OptionRow Options)
+lettered_rows =
+    valued 97 (codes "min-read-rate") (λ sector o value. option_map (λ n. record o { min_rate = n })
+    (option_and_then (within_range 1 (2 ^ 63)) (size_by sector value)))
+    ∷ flag 65 (codes "try-again") (λ o. record o { try_again = true })
+    ∷ valued sector_letter (codes "sector-size") (λ sector o value. Some o)
+    ∷ valued cluster_letter (codes "cluster-size")
+    (λ sector o value. option_map (λ n. record o { cluster_sectors = Some n })
+    (option_and_then (within_range 1 65536) (size_by sector value)))
+    ∷ flag 67 (codes "complete-only") (λ o. record o { complete_only = true })
+    ∷ valued 101 (codes "max-bad-areas")
+    (λ sector o value. option_map (λ (k : Bool × Option ℕ). record o { new_areas = k.0; max_bad_areas = k.1 })
+    (option_and_then area_limit_of value))
+    ∷ flag 102 (codes "force") (λ o. record o { forced = true })
+    ∷ valued fill_letter (codes "fill-mode") (λ sector o value. option_map (λ t. record o { fill = Some t })
+    (option_and_then types_of value))
+    ∷ flag generate_letter (codes "generate-mode") (λ o. record o { generate = true })
+    ∷ valued test_letter (codes "test-mode") (λ sector o value. if is_name value then Some o else None)
+    ∷ valued 105 (codes "input-position") (λ sector o value. option_map (λ n. record o { input_position = n })
+    (size_by sector value))
+    ∷ valued 75 (codes "skip-size")
+    (λ sector o value. option_map (λ (k : ℕ × ℕ). record o { skip = k.0; skip_max = k.1 })
+    (option_and_then (skips_of sector) value))
+    ∷ flag 76 (codes "loose-domain") (λ o. record o { loose = true })
+    ∷ valued domain_letter (codes "domain-mapfile") (λ sector o value. if is_name value then Some o else None)
+    ∷ flag 77 (codes "retrim") (λ o. record o { retrim = true })
+    ∷ flag 110 (codes "no-scrape") (λ o. record o { no_scrape = true })
+    ∷ flag 78 (codes "no-trim") (λ o. record o { no_trim = true })
+    ∷ valued 111 (codes "output-position") (λ sector o value. option_map (λ n. record o { output_position = Some n })
+    (size_by sector value))
+    ∷ flag quiet_letter (codes "quiet") (λ o. record o { quiet = true })
+    ∷ valued 114 (codes "retry-passes") (λ sector o value. option_map (λ n. record o { retries = n })
+    (option_and_then (within_range 0 65535) (number_by value)))
+    ∷ flag 82 (codes "reverse") (λ o. record o { reverse = true })
+    ∷ valued 115 (codes "size") (λ sector o value. option_map (λ n. record o { size = Some n }) (size_by sector value))
+    ∷ valued 84 (codes "timeout") (λ sector o value. option_map (λ n. record o { timeout = Some n })
+    (option_and_then (λ text. result_ok (interval text)) value))
+    ∷ flag 117 (codes "unidirectional") (λ o. record o { unidirectional = true })
+    ∷ flag 118 (codes "verbose") (λ o. record o { verbose = true })
+    ∷ valued 88 (codes "max-read-errors") (λ sector o value. option_map (λ n. record o { max_read_errors = Some n })
+    (number_by value))
+    ∷ []
+
+-- the size of a sample in KiB that a value gives, if it does
+abbrev pub sample_of : Option (List ℕ) → Option ℕ
+sample_of value = option_and_then (within_range 1 65536) (number_by value)
+
+-- the option that has none: the size of a sample
+abbrev pub sample_row : OptionRow Options
+sample_row = record {
+  letter = None;
+  name = codes "sample";
+  takes = Always;
+  sets = λ sector o value. option_map (λ n. record o { sample = Some n }) (sample_of value);
+}
+
+-- all options, that of a sample behind the others
+abbrev pub option_rows : List (OptionRow Options)
+option_rows = lettered_rows ++ sample_row ∷ []
+
+-- its row, counted from 0
+abbrev pub sample_place : ℕ
+sample_place = length lettered_rows
+
+-- each option's letter, its long name, and whether it takes a value
+abbrev pub option_meanings : List Meaning
+option_meanings = meanings_of option_rows
+
+-- what is asked for where no option but the sector's is given
+abbrev pub no_options : (sector : ℕ) → Options
+no_options sector = record {
+  sector = sector;
+  cluster_sectors = None;
+  skip = default_skip;
+  skip_max = default_skip_max;
+  min_rate = 0;
+  input_position = 0;
+  output_position = None;
+  size = None;
+  retries = 0;
+  max_read_errors = None;
+  max_bad_areas = None;
+  new_areas = false;
+  timeout = None;
+  try_again = false;
+  retrim = false;
+  no_trim = false;
+  no_scrape = false;
+  reverse = false;
+  unidirectional = false;
+  complete_only = false;
+  fill = None;
+  generate = false;
+  loose = false;
+  forced = false;
+  quiet = false;
+  verbose = false;
+  sample = None;
+}
+
+-- what all options ask for, or the word of the first bad value
+abbrev pub options_in : List (List ℕ) → List Item → Result Options ℕ
+options_in words items = options_by option_rows sector_letter no_options words items

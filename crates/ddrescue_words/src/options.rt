@@ -1,0 +1,494 @@
+//! The options of a rescue, and what they ask for.
+ghost use Rattle.std.specs.Prelude.{◌≡◌, ◌^◌, ◌<◌, ◌≤◌, Some, option_map, option_and_then};
+ghost use Rattle.std.specs.Result.{result_ok};
+ghost use Rattle.size_suffixes.specs.Interval.{interval};
+ghost use Rattle.option_values.specs.Values.{number_by, row_of, set_by, size_by, within_range};
+ghost use Rattle.ddrescue_words.specs.Options.{area_limit_of, cluster_of, in_sectors, lettered_rows, limit_with, no_options, option_rows, sample_of, sample_row, sectors_of, skips_of};
+ghost use Rattle.ddrescue_words.specs.Asking.{AreInLimits, AreOptions, is_too_large, wants_mapfile};
+
+use crate::skips::{DEFAULT_SKIP, DEFAULT_SKIP_MAX, in_sectors, read_skips};
+use block_list::types::TypeSet;
+use option_values::given::letter_of;
+use option_values::settings::Settings;
+use option_values::values::{is_name, number_by, size_by, within_range};
+use option_words::row::{Row, Takes};
+use option_words::table::OptionTable;
+use size_suffixes::interval::read_interval;
+use size_suffixes::number::read_number;
+
+/// The size of a cluster in bytes, where no option gives it and no sector is larger.
+const DEFAULT_CLUSTER: u64 = 65_536;
+
+/// The most sectors of a cluster.
+const MOST_CLUSTER_SECTORS: u64 = 65_536;
+
+/// The largest cluster in bytes.
+const MOST_CLUSTER: u64 = 16_777_216;
+
+/// The most passes of retrying.
+const MOST_RETRIES: u64 = 65_535;
+
+/// The letter of the option that gives the size of a sector.
+pub(crate) const SECTOR_SIZE: char = 'b';
+
+/// The letter of the one that gives the size of a cluster.
+pub(crate) const CLUSTER_SIZE: char = 'c';
+
+/// The letter of the one that gives the statuses that are filled.
+pub(crate) const FILL_MODE: char = 'F';
+
+/// The letter of the one that asks for generate mode.
+pub(crate) const GENERATE_MODE: char = 'G';
+
+/// The letter of the one that names the map of what can be read.
+pub(crate) const TEST_MODE: char = 'H';
+
+/// The letter of the one that names the map of what is rescued.
+pub(crate) const DOMAIN_MAPFILE: char = 'm';
+
+/// The letter of the one that asks that nothing be said.
+pub(crate) const QUIET: char = 'q';
+
+/// The row of the option that has no letter, counted from 0: the size of a sample.
+pub(crate) const SAMPLE: usize = 26;
+
+/// The most KiB of a sample.
+const MOST_SAMPLE: u64 = 65_536;
+
+/// The options. A later one is a row here, in front of the last, and an arm in `with_letter`.
+pub static ROWS: [Row; 27] = [
+    Row {
+        short: Some('a'),
+        long: "min-read-rate",
+        takes: Takes::Always,
+    },
+    Row {
+        short: Some('A'),
+        long: "try-again",
+        takes: Takes::Never,
+    },
+    Row {
+        short: Some('b'),
+        long: "sector-size",
+        takes: Takes::Always,
+    },
+    Row {
+        short: Some('c'),
+        long: "cluster-size",
+        takes: Takes::Always,
+    },
+    Row {
+        short: Some('C'),
+        long: "complete-only",
+        takes: Takes::Never,
+    },
+    Row {
+        short: Some('e'),
+        long: "max-bad-areas",
+        takes: Takes::Always,
+    },
+    Row {
+        short: Some('f'),
+        long: "force",
+        takes: Takes::Never,
+    },
+    Row {
+        short: Some('F'),
+        long: "fill-mode",
+        takes: Takes::Always,
+    },
+    Row {
+        short: Some('G'),
+        long: "generate-mode",
+        takes: Takes::Never,
+    },
+    Row {
+        short: Some('H'),
+        long: "test-mode",
+        takes: Takes::Always,
+    },
+    Row {
+        short: Some('i'),
+        long: "input-position",
+        takes: Takes::Always,
+    },
+    Row {
+        short: Some('K'),
+        long: "skip-size",
+        takes: Takes::Always,
+    },
+    Row {
+        short: Some('L'),
+        long: "loose-domain",
+        takes: Takes::Never,
+    },
+    Row {
+        short: Some('m'),
+        long: "domain-mapfile",
+        takes: Takes::Always,
+    },
+    Row {
+        short: Some('M'),
+        long: "retrim",
+        takes: Takes::Never,
+    },
+    Row {
+        short: Some('n'),
+        long: "no-scrape",
+        takes: Takes::Never,
+    },
+    Row {
+        short: Some('N'),
+        long: "no-trim",
+        takes: Takes::Never,
+    },
+    Row {
+        short: Some('o'),
+        long: "output-position",
+        takes: Takes::Always,
+    },
+    Row {
+        short: Some('q'),
+        long: "quiet",
+        takes: Takes::Never,
+    },
+    Row {
+        short: Some('r'),
+        long: "retry-passes",
+        takes: Takes::Always,
+    },
+    Row {
+        short: Some('R'),
+        long: "reverse",
+        takes: Takes::Never,
+    },
+    Row {
+        short: Some('s'),
+        long: "size",
+        takes: Takes::Always,
+    },
+    Row {
+        short: Some('T'),
+        long: "timeout",
+        takes: Takes::Always,
+    },
+    Row {
+        short: Some('u'),
+        long: "unidirectional",
+        takes: Takes::Never,
+    },
+    Row {
+        short: Some('v'),
+        long: "verbose",
+        takes: Takes::Never,
+    },
+    Row {
+        short: Some('X'),
+        long: "max-read-errors",
+        takes: Takes::Always,
+    },
+    Row {
+        short: None,
+        long: "sample",
+        takes: Takes::Always,
+    },
+];
+
+/// What the options of a command line ask for.
+#[derive(Clone, Copy, Debug, PartialEq, Eq)]
+pub struct Options {
+    /// The size of a sector in bytes; 512 if it isn't given.
+    pub sector: u64,
+    /// The size of a cluster in sectors; if it isn't given, as many as 65,536 bytes have, but one at least.
+    pub cluster_sectors: Option<u64>,
+    /// How far copying skips at first behind a failed or slow read, in bytes and not yet rounded up to whole sectors;
+    /// 64 KiB if it isn't given, or the largest skip if that is less.
+    pub skip: u64,
+    /// How far it skips at most, in bytes and not yet rounded up to whole sectors; 1 GiB if it isn't given, or the
+    /// first skip if that is more.
+    pub skip_max: u64,
+    /// Below how many bytes a second a read of copying is slow; 0 if it isn't given, and then none is.
+    pub min_rate: u64,
+    /// Where the rescue begins in the infile, in bytes; 0 if it isn't given.
+    pub input_position: u64,
+    /// Where it begins in the outfile, in bytes; as in the infile if it isn't given.
+    pub output_position: Option<u64>,
+    /// How many bytes are rescued at most; no limit if it isn't given.
+    pub size: Option<u64>,
+    /// How many passes go over the bad sectors again; 0 if it isn't given.
+    pub retries: u32,
+    /// How many reads may fail; no limit if it isn't given.
+    pub max_read_errors: Option<u64>,
+    /// How many areas may have failed; no limit if it isn't given.
+    pub max_bad_areas: Option<u64>,
+    /// That many may have failed beyond those that were there at first; by default those count too.
+    pub new_areas: bool,
+    /// For how many seconds there may be no read that gives all it was asked for or meets the infile's end; no limit if
+    /// it isn't given.
+    pub timeout: Option<u64>,
+    /// What the mapfile leaves to trim or to scrape is copied again; by default it isn't.
+    pub try_again: bool,
+    /// What the mapfile calls failed is trimmed again; by default it isn't.
+    pub retrim: bool,
+    /// Nothing is trimmed; by default it is.
+    pub no_trim: bool,
+    /// Nothing is scraped; by default it is.
+    pub no_scrape: bool,
+    /// Each pass goes the other way; by default the first goes upwards.
+    pub reverse: bool,
+    /// All passes go one way; by default they alternate.
+    pub unidirectional: bool,
+    /// Only what the mapfile lists is rescued; by default what it leaves out is too.
+    pub complete_only: bool,
+    /// A pattern is written over what has one of these statuses in the mapfile; nothing is if it isn't given.
+    pub fill: Option<TypeSet>,
+    /// The mapfile is made from what the outfile holds; by default it isn't.
+    pub generate: bool,
+    /// The map of what is to be rescued may have gaps; by default it may not.
+    pub loose: bool,
+    /// The outfile may be something else than a regular file; by default it may not.
+    pub forced: bool,
+    /// Nothing is put on the console; by default lines and messages are.
+    pub quiet: bool,
+    /// It is said first how much is to be rescued; by default it isn't.
+    pub verbose: bool,
+    /// A sample of so many KiB is rescued in place of an infile; none if it isn't given.
+    pub sample: Option<u64>,
+}
+
+impl Options {
+    /// What is asked for where no option but the sector's is given.
+    pub(crate) fn none(sector: u64) -> Options
+        ensures { result ≡ no_options sector }
+    {
+        Options {
+            sector,
+            cluster_sectors: None,
+            skip: DEFAULT_SKIP,
+            skip_max: DEFAULT_SKIP_MAX,
+            min_rate: 0,
+            input_position: 0,
+            output_position: None,
+            size: None,
+            retries: 0,
+            max_read_errors: None,
+            max_bad_areas: None,
+            new_areas: false,
+            timeout: None,
+            try_again: false,
+            retrim: false,
+            no_trim: false,
+            no_scrape: false,
+            reverse: false,
+            unidirectional: false,
+            complete_only: false,
+            fill: None,
+            generate: false,
+            loose: false,
+            forced: false,
+            quiet: false,
+            verbose: false,
+            sample: None,
+        }
+    }
+
+    /// The sectors of a cluster.
+    fn sectors(&self) -> u64
+        requires { 0 < self.now.sector }
+        ensures { result ≡ sectors_of self.now self.now.cluster_sectors }
+    {
+        match self.cluster_sectors {
+            Some(sectors) => sectors,
+            None => (DEFAULT_CLUSTER / self.sector).max(1),
+        }
+    }
+
+    /// Whether a cluster is too large.
+    pub(crate) fn is_too_large(&self) -> bool
+        requires { 0 < self.now.sector }
+        ensures { result ≡ is_too_large self.now }
+    {
+        self.sectors().saturating_mul(self.sector) > MOST_CLUSTER
+    }
+
+    /// Whether a mapfile is wanted: it says what is to be rescued, filled or generated.
+    pub(crate) fn wants_mapfile(&self) -> bool
+        ensures { result ≡ wants_mapfile self.now }
+    {
+        self.complete_only || self.fill.is_some() || self.generate
+    }
+
+    /// The size of a cluster in bytes.
+    pub fn cluster(&self) -> u64
+        requires { AreInLimits self.now }
+        ensures { result ≡ cluster_of self.now }
+    {
+        self.sectors() * self.sector
+    }
+
+    /// How far copying skips at first, in bytes, as whole sectors.
+    pub fn first_skip(&self) -> u64
+        requires { AreInLimits self.now }
+        ensures { result ≡ in_sectors self.now self.now.skip }
+    {
+        in_sectors(self.skip, self.sector)
+    }
+
+    /// How far it skips at most, in bytes, as whole sectors.
+    pub fn largest_skip(&self) -> u64
+        requires { AreInLimits self.now }
+        ensures { result ≡ in_sectors self.now self.now.skip_max }
+    {
+        in_sectors(self.skip_max, self.sector)
+    }
+}
+
+/// The table of the options.
+pub(crate) fn option_table() -> OptionTable
+    ensures { AreOptions result }
+{
+    match OptionTable::checked(&ROWS) {
+        Some(table) => table,
+        None => unreachable!(),
+    }
+}
+
+/// The least rate that a value gives, if it does.
+fn read_min_rate(sector: u64, value: Option<&str>) -> Option<u64>
+    requires low { 0 < sector }
+    requires high { sector ≤ 1048576 }
+    ensures { result ≡ option_and_then (within_range 1 (2 ^ 63))
+        (size_by sector (option_map (λ v. v.now) value.entry)) }
+{
+    within_range(size_by(sector, value)?, 1, 1 << 63)
+}
+
+/// The sectors of a cluster that a value gives, if it does.
+fn read_cluster_sectors(sector: u64, value: Option<&str>) -> Option<u64>
+    requires low { 0 < sector }
+    requires high { sector ≤ 1048576 }
+    ensures { result ≡ option_and_then (within_range 1 65536) (size_by sector (option_map (λ v. v.now) value.entry)) }
+{
+    within_range(size_by(sector, value)?, 1, MOST_CLUSTER_SECTORS)
+}
+
+/// The passes of retrying that a value gives, if it does.
+fn read_retries(value: Option<&str>) -> Option<u32>
+    ensures { result ≡ option_and_then (within_range 0 65535) (number_by (option_map (λ v. v.now) value.entry)) }
+{
+    let retries = number_by(value)?;
+    if retries <= MOST_RETRIES {
+        Some(retries as u32)
+    } else {
+        None
+    }
+}
+
+/// The limit of areas that a number gives, if it is one.
+fn limit_with(new: bool, number: &str) -> Option<(bool, Option<u64>)>
+    ensures { result ≡ limit_with new number.now }
+{
+    match read_number(number) {
+        Ok(number) => Some((new, Some(number))),
+        Err(_) => None,
+    }
+}
+
+/// The limit of areas that a value gives, if it does, and whether new areas alone count.
+fn read_area_limit(value: &str) -> Option<(bool, Option<u64>)>
+    ensures { result ≡ area_limit_of value.now }
+{
+    match value.strip_prefix('+') {
+        Some(number) => limit_with(true, number),
+        None => limit_with(false, value),
+    }
+}
+
+/// The seconds that a value gives, if it does.
+fn read_timeout(value: &str) -> Option<u64>
+    ensures { result ≡ result_ok (interval value.now) }
+{
+    read_interval(value).ok()
+}
+
+/// The KiB of a sample that a value gives, if it does.
+fn read_sample(value: Option<&str>) -> Option<u64>
+    ensures { result ≡ sample_of (option_map (λ v. v.now) value.entry) }
+{
+    within_range(number_by(value)?, 1, MOST_SAMPLE)
+}
+
+/// What the option of a sample sets by its value; nothing where that is a bad one.
+fn with_sample(options: Options, sector: u64, value: Option<&str>) -> Option<Options>
+    ensures { result ≡ set_by (Some sample_row) sector options (option_map (λ v. v.now) value.entry) }
+{
+    let kib = read_sample(value)?;
+    Some(Options {
+        sample: Some(kib),
+        ..options
+    })
+}
+
+/// Writes the arms of a `match` over the letters: each sets one field or two. The size of a sector is set before, and
+/// the names of maps are read apart.
+macro_rules! set_by_letter {
+    ($options:ident, $letter:ident, $value:ident; $($char:literal => $($field:ident),+ = $set:expr;)*) => {
+        match $letter {
+            SECTOR_SIZE => Some($options),
+            TEST_MODE | DOMAIN_MAPFILE => if is_name($value) { Some($options) } else { None },
+            $($char => {
+                let ($($field),+) = $set;
+                Some(Options { $($field,)+ ..$options })
+            })*
+            _ => None,
+        }
+    };
+}
+
+/// What the option of a letter sets by its value; nothing where that is a bad one, or where no option has the letter.
+fn with_letter(options: Options, sector: u64, letter: char, value: Option<&str>) -> Option<Options>
+    requires low { 0 < sector }
+    requires high { sector ≤ 1048576 }
+    ensures { result ≡ set_by (row_of letter lettered_rows) sector options (option_map (λ v. v.now) value.entry) }
+{
+    let size = size_by(sector, value);
+    set_by_letter!(options, letter, value;
+        'a' => min_rate = read_min_rate(sector, value)?;
+        'A' => try_again = true;
+        'c' => cluster_sectors = Some(read_cluster_sectors(sector, value)?);
+        'C' => complete_only = true;
+        'e' => new_areas, max_bad_areas = read_area_limit(value?)?;
+        'f' => forced = true;
+        'F' => fill = Some(TypeSet::read(value?)?);
+        'G' => generate = true;
+        'i' => input_position = size?;
+        'K' => skip, skip_max = read_skips(sector, value?)?;
+        'L' => loose = true;
+        'M' => retrim = true;
+        'n' => no_scrape = true;
+        'N' => no_trim = true;
+        'o' => output_position = Some(size?);
+        'q' => quiet = true;
+        'r' => retries = read_retries(value)?;
+        'R' => reverse = true;
+        's' => size = Some(size?);
+        'T' => timeout = Some(read_timeout(value?)?);
+        'u' => unidirectional = true;
+        'v' => verbose = true;
+        'X' => max_read_errors = Some(number_by(value)?);
+    )
+}
+
+impl Settings for Options {
+    ghost rows = { option_rows };
+
+    fn with_row(self, sector: u64, row: usize, value: Option<&str>) -> Option<Options> {
+        if row == SAMPLE {
+            return with_sample(self, sector, value);
+        }
+        match letter_of(&ROWS, row) {
+            Some(letter) => with_letter(self, sector, letter, value),
+            None => None,
+        }
+    }
+}

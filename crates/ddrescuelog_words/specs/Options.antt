@@ -1,0 +1,110 @@
+-- The options of `ddrescuelog`, one a row, and what they ask for. A later option is a row more.
+use Rattle.std.specs.Prelude.{ℕ, ◌+◌, ◌^◌, Bool, true, false, nat_le, List, [], ◌∷◌, Option, Some, None, Result, option_map, option_and_then, codes, if◌then◌else◌}
+use Rattle.block_list.specs.Types.{types_of}
+use Rattle.option_words.specs.declared.row.Takes.{Takes}
+use Rattle.option_words.specs.declared.row.Takes.TheVariants.{Never, Always, Optional}
+use Rattle.option_words.specs.declared.reading.Item.{Item}
+use Rattle.option_values.specs.Values.{Meaning, OptionRow, is_name, meanings_of, size_by}
+use Rattle.option_values.specs.Values.{options_in as options_by}
+use Rattle.map_algebra.specs.declared.combine.Op.TheVariants.{And, Or, Xor}
+use Rattle.map_algebra.specs.Change.{change_of, inverting}
+use Rattle.ddrescuelog_words.specs.declared.mode.LogMode.{LogMode}
+use Rattle.ddrescuelog_words.specs.declared.mode.LogMode.TheVariants.{Change, Combine, Complete, ListBlocks, Test, Compare, Summarize}
+use Rattle.ddrescuelog_words.specs.declared.options.LogOptions.{LogOptions}
+use Rattle.ddrescuelog_words.specs.Modes.{one_type, two_types, with_map}
+
+-- ---- the rows
+
+-- an option that stands alone
+abbrev pub flag : (letter : ℕ) → List ℕ → (LogOptions → LogOptions) → OptionRow LogOptions
+flag letter name sets =
+    record { letter = Some letter; name = name; takes = Never; sets = λ block o value. Some (sets o) }
+
+-- an option with a value
+abbrev pub valued : (letter : ℕ) → List ℕ → (ℕ → LogOptions → Option (List ℕ) → Option LogOptions)
+    → OptionRow LogOptions
+valued letter name sets = record { letter = Some letter; name = name; takes = Always; sets = sets }
+
+-- what is done, if a value says it; of several the last is kept, and that there is one is looked at behind all values
+abbrev pub as_mode : LogOptions → Option LogMode → Option LogOptions
+as_mode o m = option_map (λ mode. record o { mode = Some mode }) m
+
+-- an option that says what is done, by its value
+abbrev pub mode : (letter : ℕ) → List ℕ → Takes → (Option (List ℕ) → Option LogMode) → OptionRow LogOptions
+mode letter name takes read =
+    record { letter = Some letter; name = name; takes = takes; sets = λ block o value. as_mode o (read value) }
+
+-- The letters of options that are looked at by themselves. The size of a block (`-b`) is set before all others, `-m`
+-- names the map of the positions that are looked at, `-q` asks that no message be put, and `-s` is looked at again
+-- behind all where a map is to be made.
+abbrev pub block_letter : ℕ
+block_letter = 98
+
+abbrev pub domain_letter : ℕ
+domain_letter = 109
+
+abbrev pub quiet_letter : ℕ
+quiet_letter = 113
+
+abbrev pub size_letter : ℕ
+size_letter = 115
+
+-- the letters of the options that say what is done, one of which must be given
+abbrev pub mode_letters : List ℕ
+mode_letters = 97 ∷ 99 ∷ 67 ∷ 100 ∷ 68 ∷ 108 ∷ 110 ∷ 112 ∷ 80 ∷ 116 ∷ 120 ∷ 121 ∷ 122 ∷ []
+
+-- the options, each with what it sets by the size of a block and the text of its value
+abbrev pub option_rows : List (OptionRow LogOptions)
+option_rows =
+    mode 97 (codes "change-types") Always (λ value. option_map Change (option_and_then change_of value))
+    ∷ valued block_letter (codes "block-size") (λ block o value. Some o)
+    ∷ mode 99 (codes "create-mapfile") Optional two_types
+    ∷ mode 67 (codes "complete-mapfile") Optional (λ value. option_map Complete (one_type value))
+    ∷ mode 100 (codes "delete-if-done") Never (λ value. Some (Test true))
+    ∷ mode 68 (codes "done-status") Never (λ value. Some (Test false))
+    ∷ flag 102 (codes "force") (λ o. record o { forced = true })
+    ∷ valued 105 (codes "input-position") (λ block o value. option_map (λ n. record o { input_position = n })
+    (size_by block value))
+    ∷ mode 108 (codes "list-blocks") Always (λ value. option_map ListBlocks (option_and_then types_of value))
+    ∷ flag 76 (codes "loose-domain") (λ o. record o { loose = true })
+    ∷ valued domain_letter (codes "domain-mapfile") (λ block o value. if is_name value then Some o else None)
+    ∷ mode 110 (codes "invert-mapfile") Never (λ value. Some (Change inverting))
+    ∷ valued 111 (codes "output-position") (λ block o value. option_map (λ n. record o { output_position = Some n })
+    (size_by block value))
+    ∷ mode 112 (codes "compare-mapfile") Always (with_map (Compare false))
+    ∷ mode 80 (codes "compare-as-domain") Always (with_map (Compare true))
+    ∷ flag quiet_letter (codes "quiet") (λ o. record o { quiet = true })
+    ∷ valued size_letter (codes "size") (λ block o value. option_map (λ n. record o { size = Some n })
+    (size_by block value))
+    ∷ mode 116 (codes "show-status") Never (λ value. Some Summarize)
+    ∷ flag 118 (codes "verbose") (λ o. o)
+    ∷ mode 120 (codes "xor-mapfile") Always (with_map (Combine Xor))
+    ∷ mode 121 (codes "and-mapfile") Always (with_map (Combine And))
+    ∷ mode 122 (codes "or-mapfile") Always (with_map (Combine Or))
+    ∷ []
+
+-- each option's letter, its long name, and whether it takes a value
+abbrev pub option_meanings : List Meaning
+option_meanings = meanings_of option_rows
+
+-- what is asked for where no option but that of the block is given
+abbrev pub no_options : (block : ℕ) → LogOptions
+no_options block = record {
+  block = block;
+  input_position = 0;
+  output_position = None;
+  size = None;
+  mode = None;
+  loose = false;
+  forced = false;
+  quiet = false;
+}
+
+-- what all options ask for, or the word of the first bad value
+abbrev pub options_in : List (List ℕ) → List Item → Result LogOptions ℕ
+options_in words items = options_by option_rows block_letter no_options words items
+
+-- the end that a size gives is 2^63 or more
+abbrev pub ends_beyond : LogOptions → (size : Option ℕ) → Bool
+ends_beyond o None = false
+ends_beyond o (Some n) = nat_le (2 ^ 63) (o.input_position + n)

@@ -1,0 +1,188 @@
+//! What the words of a command line ask for.
+ghost use Rattle.std.specs.Prelude.{◌≡◌, All, Ok, Err, IfOk, IfErr, option_map};
+ghost use Rattle.option_words.specs.Spots.{HasSpot};
+ghost use Rattle.option_values.specs.Values.{IsWord};
+ghost use Rattle.ddrescuelog_words.specs.Options.{options_in};
+ghost use Rattle.ddrescuelog_words.specs.Command.{AreOptions, IsAsked, IsErrorOf, command_read, is_too_long, modes_given, other_in, size_word, told_by, with_mode, with_operand};
+
+use crate::mode::LogMode;
+use crate::options::{BLOCK_SIZE, DOMAIN_MAPFILE, LogOptions, MODES, QUIET, SIZE, option_table};
+use option_values::command_error::{CommandError, unread};
+use option_values::given::{is_given, last_of, last_value};
+use option_values::operands::find_empty;
+use option_values::settings::{read_sector_in, read_settings};
+use option_values::values::value_word;
+use option_words::fault::UsageFault;
+use option_words::reader::read_words;
+use option_words::reading::{Item, WordReading};
+use option_words::table::OptionTable;
+use option_words::words::Words;
+use std::alloc::Global;
+
+/// What the words of a command line ask for: the files, what is done, and what the options say.
+#[derive(Clone, Copy, Debug)]
+pub struct Command<'a> {
+    pub mapfile: &'a str,
+    pub mode: LogMode,
+    /// The map that the mode works on too, if it does.
+    pub other: Option<&'a str>,
+    /// The map whose finished positions are looked at and no others, if it is named.
+    pub domain_map: Option<&'a str>,
+    pub options: LogOptions,
+}
+
+impl Command<'_> {
+    /// Whether a map to be made is too long.
+    fn is_too_long(&self) -> bool
+        ensures { result ≡ is_too_long (told_by self.now) }
+    {
+        self.mode.creates() && self.options.ends_beyond()
+    }
+}
+
+/// What options ask for, or the word of the first bad value.
+fn read_options(table: &OptionTable, words: &Words, items: &[Item]) -> Result<LogOptions, usize>
+    requires table { AreOptions table.now }
+    requires spots { All (HasSpot words.now) items.now }
+    ensures { result ≡ options_in words.now items.now }
+{
+    let block = read_sector_in(table, words, BLOCK_SIZE, items)?;
+    read_settings(words, items, block, LogOptions::none(block))
+}
+
+/// How many modes are given.
+fn count_modes(table: &OptionTable, items: &[Item]) -> usize
+    requires { AreOptions table.now }
+    ensures { result ≡ modes_given items.now }
+{
+    MODES
+        .iter()
+        .filter(|letter| is_given(table, **letter, items))
+        .count()
+}
+
+/// The name of the map that a mode works on too, if it does.
+fn name_other<'a>(
+    table: &OptionTable,
+    words: &'a Words,
+    items: &[Item],
+    mode: LogMode,
+) -> Option<&'a str>
+    requires table { AreOptions table.now }
+    requires spots { All (HasSpot words.now) items.now }
+    ensures { option_map (λ t. t.now) result ≡ other_in words.now items.now mode }
+{
+    last_value(table, words, mode.other_letter()?, items)
+}
+
+/// The files of one operand, and the maps that options name.
+fn name_files<'a>(
+    table: &OptionTable,
+    words: &'a Words,
+    reading: &WordReading,
+    options: LogOptions,
+    mode: LogMode,
+) -> Result<Command<'a>, UsageFault>
+    requires table { AreOptions table.now }
+    requires spots { All (HasSpot words.now) reading.now.items.items }
+    requires operands { All (IsWord words.now) reading.now.operands.items }
+    ensures named { IfOk result (λ c. with_operand words.now reading.now.items.items options mode
+        reading.now.operands.items ≡ Ok (told_by c)) }
+    ensures refused { IfErr result (λ fault. with_operand words.now reading.now.items.items options mode
+        reading.now.operands.items ≡ Err fault) }
+{
+    match reading.operands.as_slice() {
+        [mapfile] => Ok(Command {
+            mapfile: words.get(*mapfile),
+            mode,
+            other: name_other(table, words, &reading.items, mode),
+            domain_map: last_value(table, words, DOMAIN_MAPFILE, &reading.items),
+            options,
+        }),
+        operands => Err(UsageFault::Operands {
+            given: operands.len(),
+        }),
+    }
+}
+
+/// The one mode that is given, and the files.
+fn name_mode<'a>(
+    table: &OptionTable,
+    words: &'a Words,
+    reading: &WordReading,
+    options: LogOptions,
+) -> Result<Command<'a>, UsageFault>
+    requires table { AreOptions table.now }
+    requires spots { All (HasSpot words.now) reading.now.items.items }
+    requires operands { All (IsWord words.now) reading.now.operands.items }
+    ensures named { IfOk result (λ c. with_mode words.now reading.now.items.items options options.mode
+        reading.now.operands.items ≡ Ok (told_by c)) }
+    ensures refused { IfErr result (λ fault. with_mode words.now reading.now.items.items options options.mode
+        reading.now.operands.items ≡ Err fault) }
+{
+    let given = count_modes(table, &reading.items);
+    match options.mode {
+        Some(mode) if given == 1 => name_files(table, words, reading, options, mode),
+        _ => Err(UsageFault::Modes { given }),
+    }
+}
+
+/// The word in which the last value of the size begins.
+fn find_size_word(table: &OptionTable, words: &Words, items: &[Item]) -> usize
+    requires table { AreOptions table.now }
+    requires spots { All (HasSpot words.now) items.now }
+    ensures { result ≡ size_word items.now }
+{
+    match last_of(table, words, SIZE, items) {
+        Some(item) => value_word(&item),
+        None => 0,
+    }
+}
+
+/// What a reading of the words asks for.
+fn command_of<'a>(
+    table: &OptionTable,
+    words: &'a Words,
+    reading: &WordReading,
+) -> Result<Command<'a>, UsageFault>
+    requires table { AreOptions table.now }
+    requires spots { All (HasSpot words.now) reading.now.items.items }
+    requires operands { All (IsWord words.now) reading.now.operands.items }
+    ensures asked { IfOk result (λ c. command_read words.now reading.now ≡ Ok (told_by c)) }
+    ensures refused { IfErr result (λ fault. command_read words.now reading.now ≡ Err fault) }
+{
+    let options = match read_options(table, words, &reading.items) {
+        Ok(options) => options,
+        Err(word) => return Err(UsageFault::BadValue { word }),
+    };
+    let command = name_mode(table, words, reading, options)?;
+    if let Some(word) = find_empty(words, &reading.operands) {
+        return Err(UsageFault::BadValue { word });
+    }
+    if command.is_too_long() {
+        let word = find_size_word(table, words, &reading.items);
+        return Err(UsageFault::BadValue { word });
+    }
+    Ok(command)
+}
+
+/// Reads the words of a command line: `[options] mapfile`. The words themselves come first, then the values of the
+/// options in the order of the words, those of `-b` before all others, then the number of modes, then that of operands
+/// and whether one is empty, then the end of a map to be made.
+pub fn read_command(alloc: Global, words: &Words) -> Result<Command<'_>, CommandError>
+    ensures asked { IfOk result (λ c. IsAsked words.now (told_by c)) }
+    ensures refused { IfErr result (λ e. IsErrorOf words.now e) }
+{
+    let table = option_table();
+    let reading = match read_words(alloc, words, &table) {
+        Ok(reading) => reading,
+        Err(fault) => return Err(unread(fault)),
+    };
+    match command_of(&table, words, &reading) {
+        Ok(command) => Ok(command),
+        Err(fault) => Err(CommandError::Usage {
+            fault,
+            quiet: is_given(&table, QUIET, &reading.items),
+        }),
+    }
+}

@@ -1,0 +1,307 @@
+//! The options of `ddrescuelog`, and what they ask for.
+ghost use Rattle.std.specs.Prelude.{◌≡◌, ◌<◌, ◌≤◌, option_map};
+ghost use Rattle.option_values.specs.Values.{row_of, set_by};
+ghost use Rattle.ddrescuelog_words.specs.Modes.{one_type, two_types, with_map};
+ghost use Rattle.ddrescuelog_words.specs.Options.{ends_beyond, no_options, option_rows};
+ghost use Rattle.ddrescuelog_words.specs.Command.{AreOptions};
+
+use crate::mode::LogMode;
+use block_list::status::Status;
+use block_list::types::TypeSet;
+use map_algebra::change::TypeChange;
+use map_algebra::combine::Op;
+use option_values::given::letter_of;
+use option_values::settings::Settings;
+use option_values::values::{is_name, size_by};
+use option_words::row::{Row, Takes};
+use option_words::table::OptionTable;
+
+/// The least end that is too large for a map.
+const END_LIMIT: u64 = 1 << 63;
+
+/// The letter of the option that gives the size of a block.
+pub(crate) const BLOCK_SIZE: char = 'b';
+
+/// The letter of the one that names the map of the positions that are looked at.
+pub(crate) const DOMAIN_MAPFILE: char = 'm';
+
+/// The letter of the one that asks that nothing be said.
+pub(crate) const QUIET: char = 'q';
+
+/// The letter of the one that says how many bytes are looked at.
+pub(crate) const SIZE: char = 's';
+
+/// The letter of the one that has no effect.
+const VERBOSE: char = 'v';
+
+/// The letters of the options of which one says what is done.
+pub(crate) static MODES: [char; 13] = [
+    'a', 'c', 'C', 'd', 'D', 'l', 'n', 'p', 'P', 't', 'x', 'y', 'z',
+];
+
+/// The options. A later one is a row here and an arm in `with_letter`.
+pub static ROWS: [Row; 22] = [
+    Row {
+        short: Some('a'),
+        long: "change-types",
+        takes: Takes::Always,
+    },
+    Row {
+        short: Some('b'),
+        long: "block-size",
+        takes: Takes::Always,
+    },
+    Row {
+        short: Some('c'),
+        long: "create-mapfile",
+        takes: Takes::Optional,
+    },
+    Row {
+        short: Some('C'),
+        long: "complete-mapfile",
+        takes: Takes::Optional,
+    },
+    Row {
+        short: Some('d'),
+        long: "delete-if-done",
+        takes: Takes::Never,
+    },
+    Row {
+        short: Some('D'),
+        long: "done-status",
+        takes: Takes::Never,
+    },
+    Row {
+        short: Some('f'),
+        long: "force",
+        takes: Takes::Never,
+    },
+    Row {
+        short: Some('i'),
+        long: "input-position",
+        takes: Takes::Always,
+    },
+    Row {
+        short: Some('l'),
+        long: "list-blocks",
+        takes: Takes::Always,
+    },
+    Row {
+        short: Some('L'),
+        long: "loose-domain",
+        takes: Takes::Never,
+    },
+    Row {
+        short: Some('m'),
+        long: "domain-mapfile",
+        takes: Takes::Always,
+    },
+    Row {
+        short: Some('n'),
+        long: "invert-mapfile",
+        takes: Takes::Never,
+    },
+    Row {
+        short: Some('o'),
+        long: "output-position",
+        takes: Takes::Always,
+    },
+    Row {
+        short: Some('p'),
+        long: "compare-mapfile",
+        takes: Takes::Always,
+    },
+    Row {
+        short: Some('P'),
+        long: "compare-as-domain",
+        takes: Takes::Always,
+    },
+    Row {
+        short: Some('q'),
+        long: "quiet",
+        takes: Takes::Never,
+    },
+    Row {
+        short: Some('s'),
+        long: "size",
+        takes: Takes::Always,
+    },
+    Row {
+        short: Some('t'),
+        long: "show-status",
+        takes: Takes::Never,
+    },
+    Row {
+        short: Some('v'),
+        long: "verbose",
+        takes: Takes::Never,
+    },
+    Row {
+        short: Some('x'),
+        long: "xor-mapfile",
+        takes: Takes::Always,
+    },
+    Row {
+        short: Some('y'),
+        long: "and-mapfile",
+        takes: Takes::Always,
+    },
+    Row {
+        short: Some('z'),
+        long: "or-mapfile",
+        takes: Takes::Always,
+    },
+];
+
+/// What the options of a command line ask for.
+#[derive(Clone, Copy, Debug, PartialEq, Eq)]
+pub struct LogOptions {
+    /// The size of a block in bytes; 512 if it isn't given.
+    pub block: u64,
+    /// Where what is looked at begins in the map, in bytes; 0 if it isn't given.
+    pub input_position: u64,
+    /// Where it stands in the output, in bytes; as in the map if it isn't given.
+    pub output_position: Option<u64>,
+    /// How many bytes are looked at, at most; no limit if it isn't given.
+    pub size: Option<u64>,
+    /// What is done: the last of what the options say. None if none says it.
+    pub mode: Option<LogMode>,
+    /// The map of the positions that are looked at may have gaps; by default it may not.
+    pub loose: bool,
+    /// A mapfile to be made may replace a file; by default it may not. No other mode has a use for it.
+    pub forced: bool,
+    /// No message is put; by default it is. What a mode prints is put all the same.
+    pub quiet: bool,
+}
+
+impl LogOptions {
+    /// What is asked for where no option but that of the block is given.
+    pub(crate) fn none(block: u64) -> LogOptions
+        ensures { result ≡ no_options block }
+    {
+        LogOptions {
+            block,
+            input_position: 0,
+            output_position: None,
+            size: None,
+            mode: None,
+            loose: false,
+            forced: false,
+            quiet: false,
+        }
+    }
+
+    /// Whether the end of what is looked at is too large, where the size gives one.
+    pub(crate) fn ends_beyond(&self) -> bool
+        ensures { result ≡ ends_beyond self.now self.now.size }
+    {
+        match self.size {
+            Some(size) => self.input_position.saturating_add(size) >= END_LIMIT,
+            None => false,
+        }
+    }
+}
+
+/// The table of the options.
+pub(crate) fn option_table() -> OptionTable
+    ensures { AreOptions result }
+{
+    match OptionTable::checked(&ROWS) {
+        Some(table) => table,
+        None => unreachable!(),
+    }
+}
+
+/// The one type that a value gives, if it does.
+fn read_type(value: Option<&str>) -> Option<Status>
+    ensures { result ≡ one_type (option_map (λ v. v.now) value.entry) }
+{
+    let Some(text) = value else {
+        return Some(Status::NonTried);
+    };
+    match text.as_bytes() {
+        [symbol] => Status::of_symbol(*symbol),
+        _ => None,
+    }
+}
+
+/// The map to be made by the two types that a value gives, if it does.
+fn read_types(value: Option<&str>) -> Option<LogMode>
+    ensures { result ≡ two_types (option_map (λ v. v.now) value.entry) }
+{
+    let (listed, rest) = match value.map(|text| text.as_bytes()) {
+        None => (Status::Finished, Status::BadSector),
+        Some([listed, rest]) => (Status::of_symbol(*listed)?, Status::of_symbol(*rest)?),
+        Some(_) => return None,
+    };
+    Some(LogMode::Create { listed, rest })
+}
+
+/// A mode that works on another map, if a value is the name of one.
+fn with_map(mode: LogMode, value: Option<&str>) -> Option<LogMode>
+    ensures { result ≡ with_map mode (option_map (λ v. v.now) value.entry) }
+{
+    if is_name(value) { Some(mode) } else { None }
+}
+
+/// Writes the arms of a `match` over the letters: each sets a field. The size of a block is set before, and the name of
+/// the map of positions is read apart.
+macro_rules! set_by_letter {
+    ($options:ident, $letter:ident, $value:ident; $($char:literal => $field:ident = $set:expr;)*) => {
+        match $letter {
+            BLOCK_SIZE | VERBOSE => Some($options),
+            DOMAIN_MAPFILE => if is_name($value) { Some($options) } else { None },
+            $($char => {
+                let $field = $set;
+                Some(LogOptions { $field, ..$options })
+            })*
+            _ => None,
+        }
+    };
+}
+
+/// What the option of a letter sets by its value; nothing where that is a bad one, or where no option has the letter.
+fn with_letter(
+    options: LogOptions,
+    block: u64,
+    letter: char,
+    value: Option<&str>,
+) -> Option<LogOptions>
+    requires low { 0 < block }
+    requires high { block ≤ 1048576 }
+    ensures { result ≡ set_by (row_of letter option_rows) block options (option_map (λ v. v.now) value.entry) }
+{
+    let size = size_by(block, value);
+    set_by_letter!(options, letter, value;
+        'a' => mode = Some(LogMode::Change(TypeChange::read(value?)?));
+        'c' => mode = Some(read_types(value)?);
+        'C' => mode = Some(LogMode::Complete(read_type(value)?));
+        'd' => mode = Some(LogMode::Test { removes: true });
+        'D' => mode = Some(LogMode::Test { removes: false });
+        'f' => forced = true;
+        'i' => input_position = size?;
+        'l' => mode = Some(LogMode::ListBlocks(TypeSet::read(value?)?));
+        'L' => loose = true;
+        'n' => mode = Some(LogMode::Change(TypeChange::inverting()));
+        'o' => output_position = Some(size?);
+        'p' => mode = Some(with_map(LogMode::Compare { finished: false }, value)?);
+        'P' => mode = Some(with_map(LogMode::Compare { finished: true }, value)?);
+        'q' => quiet = true;
+        's' => size = Some(size?);
+        't' => mode = Some(LogMode::Summarize);
+        'x' => mode = Some(with_map(LogMode::Combine(Op::Xor), value)?);
+        'y' => mode = Some(with_map(LogMode::Combine(Op::And), value)?);
+        'z' => mode = Some(with_map(LogMode::Combine(Op::Or), value)?);
+    )
+}
+
+impl Settings for LogOptions {
+    ghost rows = { option_rows };
+
+    fn with_row(self, sector: u64, row: usize, value: Option<&str>) -> Option<LogOptions> {
+        match letter_of(&ROWS, row) {
+            Some(letter) => with_letter(self, sector, letter, value),
+            None => None,
+        }
+    }
+}

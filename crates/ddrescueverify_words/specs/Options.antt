@@ -1,0 +1,54 @@
+-- The options of `ddrescueverify`, one a row, and what they ask for. A later option is a row more.
+use Rattle.std.specs.Prelude.{ℕ, Bool, true, false, List, [], ◌∷◌, Option, Some, None, Result, option_map, codes}
+use Rattle.option_words.specs.declared.row.Takes.TheVariants.{Never, Always}
+use Rattle.option_words.specs.declared.reading.Item.{Item}
+use Rattle.option_values.specs.Values.{Meaning, OptionRow, meanings_of, size_by}
+use Rattle.option_values.specs.Values.{options_in as options_by}
+use Rattle.ddrescueverify_words.specs.declared.options.VerifyOptions.{VerifyOptions}
+
+-- an option that stands alone, and one with a value
+abbrev pub flag : (letter : ℕ) → List ℕ → (VerifyOptions → VerifyOptions) → OptionRow VerifyOptions
+flag letter name sets =
+    record { letter = Some letter; name = name; takes = Never; sets = λ sector o value. Some (sets o) }
+
+abbrev pub valued : (letter : ℕ) → List ℕ → (ℕ → VerifyOptions → Option (List ℕ) → Option VerifyOptions)
+    → OptionRow VerifyOptions
+valued letter name sets = record { letter = Some letter; name = name; takes = Always; sets = sets }
+
+-- The letters of options that are looked at by themselves: the size of a sector (`-b`) is set before all others, and
+-- `-q` asks that nothing be said.
+abbrev pub sector_letter : ℕ
+sector_letter = 98
+
+abbrev pub quiet_letter : ℕ
+quiet_letter = 113
+
+-- the options, each with what it sets by the size of a sector and the text of its value
+abbrev pub option_rows : List (OptionRow VerifyOptions)
+option_rows =
+    valued sector_letter (codes "sector-size") (λ sector o value. Some o)
+    ∷ valued 105 (codes "input-position") (λ sector o value. option_map (λ n. record o { input_position = n })
+    (size_by sector value))
+    ∷ valued 111 (codes "output-position") (λ sector o value. option_map (λ n. record o { output_position = Some n })
+    (size_by sector value))
+    ∷ flag quiet_letter (codes "quiet") (λ o. record o { quiet = true })
+    ∷ valued 115 (codes "size") (λ sector o value. option_map (λ n. record o { size = Some n }) (size_by sector value))
+    ∷ []
+
+-- each option's letter, its long name, and whether it takes a value
+abbrev pub option_meanings : List Meaning
+option_meanings = meanings_of option_rows
+
+-- what is asked for where no option but the sector's is given
+abbrev pub no_options : (sector : ℕ) → VerifyOptions
+no_options sector = record {
+  sector = sector;
+  input_position = 0;
+  output_position = None;
+  size = None;
+  quiet = false;
+}
+
+-- what all options ask for, or the word of the first bad value
+abbrev pub options_in : List (List ℕ) → List Item → Result VerifyOptions ℕ
+options_in words items = options_by option_rows sector_letter no_options words items

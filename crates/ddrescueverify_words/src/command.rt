@@ -1,0 +1,104 @@
+//! What the words of a command line ask for.
+ghost use Rattle.std.specs.Prelude.{◌≡◌, All, Ok, Err, IfOk, IfErr};
+ghost use Rattle.option_words.specs.Spots.{HasSpot};
+ghost use Rattle.option_values.specs.Values.{IsWord};
+ghost use Rattle.ddrescueverify_words.specs.Options.{options_in};
+ghost use Rattle.ddrescueverify_words.specs.Command.{AreOptions, IsAsked, IsErrorOf, command_read, command_with, told_by};
+
+use crate::options::{QUIET, SECTOR_SIZE, VerifyOptions, option_table};
+use option_values::command_error::{CommandError, unread};
+use option_values::given::is_given;
+use option_values::operands::find_empty;
+use option_values::settings::{read_sector_in, read_settings};
+use option_words::fault::UsageFault;
+use option_words::reader::read_words;
+use option_words::reading::{Item, WordReading};
+use option_words::table::OptionTable;
+use option_words::words::Words;
+use std::alloc::Global;
+
+/// What the words of a command line ask for: the files, and what the options say.
+#[derive(Clone, Copy, Debug)]
+pub struct Command<'a> {
+    pub infile: &'a str,
+    pub outfile: &'a str,
+    pub mapfile: &'a str,
+    pub options: VerifyOptions,
+}
+
+/// What options ask for, or the word of the first bad value.
+fn read_options(table: &OptionTable, words: &Words, items: &[Item]) -> Result<VerifyOptions, usize>
+    requires table { AreOptions table.now }
+    requires spots { All (HasSpot words.now) items.now }
+    ensures { result ≡ options_in words.now items.now }
+{
+    let sector = read_sector_in(table, words, SECTOR_SIZE, items)?;
+    read_settings(words, items, sector, VerifyOptions::none(sector))
+}
+
+/// The files of three operands.
+fn name_files<'a>(
+    words: &'a Words,
+    reading: &WordReading,
+    options: VerifyOptions,
+) -> Result<Command<'a>, UsageFault>
+    requires operands { All (IsWord words.now) reading.now.operands.items }
+    ensures named { IfOk result (λ c. command_with words.now options reading.now.operands.items ≡ Ok (told_by c)) }
+    ensures refused { IfErr result (λ fault. command_with words.now options reading.now.operands.items ≡ Err fault) }
+{
+    match reading.operands.as_slice() {
+        [infile, outfile, mapfile] => Ok(Command {
+            infile: words.get(*infile),
+            outfile: words.get(*outfile),
+            mapfile: words.get(*mapfile),
+            options,
+        }),
+        operands => Err(UsageFault::Operands {
+            given: operands.len(),
+        }),
+    }
+}
+
+/// What a reading of the words asks for.
+fn command_of<'a>(
+    table: &OptionTable,
+    words: &'a Words,
+    reading: &WordReading,
+) -> Result<Command<'a>, UsageFault>
+    requires table { AreOptions table.now }
+    requires spots { All (HasSpot words.now) reading.now.items.items }
+    requires operands { All (IsWord words.now) reading.now.operands.items }
+    ensures asked { IfOk result (λ c. command_read words.now reading.now ≡ Ok (told_by c)) }
+    ensures refused { IfErr result (λ fault. command_read words.now reading.now ≡ Err fault) }
+{
+    let options = match read_options(table, words, &reading.items) {
+        Ok(options) => options,
+        Err(word) => return Err(UsageFault::BadValue { word }),
+    };
+    let command = name_files(words, reading, options)?;
+    if let Some(word) = find_empty(words, &reading.operands) {
+        return Err(UsageFault::BadValue { word });
+    }
+    Ok(command)
+}
+
+/// Reads the words of a command line: `[options] infile outfile mapfile`. The words themselves come first, then the
+/// values of the options in the order of the words, those of `-b` before all others, then the number of operands and
+/// whether one is empty.
+pub fn read_command(alloc: Global, words: &Words) -> Result<Command<'_>, CommandError>
+    ensures asked { IfOk result (λ c. IsAsked words.now (told_by c)) }
+    ensures refused { IfErr result (λ e. IsErrorOf words.now e) }
+{
+    let table = option_table();
+    let reading = match read_words(alloc, words, &table) {
+        Ok(reading) => reading,
+        Err(fault) => return Err(unread(fault)),
+    };
+    match command_of(&table, words, &reading) {
+        Ok(command) => Ok(command),
+        Err(fault) => Err(CommandError::Usage {
+            fault,
+            quiet: is_given(&table, QUIET, &reading.items),
+        }),
+    }
+}

@@ -1,0 +1,131 @@
+//! The options of `ddrescueverify`, and what they ask for.
+ghost use Rattle.std.specs.Prelude.{◌≡◌, ◌<◌, ◌≤◌, option_map};
+ghost use Rattle.option_values.specs.Values.{row_of, set_by};
+ghost use Rattle.ddrescueverify_words.specs.Options.{no_options, option_rows};
+ghost use Rattle.ddrescueverify_words.specs.Command.{AreOptions};
+
+use option_values::given::letter_of;
+use option_values::settings::Settings;
+use option_values::values::size_by;
+use option_words::row::{Row, Takes};
+use option_words::table::OptionTable;
+
+/// The letter of the option that gives the size of a sector.
+pub(crate) const SECTOR_SIZE: char = 'b';
+
+/// The letter of the one that asks that nothing be said.
+pub(crate) const QUIET: char = 'q';
+
+/// The options. A later one is a row here and an arm in `with_letter`.
+pub static ROWS: [Row; 5] = [
+    Row {
+        short: Some('b'),
+        long: "sector-size",
+        takes: Takes::Always,
+    },
+    Row {
+        short: Some('i'),
+        long: "input-position",
+        takes: Takes::Always,
+    },
+    Row {
+        short: Some('o'),
+        long: "output-position",
+        takes: Takes::Always,
+    },
+    Row {
+        short: Some('q'),
+        long: "quiet",
+        takes: Takes::Never,
+    },
+    Row {
+        short: Some('s'),
+        long: "size",
+        takes: Takes::Always,
+    },
+];
+
+/// What the options of a command line ask for.
+#[derive(Clone, Copy, Debug, PartialEq, Eq)]
+pub struct VerifyOptions {
+    /// The size of a sector in bytes; 512 if it isn't given.
+    pub sector: u64,
+    /// Where the comparison begins in the infile, in bytes; 0 if it isn't given.
+    pub input_position: u64,
+    /// Where it begins in the outfile, in bytes; as in the infile if it isn't given.
+    pub output_position: Option<u64>,
+    /// How many bytes are looked at, at most; no limit if it isn't given.
+    pub size: Option<u64>,
+    /// Nothing is put on the console; by default the numbers and messages are.
+    pub quiet: bool,
+}
+
+impl VerifyOptions {
+    /// What is asked for where no option but the sector's is given.
+    pub(crate) fn none(sector: u64) -> VerifyOptions
+        ensures { result ≡ no_options sector }
+    {
+        VerifyOptions {
+            sector,
+            input_position: 0,
+            output_position: None,
+            size: None,
+            quiet: false,
+        }
+    }
+}
+
+/// The table of the options.
+pub(crate) fn option_table() -> OptionTable
+    ensures { AreOptions result }
+{
+    match OptionTable::checked(&ROWS) {
+        Some(table) => table,
+        None => unreachable!(),
+    }
+}
+
+/// Writes the arms of a `match` over the letters: each sets a field. The size of a sector is set before.
+macro_rules! set_by_letter {
+    ($options:ident, $letter:ident; $($char:literal => $field:ident = $set:expr;)*) => {
+        match $letter {
+            SECTOR_SIZE => Some($options),
+            $($char => {
+                let $field = $set;
+                Some(VerifyOptions { $field, ..$options })
+            })*
+            _ => None,
+        }
+    };
+}
+
+/// What the option of a letter sets by its value; nothing where that is a bad one, or where no option has the letter.
+fn with_letter(
+    options: VerifyOptions,
+    sector: u64,
+    letter: char,
+    value: Option<&str>,
+) -> Option<VerifyOptions>
+    requires low { 0 < sector }
+    requires high { sector ≤ 1048576 }
+    ensures { result ≡ set_by (row_of letter option_rows) sector options (option_map (λ v. v.now) value.entry) }
+{
+    let size = size_by(sector, value);
+    set_by_letter!(options, letter;
+        'i' => input_position = size?;
+        'o' => output_position = Some(size?);
+        'q' => quiet = true;
+        's' => size = Some(size?);
+    )
+}
+
+impl Settings for VerifyOptions {
+    ghost rows = { option_rows };
+
+    fn with_row(self, sector: u64, row: usize, value: Option<&str>) -> Option<VerifyOptions> {
+        match letter_of(&ROWS, row) {
+            Some(letter) => with_letter(self, sector, letter, value),
+            None => None,
+        }
+    }
+}

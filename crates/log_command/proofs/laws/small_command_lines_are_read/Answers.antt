@@ -1,6 +1,0 @@
--- By computing.
-use Rattle.std.proofs.Common.{refl}
-use Rattle.log_command.proofs.laws.small_command_lines_are_read.Goals as goal
-
-pub returns : goal.returns
-returns c = record { modes = (refl, refl, refl); last = (refl, refl); block = (refl, refl); end = (refl, refl) }

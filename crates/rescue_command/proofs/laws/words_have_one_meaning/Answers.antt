@@ -1,6 +1,0 @@
-use Rattle.option_values.proofs.MeaningLemmas.{one_meaning}
-use Rattle.rescue_command.specs.Asking.{rescue_grammar}
-use Rattle.rescue_command.proofs.laws.words_have_one_meaning.Goals as goal
-
-pub returns : goal.returns
-returns c = one_meaning rescue_grammar

@@ -1,8 +1,0 @@
--- What the definitions mean.
-use Rattle.std.specs.Prelude.{ℕ, List}
-use Rattle.option_values.specs.Grammar.{HasOneMeaning as HasOneMeaningBy}
-use Rattle.rescue_command.specs.Asking.{rescue_grammar}
-
--- Words ask for one thing at most, are refused for one fault at most, and never both.
-abbrev pub HasOneMeaning : List (List ℕ) → Type 0
-HasOneMeaning words = HasOneMeaningBy rescue_grammar words

@@ -1,5 +1,0 @@
-use Rattle.safe_turns.proofs.NowClose.{close_stays_safe_now}
-use Rattle.safe_turns.proofs.laws.a_close_stays_safe_now.Goals as goal
-
-pub returns : goal.returns
-returns c = close_stays_safe_now

@@ -1,5 +1,0 @@
-use Rattle.safe_turns.proofs.EndLemmas.{done_ends_well}
-use Rattle.safe_turns.proofs.laws.a_done_run_ends_well.Goals as goal
-
-pub returns : goal.returns
-returns c = done_ends_well

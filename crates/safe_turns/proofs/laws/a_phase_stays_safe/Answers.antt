@@ -1,5 +1,0 @@
-use Rattle.safe_turns.proofs.PhaseLemmas.{phase_stays_safe}
-use Rattle.safe_turns.proofs.laws.a_phase_stays_safe.Goals as goal
-
-pub returns : goal.returns
-returns c = phase_stays_safe

@@ -1,5 +1,0 @@
-use Rattle.safe_turns.proofs.NowTurns.{phase_stays_safe_now}
-use Rattle.safe_turns.proofs.laws.a_phase_stays_safe_now.Goals as goal
-
-pub returns : goal.returns
-returns c = phase_stays_safe_now

@@ -1,5 +1,0 @@
-use Rattle.safe_turns.proofs.SafeLemmas.{rest_is_safe}
-use Rattle.safe_turns.proofs.laws.a_run_begins_safe.Goals as goal
-
-pub returns : goal.returns
-returns c = rest_is_safe

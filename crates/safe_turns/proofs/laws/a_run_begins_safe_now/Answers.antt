@@ -1,5 +1,0 @@
-use Rattle.safe_turns.proofs.NowLemmas.{rest_is_safe_now}
-use Rattle.safe_turns.proofs.laws.a_run_begins_safe_now.Goals as goal
-
-pub returns : goal.returns
-returns c = rest_is_safe_now

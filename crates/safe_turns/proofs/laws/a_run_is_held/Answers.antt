@@ -1,5 +1,0 @@
-use Rattle.safe_turns.proofs.SafeLemmas.{run_is_held}
-use Rattle.safe_turns.proofs.laws.a_run_is_held.Goals as goal
-
-pub returns : goal.returns
-returns c = run_is_held

@@ -1,5 +1,0 @@
-use Rattle.safe_turns.proofs.SafeLemmas.{run_stays_safe}
-use Rattle.safe_turns.proofs.laws.a_run_stays_safe.Goals as goal
-
-pub returns : goal.returns
-returns c = run_stays_safe

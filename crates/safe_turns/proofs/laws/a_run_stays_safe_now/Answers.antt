@@ -1,5 +1,0 @@
-use Rattle.safe_turns.proofs.NowRuns.{run_stays_safe_now}
-use Rattle.safe_turns.proofs.laws.a_run_stays_safe_now.Goals as goal
-
-pub returns : goal.returns
-returns c = run_stays_safe_now

@@ -1,5 +1,0 @@
-use Rattle.safe_turns.proofs.WellLemmas.{under_way_ends_well}
-use Rattle.safe_turns.proofs.laws.a_run_under_way_ends_well.Goals as goal
-
-pub returns : goal.returns
-returns c = under_way_ends_well

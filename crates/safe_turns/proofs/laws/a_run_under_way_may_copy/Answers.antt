@@ -1,5 +1,0 @@
-use Rattle.safe_turns.proofs.PassLemmas.{under_way_may_copy}
-use Rattle.safe_turns.proofs.laws.a_run_under_way_may_copy.Goals as goal
-
-pub returns : goal.returns
-returns c = under_way_may_copy

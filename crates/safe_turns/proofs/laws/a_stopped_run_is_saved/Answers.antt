@@ -1,5 +1,0 @@
-use Rattle.safe_turns.proofs.EndLemmas.{stopped_is_saved}
-use Rattle.safe_turns.proofs.laws.a_stopped_run_is_saved.Goals as goal
-
-pub returns : goal.returns
-returns c = stopped_is_saved

@@ -1,5 +1,0 @@
-use Rattle.safe_turns.proofs.PassLemmas.{typed_leads_behind}
-use Rattle.safe_turns.proofs.laws.a_typed_run_leads_behind.Goals as goal
-
-pub returns : goal.returns
-returns c = typed_leads_behind

@@ -1,5 +1,0 @@
-use Rattle.safe_turns.proofs.EndLemmas.{whole_run_is_kept}
-use Rattle.safe_turns.proofs.laws.a_whole_run_is_kept.Goals as goal
-
-pub returns : goal.returns
-returns c = whole_run_is_kept

@@ -1,5 +1,0 @@
-use Rattle.safe_turns.proofs.NowTurns.{stopped_stays_safe_now}
-use Rattle.safe_turns.proofs.laws.stopped_turns_stay_safe_now.Goals as goal
-
-pub returns : goal.returns
-returns c = stopped_stays_safe_now

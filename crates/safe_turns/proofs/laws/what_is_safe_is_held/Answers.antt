@@ -1,5 +1,0 @@
-use Rattle.safe_turns.proofs.SafeLemmas.{safe_is_held}
-use Rattle.safe_turns.proofs.laws.what_is_safe_is_held.Goals as goal
-
-pub returns : goal.returns
-returns c = safe_is_held

@@ -1,5 +1,0 @@
-use Rattle.safe_turns.proofs.NowRuns.{now_is_safe}
-use Rattle.safe_turns.proofs.laws.what_is_safe_now_is_safe.Goals as goal
-
-pub returns : goal.returns
-returns c = now_is_safe

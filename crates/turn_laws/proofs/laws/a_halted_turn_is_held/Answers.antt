@@ -1,0 +1,5 @@
+use Rattle.turn_laws.proofs.TurnLemmas.{halted_turn_is_held}
+use Rattle.turn_laws.proofs.laws.a_halted_turn_is_held.Goals as goal
+
+pub returns : goal.returns
+returns c = halted_turn_is_held

@@ -1,0 +1,5 @@
+use Rattle.turn_laws.proofs.EndLemmas.{whole_run_is_kept}
+use Rattle.turn_laws.proofs.laws.a_whole_run_is_kept.Goals as goal
+
+pub returns : goal.returns
+returns c = whole_run_is_kept

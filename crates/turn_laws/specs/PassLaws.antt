@@ -1,0 +1,81 @@
+-- How a run comes to a phase over passes that are spent.
+use Rattle.std.specs.Prelude.{◌≡◌, ◌≢◌, ⊤, ℕ, ◌≤◌, false, if◌then◌else◌, List, [], ◌∷◌, ◌++◌, drop, slice_get, All, Some, None}
+use Rattle.rescue_rules.specs.declared.phase.Phase.{Phase}
+use Rattle.rescue_rules.specs.declared.phase.Phase.TheVariants.{Copying, Trimming, Scraping, Retrying}
+use Rattle.rescue_rules.specs.Setting.{Setting, IsSensible}
+use Rattle.rescue_rules.specs.Passes.{Pass, numbered, copying_passes, passes_in, passes_behind, passes_from}
+use Rattle.rescue_rules.specs.Machine.{has_request}
+use Rattle.rescue_rules.specs.MachineLaws.{IsInOrder, HasNone}
+use Rattle.rescue_rules.specs.Step.{limit_met}
+use Rattle.rescue_core.specs.RunState.{RunState, setting_in, passed}
+use Rattle.rescue_core.specs.Stages.{Reached, Copied, Trimmed, Scraped, Over, Known}
+use Rattle.copy_passes.specs.Turns.{IsAlike}
+use Rattle.copy_passes.specs.Copying.{MayCopy}
+use Rattle.trim_scrape.specs.Behind.{IsBehind}
+use Rattle.turn_laws.specs.UnderWay.{IsUnderWay}
+
+-- a run that has begun these passes, one after another
+abbrev pub passed_over : RunState → List Pass → RunState
+passed_over r [] = r
+passed_over r (p ∷ ps) = passed_over (passed r p.phase p.number) ps
+
+-- it may begin them: each is the next one of a pass that has no request left, as `begin_pass` asks
+abbrev pub MayPassOver : RunState → List Pass → Type 0
+MayPassOver r [] = ⊤
+MayPassOver r (p ∷ ps) =
+    (slice_get r.machine.passes 1 ≡ Some (numbered p.phase p.number))
+    × (has_request (setting_in r) r.machine ≡ false) × MayPassOver (passed r p.phase p.number) ps
+
+-- Over these passes a run comes to where the phase behind this one takes it, with the same reads to come.
+pub record LeadsBehind (phase : Phase) (r : RunState) (spent : List Pass) : Type 0 where
+  pub may : MayPassOver r spent
+  pub behind : IsBehind phase (passed_over r spent)
+  pub alike : IsAlike (setting_in r) r.machine (passed_over r spent).machine
+
+-- A run whose pass has no request left, and whose passes up to those behind a phase have no position to ask for, may
+-- begin these, and then be handed to the next phase.
+abbrev pub SpentLeadsBehind : Type 0
+SpentLeadsBehind = (r : RunState) (phase : Phase) (spent : List Pass) → IsSensible (setting_in r)
+    → limit_met (setting_in r) r.machine ≡ None → has_request (setting_in r) r.machine ≡ false
+    → drop 1 r.machine.passes ≡ spent ++ passes_behind (setting_in r) phase
+    → All (HasNone (setting_in r) r.machine) spent → LeadsBehind phase r spent
+
+-- the passes up to the end of a phase, from one of copying on
+abbrev pub passes_up_to : Setting → Phase → (number : ℕ) → List Pass
+passes_up_to s Copying number = passes_in s Copying number
+passes_up_to s Trimming number = passes_in s Copying number ++ (if s.trims then passes_in s Trimming 1 else [])
+passes_up_to s Scraping number =
+    (passes_in s Copying number ++ (if s.trims then passes_in s Trimming 1 else []))
+    ++ (if s.scrapes then passes_in s Scraping 1 else [])
+passes_up_to s Retrying number = passes_from s Copying number
+
+-- what the type of a run knows that the phase behind this one takes
+abbrev pub known_behind : Phase → Reached
+known_behind Copying = Copied
+known_behind Trimming = Trimmed
+known_behind Scraping = Scraped
+known_behind Retrying = Over
+
+-- By what its type knows, a run that stands in any pass of copying still may be handed so to trimming, to scraping or to
+-- retrying.
+abbrev pub TypedLeadsBehind : Type 0
+TypedLeadsBehind = (r : RunState) (phase : Phase) → phase ≢ Retrying → IsSensible (setting_in r)
+    → limit_met (setting_in r) r.machine ≡ None → r.pass ≤ copying_passes
+    → r.machine.passes ≡ passes_from (setting_in r) Copying r.pass → Known (known_behind phase) r
+    → LeadsBehind phase r (drop 1 (passes_up_to (setting_in r) phase r.pass))
+
+-- Copying takes a run that is under way in any of its passes, wherever its cursor.
+abbrev pub UnderWayMayCopy : Type 0
+UnderWayMayCopy = (r : RunState) → IsSensible (setting_in r) → limit_met (setting_in r) r.machine ≡ None
+    → r.phase ≡ Copying → r.pass ≤ copying_passes → r.machine.passes ≡ passes_from (setting_in r) Copying r.pass
+    → IsUnderWay (setting_in r) r.machine → MayCopy r
+
+-- And each run that copying takes is under way.
+abbrev pub CopyingIsUnderWay : Type 0
+CopyingIsUnderWay = (r : RunState) → MayCopy r → IsUnderWay (setting_in r) r.machine
+
+-- So is one that is behind a phase, by what its type knows, and may be handed to the next.
+abbrev pub BehindIsUnderWay : Type 0
+BehindIsUnderWay = (r : RunState) (phase : Phase) (first : ℕ) (past : List Pass) → IsInOrder (setting_in r) r.machine
+    → past ++ r.machine.passes ≡ passes_from (setting_in r) Copying first → IsBehind phase r
+    → Known (known_behind phase) r → IsUnderWay (setting_in r) r.machine

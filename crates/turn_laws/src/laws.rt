@@ -1,0 +1,194 @@
+//! What the definitions mean.
+ghost use Rattle.turn_laws.specs.EndLaws.{DoneEndsWell, NextPassIsUnderWay, PhasesEndWell, RunStaysUnderWay, SinceStartIsWell, StartIsUnderWay, StoppedIsSaved, UnderWayEndsWell, WholeRunIsHeld, WholeRunIsKept};
+ghost use Rattle.turn_laws.specs.Laws.{CloseIsHeld, HaltedTurnIsHeld, RestIsSafe, RunIsHeld, RunStaysSafe, SafeIsHeld, TurnIsHeld, TurnStaysSafe};
+ghost use Rattle.turn_laws.specs.NowLaws.{CloseStaysSafeNow, HaltedStaysSafeNow, NowIsSafe, PhaseStaysSafeNow, RestIsSafeNow, RunStaysSafeNow, StoppedStaysSafeNow, TurnStaysSafeNow};
+ghost use Rattle.turn_laws.specs.PassLaws.{BehindIsUnderWay, CopyingIsUnderWay, SpentLeadsBehind, TypedLeadsBehind, UnderWayMayCopy};
+ghost use Rattle.turn_laws.specs.PhaseLaws.{AlikeAreSafe, HaltedTurnStaysSafe, PhaseIsHeld, PhaseStaysSafe, StoppedTurnsAreHeld, StoppedTurnsStaySafe};
+
+/// A run is safe where it begins on an open output and a mapfile that are durable.
+pub fn a_run_begins_safe()
+    ensures { RestIsSafe }
+{}
+
+/// Where a run is safe, what is held is held.
+pub fn what_is_safe_is_held()
+    ensures { SafeIsHeld }
+{}
+
+/// A run that goes on by some events, with all their calls, stays safe.
+pub fn a_run_stays_safe()
+    ensures { RunStaysSafe }
+{}
+
+/// At each stop of those calls, and of the calls of the run's end, what is held is held.
+pub fn a_run_is_held()
+    ensures { RunIsHeld }
+{}
+
+/// A whole turn of a safe run leaves it safe.
+pub fn a_turn_stays_safe()
+    ensures { TurnStaysSafe }
+{}
+
+/// At each stop within it what is held is held.
+pub fn a_turn_is_held()
+    ensures { TurnIsHeld }
+{}
+
+/// So it is within a turn that stopped.
+pub fn a_halted_turn_is_held()
+    ensures { HaltedTurnIsHeld }
+{}
+
+/// A turn that stopped leaves the run safe, unless it stopped at a call on the files, behind which none is made.
+pub fn a_halted_turn_stays_safe()
+    ensures { HaltedTurnStaysSafe }
+{}
+
+/// Where a run is safe, so is one in a state alike, as the start of a next pass is.
+pub fn alike_states_are_safe_alike()
+    ensures { AlikeAreSafe }
+{}
+
+/// Whole turns of a safe run, as each phase makes them, leave it safe where they came to.
+pub fn a_phase_stays_safe()
+    ensures { PhaseStaysSafe }
+{}
+
+/// At each stop within them what is held is held.
+pub fn a_phase_is_held()
+    ensures { PhaseIsHeld }
+{}
+
+/// Turns up to one that stopped leave the run safe, unless that stopped at a call on the files.
+pub fn stopped_turns_stay_safe()
+    ensures { StoppedTurnsStaySafe }
+{}
+
+/// At each stop within them, wherever they stopped, what is held is held.
+pub fn stopped_turns_are_held()
+    ensures { StoppedTurnsAreHeld }
+{}
+
+/// At each stop within the close of a safe run, however it ended, what is held is held.
+pub fn a_close_is_held()
+    ensures { CloseIsHeld }
+{}
+
+/// A run whose files stand as `IsSafeNow` says is safe however it goes on.
+pub fn what_is_safe_now_is_safe()
+    ensures { NowIsSafe }
+{}
+
+/// Files that are durable as they read stand so when a run begins.
+pub fn a_run_begins_safe_now()
+    ensures { RestIsSafeNow }
+{}
+
+/// Events with all their calls leave them so.
+pub fn a_run_stays_safe_now()
+    ensures { RunStaysSafeNow }
+{}
+
+/// A whole turn leaves them so.
+pub fn a_turn_stays_safe_now()
+    ensures { TurnStaysSafeNow }
+{}
+
+/// A turn that stopped leaves them so, also at a call on the files that failed.
+pub fn a_halted_turn_stays_safe_now()
+    ensures { HaltedStaysSafeNow }
+{}
+
+/// The whole turns of a phase leave them so.
+pub fn a_phase_stays_safe_now()
+    ensures { PhaseStaysSafeNow }
+{}
+
+/// Turns up to one that stopped leave them so, for whatever cause it stopped.
+pub fn stopped_turns_stay_safe_now()
+    ensures { StoppedStaysSafeNow }
+{}
+
+/// The last save leaves them so, whole or stopped at whatever call.
+pub fn a_close_stays_safe_now()
+    ensures { CloseStaysSafeNow }
+{}
+
+/// A run is under way at its start.
+pub fn a_start_is_under_way()
+    ensures { StartIsUnderWay }
+{}
+
+/// It stays so, whatever it reads.
+pub fn a_run_stays_under_way()
+    ensures { RunStaysUnderWay }
+{}
+
+/// So is one at the start of its next pass, where the present one has no request.
+pub fn a_next_pass_is_under_way()
+    ensures { NextPassIsUnderWay }
+{}
+
+/// From wherever it is under way, a run that goes on to its end leaves each position rescued, not to be tried further,
+/// or bad, and failed in each pass of retrying that still came to it.
+pub fn a_run_under_way_ends_well()
+    ensures { UnderWayEndsWell }
+{}
+
+/// From a run's own start on, that is what a whole run leaves.
+pub fn what_is_well_since_the_start_is_well()
+    ensures { SinceStartIsWell }
+{}
+
+/// Whole turns from where it is under way, up to behind the last phase, and the close behind them leave no request, each
+/// position left well, and the last map saved.
+pub fn phases_end_well()
+    ensures { PhasesEndWell }
+{}
+
+/// So does a whole run that answers that it is done.
+pub fn a_done_run_ends_well()
+    ensures { DoneEndsWell }
+{}
+
+/// One that stopped, but not at a call on the files, saved its map as it was.
+pub fn a_stopped_run_is_saved()
+    ensures { StoppedIsSaved }
+{}
+
+/// At each stop within a whole run of a safe beginning, however it ends, what is held is held.
+pub fn a_whole_run_is_held()
+    ensures { WholeRunIsHeld }
+{}
+
+/// The mapfile found then is one that the run saved, or the one that it began with, and it is no older than the last save
+/// that returned.
+pub fn a_whole_run_is_kept()
+    ensures { WholeRunIsKept }
+{}
+
+/// A run whose earlier passes are spent may begin those that are left of them, and is behind that phase then.
+pub fn spent_passes_lead_behind()
+    ensures { SpentLeadsBehind }
+{}
+
+/// By what its type knows, a run that stands in copying still may be handed so to the phase that takes its type.
+pub fn a_typed_run_leads_behind()
+    ensures { TypedLeadsBehind }
+{}
+
+/// Copying takes a run that is under way in any of its passes.
+pub fn a_run_under_way_may_copy()
+    ensures { UnderWayMayCopy }
+{}
+
+/// Each run that copying takes is under way.
+pub fn what_may_copy_is_under_way()
+    ensures { CopyingIsUnderWay }
+{}
+
+/// So is one that is behind a phase, by what its type knows.
+pub fn what_is_behind_is_under_way()
+    ensures { BehindIsUnderWay }
+{}

@@ -1,6 +1,0 @@
-use Rattle.option_values.proofs.MeaningLemmas.{one_meaning}
-use Rattle.verify_command.specs.Command.{verify_grammar}
-use Rattle.verify_command.proofs.laws.words_have_one_meaning.Goals as goal
-
-pub returns : goal.returns
-returns c = one_meaning verify_grammar

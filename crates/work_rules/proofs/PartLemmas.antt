@@ -1,0 +1,77 @@
+-- Rows in which work stopped, or through which it went, in front of others.
+use Rattle.std.proofs.Common.{◌≡◌, List, [], ◌∷◌, ◌++◌, map, Some, None, sym, ap, ◌∙◌, inl, inr, subst, append_assoc}
+use Rattle.crash_site.specs.Calls.{Entry, Done as Returned}
+use Rattle.work_rules.specs.Work.{Deeds, Faults, WorkStep, Take, Look, Open, Make, Read, Works, with_calls}
+use Rattle.work_rules.specs.Parts.{WentThrough}
+use Rattle.work_rules.specs.Holds.{behind_entries}
+
+-- what stopped in some rows stopped in front of all that is behind them
+pub stopped_more : {E : Type 0} (f : Faults E) (rows more : List (WorkStep E)) (run : E → Deeds → Type 0) (e : E) (d : Deeds)
+    → Works f rows (λ v x. ⊥) e d → Works f (rows ++ more) run e d
+stopped_more f [] more run e d h = absurd h
+stopped_more f (Take ∷ rows) more run e d (inl h) = inl h
+stopped_more f (Take ∷ rows) more run e d (inr h) = inr (stopped_more f rows more run e d h)
+stopped_more f (Look refuses ∷ rows) more run e d (inl h) = inl h
+stopped_more f (Look refuses ∷ rows) more run e d (inr h) = inr (h.0, stopped_more f rows more run e d h.1)
+stopped_more f (Open name ∷ rows) more run e d (inl h) = inl h
+stopped_more f (Open name ∷ rows) more run e d (inr h) = inr (h.0, h.1, stopped_more f rows more run e _ h.2)
+stopped_more f (Make calls ∷ rows) more run e d (inl h) = inl h
+stopped_more f (Make calls ∷ rows) more run e d (inr h) = inr (h.0, h.1, stopped_more f rows more run e _ h.2)
+stopped_more f (Read None file ∷ rows) more run e d (inl h) = inl h
+stopped_more f (Read None file ∷ rows) more run e d (inr h) = inr (h.0, stopped_more f rows more run e d h.1)
+stopped_more f (Read (Some name) file ∷ rows) more run e d (inl h) = inl h
+stopped_more f (Read (Some name) file ∷ rows) more run e d (inr (inl h)) = inr (inl h)
+stopped_more f (Read (Some name) file ∷ rows) more run e d (inr (inr h)) =
+    inr (inr (h.0, h.1, h.2, h.3, stopped_more f rows more run e _ h.4))
+
+-- calls behind which others come
+pub grown : (calls rest later front : List Entry) → calls ≡ front ++ rest → calls ++ later ≡ front ++ (rest ++ later)
+grown calls rest later front is = ap (λ c. c ++ later) is ∙ append_assoc front rest later
+
+-- calls one behind another, and then others
+pub grew_both : (d0 d1 d2 more : List Entry) (o l : List Entry) → d1 ≡ d0 ++ o → d2 ≡ d1 ++ l
+    → d2 ++ more ≡ d0 ++ (o ++ (l ++ more))
+grew_both d0 d1 d2 more o l first second =
+    ap (λ r. r ++ more) second ∙ append_assoc d1 l more ∙ ap (λ r. r ++ (l ++ more)) first ∙ append_assoc d0 o (l ++ more)
+
+-- what is done behind rows that the work went through is done by all of it
+pub through_then : {E : Type 0} (f : Faults E) (rows more : List (WorkStep E)) (run : E → Deeds → Type 0) (e : E)
+    (calls : List Entry) (d : Deeds) → WentThrough rows calls → Works f more run e d
+    → Works f (rows ++ more) run e (behind_entries calls d)
+through_then f [] more run e calls d t w =
+    subst (λ c. Works f more run e (with_calls d (c ++ d.gain.calls))) (sym t) w
+through_then f (Take ∷ rows) more run e calls d t w = inr (through_then f rows more run e calls d t w)
+through_then f (Look refuses ∷ rows) more run e calls d t w =
+    inr (t.0, through_then f rows more run e calls d t.1 w)
+through_then f (Open name ∷ rows) more run e calls d t w = absurd t
+through_then f (Make made ∷ rows) more run e calls d t w =
+    inr (t.0 ++ d.gain.calls, grown calls t.0 d.gain.calls (map Returned made) t.1, through_then f rows more run e t.0 d t.2 w)
+through_then f (Read None file ∷ rows) more run e calls d t w =
+    inr (t.0, through_then f rows more run e calls d t.1 w)
+through_then f (Read (Some name) file ∷ rows) more run e calls d t w =
+    inr (inr (
+      t.0,
+      t.1 ++ d.gain.calls,
+      t.2,
+      grown calls t.1 d.gain.calls (map Returned t.0) t.3,
+      through_then f rows more run e t.1 d t.4 w,
+    ))
+
+-- work behind which another run may come as well
+pub works_as : {E : Type 0} (f : Faults E) (rows : List (WorkStep E)) (run other : E → Deeds → Type 0)
+    → ((e : E) (d : Deeds) → run e d → other e d) → (e : E) (d : Deeds) → Works f rows run e d → Works f rows other e d
+works_as f [] run other also e d w = also e d w
+works_as f (Take ∷ rows) run other also e d (inl h) = inl h
+works_as f (Take ∷ rows) run other also e d (inr w) = inr (works_as f rows run other also e d w)
+works_as f (Look refuses ∷ rows) run other also e d (inl h) = inl h
+works_as f (Look refuses ∷ rows) run other also e d (inr h) = inr (h.0, works_as f rows run other also e d h.1)
+works_as f (Open name ∷ rows) run other also e d (inl h) = inl h
+works_as f (Open name ∷ rows) run other also e d (inr h) = inr (h.0, h.1, works_as f rows run other also e _ h.2)
+works_as f (Make calls ∷ rows) run other also e d (inl h) = inl h
+works_as f (Make calls ∷ rows) run other also e d (inr h) = inr (h.0, h.1, works_as f rows run other also e _ h.2)
+works_as f (Read None file ∷ rows) run other also e d (inl h) = inl h
+works_as f (Read None file ∷ rows) run other also e d (inr h) = inr (h.0, works_as f rows run other also e d h.1)
+works_as f (Read (Some name) file ∷ rows) run other also e d (inl h) = inl h
+works_as f (Read (Some name) file ∷ rows) run other also e d (inr (inl h)) = inr (inl h)
+works_as f (Read (Some name) file ∷ rows) run other also e d (inr (inr h)) =
+    inr (inr (h.0, h.1, h.2, h.3, works_as f rows run other also e _ h.4))
