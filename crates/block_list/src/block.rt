@@ -1,3 +1,4 @@
+//! A block, and a range of positions.
 use crate::status::Status;
 
 /// Positions from `pos` up to `pos + size`, in bytes, that have one status.

@@ -1,3 +1,5 @@
+//! Where a walk along a map looks first.
+
 /// Where a walk along a map looks first: the place of a block, as the map keeps its blocks. Whatever it says, the answer
 /// is the same.
 #[derive(Clone, Copy, Debug, PartialEq, Eq)]

@@ -1,3 +1,4 @@
+//! The map as a plain list of merged blocks.
 ghost use Rattle.std.specs.Prelude.{◌≡◌, ◌+◌, ◌<◌, ◌^◌, ◌++◌, ◌⊎◌, [], length, replicate, None, OnOk, OnErr, IsOk, IfOk, MatchOption};
 ghost use Rattle.block_list.specs.Push.{push_fault, EndsWith};
 

@@ -1,3 +1,4 @@
+//! The statuses of a position, and their symbols.
 ghost use Rattle.std.specs.Prelude.{◌≡◌, ◌↔◌, IsTrue};
 ghost use Rattle.block_list.specs.Status.{symbol, status_of_symbol};
 

@@ -1,3 +1,4 @@
+//! What a map can be asked and told, whatever its form.
 ghost use Rattle.std.specs.Prelude.{◌≡◌, ℕ, ◌+◌, ◌<◌, ◌≤◌, ◌^◌, List, length, slice_get, Some, OnOk, IfSome, IfNone, count_by};
 ghost use Rattle.block_list.specs.declared.status.Status.{Status};
 ghost use Rattle.block_list.specs.Status.{same};

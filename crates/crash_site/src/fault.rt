@@ -1,3 +1,4 @@
+//! The count of faults that each failed call raises.
 ghost use Rattle.std.specs.Prelude.{◌≤◌, ◌≡◌};
 ghost use Rattle.fault_count.specs.Counts.{raised};
 

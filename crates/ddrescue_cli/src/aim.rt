@@ -1,3 +1,4 @@
+//! What a command's files are for.
 use block_list::types::TypeSet;
 
 /// What files are for.

@@ -1,3 +1,4 @@
+//! How a call of `ddrescueverify` ended, and its exit status.
 ghost use Rattle.std.specs.Prelude.{◌≡◌};
 ghost use Rattle.ddrescueverify_cli.specs.Answers.{status_of_ending};
 

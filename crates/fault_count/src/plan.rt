@@ -1,3 +1,4 @@
+//! Which calls of a form in memory are to fail.
 ghost use Rattle.std.specs.Prelude.{◌≡◌, ◌↔◌, IsTrue, OnOk, OnErr};
 ghost use Rattle.fault_count.specs.Plan.{no_plan, with_call, with_failing, FailsNext};
 

@@ -1,3 +1,4 @@
+//! A range of positions that can't be read, for some attempts or for good.
 ghost use Rattle.std.specs.Prelude.{◌≡◌, if◌then◌else◌};
 ghost use Rattle.faulty_source.specs.Memory.{fails_still, is_bad_at, one_less};
 

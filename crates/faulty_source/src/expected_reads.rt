@@ -1,3 +1,4 @@
+//! The reads that an input expects, and what it read ahead of them.
 ghost use Rattle.std.specs.Prelude.{◌≡◌, ◌+◌, ◌<◌, ◌≤◌, ◌^◌, true, false, nat_le, length, vec_len};
 ghost use Rattle.real_files.specs.Ahead.{GivesHeld, ReadsAhead, asked_ahead, holds, nothing_held};
 ghost use Rattle.faulty_source.specs.Expected.{most_ahead};

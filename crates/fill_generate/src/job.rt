@@ -1,3 +1,4 @@
+//! What a sweep is asked to do.
 use block_list::tiles::Tiles;
 use mapfile_text::heading::Heading;
 use mapfile_text::state::MapState;

@@ -1,3 +1,4 @@
+//! The two modes of a sweep, and what each one looks for.
 ghost use Rattle.std.specs.Prelude.{◌≡◌};
 ghost use Rattle.fill_generate.specs.Modes.{takes_in, current_in};
 

@@ -1,3 +1,4 @@
+//! The heading of a mapfile: the program, its command line and its times.
 ghost use Rattle.std.specs.Prelude.{◌≡◌, IfOk};
 ghost use Rattle.mapfile_text.specs.Printed.{program_name, shown_byte};
 

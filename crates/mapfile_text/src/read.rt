@@ -1,3 +1,4 @@
+//! The reading of a mapfile's text into its blocks and state.
 ghost use Rattle.std.specs.Prelude.{◌≡◌, ◌⊎◌, ◌+◌, ◌-◌, ◌^◌, ◌<◌, ◌≤◌, ◌++◌, [], true, false, length, replicate, IfOk, IfErr, OnOk, IsTrue, if◌then◌else◌};
 ghost use Rattle.block_list.specs.Stretches.{covered};
 ghost use Rattle.mapfile_text.specs.MapText.{IsGap, IsMapText, Lists, ListsFault, PlaceFault, text_limit};

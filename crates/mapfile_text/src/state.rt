@@ -1,3 +1,4 @@
+//! The state of a rescue as its mapfile's first line shows it.
 ghost use Rattle.std.specs.Prelude.{◌≡◌};
 ghost use Rattle.mapfile_text.specs.Printed.{current_symbol};
 

@@ -1,3 +1,4 @@
+//! Clock, console and feed in memory, which tell all and fail on request.
 ghost use Rattle.std.specs.Prelude.{◌≡◌, ◌⊎◌, ◌≤◌, min, true, IsTrue, if◌then◌else◌, [], ◌++◌, length, take, drop, is_ok, OnOk, OnErr, IsErr};
 ghost use Rattle.fault_count.specs.Counts.{raised, HasCause};
 ghost use Rattle.fault_count.specs.Plan.{no_plan, with_failing};

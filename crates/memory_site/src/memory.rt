@@ -1,3 +1,4 @@
+//! An output and mapfiles in memory, which tell all and fail on request.
 ghost use Rattle.fault_count.specs.Counts.{raised, HasCause};
 ghost use Rattle.fault_count.specs.Plan.{no_plan, with_failing};
 ghost use Rattle.std.specs.Prelude.{not, ◌≡◌, ◌⊎◌, ℕ, ◌+◌, ◌<◌, ◌≤◌, ◌^◌, true, false, IsTrue, List, [], ◌∷◌, ◌++◌, length, take, slice_index_or, Some, None, is_some, IfOk, OnOk, OnErr, IsErr, MatchOption};

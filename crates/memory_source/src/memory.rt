@@ -1,3 +1,4 @@
+//! An input in memory, which tells all and fails on request.
 ghost use Rattle.std.specs.Prelude.{◌≡◌, ◌↔◌, ℕ, ◌+◌, ◌-◌, ◌<◌, ◌≤◌, ◌^◌, true, false, IsTrue, if◌then◌else◌, [], ◌∷◌, ◌++◌, length, map, take, slice_range, Contains, All, vec_capacity, IfOk, OnOk, OnErr};
 ghost use Rattle.fault_count.specs.Plan.{no_plan, with_failing};
 ghost use Rattle.faulty_source.specs.Got.{count_of, is_end};

@@ -1,3 +1,4 @@
+//! Why words give no command.
 ghost use Rattle.std.specs.Prelude.{◌≡◌};
 ghost use Rattle.option_values.specs.Grammar.{unread_error};
 

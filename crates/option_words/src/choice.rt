@@ -1,3 +1,4 @@
+//! Which option of a table a word means, in full or by its beginning.
 ghost use Rattle.std.specs.Prelude.{◌≡◌, count_by};
 ghost use Rattle.option_words.specs.Rows.{begins_with, chosen_by_name, first_row, has_letter, has_name};
 

@@ -1,3 +1,4 @@
+//! What can be wrong with the words of a command line.
 use thiserror::Error;
 
 /// Why words can't be read by a table. Words are counted from 1. The first faulty word decides, and in a group of

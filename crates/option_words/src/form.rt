@@ -1,3 +1,4 @@
+//! What a word looks like: options, or none.
 ghost use Rattle.std.specs.Prelude.{◌≡◌};
 ghost use Rattle.option_words.specs.Forms.{form_of};
 

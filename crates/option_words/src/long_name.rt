@@ -1,3 +1,4 @@
+//! The name and the value of a long option.
 ghost use Rattle.std.specs.Prelude.{◌≡◌, ◌<◌, length, drop, IfSome};
 ghost use Rattle.option_words.specs.Forms.{form_of};
 ghost use Rattle.option_words.specs.Meanings.{equals_sign, name_before, value_after};

@@ -1,3 +1,4 @@
+//! The reading of words by a table of options.
 ghost use Rattle.std.specs.Prelude.{◌≡◌, ◌⊎◌, ◌-◌, ◌≤◌, [], length, drop, All, IfOk, IfErr, OnOk, IsOkAnd};
 ghost use Rattle.std.specs.Str.{chars};
 ghost use Rattle.option_words.specs.Forms.{form_of};

@@ -1,3 +1,4 @@
+//! A row of a table of options.
 ghost use Rattle.std.specs.Prelude.{◌≡◌};
 ghost use Rattle.option_words.specs.Rows.{is_alone};
 

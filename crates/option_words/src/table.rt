@@ -1,3 +1,4 @@
+//! A table of options, and when it is well formed.
 ghost use Rattle.std.specs.Prelude.{◌≡◌, is_some, IfSome};
 ghost use Rattle.std.specs.List.{list_all};
 ghost use Rattle.option_words.specs.Tables.{share_nothing, fits_table, holds_no_sign, is_table, letter_fits, name_fits};

@@ -1,3 +1,5 @@
+//! Why reads of a plan are lost.
+
 /// Why reads are lost.
 #[derive(Clone, Copy, Debug, PartialEq, Eq)]
 pub enum PlanLoss {

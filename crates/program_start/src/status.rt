@@ -1,3 +1,4 @@
+//! The exit status of a program whose work ended, or never began.
 ghost use Rattle.std.specs.Prelude.{◌≡◌, ◌≢◌, IfOk, IfErr};
 ghost use Rattle.std.specs.IoError.{error_kind};
 

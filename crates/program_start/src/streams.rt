@@ -1,3 +1,4 @@
+//! Standard streams that are closed when a program begins.
 use std::fs::{File, OpenOptions};
 use std::io;
 use std::os::fd::{AsRawFd, IntoRawFd};

@@ -1,3 +1,4 @@
+//! What a rescue asks a clock.
 ghost use Rattle.rescue_console.specs.ClockState.{ClockState, Answers};
 
 /// A clock in milliseconds since 1970. It never fails, and may go back.

@@ -1,3 +1,4 @@
+//! What a rescue says, and how a put may fail.
 ghost use Rattle.rescue_console.specs.ConsoleState.{ConsoleState, Answers};
 
 /// A piece couldn't be put, or not all of it.

@@ -1,3 +1,4 @@
+//! A list that is taken from standard input.
 ghost use Rattle.std.specs.Prelude.{◌<◌, ◌≤◌, length, IfOk};
 ghost use Rattle.rescue_console.specs.FeedState.{FeedState, Answers};
 

@@ -1,3 +1,4 @@
+//! A rescue by how far it has come: each phase is a type.
 ghost use Rattle.std.specs.Prelude.{◌≡◌, ◌+◌, ◌<◌, ◌≤◌, ◌^◌, true, false, Some, None, length, slice_get, IfOk, IfErr, IfSome, IfNone, OnOk};
 ghost use Rattle.faulty_source.specs.SourceChanges.{Stays as SourceStays};
 ghost use Rattle.crash_site.specs.SiteChanges.{Keeps as SiteKeeps};

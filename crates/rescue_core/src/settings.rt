@@ -1,3 +1,5 @@
+//! What a run has to know of its options.
+
 /// What a run is asked to do. Sizes and positions are in bytes.
 #[derive(Clone, Copy, Debug, PartialEq, Eq)]
 pub struct Settings {

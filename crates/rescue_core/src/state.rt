@@ -1,3 +1,4 @@
+//! How far a run has come, and what it has counted.
 use crate::request::start_of;
 use crate::settings::Settings;
 use mapfile_text::state::{Current, MapState};

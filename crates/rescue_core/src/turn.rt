@@ -1,3 +1,4 @@
+//! What one turn of a rescue did.
 ghost use Rattle.std.specs.Prelude.{◌≡◌, true, false, not, ◌||◌};
 
 /// What a turn did.

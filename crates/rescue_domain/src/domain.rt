@@ -1,3 +1,4 @@
+//! The positions that are asked for, as intervals.
 ghost use Rattle.std.specs.Prelude.{◌≡◌, ℕ, ◌<◌, ◌≤◌, ◌^◌, min, max, Some, slice_get, length, false, ◌&&◌, nat_lt, option_map, IsTrue, IsOk, IfOk, OnOk, OnErr, IfSome, IfNone};
 ghost use Rattle.block_list.specs.declared.block.Range.{Range};
 ghost use Rattle.block_list.specs.Places.{IsFirst, IsLast, IsRangeUp, IsRangeDown};

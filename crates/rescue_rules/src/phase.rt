@@ -1,3 +1,5 @@
+//! The phases of a rescue.
+
 /// The phases of a rescue, in order (GNU ddrescue manual, "Algorithm").
 #[derive(Clone, Copy, Debug, PartialEq, Eq)]
 pub enum Phase {

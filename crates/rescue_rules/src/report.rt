@@ -1,3 +1,4 @@
+//! What a status line says.
 use block_list::areas::Count;
 use mapfile_text::state::{Current, MapState};
 

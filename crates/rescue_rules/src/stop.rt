@@ -1,3 +1,4 @@
+//! Why a run stops, and how it ends.
 ghost use Rattle.std.specs.Prelude.{◌≡◌};
 ghost use Rattle.rescue_rules.specs.Lines.{is_done};
 

@@ -1,3 +1,4 @@
+//! Why a scene can't go on.
 use block_list::tiles::NoMemory;
 use std::alloc::{AllocError, AllocFailed};
 use std::io;

@@ -1,3 +1,5 @@
+//! Why a comparison ended early.
+
 /// Why a comparison stopped before its last piece.
 #[derive(Clone, Copy, Debug, PartialEq, Eq)]
 pub enum Halt {

@@ -1,3 +1,4 @@
+//! The names of a mapfile and its draft.
 ghost use Rattle.std.specs.Prelude.{◌≡◌, IfOk};
 ghost use Rattle.save_resume.specs.MapNames.{names_of};
 

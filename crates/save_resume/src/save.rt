@@ -1,3 +1,4 @@
+//! The calls of a save, in their order.
 ghost use Rattle.std.specs.Prelude.{◌≡◌, false, IsTrue, OnOk};
 ghost use Rattle.mapfile_text.specs.Printed.{printed};
 ghost use Rattle.save_resume.specs.Saving.{save_calls, Saves};

@@ -1,3 +1,4 @@
+//! What can be wrong with a size.
 use thiserror::Error;
 
 /// Why a text is no number. Places are counted in bytes from 0.

@@ -1,3 +1,4 @@
+//! The reading of an interval of time.
 ghost use Rattle.std.specs.Prelude.{◌≡◌, ◌<◌, IfSome};
 ghost use Rattle.size_suffixes.specs.Interval.{interval, interval_factor};
 

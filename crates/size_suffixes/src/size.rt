@@ -1,3 +1,4 @@
+//! The reading of a size with its suffix.
 ghost use Rattle.std.specs.Prelude.{◌≡◌, ◌<◌, ◌≤◌, IfSome};
 ghost use Rattle.size_suffixes.specs.Size.{binary_multiplier, multiplier, size, size_factor};
 

@@ -1,3 +1,4 @@
+//! A number with a suffix, as a text is made of both.
 ghost use Rattle.std.specs.Prelude.{◌≡◌, ◌*◌, ◌<◌, ◌≤◌, IfSome, length};
 ghost use Rattle.size_suffixes.specs.Number.{is_hexadecimal, number, within, value};
 ghost use Rattle.size_suffixes.specs.Suffixed.{number_end, taken_base, times};

@@ -1,3 +1,4 @@
+//! Tests of the forms for real files.
 use crash_site::folder::FolderSite;
 use crash_site::site::{ImageKind, MapRead, Site};
 use faulty_source::file::FileSource;

@@ -1,3 +1,4 @@
+//! Tests of the system's clock and streams.
 use rescue_console::clock::Clock;
 use rescue_console::console::{Channel, Console};
 use rescue_console::feed::Feed;

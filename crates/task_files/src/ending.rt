@@ -1,3 +1,4 @@
+//! How a call of `ddrescue` ended, and its exit status.
 ghost use Rattle.std.specs.Prelude.{◌≡◌};
 ghost use Rattle.task_files.specs.Answers.{status_of_ending};
 ghost use Rattle.task_files.specs.Work.{answer_of};

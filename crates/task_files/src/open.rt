@@ -1,3 +1,4 @@
+//! The opening of the output.
 ghost use Rattle.std.specs.Prelude.{◌≡◌, true, OnOk, IfErr};
 ghost use Rattle.crash_site.specs.SiteChanges.{Keeps};
 ghost use Rattle.task_files.specs.Steps.{OpensOutput, OutputCause};

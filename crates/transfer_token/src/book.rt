@@ -1,3 +1,4 @@
+//! The marks that a finished transfer owes the map.
 ghost use Rattle.std.specs.Prelude.{◌≡◌, ◌+◌, ◌≤◌, length};
 ghost use Rattle.block_list.specs.Map.{marked};
 ghost use Rattle.block_list.specs.declared.status.Status.TheVariants.{Finished};

@@ -1,3 +1,4 @@
+//! A read on its way into output and map.
 ghost use Rattle.std.specs.Prelude.{◌≡◌, ◌+◌, ◌<◌, ◌≤◌, ◌^◌, true, false, length, IfOk, OnErr};
 ghost use Rattle.faulty_source.specs.Got.{count_of, is_end};
 ghost use Rattle.faulty_source.specs.SourceChanges.{Stays, Loses};

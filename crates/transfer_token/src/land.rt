@@ -1,3 +1,4 @@
+//! The write of what a read gave.
 ghost use Rattle.std.specs.Prelude.{◌≡◌, ◌+◌, ◌<◌, ◌≤◌, ◌^◌, true, length, take, IfOk, IfErr};
 ghost use Rattle.crash_site.specs.Calls.{image_write};
 ghost use Rattle.crash_site.specs.SiteChanges.{Answers};

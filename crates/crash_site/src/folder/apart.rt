@@ -1,3 +1,4 @@
+//! The files that no mapfile and no draft may be.
 use crate::folder::image::OpenImage;
 use real_files::identity::{Identity, OpenInput};
 use std::fs::Metadata;

@@ -1,3 +1,4 @@
+//! The draft of a mapfile: begun, appended to, synced, renamed.
 use crate::folder::apart::Apart;
 use crate::folder::mapfile::find_map;
 use crate::folder::names::make_new;

@@ -1,3 +1,4 @@
+//! The output: opened, read, written, synced.
 ghost use Rattle.std.specs.Prelude.{◌≡◌, true, false, OnOk, IfOk, IsSome};
 ghost use Rattle.std.specs.Io.KnownBytes.{Appends};
 ghost use Rattle.real_files.specs.Ahead.{nothing_held};

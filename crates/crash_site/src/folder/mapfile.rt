@@ -1,3 +1,4 @@
+//! The mapfile: found, and read piece by piece.
 ghost use Rattle.std.specs.Prelude.{◌≡◌, ◌⊎◌, ◌≤◌, ℕ, length, take, IfOk};
 ghost use Rattle.std.specs.Io.KnownBytes.{Consumes, IsAtEnd};
 ghost use Rattle.crash_site.specs.FileAnswers.{IsWithin};

@@ -1,3 +1,4 @@
+//! The folder that holds a file, and its sync.
 use real_files::outcome::{folder_synced, if_allowed};
 use std::fs::{self, File, OpenFile, OpenOptions};
 use std::io::{self, ErrorKind};

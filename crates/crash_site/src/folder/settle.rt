@@ -1,3 +1,4 @@
+//! The sync of a folder that makes a rename or a removal durable.
 use crate::folder::apart::Apart;
 use crate::folder::mapfile::find_map;
 use crate::folder::names::{folder_for, folder_of, make_new, open_with, sync_entries};

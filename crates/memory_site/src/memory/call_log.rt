@@ -1,3 +1,4 @@
+//! The calls that were made, and which of them failed.
 ghost use Rattle.std.specs.Prelude.{◌≡◌, ◌⊎◌, ℕ, ◌+◌, ◌<◌, ◌≤◌, ◌↔◌, true, false, IsTrue, List, [], ◌∷◌, ◌++◌, Some, None, Ok, IfOk, OnOk, OnErr, IsErr, Contains};
 ghost use Rattle.fault_count.specs.Counts.{raised, HasCause};
 ghost use Rattle.fault_count.specs.Plan.{no_plan, with_call, with_failing, FailsNext};

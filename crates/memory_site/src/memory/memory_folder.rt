@@ -1,3 +1,4 @@
+//! The files in memory, as they read.
 #![tactic(auto, using(crate::proofs::FolderLemmas::folder_lemmas))]
 
 ghost use Rattle.std.specs.Prelude.{◌≡◌, ℕ, ◌+◌, ◌-◌, min, ◌<◌, ◌≤◌, ◌^◌, true, false, IsTrue, List, length, take, slice_range, Some, None, IsSome, is_some, IfOk, OnOk, OnErr, MatchOption, if◌then◌else◌};

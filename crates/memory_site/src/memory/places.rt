@@ -1,3 +1,4 @@
+//! Files in memory: found by name, and written at a place.
 ghost use Rattle.std.specs.Prelude.{◌≡◌, ℕ, ◌+◌, ◌<◌, ◌-◌, ◌≤◌, ◌^◌, true, false, List, ◌++◌, length, slice_index_or, take, drop, replicate, slice_range, Some, None, map, IfOk, OnOk, OnErr, MatchOption};
 ghost use Rattle.std.specs.Str.{bytes_eq};
 ghost use Rattle.memory_site.specs.declared.memory.places.NamedFile.{NamedFile};

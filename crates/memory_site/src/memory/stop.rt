@@ -1,3 +1,4 @@
+//! What a stop of the machine leaves of the files.
 ghost use Rattle.std.specs.Prelude.{◌≡◌, ℕ, ◌+◌, ◌≤◌, ◌++◌, length, List, drop, true, Option, IfOk, OnOk, MatchOption, Some, None, is_some, if◌then◌else◌};
 ghost use Rattle.crash_site.specs.Files.{File, bytes_of, empty_file, put};
 ghost use Rattle.crash_site.specs.Calls.{Done, Failed};
