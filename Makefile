@@ -34,7 +34,7 @@ $(foreach crate,$(CRATES),$(eval needs_$(crate) := $(shell sed -n 's/^$(crate):/
     $(eval kit_$(crate) := std $(filter-out $(CRATES),$(needs_$(crate)))))
 MAINS := $(patsubst crates/%/src/main.rt,%,$(wildcard crates/*/src/main.rt))
 LIBRARIES := $(filter-out $(MAINS),$(CRATES))
-sources = $(shell find crates/$(1) -name out -prune -o -name must-fail -prune -o -type f -print)
+sources = $(shell find crates/$(1) -name out -prune -o -name must-fail -prune -o -name README.md -prune -o -type f -print)
 proved = $(foreach library,$(own_$(1)),build/$(library).proved)
 
 # The words of the kit's compiler for a crate. A crate reads the statements of its libraries, not their proofs. The
