@@ -10,7 +10,7 @@ use Rattle.block_list.specs.Map.{marked}
 use Rattle.block_list.specs.Stretches.{covered, back_of}
 use Rattle.block_list.specs.Tiling.{AreTiles, IsMerged}
 use Rattle.block_list.specs.Push.{EndsWith}
-use Rattle.block_list.specs.Edits.{IsTiled, IsBlockCut, IsJoinedBefore, IsJoinedBehind, start_of, front_of, cut_at}
+use Rattle.block_list.specs.Edits.{IsTiled, IsBlockCut, IsJoinedBefore, IsJoinedAfter, start_of, front_of, cut_at}
 use Rattle.block_list.proofs.TileLemmas.{covered-append, length_first, tiles_join, tiles_split, tiled_from_tiles, parts_of, start_le_end, start_mono, index_before, start_more, start_all, tile_at, tile_read, front_statuses, back_statuses}
 use Rattle.block_list.proofs.StretchLemmas.{block_has}
 use Rattle.block_list.proofs.ApartLemmas.{AreApart, apart_from_merged, merged_from_apart, apart_left, apart_right, apart_meet, apart_last, apart_first, apart_push, merged_front, merged_back}
@@ -171,10 +171,10 @@ apart_before bs k i block a e h q p s =
     }
 
 -- the block behind joins
-pub joined_behind : (bs : List Block) (j : ℕ) (block a : Block) → j < length bs → a ≡ get_or bs j a → IsTiled bs
+pub joined_after : (bs : List Block) (j : ℕ) (block a : Block) → j < length bs → a ≡ get_or bs j a → IsTiled bs
     → start_of bs j ≡ block.pos + block.size → a.status ≡ block.status
-    → IsJoinedBehind bs j block (j + 1) (record { pos = block.pos; size = block.size + a.size; status = block.status })
-joined_behind bs j block a h q t p s =
+    → IsJoinedAfter bs j block (j + 1) (record { pos = block.pos; size = block.size + a.size; status = block.status })
+joined_after bs j block a h q t p s =
     let r = tile_read bs j a t h q in
     let w : drop j bs ≡ a ∷ drop (j + 1) bs = drop_more bs j a h ∙ ap (λ z. z ∷ drop (j + 1) bs) (sym q) in
     let wide : Block = record { pos = block.pos; size = block.size + a.size; status = block.status } in
@@ -195,9 +195,9 @@ joined_behind bs j block a h q t p s =
     }
 
 -- the block behind has another status
-pub apart_behind : (bs : List Block) (j : ℕ) (block a : Block) → j < length bs → a ≡ get_or bs j a
-    → start_of bs j ≡ block.pos + block.size → (a.status ≡ block.status → ⊥) → IsJoinedBehind bs j block j block
-apart_behind bs j block a h q p s =
+pub apart_after : (bs : List Block) (j : ℕ) (block a : Block) → j < length bs → a ≡ get_or bs j a
+    → start_of bs j ≡ block.pos + block.size → (a.status ≡ block.status → ⊥) → IsJoinedAfter bs j block j block
+apart_after bs j block a h q p s =
     let w : drop j bs ≡ a ∷ drop (j + 1) bs = drop_more bs j a h ∙ ap (λ z. z ∷ drop (j + 1) bs) (sym q) in
     record {
       index = omega arith;
@@ -213,7 +213,7 @@ apart_behind bs j block a h q p s =
 
 -- one block in the place of those from i up to j, joined with its neighbors
 pub replaced_same : (bs : List Block) (i j low high : ℕ) (block wide whole : Block) → start_of bs i ≡ block.pos
-    → start_of bs j ≡ block.pos + block.size → IsJoinedBefore bs i block low wide → IsJoinedBehind bs j wide high whole
+    → start_of bs j ≡ block.pos + block.size → IsJoinedBefore bs i block low wide → IsJoinedAfter bs j wide high whole
     → flat_map covered (take low bs ++ whole ∷ drop high bs)
     ≡ marked (flat_map covered bs) block.pos block.size block.status
 replaced_same bs i j low high block wide whole p e f g =
@@ -225,7 +225,7 @@ replaced_same bs i j low high block wide whole p e f g =
     ∙ ap (λ r. take block.pos (flat_map covered bs) ++ covered block ++ r) (back_statuses bs j (block.pos + block.size) e)
 
 pub replaced_tiled : (bs : List Block) (i j low high : ℕ) (block wide whole : Block) → IsTiled bs → 0 < block.size
-    → IsJoinedBefore bs i block low wide → IsJoinedBehind bs j wide high whole
+    → IsJoinedBefore bs i block low wide → IsJoinedAfter bs j wide high whole
     → IsTiled (take low bs ++ whole ∷ drop high bs)
 replaced_tiled bs i j low high block wide whole t s f g =
     let end : ℕ = length (flat_map covered bs) in
@@ -236,7 +236,7 @@ replaced_tiled bs i j low high block wide whole t s f g =
     t.short
 
 pub replaced_merged : (bs : List Block) (i j low high : ℕ) (block wide whole : Block) → IsMerged (take i bs)
-    → IsMerged (drop j bs) → IsJoinedBefore bs i block low wide → IsJoinedBehind bs j wide high whole
+    → IsMerged (drop j bs) → IsJoinedBefore bs i block low wide → IsJoinedAfter bs j wide high whole
     → IsMerged (take low bs ++ whole ∷ drop high bs)
 replaced_merged bs i j low high block wide whole m n f g =
     merged_from_apart _ (apart_meet (take low bs) whole (drop high bs)

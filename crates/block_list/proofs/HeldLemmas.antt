@@ -8,7 +8,7 @@ use Rattle.block_list.specs.declared.status.Status.{Status}
 use Rattle.block_list.specs.declared.block.Block.{Block}
 use Rattle.block_list.specs.Status.{same}
 use Rattle.block_list.specs.Map.{Has, marked}
-use Rattle.block_list.specs.Stretches.{joined, stretches_from, stretches, stretches_behind, IsStretch, IsStretchAt, OneStretchHolds, StretchesMeet, StretchesGoOn}
+use Rattle.block_list.specs.Stretches.{joined, stretches_from, stretches, stretches_after, IsStretch, IsStretchAt, OneStretchHolds, StretchesMeet, StretchesGoOn}
 use Rattle.block_list.specs.Tiling.{AreTiles}
 use Rattle.block_list.proofs.ApartLemmas.{IsOther}
 use Rattle.block_list.proofs.StretchLemmas.{first_stretch, stretches_tiles, are_stretches}
@@ -68,10 +68,10 @@ stretches_go_on map x b a =
     (λ k u. slice_get-drop x map k ∙ a.stretch.has (x + k) (omega (arith, a.begun)) (omega arith)) in
     let back : drop n (drop x map) ≡ drop end map = drop-drop n x map ∙ ap (λ k. drop k map) z in
     let e : end ≡ end + 0 = omega arith in
-    let other : IsOther b.status (stretches_behind end map) = first_is_other b.status end (drop end map)
+    let other : IsOther b.status (stretches_after end map) = first_is_other b.status end (drop end map)
     (λ h. a.stretch.stops (ap (λ k. slice_get map k) e ∙ sym (slice_get-drop end map 0) ∙ h)) in
     ap (stretches_from x) (front ∙ ap (λ r. replicate n b.status ++ r) back)
-    ∙ first_stretch x n b.status (drop end map) (stretches_behind end map) other (omega (arith, a.holds))
+    ∙ first_stretch x n b.status (drop end map) (stretches_after end map) other (omega (arith, a.holds))
     (ap (λ k. stretches_from k (drop end map)) z)
 
 -- a position has one status

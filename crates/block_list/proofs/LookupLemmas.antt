@@ -63,10 +63,10 @@ other_block : (map : List Status) (s : Status) (b : Block) (x : ℕ) → IsStret
     → x < b.pos + b.size → Has map s x → ⊥
 other_block map s b x k o l u h = other_status map s b.status x h (k.has x l u) o
 
-pub clear_behind : (bs : List Block) (i from : ℕ) (s : Status) (b : Block) → IsTiled bs → IsMerged bs → i < length bs
+pub clear_after : (bs : List Block) (i from : ℕ) (s : Status) (b : Block) → IsTiled bs → IsMerged bs → i < length bs
     → b ≡ get_or bs i b → (b.status ≡ s → ⊥) → IsClear (flat_map covered bs) s from (start_of bs i)
     → IsClear (flat_map covered bs) s from (start_of bs (i + 1))
-clear_behind bs i from s b t m h e o c =
+clear_after bs i from s b t m h e o c =
     let r = tile_read bs i b t h e in
     record {
       clear = λ x l u k. ⊎_elim (λ (v : x < start_of bs i). c.clear x l v k)

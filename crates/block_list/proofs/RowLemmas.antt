@@ -192,9 +192,9 @@ shifted_row es ss i at h t some l u v =
     shifted_read bs (rows 0 (set es (i - 1) at) ss) i at a b t some m p q u v new
 
 -- where a block begins that was looked for by its end
-pub begins_behind : (es : List ℕ) (ss : List Status) (i n : ℕ) (d : Block) → length ss ≡ length es → 0 < i → i < length es
+pub begins_after : (es : List ℕ) (ss : List Status) (i n : ℕ) (d : Block) → length ss ≡ length es → 0 < i → i < length es
     → n ≡ get_or es (i - 1) n → n ≡ (get_or (rows 0 es ss) i d).pos
-begins_behind es ss i n d h some l q =
+begins_after es ss i n d h some l q =
     let up : suc (i - 1) ≡ i = omega arith in
     q ∙ sym (last_taken 0 es (i - 1) n (omega arith)) ∙ ap (λ m. last_or 0 (take m es)) up
     ∙ sym (ap (λ (b : Block). b.pos) (rows_get 0 es ss i 0 NonTried d h l))

@@ -53,7 +53,7 @@ pub record IsJoinedBefore (bs : List Block) (i : ℕ) (block : Block) (low : ℕ
 
 -- wide is the block, or the block and the one behind it; it stands in front of the blocks from high on in the place of
 -- those from j on
-pub record IsJoinedBehind (bs : List Block) (j : ℕ) (block : Block) (high : ℕ) (wide : Block) : Type 0 where
+pub record IsJoinedAfter (bs : List Block) (j : ℕ) (block : Block) (high : ℕ) (wide : Block) : Type 0 where
   pub index : j ≤ high
   pub within : high ≤ length bs
   pub place : start_of bs high ≡ wide.pos + wide.size

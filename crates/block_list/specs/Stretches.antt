@@ -22,8 +22,8 @@ abbrev pub stretches : List Status → List Block
 stretches map = stretches_from 0 map
 
 -- the stretches of what is left of a map from a position on
-abbrev pub stretches_behind : ℕ → List Status → List Block
-stretches_behind x map = stretches_from x (drop x map)
+abbrev pub stretches_after : ℕ → List Status → List Block
+stretches_after x map = stretches_from x (drop x map)
 
 -- the positions that a block covers, with its status
 abbrev pub covered : Block → List Status
@@ -67,4 +67,4 @@ StretchesMeet = (map : List Status) (x : ℕ) (b c : Block) → IsStretchAt map 
 -- what is left of a map from a position on begins with the rest of the stretch that holds it
 abbrev pub StretchesGoOn : Type 0
 StretchesGoOn = (map : List Status) (x : ℕ) (b : Block) → IsStretchAt map x b
-    → stretches_behind x map ≡ back_of b x ∷ stretches_behind (b.pos + b.size) map
+    → stretches_after x map ≡ back_of b x ∷ stretches_after (b.pos + b.size) map

@@ -5,7 +5,7 @@ ghost use Rattle.block_list.specs.Map.{marked};
 ghost use Rattle.block_list.specs.Stretches.{covered};
 ghost use Rattle.block_list.specs.Tiling.{IsMerged};
 ghost use Rattle.block_list.specs.Push.{EndsWith};
-ghost use Rattle.block_list.specs.Edits.{IsTiled, IsPlace, IsBlockCut, IsJoinedBefore, IsJoinedBehind, start_of};
+ghost use Rattle.block_list.specs.Edits.{IsTiled, IsPlace, IsBlockCut, IsJoinedBefore, IsJoinedAfter, start_of};
 
 use crate::block::Block;
 use crate::block_row::BlockRow;
@@ -45,7 +45,7 @@ pub fn append(blocks: &mut BlockRow, block: Block) -> Result<(), NoMemory>
     requires tiled { IsTiled blocks.old.items }
     requires merged { IsMerged blocks.old.items }
     requires some { 0 < block.size }
-    requires behind { length (flat_map covered blocks.old.items) ≡ block.pos }
+    requires after { length (flat_map covered blocks.old.items) ≡ block.pos }
     requires short { block.pos + block.size < 2 ^ 63 }
     ensures tiled { IsTiled blocks.new.items }
     ensures merged { IsMerged blocks.new.items }
@@ -115,7 +115,7 @@ fn replace(blocks: &mut BlockRow, i: usize, j: usize, block: Block)
     ensures spare { blocks.old.spare ≤ blocks.new.spare }
 {
     let (low, wide) = join_before(blocks, i, block);
-    let (high, whole) = join_behind(blocks, j, wide);
+    let (high, whole) = join_after(blocks, j, wide);
     blocks.fuse(low, high, whole);
 }
 
@@ -142,18 +142,18 @@ fn join_before(blocks: &BlockRow, i: usize, block: Block) -> (usize, Block)
 }
 
 /// A block, widened over the one behind it where that has its status, and the index behind its last part.
-fn join_behind(blocks: &BlockRow, j: usize, block: Block) -> (usize, Block)
+fn join_after(blocks: &BlockRow, j: usize, block: Block) -> (usize, Block)
     requires tiled { IsTiled blocks.now.items }
     requires index { j ≤ length blocks.now.items }
     requires ends { start_of blocks.now.items j ≡ block.pos + block.size }
-    ensures { IsJoinedBehind blocks.now.items j block result.0 result.1 }
+    ensures { IsJoinedAfter blocks.now.items j block result.0 result.1 }
 {
     if j < blocks.len() {
-        let behind = blocks.block(j);
-        if behind.status.is(block.status) {
+        let after = blocks.block(j);
+        if after.status.is(block.status) {
             let wide = Block {
                 pos: block.pos,
-                size: block.size + behind.size,
+                size: block.size + after.size,
                 status: block.status,
             };
             return (j + 1, wide);

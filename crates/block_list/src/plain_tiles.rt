@@ -66,7 +66,7 @@ impl PlainTiles {
         ensures joins { push_fault block.pos block.size (length self.old.statuses) ≡ None
             → (block.size ≡ 0) ⊎ EndsWith self.old.statuses block.status → IsOk result }
     {
-        let end = end_behind(self.end, block)?;
+        let end = end_after(self.end, block)?;
         if block.size > 0 {
             edits::append(&mut self.blocks, block).map_err(|_| PushError::NoMemory)?;
             self.end = end;
@@ -76,24 +76,24 @@ impl PlainTiles {
 }
 
 /// The end of a map that ends at `end`, with a block behind it.
-fn end_behind(end: u64, block: Block) -> Result<u64, PushError>
+fn end_after(end: u64, block: Block) -> Result<u64, PushError>
     ensures answer { MatchOption (push_fault block.pos block.size end) (IsOk result) (λ e. result ≡ Err e) }
     ensures begins { OnOk result (block.pos ≡ end) }
-    ensures ends { IfOk result (λ behind. behind ≡ block.pos + block.size) }
-    ensures short { IfOk result (λ behind. behind < 2 ^ 63) }
+    ensures ends { IfOk result (λ after. after ≡ block.pos + block.size) }
+    ensures short { IfOk result (λ after. after < 2 ^ 63) }
 {
-    let behind = block
+    let after = block
         .pos
         .checked_add(block.size)
         .ok_or(PushError::TooLarge)?;
-    if behind >= 1 << 63 {
+    if after >= 1 << 63 {
         Err(PushError::TooLarge)
     } else if block.pos < end {
         Err(PushError::Overlap { at: end })
     } else if end < block.pos {
         Err(PushError::Gap { at: end })
     } else {
-        Ok(behind)
+        Ok(after)
     }
 }
 
@@ -111,8 +111,8 @@ impl Tiles for PlainTiles {
     }
 
     fn stretch_at(&self, x: u64) -> Block {
-        let behind = self.blocks.begun_before(x + 1);
-        self.blocks.block(behind - 1)
+        let after = self.blocks.begun_before(x + 1);
+        self.blocks.block(after - 1)
     }
 
     fn stretch_near(&self, near: &mut Near, x: u64) -> Block {

@@ -10,7 +10,7 @@ use Rattle.faulty_source.specs.Journal.{is_failed}
 use Rattle.rescue_rules.specs.declared.phase.Phase.{Phase}
 use Rattle.rescue_rules.specs.declared.phase.Phase.TheVariants.{Copying}
 use Rattle.rescue_rules.specs.Setting.{Setting}
-use Rattle.rescue_rules.specs.Passes.{Pass, taken, is_up, numbered, copying_passes, passes_behind, passes_from}
+use Rattle.rescue_rules.specs.Passes.{Pass, taken, is_up, numbered, copying_passes, passes_after, passes_from}
 use Rattle.rescue_rules.specs.Machine.{Machine, pass_of, start_of, has_taken, is_live, is_wanted, IsWanted, Search, search_in, search_of, IsNextRange, cut_start, cut_end, is_ahead, IsRequest, has_request}
 use Rattle.rescue_rules.specs.Step.{Event, trims, is_copying, is_trimming, is_slow, is_jump, reach, cursor_after, limit_met, step}
 use Rattle.rescue_rules.specs.MachineLaws.{StepsBy}
@@ -176,16 +176,16 @@ pub first_of : (s : Setting) (number : ℕ) → number ≤ copying_passes
     → (ps : List Pass) × (passes_from s Copying number ≡ numbered Copying number ∷ ps)
 first_of s number few =
     let some : 6 - number ≡ suc (5 - number) = omega (arith, few) in (
-      map (numbered Copying) (range_with_len (number + 1) (5 - number)) ++ passes_behind s Copying,
-      ap (λ (n : ℕ). map (numbered Copying) (range_with_len number n) ++ passes_behind s Copying) some,
+      map (numbered Copying) (range_with_len (number + 1) (5 - number)) ++ passes_after s Copying,
+      ap (λ (n : ℕ). map (numbered Copying) (range_with_len number n) ++ passes_after s Copying) some,
     )
 
 pub two_of : (s : Setting) (number : ℕ) → number < copying_passes
     → (ps : List Pass) × (passes_from s Copying number ≡ numbered Copying number ∷ numbered Copying (number + 1) ∷ ps)
 two_of s number few =
     let some : 6 - number ≡ suc (suc (4 - number)) = omega (arith, few) in (
-      map (numbered Copying) (range_with_len (number + 1 + 1) (4 - number)) ++ passes_behind s Copying,
-      ap (λ (n : ℕ). map (numbered Copying) (range_with_len number n) ++ passes_behind s Copying) some,
+      map (numbered Copying) (range_with_len (number + 1 + 1) (4 - number)) ++ passes_after s Copying,
+      ap (λ (n : ℕ). map (numbered Copying) (range_with_len number n) ++ passes_after s Copying) some,
     )
 
 -- copying asks for the non-tried positions that are left of the domain, and for no others

@@ -70,7 +70,7 @@ untried s m r x lead there few before =
       ⊎_elim (λ (below : x < r.pos). inl below)
           (λ (above : r.pos + k ≤ x). ⊎_elim
           (λ (inside : x < r.pos + k). absurd (omega (arith, above, inside)))
-          (λ (behind : r.pos + k + (r.asked - k) ≤ x). inr (omega (arith, behind, few)))
+          (λ (past : r.pos + k + (r.asked - k) ≤ x). inr (omega (arith, past, few)))
           later.1) was.1,
     ))
     (λ all has.

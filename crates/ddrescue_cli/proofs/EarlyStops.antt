@@ -6,7 +6,7 @@ use Rattle.crash_site.specs.Files.{File, bytes_of}
 use Rattle.crash_site.specs.Calls.{Entry}
 use Rattle.rescue_rules.specs.Setting.{Setting}
 use Rattle.rescue_rules.specs.Snapshots.{Snapshot}
-use Rattle.rescue_rules.specs.Stops.{Behind, files_before, has_barrier, returned, LeftBy}
+use Rattle.rescue_rules.specs.Stops.{Before, files_before, has_barrier, returned, LeftBy}
 use Rattle.rescue_rules.specs.StopsBy.{IsSave, IsKeptBy, StopsBy}
 
 -- of no saves the mapfile that is found is the one that stood there
@@ -16,7 +16,7 @@ only_old old began line zero found statuses h = refl
 only_old old began line (suc n) found statuses h = absurd (cc)
 
 module _ (saves : List Status → Option MapState → List Snapshot)
-    (promise : List Status → Option MapState → ℕ → List Status → List ℕ → Type 0) (makes : Bool) (b : Behind)
+    (promise : List Status → Option MapState → ℕ → List Status → List ℕ → Type 0) (makes : Bool) (b : Before)
     (s : Setting) (calls : List Entry) where
   -- what is promised of the mapfile that stood there, wherever a run is stopped
   abbrev pub PromisesOld : Type 0

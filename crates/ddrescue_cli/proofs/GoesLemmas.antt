@@ -15,10 +15,10 @@ use Rattle.save_resume.specs.Resuming.{barrier_calls}
 use Rattle.rescue_rules.specs.declared.stop.RunEnd.{RunEnd}
 use Rattle.rescue_rules.specs.Setting.{Setting}
 use Rattle.rescue_rules.specs.Start.{Stands}
-use Rattle.rescue_rules.specs.Work.{Gain, IsNothing, Runs, mapfile_in, GoesOn, InOpening, InLoad, InRun, AreMapReads, Goes, InMaps, BehindMaps}
+use Rattle.rescue_rules.specs.Work.{Gain, IsNothing, Runs, mapfile_in, GoesOn, InOpening, InLoad, InRun, AreMapReads, Goes, InMaps, AfterMaps}
 use Rattle.rescue_rules.specs.Snapshots.{Snapshot}
 use Rattle.rescue_rules.specs.StopsBy.{StopsBy, RescueStopsBy, saves_of}
-use Rattle.rescue_rules.specs.Stops.{LeftBy, Behind, files_before, has_barrier}
+use Rattle.rescue_rules.specs.Stops.{LeftBy, Before, files_before, has_barrier}
 use Rattle.rescue_rules.specs.Held.{Held}
 use Rattle.task_files.specs.declared.ending.Ending.{Ending}
 use Rattle.task_files.specs.declared.ending.Which.{Which}
@@ -36,7 +36,7 @@ use Rattle.rescue_rules.proofs.MapfileLemmas.{settling_calls, opening_is}
 use Rattle.rescue_rules.proofs.CutLemmas.{Cut, cut_all}
 use Rattle.rescue_rules.proofs.GoesLemmas.{broke_cut}
 use Rattle.rescue_rules.proofs.MapReadLemmas.{cut_reads_by}
-use Rattle.work_rules.proofs.GainLemmas.{lost_behind, broke_behind}
+use Rattle.work_rules.proofs.GainLemmas.{lost_after, broke_after}
 use Rattle.work_rules.proofs.FrontLemmas.{IsMapRead, load_reads, broke_in_both, made_both}
 
 -- what a command asks for with these names of a mapfile and its draft, if there is one
@@ -63,24 +63,24 @@ lost_settled : (s : Setting) (calls rest : List Entry) → calls ≡ opened s ++
     → Lost (map_settle s.names.map) (opened s) calls
 lost_settled s calls rest grew lost =
     let P : List Entry → Type 0 = λ r. Lost (map_settle s.names.map) (opened s) r in
-    subst P (sym grew) (lost_behind (map_settle s.names.map) (opened s) [] rest lost)
+    subst P (sym grew) (lost_after (map_settle s.names.map) (opened s) [] rest lost)
 
 lost_synced : (s : Setting) (calls rest : List Entry) → calls ≡ opened s ++ rest → Lost image_sync (Returned (map_settle s.names.map) ∷ []) rest
     → Lost image_sync (opened s ++ Returned (map_settle s.names.map) ∷ []) calls
 lost_synced s calls rest grew lost =
     let P : List Entry → Type 0 = λ r. Lost image_sync (opened s ++ Returned (map_settle s.names.map) ∷ []) r in
-    subst P (sym grew) (lost_behind image_sync (opened s) (Returned (map_settle s.names.map) ∷ []) rest lost)
+    subst P (sym grew) (lost_after image_sync (opened s) (Returned (map_settle s.names.map) ∷ []) rest lost)
 
 broke_settled : (s : Setting) (load : List Call) (calls more : List Entry) → calls ≡ settled s ++ more → BrokeAt MapRead load [] more
     → BrokeAt MapRead (settling_calls s ++ load) [] calls
 broke_settled s load calls more grew broke =
     let P : List Entry → Type 0 = λ r. BrokeAt MapRead load (settled s) r in
-    inr (inr (inr (subst P (sym grew) (broke_behind MapRead load (settled s) [] more broke))))
+    inr (inr (inr (subst P (sym grew) (broke_after MapRead load (settled s) [] more broke))))
 
 -- the calls of a rescue that read its mapfile, and made no other behind it
-alone_behind : (s : Setting) (load : List Call) (calls run : List Entry) → calls ≡ map Returned (settling_calls s ++ load) ++ run
+alone_after : (s : Setting) (load : List Call) (calls run : List Entry) → calls ≡ map Returned (settling_calls s ++ load) ++ run
     → run ≡ [] → calls ≡ map Returned (settling_calls s ++ load)
-alone_behind s load calls run grew none =
+alone_after s load calls run grew none =
     grew ∙ ap (λ r. map Returned (settling_calls s ++ load) ++ r) none ∙ append-nil (map Returned (settling_calls s ++ load))
 
 -- the ways of a rescue with a mapfile
@@ -125,9 +125,9 @@ loaded_goes : (o : Options) (s : Setting) (files : List ℕ → Option File) (li
     (Rescues s (mapfile_in s files) lines) e (with_calls d run)
     → GoesOn s files d.gain
 loaded_goes o s files lines e d load run on loaded grew (inl (refused, none)) =
-    load_goes s files d.gain load on loaded.begins none.gain.reads (inl (alone_behind s load d.gain.calls run grew none.gain.calls))
+    load_goes s files d.gain load on loaded.begins none.gain.reads (inl (alone_after s load d.gain.calls run grew none.gain.calls))
 loaded_goes o s files lines e d load run on loaded grew (inr (accepted, inl (refused, none))) =
-    load_goes s files d.gain load on loaded.begins none.gain.reads (inl (alone_behind s load d.gain.calls run grew none.gain.calls))
+    load_goes s files d.gain load on loaded.begins none.gain.reads (inl (alone_after s load d.gain.calls run grew none.gain.calls))
 loaded_goes o s files lines e d load run on loaded grew (inr (accepted, inr (placed, (none, (statuses, state, stands, runs))))) =
     over_goes s files lines e d.gain load statuses state run on loaded stands grew runs
 
@@ -184,22 +184,22 @@ goes_on c line end maps files lines e d on (inr (os, opens, inr (rest, grew, inr
     output_goes c c.mapfile line end maps files lines e (with_opens d os) rest on grew w
 
 -- behind reads of maps
-goes_behind : (s : Setting) (files : List ℕ → Option File) (g : Gain) (load : List Call) (rest : List Entry) → AreMapReads load
+goes_after : (s : Setting) (files : List ℕ → Option File) (g : Gain) (load : List Call) (rest : List Entry) → AreMapReads load
     → g.calls ≡ map Returned load ++ rest → Goes s files (record g { calls = rest }) → Goes s files g
-goes_behind s files g load rest reads grew (InMaps maps more none broke) =
+goes_after s files g load rest reads grew (InMaps maps more none broke) =
     InMaps (load ++ maps) (All-append IsMapRead load maps reads more) none
     (broke_in_both MapRead load maps [] g.calls
     (subst (λ (r : List Entry). BrokeAt MapRead maps (map Returned load) r) (sym grew)
     (subst (λ (r : List Entry). BrokeAt MapRead maps r (map Returned load ++ rest)) (append-nil (map Returned load))
-    (broke_behind MapRead maps (map Returned load) [] rest broke))))
-goes_behind s files g load rest reads grew (BehindMaps maps rest' more grew' on) =
-    BehindMaps (load ++ maps) rest' (All-append IsMapRead load maps reads more)
+    (broke_after MapRead maps (map Returned load) [] rest broke))))
+goes_after s files g load rest reads grew (AfterMaps maps rest' more grew' on) =
+    AfterMaps (load ++ maps) rest' (All-append IsMapRead load maps reads more)
     (grew ∙ ap (λ (r : List Entry). map Returned load ++ r) grew' ∙ made_both load maps rest') on
 
 -- a rescue that made no call
 none_goes : (s : Setting) (files : List ℕ → Option File) (g : Gain) → s.has_mapfile ≡ true → g.calls ≡ [] → g.reads ≡ [] → Goes s files g
 none_goes s files g on none unread =
-    BehindMaps [] g.calls (All-nil IsMapRead) refl (opening_goes s files g [] (settling_calls s) on refl unread (inl none))
+    AfterMaps [] g.calls (All-nil IsMapRead) refl (opening_goes s files g [] (settling_calls s) on refl unread (inl none))
 
 -- a rescue that reads a map, if an option names one, and goes on as it should
 map_goes : (which : Which) (mode : Mode) (name : Option (List ℕ)) (s : Setting) (files : List ℕ → Option File) (more : List (WorkStep Ending))
@@ -213,13 +213,13 @@ map_goes which mode None s files more run e d on next (inr (absent, inr (passes,
 map_goes which mode (Some n) s files more run e d on next (inl (load, is, begins, broke, only)) =
     InMaps load (load_reads n (files n) load begins) only.reads broke
 map_goes which mode (Some n) s files more run e d on next (inr (inl (load, is, begins, all, only))) =
-    goes_behind s files d.gain load [] (load_reads n (files n) load begins) (all ∙ sym (append-nil (map Returned load)))
+    goes_after s files d.gain load [] (load_reads n (files n) load begins) (all ∙ sym (append-nil (map Returned load)))
     (none_goes s files (with_calls d []).gain on refl only.reads)
 map_goes which mode (Some n) s files more run e d on next (inr (inr (load, rest, loaded, grew, inl (refused, none)))) =
-    goes_behind s files d.gain load rest (load_reads n (files n) load loaded.begins) grew
+    goes_after s files d.gain load rest (load_reads n (files n) load loaded.begins) grew
     (none_goes s files (with_calls d rest).gain on none.gain.calls none.gain.reads)
 map_goes which mode (Some n) s files more run e d on next (inr (inr (load, rest, loaded, grew, inr (accepted, w)))) =
-    goes_behind s files d.gain load rest (load_reads n (files n) load loaded.begins) grew (next (with_calls d rest) w)
+    goes_after s files d.gain load rest (load_reads n (files n) load loaded.begins) grew (next (with_calls d rest) w)
 
 pub work_goes : (c : Command) (line : List ℕ) (end : ℕ) (maps : Maps) (files : List ℕ → Option File)
     (lines : List (List ℕ)) (e : Ending) (d : Deeds) → (setting_of c line end maps).has_mapfile ≡ true
@@ -233,7 +233,7 @@ work_goes c line end maps files lines e d on works =
     map_goes DomainMap (map_mode c.options.loose) c.domain_map s files
     (map_rows TestMap (map_mode c.options.loose) c.test_map (file_of c.test_map files) ++ opening) run e d on
     (λ h more. map_goes TestMap (map_mode c.options.loose) c.test_map s files opening run e h on
-    (λ k last. BehindMaps [] k.gain.calls (All-nil IsMapRead) refl (goes_on c line end maps files lines e k on last)) more)
+    (λ k last. AfterMaps [] k.gain.calls (All-nil IsMapRead) refl (goes_on c line end maps files lines e k on last)) more)
     works
 
 -- where nothing was done but that maps were read, a stop is safe, whatever the input's length
@@ -241,14 +241,14 @@ pub maps_cut : (maps : List Call) (calls : List Entry) → (calls ≡ map Return
 maps_cut maps calls (inl all) = subst (Cut maps) (sym all) (cut_all maps)
 maps_cut maps calls (inr broke) = broke_cut MapRead [] maps calls broke
 
-pub maps_stop : (b : Behind) (s : Setting) (g : Gain) → IsOnlyMaps g → RescueStopsBy b s g
+pub maps_stop : (b : Before) (s : Setting) (g : Gain) → IsOnlyMaps g → RescueStopsBy b s g
 maps_stop b s g m =
     cut_reads_by (λ began state. saves_of s began state g)
     (λ began state n map image. Held s g.reads (bytes_of (files_before b s.outfile)) map image) true b s m.maps g.calls m.are
     (maps_cut m.maps g.calls m.calls)
 
 -- where nothing was done, what is found could be found before
-nothing_left : (b : Behind) (g : Gain) (k : ℕ) (files : List ℕ → Option File) → IsNothing g → k ≤ length g.calls → LeftBy b g.calls k files
+nothing_left : (b : Before) (g : Gain) (k : ℕ) (files : List ℕ → Option File) → IsNothing g → k ≤ length g.calls → LeftBy b g.calls k files
     → MayBeLeft b.start b.earlier (length b.earlier) files
 nothing_left b g k files none le left =
     let empty : length g.calls ≡ 0 = ap length none.calls in
@@ -266,7 +266,7 @@ no_barrier g k none le is =
 
 -- any run that saves while it goes is stopped safely where nothing was done
 pub nothing_stops_by : (saves : List Status → Option MapState → List Snapshot)
-    (promise : List Status → Option MapState → ℕ → List Status → List ℕ → Type 0) (makes : Bool) (b : Behind)
+    (promise : List Status → Option MapState → ℕ → List Status → List ℕ → Type 0) (makes : Bool) (b : Before)
     (s : Setting) (g : Gain) → IsNothing g → StopsBy saves promise makes b s g.calls
 nothing_stops_by saves promise makes b s g none = record {
   before = λ k files le left is. record {

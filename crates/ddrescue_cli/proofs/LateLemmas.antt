@@ -43,9 +43,9 @@ own_call call name is own = subst IsRunCall (sym is) own
 
 appends_own : (call : SiteCall) (ps : List (List ℕ)) (rest : List Call) → (IsNameIn call rest → IsRunCall call)
     → IsNameIn call (map draft_append ps ++ rest) → IsRunCall call
-appends_own call [] rest behind h = behind h
-appends_own call (p ∷ ps) rest behind (inl is) = own_call call DraftAppend is tt
-appends_own call (p ∷ ps) rest behind (inr h) = appends_own call ps rest behind h
+appends_own call [] rest later h = later h
+appends_own call (p ∷ ps) rest later (inl is) = own_call call DraftAppend is tt
+appends_own call (p ∷ ps) rest later (inr h) = appends_own call ps rest later h
 
 publish_own : (call : SiteCall) (n : MapNames) → IsNameIn call (draft_sync ∷ publish_calls n) → IsRunCall call
 publish_own call n (inl is) = own_call call DraftSync is tt
@@ -72,9 +72,9 @@ due_own call false n text h = absurd h
 
 move_own : (call : SiteCall) (none : Bool) (at : ℕ) (piece : List ℕ) (due : List Call) → (IsNameIn call due → IsRunCall call)
     → IsNameIn call ((if none then [] else image_write at piece ∷ []) ++ due) → IsRunCall call
-move_own call true at piece due behind h = behind h
-move_own call false at piece due behind (inl is) = own_call call ImageWrite is tt
-move_own call false at piece due behind (inr h) = behind h
+move_own call true at piece due later h = later h
+move_own call false at piece due later (inl is) = own_call call ImageWrite is tt
+move_own call false at piece due later (inr h) = later h
 
 moves_own : (call : SiteCall) (s : Setting) (v : Move) → IsNameIn call (move_calls s v) → IsRunCall call
 moves_own call s v h =
@@ -85,7 +85,7 @@ moves_own call s v h =
 
 call_late : (call : SiteCall) (earlier : Option Stop) → IsRunCall call → IsLate (SiteFault call earlier)
 call_late call earlier own = record {
-  names = λ named behind is. own_call named call (let same : named ≡ call = cc in same) own;
+  names = λ named later is. own_call named call (let same : named ≡ call = cc in same) own;
 }
 
 stop_late : (stop : Option Stop) (s : Setting) (m : Machine) (spare : ℕ) → EndsBy stop s m spare → IsLate (answer_of (end_of stop))

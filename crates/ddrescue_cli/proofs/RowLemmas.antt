@@ -43,14 +43,14 @@ of_barrier P settle sync call (Some n) (inr (inl is)) = subst P (sym is) sync
 of_barrier P settle sync call (Some n) (inr (inr none)) = absurd none
 
 -- the rows behind the read of each map that an option names, and behind that of the mapfile
-abbrev pub behind_mapfile : Command → Found → (end : ℕ) → List (WorkStep Ending)
-behind_mapfile c found end = Look (MapfileRefused found.mapfile) ∷ Look (PlacesRefused c.options end) ∷ []
+abbrev pub after_mapfile : Command → Found → (end : ℕ) → List (WorkStep Ending)
+after_mapfile c found end = Look (MapfileRefused found.mapfile) ∷ Look (PlacesRefused c.options end) ∷ []
 
-abbrev pub behind_test : Command → Found → (end : ℕ) → List (WorkStep Ending)
-behind_test c found end =
+abbrev pub after_test : Command → Found → (end : ℕ) → List (WorkStep Ending)
+after_test c found end =
     Look (IfNamed c.test_map (NamedMapRefused TestMap (map_mode c.options.loose) found.test)) ∷ opened_rows c found end
 
-abbrev pub behind_domain : Command → Found → (end : ℕ) → List (WorkStep Ending)
-behind_domain c found end =
+abbrev pub after_domain : Command → Found → (end : ℕ) → List (WorkStep Ending)
+after_domain c found end =
     Look (IfNamed c.domain_map (NamedMapRefused DomainMap (map_mode c.options.loose) found.domain))
     ∷ (map_rows TestMap (map_mode c.options.loose) c.test_map found.test ++ opened_rows c found end)

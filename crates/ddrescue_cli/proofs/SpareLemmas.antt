@@ -75,8 +75,8 @@ unwritten_cut (c ∷ cs) (Failed x ∷ es) (suc j) y spare cut =
     unwritten_alone x (suc j) y off = unwritten_failed x y off
 
 -- nor by all of them, in front of others
-pub unwritten_behind : (cs : List Call) (es : List Entry) (y : ℕ) → AreSpare cs → IsUnwritten es y
+pub unwritten_after : (cs : List Call) (es : List Entry) (y : ℕ) → AreSpare cs → IsUnwritten es y
     → IsUnwritten (map Done cs ++ es) y
-unwritten_behind [] es y spare h = h
-unwritten_behind (c ∷ cs) es y spare h =
-    unwritten_done c (map Done cs ++ es) y spare.0 (unwritten_behind cs es y spare.1 h)
+unwritten_after [] es y spare h = h
+unwritten_after (c ∷ cs) es y spare h =
+    unwritten_done c (map Done cs ++ es) y spare.0 (unwritten_after cs es y spare.1 h)

@@ -19,7 +19,7 @@ use Rattle.sweep_rules.specs.SweepWork.{Sweeps, sweep_opening}
 use Rattle.sweep_rules.specs.SweepOpens.{EndsEarly, InOpening, InLoad, OpensOrEnds}
 use Rattle.sweep_rules.proofs.EndLemmas.{opening_is}
 use Rattle.work_rules.specs.Work.{Deeds, WorkStep, Read, Look, Works, IsIdle, with_calls}
-use Rattle.work_rules.proofs.GainLemmas.{lost_behind, broke_behind}
+use Rattle.work_rules.proofs.GainLemmas.{lost_after, broke_after}
 use Rattle.ddrescue_words.specs.declared.options.Options.{Options}
 use Rattle.task_files.specs.declared.ending.Ending.{Ending}
 use Rattle.task_files.specs.declared.ending.Ending.TheVariants.{NoOutput}
@@ -63,14 +63,14 @@ missing_goes false (Some f) look more run e d (inl (missing, idle)) = inl idle
 missing_goes false (Some f) look more run e d (inr (passes, w)) = inr (tt, w)
 
 -- the rows behind the opening of the output
-abbrev pub rows_behind : Setting → (List ℕ → Option File) → Options → (limit : ℕ) → List (WorkStep Ending)
-rows_behind s files o limit =
+abbrev pub rows_after : Setting → (List ℕ → Option File) → Options → (limit : ℕ) → List (WorkStep Ending)
+rows_after s files o limit =
     load_rows (Some s.names.map) (files s.names.map) ++ Look (PlacesRefused o limit) ∷ []
 
 -- the rows over the files
 abbrev pub sweep_rows : Setting → (makes forced : Bool) → (List ℕ → Option File) → Options → (limit : ℕ) → List (WorkStep Ending)
 sweep_rows s makes forced files o limit =
-    output_rows makes forced s.outfile (files s.outfile) ++ rows_behind s files o limit
+    output_rows makes forced s.outfile (files s.outfile) ++ rows_after s files o limit
 
 module _ (s : Setting) (w : Sweeper) (files : List ℕ → Option File) (pieces : List Swept) (end : RunEnd)
     (lines : List (List ℕ)) (on : s.has_mapfile ≡ true) where
@@ -118,36 +118,36 @@ module _ (s : Setting) (w : Sweeper) (files : List ℕ → Option File) (pieces 
       swept.sweeps swept.pieces_are
 
   -- what follows the load
-  behind_load : (o : Options) (limit : ℕ) (e : Ending) (d : Deeds) (load : List Call) (rest : List Entry)
+  after_load : (o : Options) (limit : ℕ) (e : Ending) (d : Deeds) (load : List Call) (rest : List Entry)
       → Opens w.makes (files s.outfile) → IsLoad s.names.map (files s.names.map) load
       → d.gain.calls ≡ map Returned (opening ++ load) ++ rest
       → Works rescue_faults (Look (MapfileRefused (files s.names.map)) ∷ Look (PlacesRefused o limit) ∷ []) Sweeping e
       (with_calls d rest) → Goes d.gain
-  behind_load o limit e d load rest opens loaded grew (inl (refused, none)) =
+  after_load o limit e d load rest opens loaded grew (inl (refused, none)) =
       in_load d.gain load loaded.begins opens none.gain.times (inl (alone load d.gain.calls rest grew none.gain.calls))
-  behind_load o limit e d load rest opens loaded grew (inr (accepted, inl (refused, none))) =
+  after_load o limit e d load rest opens loaded grew (inr (accepted, inl (refused, none))) =
       in_load d.gain load loaded.begins opens none.gain.times (inl (alone load d.gain.calls rest grew none.gain.calls))
-  behind_load o limit e d load rest opens loaded grew (inr (accepted, inr (placed, sweep))) =
+  after_load o limit e d load rest opens loaded grew (inr (accepted, inr (placed, sweep))) =
       over_load e d.gain load sweep.statuses sweep.state rest opens loaded sweep.stands grew sweep.sweeps
 
   broke_in_load : (load : List Call) (calls more : List Entry) → calls ≡ map Returned opening ++ more
       → BrokeAt MapRead load [] more → BrokeAt MapRead (opening ++ load) [] calls
   broke_in_load load calls more grew broke =
       let P : List Entry → Type 0 = λ r. BrokeAt MapRead load (map Returned opening) r in
-      inr (inr (inr (subst P (sym grew) (broke_behind MapRead load (map Returned opening) [] more broke))))
+      inr (inr (inr (subst P (sym grew) (broke_after MapRead load (map Returned opening) [] more broke))))
 
   -- the mapfile is read
-  behind_barrier : (o : Options) (limit : ℕ) (e : Ending) (d : Deeds) (more : List Entry) → Opens w.makes (files s.outfile)
+  after_barrier : (o : Options) (limit : ℕ) (e : Ending) (d : Deeds) (more : List Entry) → Opens w.makes (files s.outfile)
       → d.gain.calls ≡ map Returned opening ++ more
       → Works rescue_faults (Read (Some s.names.map) (files s.names.map) ∷ Look (MapfileRefused (files s.names.map))
       ∷ Look (PlacesRefused o limit) ∷ []) Sweeping e (with_calls d more) → Goes d.gain
-  behind_barrier o limit e d more opens grew (inl (load, is, begins, broke, only)) =
+  after_barrier o limit e d more opens grew (inl (load, is, begins, broke, only)) =
       in_load d.gain load begins opens only.times (inr (broke_in_load load d.gain.calls more grew broke))
-  behind_barrier o limit e d more opens grew (inr (inl (load, is, begins, all, only))) =
+  after_barrier o limit e d more opens grew (inr (inl (load, is, begins, all, only))) =
       in_load d.gain load begins opens only.times
       (inl (grew ∙ ap (λ (r : List Entry). map Returned opening ++ r) all))
-  behind_barrier o limit e d more opens grew (inr (inr (load, rest, loaded, all, next))) =
-      behind_load o limit e d load rest opens loaded (grew ∙ ap (λ (r : List Entry). map Returned opening ++ r) all) next
+  after_barrier o limit e d more opens grew (inr (inr (load, rest, loaded, all, next))) =
+      after_load o limit e d load rest opens loaded (grew ∙ ap (λ (r : List Entry). map Returned opening ++ r) all) next
 
   abbrev first : List Entry
   first = Returned (image_open s.outfile w.makes) ∷ []
@@ -155,17 +155,17 @@ module _ (s : Setting) (w : Sweeper) (files : List ℕ → Option File) (pieces 
   lost_first : (c : Call) (made : List Entry) (calls rest : List Entry) → calls ≡ first ++ rest → Lost c made rest
       → Lost c (first ++ made) calls
   lost_first c made calls rest grew lost =
-      subst (λ (l : List Entry). Lost c (first ++ made) l) (sym grew) (lost_behind c first made rest lost)
+      subst (λ (l : List Entry). Lost c (first ++ made) l) (sym grew) (lost_after c first made rest lost)
 
   -- what follows the opening of the output
-  behind_output : (o : Options) (limit : ℕ) (e : Ending) (d : Deeds) (rest : List Entry) → Opens w.makes (files s.outfile)
-      → d.gain.calls ≡ first ++ rest → Works rescue_faults (rows_behind s files o limit) Sweeping e (with_calls d rest)
+  after_output : (o : Options) (limit : ℕ) (e : Ending) (d : Deeds) (rest : List Entry) → Opens w.makes (files s.outfile)
+      → d.gain.calls ≡ first ++ rest → Works rescue_faults (rows_after s files o limit) Sweeping e (with_calls d rest)
       → Goes d.gain
-  behind_output o limit e d rest opens grew (inl (call, is, inl (name, lost), only)) =
+  after_output o limit e d rest opens grew (inl (call, is, inl (name, lost), only)) =
       in_opening d.gain (image_open s.outfile w.makes ∷ []) (barrier_calls s.names) refl
       (opens_or w.makes (files s.outfile) d.gain.calls opens) only.times
       (inr (map_settle s.names.map, image_sync ∷ [], refl, lost_first (map_settle s.names.map) [] d.gain.calls rest grew lost))
-  behind_output o limit e d rest opens grew (inl (call, is, inr (inl (name, lost)), only)) =
+  after_output o limit e d rest opens grew (inl (call, is, inr (inl (name, lost)), only)) =
       in_opening d.gain (image_open s.outfile w.makes ∷ map_settle s.names.map ∷ []) (image_sync ∷ []) refl
       (opens_or w.makes (files s.outfile) d.gain.calls opens) only.times
       (inr (
@@ -174,9 +174,9 @@ module _ (s : Setting) (w : Sweeper) (files : List ℕ → Option File) (pieces 
         refl,
         lost_first image_sync (Returned (map_settle s.names.map) ∷ []) d.gain.calls rest grew lost,
       ))
-  behind_output o limit e d rest opens grew (inl (call, is, inr (inr broke), only)) = absurd broke
-  behind_output o limit e d rest opens grew (inr (more, grew', read)) =
-      behind_barrier o limit e d more opens (grew ∙ ap (λ (r : List Entry). first ++ r) grew') read
+  after_output o limit e d rest opens grew (inl (call, is, inr (inr broke), only)) = absurd broke
+  after_output o limit e d rest opens grew (inr (more, grew', read)) =
+      after_barrier o limit e d more opens (grew ∙ ap (λ (r : List Entry). first ++ r) grew') read
 
   few_lost : (c : Call) (calls : List Entry) → Lost c [] calls → length calls ≤ 1
   few_lost c calls (inl is) = let one : length calls ≡ 1 = ap length is in omega (arith, one)
@@ -190,16 +190,16 @@ module _ (s : Setting) (w : Sweeper) (files : List ℕ → Option File) (pieces 
       in_opening g (image_open s.outfile w.makes ∷ []) (barrier_calls s.names) refl
       (ends_or w.makes (files s.outfile) g.calls (omega (arith, one))) still (inl calls)
 
-  behind_missing : (forced : Bool) (o : Options) (limit : ℕ) (e : Ending) (d : Deeds) (rest : List Entry)
+  after_missing : (forced : Bool) (o : Options) (limit : ℕ) (e : Ending) (d : Deeds) (rest : List Entry)
       → d.gain.calls ≡ first ++ rest
       → IsIdle (with_calls d rest) ⊎ (Opens w.makes (files s.outfile)
-      × Works rescue_faults (Look (OutputRefused forced (files s.outfile)) ∷ rows_behind s files o limit) Sweeping e
+      × Works rescue_faults (Look (OutputRefused forced (files s.outfile)) ∷ rows_after s files o limit) Sweeping e
       (with_calls d rest)) → Goes d.gain
-  behind_missing forced o limit e d rest grew (inl idle) = only_first d.gain rest grew idle.gain.calls idle.gain.times
-  behind_missing forced o limit e d rest grew (inr (opens, inl (refused, idle))) =
+  after_missing forced o limit e d rest grew (inl idle) = only_first d.gain rest grew idle.gain.calls idle.gain.times
+  after_missing forced o limit e d rest grew (inr (opens, inl (refused, idle))) =
       only_first d.gain rest grew idle.gain.calls idle.gain.times
-  behind_missing forced o limit e d rest grew (inr (opens, inr (passes, next))) =
-      behind_output o limit e d rest opens grew next
+  after_missing forced o limit e d rest grew (inr (opens, inr (passes, next))) =
+      after_output o limit e d rest opens grew next
 
   -- the whole of it
   pub files_go : (forced : Bool) (o : Options) (limit : ℕ) (e : Ending) (d : Deeds)
@@ -210,6 +210,6 @@ module _ (s : Setting) (w : Sweeper) (files : List ℕ → Option File) (pieces 
       (inr (image_open s.outfile w.makes, barrier_calls s.names, refl, lost))
   files_go forced o limit e d (inl (call, is, inr broke, only)) = absurd broke
   files_go forced o limit e d (inr (rest, grew, next)) =
-      behind_missing forced o limit e d rest grew
-      (missing_goes w.makes (files s.outfile) (Look (OutputRefused forced (files s.outfile))) (rows_behind s files o limit)
+      after_missing forced o limit e d rest grew
+      (missing_goes w.makes (files s.outfile) (Look (OutputRefused forced (files s.outfile))) (rows_after s files o limit)
       Sweeping e (with_calls d rest) next)

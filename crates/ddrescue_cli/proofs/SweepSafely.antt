@@ -13,11 +13,11 @@ use Rattle.rescue_rules.specs.Setting.{Setting, IsSensible}
 use Rattle.rescue_rules.specs.Snapshots.{Snapshot}
 use Rattle.rescue_rules.specs.Laws.{AreThreeNames, AreTimes}
 use Rattle.rescue_rules.specs.Work.{Gain, IsLoadOf}
-use Rattle.rescue_rules.specs.Stops.{Behind, files_before}
+use Rattle.rescue_rules.specs.Stops.{Before, files_before}
 use Rattle.rescue_rules.specs.StopsBy.{IsUnwritten, StopsBy}
 use Rattle.rescue_rules.proofs.BarrierLemmas.{Opens}
 use Rattle.rescue_rules.proofs.MapfileLemmas.{opening_by}
-use Rattle.rescue_rules.proofs.MapReadLemmas.{behind_reads, cut_reads_by}
+use Rattle.rescue_rules.proofs.MapReadLemmas.{after_reads, cut_reads_by}
 use Rattle.sweep_rules.specs.Sweep.{Sweeper, Sweep, Swept, filler, generator}
 use Rattle.sweep_rules.specs.SweepLaws.{AreGiven}
 use Rattle.sweep_rules.specs.SweepWork.{sweep_begins}
@@ -33,7 +33,7 @@ use Rattle.ddrescue_cli.proofs.EarlyStops.{PromisesOld, early_stops}
 use Rattle.ddrescue_cli.proofs.GoesLemmas.{maps_cut}
 use Rattle.ddrescue_cli.proofs.SpareLemmas.{spare_append, spare_opening, spare_reads, unwritten_cut}
 use Rattle.ddrescue_cli.proofs.SweepGoes.{SweepGoes, Unbegun, Begun}
-use Rattle.ddrescue_cli.proofs.SweepWay.{SweepWay, InMaps, BehindMaps}
+use Rattle.ddrescue_cli.proofs.SweepWay.{SweepWay, InMaps, AfterMaps}
 
 -- all reads of a mapfile
 load_of : (s : Setting) (files : List ℕ → Option File) (load : List Call) → s.has_mapfile ≡ true
@@ -50,7 +50,7 @@ none_before w m (e ∷ es) = refl
 
 -- ---- a filling
 
-module _ (b : Behind) (s : Setting) (types : TypeSet) (buffer : List ℕ) (pieces : List Swept) (end : RunEnd)
+module _ (b : Before) (s : Setting) (types : TypeSet) (buffer : List ℕ) (pieces : List Swept) (end : RunEnd)
     (on : s.has_mapfile ≡ true) (three : AreThreeNames s) where
   abbrev fill_old : (g : Gain) → Type 0
   fill_old g =
@@ -103,7 +103,7 @@ early_spare s makes files calls j y on ends =
     unwritten_cut (opening_by s makes ++ e.load) calls j y
     (spare_append (opening_by s makes) e.load (spare_opening s makes) (spare_reads e.load e.reads)) e.cut
 
-module _ (b : Behind) (s : Setting) (pieces : List Swept) (end : RunEnd) (on : s.has_mapfile ≡ true)
+module _ (b : Before) (s : Setting) (pieces : List Swept) (end : RunEnd) (on : s.has_mapfile ≡ true)
     (three : AreThreeNames s) where
   abbrev old_bytes : List ℕ
   old_bytes = bytes_of (files_before b s.outfile)
@@ -156,18 +156,18 @@ module _ (b : Behind) (s : Setting) (pieces : List Swept) (end : RunEnd) (on : s
 
 -- a sweep stops safely where what it did behind them does
 way_safely : (saves : List Status → Option MapState → List Snapshot)
-    (promise : List Status → Option MapState → ℕ → List Status → List ℕ → Type 0) (makes : Bool) (b : Behind)
+    (promise : List Status → Option MapState → ℕ → List Status → List ℕ → Type 0) (makes : Bool) (b : Before)
     (s : Setting) (ready : Type 0) (w : Sweeper) (pieces : List Swept) (end : RunEnd) (g : Gain)
     → ((h : Gain) → h.times ≡ g.times → ready → SweepGoes s w (files_before b) pieces end h
     → StopsBy saves promise makes b s h.calls)
     → SweepWay ready s w (files_before b) pieces end g → StopsBy saves promise makes b s g.calls
 way_safely saves promise makes b s ready w pieces end g goes (InMaps maps reads cut still) =
     cut_reads_by saves promise makes b s maps g.calls reads cut
-way_safely saves promise makes b s ready w pieces end g goes (BehindMaps maps h reads grew timed is way) =
+way_safely saves promise makes b s ready w pieces end g goes (AfterMaps maps h reads grew timed is way) =
     subst (λ (l : List Entry). StopsBy saves promise makes b s l) (sym grew)
-    (behind_reads saves promise makes b s maps h.calls reads (goes h timed is way))
+    (after_reads saves promise makes b s maps h.calls reads (goes h timed is way))
 
-pub fill_stops : (b : Behind) (s : Setting) (types : TypeSet) (buffer : List ℕ) (pieces : List Swept) (end : RunEnd)
+pub fill_stops : (b : Before) (s : Setting) (types : TypeSet) (buffer : List ℕ) (pieces : List Swept) (end : RunEnd)
     (g : Gain) → s.has_mapfile ≡ true → AreThreeNames s → IsSensible s → s.end < 2 ^ 63 → AreTimes g.times
     → SweepWay (length buffer ≡ s.cluster) s (filler s types buffer) (files_before b) pieces end g
     → FillStops b s types buffer pieces end g
@@ -180,7 +180,7 @@ fill_stops b s types buffer pieces end g on three ok low times way =
     subst (λ (t : List ℕ). FillStops b s types buffer pieces end (record h { times = t })) timed
     (fill_goes_safely b s types buffer pieces end on three h ok low (subst AreTimes (sym timed) times) long goes)) way
 
-pub generate_stops : (b : Behind) (s : Setting) (pieces : List Swept) (end : RunEnd) (g : Gain) → s.has_mapfile ≡ true
+pub generate_stops : (b : Before) (s : Setting) (pieces : List Swept) (end : RunEnd) (g : Gain) → s.has_mapfile ≡ true
     → AreThreeNames s → IsSensible s → s.end < 2 ^ 63 → AreTimes g.times
     → AreGiven s (bytes_of (files_before b s.outfile)) pieces
     → SweepWay ⊤ s (generator s) (files_before b) pieces end g → GenerateStops b s pieces end g
@@ -193,7 +193,7 @@ generate_stops b s pieces end g on three ok low times given way =
     (generate_goes_safely b s pieces end on three h ok low (subst AreTimes (sym timed) times) given goes)) way
 
 -- where nothing was done but that maps were read, a stop is safe, whatever the input's length
-pub only_maps_stop : (b : Behind) (s : Setting) (pieces : List Swept) (end : RunEnd) (g : Gain) → IsOnlyMaps g
+pub only_maps_stop : (b : Before) (s : Setting) (pieces : List Swept) (end : RunEnd) (g : Gain) → IsOnlyMaps g
     → GenerateStops b s pieces end g
 only_maps_stop b s pieces end g m =
     cut_reads_by (λ began shown. sweep_saves (generator s) began shown g pieces end)

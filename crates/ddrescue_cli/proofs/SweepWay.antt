@@ -34,7 +34,7 @@ pub data SweepWay (ready : Type 0) (s : Setting) (w : Sweeper) (files : List ℕ
     (end : RunEnd) (g : Gain) : Type 0 where
   InMaps : (maps : List Call) → AreMapReads maps → Cut maps g.calls → g.times ≡ []
       → SweepWay ready s w files pieces end g
-  BehindMaps : (maps : List Call) (h : Gain) → AreMapReads maps → g.calls ≡ map Done maps ++ h.calls → h.times ≡ g.times
+  AfterMaps : (maps : List Call) (h : Gain) → AreMapReads maps → g.calls ≡ map Done maps ++ h.calls → h.times ≡ g.times
       → ready → SweepGoes s w files pieces end h → SweepWay ready s w files pieces end g
 
 module _ (ready : Type 0) (s : Setting) (w : Sweeper) (files : List ℕ → Option File) (pieces : List Swept) (end : RunEnd)
@@ -46,13 +46,13 @@ module _ (ready : Type 0) (s : Setting) (w : Sweeper) (files : List ℕ → Opti
     idle_way : (g : Gain) → g.calls ≡ [] → g.times ≡ [] → Way g
     idle_way g none still = InMaps [] (All-nil IsMapRead) (subst (Cut []) (sym none) tt) still
 
-    way_behind : (g : Gain) (load : List Call) (rest : List Entry) → AreMapReads load → g.calls ≡ map Done load ++ rest
+    way_after : (g : Gain) (load : List Call) (rest : List Entry) → AreMapReads load → g.calls ≡ map Done load ++ rest
         → Way (record g { calls = rest }) → Way g
-    way_behind g load rest reads grew (InMaps maps more cut still) =
+    way_after g load rest reads grew (InMaps maps more cut still) =
         InMaps (load ++ maps) (All-append IsMapRead load maps reads more)
         (subst (Cut (load ++ maps)) (sym grew) (cut_past load maps rest cut)) still
-    way_behind g load rest reads grew (BehindMaps maps h more grew' timed is goes) =
-        BehindMaps (load ++ maps) h (All-append IsMapRead load maps reads more)
+    way_after g load rest reads grew (AfterMaps maps h more grew' timed is goes) =
+        AfterMaps (load ++ maps) h (All-append IsMapRead load maps reads more)
         (grew ∙ ap (λ (r : List Entry). map Done load ++ r) grew' ∙ made_both load maps h.calls) timed is goes
 
     -- it read a map, if an option names one
@@ -68,10 +68,10 @@ module _ (ready : Type 0) (s : Setting) (w : Sweeper) (files : List ℕ → Opti
     map_way which mode (Some n) more run e d next (inr (inl (load, is, begins, all, only))) =
         InMaps load (load_reads n (files n) load begins) (subst (Cut load) (sym all) (cut_all load)) only.times
     map_way which mode (Some n) more run e d next (inr (inr (load, rest, loaded, grew, inl (refused, idle)))) =
-        way_behind d.gain load rest (load_reads n (files n) load loaded.begins) grew
+        way_after d.gain load rest (load_reads n (files n) load loaded.begins) grew
         (idle_way (record d.gain { calls = rest }) idle.gain.calls idle.gain.times)
     map_way which mode (Some n) more run e d next (inr (inr (load, rest, loaded, grew, inr (passes, w)))) =
-        way_behind d.gain load rest (load_reads n (files n) load loaded.begins) grew (next rest w)
+        way_after d.gain load rest (load_reads n (files n) load loaded.begins) grew (next rest w)
 
 -- a command with a mapfile of this name
 abbrev pub named : Command → (name : List ℕ) → Command
@@ -122,7 +122,7 @@ module _ (files : List ℕ → Option File) (line : List ℕ) (input_end top : �
     pattern_way x (IsLost lost idle) = idle_way (Room c) s w files pieces end x.gain idle.gain.calls idle.gain.times
     pattern_way x (IsShort r read less unread one) = idle_way (Room c) s w files pieces end x.gain one.rest.gain.calls one.rest.gain.times
     pattern_way x (IsRead r more read all repeated reads next) =
-        BehindMaps [] (with_reads x more).gain (All-nil IsMapRead) refl refl repeated.long
+        AfterMaps [] (with_reads x more).gain (All-nil IsMapRead) refl refl repeated.long
         (files_go s w files pieces end lines refl c.options.forced c.options top e (with_reads x more) next)
 
     -- behind the map that an option names
@@ -173,7 +173,7 @@ module _ (files : List ℕ → Option File) (line : List ℕ) (input_end : ℕ) 
     open_way rest (inl (is, opens, none)) =
         idle_way ⊤ z (generator z) files pieces end (record d.gain { calls = rest }) none.calls none.times
     open_way rest (inr (os, opens, works)) =
-        BehindMaps [] (with_calls d rest).gain (All-nil IsMapRead) refl refl tt
+        AfterMaps [] (with_calls d rest).gain (All-nil IsMapRead) refl refl tt
         (files_go z (generator z) files pieces end lines refl c.options.forced c.options input_end e
         (with_opens (with_calls d rest) os) works)
 

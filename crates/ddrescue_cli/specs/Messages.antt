@@ -38,9 +38,9 @@ stop_text (Limited limit) = limit_text limit
 stop_text NoRoom = codes "out of memory"
 
 -- a call of the last save that failed, of a run that had stopped before
-abbrev pub behind_text : Option Stop → List ℕ
-behind_text None = []
-behind_text (Some stop) = codes " after " ++ stop_text stop
+abbrev pub after_text : Option Stop → List ℕ
+after_text None = []
+after_text (Some stop) = codes " after " ++ stop_text stop
 
 -- what is said of an answer
 abbrev pub text_of_ending : Ending → List ℕ
@@ -55,7 +55,7 @@ text_of_ending SourceLost = codes "input lost"
 text_of_ending EmptyPattern = codes "input is empty"
 text_of_ending PatternUnread = codes "input cannot be read"
 text_of_ending NoOutput = codes "output does not exist"
-text_of_ending (SiteFault call earlier) = fault_text call ++ behind_text earlier
+text_of_ending (SiteFault call earlier) = fault_text call ++ after_text earlier
 text_of_ending (LimitMet limit) = limit_text limit
 text_of_ending NoMemory = codes "out of memory"
 

@@ -4,7 +4,7 @@ use Rattle.faulty_source.specs.SourceState.{SourceState}
 use Rattle.crash_site.specs.SiteState.{SiteState}
 use Rattle.rescue_console.specs.ClockState.{ClockState}
 use Rattle.rescue_console.specs.ConsoleState.{ConsoleState}
-use Rattle.rescue_rules.specs.Stops.{Behind}
+use Rattle.rescue_rules.specs.Stops.{Before}
 use Rattle.task_files.specs.declared.ending.Ending.{Ending}
 
 -- the words, the answer, and what each object tells before the call and after it
@@ -21,5 +21,5 @@ pub record Told : Type 0 where
   pub console' : ConsoleState
 
 -- the calls stand behind those that the site had made
-abbrev pub calls_before : Told → Behind
+abbrev pub calls_before : Told → Before
 calls_before t = record { start = t.site.start; earlier = t.site.calls }

@@ -1,7 +1,7 @@
 //! What is said of an answer on the console.
 ghost use Rattle.std.specs.Prelude.{◌≡◌, ◌+◌, ◌≤◌, ◌++◌};
 ghost use Rattle.arrayvec.specs.ArrayVec.{array_vec_len};
-ghost use Rattle.ddrescue_cli.specs.Messages.{which_text, map_error_text, behind_text, limit_text, text_of_ending, message};
+ghost use Rattle.ddrescue_cli.specs.Messages.{which_text, map_error_text, after_text, limit_text, text_of_ending, message};
 
 use fault_texts::faults::{add_map_error, add_site_fault, add_usage};
 use fault_texts::message::{Message, add, add_number, begin, end};
@@ -48,9 +48,9 @@ fn add_limit(message: &mut Message, limit: Limit)
 }
 
 /// Adds why a run had stopped before its last call failed.
-fn add_behind(message: &mut Message, earlier: Option<Stop>)
+fn add_after(message: &mut Message, earlier: Option<Stop>)
     requires { array_vec_len message.old ≤ 50 }
-    ensures text { message.new.items ≡ message.old.items ++ behind_text earlier }
+    ensures text { message.new.items ≡ message.old.items ++ after_text earlier }
     ensures len { array_vec_len message.new ≤ array_vec_len message.old + 68 }
 {
     let Some(stop) = earlier else { return };
@@ -86,7 +86,7 @@ fn add_ending(message: &mut Message, ending: Ending)
         Ending::NoOutput => add(message, "output does not exist"),
         Ending::SiteFault { call, earlier } => {
             add_site_fault(message, call);
-            add_behind(message, earlier);
+            add_after(message, earlier);
         }
         Ending::LimitMet(limit) => add_limit(message, limit),
         Ending::NoMemory => add(message, "out of memory"),

@@ -64,7 +64,7 @@ use Rattle.ddrescue_laws.proofs.OutputLemmas.{holds_whole}
 use Rattle.ddrescue_cli.proofs.GoesLemmas.{setting_by, opened, settled}
 use Rattle.ddrescue_laws.proofs.CountLemmas.{dues, run_entries, settles_once_more, publishes_each}
 use Rattle.work_rules.proofs.FrontLemmas.{IsMapRead, load_reads, reads_stand, made_both}
-use Rattle.ddrescue_laws.proofs.ReadLemmas.{settles_behind, publishes_behind, barrier_behind}
+use Rattle.ddrescue_laws.proofs.ReadLemmas.{settles_after, publishes_after, barrier_after}
 
 -- a stop behind all calls may leave the files as they read
 left_all : (start : Folder) (calls : List Entry) (k : ℕ) → k ≡ length calls
@@ -74,9 +74,9 @@ left_all start calls k all =
     subst P (ap (λ n. take n calls) all ∙ take-length calls) (reads_until start calls k)
 
 -- behind all calls that a record gained
-pub left_behind : (t : Told) (gained : List Entry) → t.site'.start ≡ t.site.start
+pub left_after : (t : Told) (gained : List Entry) → t.site'.start ≡ t.site.start
     → t.site'.calls ≡ t.site.calls ++ gained → LeftBy (calls_before t) gained (length gained) (files_in t.site')
-left_behind t gained started grew =
+left_after t gained started grew =
     let calls : List Entry = t.site.calls ++ gained in
     let k : ℕ = length t.site.calls + length gained in
     let P : Folder → Type 0 = λ start. MayBeLeft t.site.start calls k (after start t.site'.calls).files in
@@ -86,7 +86,7 @@ left_behind t gained started grew =
 
 left_at_end : (c : Command) (t : Told) (d : Ddrescue t) (p : Promise c t) → IsTrue t.site.tells
     → LeftBy (calls_before t) p.outside.did.gain.calls (length p.outside.did.gain.calls) (files_in t.site')
-left_at_end c t d p tells = left_behind t p.outside.did.gain.calls (d.site.start tells) (p.agrees.calls tells)
+left_at_end c t d p tells = left_after t p.outside.did.gain.calls (d.site.start tells) (p.agrees.calls tells)
 
 pub holds_at_end : HoldsAtEnd
 holds_at_end t c began state d asks tells on is stands =
@@ -215,11 +215,11 @@ pub if_reads : (name : Option (List ℕ)) (file : Option File) (load : List Call
 if_reads None file load is = subst (λ (l : List Call). AreMapReads l) (sym is) (All-nil IsMapRead)
 if_reads (Some name) file load is = load_reads name file load is.begins
 
-done_behind : (c : Command) (line : List ℕ) (end : ℕ) (maps : Maps) (files : List ℕ → Option File)
+done_after : (c : Command) (line : List ℕ) (end : ℕ) (maps : Maps) (files : List ℕ → Option File)
     (lines : List (List ℕ)) (e : Ending) (d : Deeds) → Done ≡ e
     → Passed (worked_rows c (found_in c files) end) (Rescues (setting_of c line end maps) (mapfile_of c files) lines) e d
     → DoneWork (setting_of c line end maps) files d.gain
-done_behind c line end maps files lines e d is (
+done_after c line end maps files lines e d is (
   domain,
   tests,
   domain_is,
@@ -247,7 +247,7 @@ done_works c line end maps files lines e d is (inr (inl (refused, none))) =
 done_works c line end maps files lines e d is (inr (inr (passes, w))) =
     let found : Found = found_in c files in
     let run : Ending → Deeds → Type 0 = Rescues (setting_of c line end maps) (mapfile_of c files) lines in
-    done_behind c line end maps files lines e d is
+    done_after c line end maps files lines e d is
     (passed rescue_faults (worked_rows c found end) run e d (λ stops. undone c found end e stops (sym is)) w)
 
 -- the last of several saves
@@ -309,10 +309,10 @@ saved_by t s g r on w k =
     let rest : List Entry = settled s ++ run_entries s r.run.load m es in
     let loads : BeginsLoad s.names.map file r.run.load = (r.run.loads.all on).begins in
     let more : count_by is_settle g.calls ≡ 1 + (n + 1) =
-    ap (count_by is_settle) w.calls ∙ settles_behind w.maps rest w.are
+    ap (count_by is_settle) w.calls ∙ settles_after w.maps rest w.are
     ∙ settles_once_more s file r.run.load m es on loads in
     let each : count_by is_publish g.calls ≡ n + 1 =
-    ap (count_by is_publish) w.calls ∙ publishes_behind w.maps rest w.are
+    ap (count_by is_publish) w.calls ∙ publishes_after w.maps rest w.are
     ∙ publishes_each s file r.run.load m es on loads in
     let all : k.number ≡ n + 1 = number_last g.calls k.number (n + 1) more each k.no_older k.no_newer in
     let last : k.number ≡ length due + 1 =
@@ -347,7 +347,7 @@ left_with t c d asks tells r on =
     calls_with s (files_of t) g r on in
     let rest : List Entry =
     settled s ++ run_entries s r.run.load (begins s r.run.statuses r.run.state g) (events_in g) in
-    let barrier : has_barrier g.calls ≡ true = ap has_barrier w.calls ∙ barrier_behind w.maps rest w.are in
+    let barrier : has_barrier g.calls ≡ true = ap has_barrier w.calls ∙ barrier_after w.maps rest w.are in
     let stands : Stands (files_of t s.names.map) s.end r.run.statuses r.run.state =
     subst (λ (o : Option File). Stands o s.end r.run.statuses r.run.state) (mapfile_is s (files_of t) on)
     r.run.stands in

@@ -3,7 +3,7 @@ pub mod CountLemmas
 pub mod DoneLemmas
 pub mod GivenLemmas
 pub mod InputReadLemmas
-pub mod LeftBehindLemmas
+pub mod LeftAfterLemmas
 pub mod OutputLemmas
 pub mod ReadLemmas
 pub mod SampleLines

@@ -25,29 +25,29 @@ no_publish : (c : Call) → IsMapRead c → is_publish (Returned c) ≡ false
 no_publish (map_read name at size answer) is = refl
 no_publish c is = absurd (cc)
 
-tally_behind : (f : Entry → Bool) (maps : List Call) (rest : List Entry) (n : ℕ) → LeavesOut f → AreMapReads maps
+tally_after : (f : Entry → Bool) (maps : List Call) (rest : List Entry) (n : ℕ) → LeavesOut f → AreMapReads maps
     → tally f (map Returned maps ++ rest) n ≡ tally f rest n
-tally_behind f [] rest n out reads = refl
-tally_behind f (c ∷ maps) rest n out reads =
+tally_after f [] rest n out reads = refl
+tally_after f (c ∷ maps) rest n out reads =
     ap (λ (b : Bool). tally f (map Returned maps ++ rest) (add b n)) (out.each c (All-head IsMapRead c maps reads))
-    ∙ tally_behind f maps rest n out (All-tail IsMapRead c maps reads)
+    ∙ tally_after f maps rest n out (All-tail IsMapRead c maps reads)
 
-count_behind : (f : Entry → Bool) (maps : List Call) (rest : List Entry) → LeavesOut f → AreMapReads maps
+count_after : (f : Entry → Bool) (maps : List Call) (rest : List Entry) → LeavesOut f → AreMapReads maps
     → count_by f (map Returned maps ++ rest) ≡ count_by f rest
-count_behind f maps rest out reads =
-    tally_is f (map Returned maps ++ rest) ∙ tally_behind f maps rest 0 out reads ∙ sym (tally_is f rest)
+count_after f maps rest out reads =
+    tally_is f (map Returned maps ++ rest) ∙ tally_after f maps rest 0 out reads ∙ sym (tally_is f rest)
 
-pub settles_behind : (maps : List Call) (rest : List Entry) → AreMapReads maps
+pub settles_after : (maps : List Call) (rest : List Entry) → AreMapReads maps
     → count_by is_settle (map Returned maps ++ rest) ≡ count_by is_settle rest
-settles_behind maps rest reads = count_behind is_settle maps rest (record { each = no_settle }) reads
+settles_after maps rest reads = count_after is_settle maps rest (record { each = no_settle }) reads
 
-pub publishes_behind : (maps : List Call) (rest : List Entry) → AreMapReads maps
+pub publishes_after : (maps : List Call) (rest : List Entry) → AreMapReads maps
     → count_by is_publish (map Returned maps ++ rest) ≡ count_by is_publish rest
-publishes_behind maps rest reads = count_behind is_publish maps rest (record { each = no_publish }) reads
+publishes_after maps rest reads = count_after is_publish maps rest (record { each = no_publish }) reads
 
-pub barrier_behind : (maps : List Call) (rest : List Entry) → AreMapReads maps
+pub barrier_after : (maps : List Call) (rest : List Entry) → AreMapReads maps
     → has_barrier (map Returned maps ++ rest) ≡ has_barrier rest
-barrier_behind [] rest reads = refl
-barrier_behind (c ∷ maps) rest reads =
+barrier_after [] rest reads = refl
+barrier_after (c ∷ maps) rest reads =
     ap (λ (b : Bool). b || has_barrier (map Returned maps ++ rest)) (no_sync c (All-head IsMapRead c maps reads))
-    ∙ barrier_behind maps rest (All-tail IsMapRead c maps reads)
+    ∙ barrier_after maps rest (All-tail IsMapRead c maps reads)

@@ -14,7 +14,7 @@ use Rattle.rescue_rules.specs.Setting.{Setting}
 use Rattle.rescue_rules.specs.Snapshots.{Snapshot, text_of}
 use Rattle.rescue_rules.specs.RunCalls.{closing_calls}
 use Rattle.rescue_rules.specs.Deeds.{save_of}
-use Rattle.sweep_rules.specs.Sweep.{Sweeper, Sweep, Swept, filler, generator, behind_pieces, due_save, sweep_end}
+use Rattle.sweep_rules.specs.Sweep.{Sweeper, Sweep, Swept, filler, generator, after_pieces, due_save, sweep_end}
 use Rattle.sweep_rules.specs.SweepWork.{SweepEnds, IsSaved, IsUnsaved, IsCut, IsBroken, lost_call, sweep_calls}
 use Rattle.work_rules.specs.Work.{Deeds, Faults, WorkStep, Take, Look, Open, Make, Read, Works, with_calls, with_opens}
 use Rattle.work_rules.proofs.GainLemmas.{broke_named}
@@ -68,14 +68,14 @@ sweep_late s w m es calls end e piece is b (IsSaved (Some (Site at)) by same all
 sweep_late s w m es calls end e piece is b (IsSaved (Some (Limited limit)) by same all) = by
 sweep_late s w m es calls end e piece is b (IsSaved (Some NoRoom) by same all) = b.room (is ∙ ap answer_of same)
 sweep_late s w m es calls end e piece is b (IsUnsaved stop at by same broke) =
-    let last : Snapshot = sweep_end (is_none stop) (behind_pieces w m es) in
+    let last : Snapshot = sweep_end (is_none stop) (after_pieces w m es) in
     in_closing s.has_mapfile at s.names (text_of s.line last) (b.call at stop (is ∙ ap answer_of same))
     (broke_named at (closing_calls s last) (map Returned (sweep_calls s w m es)) calls broke)
 sweep_late s w m es calls end e piece is b (IsCut p q next same broke) =
     let x : Swept = record { pos = p; len = q - p; got = []; after = 0 } in
     piece x (subst IsOfOpening (name_alike (w.call x)) (b.call (call_name (lost_call w p q)) None (is ∙ ap answer_of same)))
 sweep_late s w m es calls end e piece is b (IsBroken before last at split same broke) =
-    let due : Option Snapshot = due_save w (behind_pieces w m before) last in
+    let due : Option Snapshot = due_save w (after_pieces w m before) last in
     in_due s at due (b.call at None (is ∙ ap answer_of same))
     (broke_named at (save_of s due) (map Returned (sweep_calls s w m before ++ w.call last ∷ [])) calls broke)
 

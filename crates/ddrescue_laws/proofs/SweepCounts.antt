@@ -19,7 +19,7 @@ use Rattle.rescue_rules.specs.Stops.{is_settle, is_write}
 use Rattle.rescue_rules.specs.StopsBy.{is_publish, IsUnwritten}
 use Rattle.rescue_rules.proofs.CutLemmas.{tally, tally_is}
 use Rattle.rescue_rules.proofs.MapfileLemmas.{opening_by}
-use Rattle.sweep_rules.specs.Sweep.{Sweeper, Sweep, Swept, filler, generator, behind_piece, is_save_due, sweep_snapshot, due_save, deeds_of}
+use Rattle.sweep_rules.specs.Sweep.{Sweeper, Sweep, Swept, filler, generator, after_piece, is_save_due, sweep_snapshot, due_save, deeds_of}
 use Rattle.sweep_rules.specs.SweepStops.{pieces_before}
 use Rattle.ddrescue_laws.specs.ModeLaws.{HasNoPiece}
 use Rattle.ddrescue_laws.proofs.CountLemmas.{Quiet, Adds, Ignores, CountsSaves, quiet_load, adds_quiet, adds_append, adds_save, settles, publishes}
@@ -46,12 +46,12 @@ adds_pieces f s w m [] c off = adds_quiet f [] tt
 adds_pieces f s w m (e ∷ es) c off =
     let save : Option Snapshot = due_save w m e in
     let one : ℕ = length (some_save save) in
-    let more : List Snapshot = dues_of w (behind_piece w m e) es in
-    adds_append f (w.call e ∷ save_of s save) (flat_map (deed_calls s) (deeds_of w (behind_piece w m e) es)) one (length more)
+    let more : List Snapshot = dues_of w (after_piece w m e) es in
+    adds_append f (w.call e ∷ save_of s save) (flat_map (deed_calls s) (deeds_of w (after_piece w m e) es)) one (length more)
     (length (dues_of w m (e ∷ es)))
     (adds_append f (w.call e ∷ []) (save_of s save) 0 one one (adds_quiet f (w.call e ∷ []) (off e, tt))
     (adds_save_of f s save c) (omega arith))
-    (adds_pieces f s w (behind_piece w m e) es c off) (sym (length-append (some_save save) more))
+    (adds_pieces f s w (after_piece w m e) es c off) (sym (length-append (some_save save) more))
 
 adds_closing : (f : Entry → Bool) (s : Setting) (last : Snapshot) → s.has_mapfile ≡ true → CountsSaves f
     → Adds f (closing_calls s last) 1
@@ -132,8 +132,8 @@ all_before w m [] number is = refl
 all_before w m (e ∷ es) zero is = absurd (omega (arith, is))
 all_before w m (e ∷ es) (suc n) is =
     ap (λ (l : List Swept). e ∷ l)
-    (all_before w (behind_piece w m e) es (if is_save_due m e then n else suc n)
-    (due_or (is_save_due m e) (sweep_snapshot (behind_piece w m e)) (dues_of w (behind_piece w m e) es) n is))
+    (all_before w (after_piece w m e) es (if is_save_due m e then n else suc n)
+    (due_or (is_save_due m e) (sweep_snapshot (after_piece w m e)) (dues_of w (after_piece w m e) es) n is))
 
 -- ---- the places
 
@@ -160,8 +160,8 @@ spare_looks : (s : Setting) (m : Sweep) (es : List Swept)
 spare_looks s m [] = tt
 spare_looks s m (e ∷ es) = (
   refl,
-  spare_append (save_of s (due_save (generator s) m e)) (flat_map (deed_calls s) (deeds_of (generator s) (behind_piece (generator s) m e) es))
-      (spare_save_of s (due_save (generator s) m e)) (spare_looks s (behind_piece (generator s) m e) es),
+  spare_append (save_of s (due_save (generator s) m e)) (flat_map (deed_calls s) (deeds_of (generator s) (after_piece (generator s) m e) es))
+      (spare_save_of s (due_save (generator s) m e)) (spare_looks s (after_piece (generator s) m e) es),
 )
 
 pub spare_generating : (s : Setting) (m : Sweep) (es : List Swept) (last : Snapshot) → s.has_mapfile ≡ true
@@ -196,9 +196,9 @@ spares_spare (c ∷ cs) y spare = spares_call c cs y spare.0 (spares_spare cs y 
 
 beside : (pos len y : ℕ) (buffer : List ℕ) → (y < pos) ⊎ (pos + len ≤ y) → (y < pos) ⊎ (pos + length (take len buffer) ≤ y)
 beside pos len y buffer (inl before) = inl before
-beside pos len y buffer (inr behind) =
+beside pos len y buffer (inr past) =
     let long : length (take len buffer) ≡ min len (length buffer) = length-take len buffer in
-    inr (omega (arith, behind, long))
+    inr (omega (arith, past, long))
 
 spares_pieces : (s : Setting) (types : TypeSet) (buffer : List ℕ) (m : Sweep) (es : List Swept) (y : ℕ)
     → HasNoPiece s es y → Spares (flat_map (deed_calls s) (deeds_of (filler s types buffer) m es)) y
@@ -206,10 +206,10 @@ spares_pieces s types buffer m [] y off = tt
 spares_pieces s types buffer m (e ∷ es) y off =
     let w : Sweeper = filler s types buffer in
     let save : List Call = save_of s (due_save w m e) in
-    let more : List Call = flat_map (deed_calls s) (deeds_of w (behind_piece w m e) es) in (
+    let more : List Call = flat_map (deed_calls s) (deeds_of w (after_piece w m e) es) in (
       beside (place s e.pos) e.len y buffer (All-head (λ (e : Swept). (y < place s e.pos) ⊎ (place s e.pos + e.len ≤ y)) e es off),
       spares_append save more y (spares_spare save y (spare_save_of s (due_save w m e)))
-          (spares_pieces s types buffer (behind_piece w m e) es y
+          (spares_pieces s types buffer (after_piece w m e) es y
           (All-tail (λ (e : Swept). (y < place s e.pos) ⊎ (place s e.pos + e.len ≤ y)) e es off)),
     )
 

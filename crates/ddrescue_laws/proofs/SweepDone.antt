@@ -16,7 +16,7 @@ use Rattle.rescue_rules.specs.Start.{Stands}
 use Rattle.rescue_rules.specs.Events.{began_at}
 use Rattle.rescue_rules.specs.Work.{Gain, AreMapReads}
 use Rattle.rescue_rules.proofs.MapfileLemmas.{opening_by}
-use Rattle.sweep_rules.specs.Sweep.{Sweeper, Sweep, Swept, filler, generator, IsSweep, IsSweptOut, sweep_over, behind_pieces, sweep_end}
+use Rattle.sweep_rules.specs.Sweep.{Sweeper, Sweep, Swept, filler, generator, IsSweep, IsSweptOut, sweep_over, after_pieces, sweep_end}
 use Rattle.sweep_rules.specs.SweepStops.{has_swept_out}
 use Rattle.sweep_rules.specs.SweepWork.{SweepEnds, IsSaved, IsUnsaved, IsCut, IsBroken}
 use Rattle.work_rules.specs.Work.{Deeds, WorkStep, Works, with_calls, with_opens}
@@ -49,15 +49,15 @@ pub record DoneSweep (s : Setting) (w : Sweeper) (files : List ℕ → Option Fi
   pub state : Option MapState
   pub stands : Stands (files s.names.map) s.end statuses state
   pub sweep : IsSweep s w (sweep_over w statuses state (began_at times)) pieces
-  pub over : IsSweptOut s w (behind_pieces w (sweep_over w statuses state (began_at times)) pieces)
+  pub over : IsSweptOut s w (after_pieces w (sweep_over w statuses state (began_at times)) pieces)
   pub calls_are : calls
       ≡ map Returned (whole_calls s w maps load (sweep_over w statuses state (began_at times)) pieces
-      (sweep_end true (behind_pieces w (sweep_over w statuses state (began_at times)) pieces)))
+      (sweep_end true (after_pieces w (sweep_over w statuses state (began_at times)) pieces)))
 
 -- the end of one
 record EndedSweep (s : Setting) (w : Sweeper) (m : Sweep) (es : List Swept) (calls : List Entry) : Type 0 where
-  over : IsSweptOut s w (behind_pieces w m es)
-  all : calls ≡ map Returned (sweep_calls_of s w m es (sweep_end true (behind_pieces w m es)))
+  over : IsSweptOut s w (after_pieces w m es)
+  all : calls ≡ map Returned (sweep_calls_of s w m es (sweep_end true (after_pieces w m es)))
 
 ended : (s : Setting) (w : Sweeper) (m : Sweep) (es : List Swept) (calls : List Entry) (end : RunEnd)
     → Done ≡ answer_of end → SweepEnds s w m es calls end → EndedSweep s w m es calls
@@ -112,7 +112,7 @@ module _ (s : Setting) (w : Sweeper) (files : List ℕ → Option File) (pieces 
       swept.sweeps.ends) in
       let front : List Call = maps ++ (opening_by s w.makes ++ load) in
       let last : List Call = sweep_calls_of s w (sweep_over w statuses state (began_at g.times)) pieces
-      (sweep_end true (behind_pieces w (sweep_over w statuses state (began_at g.times)) pieces)) in
+      (sweep_end true (after_pieces w (sweep_over w statuses state (began_at g.times)) pieces)) in
       subst (λ (t : List ℕ). DoneSweep s w files pieces end t (map Returned front ++ run)) timed
       (record {
         finished = out_by end (sym done ∙ swept.answer);
@@ -194,11 +194,11 @@ module _ (files : List ℕ → Option File) (line : List ℕ) (input_end top : �
       where
         files_done : Passed rows (Sweeping s w files pieces end lines e done) e (with_reads x more)
             → DoneSweep s w files pieces end d.gain.times d.gain.calls
-        files_done (back, out, (behind, settled, (loaded, run, is_load, got, then))) =
+        files_done (back, out, (later, settled, (loaded, run, is_load, got, then))) =
             subst (λ (t : List ℕ). DoneSweep s w files pieces end t d.gain.calls) timed
             (subst (DoneSweep s w files pieces end x.gain.times)
             (ap (λ (l : List Entry). map Returned load ++ l) is ∙ sym grew)
-            (over_files s w files pieces end lines e done load loaded (with_reads x more) back behind run are out settled got
+            (over_files s w files pieces end lines e done load loaded (with_reads x more) back later run are out settled got
             is_load.begins then))
 
     fill_passed : Passed (fill_rows (named c n) found input_end)
@@ -241,9 +241,9 @@ module _ (files : List ℕ → Option File) (line : List ℕ) (input_end : ℕ) 
     generate_passed : Passed (generate_rows (named c n) seen input_end)
         (Sweeping z (generator z) files pieces end lines e done) e d
         → DoneSweep z (generator z) files pieces end d.gain.times d.gain.calls
-    generate_passed (load, rest, is_load, grew, (os, (back, out, (behind, settled, (loaded, run, is_loaded, got, then))))) =
+    generate_passed (load, rest, is_load, grew, (os, (back, out, (later, settled, (loaded, run, is_loaded, got, then))))) =
         subst (DoneSweep z (generator z) files pieces end d.gain.times) (sym grew)
-        (over_files z (generator z) files pieces end lines e done load loaded (with_opens (with_calls d rest) os) back behind
+        (over_files z (generator z) files pieces end lines e done load loaded (with_opens (with_calls d rest) os) back later
         run (if_reads c.domain_map (file_of c.domain_map files) load is_load) out settled got is_loaded.begins then)
 
   generate_named : (c : Command) (n : List ℕ) → GenerateDone (named c n)

@@ -18,7 +18,7 @@ use Rattle.rescue_rules.specs.Deeds.{saves_in}
 use Rattle.rescue_rules.specs.Stops.{has_barrier, is_settle, is_write, LeftBy}
 use Rattle.rescue_rules.specs.StopsBy.{is_publish, IsUnwritten, IsKeptBy, StopsBy}
 use Rattle.rescue_rules.proofs.MapfileLemmas.{opening_by}
-use Rattle.sweep_rules.specs.Sweep.{Sweeper, Sweep, Swept, filler, generator, sweep_over, behind_pieces, sweep_end, deeds_of}
+use Rattle.sweep_rules.specs.Sweep.{Sweeper, Sweep, Swept, filler, generator, sweep_over, after_pieces, sweep_end, deeds_of}
 use Rattle.sweep_rules.specs.SweepLaws.{AreGiven}
 use Rattle.sweep_rules.specs.SweepStops.{AreFilled, FillPromise, has_swept_out, pieces_before}
 use Rattle.sweep_rules.proofs.SweepLemmas.{filled_map_stands, generates_what_is_held}
@@ -37,9 +37,9 @@ use Rattle.task_sweeps.specs.Pattern.{IsRepeated}
 use Rattle.task_sweeps.specs.Modes.{Fills, Generates}
 use Rattle.ddrescue_cli.specs.Ddrescue.{Ddrescue, FillModePromise, GenerateModePromise}
 use Rattle.ddrescue_laws.specs.ModeLaws.{DoneIsFilled, DoneIsGenerated, LeavesFilled, LeavesGenerated, HasNoPiece, IsSweptThrough, promised_fill, filling_setting, promised_generate}
-use Rattle.ddrescue_laws.proofs.DoneLemmas.{left_behind, number_last, save_last}
+use Rattle.ddrescue_laws.proofs.DoneLemmas.{left_after, number_last, save_last}
 use Rattle.ddrescue_cli.proofs.PromiseLemmas.{named_on}
-use Rattle.ddrescue_laws.proofs.ReadLemmas.{barrier_behind}
+use Rattle.ddrescue_laws.proofs.ReadLemmas.{barrier_after}
 use Rattle.ddrescue_cli.proofs.SpareLemmas.{spare_append, spare_opening, spare_reads, none_written}
 use Rattle.ddrescue_laws.proofs.SweepCounts.{IgnoresPieces, all_before, dues_of, publishes_in, settles_in, spare_generating, spares_append, spares_filling, spares_spare, sweep_calls_of, whole_calls}
 use Rattle.ddrescue_laws.proofs.SweepPattern.{pattern_read, pattern_is_front}
@@ -54,7 +54,7 @@ module _ (t : Told) (s : Setting) (w : Sweeper) (pieces : List Swept) (end : Run
   begun = sweep_over w h.statuses h.state (began_at times)
 
   abbrev pub swept_out : Sweep
-  swept_out = behind_pieces w begun pieces
+  swept_out = after_pieces w begun pieces
 
   abbrev last : Snapshot
   last = sweep_end true swept_out
@@ -63,13 +63,13 @@ module _ (t : Told) (s : Setting) (w : Sweeper) (pieces : List Swept) (end : Run
   all_calls = whole_calls s w h.maps h.load begun pieces last
 
   left : LeftBy (calls_before t) calls (length calls) (files_in t.site')
-  left = left_behind t calls started grew
+  left = left_after t calls started grew
 
   barrier : has_barrier (take (length calls) calls) ≡ true
   barrier =
       let rest : List Call = opening_by s w.makes ++ (h.load ++ sweep_calls_of s w begun pieces last) in
       ap has_barrier (take-length calls ∙ h.calls_are ∙ map-append Returned h.maps rest)
-      ∙ barrier_behind h.maps (map Returned rest) h.are
+      ∙ barrier_after h.maps (map Returned rest) h.are
 
   pub through : (mapfile : files_in t.site' s.names.map
       ≡ Some (record { bytes = text_of s.line last; regular = true }))
@@ -79,7 +79,7 @@ module _ (t : Told) (s : Setting) (w : Sweeper) (pieces : List Swept) (end : Run
   module _ (promise : List Status → Option MapState → ℕ → List Status → List ℕ → Type 0) (makes : Bool)
       (settle : IgnoresPieces is_settle w) (publish : IgnoresPieces is_publish w)
       (stops : StopsBy (λ began shown. saves_in (deeds_of w (sweep_over w began shown (began_at times)) pieces)
-      (sweep_end (has_swept_out end) (behind_pieces w (sweep_over w began shown (began_at times)) pieces))) promise makes
+      (sweep_end (has_swept_out end) (after_pieces w (sweep_over w began shown (began_at times)) pieces))) promise makes
       (calls_before t) s calls) where
     abbrev saved : List Snapshot
     saved = dues_of w begun pieces
@@ -154,7 +154,7 @@ module _ (t : Told) (types : TypeSet) (c : Command) (d : Ddrescue t) (p : FillMo
   elsewhere : (y : ℕ) → y < length (bytes_of (files_of t s.outfile)) → HasNoPiece s p.pieces y
       → slice_get (bytes_of (files_in t.site' s.outfile)) y ≡ slice_get (bytes_of (files_of t s.outfile)) y
   elsewhere y low off =
-      let last_ = sweep_end true (behind_pieces w start p.pieces) in
+      let last_ = sweep_end true (after_pieces w start p.pieces) in
       let back : List Call = sweep_calls_of s w start p.pieces last_ in
       let spares = spares_append done.maps (opening_by s true ++ (done.load ++ back)) y
       (spares_spare done.maps y (spare_reads done.maps done.are))
@@ -165,7 +165,7 @@ module _ (t : Told) (types : TypeSet) (c : Command) (d : Ddrescue t) (p : FillMo
       (spares_filling s types p.buffer start p.pieces last_ y on off))) in
       let whole : take (length calls + 1) calls ≡ calls = take_all (length calls + 1) calls (omega arith) in
       (p.stops tells).unwritten (length calls) (files_in t.site') y (omega arith)
-      (left_behind t calls (d.site.start tells) (p.agrees.calls tells))
+      (left_after t calls (d.site.start tells) (p.agrees.calls tells))
       (barrier t s w p.pieces p.end o.did.gain.times calls done on (d.site.start tells) (p.agrees.calls tells))
       (subst (λ (es : List Entry). IsUnwritten es y) (sym (whole ∙ done.calls_are)) spares) low
 
@@ -222,7 +222,7 @@ module _ (t : Told) (c : Command) (d : Ddrescue t) (p : GenerateModePromise c t)
 
   output : bytes_of (files_in t.site' z.outfile) ≡ bytes_of (files_of t z.outfile)
   output =
-      let last_ = sweep_end true (behind_pieces g looks p.pieces) in
+      let last_ = sweep_end true (after_pieces g looks p.pieces) in
       let all : List Call = whole_calls z g looked.maps looked.load looks p.pieces last_ in
       let spare = spare_append looked.maps (opening_by z false ++ (looked.load ++ sweep_calls_of z g looks p.pieces last_))
       (spare_reads looked.maps looked.are)
@@ -233,7 +233,7 @@ module _ (t : Told) (c : Command) (d : Ddrescue t) (p : GenerateModePromise c t)
       let calls : List Entry = a.did.gain.calls in
       let whole : take (length calls + 1) calls ≡ calls = take_all (length calls + 1) calls (omega arith) in
       (p.stops tells).output (length calls) (files_in t.site') (omega arith)
-      (left_behind t calls (d.site.start tells) (p.agrees.calls tells))
+      (left_after t calls (d.site.start tells) (p.agrees.calls tells))
       (barrier t z g p.pieces p.end a.did.gain.times calls looked mapped (d.site.start tells) (p.agrees.calls tells))
       (ap (list_any is_write) (whole ∙ looked.calls_are) ∙ none_written all spare)
 

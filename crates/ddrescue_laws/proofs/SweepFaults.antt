@@ -15,7 +15,7 @@ use Rattle.rescue_rules.specs.Setting.{Setting}
 use Rattle.rescue_rules.specs.Snapshots.{Snapshot, text_of}
 use Rattle.rescue_rules.specs.RunCalls.{closing_calls}
 use Rattle.rescue_rules.specs.Deeds.{save_of}
-use Rattle.sweep_rules.specs.Sweep.{Sweeper, Sweep, Swept, filler, generator, behind_pieces, due_save, sweep_end}
+use Rattle.sweep_rules.specs.Sweep.{Sweeper, Sweep, Swept, filler, generator, after_pieces, due_save, sweep_end}
 use Rattle.sweep_rules.specs.SweepWork.{SweepEnds, IsSaved, IsUnsaved, IsCut, IsBroken, lost_call, sweep_calls}
 use Rattle.work_rules.specs.Work.{Deeds, WorkStep, Works}
 use Rattle.work_rules.proofs.AnswerLemmas.{IsCalled, IsRefused, Starved, Unopened, Broken, Refused, Came, Stopped, Went, came}
@@ -59,9 +59,9 @@ module _ (P : SiteCall → Type 0) (ok : OfSteps P) (call : SiteCall) (earlier :
 
   of_appends : (ps : List (List ℕ)) (rest : List Call) → (IsNameIn call rest → P call)
       → IsNameIn call (map draft_append ps ++ rest) → P call
-  of_appends [] rest behind h = behind h
-  of_appends (p ∷ ps) rest behind (inl is) = of_name DraftAppend is ok.appends
-  of_appends (p ∷ ps) rest behind (inr h) = of_appends ps rest behind h
+  of_appends [] rest later h = later h
+  of_appends (p ∷ ps) rest later (inl is) = of_name DraftAppend is ok.appends
+  of_appends (p ∷ ps) rest later (inr h) = of_appends ps rest later h
 
   of_publish : (n : MapNames) → IsNameIn call (draft_sync ∷ publish_calls n) → P call
   of_publish n (inl is) = of_name DraftSync is ok.draft
@@ -99,7 +99,7 @@ module _ (P : SiteCall → Type 0) (ok : OfSteps P) (call : SiteCall) (earlier :
   of_sweep s w m es calls end piece (IsSaved (Some NoRoom) by same all) is =
       absurd (let no : NoMemory ≡ SiteFault call earlier = sym (ap answer_of same) ∙ is in cc)
   of_sweep s w m es calls end piece (IsUnsaved stop at by same broke) is =
-      let last : Snapshot = sweep_end (is_none stop) (behind_pieces w m es) in
+      let last : Snapshot = sweep_end (is_none stop) (after_pieces w m es) in
       of_closing s.has_mapfile s.names (text_of s.line last)
       (subst (λ (c : SiteCall). IsNameIn c (closing_calls s last)) (same_fault at stop (sym (ap answer_of same) ∙ is))
       (broke_named at (closing_calls s last) (map Returned (sweep_calls s w m es)) calls broke))
@@ -109,7 +109,7 @@ module _ (P : SiteCall → Type 0) (ok : OfSteps P) (call : SiteCall) (earlier :
       (sym (name_alike (w.call e)) ∙ same_fault (call_name (lost_call w p q)) None (sym (ap answer_of same) ∙ is))
       (piece e)
   of_sweep s w m es calls end piece (IsBroken before last at split same broke) is =
-      let due : Option Snapshot = due_save w (behind_pieces w m before) last in
+      let due : Option Snapshot = due_save w (after_pieces w m before) last in
       of_due s due
       (subst (λ (c : SiteCall). IsNameIn c (save_of s due)) (same_fault at None (sym (ap answer_of same) ∙ is))
       (broke_named at (save_of s due) (map Returned (sweep_calls s w m before ++ w.call last ∷ [])) calls broke))
@@ -128,7 +128,7 @@ module _ (P : SiteCall → Type 0) (ok : OfSteps P) (call : SiteCall) (earlier :
   of_rows : (rows : List (WorkStep Ending)) (run : Ending → Deeds → Type 0) (e : Ending) (d : Deeds)
       → e ≡ SiteFault call earlier → (IsRefused rows e → ⊥) → ((at : SiteCall) → at ≡ call → IsCalled at rows → P call)
       → ((x : Deeds) → run e x → P call) → Works rescue_faults rows run e d → P call
-  of_rows rows run e d is plain called behind w = of_came (came rescue_faults rows run e d w)
+  of_rows rows run e d is plain called later w = of_came (came rescue_faults rows run e d w)
     where
       of_came : Came rescue_faults rows run e d → P call
       of_came (Stopped (Starved was) unread) =
@@ -137,7 +137,7 @@ module _ (P : SiteCall → Type 0) (ok : OfSteps P) (call : SiteCall) (earlier :
           absurd (let no : SourceFault ≡ SiteFault call earlier = sym was ∙ is in cc)
       of_came (Stopped (Broken at was here) unread) = called at (same_fault at None (sym was ∙ is)) here
       of_came (Stopped (Refused refused) unread) = absurd (plain refused)
-      of_came (Went x ran reads found) = behind x ran
+      of_came (Went x ran reads found) = later x ran
 
   files_called : (makes : Bool) (c : Command) (found : Found) (limit : ℕ) (at : SiteCall) → at ≡ call
       → IsCalled at (files_rows makes c found limit) → P call
@@ -162,13 +162,13 @@ module _ (P : SiteCall → Type 0) (ok : OfSteps P) (call : SiteCall) (earlier :
       (e : Ending) (d : Deeds) → e ≡ SiteFault call earlier → ((x : Deeds) → run e x → P call)
       → ThenPattern (cluster_of c.options) input_end buffer (Works rescue_faults (files_rows true c found top) run) e d
       → P call
-  of_pattern c found input_end top buffer run e d is behind (IsLost was idle) =
+  of_pattern c found input_end top buffer run e d is later (IsLost was idle) =
       absurd (let no : SourceLost ≡ SiteFault call earlier = sym was ∙ is in cc)
-  of_pattern c found input_end top buffer run e d is behind (IsShort r read less was one) =
+  of_pattern c found input_end top buffer run e d is later (IsShort r read less was one) =
       absurd (let no : PatternUnread ≡ SiteFault call earlier = sym was ∙ is in cc)
-  of_pattern c found input_end top buffer run e d is behind (IsRead r more read all repeated reads next) =
+  of_pattern c found input_end top buffer run e d is later (IsRead r more read all repeated reads next) =
       of_rows (files_rows true c found top) run e _ is
-      (λ refused. (files_plain true c found top e refused).call call earlier is) (files_called true c found top) behind next
+      (λ refused. (files_plain true c found top e refused).call call earlier is) (files_called true c found top) later next
 
 fill_steps : OfSteps IsRescueCall
 fill_steps = record { opens = tt; syncs = tt; reads = tt; begins = tt; appends = tt; draft = tt; publishes = tt; settles = tt }

@@ -21,17 +21,17 @@ use Rattle.ddrescue_words.proofs.CommandLemmas.{reading_asks}
 use Rattle.task_files.specs.Names.{program_name}
 use Rattle.task_files.specs.Maps.{Found}
 use Rattle.task_files.specs.Outside.{Outside}
-use Rattle.ddrescue_laws.specs.LeftBehind.{AllStand, OutputMade}
+use Rattle.ddrescue_laws.specs.LeftAfter.{AllStand, OutputMade}
 use Rattle.ddrescue_cli.specs.Told.{Told}
 use Rattle.ddrescue_cli.specs.ToldParts.{files_of, asked_of}
 use Rattle.task_sweeps.specs.Modes.{Fills, Generates, fill_setting}
 use Rattle.ddrescue_cli.specs.Ddrescue.{FillModePromise, GenerateModePromise}
 use Rattle.ddrescue_laws.specs.ModeLaws.{UnbegunFillLeaves, UnbegunGenerateLeaves, promised_fill, promised_generate}
 use Rattle.ddrescue_cli.proofs.EarlyCut.{EarlyCut, early_cut}
-use Rattle.ddrescue_laws.proofs.LeftBehindLemmas.{made_there}
+use Rattle.ddrescue_laws.proofs.LeftAfterLemmas.{made_there}
 use Rattle.ddrescue_cli.proofs.PromiseLemmas.{named_on}
 use Rattle.ddrescue_cli.proofs.SweepGoes.{Unbegun, Begun}
-use Rattle.ddrescue_cli.proofs.SweepWay.{SweepWay, InMaps, BehindMaps, fill_way, generate_way}
+use Rattle.ddrescue_cli.proofs.SweepWay.{SweepWay, InMaps, AfterMaps, fill_way, generate_way}
 
 -- a call that changes nothing of a folder, whether it returned or failed
 record IsStill (c : Call) : Type 0 where
@@ -118,7 +118,7 @@ way_leaves : (ready : Type 0) (s : Setting) (w : Sweeper) (d : Folder) (pieces :
     → LeavesBy w.makes s.outfile d.files (after d g.calls).files
 way_leaves ready s w d pieces end g on still (InMaps maps reads cut none) =
     stands_by w.makes s.outfile d.files _ (ap (λ (f : Folder). f.files) (reads_cut maps g.calls d reads cut))
-way_leaves ready s w d pieces end g on still (BehindMaps maps h reads grew timed is (Unbegun ends opens none)) =
+way_leaves ready s w d pieces end g on still (AfterMaps maps h reads grew timed is (Unbegun ends opens none)) =
     let e : EarlyCut s w.makes h.calls = early_cut s w.makes d.files h.calls on ends in
     let same : after d g.calls ≡ after d h.calls =
     ap (after d) grew ∙ after-append d (map Done maps) h.calls
@@ -126,13 +126,13 @@ way_leaves ready s w d pieces end g on still (BehindMaps maps h reads grew timed
     subst (λ (f : Folder). LeavesBy w.makes s.outfile d.files f.files) (sym same)
     (opening_cut s w.makes e.load h.calls d e.reads e.cut)
 way_leaves ready s w d pieces end g on still
-    (BehindMaps maps h reads grew timed is (Begun opens load statuses state rest loaded stands all sweeps are)) =
+    (AfterMaps maps h reads grew timed is (Begun opens load statuses state rest loaded stands all sweeps are)) =
     absurd (let never : [] ≡ _ = sym still ∙ sym timed ∙ sweeps.times in cc)
 
 -- the folder behind a call
-folder_behind : (t : Told) (gained : List Entry) → t.site'.start ≡ t.site.start → t.site'.calls ≡ t.site.calls ++ gained
+folder_after : (t : Told) (gained : List Entry) → t.site'.start ≡ t.site.start → t.site'.calls ≡ t.site.calls ++ gained
     → files_in t.site' ≡ (after (after t.site.start t.site.calls) gained).files
-folder_behind t gained started grew =
+folder_after t gained started grew =
     ap (λ (f : Folder). (after f t.site'.calls).files) started
     ∙ ap (λ (l : List Entry). (after t.site.start l).files) grew
     ∙ ap (λ (f : Folder). f.files) (after-append t.site.start t.site.calls gained)
@@ -146,7 +146,7 @@ unbegun_fill_leaves t types c d asks tells still =
     let named = (reading_asks t.words asks.rows asks.items asks.operands (Fill types c) asks.options asks.reading
     asks.is).limits.named in
     subst (λ (files : List ℕ → Option File). LeavesBy true c.outfile (files_of t) files)
-    (sym (folder_behind t o.did.gain.calls (d.site.start tells) (p.agrees.calls tells)))
+    (sym (folder_after t o.did.gain.calls (d.site.start tells) (p.agrees.calls tells)))
     (way_leaves _ s (filler s types p.buffer) (after t.site.start t.site.calls) p.pieces p.end o.did.gain
     (named_on c.mapfile named) still
     (fill_way (files_of t) line o.end p.top o.maps types p.buffer p.pieces p.end o.lines t.answer o.did c named
@@ -162,7 +162,7 @@ unbegun_generate_leaves t c d asks tells still =
     let named = (reading_asks t.words asks.rows asks.items asks.operands (Generate c) asks.options asks.reading
     asks.is).limits.named in
     subst (λ (files : List ℕ → Option File). LeavesBy false c.outfile (files_of t) files)
-    (sym (folder_behind t o.did.gain.calls (d.site.start tells) (p.agrees.calls tells)))
+    (sym (folder_after t o.did.gain.calls (d.site.start tells) (p.agrees.calls tells)))
     (way_leaves _ s (generator s) (after t.site.start t.site.calls) p.pieces p.end o.did.gain (named_on c.mapfile named)
     still
     (generate_way (files_of t) line o.end o.maps p.pieces p.end o.lines t.answer o.did c named

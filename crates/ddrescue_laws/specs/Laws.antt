@@ -33,7 +33,7 @@ use Rattle.ddrescue_cli.specs.ToldParts.{files_of, asked_of}
 use Rattle.task_files.specs.Work.{Rescues, rescue_faults, rescue_rows}
 use Rattle.task_files.specs.Answers.{IsRescueCall}
 use Rattle.ddrescue_laws.specs.InputRead.{HasRead}
-use Rattle.ddrescue_laws.specs.LeftBehind.{names_maps, IsLeft}
+use Rattle.ddrescue_laws.specs.LeftAfter.{names_maps, IsLeft}
 use Rattle.ddrescue_cli.specs.Ddrescue.{Ddrescue}
 
 -- the outside of a promise, the setting by it, and what was done there

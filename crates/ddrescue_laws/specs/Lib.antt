@@ -1,4 +1,4 @@
 pub mod InputRead
-pub mod LeftBehind
+pub mod LeftAfter
 pub mod Laws
 pub mod ModeLaws

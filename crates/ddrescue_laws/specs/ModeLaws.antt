@@ -14,7 +14,7 @@ use Rattle.rescue_rules.specs.declared.stop.Stop.{Stop}
 use Rattle.rescue_rules.specs.Setting.{Setting, place}
 use Rattle.rescue_rules.specs.Start.{Stands}
 use Rattle.rescue_rules.specs.Snapshots.{text_of}
-use Rattle.sweep_rules.specs.Sweep.{Sweeper, Swept, filler, generator, sweep_over, behind_pieces, sweep_end, IsSweep, IsSweptOut}
+use Rattle.sweep_rules.specs.Sweep.{Sweeper, Swept, filler, generator, sweep_over, after_pieces, sweep_end, IsSweep, IsSweptOut}
 use Rattle.sweep_rules.specs.SweepLaws.{AreGiven}
 use Rattle.sweep_rules.specs.SweepStops.{AreFilled}
 use Rattle.work_rules.specs.Work.{Deeds}
@@ -28,7 +28,7 @@ use Rattle.task_files.specs.Maps.{Found}
 use Rattle.task_files.specs.Outside.{Outside}
 use Rattle.task_files.specs.Answers.{IsGenerateCall, IsRescueCall}
 use Rattle.ddrescue_laws.specs.InputRead.{IsOfOpening}
-use Rattle.ddrescue_laws.specs.LeftBehind.{AllStand, OutputMade}
+use Rattle.ddrescue_laws.specs.LeftAfter.{AllStand, OutputMade}
 use Rattle.ddrescue_cli.specs.Told.{Told}
 use Rattle.ddrescue_cli.specs.ToldParts.{asked_of, files_of}
 use Rattle.task_files.specs.Work.{files_rows}
@@ -125,9 +125,9 @@ pub record IsSweptThrough (t : Told) (s : Setting) (w : Sweeper) (pieces : List 
     (state : Option MapState) (time : ℕ) : Type 0 where
   pub stands : Stands (files_of t s.names.map) s.end statuses state
   pub sweep : IsSweep s w (sweep_over w statuses state time) pieces
-  pub over : IsSweptOut s w (behind_pieces w (sweep_over w statuses state time) pieces)
+  pub over : IsSweptOut s w (after_pieces w (sweep_over w statuses state time) pieces)
   pub mapfile : files_in t.site' s.names.map ≡ Some (record {
-    bytes = text_of s.line (sweep_end true (behind_pieces w (sweep_over w statuses state time) pieces));
+    bytes = text_of s.line (sweep_end true (after_pieces w (sweep_over w statuses state time) pieces));
     regular = true;
   })
 
@@ -142,7 +142,7 @@ pub record LeavesFilled (t : Told) (s : Setting) (types : TypeSet) (buffer : Lis
   pub state : Option MapState
   pub time : ℕ
   pub through : IsSweptThrough t s (filler s types buffer) pieces statuses state time
-  pub map : (behind_pieces (filler s types buffer) (sweep_over (filler s types buffer) statuses state time) pieces).map
+  pub map : (after_pieces (filler s types buffer) (sweep_over (filler s types buffer) statuses state time) pieces).map
       ≡ statuses
   pub pattern : IsTrue t.source.tells → IsRepeated (take s.cluster t.source.bytes) s.cluster buffer
   pub filled : AreFilled s buffer pieces (bytes_of (files_in t.site' s.outfile))
@@ -162,7 +162,7 @@ pub record LeavesGenerated (t : Told) (s : Setting) (pieces : List Swept) : Type
   pub through : IsSweptThrough t s (generator s) pieces statuses state time
   pub given : AreGiven s (bytes_of (files_of t s.outfile)) pieces
   -- what its map calls finished was so before, or has a byte in the output
-  pub held : (x : ℕ) → Has (behind_pieces (generator s) (sweep_over (generator s) statuses state time) pieces).map Finished x
+  pub held : (x : ℕ) → Has (after_pieces (generator s) (sweep_over (generator s) statuses state time) pieces).map Finished x
       → Has statuses Finished x ⊎ ((b : ℕ) × (slice_get (bytes_of (files_of t s.outfile)) (place s x) ≡ Some b))
   pub output : bytes_of (files_in t.site' s.outfile) ≡ bytes_of (files_of t s.outfile)
 

@@ -22,7 +22,7 @@ use Rattle.ddrescuelog_cli.specs.Modes.{prints, removes_map}
 use Rattle.ddrescuelog_cli.specs.Maps.{Maps}
 use Rattle.ddrescuelog_cli.specs.Refusals.{PlacesRefused}
 use Rattle.ddrescuelog_cli.specs.Answers.{FitsCommand, TakesFeed, drafting_left, row_of, usage_kind}
-use Rattle.ddrescuelog_cli.specs.Behind.{SiteBehind, feed_count, site_count}
+use Rattle.ddrescuelog_cli.specs.After.{SiteLeft, feed_count, site_count}
 use Rattle.ddrescuelog_cli.specs.Printing.{PutsAs, PutsWhole}
 use Rattle.ddrescuelog_cli.specs.Ddrescuelog.{handed}
 use Rattle.ddrescuelog_cli.specs.Steps.{ReadCause}
@@ -84,9 +84,9 @@ over_plain c line list m e d reads keeps w =
     (ends_plain c.mode c line list m reads keeps) e d w
 
 -- behind reads of maps that returned
-pub plain_behind : (e : LogEnding) (old new : SiteState) → IsPlain e → Stays old new → new.faults ≡ old.faults
-    → SiteBehind e old new
-plain_behind e old new plain stays kept = record {
+pub plain_after : (e : LogEnding) (old new : SiteState) → IsPlain e → Stays old new → new.faults ≡ old.faults
+    → SiteLeft e old new
+plain_after e old new plain stays kept = record {
   keeps = stays.keeps;
   counts = kept ∙ sym (plain.counts old.faults);
   also = plain.also;
@@ -110,9 +110,9 @@ read_ends e n n' (inr (inr (inl (which, error, is, other, kept)))) =
 read_ends e n n' (inr (inr (inr (is, rose)))) =
     subst (ReadEnds n n') (sym is) (record { counts = rose; also = tt; draft = refl; puts = λ b text s. refl })
 
-pub read_behind : (e : LogEnding) (old new : SiteState) → Stays old new → ReadCause e old.faults new.faults
-    → SiteBehind e old new
-read_behind e old new stays cause =
+pub read_after : (e : LogEnding) (old new : SiteState) → Stays old new → ReadCause e old.faults new.faults
+    → SiteLeft e old new
+read_after e old new stays cause =
     let r : ReadEnds old.faults new.faults e = read_ends e old.faults new.faults cause in
     record {
       keeps = stays.keeps;
@@ -127,9 +127,9 @@ pub read_puts : (e : LogEnding) (faults faults' : ℕ) (prints_text : Bool) (tex
 read_puts e n n' b text s cause = (read_ends e n n' cause).puts b text s
 
 -- what became of the files behind reads that returned and what came then
-pub behind_reads : (e : LogEnding) (old mid new : SiteState) → Stays old mid → mid.faults ≡ old.faults
-    → SiteBehind e mid new → SiteBehind e old new
-behind_reads e old mid new stays kept b = record {
+pub after_reads : (e : LogEnding) (old mid new : SiteState) → Stays old mid → mid.faults ≡ old.faults
+    → SiteLeft e mid new → SiteLeft e old new
+after_reads e old mid new stays kept b = record {
   keeps = record {
     tells = b.keeps.tells ∙ stays.keeps.tells;
     start = λ tells. b.keeps.start (subst IsTrue (sym stays.keeps.tells) tells) ∙ stays.keeps.start tells;
@@ -209,7 +209,7 @@ no_input (Usage fault) = usage_no_input fault
 no_input _ = record { opens = refl; reads = refl }
 
 pub causes_by : (e : LogEnding) (b : Bool) (text : List ℕ) (s s' : SiteState) (f f' : FeedState)
-    (p p' : ConsoleState) → SiteBehind e s s' → f'.faults ≡ feed_count e f.faults → PutsAs b e text p p'
+    (p p' : ConsoleState) → SiteLeft e s s' → f'.faults ≡ feed_count e f.faults → PutsAs b e text p p'
     → Changed (changes_of (row_of e).kind) (handed s f p) (handed s' f' p')
 causes_by e b text s s' f f' p p' site taken put = record {
   opens = (no_input e).opens;

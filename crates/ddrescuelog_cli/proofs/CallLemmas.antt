@@ -4,7 +4,7 @@ use Rattle.crash_site.specs.declared.site.SiteCall.{SiteCall}
 use Rattle.crash_site.specs.Calls.{Call, Entry, Done, Failed}
 use Rattle.crash_site.specs.CallsMade.{BrokeAt}
 use Rattle.save_resume.specs.Saving.{IsNameIn}
-use Rattle.work_rules.proofs.GainLemmas.{broke_behind}
+use Rattle.work_rules.proofs.GainLemmas.{broke_after}
 
 -- what a record gained with a call that failed
 pub record GainsBroken (at : SiteCall) (calls : List Call) (old new : List Entry) : Type 0 where
@@ -24,7 +24,7 @@ broke_gains at (c ∷ cs) old new (inr b) =
     record {
       more = Done c ∷ rest.more;
       grew = rest.grew ∙ append_assoc old (Done c ∷ []) rest.more;
-      broke = inr (broke_behind at cs (Done c ∷ []) [] rest.more rest.broke);
+      broke = inr (broke_after at cs (Done c ∷ []) [] rest.more rest.broke);
     }
 
 -- calls of which one broke

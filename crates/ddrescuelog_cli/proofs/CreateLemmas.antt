@@ -37,7 +37,7 @@ use Rattle.ddrescuelog_cli.specs.Outside.{only_calls}
 use Rattle.ddrescuelog_cli.specs.Work.{log_faults, OnlyAnswers, EndsCreated, EndsAs, WorksOver}
 use Rattle.ddrescuelog_cli.specs.Steps.{HasStatuses, statuses_in}
 use Rattle.ddrescuelog_cli.specs.Answers.{TakenBefore, AllTaken}
-use Rattle.ddrescuelog_cli.specs.Behind.{FeedBehind}
+use Rattle.ddrescuelog_cli.specs.After.{FeedLeft}
 use Rattle.ddrescuelog_cli.specs.Creating.{Looks, MakesList, AreOfList, SavesText, CreatesMap}
 use Rattle.ddrescuelog_cli.proofs.CallLemmas.{GainsBroken, broke_gains, Broken, broken_at}
 
@@ -66,44 +66,44 @@ broke_text names text f old new s =
 -- ---- what a save finds of the feed
 
 -- this call comes behind the whole list
-abbrev ComesBehind : SiteCall → Type 0
-ComesBehind call = (old new : FeedState) → AllTaken old new → TakenBefore call old new
+abbrev ComesAfter : SiteCall → Type 0
+ComesAfter call = (old new : FeedState) → AllTaken old new → TakenBefore call old new
 
-publish_behind : (call : SiteCall) (names : MapNames) → IsNameIn call (publish_calls names) → ComesBehind call
-publish_behind call names (inl is) = subst ComesBehind (sym is) (λ old new all. all)
-publish_behind call names (inr (inl is)) = subst ComesBehind (sym is) (λ old new all. all)
-publish_behind call names (inr (inr none)) = absurd none
+publish_after : (call : SiteCall) (names : MapNames) → IsNameIn call (publish_calls names) → ComesAfter call
+publish_after call names (inl is) = subst ComesAfter (sym is) (λ old new all. all)
+publish_after call names (inr (inl is)) = subst ComesAfter (sym is) (λ old new all. all)
+publish_after call names (inr (inr none)) = absurd none
 
-pieces_behind : (call : SiteCall) (names : MapNames) (pieces : List (List ℕ))
-    → IsNameIn call (map draft_append pieces ++ draft_sync ∷ publish_calls names) → ComesBehind call
-pieces_behind call names [] (inl is) = subst ComesBehind (sym is) (λ old new all. all)
-pieces_behind call names [] (inr h) = publish_behind call names h
-pieces_behind call names (p ∷ ps) (inl is) = subst ComesBehind (sym is) (λ old new all. all)
-pieces_behind call names (p ∷ ps) (inr h) = pieces_behind call names ps h
+pieces_after : (call : SiteCall) (names : MapNames) (pieces : List (List ℕ))
+    → IsNameIn call (map draft_append pieces ++ draft_sync ∷ publish_calls names) → ComesAfter call
+pieces_after call names [] (inl is) = subst ComesAfter (sym is) (λ old new all. all)
+pieces_after call names [] (inr h) = publish_after call names h
+pieces_after call names (p ∷ ps) (inl is) = subst ComesAfter (sym is) (λ old new all. all)
+pieces_after call names (p ∷ ps) (inr h) = pieces_after call names ps h
 
-save_behind : (call : SiteCall) (names : MapNames) (text : List ℕ) → IsNameIn call (save_calls names text)
-    → ComesBehind call
-save_behind call names text (inl is) = subst ComesBehind (sym is) (λ old new all. all)
-save_behind call names text (inr (inl is)) = subst ComesBehind (sym is) (λ old new all. all)
-save_behind call names text (inr (inr h)) = pieces_behind call names (pieces_of text) h
+save_after : (call : SiteCall) (names : MapNames) (text : List ℕ) → IsNameIn call (save_calls names text)
+    → ComesAfter call
+save_after call names text (inl is) = subst ComesAfter (sym is) (λ old new all. all)
+save_after call names text (inr (inl is)) = subst ComesAfter (sym is) (λ old new all. all)
+save_after call names text (inr (inr h)) = pieces_after call names (pieces_of text) h
 
 feed_saved : (names : MapNames) (text : List ℕ) (e : LogEnding) (d : Deeds) (old new : FeedState)
-    → Works log_faults (Make (save_calls names text) ∷ []) (OnlyAnswers Done) e d → FeedBehind Done old new
-    → FeedBehind e old new
+    → Works log_faults (Make (save_calls names text) ∷ []) (OnlyAnswers Done) e d → FeedLeft Done old new
+    → FeedLeft e old new
 feed_saved names text e d old new (inl (call, is, broke, only)) b =
-    subst (λ v. FeedBehind v old new) (sym is)
+    subst (λ v. FeedLeft v old new) (sym is)
     (record {
       keeps = b.keeps;
       counts = b.counts;
-      takes = save_behind call names text
+      takes = save_after call names text
           (broke_named call (save_calls names text) [] d.gain.calls broke) old new b.takes;
     })
 feed_saved names text e d old new (inr (rest, all, (is, idle))) b =
-    subst (λ v. FeedBehind v old new) (sym is) b
+    subst (λ v. FeedLeft v old new) (sym is) b
 
-pub feed_behind_save : (names : MapNames) (text : List ℕ) (e : LogEnding) (site site' : SiteState)
-    (old new : FeedState) → SavesText names text e site site' → FeedBehind Done old new → FeedBehind e old new
-feed_behind_save names text e site site' old new s b =
+pub feed_after_save : (names : MapNames) (text : List ℕ) (e : LogEnding) (site site' : SiteState)
+    (old new : FeedState) → SavesText names text e site site' → FeedLeft Done old new → FeedLeft e old new
+feed_after_save names text e site site' old new s b =
     feed_saved names text e (only_calls s.calls) old new s.did b
 
 -- ---- the maps

@@ -1,5 +1,5 @@
 mod AfterLemmas
-mod BehindLemmas
+mod AfterReadsLemmas
 mod CallLemmas
 mod CompleteLemmas
 mod CreateLemmas

@@ -197,9 +197,9 @@ starved_in which mode (Some name) file calls t =
       record { opens = refl; reads = refl; times = refl },
     ))
 
-starved_behind : (c : Command) (m : ReadMap) (other domain : Option Tiled) (old new : SiteState)
+starved_after : (c : Command) (m : ReadMap) (other domain : Option Tiled) (old new : SiteState)
     → ReadsAll c m other (Ok domain) old new → LoadsMaps c (Err NoMemory) old new
-starved_behind c m other domain old new all = record {
+starved_after c m other domain old new all = record {
   found = all.found;
   calls = all.front ++ all.last;
   is_own = all.is_own;
@@ -270,11 +270,11 @@ loaded_or_starved c m other domain (Ok l) old mid low new reads a stays b stays'
     loaded
 loaded_or_starved c m other domain (Err e) old mid low new reads a stays b stays' d loaded starved =
     subst (λ (x : LogEnding). LoadsMaps c (Err x) old new) (sym starved)
-    (starved_behind c m other domain old new (reads_all c m other (Ok domain) old mid low new a stays b stays' d))
+    (starved_after c m other domain old new (reads_all c m other (Ok domain) old mid low new a stays b stays' d))
 
 -- ---- why the reads stopped
 
 -- no call failed before the read at which they stopped
-pub cause_behind : (e : LogEnding) (faults now later : ℕ) → now ≡ faults → ReadCause e now later
+pub cause_after : (e : LogEnding) (faults now later : ℕ) → now ≡ faults → ReadCause e now later
     → ReadCause e faults later
-cause_behind e faults now later kept cause = subst (λ (n : ℕ). ReadCause e n later) kept cause
+cause_after e faults now later kept cause = subst (λ (n : ℕ). ReadCause e n later) kept cause

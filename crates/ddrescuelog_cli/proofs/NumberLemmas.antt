@@ -77,8 +77,8 @@ listed_below w k is =
 pub fewer_left : (w : Wanted) (now now' : ListingState) (k : ℕ) → IsFirst (IsListed w) now.least k
     → now' ≡ record now { least = k + 1 }
     → block_of w.shape (length w.statuses) + 1 - now'.least < block_of w.shape (length w.statuses) + 1 - now.least
-fewer_left w now now' k first behind =
-    let next : now'.least ≡ k + 1 = ap (λ (s : ListingState). s.least) behind in
+fewer_left w now now' k first moved =
+    let next : now'.least ≡ k + 1 = ap (λ (s : ListingState). s.least) moved in
     omega (arith, first.after, next, listed_below w k first.holds)
 
 -- parts of a text, put together anew
@@ -92,13 +92,13 @@ pub number_put : (w : Wanted) (begun now now' : ListingState) (before buffer : L
     (old mid new : ConsoleState) → NumbersPut w begun now before old mid → IsFirst (IsListed w) now.least k
     → now' ≡ record now { least = k + 1 } → Adds (number_line k) before buffer mid new
     → NumbersPut w begun now' buffer old new
-number_put w begun now now' before buffer k old mid new p first behind adds = record {
+number_put w begun now now' before buffer k old mid new p first moved adds = record {
   part = p.part ++ adds.part;
   puts = puts_both Out p.part adds.part old mid new p.puts adds.puts;
-  types = ap (λ s. s.types) behind ∙ p.types;
-  shape = ap (λ s. s.shape) behind ∙ p.shape;
+  types = ap (λ s. s.types) moved ∙ p.types;
+  shape = ap (λ s. s.shape) moved ∙ p.shape;
   whole =
-      ap (λ s. ((p.part ++ adds.part) ++ buffer) ++ lines_of (listed_from w s.least)) behind
+      ap (λ s. ((p.part ++ adds.part) ++ buffer) ++ lines_of (listed_from w s.least)) moved
       ∙ parts p.part adds.part before buffer (number_line k) (lines_of (listed_from w (k + 1))) adds.split
       ∙ sym (ap (λ ks. (p.part ++ before) ++ lines_of ks) ((listings_go_on w).goes_on now.least k first))
       ∙ p.whole;

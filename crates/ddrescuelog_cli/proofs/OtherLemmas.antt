@@ -23,7 +23,7 @@ use Rattle.ddrescuelog_cli.specs.Outside.{only_calls}
 use Rattle.ddrescuelog_cli.specs.Maps.{Found, Maps}
 use Rattle.ddrescuelog_cli.specs.Work.{EndsSaved, EndsAs, removal_calls, LogWorks}
 use Rattle.ddrescuelog_cli.proofs.ReadLemmas.{reads_stand}
-use Rattle.ddrescuelog_cli.proofs.BehindLemmas.{Behind, IsShort, behind_works}
+use Rattle.ddrescuelog_cli.proofs.AfterReadsLemmas.{AfterReads, IsShort, after_works}
 use Rattle.ddrescuelog_cli.proofs.StopsLemmas.{none_more, reads_run}
 
 -- ---- calls that spare a file
@@ -130,8 +130,8 @@ pub others_stand : (c : Command) (line list : List ℕ) (found : Found) (m : Map
     → LogWorks c line list found m e (only_calls calls) → (name : List ℕ) → name ≢ c.mapfile
     → (creates c.mode ≡ true → name ≢ (names_of c.mapfile).draft) → files_in new name ≡ files_in old name
 others_stand c line list found m e old new calls start grew w name other apart =
-    let b : Behind IsShort (EndsAs c.mode c line list m) e calls =
-    behind_works (creates c.mode) c line list found m e calls w in
+    let b : AfterReads IsShort (EndsAs c.mode c line list m) e calls =
+    after_works (creates c.mode) c line list found m e calls w in
     let was : Folder = after old.start old.calls in
     let rest : Leaves name b.rest =
     elim b.ends [

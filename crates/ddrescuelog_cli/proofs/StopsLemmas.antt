@@ -32,7 +32,7 @@ use Rattle.ddrescuelog_words.specs.Command.{Command}
 use Rattle.map_algebra.specs.Compare.{IsDoneIn}
 use Rattle.map_algebra.specs.Numbers.{numbers_in}
 use Rattle.save_resume.proofs.NameLemmas.{apart_draft}
-use Rattle.work_rules.proofs.GainLemmas.{broke_behind, broke_named}
+use Rattle.work_rules.proofs.GainLemmas.{broke_after, broke_named}
 use Rattle.ddrescuelog_cli.specs.declared.ending.LogEnding.{LogEnding}
 use Rattle.ddrescuelog_cli.specs.declared.ending.LogEnding.TheVariants.{Done, NotDone, ListTooLong}
 use Rattle.ddrescuelog_cli.specs.Outside.{only_calls}
@@ -45,16 +45,16 @@ use Rattle.ddrescuelog_cli.specs.Stops.{LeftAt, CouldBefore, Replaces, IsChangin
 use Rattle.ddrescuelog_cli.proofs.FoundLemmas.{done_of}
 use Rattle.ddrescuelog_cli.proofs.ReadLemmas.{IsRead, AreReads}
 use Rattle.ddrescuelog_cli.proofs.StandLemmas.{reads_keep, reads_until, leave_all}
-use Rattle.ddrescuelog_cli.proofs.BehindLemmas.{Behind, IsShort, behind_works}
+use Rattle.ddrescuelog_cli.proofs.AfterReadsLemmas.{AfterReads, IsShort, after_works}
 
 -- ---- calls behind reads
 
 -- A stop behind the reads finds what it would find without them.
-pub left_behind : (site : SiteState) (front rest calls : List Entry) → calls ≡ front ++ rest → AreReads front
+pub left_after : (site : SiteState) (front rest calls : List Entry) → calls ≡ front ++ rest → AreReads front
     → (k : ℕ) (files : List ℕ → Option File) → LeftAt site calls k files
     → Leaves (disk_of site) files
     ⊎ ((j : ℕ) × (k ≡ length front + j) × Leaves (disk_after (disk_of site) (until j rest)) files)
-left_behind site front rest calls grew reads k files left =
+left_after site front rest calls grew reads k files left =
     let here : Leaves (disk_after (disk_of site) (until k (front ++ rest))) files =
     subst (λ (es : List Entry). Leaves (disk_after (disk_of site) (until k es)) files) grew
     (left_past site.start site.calls calls k (length site.calls + k) files refl left) in
@@ -162,9 +162,9 @@ left_whole site calls files left =
     (left_past site.start site.calls calls (length calls) (length site.calls + length calls) files refl left)
 
 -- behind its reads
-disk_behind : (d : Disk) (front rest calls : List Entry) → calls ≡ front ++ rest → AreReads front
+disk_past_reads : (d : Disk) (front rest calls : List Entry) → calls ≡ front ++ rest → AreReads front
     → disk_after d calls ≡ disk_after d rest
-disk_behind d front rest calls grew reads =
+disk_past_reads d front rest calls grew reads =
     ap (disk_after d) grew ∙ run-append d front rest ∙ ap (λ (x : Disk). disk_after x rest) (reads_keep d front reads)
 
 -- a mapfile that was removed isn't found
@@ -182,7 +182,7 @@ module _ (c : Command) (line list : List ℕ) (m : Maps) (site : SiteState) (fro
   removal_each : IsDoneIn (domain_of c m) m.statuses → WentOn (removal_calls c.mapfile) [] rest
       → EachFound (Test true) c line list m site calls
   removal_each done went k files le left name apart =
-      elim (left_behind site front rest calls grew reads k files left) [
+      elim (left_after site front rest calls grew reads k files left) [
         | inl l ↦ inl (l name)
         | inr (j, is, l) ↦
             elim (found_along (FoundRemoved c.mapfile (disk_of site)) (disk_of site) (removal_calls c.mapfile) rest j
@@ -196,7 +196,7 @@ module _ (c : Command) (line list : List ℕ) (m : Maps) (site : SiteState) (fro
       → (e ≡ Done → rest ≡ map Returned (removal_calls c.mapfile)) → KeptBy (Test true) c line list m site calls e
   removal_kept e done all files is changing left =
       let here : Leaves (disk_after (disk_of site) rest) files =
-      subst (λ (d : Disk). Leaves d files) (disk_behind (disk_of site) front rest calls grew reads)
+      subst (λ (d : Disk). Leaves d files) (disk_past_reads (disk_of site) front rest calls grew reads)
       (left_whole site calls files left) in (
         done,
         removed_sure c.mapfile (disk_of site) (files c.mapfile)
@@ -283,12 +283,12 @@ saved_by names text start old new grew =
     (made_saves names text start old new grew) refl
 
 -- the calls of a save behind others
-save_behind : (names : MapNames) (text : List ℕ) (before rest : List Entry) → HasSaved names text [] rest
+save_after : (names : MapNames) (text : List ℕ) (before rest : List Entry) → HasSaved names text [] rest
     → HasSaved names text before (before ++ rest)
-save_behind names text before rest (inl made) = inl (ap (λ (r : List Entry). before ++ r) made)
-save_behind names text before rest (inr (at, broke)) =
+save_after names text before rest (inl made) = inl (ap (λ (r : List Entry). before ++ r) made)
+save_after names text before rest (inr (at, broke)) =
     let P : List Entry → Type 0 = λ r. BrokeAt at (save_calls names text) r (before ++ rest) in
-    inr (at, subst P (append-nil before) (broke_behind at (save_calls names text) before [] rest broke))
+    inr (at, subst P (append-nil before) (broke_after at (save_calls names text) before [] rest broke))
 
 module _ (listed other : Status) (c : Command) (line list : List ℕ) (m : Maps) (site : SiteState)
     (front rest calls : List Entry) (grew : calls ≡ front ++ rest) (reads : AreReads front) where
@@ -312,7 +312,7 @@ module _ (listed other : Status) (c : Command) (line list : List ℕ) (m : Maps)
       let here : MayBeLeft site.start ((site.calls ++ front) ++ rest) at files =
       subst (λ (es : List Entry). MayBeLeft site.start es at files) all_calls left in
       elim (stops_by_save (names_of c.mapfile) text site.start (site.calls ++ front) ((site.calls ++ front) ++ rest)
-      (save_behind (names_of c.mapfile) text (site.calls ++ front) rest saved) at files (omega (arith, fronts, is))
+      (save_after (names_of c.mapfile) text (site.calls ++ front) rest saved) at files (omega (arith, fronts, is))
       (omega (arith, alls, ends, le)) here name apart) [
         | Old old ↦ inl (subst (λ (d : Disk). MayShow (d.shows name) (files name)) before_save old)
         | New same is_text durable ↦ inr (same, ap files (sym same) ∙ is_text)
@@ -322,7 +322,7 @@ module _ (listed other : Status) (c : Command) (line list : List ℕ) (m : Maps)
       → IsCreated c listed other line m numbers text → HasSaved (names_of c.mapfile) text [] rest
       → EachFound (Create listed other) c line list m site calls
   created_each numbers text are is saved k files le left name apart =
-      elim (left_behind site front rest calls grew reads k files left) [
+      elim (left_after site front rest calls grew reads k files left) [
         | inl l ↦ inl (l name)
         | inr (j, at, l) ↦
             elim (save_found text saved k j at le files left name (apart refl)) [
@@ -462,8 +462,8 @@ module _ (c : Command) (line list : List ℕ) (m : Maps) (site : SiteState) (e :
 pub works_read : (c : Command) (line list : List ℕ) (found : Found) (m : Maps) (e : LogEnding) (calls : List Entry)
     → OnlyReads c.mode ⊎ LeavesFiles e → LogWorks c line list found m e (only_calls calls) → AreReads calls
 works_read c line list found m e calls leaves w =
-    let b : Behind IsShort (EndsAs c.mode c line list m) e calls =
-    behind_works (creates c.mode) c line list found m e calls w in
+    let b : AfterReads IsShort (EndsAs c.mode c line list m) e calls =
+    after_works (creates c.mode) c line list found m e calls w in
     reads_alone b.front b.rest calls b.grew b.reads
     (elim b.ends [
       | inl stopped ↦ stopped.0
@@ -478,8 +478,8 @@ works_leave : (c : Command) (line list : List ℕ) (found : Found) (m : Maps) (s
     (calls : List Entry) → LogWorks c line list found m e (only_calls calls)
     → Leaving c.mode c line list m site calls e
 works_leave c line list found m site e calls w =
-    let b : Behind IsShort (EndsAs c.mode c line list m) e calls =
-    behind_works (creates c.mode) c line list found m e calls w in
+    let b : AfterReads IsShort (EndsAs c.mode c line list m) e calls =
+    after_works (creates c.mode) c line list found m e calls w in
     elim b.ends [
       | inl stopped ↦ nothing_leaves c line list m site e b.front b.rest calls b.grew b.reads c.mode stopped.0
           (λ done changing. stopped.1 done)

@@ -6,7 +6,7 @@ use Rattle.rescue_console.specs.FeedState.{FeedState, Keeps}
 use Rattle.work_rules.proofs.LoadLemmas.{by_tells}
 use Rattle.ddrescuelog_cli.specs.declared.ending.LogEnding.{LogEnding}
 use Rattle.ddrescuelog_cli.specs.declared.ending.LogEnding.TheVariants.{ListTooLong, FeedFault, NoMemory}
-use Rattle.ddrescuelog_cli.specs.Behind.{FeedBehind}
+use Rattle.ddrescuelog_cli.specs.After.{FeedLeft}
 use Rattle.ddrescuelog_cli.specs.Creating.{TakesFeedPiece, TookBytes, StopsTaking}
 
 keeps_both : (a b c : FeedState) → Keeps a b → Keeps b c → Keeps a c
@@ -34,20 +34,20 @@ taken_more some bytes now old mid new h p = record {
 pub too_long : (bytes : List ℕ) (old new : FeedState) → TookBytes bytes old new → list_limit < length bytes
     → StopsTaking ListTooLong old new
 too_long bytes old new h long =
-    let behind : FeedBehind ListTooLong old new =
+    let after : FeedLeft ListTooLong old new =
     record { keeps = h.keeps; counts = h.kept; takes = λ t. (bytes, h.taken t, long) } in
     by_tells old.tells (StopsTaking ListTooLong old new)
     (λ t. record {
       list = old.left;
       is_own = λ s. refl;
       why = inr (inr (refl, omega (arith, long, ap length (h.taken t), length-append bytes new.left)));
-      behind = behind;
+      after = after;
     })
     (λ n. record {
       list = bytes;
       is_own = λ s. absurd (n s);
       why = inr (inr (refl, long));
-      behind = behind;
+      after = after;
     })
 
 -- what was taken before the end of the list is lost
@@ -56,8 +56,8 @@ front_taken : (bytes front left mid last : List ℕ) → left ≡ bytes ++ mid �
 front_taken bytes front left mid last first second =
     first ∙ ap (λ b. bytes ++ b) second ∙ sym (append_assoc bytes front last)
 
-starved_later : (bytes : List ℕ) (old mid new : FeedState) → TookBytes bytes old mid → FeedBehind NoMemory mid new
-    → FeedBehind NoMemory old new
+starved_later : (bytes : List ℕ) (old mid new : FeedState) → TookBytes bytes old mid → FeedLeft NoMemory mid new
+    → FeedLeft NoMemory old new
 starved_later bytes old mid new h b = record {
   keeps = keeps_both old mid new h.keeps b.keeps;
   counts = b.counts ∙ h.kept;
@@ -66,8 +66,8 @@ starved_later bytes old mid new h b = record {
       (bytes ++ w.0, front_taken bytes w.0 old.left mid.left new.left (h.taken t) w.1);
 }
 
-broke_later : (bytes : List ℕ) (old mid new : FeedState) → TookBytes bytes old mid → FeedBehind FeedFault mid new
-    → FeedBehind FeedFault old new
+broke_later : (bytes : List ℕ) (old mid new : FeedState) → TookBytes bytes old mid → FeedLeft FeedFault mid new
+    → FeedLeft FeedFault old new
 broke_later bytes old mid new h b = record {
   keeps = keeps_both old mid new h.keeps b.keeps;
   counts = subst (λ n. Rose n new.faults) h.kept b.counts;
@@ -77,20 +77,20 @@ broke_later bytes old mid new h b = record {
 }
 
 pub taking_stopped : (e : LogEnding) (bytes : List ℕ) (old mid new : FeedState) → TookBytes bytes old mid
-    → (e ≡ NoMemory) ⊎ (e ≡ FeedFault) → FeedBehind e mid new → StopsTaking e old new
+    → (e ≡ NoMemory) ⊎ (e ≡ FeedFault) → FeedLeft e mid new → StopsTaking e old new
 taking_stopped e bytes old mid new h (inl is) b = record {
   list = old.left;
   is_own = λ t. refl;
   why = inl is;
-  behind = subst (λ x. FeedBehind x old new) (sym is)
-      (starved_later bytes old mid new h (subst (λ x. FeedBehind x mid new) is b));
+  after = subst (λ x. FeedLeft x old new) (sym is)
+      (starved_later bytes old mid new h (subst (λ x. FeedLeft x mid new) is b));
 }
 taking_stopped e bytes old mid new h (inr is) b = record {
   list = old.left;
   is_own = λ t. refl;
   why = inr (inl is);
-  behind = subst (λ x. FeedBehind x old new) (sym is)
-      (broke_later bytes old mid new h (subst (λ x. FeedBehind x mid new) is b));
+  after = subst (λ x. FeedLeft x old new) (sym is)
+      (broke_later bytes old mid new h (subst (λ x. FeedLeft x mid new) is b));
 }
 
 -- ---- the whole list

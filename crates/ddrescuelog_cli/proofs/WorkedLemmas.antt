@@ -23,7 +23,7 @@ use Rattle.ddrescuelog_cli.specs.Results.{text_of}
 use Rattle.ddrescuelog_cli.specs.Outside.{Outside, only_calls}
 use Rattle.ddrescuelog_cli.specs.Work.{read_rows, WorksOver, LogWorks, WorksAs}
 use Rattle.ddrescuelog_cli.specs.Answers.{TakesFeed}
-use Rattle.ddrescuelog_cli.specs.Behind.{FeedBehind, SiteBehind}
+use Rattle.ddrescuelog_cli.specs.After.{FeedLeft, SiteLeft}
 use Rattle.ddrescuelog_cli.specs.Creating.{CreatesMap}
 use Rattle.ddrescuelog_cli.specs.Removing.{RemovesDone}
 use Rattle.ddrescuelog_cli.specs.Printing.{PutsAs}
@@ -38,7 +38,7 @@ use Rattle.ddrescuelog_cli.proofs.StopsLemmas.{stops_safely, works_read}
 use Rattle.ddrescuelog_cli.proofs.OtherLemmas.{others_stand}
 use Rattle.ddrescuelog_cli.proofs.MapsLemmas.{MapsOf, maps_of}
 use Rattle.ddrescuelog_cli.proofs.FitLemmas.{answers_fit}
-use Rattle.ddrescuelog_cli.proofs.AfterLemmas.{causes_by, feed_keeps, feed_untaken, over_plain, plain_behind, puts_nothing, read_puts}
+use Rattle.ddrescuelog_cli.proofs.AfterLemmas.{causes_by, feed_keeps, feed_untaken, over_plain, plain_after, puts_nothing, read_puts}
 
 -- the heading of a map with this command line
 abbrev pub heading_of : List ℕ → HeadingLines
@@ -77,8 +77,8 @@ starved_ran c line w =
       out = refl;
     }
 
-pub starved_behind : (s : SiteState) → SiteBehind NoMemory s s
-starved_behind s = record { keeps = keeps_self s; counts = refl; also = tt; draft = λ none. none }
+pub starved_after : (s : SiteState) → SiteLeft NoMemory s s
+starved_after s = record { keeps = keeps_self s; counts = refl; also = tt; draft = λ none. none }
 
 pub starved_feed : (new : Bool) (f : FeedState) → FeedAfter new NoMemory f f
 starved_feed true f = record { keeps = feed_keeps f; counts = refl; takes = λ tells. ([], refl) }
@@ -167,12 +167,12 @@ load_found c line l h e old new feed console between reads loads stays heads fin
       out = (finds m is).out line heads;
     })
 
-pub found_behind : (c : Command) (l : LoadedMaps) (h : HeadingLines) (e : LogEnding) (old new : SiteState)
+pub found_after : (c : Command) (l : LoadedMaps) (h : HeadingLines) (e : LogEnding) (old new : SiteState)
     (console between : ConsoleState) → creates c.mode ≡ false → removes_map c.mode ≡ false
     → LoadsMaps c (Ok l) old new → Stays old new → new.faults ≡ old.faults
-    → ((m : Maps) → IsLoadedAs c m l → HasFound c h m e console between) → SiteBehind e old new
-found_behind c l h e old new console between reads keeps loads stays kept finds =
-    plain_behind e old new
+    → ((m : Maps) → IsLoadedAs c m l → HasFound c h m e console between) → SiteLeft e old new
+found_after c l h e old new console between reads keeps loads stays kept finds =
+    plain_after e old new
     (over_plain c [] [] loads.did.0 e (only_calls []) reads keeps ((finds loads.did.0 loads.did.3).ends [] []))
     stays kept
 
@@ -283,7 +283,7 @@ starved_done c line w =
 -- what was done, by what became of each object
 pub ran_worked : (c : Command) (words : List (List ℕ)) (e : LogEnding) (s s' : SiteState) (f f' : FeedState)
     (p p' : ConsoleState) → s.is_drafting ≡ false
-    → Ran c (line_by log_program words) e (handed s f p) (handed s' f' p') → SiteBehind e s s'
+    → Ran c (line_by log_program words) e (handed s f p) (handed s' f' p') → SiteLeft e s s'
     → FeedAfter (creates c.mode) e f f' → LogWorked c words e (handed s f p) (handed s' f' p')
 ran_worked c words e s s' f f' p p' none r site feed =
     let line : List ℕ = line_by log_program words in
@@ -299,10 +299,10 @@ pub starved_worked : (c : Command) (words : List (List ℕ)) (s : SiteState) (f 
     → s.is_drafting ≡ false → LogWorked c words NoMemory (handed s f p) (handed s f p)
 starved_worked c words s f p none =
     ran_worked c words NoMemory s s f f p p none (starved_ran c (line_by log_program words) (handed s f p))
-    (starved_behind s) (starved_feed (creates c.mode) f)
+    (starved_after s) (starved_feed (creates c.mode) f)
 
 -- what a mode that creates a map took of the feed
-pub feed_created : (new : Bool) (e : LogEnding) (old now : FeedState) → new ≡ true → FeedBehind e old now
+pub feed_created : (new : Bool) (e : LogEnding) (old now : FeedState) → new ≡ true → FeedLeft e old now
     → FeedAfter new e old now
 feed_created true e old now on b = record { keeps = b.keeps; counts = b.counts; takes = b.takes }
 feed_created false e old now on b = absurd (cc)

@@ -25,7 +25,7 @@ use Rattle.ddrescuelog_cli.specs.Results.{ListEndsAt}
 use Rattle.ddrescuelog_cli.specs.Outside.{only_calls}
 use Rattle.ddrescuelog_cli.specs.Work.{log_faults, OnlyAnswers, SaysIfThere, UnlessThere, WorksOver, WorksAs}
 use Rattle.ddrescuelog_cli.specs.Steps.{HasStatuses, ReadCause, statuses_in}
-use Rattle.ddrescuelog_cli.specs.Behind.{FeedBehind}
+use Rattle.ddrescuelog_cli.specs.After.{FeedLeft}
 
 -- the answer of a part of the work: where it came to its end, that it is done
 abbrev pub ended_as : {T : Type 0} → Result T LogEnding → LogEnding
@@ -119,7 +119,7 @@ pub record StopsTaking (e : LogEnding) (old new : FeedState) : Type 0 where
   pub list : List ℕ
   pub is_own : IsTrue old.tells → list ≡ old.left
   pub why : ListCause e list
-  pub behind : FeedBehind e old new
+  pub after : FeedLeft e old new
 
 -- ---- the map
 

@@ -10,7 +10,7 @@ pub mod Printing
 pub mod Stops
 pub mod Ddrescuelog
 pub mod Steps
-pub mod Behind
+pub mod After
 pub mod Creating
 pub mod Removing
 pub mod Worked

@@ -10,7 +10,7 @@ use Rattle.ddrescuelog_cli.specs.Results.{text_of}
 use Rattle.ddrescuelog_cli.specs.Outside.{Agrees, Outside, only_calls}
 use Rattle.ddrescuelog_cli.specs.Work.{LogWorks}
 use Rattle.ddrescuelog_cli.specs.Answers.{TakesFeed}
-use Rattle.ddrescuelog_cli.specs.Behind.{feed_count}
+use Rattle.ddrescuelog_cli.specs.After.{feed_count}
 use Rattle.ddrescuelog_cli.specs.Printing.{PutsAs}
 
 -- There is an outside, and calls there, which agree with what the objects tell. It ended as the work there does, and

@@ -13,7 +13,7 @@ ghost use Rattle.ddrescuelog_cli.specs.Maps.{shape_of};
 ghost use Rattle.ddrescuelog_cli.specs.Refusals.{ListRefused};
 ghost use Rattle.ddrescuelog_cli.specs.Results.{ListEndsAt};
 ghost use Rattle.ddrescuelog_cli.specs.Steps.{statuses_in};
-ghost use Rattle.ddrescuelog_cli.specs.Behind.{FeedBehind, SiteBehind};
+ghost use Rattle.ddrescuelog_cli.specs.After.{FeedLeft, SiteLeft};
 ghost use Rattle.ddrescuelog_cli.specs.Creating.{AreOfList, AsksIfThere, CreatesMap, LookCause, Looks, MakesList, SavesText, StopsTaking, TakesAll, TakesFeedPiece, ended_as};
 
 use crate::ending::{LogEnding, Which};
@@ -88,7 +88,7 @@ fn take_piece<I: Feed>(feed: &mut I, list: &mut Vec<u8>) -> Result<bool, LogEndi
     ensures took { IfOk result (λ some. TakesFeedPiece some list.old.items list.new.items
         (I.state feed.old) (I.state feed.new)) }
     ensures cause { IfErr result (λ e. (e ≡ OutOfMemory) ⊎ (e ≡ LogEnding.FeedFault)) }
-    ensures feed { IfErr result (λ e. FeedBehind e (I.state feed.old) (I.state feed.new)) }
+    ensures feed { IfErr result (λ e. FeedLeft e (I.state feed.old) (I.state feed.new)) }
 {
     let Ok(()) = list.reserve(PIECE) else {
         return Err(LogEnding::NoMemory);
@@ -191,7 +191,7 @@ fn make_map<I: Feed>(
     requires size { ends_beyond options.now options.now.size ≡ false }
     ensures makes { MakesList options.now listed rest (statuses_in domain_map.now) result
         (I.state feed.old) (I.state feed.new) }
-    ensures feed { FeedBehind (ended_as result) (I.state feed.old) (I.state feed.new) }
+    ensures feed { FeedLeft (ended_as result) (I.state feed.old) (I.state feed.new) }
 {
     match take_list(alloc, feed) {
         Ok(list) => map_of(alloc, options, listed, rest, domain_map, list),
@@ -204,7 +204,7 @@ fn save_map<D: Site>(site: &mut D, names: &Names, heading: &Heading, map: &Plain
     ensures saves { SavesText names.now
         (printed heading.now (record { pos = 0; current = Copying; pass = 1 }) map.now.statuses) result
         (D.state site.old) (D.state site.new) }
-    ensures site { SiteBehind result (D.state site.old) (D.state site.new) }
+    ensures site { SiteLeft result (D.state site.old) (D.state site.new) }
 {
     let state = MapState {
         pos: 0,
@@ -232,8 +232,8 @@ pub(crate) fn create_map<D: Site, I: Feed>(
     ensures work { (line : List ℕ)
         → heading.now ≡ record { program = Ddrescuelog; line = line; start_s = 0; now_s = 0 }
         → CreatesMap (told_by command.now) line result (D.state site.old) (D.state site.new) (I.state feed.old) }
-    ensures site { SiteBehind result (D.state site.old) (D.state site.new) }
-    ensures feed { FeedBehind result (I.state feed.old) (I.state feed.new) }
+    ensures site { SiteLeft result (D.state site.old) (D.state site.new) }
+    ensures feed { FeedLeft result (I.state feed.old) (I.state feed.new) }
 {
     let Ok(names) = Names::of_map(alloc, command.mapfile) else {
         return LogEnding::NoMemory;

@@ -9,7 +9,7 @@ ghost use Rattle.ddrescuelog_words.specs.Modes.{creates};
 ghost use Rattle.ddrescuelog_words.specs.Command.{AreInLimits, AreRefused, told_by};
 ghost use Rattle.ddrescuelog_cli.specs.Modes.{removes_map};
 ghost use Rattle.ddrescuelog_cli.specs.Names.{program_name};
-ghost use Rattle.ddrescuelog_cli.specs.Behind.{SiteBehind};
+ghost use Rattle.ddrescuelog_cli.specs.After.{SiteLeft};
 ghost use Rattle.ddrescuelog_cli.specs.Worked.{Ran};
 ghost use Rattle.ddrescuelog_cli.specs.Ddrescuelog.{Ddrescuelog, LogDone, LogWorked, handed};
 
@@ -61,7 +61,7 @@ fn run_over_maps<D: Site, P: Console>(
         → heading.now ≡ record { program = Log; line = line; start_s = 0; now_s = 0 }
         → Ran (told_by command.now) line result (handed (D.state site.old) feed (P.state console.old))
         (handed (D.state site.new) feed (P.state console.new)) }
-    ensures site { SiteBehind result (D.state site.old) (D.state site.new) }
+    ensures site { SiteLeft result (D.state site.old) (D.state site.new) }
 {
     let loaded = match load_maps(alloc, site, command) {
         Ok(loaded) => loaded,

@@ -5,7 +5,7 @@ ghost use Rattle.map_algebra.specs.At.{IsWithinMap};
 ghost use Rattle.ddrescuelog_words.specs.Command.{told_by};
 ghost use Rattle.ddrescuelog_cli.specs.Maps.{Maps};
 ghost use Rattle.ddrescuelog_cli.specs.Steps.{IsLoadedAs};
-ghost use Rattle.ddrescuelog_cli.specs.Behind.{SiteBehind};
+ghost use Rattle.ddrescuelog_cli.specs.After.{SiteLeft};
 ghost use Rattle.ddrescuelog_cli.specs.Removing.{RemovesDone};
 
 use crate::ending::LogEnding;
@@ -25,7 +25,7 @@ pub(crate) fn remove_done<D: Site>(
     requires within { IsWithinMap (covers loaded.now.domain) loaded.now.tiles.statuses }
     ensures work { (m : Maps) → IsLoadedAs (told_by command.now) m loaded.now
         → RemovesDone (told_by command.now) m result (D.state site.old) (D.state site.new) }
-    ensures site { SiteBehind result (D.state site.old) (D.state site.new) }
+    ensures site { SiteLeft result (D.state site.old) (D.state site.new) }
 {
     if !is_done(&loaded.tiles, &loaded.domain) {
         return LogEnding::NotDone;

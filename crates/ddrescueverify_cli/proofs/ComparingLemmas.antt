@@ -51,8 +51,8 @@ module _ (o : VerifyOptions) (end : ℕ) (statuses : List Status) (covered : ℕ
       let below : x < end = below_end o.input_position o.size end x (is_asked x held) in
       omega (arith, below, short)
 
-  pub is_behind : (x : ℕ) → IsIn covered x → o.input_position ≤ x
-  is_behind x held = whole_from o.input_position o.size end x (is_asked x held)
+  pub is_past : (x : ℕ) → IsIn covered x → o.input_position ≤ x
+  is_past x held = whole_from o.input_position o.size end x (is_asked x held)
 
   pub are_placed : (to : ℕ) → AreAllPlaced (domain_asked o end) o.input_position to
       → AreAllPlaced covered o.input_position to

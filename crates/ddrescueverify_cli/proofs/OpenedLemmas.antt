@@ -21,7 +21,7 @@ use Rattle.rescue_rules.specs.Start.{Stands}
 use Rattle.rescue_rules.specs.Work.{AreMapReads}
 use Rattle.work_rules.specs.Work.{Opened as IsOpened, Unopened, Deeds, WorkStep, Take, Look as LookAt, Make, Works}
 use Rattle.work_rules.specs.Parts.{only_calls, WentThrough}
-use Rattle.work_rules.specs.Holds.{behind_entries, behind_open}
+use Rattle.work_rules.specs.Holds.{after_entries, after_open}
 use Rattle.work_rules.proofs.FrontLemmas.{load_reads, reads_stand}
 use Rattle.work_rules.proofs.PartLemmas.{stopped_more, through_then, grew_both}
 use Rattle.rescue_verify.specs.declared.tally.Tally.{Tally}
@@ -38,7 +38,7 @@ use Rattle.ddrescueverify_cli.specs.declared.open.LoadedMap.{LoadedMap}
 use Rattle.ddrescueverify_cli.specs.Asked.{IsBeyond, heading_of, plan_of, shown_for, text_of}
 use Rattle.ddrescueverify_cli.specs.Refusals.{OutputRefused, PlacesRefused}
 use Rattle.ddrescueverify_cli.specs.Outside.{Found, found_in, place_by}
-use Rattle.ddrescueverify_cli.specs.Work.{ComparesOver, EndsBehind, EndsSaved, Halts, IsAnswer, Completes, Verifies, behind_looks, load_rows, opened_rows, output_rows, verify_faults}
+use Rattle.ddrescueverify_cli.specs.Work.{ComparesOver, EndsAfter, EndsSaved, Halts, IsAnswer, Completes, Verifies, after_looks, load_rows, opened_rows, output_rows, verify_faults}
 use Rattle.ddrescueverify_cli.specs.Steps.{Beyond, DidWork, Halted, Loads, OpensOutput, SavesText, Starved, StopsComparing, WentOn}
 
 -- ---- the open of the input
@@ -88,7 +88,7 @@ output_fails c l end e s0 s1 d0 d1 input o =
     let found : Found = record { output = o.file; mapfile = files_in d0 c.mapfile } in
     record {
       outside = record { line = l; found = found; end = end; looks = [] };
-      did = behind_open c.infile (only_calls o.calls);
+      did = after_open c.infile (only_calls o.calls);
       line_is = refl;
       agrees = record {
         opens = input.opened;
@@ -170,7 +170,7 @@ load_fails c l n end e s0 s1 d0 d1 d2 input h =
     let found : Found = record { output = o.file; mapfile = p.file } in
     record {
       outside = record { line = l; found = found; end = end; looks = [] };
-      did = behind_open c.infile (behind_entries o.calls (only_calls p.calls));
+      did = after_open c.infile (after_entries o.calls (only_calls p.calls));
       line_is = refl;
       agrees = record {
         opens = input.opened;
@@ -200,13 +200,13 @@ loaded_goes : (c : Command) (found : Found) (end : ℕ) (run : VerifyEnding → 
     → WentThrough (load_rows c.mapfile found.mapfile) load
     → Works verify_faults (LookAt (PlacesRefused c.options end) ∷ Take ∷ []) run e d
     → Works verify_faults (opened_rows c found end) run e
-    (behind_open c.infile (behind_entries output (behind_entries load d)))
+    (after_open c.infile (after_entries output (after_entries load d)))
 loaded_goes c found end run e output load d t u w =
     inr (
       d.opens,
       refl,
       through_then verify_faults (output_rows c.outfile found.output) (later_rows c found.mapfile end) run e output
-          (behind_entries load d) t
+          (after_entries load d) t
           (through_then verify_faults (load_rows c.mapfile found.mapfile)
           (LookAt (PlacesRefused c.options end) ∷ Take ∷ []) run e load d u w),
     )
@@ -217,7 +217,7 @@ record GoesOn (c : Command) (l : List ℕ) (end : ℕ) (result : Result Tally Ve
   works : (output load : List Entry) → WentThrough (output_rows c.outfile found.output) output
       → WentThrough (load_rows c.mapfile found.mapfile) load
       → DidWork c (record { line = l; found = found; end = end; looks = looks })
-      (behind_open c.infile (behind_entries output (behind_entries load d))) result
+      (after_open c.infile (after_entries output (after_entries load d))) result
 
 -- the image that is open behind the load is the output, as it was
 still_open : (file : Option File) → ((v : VerifyEnding) → OutputRefused file v → ⊥) → (d : Folder) (out : List ℕ)
@@ -258,7 +258,7 @@ image_of_load c n end (Ok now) loaded d0 d1 d2 is h keeps tells =
     ∙ ap (λ (files : List ℕ → Option File). files c.outfile) (open_stands before c.outfile (files_in d0 c.outfile))
 
 -- what the steps behind the load did: their looks, and deeds, and what they tell
-record Behind (c : Command) (l : List ℕ) (end : ℕ) (found : Found) (result : Result Tally VerifyEnding)
+record After (c : Command) (l : List ℕ) (end : ℕ) (found : Found) (result : Result Tally VerifyEnding)
     (s1 s2 : SourceState) (d0 d2 d3 : SiteState) : Type 0 where
   looks : List Look
   calls : List Entry
@@ -275,7 +275,7 @@ record Behind (c : Command) (l : List ℕ) (end : ℕ) (found : Found) (result :
 all_worked : (c : Command) (l : List ℕ) (n : MapNames) (end : ℕ) (loaded : LoadedMap) (result : Result Tally VerifyEnding)
     (s0 s1 s2 : SourceState) (d0 d1 d2 d3 : SiteState) → HasInput c.infile end s0 s1
     → (h : HasLoaded c n end (Ok loaded) d0 d1 d2) → d2.tells ≡ d0.tells
-    → Behind c l end (record { output = h.output.file; mapfile = (own_loads c n end (Ok loaded) d0 d1 d2 h).file })
+    → After c l end (record { output = h.output.file; mapfile = (own_loads c n end (Ok loaded) d0 d1 d2 h).file })
     result s1 s2 d0 d2 d3
     → WentOn c l result s0 s2 d0 d3
 all_worked c l n end loaded result s0 s1 s2 d0 d1 d2 d3 input h told b =
@@ -285,7 +285,7 @@ all_worked c l n end loaded result s0 s1 s2 d0 d1 d2 d3 input h told b =
     let deeds : Deeds = record { opens = []; gain = record { calls = b.calls; reads = b.reads; times = [] } } in
     record {
       outside = record { line = l; found = found; end = end; looks = b.looks };
-      did = behind_open c.infile (behind_entries o.calls (behind_entries p.calls deeds));
+      did = after_open c.infile (after_entries o.calls (after_entries p.calls deeds));
       line_is = refl;
       agrees = record {
         opens = (b.opens ∙ input.opened.0, λ tells. b.name (rw input.keeps.tells tells) ∙ input.opened.1 tells);
@@ -307,11 +307,11 @@ all_worked c l n end loaded result s0 s1 s2 d0 d1 d2 d3 input h told b =
 abbrev still : Deeds
 still = record { opens = []; gain = record { calls = []; reads = []; times = [] } }
 
-nothing_behind : (c : Command) (l : List ℕ) (end : ℕ) (found : Found) (e : VerifyEnding) (s1 s2 : SourceState)
+nothing_after : (c : Command) (l : List ℕ) (end : ℕ) (found : Found) (e : VerifyEnding) (s1 s2 : SourceState)
     (d0 d2 d3 : SiteState) → s2 ≡ s1 → d3 ≡ d2
     → Works verify_faults (LookAt (PlacesRefused c.options end) ∷ Take ∷ []) (Verifies c l found end []) e still
-    → Behind c l end found (Err e) s1 s2 d0 d2 d3
-nothing_behind c l end found e s1 s2 d0 d2 d3 same stands w = record {
+    → After c l end found (Err e) s1 s2 d0 d2 d3
+nothing_after c l end found e s1 s2 d0 d2 d3 same stands w = record {
   looks = [];
   calls = [];
   reads = [];
@@ -352,11 +352,11 @@ pub compare_fails : (c : Command) (l : List ℕ) (n : MapNames) (end : ℕ) (loa
     → StopsComparing c.options end loaded.tiles.statuses new e s1 s2 d2 d3 → WentOn c l (Err e) s0 s2 d0 d3
 compare_fails c l n end loaded new e s0 s1 s2 d0 d1 d2 d3 input h keeps stays (Beyond far is same stands) =
     all_worked c l n end loaded (Err e) s0 s1 s2 d0 d1 d2 d3 input h (keeps.tells ∙ h.keeps.tells)
-    (nothing_behind c l end _ e s1 s2 d0 d2 d3 same stands
+    (nothing_after c l end _ e s1 s2 d0 d2 d3 same stands
     (inl ((far, is), record { opens = refl; gain = record { calls = refl; reads = refl; times = refl } })))
 compare_fails c l n end loaded new e s0 s1 s2 d0 d1 d2 d3 input h keeps stays (Starved near is same stands) =
     all_worked c l n end loaded (Err e) s0 s1 s2 d0 d1 d2 d3 input h (keeps.tells ∙ h.keeps.tells)
-    (nothing_behind c l end _ e s1 s2 d0 d2 d3 same stands
+    (nothing_after c l end _ e s1 s2 d0 d2 d3 same stands
     (inr (
       places_pass c.options end near,
       inl (is, record { opens = refl; gain = record { calls = refl; reads = refl; times = refl } }),
@@ -376,8 +376,8 @@ compare_fails c l n end loaded new e s0 s1 s2 d0 d1 d2 d3 input h keeps stays (H
       reads = reads_of looks ++ compares.reads;
       goes = record {
         works = λ output load t u.
-            loaded_goes c found end (Verifies c l found end looks) e output load (behind_looks (place_by c) looks rest) t u
-            (over_it c l end found e loaded.tiles.statuses looks loaded.state (behind_looks (place_by c) looks rest) p.did.0
+            loaded_goes c found end (Verifies c l found end looks) e output load (after_looks (place_by c) looks rest) t u
+            (over_it c l end found e loaded.tiles.statuses looks loaded.state (after_looks (place_by c) looks rest) p.did.0
             near
             (record {
               asks = compares.asks;
@@ -438,22 +438,22 @@ did_save : (c : Command) (l : List ℕ) (end : ℕ) (found : Found) (statuses : 
     (looks : List Look) (result : Result (Unit {0}) VerifyEnding) (old new : SiteState)
     → Stands found.mapfile end statuses (Some shown) → (IsBeyond c.options end → ⊥)
     → (compares : (e : VerifyEnding) → (d : Deeds)
-    → EndsBehind c (plan_of c.options end statuses) (text_of l statuses shown looks) looks e d
-    → ComparesOver c l end statuses shown looks e (behind_looks (place_by c) looks d))
+    → EndsAfter c (plan_of c.options end statuses) (text_of l statuses shown looks) looks e d
+    → ComparesOver c l end statuses shown looks e (after_looks (place_by c) looks d))
     → ((e : VerifyEnding) (calls : List Entry)
     → Works verify_faults (Make (save_calls (names_of c.mapfile) (text_of l statuses shown looks)) ∷ [])
     (EndsSaved c.options.quiet (tally_of looks)) e (only_calls calls)
-    → EndsBehind c (plan_of c.options end statuses) (text_of l statuses shown looks) looks e (only_calls calls))
+    → EndsAfter c (plan_of c.options end statuses) (text_of l statuses shown looks) looks e (only_calls calls))
     → tally ≡ tally_of looks
     → (s : SavesText (names_of c.mapfile) (text_of l statuses shown looks) result old new)
-    → GoesOn c l end (tally_or tally result) looks found (behind_looks (place_by c) looks (only_calls s.calls))
+    → GoesOn c l end (tally_or tally result) looks found (after_looks (place_by c) looks (only_calls s.calls))
 did_save c l end found statuses shown tally looks (Ok x) old new stands near compares saves counts s = record {
   works = λ output load t u. (
     counts,
     λ e answer.
         loaded_goes c found end (Verifies c l found end looks) e output load
-        (behind_looks (place_by c) looks (only_calls s.calls)) t u
-        (over_it c l end found e statuses looks shown (behind_looks (place_by c) looks (only_calls s.calls)) stands near
+        (after_looks (place_by c) looks (only_calls s.calls)) t u
+        (over_it c l end found e statuses looks shown (after_looks (place_by c) looks (only_calls s.calls)) stands near
         (compares e (only_calls s.calls) (saves e s.calls
         (save_ends c (plan_of c.options end statuses) (text_of l statuses shown looks) looks tally e s.calls s.did.1.0
         s.did.1.1 s.did.1.2 counts answer)))),
@@ -462,8 +462,8 @@ did_save c l end found statuses shown tally looks (Ok x) old new stands near com
 did_save c l end found statuses shown tally looks (Err e) old new stands near compares saves counts s = record {
   works = λ output load t u.
       loaded_goes c found end (Verifies c l found end looks) e output load
-      (behind_looks (place_by c) looks (only_calls s.calls)) t u
-      (over_it c l end found e statuses looks shown (behind_looks (place_by c) looks (only_calls s.calls)) stands near
+      (after_looks (place_by c) looks (only_calls s.calls)) t u
+      (over_it c l end found e statuses looks shown (after_looks (place_by c) looks (only_calls s.calls)) stands near
       (compares e (only_calls s.calls) (saves e s.calls
       (stopped_more verify_faults (Make (save_calls (names_of c.mapfile) (text_of l statuses shown looks)) ∷ []) []
       (EndsSaved c.options.quiet (tally_of looks)) e (only_calls s.calls) s.did))));

@@ -304,7 +304,7 @@ module _ (c : Command) (line : List ℕ) (found : Found) (end : ℕ) (looks : Li
       (all ∙ ap (λ (r : List Entry). map Returned load ++ r) idle.gain.calls ∙ append-nil (map Returned load))
       (maps_are load (load_reads c.mapfile found.mapfile load loaded.begins))
 
-  behind_load : (e : VerifyEnding) (x : Deeds) (calls rest later : List Entry) (load : List Call)
+  after_load : (e : VerifyEnding) (x : Deeds) (calls rest later : List Entry) (load : List Call)
       → (found.output ≡ None → ⊥) → calls ≡ Returned (image_open c.outfile false) ∷ rest
       → rest ≡ map Returned (barrier_calls (names_of c.mapfile)) ++ later → IsLoad c.mapfile found.mapfile load
       → later ≡ map Returned load ++ x.gain.calls
@@ -312,13 +312,13 @@ module _ (c : Command) (line : List ℕ) (found : Found) (end : ℕ) (looks : Li
       (LookAt (MapfileRefused found.mapfile) ∷ LookAt (PlacesRefused c.options end) ∷ Take ∷ [])
       (Verifies c line found end looks) e x
       → ShapeOf e calls
-  behind_load e x calls rest later load there grew is loaded all (inl (refused, idle)) =
+  after_load e x calls rest later load there grew is loaded all (inl (refused, idle)) =
       reading e calls rest later there (unsaved_mapfile e refused) grew is (load_alone x later load loaded all idle)
-  behind_load e x calls rest later load there grew is loaded all (inr (pass, inl (far, idle))) =
+  after_load e x calls rest later load there grew is loaded all (inr (pass, inl (far, idle))) =
       reading e calls rest later there (ap is_saved far.1) grew is (load_alone x later load loaded all idle)
-  behind_load e x calls rest later load there grew is loaded all (inr (pass, inr (near, inl (starved, idle)))) =
+  after_load e x calls rest later load there grew is loaded all (inr (pass, inr (near, inl (starved, idle)))) =
       reading e calls rest later there (ap is_saved starved) grew is (load_alone x later load loaded all idle)
-  behind_load e x calls rest later load there grew is loaded all (inr (pass, inr (near, inr v))) =
+  after_load e x calls rest later load there grew is loaded all (inr (pass, inr (near, inr v))) =
       comparing e x calls rest later load there (load_reads c.mapfile found.mapfile load loaded.begins) grew is all v
 
   pub shape_of : (e : VerifyEnding) (d : Deeds)
@@ -398,4 +398,4 @@ module _ (c : Command) (line : List ℕ) (found : Found) (end : ℕ) (looks : Li
       ),
     ),
   ))) =
-      behind_load e _ d.gain.calls rest later load (λ none. q NoOutput (none, refl)) grew is loaded all w
+      after_load e _ d.gain.calls rest later load (λ none. q NoOutput (none, refl)) grew is loaded all w

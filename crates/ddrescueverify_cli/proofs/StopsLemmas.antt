@@ -26,7 +26,7 @@ use Rattle.save_resume.proofs.StopLemmas.{stops_in_save, saved_where_ok}
 use Rattle.rescue_rules.specs.Start.{Stands as StandsFor}
 use Rattle.rescue_rules.specs.Stops.{has_barrier, is_sync}
 use Rattle.work_rules.specs.Work.{Deeds, Works}
-use Rattle.work_rules.proofs.GainLemmas.{broke_behind, broke_named}
+use Rattle.work_rules.proofs.GainLemmas.{broke_after, broke_named}
 use Rattle.rescue_verify.specs.Looks.{Look, reads_of, seen_in}
 use Rattle.rescue_verify.specs.Verified.{judged_by}
 use Rattle.ddrescueverify_words.specs.Command.{Command}
@@ -107,12 +107,12 @@ saved_by names text start old new grew =
     saved_where_ok names text (Ok tt) (site_at start old false 0) (site_at start new false 0)
     (made_saves names text start old new grew) refl
 
-save_behind : (names : MapNames) (text : List ℕ) (before rest : List Entry) → HasSaved names text [] rest
+save_after : (names : MapNames) (text : List ℕ) (before rest : List Entry) → HasSaved names text [] rest
     → HasSaved names text before (before ++ rest)
-save_behind names text before rest (inl made) = inl (ap (λ (r : List Entry). before ++ r) made)
-save_behind names text before rest (inr (at, broke)) =
+save_after names text before rest (inl made) = inl (ap (λ (r : List Entry). before ++ r) made)
+save_after names text before rest (inr (at, broke)) =
     let P : List Entry → Type 0 = λ r. BrokeAt at (save_calls names text) r (before ++ rest) in
-    inr (at, subst P (append-nil before) (broke_behind at (save_calls names text) before [] rest broke))
+    inr (at, subst P (append-nil before) (broke_after at (save_calls names text) before [] rest broke))
 
 -- ---- what a stop may show up to the barrier, and behind it
 
@@ -228,7 +228,7 @@ data AtStop (c : Command) (IsNew : Option File → Type 0) (site : SiteState) (c
     (files : List ℕ → Option File) : Type 0 where
   Before : has_barrier (take k calls) ≡ false → ((name : List ℕ) → CouldBefore site name (files name))
       → AtStop c IsNew site calls k files
-  Behind : has_barrier (take k calls) ≡ true → files c.outfile ≡ files_in site c.outfile
+  After : has_barrier (take k calls) ≡ true → files c.outfile ≡ files_in site c.outfile
       → (files c.mapfile ≡ files_in site c.mapfile) ⊎ IsNew (files c.mapfile)
       → ((name : List ℕ) → name ≢ c.outfile → name ≢ c.mapfile → name ≢ (names_of c.mapfile).draft
       → CouldBefore site name (files name))
@@ -254,8 +254,8 @@ module _ (c : Command) (site : SiteState) (apart : c.outfile ≢ c.mapfile)
     at_barrier : (f : File) → before.reads.files c.outfile ≡ Some f → (calls : List Entry) (k : ℕ)
         (files : List ℕ → Option File) → has_barrier (take k calls) ≡ true
         → Leaves (at_sync c before sound) files → AtStop c IsNew site calls k files
-    at_barrier f there calls k files behind left =
-        Behind behind
+    at_barrier f there calls k files passed left =
+        After passed
         (output_sure c before sound f there (files c.outfile) (left c.outfile) ∙ own_files c.outfile)
         (inl (mapfile_sure c before sound f there (files c.mapfile) (left c.mapfile) ∙ own_files c.mapfile))
         (λ name output map other. sync_shows c before sound name (files name) (left name))
@@ -289,8 +289,8 @@ module _ (c : Command) (site : SiteState) (apart : c.outfile ≢ c.mapfile)
         (leaves_at _ (suc (suc (suc j))) files left))
 
     -- behind the barrier
-    behind_at : (k n : ℕ) → k ≡ 3 + n → (more : List Entry) → has_barrier (take k (opening c ++ more)) ≡ true
-    behind_at k n is more =
+    after_at : (k n : ℕ) → k ≡ 3 + n → (more : List Entry) → has_barrier (take k (opening c ++ more)) ≡ true
+    after_at k n is more =
         let at : k ≡ suc (suc (suc n)) = omega arith in
         subst (λ (m : ℕ). has_barrier (take m (opening c ++ more)) ≡ true) (sym at) refl
 
@@ -315,13 +315,13 @@ module _ (c : Command) (site : SiteState) (apart : c.outfile ≢ c.mapfile)
         → IsOldOrNew (names_of c.mapfile) text (disk_after (at_rest site.start) old)
         (disk_after (at_rest site.start) (until (length site.calls + k) (old ++ rest))) name (files name) =
         λ name other. stops_by_save (names_of c.mapfile) text site.start old (old ++ rest)
-        (save_behind (names_of c.mapfile) text old rest saved) (length site.calls + k) files
+        (save_after (names_of c.mapfile) text old rest saved) (length site.calls + k) files
         (omega (arith, olds, is)) (omega (arith, olds, news, rests, is, le))
         (subst (λ (es : List Entry). MayBeLeft site.start es (length site.calls + k) files) all left) name other in
         let here : (name : List ℕ) (file : Option File) → MayShow ((disk_after (at_rest site.start) old).shows name) file
         → MayShow ((at_sync c before sound).shows name) file =
         λ name file h. subst (λ (d : Disk). MayShow (d.shows name) file) disk h in
-        Behind (behind_at k (length reads + j) is (reads ++ rest))
+        After (after_at k (length reads + j) is (reads ++ rest))
         (elim (found c.outfile draft) [
           | Old h ↦
               output_sure c before sound f there (files c.outfile) (here c.outfile (files c.outfile) h)
@@ -462,21 +462,21 @@ module _ (c : Command) (o : Outside) (did : Deeds) (e : VerifyEnding) (source so
     stops_safely = record {
       before = λ k files name le left early. elim (stop_at k le files left) [
         | Before none could ↦ could name
-        | Behind behind output map others ↦ absurd (never_both _ behind early)
+        | After passed output map others ↦ absurd (never_both _ passed early)
       ];
       output = λ k files le left late. elim (stop_at k le files left) [
         | Before none could ↦ absurd (never_both _ late none)
-        | Behind behind output map others ↦ output
+        | After passed output map others ↦ output
       ];
       mapfile = λ k files le left late. elim (stop_at k le files left) [
         | Before none could ↦ absurd (never_both _ late none)
-        | Behind behind output map others ↦ map
+        | After passed output map others ↦ map
       ];
       kept = λ files saved left.
           kept_at_end c site apart draft IsNewMap (IsNewText c o.line o.found.mapfile o.end o.looks) (is_saved e)
           did.gain.calls new_is own_shape saved files left;
       others = λ k files name le left output map other. elim (stop_at k le files left) [
         | Before none could ↦ could name
-        | Behind behind out map' others ↦ others name output map other
+        | After passed out map' others ↦ others name output map other
       ];
     }

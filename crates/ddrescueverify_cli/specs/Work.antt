@@ -68,18 +68,18 @@ EndsSaved quiet t e d = IsAnswer quiet t e × IsIdle d
 
 -- The end of a comparison behind looks at its first pieces. It stopped before its last one, and saves nothing; or it came
 -- to the last, and made one save, and said how much it compared, unless it was asked to say nothing.
-pub data EndsBehind (c : Command) (p : ComparisonPlan) (text : List ℕ) (looks : List Look) (e : VerifyEnding) (d : Deeds)
+pub data EndsAfter (c : Command) (p : ComparisonPlan) (text : List ℕ) (looks : List Look) (e : VerifyEnding) (d : Deeds)
     : Type 0 where
   Halts : (halt : Halt) → e ≡ answer_of_halt halt → d.opens ≡ [] → d.gain.times ≡ []
-      → HaltsAt halt p (end_of_reads 0 (reads_of looks)) d.gain.reads d.gain.calls → EndsBehind c p text looks e d
+      → HaltsAt halt p (end_of_reads 0 (reads_of looks)) d.gain.reads d.gain.calls → EndsAfter c p text looks e d
   Completes : NoneFrom p.compared (end_of_reads 0 (reads_of looks))
       → Works verify_faults (Make (save_calls (names_of c.mapfile) text) ∷ [])
       (EndsSaved c.options.quiet (tally_of looks)) e d
-      → EndsBehind c p text looks e d
+      → EndsAfter c p text looks e d
 
 -- the same deeds behind these reads, and behind calls that returned
-abbrev pub behind_looks : (place : ℕ → ℕ) → List Look → Deeds → Deeds
-behind_looks place looks d = record {
+abbrev pub after_looks : (place : ℕ → ℕ) → List Look → Deeds → Deeds
+after_looks place looks d = record {
   opens = d.opens;
   gain = record {
     calls = map Returned (look_calls place looks) ++ d.gain.calls;
@@ -94,8 +94,8 @@ pub record ComparesOver (c : Command) (line : List ℕ) (end : ℕ) (statuses : 
     (looks : List Look) (e : VerifyEnding) (d : Deeds) : Type 0 where
   pub asks : AskForPieces (plan_of c.options end statuses).compared c.options.sector 0 (reads_of looks)
   pub rest : Deeds
-  pub is : d ≡ behind_looks (place_in (plan_of c.options end statuses)) looks rest
-  pub ends : EndsBehind c (plan_of c.options end statuses) (text_of line statuses shown looks) looks e rest
+  pub is : d ≡ after_looks (place_in (plan_of c.options end statuses)) looks rest
+  pub ends : EndsAfter c (plan_of c.options end statuses) (text_of line statuses shown looks) looks e rest
 
 -- The comparison over the map that the mapfile stands for, which ends at the input's end or behind it.
 pub record Verifies (c : Command) (line : List ℕ) (found : Found) (end : ℕ) (looks : List Look) (e : VerifyEnding)

@@ -8,7 +8,7 @@ use Rattle.rescue_rules.specs.Setting.{Setting}
 use Rattle.rescue_rules.specs.Work.{end_of}
 use Rattle.rescue_core.specs.Closing.{MayClose, drafting_at_stop}
 use Rattle.sweep_rules.specs.Sweep.{Sweep}
-use Rattle.fill_generate.specs.Sweeping.{drafting_behind}
+use Rattle.fill_generate.specs.Sweeping.{drafting_after}
 use Rattle.fill_generate.specs.Steps.{SavesLast, LastSaved, LastFailed, ClosesFiles}
 
 -- behind a stop the last calls may be made
@@ -19,22 +19,22 @@ may_close (LimitMet limit) site left = left
 may_close NoMemory site left = left
 
 left_last : (s : Setting) (m : Sweep) (stop : Option Stop) (end : RunEnd) (site site' : SiteState)
-    → drafting_behind (end_of stop) ≡ false → SavesLast s m stop end site site' → site'.is_drafting ≡ drafting_behind end
-left_last s m stop end site site' none (LastSaved is makes draft) = draft ∙ sym none ∙ ap drafting_behind (sym is)
-left_last s m stop end site site' none (LastFailed call is named breaks left) = left ∙ ap drafting_behind (sym is)
+    → drafting_after (end_of stop) ≡ false → SavesLast s m stop end site site' → site'.is_drafting ≡ drafting_after end
+left_last s m stop end site site' none (LastSaved is makes draft) = draft ∙ sym none ∙ ap drafting_after (sym is)
+left_last s m stop end site site' none (LastFailed call is named breaks left) = left ∙ ap drafting_after (sym is)
 
 -- no piece was left
 pub left_whole : (s : Setting) (m : Sweep) (end : RunEnd) (site site' : SiteState) → ClosesFiles s m None end site site'
-    → site'.is_drafting ≡ drafting_behind end
+    → site'.is_drafting ≡ drafting_after end
 left_whole s m end site site' closes = left_last s m None end site site' refl closes
 
 -- it stopped
 pub left_stopped : (s : Setting) (m : Sweep) (stop : Stop) (end : RunEnd) (site site' : SiteState)
     → site.is_drafting ≡ drafting_at_stop stop → ClosesFiles s m (Some stop) end site site'
-    → site'.is_drafting ≡ drafting_behind end
+    → site'.is_drafting ≡ drafting_after end
 left_stopped s m SourceLost end site site' left closes = left_last s m (Some SourceLost) end site site' refl closes
 left_stopped s m (Site call) end site site' left (is, same) =
-    ap (λ (d : SiteState). d.is_drafting) same ∙ left ∙ ap drafting_behind (sym is)
+    ap (λ (d : SiteState). d.is_drafting) same ∙ left ∙ ap drafting_after (sym is)
 left_stopped s m (LimitMet limit) end site site' left closes =
     left_last s m (Some (LimitMet limit)) end site site' refl closes
 left_stopped s m NoMemory end site site' left closes = left_last s m (Some NoMemory) end site site' refl closes

@@ -18,70 +18,70 @@ use Rattle.rescue_rules.specs.Setting.{Setting}
 use Rattle.rescue_rules.specs.RunCalls.{closing_calls}
 use Rattle.rescue_rules.specs.Lines.{report_text, last_front, is_done}
 use Rattle.rescue_rules.specs.Deeds.{save_of, doing_calls}
-use Rattle.sweep_rules.specs.Sweep.{filler, generator, Sweeper, Sweep, Swept, IsSweptOut, behind_pieces, due_save, sweep_end, deeds_of}
+use Rattle.sweep_rules.specs.Sweep.{filler, generator, Sweeper, Sweep, Swept, IsSweptOut, after_pieces, due_save, sweep_end, deeds_of}
 use Rattle.sweep_rules.specs.SweepWork.{SweepEndsBy, IsSaved, IsUnsaved, IsCut as WorkIsCut, IsBroken as WorkIsBroken, sweep_report, sweep_calls, pieces_lines, lost_call}
-use Rattle.fill_generate.specs.Sweeping.{Around, BreaksBehind, EndsSweep, Saved, Unsaved, Cut, Broken, SweepTold, LookupTold, EndsAreTold}
+use Rattle.fill_generate.specs.Sweeping.{Around, BreaksAfter, EndsSweep, Saved, Unsaved, Cut, Broken, SweepTold, LookupTold, EndsAreTold}
 use Rattle.fill_generate.specs.SweepState.{SweepState, setting_of}
 use Rattle.fill_generate.specs.Steps.{SweepWent, WentOn, WentUpTo, SweepStopsAt, IsStarved, IsCut, IsBroken, SavesLast, LastSaved, LastFailed, ClosesFiles, PiecesEnd, IsLookedUp}
-use Rattle.fill_generate.proofs.TellLemmas.{between, makes_more, breaks_behind, says_more}
+use Rattle.fill_generate.proofs.TellLemmas.{between, makes_more, breaks_after, says_more}
 use Rattle.fill_generate.proofs.ImageLemmas.{all_given}
 
 -- what broke off behind a record broke off without it
-record Behind (at : SiteCall) (calls : List Call) (front back new : List Entry) : Type 0 where
+record After (at : SiteCall) (calls : List Call) (front back new : List Entry) : Type 0 where
   rest : List Entry
   is : new ≡ front ++ rest
   broke : BrokeAt at calls back rest
 
-behind : (at : SiteCall) (calls : List Call) (front back new : List Entry) → BrokeAt at calls (front ++ back) new
-    → Behind at calls front back new
-behind at [] front back new broke = absurd broke
-behind at (call ∷ calls) front back new (inl (named, inl listed)) = record {
+after : (at : SiteCall) (calls : List Call) (front back new : List Entry) → BrokeAt at calls (front ++ back) new
+    → After at calls front back new
+after at [] front back new broke = absurd broke
+after at (call ∷ calls) front back new (inl (named, inl listed)) = record {
   rest = back ++ Failed call ∷ [];
   is = listed ∙ append_assoc front back (Failed call ∷ []);
   broke = inl (named, inl refl);
 }
-behind at (call ∷ calls) front back new (inl (named, inr unlisted)) = record {
+after at (call ∷ calls) front back new (inl (named, inr unlisted)) = record {
   rest = back;
   is = unlisted;
   broke = inl (named, inr refl);
 }
-behind at (call ∷ calls) front back new (inr later) =
-    let b : Behind at calls front (back ++ Done call ∷ []) new =
-    behind at calls front (back ++ Done call ∷ []) new
+after at (call ∷ calls) front back new (inr later) =
+    let b : After at calls front (back ++ Done call ∷ []) new =
+    after at calls front (back ++ Done call ∷ []) new
     (subst (λ (es : List Entry). BrokeAt at calls es new) (append_assoc front back (Done call ∷ [])) later) in
     record { rest = b.rest; is = b.is; broke = inr b.broke }
 
 pub ends_are_told : EndsAreTold
 ends_are_told s w m es end site site' (Saved stop by is makes) tells =
-    let calls : List Call = doing_calls s (deeds_of w m es) (sweep_end (is_none stop) (behind_pieces w m es)) in
+    let calls : List Call = doing_calls s (deeds_of w m es) (sweep_end (is_none stop) (after_pieces w m es)) in
     (map Done calls, makes.made tells, IsSaved stop by is refl)
 ends_are_told s w m es end site site' (Unsaved stop call by is breaks) tells =
-    let calls : List Call = closing_calls s (sweep_end (is_none stop) (behind_pieces w m es)) in
-    let b : Behind call calls site.calls (map Done (sweep_calls s w m es)) site'.calls =
-    behind call calls site.calls (map Done (sweep_calls s w m es)) site'.calls (breaks.broke tells) in
+    let calls : List Call = closing_calls s (sweep_end (is_none stop) (after_pieces w m es)) in
+    let b : After call calls site.calls (map Done (sweep_calls s w m es)) site'.calls =
+    after call calls site.calls (map Done (sweep_calls s w m es)) site'.calls (breaks.broke tells) in
     (b.rest, b.is, IsUnsaved stop call by is b.broke)
 ends_are_told s w m es end site site' (Cut p q piece is breaks) tells =
     let at : SiteCall = call_name (lost_call w p q) in
-    let b : Behind at (lost_call w p q ∷ []) site.calls (map Done (sweep_calls s w m es)) site'.calls =
-    behind at (lost_call w p q ∷ []) site.calls (map Done (sweep_calls s w m es)) site'.calls (breaks.broke tells) in
+    let b : After at (lost_call w p q ∷ []) site.calls (map Done (sweep_calls s w m es)) site'.calls =
+    after at (lost_call w p q ∷ []) site.calls (map Done (sweep_calls s w m es)) site'.calls (breaks.broke tells) in
     (b.rest, b.is, WorkIsCut p q piece is b.broke)
 ends_are_told s w m es end site site' (Broken before last call split is breaks) tells =
-    let calls : List Call = save_of s (due_save w (behind_pieces w m before) last) in
+    let calls : List Call = save_of s (due_save w (after_pieces w m before) last) in
     let made : List Call = sweep_calls s w m before ++ w.call last ∷ [] in
-    let b : Behind call calls site.calls (map Done made) site'.calls =
-    behind call calls site.calls (map Done made) site'.calls (breaks.broke tells) in
+    let b : After call calls site.calls (map Done made) site'.calls =
+    after call calls site.calls (map Done made) site'.calls (breaks.broke tells) in
     (b.rest, b.is, WorkIsBroken before last call split is b.broke)
 
 -- the last calls of pieces that were left by no call that failed
 ends_last : (s : Setting) (w : Sweeper) (m : Sweep) (es : List Swept) (stop : Option Stop) (end : RunEnd) (d e f : SiteState)
-    → e.tells ≡ d.tells → Makes (sweep_calls s w m es) d e → SweepEndsBy stop s w (behind_pieces w m es)
-    → SavesLast s (behind_pieces w m es) stop end e f → EndsSweep s w m es end d f
+    → e.tells ≡ d.tells → Makes (sweep_calls s w m es) d e → SweepEndsBy stop s w (after_pieces w m es)
+    → SavesLast s (after_pieces w m es) stop end e f → EndsSweep s w m es end d f
 ends_last s w m es stop end d e f tells made by (LastSaved is makes draft) =
-    Saved stop by is (makes_more (sweep_calls s w m es) (closing_calls s (sweep_end (is_none stop) (behind_pieces w m es))) d e f tells
+    Saved stop by is (makes_more (sweep_calls s w m es) (closing_calls s (sweep_end (is_none stop) (after_pieces w m es))) d e f tells
     made makes)
 ends_last s w m es stop end d e f tells made by (LastFailed call is named breaks draft) =
-    Unsaved stop call by is (breaks_behind call (sweep_calls s w m es)
-    (closing_calls s (sweep_end (is_none stop) (behind_pieces w m es))) d e f tells made named breaks)
+    Unsaved stop call by is (breaks_after call (sweep_calls s w m es)
+    (closing_calls s (sweep_end (is_none stop) (after_pieces w m es))) d e f tells made named breaks)
 
 -- A sweep as the objects tell it, and what holds of its pieces besides.
 pub record ToldWith (G : Swept → Type 0) (s : Setting) (w : Sweeper) (m : Sweep) (h h' : Bool) (end : RunEnd) (o : Around)
@@ -104,7 +104,7 @@ told_by G s w m m1 h h1 h2 end es d e f k l x y z g ends says = record {
     timed = g.timed;
     fit = g.fit;
     ends = ends;
-    says = says_more (pieces_lines s w m es) (last_of s (behind_pieces w m es) end) h h1 h2 x y z g.says
+    says = says_more (pieces_lines s w m es) (last_of s (after_pieces w m es) end) h h1 h2 x y z g.says
         (subst (λ (q : Sweep). SpeaksOn (out_pieces (last_of s q end)) h1 h2 y z) g.state says);
   };
   given = g.given;
@@ -121,7 +121,7 @@ told_whole G s w m m1 h h1 h2 end d e f k l x y z tells g out closes says =
     (subst (λ (q : Sweep). SavesLast s q None end e f) g.went.state closes)) says
 
 ends_stopped : (s : Setting) (w : Sweeper) (m m1 : Sweep) (es : List Swept) (stop : Stop) (end : RunEnd) (d e f : SiteState)
-    → e.tells ≡ d.tells → m1 ≡ behind_pieces w m es → SweepStopsAt s w m es stop d e → ClosesFiles s m1 (Some stop) end e f
+    → e.tells ≡ d.tells → m1 ≡ after_pieces w m es → SweepStopsAt s w m es stop d e → ClosesFiles s m1 (Some stop) end e f
     → EndsSweep s w m es end d f
 ends_stopped s w m m1 es stop end d e f tells state (IsStarved is starves p q piece made) closes =
     ends_last s w m es (Some NoMemory) end d e f tells made (starves, (p, q, piece))
@@ -131,12 +131,12 @@ ends_stopped s w m m1 es stop end d e f tells state (IsCut p q piece is broke) c
     let at : SiteCall = call_name (lost_call w p q) in
     let left : (end ≡ Stopped (Site at)) × (f ≡ e) = subst (λ (t : Stop). ClosesFiles s m1 (Some t) end e f) is closes in
     Cut p q piece left.0
-    (subst (λ (c : SiteState). BreaksBehind at (sweep_calls s w m es) (lost_call w p q ∷ []) d c) (sym left.1) broke)
+    (subst (λ (c : SiteState). BreaksAfter at (sweep_calls s w m es) (lost_call w p q ∷ []) d c) (sym left.1) broke)
 ends_stopped s w m m1 es stop end d e f tells state (IsBroken before last call split is broke) closes =
     let left : (end ≡ Stopped (Site call)) × (f ≡ e) = subst (λ (t : Stop). ClosesFiles s m1 (Some t) end e f) is closes in
     Broken before last call split left.0
-    (subst (λ (c : SiteState). BreaksBehind call (sweep_calls s w m before ++ w.call last ∷ [])
-    (save_of s (due_save w (behind_pieces w m before) last)) d c) (sym left.1) broke)
+    (subst (λ (c : SiteState). BreaksAfter call (sweep_calls s w m before ++ w.call last ∷ [])
+    (save_of s (due_save w (after_pieces w m before) last)) d c) (sym left.1) broke)
 
 -- it stopped
 pub told_stopped : (G : Swept → Type 0) (s : Setting) (w : Sweeper) (m m1 : Sweep) (h h1 h2 : Bool) (stop : Stop) (end : RunEnd)

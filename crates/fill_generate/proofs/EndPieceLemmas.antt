@@ -28,7 +28,7 @@ use Rattle.fill_generate.specs.declared.sweeping.Piece.{Piece}
 use Rattle.fill_generate.specs.Modes.{current_in}
 use Rattle.fill_generate.specs.SweepState.{SweepState, setting_of, standing, moved}
 use Rattle.fill_generate.specs.Sweeping.{Around}
-use Rattle.fill_generate.specs.Steps.{heard_as, line_behind, save_behind, StepsPastPiece, EndsPiece, SavesLast, LastSaved, LastFailed}
+use Rattle.fill_generate.specs.Steps.{heard_as, line_after, save_after, StepsPastPiece, EndsPiece, SavesLast, LastSaved, LastFailed}
 use Rattle.fill_generate.proofs.TellLemmas.{between}
 
 -- the calls of a save that shows this
@@ -46,7 +46,7 @@ abbrev pub save_if : SweepState → Bool → List Call
 save_if r due = if due then save_calls r.names (text_of r.line (sweep_snapshot r.sweep)) else []
 
 -- The state behind a piece, what is said of it and whether it is heard.
-pub record Behind (piece : Piece) (written after : ℕ) (line : Bool) (r r1 r2 r3 : SweepState) (o : Around) : Type 0 where
+pub record After (piece : Piece) (written after : ℕ) (line : Bool) (r r1 r2 r3 : SweepState) (o : Around) : Type 0 where
   pub timed : ReadsClock (after ∷ []) o.clock o.clock'
   pub fit : after < 2 ^ 64
   pub moves : r1 ≡ standing r (moved (current_in r.mode) r.sweep piece.pos piece.len written after)
@@ -55,40 +55,40 @@ pub record Behind (piece : Piece) (written after : ℕ) (line : Bool) (r r1 r2 r
   pub says : SpeaksOn (out_pieces (line_if r1 line)) r1.heard r2.heard o.console o.console'
   pub stays : r3 ≡ r2
 
-behind_is : (piece : Piece) (written after : ℕ) (line : Bool) (r r1 r2 r3 : SweepState) (o : Around)
-    → Behind piece written after line r r1 r2 r3 o
+after_is : (piece : Piece) (written after : ℕ) (line : Bool) (r r1 r2 r3 : SweepState) (o : Around)
+    → After piece written after line r r1 r2 r3 o
     → r2 ≡ heard_as (standing r (moved (current_in r.mode) r.sweep piece.pos piece.len written after)) r2.heard
-behind_is piece written after line r r1 r2 r3 o b =
+after_is piece written after line r r1 r2 r3 o b =
     b.hears ∙ ap (λ (q : SweepState). heard_as q r2.heard) b.moves
 
 pub passes : (piece : Piece) (written after : ℕ) (line : Bool) (r r1 r2 r3 : SweepState) (o : Around)
-    → Behind piece written after line r r1 r2 r3 o → StepsPastPiece piece written after r r3 o
+    → After piece written after line r r1 r2 r3 o → StepsPastPiece piece written after r r3 o
 passes piece written after line r r1 r2 r3 o b =
     let m : Sweep = moved (current_in r.mode) r.sweep piece.pos piece.len written after in
-    let there : r2 ≡ heard_as (standing r m) r2.heard = behind_is piece written after line r r1 r2 r3 o b in
-    let lines : line_if r1 line ≡ line_behind r r2 after =
+    let there : r2 ≡ heard_as (standing r m) r2.heard = after_is piece written after line r r1 r2 r3 o b in
+    let lines : line_if r1 line ≡ line_after r r2 after =
     ap (λ (q : SweepState). line_if q line) b.moves ∙ ap (line_if (standing r m)) b.due
-    ∙ ap (λ (q : SweepState). line_behind r q after) (sym there) in
+    ∙ ap (λ (q : SweepState). line_after r q after) (sym there) in
     subst (λ (q : SweepState). StepsPastPiece piece written after r q o) (sym b.stays) (record {
       timed = b.timed;
       fit = b.fit;
       stands = there;
-      says = subst (λ (h : Bool). SpeaksOn (out_pieces (line_behind r r2 after)) h r2.heard o.console o.console')
+      says = subst (λ (h : Bool). SpeaksOn (out_pieces (line_after r r2 after)) h r2.heard o.console o.console')
           (ap (λ (q : SweepState). q.heard) b.moves)
           (subst (λ (ls : List (List ℕ)). SpeaksOn (out_pieces ls) r1.heard r2.heard o.console o.console') lines b.says);
     })
 
 -- the save that is due
 pub due_is : (piece : Piece) (written after : ℕ) (line save : Bool) (r r1 r2 r3 : SweepState) (o : Around)
-    → Behind piece written after line r r1 r2 r3 o → save ≡ nat_le (r.sweep.due_at + save_interval) after
-    → save_if r2 save ≡ save_behind r r3 after
+    → After piece written after line r r1 r2 r3 o → save ≡ nat_le (r.sweep.due_at + save_interval) after
+    → save_if r2 save ≡ save_after r r3 after
 due_is piece written after line save r r1 r2 r3 o b is =
     let m : Sweep = moved (current_in r.mode) r.sweep piece.pos piece.len written after in
     let due : Bool = nat_le (r.sweep.due_at + save_interval) after in
-    let there : r2 ≡ heard_as (standing r m) r2.heard = behind_is piece written after line r r1 r2 r3 o b in
+    let there : r2 ≡ heard_as (standing r m) r2.heard = after_is piece written after line r r1 r2 r3 o b in
     ap (save_if r2) is ∙ ap (λ (q : SweepState). save_if q due) there
-    ∙ ap (λ (q : SweepState). save_behind r q after) (sym there)
-    ∙ ap (λ (q : SweepState). save_behind r q after) (sym b.stays)
+    ∙ ap (λ (q : SweepState). save_after r q after) (sym there)
+    ∙ ap (λ (q : SweepState). save_after r q after) (sym b.stays)
 
 -- What is shown last.
 abbrev pub ShowsLast : Option Stop → (shown last : MapState) → Type 0
@@ -136,7 +136,7 @@ pub ends_whole : {T : Type 0} (v : T) (piece : Piece) (written after : ℕ) (lin
     → SpeaksOn (out_pieces (line_if r1 line)) r1.heard r2.heard x y → r3 ≡ r2 → Makes (save_if r2 save) a c
     → EndsPiece {T = T} (Ok v) piece written r r3 (between a c k l x y)
 ends_whole v piece written after line save r r1 r2 r3 a c k l x y timed fit moves due is hears says stays makes =
-    let b : Behind piece written after line r r1 r2 r3 (between a c k l x y) =
+    let b : After piece written after line r r1 r2 r3 (between a c k l x y) =
     record { timed = timed; fit = fit; moves = moves; due = due; hears = hears; says = says; stays = stays } in
     record {
       after = after;
@@ -156,9 +156,9 @@ pub ends_broken : {T : Type 0} (call : SiteCall) (piece : Piece) (written after 
     → Breaks call (save_if r2 save) a c
     → EndsPiece {T = T} (Err (Site call)) piece written r r3 (between a c k l x y)
 ends_broken call piece written after line save r r1 r2 r3 a c k l x y timed fit moves due is hears says stays named breaks =
-    let b : Behind piece written after line r r1 r2 r3 (between a c k l x y) =
+    let b : After piece written after line r r1 r2 r3 (between a c k l x y) =
     record { timed = timed; fit = fit; moves = moves; due = due; hears = hears; says = says; stays = stays } in
-    let saves : save_if r2 save ≡ save_behind r r3 after =
+    let saves : save_if r2 save ≡ save_after r r3 after =
     due_is piece written after line save r r1 r2 r3 (between a c k l x y) b is in
     record {
       after = after;

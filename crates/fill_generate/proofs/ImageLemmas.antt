@@ -14,7 +14,7 @@ use Rattle.save_resume.specs.Saving.{save_calls}
 use Rattle.rescue_rules.specs.Setting.{Setting, place}
 use Rattle.rescue_rules.specs.Snapshots.{Snapshot, text_of}
 use Rattle.rescue_rules.specs.Deeds.{save_of, deed_calls}
-use Rattle.sweep_rules.specs.Sweep.{Sweep, Swept, generator, behind_piece, due_save}
+use Rattle.sweep_rules.specs.Sweep.{Sweep, Swept, generator, after_piece, due_save}
 use Rattle.sweep_rules.specs.SweepWork.{sweep_calls}
 use Rattle.fill_generate.specs.Sweeping.{IsApart}
 use Rattle.fill_generate.specs.Steps.{deed_of, IsLookedUp}
@@ -83,14 +83,14 @@ swept_untouched s m [] d apart = record { image = refl; file = refl }
 swept_untouched s m (e ∷ es) d apart =
     let w = generator s in
     let front : List Call = deed_calls s (deed_of w m e) in
-    let back : List Call = sweep_calls s w (behind_piece w m e) es in
+    let back : List Call = sweep_calls s w (after_piece w m e) es in
     let mid : Folder = after d (map Done front) in
     let one : Untouched d mid = saved_if d s (due_save w m e) apart in
     let is : after d (map Done (front ++ back)) ≡ after mid (map Done back) =
     ap (after d) (map-append Done front back) ∙ after-append d (map Done front) (map Done back) in
     subst (λ (f : Folder). Untouched d f) (sym is)
     (untouched_more d mid (after mid (map Done back)) one
-    (swept_untouched s (behind_piece w m e) es mid (apart_on s.names d mid one apart)))
+    (swept_untouched s (after_piece w m e) es mid (apart_on s.names d mid one apart)))
 
 -- what is looked up in it then is what it held before
 pub looked_before : (s : Setting) (m : Sweep) (es : List Swept) (a b : SiteState) → Keeps a b

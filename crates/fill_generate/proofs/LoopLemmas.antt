@@ -15,40 +15,40 @@ use Rattle.rescue_rules.specs.declared.stop.Stop.{Stop}
 use Rattle.rescue_rules.specs.Setting.{Setting}
 use Rattle.rescue_rules.specs.Laws.{AreTimes}
 use Rattle.rescue_rules.specs.Deeds.{Deed, save_of, deed_calls}
-use Rattle.sweep_rules.specs.Sweep.{Sweeper, Sweep, Swept, IsPiece, IsSweep, behind_piece, behind_pieces, due_save, deeds_of}
+use Rattle.sweep_rules.specs.Sweep.{Sweeper, Sweep, Swept, IsPiece, IsSweep, after_piece, after_pieces, due_save, deeds_of}
 use Rattle.sweep_rules.specs.SweepWork.{sweep_calls, piece_lines, pieces_lines, lost_call}
-use Rattle.fill_generate.specs.Sweeping.{BreaksBehind, times_behind}
+use Rattle.fill_generate.specs.Sweeping.{BreaksAfter, times_after}
 use Rattle.fill_generate.specs.Steps.{deed_of, DoesPiece, DidPiece, Halted, Starved, Uncalled, Unsaved, SweepWent, WentOn, WentUpTo, IsStarved, IsCut, IsBroken}
-use Rattle.fill_generate.proofs.TellLemmas.{between, timed_none, timed_more, makes_none, makes_more, breaks_behind, breaks_more, says_none, says_more}
+use Rattle.fill_generate.proofs.TellLemmas.{between, timed_none, timed_more, makes_none, makes_more, breaks_after, breaks_more, says_none, says_more}
 
 pub swept_more : (w : Sweeper) (m : Sweep) (es : List Swept) (e : Swept)
-    → behind_pieces w m (es ++ e ∷ []) ≡ behind_piece w (behind_pieces w m es) e
+    → after_pieces w m (es ++ e ∷ []) ≡ after_piece w (after_pieces w m es) e
 swept_more w m [] e = refl
-swept_more w m (d ∷ es) e = swept_more w (behind_piece w m d) es e
+swept_more w m (d ∷ es) e = swept_more w (after_piece w m d) es e
 
 sweep_more : (s : Setting) (w : Sweeper) (m : Sweep) (es : List Swept) (e : Swept) → IsSweep s w m es
-    → IsPiece s w (behind_pieces w m es) e.pos (e.pos + e.len) → w.gives e ≡ true → IsSweep s w m (es ++ e ∷ [])
+    → IsPiece s w (after_pieces w m es) e.pos (e.pos + e.len) → w.gives e ≡ true → IsSweep s w m (es ++ e ∷ [])
 sweep_more s w m [] e run piece gives = (piece, gives, tt)
-sweep_more s w m (d ∷ es) e run piece gives = (run.0, run.1, sweep_more s w (behind_piece w m d) es e run.2 piece gives)
+sweep_more s w m (d ∷ es) e run piece gives = (run.0, run.1, sweep_more s w (after_piece w m d) es e run.2 piece gives)
 
 deeds_more : (w : Sweeper) (m : Sweep) (es : List Swept) (e : Swept)
-    → deeds_of w m (es ++ e ∷ []) ≡ deeds_of w m es ++ deed_of w (behind_pieces w m es) e ∷ []
+    → deeds_of w m (es ++ e ∷ []) ≡ deeds_of w m es ++ deed_of w (after_pieces w m es) e ∷ []
 deeds_more w m [] e = refl
-deeds_more w m (d ∷ es) e = ap (λ (ds : List Deed). deed_of w m d ∷ ds) (deeds_more w (behind_piece w m d) es e)
+deeds_more w m (d ∷ es) e = ap (λ (ds : List Deed). deed_of w m d ∷ ds) (deeds_more w (after_piece w m d) es e)
 
 pub calls_more : (s : Setting) (w : Sweeper) (m : Sweep) (es : List Swept) (e : Swept)
-    → sweep_calls s w m (es ++ e ∷ []) ≡ sweep_calls s w m es ++ deed_calls s (deed_of w (behind_pieces w m es) e)
+    → sweep_calls s w m (es ++ e ∷ []) ≡ sweep_calls s w m es ++ deed_calls s (deed_of w (after_pieces w m es) e)
 calls_more s w m es e =
     ap (flat_map (deed_calls s)) (deeds_more w m es e)
-    ∙ flat_map-append (deed_calls s) (deeds_of w m es) (deed_of w (behind_pieces w m es) e ∷ [])
-    ∙ ap (λ (cs : List Call). sweep_calls s w m es ++ cs) (append-nil (deed_calls s (deed_of w (behind_pieces w m es) e)))
+    ∙ flat_map-append (deed_calls s) (deeds_of w m es) (deed_of w (after_pieces w m es) e ∷ [])
+    ∙ ap (λ (cs : List Call). sweep_calls s w m es ++ cs) (append-nil (deed_calls s (deed_of w (after_pieces w m es) e)))
 
 pub lines_more : (s : Setting) (w : Sweeper) (m : Sweep) (es : List Swept) (e : Swept)
-    → pieces_lines s w m (es ++ e ∷ []) ≡ pieces_lines s w m es ++ piece_lines s w (behind_pieces w m es) e
+    → pieces_lines s w m (es ++ e ∷ []) ≡ pieces_lines s w m es ++ piece_lines s w (after_pieces w m es) e
 lines_more s w m [] e = append-nil (piece_lines s w m e)
 lines_more s w m (d ∷ es) e =
-    ap (λ (ls : List (List ℕ)). piece_lines s w m d ++ ls) (lines_more s w (behind_piece w m d) es e)
-    ∙ sym (append_assoc (piece_lines s w m d) (pieces_lines s w (behind_piece w m d) es) (piece_lines s w (behind_pieces w (behind_piece w m d) es) e))
+    ap (λ (ls : List (List ℕ)). piece_lines s w m d ++ ls) (lines_more s w (after_piece w m d) es e)
+    ∙ sym (append_assoc (piece_lines s w m d) (pieces_lines s w (after_piece w m d) es) (piece_lines s w (after_pieces w (after_piece w m d) es) e))
 
 -- no piece
 went_none : (G : Swept → Type 0) (s : Setting) (w : Sweeper) (m : Sweep) (h : Bool) (d : SiteState) (k : ClockState) (x : ConsoleState)
@@ -70,17 +70,17 @@ went_more : (G : Swept → Type 0) (s : Setting) (w : Sweeper) (m m1 m2 : Sweep)
 went_more G s w m m1 m2 h h1 h2 es e d e1 f k l n x y z g t =
     let small : ℕ → Type 0 = λ n. n < 2 ^ 64 in
     let time : Swept → ℕ = λ e. e.after in
-    let times : times_behind es ++ e.after ∷ [] ≡ times_behind (es ++ e ∷ []) = sym (map-append time es (e ∷ [])) in
-    let there : IsPiece s w (behind_pieces w m es) e.pos (e.pos + e.len) = subst (λ (q : Sweep). IsPiece s w q e.pos (e.pos + e.len)) g.state t.asks in
+    let times : times_after es ++ e.after ∷ [] ≡ times_after (es ++ e ∷ []) = sym (map-append time es (e ∷ [])) in
+    let there : IsPiece s w (after_pieces w m es) e.pos (e.pos + e.len) = subst (λ (q : Sweep). IsPiece s w q e.pos (e.pos + e.len)) g.state t.asks in
     record {
       run = sweep_more s w m es e g.run there t.gives;
       given = All-append G es (e ∷ []) g.given (All-cons G e [] t.given (All-nil G));
-      state = t.steps ∙ ap (λ (q : Sweep). behind_piece w q e) g.state ∙ sym (swept_more w m es e);
-      timed = subst (λ (ts : List ℕ). ReadsClock ts k n) times (timed_more (times_behind es) (e.after ∷ []) k l n g.timed t.timed);
-      fit = subst AreTimes times (All-append small (times_behind es) (e.after ∷ []) g.fit
+      state = t.steps ∙ ap (λ (q : Sweep). after_piece w q e) g.state ∙ sym (swept_more w m es e);
+      timed = subst (λ (ts : List ℕ). ReadsClock ts k n) times (timed_more (times_after es) (e.after ∷ []) k l n g.timed t.timed);
+      fit = subst AreTimes times (All-append small (times_after es) (e.after ∷ []) g.fit
           (All-cons small e.after [] t.fit (All-nil small)));
       says = subst (λ (ls : List (List ℕ)). SpeaksOn (out_pieces ls) h h2 x z) (sym (lines_more s w m es e))
-          (says_more (pieces_lines s w m es) (piece_lines s w (behind_pieces w m es) e) h h1 h2 x y z g.says
+          (says_more (pieces_lines s w m es) (piece_lines s w (after_pieces w m es) e) h h1 h2 x y z g.says
           (subst (λ (q : Sweep). SpeaksOn (out_pieces (piece_lines s w q e)) h1 h2 y z) g.state t.says));
     }
 
@@ -92,7 +92,7 @@ went_still G s w m m1 m2 h h1 h2 es d e f k l n x y z g state heard clock consol
   run = g.run;
   given = g.given;
   state = state ∙ g.state;
-  timed = subst (λ (c : ClockState). ReadsClock (times_behind es) k c) (sym clock) g.timed;
+  timed = subst (λ (c : ClockState). ReadsClock (times_after es) k c) (sym clock) g.timed;
   fit = g.fit;
   says = subst (λ (c : ConsoleState). SpeaksOn (out_pieces (pieces_lines s w m es)) h h2 x c) (sym console)
       (subst (λ (b : Bool). SpeaksOn (out_pieces (pieces_lines s w m es)) h b x y) (sym heard) g.says);
@@ -107,13 +107,13 @@ pub goes_on : (G : Swept → Type 0) (s : Setting) (w : Sweeper) (m m1 m2 : Swee
     → WentOn G s w m m1 h h1 (between d e k l x y) → DidPiece G s w m1 m2 h1 h2 (between e f l n y z)
     → WentOn G s w m m2 h h2 (between d f k n x z)
 goes_on G s w m m1 m2 h h1 h2 d e f k l n x y z tells g t =
-    let calls : Makes (deed_calls s (deed_of w (behind_pieces w m g.events) t.event)) e f =
+    let calls : Makes (deed_calls s (deed_of w (after_pieces w m g.events) t.event)) e f =
     subst (λ (q : Sweep). Makes (deed_calls s (deed_of w q t.event)) e f) g.went.state t.calls in
     record {
       events = g.events ++ t.event ∷ [];
       went = went_more G s w m m1 m2 h h1 h2 g.events t.event d e f k l n x y z g.went t.takes;
       made = subst (λ (cs : List Call). Makes cs d f) (sym (calls_more s w m g.events t.event))
-          (makes_more (sweep_calls s w m g.events) (deed_calls s (deed_of w (behind_pieces w m g.events) t.event)) d e f tells
+          (makes_more (sweep_calls s w m g.events) (deed_calls s (deed_of w (after_pieces w m g.events) t.event)) d e f tells
           g.made calls);
     }
 
@@ -133,7 +133,7 @@ halts G s w m m1 m2 h h1 h2 stop p q d e f k l n x y z tells piece g
       events = g.events;
       went = went_still G s w m m1 m2 h h1 h2 g.events d e f k l n x y z g.went state heard clock console;
       stops = IsCut a b (subst (λ (v : Sweep). IsPiece s w v a b) g.went.state asks) is
-          (breaks_behind (call_name (lost_call w a b)) (sweep_calls s w m g.events) (lost_call w a b ∷ []) d e f tells g.made
+          (breaks_after (call_name (lost_call w a b)) (sweep_calls s w m g.events) (lost_call w a b ∷ []) d e f tells g.made
           (inl refl) breaks);
     }
 halts G s w m m1 m2 h h1 h2 stop p q d e f k l n x y z tells piece g (Unsaved event takes call is broke) = record {
@@ -141,6 +141,6 @@ halts G s w m m1 m2 h h1 h2 stop p q d e f k l n x y z tells piece g (Unsaved ev
   went = went_more G s w m m1 m2 h h1 h2 g.events event d e f k l n x y z g.went takes;
   stops = IsBroken g.events event call refl is
       (breaks_more call (sweep_calls s w m g.events) (w.call event ∷ [])
-      (save_of s (due_save w (behind_pieces w m g.events) event)) d e f tells g.made
-      (subst (λ (v : Sweep). BreaksBehind call (w.call event ∷ []) (save_of s (due_save w v event)) e f) g.went.state broke));
+      (save_of s (due_save w (after_pieces w m g.events) event)) d e f tells g.made
+      (subst (λ (v : Sweep). BreaksAfter call (w.call event ∷ []) (save_of s (due_save w v event)) e f) g.went.state broke));
 }

@@ -21,24 +21,24 @@ use Rattle.fill_generate.proofs.TellLemmas.{between, clock_self}
 use Rattle.fill_generate.proofs.PieceLemmas.{done_at, marked_with, took, unsaved, uncalled, lost_read, generates_is}
 
 -- behind a piece the same sweep stands elsewhere
-gone_behind : (w : Sweeper) (r r1 r2 : SweepState) (e : Swept) (m : Sweep) (h : Bool) → r1 ≡ marked_with w r e
+gone_after : (w : Sweeper) (r r1 r2 : SweepState) (e : Swept) (m : Sweep) (h : Bool) → r1 ≡ marked_with w r e
     → r2 ≡ heard_as (standing r1 m) h → r2 ≡ gone_to r r2
-gone_behind w r r1 r2 e m h marked is =
+gone_after w r r1 r2 e m h marked is =
     let there : r2 ≡ heard_as (standing r m) h = is ∙ ap (λ (q : SweepState). heard_as (standing q m) h) marked in
     there ∙ ap (λ (q : SweepState). gone_to r q) (sym there)
 
-pub goes_behind : {T : Type 0} (result : Result T Stop) (piece : Piece) (written : ℕ) (r r2 : SweepState) (o : Around)
+pub goes_after : {T : Type 0} (result : Result T Stop) (piece : Piece) (written : ℕ) (r r2 : SweepState) (o : Around)
     → EndsPiece result piece written r r2 o → r2 ≡ gone_to r r2
-goes_behind result piece written r r2 o ends =
+goes_after result piece written r r2 o ends =
     ends.passes.stands ∙ ap (λ (q : SweepState). gone_to r q) (sym ends.passes.stands)
 
 ok_so : {T : Type 0} (result : Result T Stop) (P : Type 0) → P → OnOk result P
 ok_so (Ok v) P holds = holds
 ok_so (Err stop) P holds = tt
 
-pub passes_behind : {T : Type 0} (result : Result T Stop) (piece : Piece) (written : ℕ) (r r2 : SweepState) (o : Around)
+pub passes_after : {T : Type 0} (result : Result T Stop) (piece : Piece) (written : ℕ) (r r2 : SweepState) (o : Around)
     → EndsPiece result piece written r r2 o → OnOk result (r2.sweep.cursor ≡ piece.pos + piece.len)
-passes_behind result piece written r r2 o ends =
+passes_after result piece written r r2 o ends =
     ok_so result (r2.sweep.cursor ≡ piece.pos + piece.len) (ap (λ (q : SweepState). q.sweep.cursor) ends.passes.stands)
 
 -- Its call returned.
@@ -50,7 +50,7 @@ pub piece_ends : {T : Type 0} (G : Swept → Type 0) (w : Sweeper) (r r1 r2 : Sw
     → OnOk result (c.is_drafting ≡ false) → IfErr result (λ stop. c.is_drafting ≡ drafting_at_stop stop)
     → ObjectsStay (between a c k l x y) → PieceEnds G result w piece r r2 (between a c k l x y)
 piece_ends G w r r1 r2 piece got written (Ok v) a b c k l x y tells of found gives given marked writes call ends no_draft left objects = record {
-  stands = gone_behind w r r1 r2 (done_at piece got ends.after)
+  stands = gone_after w r r1 r2 (done_at piece got ends.after)
       (moved (current_in r1.mode) r1.sweep piece.pos piece.len written ends.after) r2.heard (marked ends.after)
       ends.passes.stands;
   took = took G w r r1 r2 piece got written ends.after a b c k l x y tells of found (gives ends.after) (given ends.after)
@@ -62,7 +62,7 @@ piece_ends G w r r1 r2 piece got written (Ok v) a b c k l x y tells of found giv
   objects = objects;
 }
 piece_ends G w r r1 r2 piece got written (Err stop) a b c k l x y tells of found gives given marked writes call ends no_draft left objects = record {
-  stands = gone_behind w r r1 r2 (done_at piece got ends.after)
+  stands = gone_after w r r1 r2 (done_at piece got ends.after)
       (moved (current_in r1.mode) r1.sweep piece.pos piece.len written ends.after) r2.heard (marked ends.after)
       ends.passes.stands;
   took = tt;

@@ -19,15 +19,15 @@ use Rattle.rescue_rules.specs.Step.{save_interval}
 use Rattle.rescue_rules.specs.Said.{is_line_due}
 use Rattle.rescue_rules.specs.Lines.{phase_front, report_text}
 use Rattle.rescue_rules.specs.Deeds.{save_of}
-use Rattle.sweep_rules.specs.Sweep.{Sweeper, Sweep, Swept, behind_piece, due_save, sweep_snapshot, filler, generator}
+use Rattle.sweep_rules.specs.Sweep.{Sweeper, Sweep, Swept, after_piece, due_save, sweep_snapshot, filler, generator}
 use Rattle.sweep_rules.specs.SweepWork.{piece_lines, lost_call, sweep_report}
 use Rattle.fill_generate.specs.declared.sweeping.Piece.{Piece}
 use Rattle.fill_generate.specs.declared.mode.SweepMode.TheVariants.{Fill, Generate}
 use Rattle.fill_generate.specs.Modes.{IsSweeperOf, current_in}
 use Rattle.fill_generate.specs.SweepState.{SweepState, setting_of, standing, moved}
 use Rattle.fill_generate.specs.Sweeping.{Around}
-use Rattle.fill_generate.specs.Steps.{IsFound, heard_as, line_behind, save_behind, DoesPiece, DidPiece, StepsPastPiece, BreaksSave, Halted, Uncalled, Unsaved}
-use Rattle.fill_generate.proofs.TellLemmas.{between, makes_more, breaks_behind}
+use Rattle.fill_generate.specs.Steps.{IsFound, heard_as, line_after, save_after, DoesPiece, DidPiece, StepsPastPiece, BreaksSave, Halted, Uncalled, Unsaved}
+use Rattle.fill_generate.proofs.TellLemmas.{between, makes_more, breaks_after}
 
 -- a piece that was done, with what the output gave for it, at this time
 abbrev pub done_at : Piece → (got : List ℕ) → (after : ℕ) → Swept
@@ -38,10 +38,10 @@ abbrev pub marked_with : Sweeper → SweepState → Swept → SweepState
 marked_with w r e = standing r (record r.sweep { map = w.marks r.sweep.map e })
 
 -- the state behind it
-stands_behind : (w : Sweeper) (r r1 r2 : SweepState) (piece : Piece) (got : List ℕ) (written after : ℕ) (o : Around)
+stands_after : (w : Sweeper) (r r1 r2 : SweepState) (piece : Piece) (got : List ℕ) (written after : ℕ) (o : Around)
     → IsSweeperOf r.mode w → r1 ≡ marked_with w r (done_at piece got after) → w.writes (done_at piece got after) ≡ written
-    → StepsPastPiece piece written after r1 r2 o → r2 ≡ heard_as (standing r (behind_piece w r.sweep (done_at piece got after))) r2.heard
-stands_behind w r r1 r2 piece got written after o of marked writes p =
+    → StepsPastPiece piece written after r1 r2 o → r2 ≡ heard_as (standing r (after_piece w r.sweep (done_at piece got after))) r2.heard
+stands_after w r r1 r2 piece got written after o of marked writes p =
     let e : Swept = done_at piece got after in
     p.stands
     ∙ ap (λ (q : SweepState). heard_as (standing q (moved (current_in q.mode) q.sweep piece.pos piece.len written after)) r2.heard) marked
@@ -52,7 +52,7 @@ stands_behind w r r1 r2 piece got written after o of marked writes p =
 abbrev lines_with : Setting → Sweeper → Sweep → Swept → Current → List (List ℕ)
 lines_with s w m e current =
     if is_line_due m.said current (e.after / 1000)
-    then report_text (phase_front (behind_piece w m e).shown) (sweep_report s (behind_piece w m e)) ∷ []
+    then report_text (phase_front (after_piece w m e).shown) (sweep_report s (after_piece w m e)) ∷ []
     else []
 
 pub takes : (G : Swept → Type 0) (w : Sweeper) (r r1 r2 : SweepState) (piece : Piece) (got : List ℕ) (written after : ℕ) (o : Around)
@@ -63,11 +63,11 @@ pub takes : (G : Swept → Type 0) (w : Sweeper) (r r1 r2 : SweepState) (piece :
 takes G w r r1 r2 piece got written after o of found gives given marked writes p =
     let e : Swept = done_at piece got after in
     let s : Setting = setting_of r in
-    let there : r2 ≡ heard_as (standing r (behind_piece w r.sweep e)) r2.heard =
-    stands_behind w r r1 r2 piece got written after o of marked writes p in
-    let lines : line_behind r1 r2 after ≡ piece_lines s w r.sweep e =
-    ap (λ (q : SweepState). line_behind q r2 after) marked
-    ∙ ap (λ (q : SweepState). line_behind (marked_with w r e) q after) there
+    let there : r2 ≡ heard_as (standing r (after_piece w r.sweep e)) r2.heard =
+    stands_after w r r1 r2 piece got written after o of marked writes p in
+    let lines : line_after r1 r2 after ≡ piece_lines s w r.sweep e =
+    ap (λ (q : SweepState). line_after q r2 after) marked
+    ∙ ap (λ (q : SweepState). line_after (marked_with w r e) q after) there
     ∙ ap (λ (c : Current). lines_with s w r.sweep e c) (sym of.current) in
     record {
       asks = found.next w of;
@@ -77,7 +77,7 @@ takes G w r r1 r2 piece got written after o of found gives given marked writes p
       timed = p.timed;
       fit = p.fit;
       says = subst (λ (ls : List (List ℕ)). SpeaksOn (out_pieces ls) r.heard r2.heard o.console o.console') lines
-          (subst (λ (h : Bool). SpeaksOn (out_pieces (line_behind r1 r2 after)) h r2.heard o.console o.console')
+          (subst (λ (h : Bool). SpeaksOn (out_pieces (line_after r1 r2 after)) h r2.heard o.console o.console')
           (ap (λ (q : SweepState). q.heard) marked) p.says);
     }
 
@@ -90,13 +90,13 @@ save_if s false p = refl
 pub save_is : (w : Sweeper) (r r1 r2 : SweepState) (piece : Piece) (got : List ℕ) (written after : ℕ) (o : Around)
     → IsSweeperOf r.mode w → r1 ≡ marked_with w r (done_at piece got after) → w.writes (done_at piece got after) ≡ written
     → StepsPastPiece piece written after r1 r2 o
-    → save_behind r1 r2 after ≡ save_of (setting_of r) (due_save w r.sweep (done_at piece got after))
+    → save_after r1 r2 after ≡ save_of (setting_of r) (due_save w r.sweep (done_at piece got after))
 save_is w r r1 r2 piece got written after o of marked writes p =
     let e : Swept = done_at piece got after in
-    ap (λ (q : SweepState). save_behind q r2 after) marked
-    ∙ ap (λ (q : SweepState). save_behind (marked_with w r e) q after)
-    (stands_behind w r r1 r2 piece got written after o of marked writes p)
-    ∙ save_if (setting_of r) (nat_le (r.sweep.due_at + save_interval) after) (sweep_snapshot (behind_piece w r.sweep e))
+    ap (λ (q : SweepState). save_after q r2 after) marked
+    ∙ ap (λ (q : SweepState). save_after (marked_with w r e) q after)
+    (stands_after w r r1 r2 piece got written after o of marked writes p)
+    ∙ save_if (setting_of r) (nat_le (r.sweep.due_at + save_interval) after) (sweep_snapshot (after_piece w r.sweep e))
 
 -- A piece was done, with its call and the save that was due,
 pub took : (G : Swept → Type 0) (w : Sweeper) (r r1 r2 : SweepState) (piece : Piece) (got : List ℕ) (written after : ℕ)
@@ -104,7 +104,7 @@ pub took : (G : Swept → Type 0) (w : Sweeper) (r r1 r2 : SweepState) (piece : 
     → IsSweeperOf r.mode w → IsFound r piece → w.gives (done_at piece got after) ≡ true → G (done_at piece got after)
     → r1 ≡ marked_with w r (done_at piece got after) → w.writes (done_at piece got after) ≡ written
     → Makes (w.call (done_at piece got after) ∷ []) a b → StepsPastPiece piece written after r1 r2 (between b c k l x y)
-    → Makes (save_behind r1 r2 after) b c
+    → Makes (save_after r1 r2 after) b c
     → DidPiece G (setting_of r) w r.sweep r2.sweep r.heard r2.heard (between a c k l x y)
 took G w r r1 r2 piece got written after a b c k l x y tells of found gives given marked writes call p saves =
     let e : Swept = done_at piece got after in
@@ -125,19 +125,19 @@ pub unsaved : (G : Swept → Type 0) (w : Sweeper) (r r1 r2 : SweepState) (piece
     → IsSweeperOf r.mode w → IsFound r piece → w.gives (done_at piece got after) ≡ true → G (done_at piece got after)
     → r1 ≡ marked_with w r (done_at piece got after) → w.writes (done_at piece got after) ≡ written
     → Makes (w.call (done_at piece got after) ∷ []) a b → StepsPastPiece piece written after r1 r2 (between b c k l x y)
-    → BreaksSave stop (save_behind r1 r2 after) b c
+    → BreaksSave stop (save_after r1 r2 after) b c
     → Halted G (setting_of r) w r.sweep r2.sweep r.heard r2.heard stop (between a c k l x y)
 unsaved G w r r1 r2 piece got written after stop a b c k l x y tells of found gives given marked writes call p broke =
     let e : Swept = done_at piece got after in
     let s : Setting = setting_of r in
     let t : DoesPiece G s w r.sweep r2.sweep r.heard r2.heard e (between b c k l x y) =
     takes G w r r1 r2 piece got written after (between b c k l x y) of found gives given marked writes p in
-    let saves : save_behind r1 r2 after ≡ save_of s (due_save w r.sweep e) =
+    let saves : save_after r1 r2 after ≡ save_of s (due_save w r.sweep e) =
     save_is w r r1 r2 piece got written after (between b c k l x y) of marked writes p in
     Unsaved e
     (record { asks = t.asks; gives = t.gives; given = t.given; steps = t.steps; timed = t.timed; fit = t.fit; says = t.says })
     broke.call broke.is
-    (breaks_behind broke.call (w.call e ∷ []) (save_of s (due_save w r.sweep e)) a b c tells call
+    (breaks_after broke.call (w.call e ∷ []) (save_of s (due_save w r.sweep e)) a b c tells call
     (subst (λ (cs : List Call). IsNameIn broke.call cs) saves broke.named)
     (subst (λ (cs : List Call). Breaks broke.call cs b c) saves broke.breaks))
 

@@ -14,7 +14,7 @@ use Rattle.rescue_console.specs.ClockState.{ClockState, Keeps as ClockKeeps, Rea
 use Rattle.rescue_console.specs.ConsoleState.{ConsoleState}
 use Rattle.rescue_console.specs.Speaking.{SpokenPiece as Said, SpeaksOn, out_pieces}
 use Rattle.rescue_console.proofs.SpeakingLemmas.{speeches_join}
-use Rattle.fill_generate.specs.Sweeping.{Around, BreaksBehind}
+use Rattle.fill_generate.specs.Sweeping.{Around, BreaksAfter}
 use Rattle.fill_generate.specs.Steps.{ObjectsStay}
 
 -- what the objects tell, named apart
@@ -46,16 +46,16 @@ makes_more xs ys a b c same f g = record {
 }
 
 -- calls that broke off behind ones that were made
-pub breaks_behind : (at : SiteCall) (xs ys : List Call) (a b c : SiteState) → b.tells ≡ a.tells → Makes xs a b → IsNameIn at ys
-    → Breaks at ys b c → BreaksBehind at xs ys a c
-breaks_behind at xs ys a b c same f named g = record {
+pub breaks_after : (at : SiteCall) (xs ys : List Call) (a b c : SiteState) → b.tells ≡ a.tells → Makes xs a b → IsNameIn at ys
+    → Breaks at ys b c → BreaksAfter at xs ys a c
+breaks_after at xs ys a b c same f named g = record {
   named = named;
   broke = λ tells. subst (λ (es : List Entry). BrokeAt at ys es c.calls) (f.made tells) (g.broke (rw same tells));
   rose = rw (← f.faults) g.rose;
 }
 
 pub breaks_more : (at : SiteCall) (xs ys zs : List Call) (a b c : SiteState) → b.tells ≡ a.tells → Makes xs a b
-    → BreaksBehind at ys zs b c → BreaksBehind at (xs ++ ys) zs a c
+    → BreaksAfter at ys zs b c → BreaksAfter at (xs ++ ys) zs a c
 breaks_more at xs ys zs a b c same f g = record {
   named = g.named;
   broke = λ tells. subst (λ (es : List Entry). BrokeAt at zs es c.calls)

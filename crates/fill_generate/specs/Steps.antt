@@ -23,12 +23,12 @@ use Rattle.save_resume.specs.Saving.{save_calls, IsNameIn, drafting_after_fault}
 use Rattle.rescue_rules.specs.Laws.{AreTimes}
 use Rattle.rescue_rules.specs.Work.{end_of}
 use Rattle.rescue_rules.specs.Deeds.{Deed, save_of, deed_calls}
-use Rattle.sweep_rules.specs.Sweep.{Sweeper, Sweep, Swept, IsPiece, IsSweep, IsSweptOut, is_generated, behind_piece, behind_pieces, due_save, sweep_snapshot, sweep_end}
+use Rattle.sweep_rules.specs.Sweep.{Sweeper, Sweep, Swept, IsPiece, IsSweep, IsSweptOut, is_generated, after_piece, after_pieces, due_save, sweep_snapshot, sweep_end}
 use Rattle.sweep_rules.specs.SweepWork.{sweep_report, sweep_calls, piece_lines, pieces_lines, lost_call}
 use Rattle.fill_generate.specs.declared.sweeping.Piece.{Piece}
 use Rattle.fill_generate.specs.SweepState.{SweepState, setting_of, standing, moved}
 use Rattle.fill_generate.specs.Modes.{IsSweeperOf, current_in}
-use Rattle.fill_generate.specs.Sweeping.{Around, BreaksBehind, times_behind, IsApart}
+use Rattle.fill_generate.specs.Sweeping.{Around, BreaksAfter, times_after, IsApart}
 use Rattle.fill_generate.specs.Marking.{finished_at, piece_at}
 use Rattle.rescue_core.specs.Closing.{drafting_at_stop}
 
@@ -52,14 +52,14 @@ abbrev pub heard_as : SweepState → Bool → SweepState
 heard_as r heard = record r { heard = heard }
 
 -- the line behind a piece, if one is due at this time, and the save
-abbrev pub line_behind : (r r' : SweepState) → (after : ℕ) → List (List ℕ)
-line_behind r r' after =
+abbrev pub line_after : (r r' : SweepState) → (after : ℕ) → List (List ℕ)
+line_after r r' after =
     if is_line_due r.sweep.said (current_in r.mode) (after / 1000)
     then report_text (phase_front r'.sweep.shown) (sweep_report (setting_of r) r'.sweep) ∷ []
     else []
 
-abbrev pub save_behind : (r r' : SweepState) → (after : ℕ) → List Call
-save_behind r r' after =
+abbrev pub save_after : (r r' : SweepState) → (after : ℕ) → List Call
+save_after r r' after =
     if nat_le (r.sweep.due_at + save_interval) after
     then save_calls r.names (text_of r.line (sweep_snapshot r'.sweep)) else []
 
@@ -80,7 +80,7 @@ pub record DoesPiece (G : Swept → Type 0) (s : Setting) (w : Sweeper) (m m' : 
   pub asks : IsPiece s w m e.pos (e.pos + e.len)
   pub gives : w.gives e ≡ true
   pub given : G e
-  pub steps : m' ≡ behind_piece w m e
+  pub steps : m' ≡ after_piece w m e
   pub timed : ReadsClock (e.after ∷ []) o.clock o.clock'
   pub fit : e.after < 2 ^ 64
   pub says : SpeaksOn (out_pieces (piece_lines s w m e)) heard heard' o.console o.console'
@@ -104,7 +104,7 @@ pub data Halted (G : Swept → Type 0) (s : Setting) (w : Sweeper) (m m' : Sweep
       → o.console' ≡ o.console → Halted G s w m m' heard heard' stop o
   -- at the save that was due behind it
   Unsaved : (event : Swept) → DoesPiece G s w m m' heard heard' event o → (call : SiteCall) → stop ≡ Site call
-      → BreaksBehind call (w.call event ∷ []) (save_of s (due_save w m event)) o.site o.site'
+      → BreaksAfter call (w.call event ∷ []) (save_of s (due_save w m event)) o.site o.site'
       → Halted G s w m m' heard heard' stop o
 
 -- Pieces one after another, but for their calls.
@@ -112,9 +112,9 @@ pub record SweepWent (G : Swept → Type 0) (s : Setting) (w : Sweeper) (m m' : 
     (o : Around) : Type 0 where
   pub run : IsSweep s w m es
   pub given : All G es
-  pub state : m' ≡ behind_pieces w m es
-  pub timed : ReadsClock (times_behind es) o.clock o.clock'
-  pub fit : AreTimes (times_behind es)
+  pub state : m' ≡ after_pieces w m es
+  pub timed : ReadsClock (times_after es) o.clock o.clock'
+  pub fit : AreTimes (times_after es)
   pub says : SpeaksOn (out_pieces (pieces_lines s w m es)) heard heard' o.console o.console'
 
 -- whole ones
@@ -128,14 +128,14 @@ pub record WentOn (G : Swept → Type 0) (s : Setting) (w : Sweeper) (m m' : Swe
 -- was due behind the last one.
 pub data SweepStopsAt (s : Setting) (w : Sweeper) (m : Sweep) (es : List Swept) (stop : Stop) (site site' : SiteState)
     : Type 0 where
-  IsStarved : stop ≡ NoMemory → w.starves ≡ true → (p q : ℕ) → IsPiece s w (behind_pieces w m es) p q
+  IsStarved : stop ≡ NoMemory → w.starves ≡ true → (p q : ℕ) → IsPiece s w (after_pieces w m es) p q
       → Makes (sweep_calls s w m es) site site' → SweepStopsAt s w m es stop site site'
-  IsCut : (p q : ℕ) → IsPiece s w (behind_pieces w m es) p q → stop ≡ Site (call_name (lost_call w p q))
-      → BreaksBehind (call_name (lost_call w p q)) (sweep_calls s w m es) (lost_call w p q ∷ []) site site'
+  IsCut : (p q : ℕ) → IsPiece s w (after_pieces w m es) p q → stop ≡ Site (call_name (lost_call w p q))
+      → BreaksAfter (call_name (lost_call w p q)) (sweep_calls s w m es) (lost_call w p q ∷ []) site site'
       → SweepStopsAt s w m es stop site site'
   IsBroken : (before : List Swept) (last : Swept) (call : SiteCall) → es ≡ before ++ last ∷ [] → stop ≡ Site call
-      → BreaksBehind call (sweep_calls s w m before ++ w.call last ∷ [])
-      (save_of s (due_save w (behind_pieces w m before) last)) site site'
+      → BreaksAfter call (sweep_calls s w m before ++ w.call last ∷ [])
+      (save_of s (due_save w (after_pieces w m before) last)) site site'
       → SweepStopsAt s w m es stop site site'
 
 -- pieces up to such a stop
@@ -175,15 +175,15 @@ pub record StepsPastPiece (piece : Piece) (written after : ℕ) (r r' : SweepSta
   pub fit : after < 2 ^ 64
   pub stands : r' ≡ heard_as (standing r
       (moved (current_in r.mode) r.sweep piece.pos piece.len written after)) r'.heard
-  pub says : SpeaksOn (out_pieces (line_behind r r' after)) r.heard r'.heard o.console o.console'
+  pub says : SpeaksOn (out_pieces (line_after r r' after)) r.heard r'.heard o.console o.console'
 
 -- the same with its save, if one is due, or with one that broke off
 pub record EndsPiece {T : Type 0} (result : Result T Stop) (piece : Piece) (written : ℕ) (r r' : SweepState) (o : Around)
     : Type 0 where
   pub after : ℕ
   pub passes : StepsPastPiece piece written after r r' o
-  pub made : OnOk result (Makes (save_behind r r' after) o.site o.site')
-  pub broke : IfErr result (λ stop. BreaksSave stop (save_behind r r' after) o.site o.site')
+  pub made : OnOk result (Makes (save_after r r' after) o.site o.site')
+  pub broke : IfErr result (λ stop. BreaksSave stop (save_after r r' after) o.site o.site')
 
 -- A piece was looked up in the output, and what it gave was marked. Where the site tells, that is what the output held.
 pub record LooksUp (piece : Piece) (r r' : SweepState) (site site' : SiteState) : Type 0 where

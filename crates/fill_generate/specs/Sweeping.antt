@@ -23,7 +23,7 @@ use Rattle.rescue_rules.specs.Laws.{AreTimes}
 use Rattle.rescue_rules.specs.Work.{end_of}
 use Rattle.rescue_rules.specs.Deeds.{save_of, doing_calls}
 use Rattle.rescue_core.specs.Closing.{drafting_at_stop}
-use Rattle.sweep_rules.specs.Sweep.{Sweeper, Sweep, Swept, IsPiece, IsSweep, behind_pieces, due_save, sweep_end, deeds_of}
+use Rattle.sweep_rules.specs.Sweep.{Sweeper, Sweep, Swept, IsPiece, IsSweep, after_pieces, due_save, sweep_end, deeds_of}
 use Rattle.sweep_rules.specs.SweepLaws.{AreGiven}
 use Rattle.sweep_rules.specs.SweepWork.{SweepEndsBy, SweepEnds, sweep_calls, sweep_lines, lost_call}
 
@@ -37,7 +37,7 @@ pub record Around : Type 0 where
   pub console' : ConsoleState
 
 -- behind these calls, which all returned, one of others failed, which has this name
-pub record BreaksBehind (at : SiteCall) (made calls : List Call) (old new : SiteState) : Type 0 where
+pub record BreaksAfter (at : SiteCall) (made calls : List Call) (old new : SiteState) : Type 0 where
   pub named : IsNameIn at calls
   pub broke : IsTrue old.tells → BrokeAt at calls (old.calls ++ map Done made) new.calls
   pub rose : Rose old.faults new.faults
@@ -46,28 +46,28 @@ pub record BreaksBehind (at : SiteCall) (made calls : List Call) (old new : Site
 pub data EndsSweep (s : Setting) (w : Sweeper) (m : Sweep) (es : List Swept) (end : RunEnd) (site site' : SiteState)
     : Type 0 where
   -- it ended, and its last calls returned
-  Saved : (stop : Option Stop) → SweepEndsBy stop s w (behind_pieces w m es) → end ≡ end_of stop
-      → Makes (doing_calls s (deeds_of w m es) (sweep_end (is_none stop) (behind_pieces w m es))) site site'
+  Saved : (stop : Option Stop) → SweepEndsBy stop s w (after_pieces w m es) → end ≡ end_of stop
+      → Makes (doing_calls s (deeds_of w m es) (sweep_end (is_none stop) (after_pieces w m es))) site site'
       → EndsSweep s w m es end site site'
   -- it ended, and one of them failed
-  Unsaved : (stop : Option Stop) (call : SiteCall) → SweepEndsBy stop s w (behind_pieces w m es) → end ≡ SaveFailed call stop
-      → BreaksBehind call (sweep_calls s w m es) (closing_calls s (sweep_end (is_none stop) (behind_pieces w m es))) site site'
+  Unsaved : (stop : Option Stop) (call : SiteCall) → SweepEndsBy stop s w (after_pieces w m es) → end ≡ SaveFailed call stop
+      → BreaksAfter call (sweep_calls s w m es) (closing_calls s (sweep_end (is_none stop) (after_pieces w m es))) site site'
       → EndsSweep s w m es end site site'
   -- the call of the next piece failed, which isn't one that was done
-  Cut : (p q : ℕ) → IsPiece s w (behind_pieces w m es) p q → end ≡ Stopped (Site (call_name (lost_call w p q)))
-      → BreaksBehind (call_name (lost_call w p q)) (sweep_calls s w m es) (lost_call w p q ∷ []) site site'
+  Cut : (p q : ℕ) → IsPiece s w (after_pieces w m es) p q → end ≡ Stopped (Site (call_name (lost_call w p q)))
+      → BreaksAfter (call_name (lost_call w p q)) (sweep_calls s w m es) (lost_call w p q ∷ []) site site'
       → EndsSweep s w m es end site site'
   -- a call of the save that was due behind the last piece failed
   Broken : (before : List Swept) (last : Swept) (call : SiteCall) → es ≡ before ++ last ∷ [] → end ≡ Stopped (Site call)
-      → BreaksBehind call (sweep_calls s w m before ++ w.call last ∷ [])
-      (save_of s (due_save w (behind_pieces w m before) last)) site site'
+      → BreaksAfter call (sweep_calls s w m before ++ w.call last ∷ [])
+      (save_of s (due_save w (after_pieces w m before) last)) site site'
       → EndsSweep s w m es end site site'
 
 -- whether a draft is left begun behind a sweep that ended so
-abbrev pub drafting_behind : RunEnd → Bool
-drafting_behind Finished = false
-drafting_behind (Stopped stop) = drafting_at_stop stop
-drafting_behind (SaveFailed call earlier) = drafting_after_fault call false
+abbrev pub drafting_after : RunEnd → Bool
+drafting_after Finished = false
+drafting_after (Stopped stop) = drafting_at_stop stop
+drafting_after (SaveFailed call earlier) = drafting_after_fault call false
 
 -- law: where the site tells, its record goes on with the calls of such a sweep
 abbrev pub EndsAreTold : Type 0
@@ -76,16 +76,16 @@ EndsAreTold = (s : Setting) (w : Sweeper) (m : Sweep) (es : List Swept) (end : R
     → (calls : List Entry) × (site'.calls ≡ site.calls ++ calls) × SweepEnds s w m es calls end
 
 -- the readings of the clock behind pieces
-abbrev pub times_behind : List Swept → List ℕ
-times_behind es = map (λ e. e.after) es
+abbrev pub times_after : List Swept → List ℕ
+times_after es = map (λ e. e.after) es
 
 -- A sweep from a state, by its pieces: the clock is read behind each, and its lines are said.
 pub record SweepTold (s : Setting) (w : Sweeper) (m : Sweep) (heard heard' : Bool) (end : RunEnd) (o : Around)
     : Type 0 where
   pub events : List Swept
   pub run : IsSweep s w m events
-  pub timed : ReadsClock (times_behind events) o.clock o.clock'
-  pub fit : AreTimes (times_behind events)
+  pub timed : ReadsClock (times_after events) o.clock o.clock'
+  pub fit : AreTimes (times_after events)
   pub ends : EndsSweep s w m events end o.site o.site'
   pub says : SpeaksOn (out_pieces (sweep_lines s w m events end)) heard heard' o.console o.console'
 

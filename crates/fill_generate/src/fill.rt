@@ -9,7 +9,7 @@ ghost use Rattle.sweep_rules.specs.Sweep.{filler, sweep_over};
 ghost use Rattle.fill_generate.specs.declared.mode.SweepMode.TheVariants.{Fill};
 ghost use Rattle.fill_generate.specs.SweepState.{setting_for, setting_of};
 ghost use Rattle.fill_generate.specs.Steps.{IsFound, PieceEnds, PiecesEnd, ObjectsStay, gone_to};
-ghost use Rattle.fill_generate.specs.Sweeping.{SweepTold, drafting_behind};
+ghost use Rattle.fill_generate.specs.Sweeping.{SweepTold, drafting_after};
 
 use crate::job::Job;
 use crate::mode::SweepMode;
@@ -54,7 +54,7 @@ pub fn run_fill<D: Site, K: Clock, C: Console, T: Tiles>(
         }) }
     ensures site { SiteKeeps (D.state site.old) (D.state site.new) }
     ensures image { (D.state site.new).is_open ≡ true }
-    ensures draft { (D.state site.new).is_drafting ≡ drafting_behind result.end }
+    ensures draft { (D.state site.new).is_drafting ≡ drafting_after result.end }
     ensures clock { ClockKeeps (K.state clock.old) (K.state clock.new) }
 {
     let mut sweeping = Sweeping::begin(job, SweepMode::Fill(types));

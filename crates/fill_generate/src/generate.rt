@@ -9,7 +9,7 @@ ghost use Rattle.sweep_rules.specs.Sweep.{generator, sweep_over};
 ghost use Rattle.fill_generate.specs.declared.mode.SweepMode.TheVariants.{Generate};
 ghost use Rattle.fill_generate.specs.SweepState.{setting_for, setting_of};
 ghost use Rattle.fill_generate.specs.Steps.{IsFound, PieceEnds, PiecesEnd, IsLookedUp};
-ghost use Rattle.fill_generate.specs.Sweeping.{LookupTold, drafting_behind};
+ghost use Rattle.fill_generate.specs.Sweeping.{LookupTold, drafting_after};
 
 use crate::job::Job;
 use crate::mode::SweepMode;
@@ -52,7 +52,7 @@ pub fn run_generate<D: Site, K: Clock, C: Console, T: Tiles>(
         }) }
     ensures site { SiteKeeps (D.state site.old) (D.state site.new) }
     ensures image { (D.state site.new).is_open ≡ true }
-    ensures draft { (D.state site.new).is_drafting ≡ drafting_behind result.end }
+    ensures draft { (D.state site.new).is_drafting ≡ drafting_after result.end }
     ensures clock { ClockKeeps (K.state clock.old) (K.state clock.new) }
 {
     let mut sweeping = Sweeping::begin(job, SweepMode::Generate);

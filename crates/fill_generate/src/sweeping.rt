@@ -142,7 +142,7 @@ impl Tally {
     }
 
     /// What a sweep has come to behind a piece at this time, of which so many bytes were written.
-    fn behind(self, piece: Piece, current: Current, written: u64, after: u64) -> Tally
+    fn with_piece(self, piece: Piece, current: Current, written: u64, after: u64) -> Tally
         requires { piece.pos + piece.len < 2 ^ 63 }
         ensures { (map : List Status)
             → sweep_at map result ≡ moved current (sweep_at map self) piece.pos piece.len written after }
@@ -279,7 +279,7 @@ impl<T: Tiles> Sweeping<T> {
             line: is_line_due(self.tally.said, current, after / 1000),
             save: is_save_due(self.tally.due_at, after),
         };
-        self.tally = self.tally.behind(piece, current, written, after);
+        self.tally = self.tally.with_piece(piece, current, written, after);
         due
     }
 

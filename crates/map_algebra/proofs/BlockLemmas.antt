@@ -60,7 +60,7 @@ IsAtMost m k = k ≤ m
 pub ends_last : (s : Shape) (ks : List ℕ) (m : ℕ) → 0 < s.size → Contains ks m → All (λ k. k ≤ m) ks
     → begin_of s m < end_of s m → IsEndOfBlocks s ks (end_of s m)
 ends_last s ks m some c all h = record {
-  behind = λ x t.
+  within = λ x t.
       let b = in_some s ks x t in
       let w = within_block s b.0 x some b.2 in
       let l : b.0 ≤ m = all_at (IsAtMost m) ks b.0 all b.1 in
@@ -76,7 +76,7 @@ ends_last s ks m some c all h = record {
 pub ends_nowhere : (s : Shape) (ks : List ℕ) (m : ℕ) → 0 < s.size → All (λ k. k ≤ m) ks
     → end_of s m ≤ begin_of s m → IsEndOfBlocks s ks 0
 ends_nowhere s ks m some all h = record {
-  behind = λ x t.
+  within = λ x t.
       let b = in_some s ks x t in
       let w = within_block s b.0 x some b.2 in
       let l : b.0 ≤ m = all_at (IsAtMost m) ks b.0 all b.1 in
@@ -86,6 +86,6 @@ ends_nowhere s ks m some all h = record {
 
 pub ends_without : (s : Shape) (ks : List ℕ) → ks ≡ [] → IsEndOfBlocks s ks 0
 ends_without s ks none = record {
-  behind = λ x t. let b = in_some s ks x t in absurd (omega (arith, b.1.1, ap length none));
+  within = λ x t. let b = in_some s ks x t in absurd (omega (arith, b.1.1, ap length none));
   least = λ other below. omega arith;
 }

@@ -135,9 +135,9 @@ areas_more set from m n v o k e =
       ap one_if here,
     )
 
-open_behind : (set : ℕ → Bool) (at to : ℕ) (v : Bool) → IsConstant set at to v → v ≡ is_open set to
-open_behind set at zero v k = absurd (omega (arith, k.some))
-open_behind set at (suc x) v k = sym (k.each x (omega (arith, k.some)) (omega arith))
+open_past : (set : ℕ → Bool) (at to : ℕ) (v : Bool) → IsConstant set at to v → v ≡ is_open set to
+open_past set at zero v k = absurd (omega (arith, k.some))
+open_past set at (suc x) v k = sym (k.each x (omega (arith, k.some)) (omega arith))
 
 pub counted_piece : (set : ℕ → Bool) (from at to : ℕ) (v o : Bool) (count next : Count) → IsCounted set from at count o
     → IsConstant set at to v → next.bytes ≡ count.bytes + cond v (to - at) 0
@@ -166,7 +166,7 @@ counted_piece set from at to v o count next c k b a =
         ap (λ j. cond {A = ℕ} v j 0) some,
       );
       areas = omega (arith, a, c.areas, areas, ap (λ j. counted (begins_area set) from j) all);
-      in_front = open_behind set at to v k;
+      in_front = open_past set at to v k;
     }
 
 abbrev count_with : (bytes areas : ℕ) → Count

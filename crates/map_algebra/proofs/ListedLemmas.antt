@@ -137,10 +137,10 @@ abbrev pub Stand : Shape → (domain : ℕ → Bool) → Type 0
 Stand s domain = ((x : ℕ) → domain x ≡ true → s.ipos ≤ x) × AreAllPlaced domain s.ipos s.opos
 
 -- a wanted position of a block from a number on stands at that place or behind it
-stands_behind : (w : Wanted) (least from x : ℕ) → length w.statuses < 2 ^ 63 → Stand w.shape w.domain
+stands_after : (w : Wanted) (least from x : ℕ) → length w.statuses < 2 ^ 63 → Stand w.shape w.domain
     → Begins w.shape least from → x < length w.statuses → has_wanted_type w x ≡ true
     → (least ≤ block_of w.shape x) ↔ (from ≤ x)
-stands_behind w least from x short stand begins l h =
+stands_after w least from x short stand begins l h =
     let d = (and_parts (w.domain x) (has_type w.types (status_at w.statuses x)) h).0 in
     begins x (omega (arith, l, short)) (stand.0 x d) (omega (arith, stand.1 x d))
 
@@ -150,13 +150,13 @@ first_listed : (w : Wanted) (least from found : ℕ) → length w.statuses < 2 ^
     → IsFirst (IsIn (is_typed w.types w.domain w.statuses)) from found
     → IsFirst (IsListed w) least (block_of w.shape found)
 first_listed w least from found short stand begins l f = record {
-  after = (stands_behind w least from found short stand begins l f.holds).1 f.after;
+  after = (stands_after w least from found short stand begins l f.holds).1 f.after;
   holds = listed_from w (block_of w.shape found) (found, l, f.holds, refl);
   least = λ k a h.
       let o = one_from w k h in
       let b : least ≤ block_of w.shape o.0 = omega (arith, a, o.3) in
-      let behind : from ≤ o.0 = (stands_behind w least from o.0 short stand begins o.1 o.2).0 b in
-      omega (arith, o.3, block_mono w.shape found o.0 (f.least o.0 behind o.2));
+      let past : from ≤ o.0 = (stands_after w least from o.0 short stand begins o.1 o.2).0 b in
+      omega (arith, o.3, block_mono w.shape found o.0 (f.least o.0 past o.2));
 }
 
 none_listed : (w : Wanted) (least from : ℕ) → length w.statuses < 2 ^ 63 → Stand w.shape w.domain
@@ -166,7 +166,7 @@ none_listed : (w : Wanted) (least from : ℕ) → length w.statuses < 2 ^ 63 →
 none_listed w least from short stand begins none k a h =
     let o = one_from w k h in
     let b : least ≤ block_of w.shape o.0 = omega (arith, a, o.3) in
-    none o.0 ((stands_behind w least from o.0 short stand begins o.1 o.2).0 b) o.1 o.2
+    none o.0 ((stands_after w least from o.0 short stand begins o.1 o.2).0 b) o.1 o.2
 
 -- the same of a listing, seen from inside and from outside
 pub next_listed : (t s : ListingState) (domain : ℕ → Bool) (statuses : List Status) (from found : ℕ) → t ≡ s

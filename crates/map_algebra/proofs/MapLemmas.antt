@@ -28,8 +28,8 @@ map_has_each status end x h =
 pub status_below : (f : ℕ → Status) (end x : ℕ) → x < end → status_at (map_by f end) x ≡ f x
 status_below f end x h = get_or-map-range_with_len f 0 end x x NonTried h (omega arith)
 
-pub status_behind : (f : ℕ → Status) (end x : ℕ) → end ≤ x → status_at (map_by f end) x ≡ NonTried
-status_behind f end x h =
+pub status_past : (f : ℕ → Status) (end x : ℕ) → end ≤ x → status_at (map_by f end) x ≡ NonTried
+status_past f end x h =
     get_or_past (map_by f end) x NonTried (omega (arith, h, length-map-range_with_len f 0 end))
 
 pub length_map_by : (f : ℕ → Status) (end : ℕ) → length (map_by f end) ≡ end
@@ -59,7 +59,7 @@ combined_at op domain first second x d =
     let both : Status = combined op (status_at first x) (status_at second x) in
     ⊎_elim
     (λ l. status_below _ end x l ∙ cond-true (domain x) both (status_at first x) d)
-    (λ l. status_behind _ end x l ∙ nothing_at op
+    (λ l. status_past _ end x l ∙ nothing_at op
     ∙ sym (ap (λ s. combined op s (status_at second x)) (get_or_past first x NonTried (omega (arith, l)))
     ∙ ap (combined op NonTried) (get_or_past second x NonTried (omega (arith, l)))))
     (cases_lt x end)
@@ -170,7 +170,7 @@ others_stand op domain first second x d =
     let both : Status = combined op (status_at first x) (status_at second x) in
     ⊎_elim
     (λ l. status_below _ end x l ∙ cond-false (domain x) both (status_at first x) d)
-    (λ l. status_behind _ end x l ∙ sym (get_or_past first x NonTried (omega (arith, l))))
+    (λ l. status_past _ end x l ∙ sym (get_or_past first x NonTried (omega (arith, l))))
     (cases_lt x end)
 
 pub xor_undoes_itself : XorUndoesItself

@@ -43,14 +43,14 @@ put_by f made to s so_far h =
 pub record AreMarks (s : Shape) (ks : List ℕ) (n end : ℕ) (made : List Status) : Type 0 where
   pub so_far : made ≡ map_by (mark_of s ks) (length made)
   pub below : length made ≤ end
-  pub behind : (i d : ℕ) → i < n → min (end_of s (get_or ks i d)) end ≤ length made
+  pub passed : (i d : ℕ) → i < n → min (end_of s (get_or ks i d)) end ≤ length made
 
 pub no_marks : (s : Shape) (ks : List ℕ) (end : ℕ) (made : List Status) → made ≡ [] → AreMarks s ks 0 end made
 no_marks s ks end made e =
     let z : length made ≡ 0 = ap length e in record {
       so_far = e ∙ ap (map_by (mark_of s ks)) (sym z);
       below = omega (arith, z);
-      behind = λ i d l. absurd (omega (arith, l));
+      passed = λ i d l. absurd (omega (arith, l));
     }
 
 -- a position that isn't in one of the blocks that came, and lies in front of the next one, is in none
@@ -65,7 +65,7 @@ outside s ks n end made some m x l u later = false_from_ne_true (is_in_blocks s 
     ⊎_elim
     (λ (a : i < n).
     let e : min (end_of s k) end ≤ length made =
-    subst (λ (q : ℕ). min (end_of s q) end ≤ length made) b.1.2 (m.behind i k a) in
+    subst (λ (q : ℕ). min (end_of s q) end ≤ length made) b.1.2 (m.passed i k a) in
     omega (arith, e, l, u, w.1))
     (λ (a : n ≤ i).
     let e : x < begin_of s k = subst (λ (q : ℕ). x < begin_of s q) b.1.2 (later i k a b.1.1) in
@@ -95,8 +95,8 @@ more_marks s ks n end made k from to some order short is m begun ended =
     record {
       so_far = put_by f one to Finished (put_by f made from NonTried m.so_far gap) inside;
       below = omega (arith, length_one, length_two, begun, ended, m.below);
-      behind = λ i d l. ⊎_elim
-          (λ (a : i < n). omega (arith, length_one, length_two, m.behind i d a))
+      passed = λ i d l. ⊎_elim
+          (λ (a : i < n). omega (arith, length_one, length_two, m.passed i d a))
           (λ (a : n ≤ i).
           let e : n ≡ i = omega (arith, a, l) in
           let same : k ≡ get_or ks i d = sym (is d) ∙ ap (λ (j : ℕ). get_or ks j d) e in

@@ -41,19 +41,19 @@ counted-more line n k (Ok ks) =
 counted-more line n k (Err other) = refl
 
 pub counted-next : (s : Shape) (total : Result ℕ NumberError) (n : ℕ) (ls : List Line) (l : OpenLine) (k : ℕ)
-    → total ≡ counted n (numbers_of s ls) → ls ≡ line_of l ∷ l.behind → number_in s (line_of l).fields ≡ Some k
-    → total ≡ counted (n + 1) (numbers_of s l.behind)
+    → total ≡ counted n (numbers_of s ls) → ls ≡ line_of l ∷ l.after → number_in s (line_of l).fields ≡ Some k
+    → total ≡ counted (n + 1) (numbers_of s l.after)
 counted-next s total n ls l k t e o =
     t ∙ ap (λ (ls : List Line). counted n (numbers_of s ls)) e
-    ∙ ap (λ (o : Option ℕ). counted n (in_front_of l.number o (numbers_of s l.behind))) o
-    ∙ counted-more l.number n k (numbers_of s l.behind)
+    ∙ ap (λ (o : Option ℕ). counted n (in_front_of l.number o (numbers_of s l.after))) o
+    ∙ counted-more l.number n k (numbers_of s l.after)
 
 pub counted-fault : (s : Shape) (total : Result ℕ NumberError) (n : ℕ) (ls : List Line) (l : OpenLine)
-    → total ≡ counted n (numbers_of s ls) → ls ≡ line_of l ∷ l.behind → number_in s (line_of l).fields ≡ None
+    → total ≡ counted n (numbers_of s ls) → ls ≡ line_of l ∷ l.after → number_in s (line_of l).fields ≡ None
     → total ≡ Err (BadNumber l.number)
 counted-fault s total n ls l t e o =
     t ∙ ap (λ (ls : List Line). counted n (numbers_of s ls)) e
-    ∙ ap (λ (o : Option ℕ). counted n (in_front_of l.number o (numbers_of s l.behind))) o
+    ∙ ap (λ (o : Option ℕ). counted n (in_front_of l.number o (numbers_of s l.after))) o
 
 pub counted-end : (s : Shape) (total : Result ℕ NumberError) (n : ℕ) (ls : List Line)
     → total ≡ counted n (numbers_of s ls) → ls ≡ [] → total ≡ Ok n
@@ -62,26 +62,26 @@ counted-end s total n ls t e =
     t ∙ ap (λ (ls : List Line). counted n (numbers_of s ls)) e ∙ ap as_ok z
 
 -- some numbers in front of those of the lines that are left
-abbrev pub behind : List ℕ → Result (List ℕ) ℕ → Result (List ℕ) ℕ
-behind ks (Ok more) = Ok (ks ++ more)
-behind ks (Err line) = Err line
+abbrev pub after : List ℕ → Result (List ℕ) ℕ → Result (List ℕ) ℕ
+after ks (Ok more) = Ok (ks ++ more)
+after ks (Err line) = Err line
 
 abbrev as_list : List ℕ → Result (List ℕ) ℕ
 as_list ks = Ok ks
 
-pub behind-begin : (r : Result (List ℕ) ℕ) → r ≡ behind [] r
-behind-begin (Ok ks) = refl
-behind-begin (Err line) = refl
+pub after-begin : (r : Result (List ℕ) ℕ) → r ≡ after [] r
+after-begin (Ok ks) = refl
+after-begin (Err line) = refl
 
-behind-more : (line k : ℕ) (ks : List ℕ) (r : Result (List ℕ) ℕ)
-    → behind ks (in_front_of line (Some k) r) ≡ behind (ks ++ k ∷ []) r
-behind-more line k ks (Ok more) = ap as_list (sym (append_assoc ks (k ∷ []) more))
-behind-more line k ks (Err other) = refl
+after-more : (line k : ℕ) (ks : List ℕ) (r : Result (List ℕ) ℕ)
+    → after ks (in_front_of line (Some k) r) ≡ after (ks ++ k ∷ []) r
+after-more line k ks (Ok more) = ap as_list (sym (append_assoc ks (k ∷ []) more))
+after-more line k ks (Err other) = refl
 
-pub behind-next : (s : Shape) (total : Result (List ℕ) ℕ) (ks : List ℕ) (ls : List Line) (l : OpenLine) (k : ℕ)
-    → total ≡ behind ks (numbers_of s ls) → ls ≡ line_of l ∷ l.behind → number_in s (line_of l).fields ≡ Some k
-    → total ≡ behind (ks ++ k ∷ []) (numbers_of s l.behind)
-behind-next s total ks ls l k t e o =
-    t ∙ ap (λ (ls : List Line). behind ks (numbers_of s ls)) e
-    ∙ ap (λ (o : Option ℕ). behind ks (in_front_of l.number o (numbers_of s l.behind))) o
-    ∙ behind-more l.number k ks (numbers_of s l.behind)
+pub after-next : (s : Shape) (total : Result (List ℕ) ℕ) (ks : List ℕ) (ls : List Line) (l : OpenLine) (k : ℕ)
+    → total ≡ after ks (numbers_of s ls) → ls ≡ line_of l ∷ l.after → number_in s (line_of l).fields ≡ Some k
+    → total ≡ after (ks ++ k ∷ []) (numbers_of s l.after)
+after-next s total ks ls l k t e o =
+    t ∙ ap (λ (ls : List Line). after ks (numbers_of s ls)) e
+    ∙ ap (λ (o : Option ℕ). after ks (in_front_of l.number o (numbers_of s l.after))) o
+    ∙ after-more l.number k ks (numbers_of s l.after)

@@ -19,8 +19,8 @@ constant_in map x to b k some within = record {
 }
 
 -- and behind its end it is non-tried
-pub constant_behind : (map : List Status) (x to : ℕ) → length map ≤ x → x < to → IsConstant (status_at map) x to NonTried
-constant_behind map x to ended some = record {
+pub constant_past : (map : List Status) (x to : ℕ) → length map ≤ x → x < to → IsConstant (status_at map) x to NonTried
+constant_past map x to ended some = record {
   some = some;
   each = λ y l u. get_or_past map y NonTried (omega (arith, l, ended));
 }

@@ -33,5 +33,5 @@ is_in_blocks s ks x = list_any (λ k. is_in_block s k x) ks
 
 -- the end behind all positions that stand in these blocks, 0 where none does
 pub record IsEndOfBlocks (s : Shape) (ks : List ℕ) (end : ℕ) : Type 0 where
-  pub behind : (x : ℕ) → is_in_blocks s ks x ≡ true → x < end
+  pub within : (x : ℕ) → is_in_blocks s ks x ≡ true → x < end
   pub least : (other : ℕ) → ((x : ℕ) → is_in_blocks s ks x ≡ true → x < other) → end ≤ other

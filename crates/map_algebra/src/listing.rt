@@ -66,7 +66,7 @@ impl Listing {
             (IsListed (wanted_of self.old (covers domain.now) (T.statuses tiles.now))) self.old.least k) }
         ensures none { IfNone result ((k : ℕ) → self.old.least ≤ k
             → IsListed (wanted_of self.old (covers domain.now) (T.statuses tiles.now)) k → ⊥) }
-        ensures behind { IfSome result (λ k. self.new ≡ record self.old { least = k + 1 }) }
+        ensures after { IfSome result (λ k. self.new ≡ record self.old { least = k + 1 }) }
         ensures ended { IfNone result (self.new ≡ self.old) }
     {
         let from = first_of(self.least, self.shape);

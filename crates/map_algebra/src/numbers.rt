@@ -28,11 +28,11 @@ fn in_range(number: u64, shape: Shape) -> Option<u64>
     ensures number { result ≡ in_range shape number }
     ensures limit { IfSome result (IsInRange shape) }
 {
-    let behind = number
+    let after = number
         .checked_mul(shape.size)?
         .checked_add(shape.size)?
         .checked_add(shape.ipos)?;
-    if behind < 1 << 63 { Some(number) } else { None }
+    if after < 1 << 63 { Some(number) } else { None }
 }
 
 /// The number of a line.
@@ -65,7 +65,7 @@ pub fn check_numbers(text: &[u8], shape: Shape) -> Result<usize, NumberError>
     while let Some(mut line) = lines.first() {
         number_of(&mut line, shape)?;
         count += 1;
-        lines = line.lines_behind();
+        lines = line.lines_after();
     }
     Ok(count)
 }
@@ -86,7 +86,7 @@ pub fn read_numbers(alloc: Global, text: &[u8], shape: Shape) -> Result<Vec<u64>
     while let Some(mut line) = lines.first() {
         let number = number_of(&mut line, shape)?;
         numbers.push(number).map_err(|_| NumberError::NoMemory)?;
-        lines = line.lines_behind();
+        lines = line.lines_after();
     }
     Ok(numbers)
 }

@@ -51,9 +51,9 @@ padded_many out begin l b =
     rw (e, g) refl
 
 -- zeros in front of digits, so that they are at least eight
-pub padded_behind : (out : List ℕ) (begin : ℕ) → length out ≡ 64 → begin ≤ 64 → take begin out ≡ replicate begin 48
+pub padded_after : (out : List ℕ) (begin : ℕ) → length out ≡ 64 → begin ≤ 64 → take begin out ≡ replicate begin 48
     → drop (min begin 56) out ≡ at_least_eight (drop begin out)
-padded_behind out begin l b z = ⊎_elim (λ h. padded_few out begin l b z h) (λ h. padded_many out begin l h) (below_or_not 56 begin)
+padded_after out begin l b z = ⊎_elim (λ h. padded_few out begin l b z h) (λ h. padded_many out begin l h) (below_or_not 56 begin)
 
 -- what a slice from a place on is
 pub slice_from : (out : List ℕ) (begin : ℕ) → length out ≡ 64 → take (64 - begin) (drop begin out) ≡ drop begin out

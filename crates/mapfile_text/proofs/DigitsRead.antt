@@ -70,7 +70,7 @@ short_numeral field ds r e some few d v n =
     numeral_by_digits ds r (position (is_no_digit 16) ds) refl some few d v n ∙ ap (λ f. option_map capped (numeral f)) (sym e)
 
 -- a field that begins with `0x`, and its digits
-pub behind_prefix : (xs : List ℕ) → 2 ≤ length xs → get_or xs 0 0 ≡ 48 → get_or xs 1 0 ≡ 120 → xs ≡ 48 ∷ 120 ∷ drop 2 xs
-behind_prefix [] h a b = absurd (omega arith)
-behind_prefix (x ∷ []) h a b = absurd (omega arith)
-behind_prefix (x ∷ y ∷ xs) h a b = cc
+pub after_prefix : (xs : List ℕ) → 2 ≤ length xs → get_or xs 0 0 ≡ 48 → get_or xs 1 0 ≡ 120 → xs ≡ 48 ∷ 120 ∷ drop 2 xs
+after_prefix [] h a b = absurd (omega arith)
+after_prefix (x ∷ []) h a b = absurd (omega arith)
+after_prefix (x ∷ y ∷ xs) h a b = cc

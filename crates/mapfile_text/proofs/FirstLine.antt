@@ -5,7 +5,7 @@ use Rattle.std.proofs.lemmas.Bool.{cases_Bool, cases_lt}
 use Rattle.std.proofs.lemmas.List.{length-take-le}
 use Rattle.std.proofs.lemmas.List.Sums.{prefix_len-le-length}
 use Rattle.mapfile_text.specs.Lines.{fields, is_blank, is_newline}
-use Rattle.mapfile_text.specs.Cursor.{first_line, behind_line}
+use Rattle.mapfile_text.specs.Cursor.{first_line, after_line}
 use Rattle.mapfile_text.proofs.FieldLemmas.{first_field_is, no_field, word-begins}
 
 -- where the first line ends
@@ -24,8 +24,8 @@ line-yes c cs e = ap (λ n. take n (c ∷ cs)) (end-yes c cs e)
 line-no : (c : ℕ) (cs : List ℕ) → is_newline c ≡ false → first_line (c ∷ cs) ≡ c ∷ first_line cs
 line-no c cs e = ap (λ n. take n (c ∷ cs)) (end-no c cs e)
 
-behind-no : (c : ℕ) (cs : List ℕ) → is_newline c ≡ false → behind_line (c ∷ cs) ≡ behind_line cs
-behind-no c cs e =
+after-no : (c : ℕ) (cs : List ℕ) → is_newline c ≡ false → after_line (c ∷ cs) ≡ after_line cs
+after-no c cs e =
     let more : suc (end_of_line cs) + 1 ≡ suc (end_of_line cs + 1) = omega arith in
     ap (λ n. drop (n + 1) (c ∷ cs)) (end-no c cs e) ∙ ap (λ n. drop n (c ∷ cs)) more
 
@@ -81,13 +81,13 @@ line-take (suc k) (c ∷ cs) h =
       | inr off ↦ ap (take (suc k)) (line-no c cs off) ∙ ap (λ xs. c ∷ xs) (line-take k cs (omega (arith, end-no c cs off)))
     ]
 
-behind-drop : (k : ℕ) (xs : List ℕ) → k ≤ end_of_line xs → behind_line (drop k xs) ≡ behind_line xs
-behind-drop zero xs h = refl
-behind-drop (suc k) [] h = refl
-behind-drop (suc k) (c ∷ cs) h =
+after-drop : (k : ℕ) (xs : List ℕ) → k ≤ end_of_line xs → after_line (drop k xs) ≡ after_line xs
+after-drop zero xs h = refl
+after-drop (suc k) [] h = refl
+after-drop (suc k) (c ∷ cs) h =
     elim (cases_Bool (is_newline c)) [
       | inl at ↦ absurd (omega (arith, end-yes c cs at))
-      | inr off ↦ behind-drop k cs (omega (arith, end-no c cs off)) ∙ sym (behind-no c cs off)
+      | inr off ↦ after-drop k cs (omega (arith, end-no c cs off)) ∙ sym (after-no c cs off)
     ]
 
 within_line : (p : ℕ → Bool) (xs : List ℕ) → position_or_len p (first_line xs) ≤ end_of_line xs
@@ -132,9 +132,9 @@ field_found text rest start end f some =
     ∙ ap (λ l. take end rest ∷ fields l) (sym (line-drop end rest within))
 
 -- what stands behind the line, wherever in it one begins to look
-pub behind_found : (text rest : List ℕ) (start end : ℕ) → Found text rest start end → behind_line (drop end rest) ≡ behind_line text
-behind_found text rest start end f =
-    behind-drop end rest (end_within text rest start end f) ∙ ap behind_line f.from ∙ behind-drop start text (start_within text rest start end f)
+pub after_found : (text rest : List ℕ) (start end : ℕ) → Found text rest start end → after_line (drop end rest) ≡ after_line text
+after_found text rest start end f =
+    after-drop end rest (end_within text rest start end f) ∙ ap after_line f.from ∙ after-drop start text (start_within text rest start end f)
 
 -- no field is there where none has a byte
 pub none_found : (text rest : List ℕ) (start end : ℕ) → Found text rest start end → end ≡ 0 → fields (first_line text) ≡ []

@@ -6,7 +6,7 @@ use Rattle.std.proofs.lemmas.List.{take_all, drop_all}
 use Rattle.std.proofs.lemmas.List.Sums.{fails_before_first, length-filter, count_by-le-length}
 use Rattle.std.proofs.lemmas.List.Splits.{slice_split_none, slice_split_first, length-slice_split}
 use Rattle.mapfile_text.specs.Lines.{Line, lines, fields, is_newline, numbered_lines, is_comment, filled_lines, said_lines}
-use Rattle.mapfile_text.specs.Cursor.{first_line, behind_line, filled_from, no_comments}
+use Rattle.mapfile_text.specs.Cursor.{first_line, after_line, filled_from, no_comments}
 
 -- a place that passes, or none
 pub position-some : (p : ℕ → Bool) (xs : List ℕ) (k : ℕ) → position p xs ≡ Some k → (position_or_len p xs < length xs) × (position_or_len p xs ≡ k)
@@ -30,14 +30,14 @@ abbrev in_front : ℕ → List (List ℕ) → List Line → List Line
 in_front n fs ls = cond (not (eqb (length fs) 0)) (record { number = n; fields = fs } ∷ ls) ls
 
 -- the first line of a text stands in front of the lines behind it
-filled-first : (text : List ℕ) (n : ℕ) → filled_from n text ≡ in_front n (fields (first_line text)) (filled_from (n + 1) (behind_line text))
+filled-first : (text : List ℕ) (n : ℕ) → filled_from n text ≡ in_front n (fields (first_line text)) (filled_from (n + 1) (after_line text))
 filled-first text n =
     let end = position_or_len is_newline text in
     elim (cases_lt end (length text)) [
       | inl there ↦ ap (λ ls. filter (λ l. not (eqb (length l.fields) 0)) (numbered_lines n ls)) (slice_split_first is_newline text 0 there)
       | inr none ↦
           let fails : All (λ b. is_newline b ≡ false) text = λ i d m. fails_before_first is_newline text i d (omega arith) in
-          let nothing : [] ≡ behind_line text = sym (drop_all (end + 1) text (omega arith)) in
+          let nothing : [] ≡ after_line text = sym (drop_all (end + 1) text (omega arith)) in
           ap (λ ls. filter (λ l. not (eqb (length l.fields) 0)) (numbered_lines n ls)) (slice_split_none is_newline text fails)
           ∙ ap (λ l. in_front n (fields l) []) (sym (take_all end text none))
           ∙ ap (λ ys. in_front n (fields (first_line text)) (filled_from (n + 1) ys)) nothing
@@ -45,15 +45,15 @@ filled-first text n =
 
 -- where the first line has a field, it is the first of the filled ones
 pub filled-some : (text : List ℕ) (n : ℕ) (f : List ℕ) (fs : List (List ℕ)) → fields (first_line text) ≡ f ∷ fs
-    → filled_from n text ≡ record { number = n; fields = f ∷ fs } ∷ filled_from (n + 1) (behind_line text)
+    → filled_from n text ≡ record { number = n; fields = f ∷ fs } ∷ filled_from (n + 1) (after_line text)
 filled-some text n f fs e =
-    let rest : List Line = filled_from (n + 1) (behind_line text) in
+    let rest : List Line = filled_from (n + 1) (after_line text) in
     let some : eqb (length (f ∷ fs)) 0 ≡ false = ne_eqb (length (f ∷ fs)) 0 (λ z. omega arith) in
     filled-first text n ∙ ap (λ gs. in_front n gs rest) e ∙ ap (λ b. cond (not b) (record { number = n; fields = f ∷ fs } ∷ rest) rest) some
 
 -- where it has none, it is passed over
-pub filled-none : (text : List ℕ) (n : ℕ) → fields (first_line text) ≡ [] → filled_from n text ≡ filled_from (n + 1) (behind_line text)
-filled-none text n e = filled-first text n ∙ ap (λ gs. in_front n gs (filled_from (n + 1) (behind_line text))) e
+pub filled-none : (text : List ℕ) (n : ℕ) → fields (first_line text) ≡ [] → filled_from n text ≡ filled_from (n + 1) (after_line text)
+filled-none text n e = filled-first text n ∙ ap (λ gs. in_front n gs (filled_from (n + 1) (after_line text))) e
 
 -- a line that is no comment says something, and a comment nothing
 pub says-some : (n : ℕ) (fs : List (List ℕ)) (ls : List Line) → is_comment fs ≡ false

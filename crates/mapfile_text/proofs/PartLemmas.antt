@@ -62,14 +62,14 @@ module _ (h : HeadingLines) (s : MapState) (statuses : List Status) where
       rw (front, lines) (drop_all place.went [] (omega arith))
 
   -- what a part gave and what is left behind it are what was left
-  pub left_behind : (place behind : TextPosition) (next : TextPart) (t : List ℕ) (len room : ℕ)
+  pub left_after : (place moved : TextPosition) (next : TextPart) (t : List ℕ) (len room : ℕ)
       → parts_from place.part h s statuses ≡ t ∷ parts_from next h s statuses
       → len ≡ length t
-      → (len ≤ place.went → behind ≡ record { part = next; went = place.went - len })
-      → (place.went < len → len ≤ place.went + room → behind ≡ record { part = next; went = 0 })
-      → (place.went + room < len → behind ≡ record { part = place.part; went = place.went + room })
-      → take room (drop place.went t) ++ left_of behind h s statuses ≡ left_of place h s statuses
-  left_behind place behind next t len room first e past whole cut =
+      → (len ≤ place.went → moved ≡ record { part = next; went = place.went - len })
+      → (place.went < len → len ≤ place.went + room → moved ≡ record { part = next; went = 0 })
+      → (place.went + room < len → moved ≡ record { part = place.part; went = place.went + room })
+      → take room (drop place.went t) ++ left_of moved h s statuses ≡ left_of place h s statuses
+  left_after place moved next t len room first e past whole cut =
       let L : TextPosition → List ℕ = λ p. left_of p h s statuses in
       let rest : List ℕ = concat (parts_from next h s statuses) in
       let was : L place ≡ drop place.went (t ++ rest) = left_is place ∙ ap (λ ps. drop place.went (concat ps)) first in
@@ -89,53 +89,53 @@ module _ (h : HeadingLines) (s : MapState) (statuses : List Status) where
       (below_or_not place.went len)
 
 -- either there is one part less, or the room is full
-moves_on : (count : TextPart → ℕ) (place behind : TextPosition) (next : TextPart) (len room : ℕ) (t before after : List ℕ)
+moves_on : (count : TextPart → ℕ) (place moved : TextPosition) (next : TextPart) (len room : ℕ) (t before after : List ℕ)
     → count place.part ≡ count next + 1 → len ≡ length t → room + length before ≡ 4096
     → after ≡ before ++ take room (drop place.went t)
-    → (len ≤ place.went → behind ≡ record { part = next; went = place.went - len })
-    → (place.went < len → len ≤ place.went + room → behind ≡ record { part = next; went = 0 })
-    → (place.went + room < len → behind ≡ record { part = place.part; went = place.went + room })
+    → (len ≤ place.went → moved ≡ record { part = next; went = place.went - len })
+    → (place.went < len → len ≤ place.went + room → moved ≡ record { part = next; went = 0 })
+    → (place.went + room < len → moved ≡ record { part = place.part; went = place.went + room })
     → (length after ≤ 4096)
-    × (0 < room → count behind.part + (4096 - length after) < count place.part + (4096 - length before))
-moves_on count place behind next len room t before after fewer e room_is is past whole cut =
+    × (0 < room → count moved.part + (4096 - length after) < count place.part + (4096 - length before))
+moves_on count place moved next len room t before after fewer e room_is is past whole cut =
     let C : TextPosition → ℕ = λ p. count p.part in
     let l : length after ≡ length before + length (take room (drop place.went t)) = ap length is ∙ length-append before (take room (drop place.went t)) in
     let m = length-take room (drop place.went t) in
     let k = length-drop place.went t in
     ⊎_elim
     (λ less. ⊎_elim
-    (λ over. let p : count behind.part ≡ count place.part = ap C (cut over) in (omega arith, λ some. omega arith))
-    (λ fits. let p : count behind.part ≡ count next = ap C (whole less fits) in (omega arith, λ some. omega arith))
+    (λ over. let p : count moved.part ≡ count place.part = ap C (cut over) in (omega arith, λ some. omega arith))
+    (λ fits. let p : count moved.part ≡ count next = ap C (whole less fits) in (omega arith, λ some. omega arith))
     (below_or_not (place.went + room) len))
-    (λ none. let p : count behind.part ≡ count next = ap C (past none) in (omega arith, λ some. omega arith))
+    (λ none. let p : count moved.part ≡ count next = ap C (past none) in (omega arith, λ some. omega arith))
     (below_or_not place.went len)
 
 -- a turn of the loop that fills a piece: what it appended and what is then left are what was left before
-pub record GoesOn (h : HeadingLines) (s : MapState) (statuses : List Status) (place behind : TextPosition) (before after : List ℕ) (room : ℕ) : Type 0 where
+pub record GoesOn (h : HeadingLines) (s : MapState) (statuses : List Status) (place moved : TextPosition) (before after : List ℕ) (room : ℕ) : Type 0 where
   pub fits : length after ≤ 4096
-  pub same : after ++ left_of behind h s statuses ≡ before ++ left_of place h s statuses
+  pub same : after ++ left_of moved h s statuses ≡ before ++ left_of place h s statuses
   pub less : (room ≡ 0 → ⊥)
-      → length (parts_from behind.part h s statuses) + (4096 - length after)
+      → length (parts_from moved.part h s statuses) + (4096 - length after)
       < length (parts_from place.part h s statuses) + (4096 - length before)
 
-pub goes_on : (h : HeadingLines) (s : MapState) (statuses : List Status) (place behind : TextPosition) (before after : List ℕ) (next : TextPart) (len room : ℕ)
+pub goes_on : (h : HeadingLines) (s : MapState) (statuses : List Status) (place moved : TextPosition) (before after : List ℕ) (next : TextPart) (len room : ℕ)
     → room + length before ≡ 4096
     → IsAppended before after place.went len (parts_from place.part h s statuses) (parts_from next h s statuses)
-    → (len ≤ place.went → behind ≡ record { part = next; went = place.went - len })
-    → (place.went < len → len ≤ place.went + room → behind ≡ record { part = next; went = 0 })
-    → (place.went + room < len → behind ≡ record { part = place.part; went = place.went + room })
-    → GoesOn h s statuses place behind before after room
-goes_on h s statuses place behind before after next len room room_is a past whole cut =
+    → (len ≤ place.went → moved ≡ record { part = next; went = place.went - len })
+    → (place.went < len → len ≤ place.went + room → moved ≡ record { part = next; went = 0 })
+    → (place.went + room < len → moved ≡ record { part = place.part; went = place.went + room })
+    → GoesOn h s statuses place moved before after room
+goes_on h s statuses place moved before after next len room room_is a past whole cut =
     let t : List ℕ = a.part in
     let r : 4096 - length before ≡ room = omega arith in
     let is : after ≡ before ++ take room (drop place.went t) = a.text ∙ ap (λ m. before ++ take m (drop place.went t)) r in
     let fewer : length (parts_from place.part h s statuses) ≡ length (parts_from next h s statuses) + 1 = omega (arith, ap length a.first) in
-    let m = moves_on (λ p. length (parts_from p h s statuses)) place behind next len room t before after fewer a.told room_is is past whole cut in
+    let m = moves_on (λ p. length (parts_from p h s statuses)) place moved next len room t before after fewer a.told room_is is past whole cut in
     record {
       fits = m.0;
       same =
-          ap (λ b. b ++ left_of behind h s statuses) is ∙ append_assoc before (take room (drop place.went t)) (left_of behind h s statuses)
-          ∙ ap (λ b. before ++ b) (left_behind h s statuses place behind next t len room a.first a.told past whole cut);
+          ap (λ b. b ++ left_of moved h s statuses) is ∙ append_assoc before (take room (drop place.went t)) (left_of moved h s statuses)
+          ∙ ap (λ b. before ++ b) (left_after h s statuses place moved next t len room a.first a.told past whole cut);
       less = λ some. m.1 (omega arith);
     }
 

@@ -149,10 +149,10 @@ pub comes-bad_place : {mode : Mode} {all : List Line} {shape : MapShape} {l : Li
 comes-bad_place {mode = mode} {shape = shape} {l = l} {block = block} e c t b p =
     goes-bad_place e shape.listed c.goes t b (subst (λ (n : ℕ). PlaceFault mode n l block e) c.end p)
 
-end_behind : (mode : Mode) (listed : Bool) (statuses : List Status) (block : Block) → (listed ≡ false → statuses ≡ [])
+end_after : (mode : Mode) (listed : Bool) (statuses : List Status) (block : Block) → (listed ≡ false → statuses ≡ [])
     → (listed ≡ true → IsGap mode (length statuses) block.pos (gap_of mode (length statuses) block.pos))
     → length (statuses ++ (padding mode listed (length statuses) block.pos ++ covered block)) ≡ block.pos + block.size
-end_behind mode false statuses block none gap =
+end_after mode false statuses block none gap =
     ap (λ ss. length (ss ++ (replicate block.pos NonTried ++ covered block))) (none refl)
     ∙ omega (
       arith,
@@ -160,7 +160,7 @@ end_behind mode false statuses block none gap =
       length-replicate block.pos NonTried,
       length-replicate block.size block.status,
     )
-end_behind mode true statuses block none gap = end-of_gap mode (length statuses) block.pos block refl (gap refl) statuses refl
+end_after mode true statuses block none gap = end-of_gap mode (length statuses) block.pos block refl (gap refl) statuses refl
 
 pub comes-next : {mode : Mode} {all : List Line} {l : Line} {ls : List Line} (shape shape' : MapShape) (block : Block)
     → shape' ≡ record shape { first = cond shape.listed shape.first block.pos; listed = true; end = block.pos + block.size; lines = shape.lines + 1 }
@@ -173,7 +173,7 @@ comes-next {mode = mode} {all = all} {ls = ls} shape shape' block e c b gap =
     subst (λ (s : MapShape). Comes mode all s ls) (sym e) (record {
       statuses = more;
       goes = goes-next shape.listed true shape.first (cond shape.listed shape.first block.pos) c.statuses more block refl c.goes b gap' refl refl;
-      end = sym (end_behind mode shape.listed c.statuses block (λ f. (c.goes.blank f).1) gap');
+      end = sym (end_after mode shape.listed c.statuses block (λ f. (c.goes.blank f).1) gap');
       lines = omega (arith, c.lines);
     })
 

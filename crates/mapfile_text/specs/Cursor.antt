@@ -8,8 +8,8 @@ abbrev pub first_line : List ℕ → List ℕ
 first_line text = before_first is_newline text
 
 -- what stands behind the newline of the first line
-abbrev pub behind_line : List ℕ → List ℕ
-behind_line text = after_first is_newline text
+abbrev pub after_line : List ℕ → List ℕ
+after_line text = after_first is_newline text
 
 -- the lines that aren't blank, in a text whose first line has this number
 abbrev pub filled_from : ℕ → List ℕ → List Line
@@ -25,7 +25,7 @@ pub record OpenLine : Type 0 where
   pub number : ℕ
   pub first : List ℕ
   pub more : List (List ℕ)
-  pub behind : List Line
+  pub after : List Line
 
 -- the line that it is, with its first field and those that are left
 abbrev pub line_of : OpenLine → Line

@@ -3,7 +3,7 @@ use Rattle.std.specs.Prelude.{◌≡◌, ℕ, ◌-◌, List, [], ◌∷◌, ◌+
 use Rattle.std.specs.List.{concat}
 use Rattle.std.specs.Fmt.{decimal}
 use Rattle.block_list.specs.declared.status.Status.{Status}
-use Rattle.block_list.specs.Stretches.{stretches_behind}
+use Rattle.block_list.specs.Stretches.{stretches_after}
 use Rattle.mapfile_text.specs.declared.heading.Program.{Program}
 use Rattle.mapfile_text.specs.declared.heading.Program.TheVariants.{Ddrescue, Ddrescuelog}
 use Rattle.mapfile_text.specs.declared.state.MapState.{MapState}
@@ -53,7 +53,7 @@ position_of part = 0
 
 -- the lines of what is left of a map from a position on, one for each stretch
 abbrev pub map_lines : ℕ → List Status → List (List ℕ)
-map_lines pos statuses = map block_line (stretches_behind pos statuses)
+map_lines pos statuses = map block_line (stretches_after pos statuses)
 
 -- the parts of a mapfile's text from one on, in order: what is left of the heading's, and of the map's lines
 unfoldable pub parts_from : TextPart → HeadingLines → MapState → List Status → List (List ℕ)

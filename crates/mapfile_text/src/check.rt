@@ -95,7 +95,7 @@ fn check_blocks(
     while let Some(mut line) = lines.first_said() {
         let block = read_block(&mut line)?;
         shape.put(mode, &line, block)?;
-        lines = line.lines_behind();
+        lines = line.lines_after();
     }
     Ok(shape)
 }
@@ -114,5 +114,5 @@ pub fn check_map(text: &[u8], mode: Mode) -> Result<MapShape, MapError>
         return Err(MapError::NoStatusLine);
     };
     let state = read_state(&mut line)?;
-    check_blocks(line.lines_behind(), state, mode)
+    check_blocks(line.lines_after(), state, mode)
 }

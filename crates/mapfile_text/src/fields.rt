@@ -3,7 +3,7 @@ ghost use Rattle.std.specs.Prelude.{◌≡◌, ◌∷◌, ◌≤◌, ◌<◌, �
 ghost use Rattle.std.specs.Option.{option_map};
 ghost use Rattle.std.specs.List.{position_or_len};
 ghost use Rattle.mapfile_text.specs.Lines.{fields, is_blank, is_newline};
-ghost use Rattle.mapfile_text.specs.Cursor.{first_line, behind_line, line_of};
+ghost use Rattle.mapfile_text.specs.Cursor.{first_line, after_line, line_of};
 ghost use Rattle.mapfile_text.specs.Fields.{
   begins_with_digit,
   block_of,
@@ -57,7 +57,7 @@ fn field_end(text: &[u8]) -> usize
 pub(crate) fn first_field(text: &[u8]) -> Option<(&[u8], &[u8])>
     ensures field { MatchOption result (fields (first_line text.now) ≡ [])
         (λ parts. fields (first_line text.now) ≡ parts.0.now ∷ fields (first_line parts.1.now)) }
-    ensures behind { IfSome result (λ parts. behind_line parts.1.now ≡ behind_line text.now) }
+    ensures after { IfSome result (λ parts. after_line parts.1.now ≡ after_line text.now) }
     ensures shorter { IfSome result (λ parts. length parts.1.now < length text.now) }
 {
     let text = &text[field_start(text)..];

@@ -1,7 +1,7 @@
 //! The lines of a text, one after another: those that aren't blank, and those of them that are no comments.
 ghost use Rattle.std.specs.Prelude.{◌≡◌, ℕ, ◌+◌, ◌<◌, ◌≤◌, ◌^◌, ◌∷◌, [], length, MatchOption};
 ghost use Rattle.mapfile_text.specs.Lines.{filled_lines, said_lines, is_comment};
-ghost use Rattle.mapfile_text.specs.Cursor.{behind_line, filled_from, line_of, no_comments};
+ghost use Rattle.mapfile_text.specs.Cursor.{after_line, filled_from, line_of, no_comments};
 
 use crate::fields::first_field;
 use std::marker::Model;
@@ -18,7 +18,7 @@ pub struct FilledLine<'a> {
 impl<'a> Model for FilledLine<'a> {
     ghost use Rattle.std.specs.Prelude.{◌+◌, ◌<◌, ◌^◌, length};
     ghost use Rattle.mapfile_text.specs.Lines.{fields};
-    ghost use Rattle.mapfile_text.specs.Cursor.{OpenLine, first_line, behind_line, filled_from};
+    ghost use Rattle.mapfile_text.specs.Cursor.{OpenLine, first_line, after_line, filled_from};
 
     ghost Value = { OpenLine };
 
@@ -26,7 +26,7 @@ impl<'a> Model for FilledLine<'a> {
       number = l.number;
       first = l.first.now;
       more = fields (first_line l.rest.now);
-      behind = filled_from (l.number + 1) (behind_line l.rest.now);
+      after = filled_from (l.number + 1) (after_line l.rest.now);
     } };
 
     ghost invariant = { λ l. l.number + length l.rest.now + 1 < 2 ^ 64 };
@@ -65,12 +65,12 @@ impl<'a> FilledLine<'a> {
     }
 
     /// The lines behind it.
-    pub fn lines_behind(&self) -> FilledLines<'a>
-        ensures { result ≡ self.now.behind }
+    pub fn lines_after(&self) -> FilledLines<'a>
+        ensures { result ≡ self.now.after }
     {
         FilledLines {
             number: self.number + 1,
-            rest: behind_line(self.rest),
+            rest: after_line(self.rest),
         }
     }
 }
@@ -111,7 +111,7 @@ impl<'a> FilledLines<'a> {
 
     /// The first of the lines.
     pub fn first(&self) -> Option<FilledLine<'a>>
-        ensures { MatchOption result (self.now ≡ []) (λ line. self.now ≡ line_of line ∷ line.behind) }
+        ensures { MatchOption result (self.now ≡ []) (λ line. self.now ≡ line_of line ∷ line.after) }
     {
         let mut number = self.number;
         let mut rest = self.rest;
@@ -124,7 +124,7 @@ impl<'a> FilledLines<'a> {
                 });
             }
             number += 1;
-            rest = behind_line(rest);
+            rest = after_line(rest);
         }
         None
     }
@@ -132,7 +132,7 @@ impl<'a> FilledLines<'a> {
     /// The first of the lines that says something: of those that are no comments.
     pub fn first_said(&self) -> Option<FilledLine<'a>>
         ensures { MatchOption result (no_comments self.now ≡ [])
-            (λ line. no_comments self.now ≡ line_of line ∷ no_comments line.behind) }
+            (λ line. no_comments self.now ≡ line_of line ∷ no_comments line.after) }
     {
         let mut lines = FilledLines {
             number: self.number,
@@ -142,15 +142,15 @@ impl<'a> FilledLines<'a> {
             if !line.is_comment() {
                 return Some(line);
             }
-            lines = line.lines_behind();
+            lines = line.lines_after();
         }
         None
     }
 }
 
 /// What stands behind the newline of the first line of a text.
-fn behind_line(text: &[u8]) -> &[u8]
-    ensures behind { result.now ≡ behind_line text.now }
+fn after_line(text: &[u8]) -> &[u8]
+    ensures after { result.now ≡ after_line text.now }
     ensures shorter { 0 < length text.now → length result.now < length text.now }
     ensures within { length result.now ≤ length text.now }
 {

@@ -98,7 +98,7 @@ fn fill<T: Tiles>(
             return place;
         }
         let (len, next) = append_part(out, place, state, heading, tiles, near);
-        place = place.behind(len, next, room);
+        place = place.after(len, next, room);
     }
     place
 }

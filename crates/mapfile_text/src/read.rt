@@ -181,7 +181,7 @@ fn read_blocks(
     while let Some(mut line) = lines.first_said() {
         let block = read_block(&mut line)?;
         map.put(mode, &line, block)?;
-        lines = line.lines_behind();
+        lines = line.lines_after();
     }
     Ok(map)
 }
@@ -198,7 +198,7 @@ pub fn read_map(alloc: Global, text: &[u8], mode: Mode) -> Result<ReadMap, MapEr
         return Err(MapError::NoStatusLine);
     };
     read_blocks(
-        status.lines_behind(),
+        status.lines_after(),
         ReadMap::blank(alloc, shape.state, shape.lines),
         mode,
     )

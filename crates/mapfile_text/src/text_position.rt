@@ -49,7 +49,7 @@ impl TextPart {
 
 impl TextPosition {
     /// The place behind as much of a part of `len` bytes as there is room for; `next` is the part behind it.
-    pub(crate) fn behind(self, len: usize, next: TextPart, room: usize) -> TextPosition
+    pub(crate) fn after(self, len: usize, next: TextPart, room: usize) -> TextPosition
         ensures past { len ≤ self.went → result ≡ record { part = next; went = self.went - len } }
         ensures whole { self.went < len → len ≤ self.went + room → result ≡ record { part = next; went = 0 } }
         ensures cut { self.went + room < len → result ≡ record { part = self.part; went = self.went + room } }

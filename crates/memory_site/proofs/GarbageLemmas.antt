@@ -58,9 +58,9 @@ write_other f g piece pos at x ranges size begins other lt loose =
       | inr from ↦ elim (cases_lt x (pos + length piece)) [
         | inl within ↦ written_inside g at bytes x from (omega (arith, any, begins, within))
             ∙ get_or-replicate (pos + length piece - at) (x - at) any_byte 0 (omega (arith, begins, from, within))
-        | inr behind ↦ written_after g at bytes x (omega (arith, any, begins, behind))
-            ∙ other x (omega (arith, lt, new, behind))
-            (later_range at (pos + length piece - at) x ranges loose (λ le l. omega (arith, l, begins, behind)))
+        | inr past ↦ written_after g at bytes x (omega (arith, any, begins, past))
+            ∙ other x (omega (arith, lt, new, past))
+            (later_range at (pos + length piece - at) x ranges loose (λ le l. omega (arith, l, begins, past)))
       ]
     ]
 
@@ -79,9 +79,9 @@ write_same f g piece pos at x ranges size begins same lt outside =
           ∙ sym (written_before f pos piece x (omega (arith, begins, below)) (omega (arith, begins, below)))
       | inr from ↦ elim (cases_lt x (pos + length piece)) [
         | inl within ↦ absurd (outside (inl (from, omega (arith, begins, within))))
-        | inr behind ↦ written_after g at bytes x (omega (arith, any, begins, behind))
-            ∙ same x (omega (arith, lt, new, behind)) (λ h. outside (inr h))
-            ∙ sym (written_after f pos piece x behind)
+        | inr past ↦ written_after g at bytes x (omega (arith, any, begins, past))
+            ∙ same x (omega (arith, lt, new, past)) (λ h. outside (inr h))
+            ∙ sym (written_after f pos piece x past)
       ]
     ]
 

@@ -36,9 +36,9 @@ not_both n name other ne e f =
     both_ways (bytes_eq name other) ne
     (same_name name other (sym ((bytes_eq-Decides n name).0 f) ∙ (bytes_eq-Decides n other).0 e))
 
-place_behind : (q : NamedFile) (qs : List NamedFile) (name : List ℕ) (j : ℕ) → IsPlaceOf (q ∷ qs) name (suc j)
+place_after : (q : NamedFile) (qs : List NamedFile) (name : List ℕ) (j : ℕ) → IsPlaceOf (q ∷ qs) name (suc j)
     → IsPlaceOf qs name j
-place_behind q qs name j h = record {
+place_after q qs name j h = record {
   within = (let w : suc j < suc (length qs) = h.within in omega arith);
   here = λ d. h.here d;
   before = λ k d lt. h.before (suc k) d (omega arith);
@@ -51,7 +51,7 @@ set_at_name (q ∷ qs) name n zero p h e =
     at_head n name p.name.items q.name.items (file_of p.file) (file_of q.file) (files_of qs n) e (h.here q)
 set_at_name (q ∷ qs) name n (suc j) p h e =
     ap (λ (o : Option File). cond (bytes_eq n q.name.items) (file_of q.file) o)
-    (set_at_name qs name n j p (place_behind q qs name j h) e)
+    (set_at_name qs name n j p (place_after q qs name j h) e)
     ∙ swap_tests (bytes_eq n q.name.items) (bytes_eq n name) (file_of p.file) (file_of q.file) (files_of qs n)
     (not_both n name q.name.items (h.before 0 q (omega arith)))
 
@@ -69,7 +69,7 @@ files_of-at (q ∷ qs) name zero d h =
     (same_name name q.name.items (sym (h.here q)))
 files_of-at (q ∷ qs) name (suc j) d h =
     cond-false (bytes_eq name q.name.items) (file_of q.file) (files_of qs name) (h.before 0 q (omega arith))
-    ∙ files_of-at qs name j d (place_behind q qs name j h)
+    ∙ files_of-at qs name j d (place_after q qs name j h)
 
 -- no place has the name
 pub files_of-none : (ps : List NamedFile) (name : List ℕ)

@@ -16,9 +16,9 @@ bring_once : (rows : List Row) (next : NextWord) (n : ℕ) (words : List (List �
 bring_once rows next n [] is js os ps p q = (p.1 ∙ sym q.1, p.2 ∙ sym q.2)
 bring_once rows next n (w ∷ ws) is js os ps p q =
     let same : p.0 ≡ q.0 = one_ok (meaning rows next n w) p.0 q.0 p.3 q.3 in
-    let Behind : Brought → Type 0 = λ b. Bring rows b.next (n + 1) ws q.1 q.2 in
-    let behind : Bring rows p.0.next (n + 1) ws q.1 q.2 = subst Behind (sym same) q.6 in
-    let rest : (p.1 ≡ q.1) × (p.2 ≡ q.2) = bring_once rows p.0.next (n + 1) ws p.1 q.1 p.2 q.2 p.6 behind in
+    let After : Brought → Type 0 = λ b. Bring rows b.next (n + 1) ws q.1 q.2 in
+    let after : Bring rows p.0.next (n + 1) ws q.1 q.2 = subst After (sym same) q.6 in
+    let rest : (p.1 ≡ q.1) × (p.2 ≡ q.2) = bring_once rows p.0.next (n + 1) ws p.1 q.1 p.2 q.2 p.6 after in
     let items : p.0.items ≡ q.0.items = ap (λ (b : Brought). b.items) same in
     let operands : p.0.operands ≡ q.0.operands = ap (λ (b : Brought). b.operands) same in
     let items_are = p.4 in
@@ -48,9 +48,9 @@ break_once rows next n (w ∷ ws) f g p q = elim p [
   | inr e ↦ elim q [
     | inl d ↦ absurd (never_both (meaning rows next n w) e.0 g e.1 d)
     | inr d ↦
-        let Behind : Brought → Type 0 = λ b. HasFault rows b.next (n + 1) ws g in
+        let After : Brought → Type 0 = λ b. HasFault rows b.next (n + 1) ws g in
         let same : d.0 ≡ e.0 = one_ok (meaning rows next n w) d.0 e.0 d.1 e.1 in
-        break_once rows e.0.next (n + 1) ws f g e.2 (subst Behind same d.2)
+        break_once rows e.0.next (n + 1) ws f g e.2 (subst After same d.2)
   ]
 ]
 
@@ -68,9 +68,9 @@ bring_or_break rows next n [] is os f p q = served_or_not next f p.0 q
 bring_or_break rows next n (w ∷ ws) is os f p q = elim q [
   | inl e ↦ never_both (meaning rows next n w) p.0 f p.3 e
   | inr e ↦
-      let Behind : Brought → Type 0 = λ b. HasFault rows b.next (n + 1) ws f in
+      let After : Brought → Type 0 = λ b. HasFault rows b.next (n + 1) ws f in
       let same : e.0 ≡ p.0 = one_ok (meaning rows next n w) e.0 p.0 e.1 p.3 in
-      bring_or_break rows p.0.next (n + 1) ws p.1 p.2 f p.6 (subst Behind same e.2)
+      bring_or_break rows p.0.next (n + 1) ws p.1 p.2 f p.6 (subst After same e.2)
 ]
 
 pub no_fault : ReadingHasNoFault
@@ -88,11 +88,11 @@ no_more rows Operand n = inl ([], [], (tt, refl, refl))
 
 one_more : (rows : List Row) (next : NextWord) (n : ℕ) (w : List ℕ) (ws : List (List ℕ)) (r : Result Brought WordFault)
     → meaning rows next n w ≡ r → ((next' : NextWord) → Either rows next' (n + 1) ws) → Either rows next n (w ∷ ws)
-one_more rows next n w ws (Ok b) e behind = elim (behind b.next) [
+one_more rows next n w ws (Ok b) e after = elim (after b.next) [
   | inl r ↦ inl (b.items ++ r.0, b.operands ++ r.1, (b, r.0, r.1, e, refl, refl, r.2))
   | inr r ↦ inr (r.0, inr (b, e, r.1))
 ]
-one_more rows next n w ws (Err f) e behind = inr (f, inl e)
+one_more rows next n w ws (Err f) e after = inr (f, inl e)
 
 either : (rows : List Row) (next : NextWord) (n : ℕ) (words : List (List ℕ)) → Either rows next n words
 either rows next n [] = no_more rows next n

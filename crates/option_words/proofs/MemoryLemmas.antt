@@ -18,7 +18,7 @@ use Rattle.option_words.specs.declared.fault.WordFault.{WordFault}
 use Rattle.option_words.specs.declared.fault.WordFault.TheVariants.{UnknownShort, UnknownLong, Ambiguous, MissingValue, UnwantedValue, NoMemory}
 use Rattle.option_words.specs.Forms.{form_of}
 use Rattle.option_words.specs.Rows.{has_letter, first_row, chosen_by_name}
-use Rattle.option_words.specs.Meanings.{Brought, option_meaning, with_flag, value_behind, letter_by, letter_meaning, letters_meaning, equals_sign, name_before, value_after, choice_meaning, form_meaning, meaning}
+use Rattle.option_words.specs.Meanings.{Brought, option_meaning, with_flag, rest_value, letter_by, letter_meaning, letters_meaning, equals_sign, name_before, value_after, choice_meaning, form_meaning, meaning}
 use Rattle.option_words.specs.Reading.{IsUnserved, HasFault}
 use Rattle.option_words.specs.Laws.{NoWordsLackMemory}
 
@@ -39,8 +39,8 @@ flag_never row n (Err fault) never is = never is
 letter_by_never : (takes : Takes) (row n at : ℕ) (rest : List ℕ) (further : Result Brought WordFault) → (Lacks further → ⊥)
     → Lacks (letter_by takes row n at rest further) → ⊥
 letter_by_never Never row n at rest further never is = flag_never row n further never is
-letter_by_never Always row n at rest further never is = option_never Always row n (value_behind n at rest) is
-letter_by_never Optional row n at rest further never is = option_never Optional row n (value_behind n at rest) is
+letter_by_never Always row n at rest further never is = option_never Always row n (rest_value n at rest) is
+letter_by_never Optional row n at rest further never is = option_never Optional row n (rest_value n at rest) is
 
 letter_never : (chosen : Option Chosen) (n c at : ℕ) (rest : List ℕ) (further : Result Brought WordFault) → (Lacks further → ⊥)
     → Lacks (letter_meaning chosen n c at rest further) → ⊥
@@ -79,7 +79,7 @@ unserved_never Operand is = is
 break_never : (rows : List Row) (next : NextWord) (n : ℕ) (words : List (List ℕ)) → HasFault rows next n words NoMemory → ⊥
 break_never rows next n [] is = unserved_never next is
 break_never rows next n (w ∷ ws) (inl is) = meaning_never rows next n w is
-break_never rows next n (w ∷ ws) (inr behind) = break_never rows behind.0.next (n + 1) ws behind.2
+break_never rows next n (w ∷ ws) (inr after) = break_never rows after.0.next (n + 1) ws after.2
 
 pub never_memory : NoWordsLackMemory
 never_memory rows words at = break_never rows Anything 1 words at.breaks

@@ -18,7 +18,7 @@ use Rattle.option_words.specs.declared.reader.NextWord.TheVariants.{Anything, Va
 use Rattle.option_words.specs.declared.fault.WordFault.{WordFault}
 use Rattle.option_words.specs.Forms.{form_of}
 use Rattle.option_words.specs.Rows.{has_letter, first_row, chosen_by_name}
-use Rattle.option_words.specs.Meanings.{Brought, nothing, one_item, one_operand, wants_next, option_meaning, with_flag, value_behind, letter_by, letter_meaning, letters_meaning, equals_sign, name_before, value_after, choice_meaning, form_meaning, meaning}
+use Rattle.option_words.specs.Meanings.{Brought, nothing, one_item, one_operand, wants_next, option_meaning, with_flag, rest_value, letter_by, letter_meaning, letters_meaning, equals_sign, name_before, value_after, choice_meaning, form_meaning, meaning}
 use Rattle.option_words.specs.Reading.{Bring}
 use Rattle.option_words.specs.Laws.{OperandsAreWords}
 
@@ -46,8 +46,8 @@ flag_brings row n (Err fault) b none e = absurd (cc)
 letter_brings_by : (t : Takes) (row n at : ℕ) (rest : List ℕ) (r : Result Brought WordFault) (b : Brought) → BringsNone r
     → letter_by t row n at rest r ≡ Ok b → b.operands ≡ []
 letter_brings_by Never row n at rest r b none e = flag_brings row n r b none e
-letter_brings_by Always row n at rest r b none e = option_brings Always row n (value_behind n at rest) b e
-letter_brings_by Optional row n at rest r b none e = option_brings Optional row n (value_behind n at rest) b e
+letter_brings_by Always row n at rest r b none e = option_brings Always row n (rest_value n at rest) b e
+letter_brings_by Optional row n at rest r b none e = option_brings Optional row n (rest_value n at rest) b e
 
 letter_brings : (chosen : Option Chosen) (n c at : ℕ) (rest : List ℕ) (r : Result Brought WordFault) (b : Brought) → BringsNone r
     → letter_meaning chosen n c at rest r ≡ Ok b → b.operands ≡ []
@@ -100,10 +100,10 @@ words_bring rows next n (w ∷ ws) is os p =
     let m = n + length (w ∷ ws) in
     let lt : n < m = omega arith in
     let first : All (Between n m) p.0.operands = all_only n m p.0.operands lt (word_brings rows next n w p.0 p.3) in
-    let behind : All (Between (n + 1) (n + 1 + length ws)) p.2 = words_bring rows p.0.next (n + 1) ws p.1 p.2 p.6 in
+    let after : All (Between (n + 1) (n + 1 + length ws)) p.2 = words_bring rows p.0.next (n + 1) ws p.1 p.2 p.6 in
     let wider : (k : ℕ) → Between (n + 1) (n + 1 + length ws) k → Between n m k = λ k b.
     let from = b.from in let below = b.below in record { from = omega arith; below = omega arith } in
-    let all : All (Between n m) p.2 = All-weaker (Between (n + 1) (n + 1 + length ws)) (Between n m) wider p.2 behind in
+    let all : All (Between n m) p.2 = All-weaker (Between (n + 1) (n + 1 + length ws)) (Between n m) wider p.2 after in
     subst (All (Between n m)) (sym p.5) (All-append (Between n m) p.0.operands p.2 first all)
 
 pub operands_words : OperandsAreWords

@@ -55,16 +55,16 @@ read_more rows words i old new w within is utf8 read went =
     let took : Took old new b = parts.2 in
     record {
       brings = λ items operands h.
-          let behind : Bring rows b.next (i + 1 + 1) (drop (i + 1) words) items operands = rw took.next at h in
+          let after : Bring rows b.next (i + 1 + 1) (drop (i + 1) words) items operands = rw took.next at h in
           let here : Bring rows old.next (i + 1) (w ∷ drop (i + 1) words) (b.items ++ items) (b.operands ++ operands)
-          = (b, items, operands, parts.1, refl, refl, behind) in
+          = (b, items, operands, parts.1, refl, refl, after) in
           let Here : List (List ℕ) → Type 0 = λ ws. Bring rows old.next (i + 1) ws (b.items ++ items) (b.operands ++ operands) in
           bring_same rows Anything 1 words _ _ _ _ (regroup _ _ items _ took.items) (regroup _ _ operands _ took.operands)
           (read.brings (b.items ++ items) (b.operands ++ operands) (subst Here (sym here_is) here));
       breaks = λ fault h.
-          let behind : HasFault rows b.next (i + 1 + 1) (drop (i + 1) words) fault = rw took.next at h in
+          let after : HasFault rows b.next (i + 1 + 1) (drop (i + 1) words) fault = rw took.next at h in
           let Here : List (List ℕ) → Type 0 = λ ws. HasFault rows old.next (i + 1) ws fault in
-          read.breaks fault (subst Here (sym here_is) (inr (b, parts.1, behind)));
+          read.breaks fault (subst Here (sym here_is) (inr (b, parts.1, after)));
       spots = All-same (HasSpot words) _ _ took.items
           (All-append (HasSpot words) _ _ read.spots (meaning_spots rows words old.next (i + 1) w b (omega arith) (omega arith) is utf8 parts.1));
     }

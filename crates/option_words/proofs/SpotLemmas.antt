@@ -22,7 +22,7 @@ use Rattle.option_words.specs.declared.reader.NextWord.{NextWord}
 use Rattle.option_words.specs.declared.reader.NextWord.TheVariants.{Anything, Value, Operand}
 use Rattle.option_words.specs.declared.fault.WordFault.{WordFault}
 use Rattle.option_words.specs.Forms.{form_of}
-use Rattle.option_words.specs.Meanings.{Brought, option_meaning, with_flag, value_behind, letter_by, letter_meaning, letters_meaning, equals_sign, value_after, choice_meaning, form_meaning, meaning}
+use Rattle.option_words.specs.Meanings.{Brought, option_meaning, with_flag, rest_value, letter_by, letter_meaning, letters_meaning, equals_sign, value_after, choice_meaning, form_meaning, meaning}
 use Rattle.option_words.specs.Rows.{has_letter, first_row}
 use Rattle.option_words.specs.Spots.{IsSpot, HasSpot}
 use Rattle.option_words.specs.Words.{word}
@@ -51,15 +51,15 @@ flag_own : (row n : ℕ) (w : List ℕ) (r : Result Brought WordFault) → AreOw
 flag_own row n w (Ok b) own = (tt, own)
 flag_own row n w (Err fault) own = tt
 
-behind_own : (n at : ℕ) (cs w : List ℕ) → IsCharBoundary w at → IfSome (value_behind n at cs) (IsOwn n w)
-behind_own n at [] w boundary = tt
-behind_own n at (c ∷ cs) w boundary = record { word_is = refl; boundary = boundary }
+rest_own : (n at : ℕ) (cs w : List ℕ) → IsCharBoundary w at → IfSome (rest_value n at cs) (IsOwn n w)
+rest_own n at [] w boundary = tt
+rest_own n at (c ∷ cs) w boundary = record { word_is = refl; boundary = boundary }
 
 letter_by_own : (takes : Takes) (row n at : ℕ) (cs w : List ℕ) (further : Result Brought WordFault) → IsCharBoundary w at
     → AreOwn n w further → AreOwn n w (letter_by takes row n at cs further)
 letter_by_own Never row n at cs w further boundary own = flag_own row n w further own
-letter_by_own Always row n at cs w further boundary own = option_own Always row n (value_behind n at cs) w (behind_own n at cs w boundary)
-letter_by_own Optional row n at cs w further boundary own = option_own Optional row n (value_behind n at cs) w (behind_own n at cs w boundary)
+letter_by_own Always row n at cs w further boundary own = option_own Always row n (rest_value n at cs) w (rest_own n at cs w boundary)
+letter_by_own Optional row n at cs w further boundary own = option_own Optional row n (rest_value n at cs) w (rest_own n at cs w boundary)
 
 letter_own : (found : Option Chosen) (n c at : ℕ) (cs w : List ℕ) (further : Result Brought WordFault) → IsCharBoundary w at
     → AreOwn n w further → AreOwn n w (letter_meaning found n c at cs further)
@@ -114,8 +114,8 @@ group_own rows n w utf8 e =
 within_by : (k all left : ℕ) → k < left → left ≡ all - 2 → 2 + k < all
 within_by k all left h e = omega arith
 
-behind_sign : (k : ℕ) → 2 + k + 1 ≡ k + 3
-behind_sign k = omega arith
+after_sign : (k : ℕ) → 2 + k + 1 ≡ k + 3
+after_sign k = omega arith
 
 after_own : (n : ℕ) (w : List ℕ) (sign : Option ℕ) → IsUtf8 w → equals_sign (drop 2 w) ≡ sign → IfSome (value_after n sign) (IsOwn n w)
 after_own n w None utf8 e = tt
@@ -124,7 +124,7 @@ after_own n w (Some k) utf8 e =
     let sign : get_or w (2 + k) 0 ≡ 61 = sym (get_or-drop 2 w k 0) ∙ eqb-true (get_or (drop 2 w) k 0) 61 found.1 in
     let within : 2 + k < length w = within_by k (length w) (length (drop 2 w)) found.0 (length-drop 2 w) in
     let At : ℕ → Type 0 = λ m. IsCharBoundary w m in
-    record { word_is = refl; boundary = subst At (behind_sign k) (IsCharBoundary-after_ascii w (2 + k) utf8 within (omega (arith, sign))) }
+    record { word_is = refl; boundary = subst At (after_sign k) (IsCharBoundary-after_ascii w (2 + k) utf8 within (omega (arith, sign))) }
 
 choice_own : (choice : Choice) (n : ℕ) (value : Option Spot) (w : List ℕ) → IfSome value (IsOwn n w)
     → AreOwn n w (choice_meaning choice n value)

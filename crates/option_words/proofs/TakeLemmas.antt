@@ -18,7 +18,7 @@ use Rattle.option_words.specs.declared.reader.NextWord.TheVariants.{Anything}
 use Rattle.option_words.specs.declared.reader.Reader.{Reader}
 use Rattle.option_words.specs.declared.fault.WordFault.{WordFault}
 use Rattle.option_words.specs.declared.fault.WordFault.TheVariants.{UnknownShort}
-use Rattle.option_words.specs.Meanings.{Brought, nothing, one_item, with_flag, value_behind, option_meaning, letter_by, letter_meaning, letters_meaning, equals_sign, name_before, value_after, choice_meaning, name_meaning}
+use Rattle.option_words.specs.Meanings.{Brought, nothing, one_item, with_flag, rest_value, option_meaning, letter_by, letter_meaning, letters_meaning, equals_sign, name_before, value_after, choice_meaning, name_meaning}
 use Rattle.option_words.specs.Rows.{is_alone, has_letter, first_row, chosen_by_name}
 use Rattle.option_words.specs.Taken.{Took, IsFaultOf}
 
@@ -55,7 +55,7 @@ leads_flag whole start now next row n rest leads flag = record {
 
 -- an option that takes a value ends its word
 pub letter_ends : (takes : Takes) (row n at : ℕ) (cs : List ℕ) (further : Result Brought WordFault) → is_alone takes ≡ false
-    → letter_by takes row n at cs further ≡ option_meaning takes row n (value_behind n at cs)
+    → letter_by takes row n at cs further ≡ option_meaning takes row n (rest_value n at cs)
 letter_ends Never row n at cs further other = cc
 letter_ends Always row n at cs further other = refl
 letter_ends Optional row n at cs further other = refl
@@ -67,17 +67,17 @@ letter_goes_on Never row n at cs further alone = refl
 letter_goes_on Always row n at cs further alone = cc
 letter_goes_on Optional row n at cs further alone = cc
 
-spelled_behind : (n at : ℕ) (cs bs : List ℕ) → encode_utf8_all cs ≡ bs → 0 < length bs
-    → value_behind n at cs ≡ Some (record { word = n; from = at })
-spelled_behind n at [] bs e some = let none : 0 ≡ length bs = ap (λ (v : List ℕ). length v) e in absurd (omega arith)
-spelled_behind n at (c ∷ cs) bs e some = refl
+spelled_after : (n at : ℕ) (cs bs : List ℕ) → encode_utf8_all cs ≡ bs → 0 < length bs
+    → rest_value n at cs ≡ Some (record { word = n; from = at })
+spelled_after n at [] bs e some = let none : 0 ≡ length bs = ap (λ (v : List ℕ). length v) e in absurd (omega arith)
+spelled_after n at (c ∷ cs) bs e some = refl
 
 -- the value behind a letter, where bytes are left
-pub rest_behind : (n at : ℕ) (bs : List ℕ) → IsUtf8 bs → 0 < length bs → value_behind n at (chars bs) ≡ Some (record { word = n; from = at })
-rest_behind n at bs utf8 some = spelled_behind n at (chars bs) bs (encodes-chars bs utf8) some
+pub rest_after : (n at : ℕ) (bs : List ℕ) → IsUtf8 bs → 0 < length bs → rest_value n at (chars bs) ≡ Some (record { word = n; from = at })
+rest_after n at bs utf8 some = spelled_after n at (chars bs) bs (encodes-chars bs utf8) some
 
-place_behind : (all rest rest' width : ℕ) → rest ≡ width + rest' → rest ≤ all → all - rest + width ≡ all - rest'
-place_behind all rest rest' width e within = omega arith
+place_after : (all rest rest' width : ℕ) → rest ≡ width + rest' → rest ≤ all → all - rest + width ≡ all - rest'
+place_after all rest rest' width e within = omega arith
 
 -- the letters of a word that are left begin with this one
 pub letter_step : (rows : List Row) (n all c : ℕ) (bs rest : List ℕ) → IsUtf8 bs → bs ≡ encode_utf8 c ++ rest → length bs ≤ all
@@ -88,15 +88,15 @@ letter_step rows n all c bs rest utf8 e within =
     = ap length e ∙ length-append (encode_utf8 c) rest ∙ ap (λ k. k + length rest) (length-encode c) in
     ap (λ cs. letters_meaning rows n (all - length bs) cs) (chars_past_char bs rest c utf8 e)
     ∙ ap (λ at. letter_meaning (first_row (has_letter c) 0 rows) n c at (chars rest) (letters_meaning rows n at (chars rest)))
-    (place_behind all (length bs) (length rest) (len_utf8 c) len within)
+    (place_after all (length bs) (length rest) (len_utf8 c) len within)
 
 -- the bytes of a text that begins with a character
 pub length_past : (bs rest : List ℕ) (c : ℕ) → bs ≡ encode_utf8 c ++ rest → length bs ≡ len_utf8 c + length rest
 length_past bs rest c e = ap length e ∙ length-append (encode_utf8 c) rest ∙ ap (λ k. k + length rest) (length-encode c)
 
 -- no value stands behind a letter where no bytes are left
-pub none_behind : (n at : ℕ) (bs : List ℕ) → nat_eq (length bs) 0 ≡ true → None ≡ value_behind n at (chars bs)
-none_behind n at bs none = sym (ap (value_behind n at) (ap chars (nil_from_length bs (eqb-true (length bs) 0 none)) ∙ chars-nil))
+pub none_after : (n at : ℕ) (bs : List ℕ) → nat_eq (length bs) 0 ≡ true → None ≡ rest_value n at (chars bs)
+none_after n at bs none = sym (ap (rest_value n at) (ap chars (nil_from_length bs (eqb-true (length bs) 0 none)) ∙ chars-nil))
 
 pub positive : (n : ℕ) → nat_eq n 0 ≡ false → 0 < n
 positive zero e = cc

@@ -4,13 +4,13 @@ use Rattle.option_words.specs.declared.form.Form.{Form}
 use Rattle.option_words.specs.declared.form.Form.TheVariants.{Plain, Stop, Name, Letters}
 
 -- what stands behind two hyphens
-abbrev pub form_behind : List ℕ → Form
-form_behind [] = Stop
-form_behind (c ∷ cs) = Name
+abbrev pub form_after : List ℕ → Form
+form_after [] = Stop
+form_after (c ∷ cs) = Name
 
 -- What a word looks like: `--`, a long name behind `--`, letters behind `-`, or plain; so are an empty word and a lone
 -- hyphen.
 abbrev pub form_of : List ℕ → Form
 form_of [] = Plain
 form_of (c ∷ []) = Plain
-form_of (c ∷ d ∷ rest) = if nat_eq c 45 then if nat_eq d 45 then form_behind rest else Letters else Plain
+form_of (c ∷ d ∷ rest) = if nat_eq c 45 then if nat_eq d 45 then form_after rest else Letters else Plain

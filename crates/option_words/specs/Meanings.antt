@@ -56,15 +56,15 @@ with_flag row n (Ok b) = Ok (record b { items = (record { row = row; word = n; v
 with_flag row n (Err fault) = Err fault
 
 -- the value that stands behind a letter, from byte `at` on: the rest of the word, unless it is empty
-abbrev pub value_behind : (n at : ℕ) → (rest : List ℕ) → Option Spot
-value_behind n at [] = None
-value_behind n at (c ∷ cs) = Some (record { word = n; from = at })
+abbrev pub rest_value : (n at : ℕ) → (rest : List ℕ) → Option Spot
+rest_value n at [] = None
+rest_value n at (c ∷ cs) = Some (record { word = n; from = at })
 
 -- A letter by what its row takes: one that takes no value is followed by further letters.
 abbrev pub letter_by : Takes → (row n at : ℕ) → (rest : List ℕ) → Result Brought WordFault → Result Brought WordFault
 letter_by Never row n at rest further = with_flag row n further
-letter_by Always row n at rest further = option_meaning Always row n (value_behind n at rest)
-letter_by Optional row n at rest further = option_meaning Optional row n (value_behind n at rest)
+letter_by Always row n at rest further = option_meaning Always row n (rest_value n at rest)
+letter_by Optional row n at rest further = option_meaning Optional row n (rest_value n at rest)
 
 -- a letter by the row that has it
 abbrev pub letter_meaning :

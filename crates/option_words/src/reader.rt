@@ -2,7 +2,7 @@
 ghost use Rattle.std.specs.Prelude.{◌≡◌, ◌⊎◌, ◌-◌, ◌≤◌, [], length, drop, All, IfOk, IfErr, OnOk, IsOkAnd};
 ghost use Rattle.std.specs.Str.{chars};
 ghost use Rattle.option_words.specs.Forms.{form_of};
-ghost use Rattle.option_words.specs.Meanings.{letters_meaning, meaning, name_meaning, one_item, one_operand, option_meaning, value_behind};
+ghost use Rattle.option_words.specs.Meanings.{letters_meaning, meaning, name_meaning, one_item, one_operand, option_meaning, rest_value};
 ghost use Rattle.option_words.specs.Reading.{IsReading, IsServed, IsUnserved, WordFaultAt};
 ghost use Rattle.option_words.specs.Spots.{HasSpot};
 ghost use Rattle.option_words.specs.Taken.{IsFaultOf, Took};
@@ -118,7 +118,7 @@ impl Reader {
                 return Err(WordFault::UnknownShort { word: n, letter });
             };
             if !chosen.takes.stands_alone() {
-                let value = find_value_behind(n, word, letters.as_str());
+                let value = find_rest_value(n, word, letters.as_str());
                 return self.put_option(chosen, n, value);
             }
             let row = chosen.row;
@@ -190,9 +190,9 @@ impl Reader {
 }
 
 /// The value behind a letter: the rest of its word, unless that is empty.
-fn find_value_behind(n: usize, word: &str, rest: &str) -> Option<Spot>
+fn find_rest_value(n: usize, word: &str, rest: &str) -> Option<Spot>
     requires { length rest.now ≤ length word.now }
-    ensures { result ≡ value_behind n (length word.now - length rest.now) (chars rest.now) }
+    ensures { result ≡ rest_value n (length word.now - length rest.now) (chars rest.now) }
 {
     if rest.is_empty() {
         return None;

@@ -14,7 +14,7 @@ use Rattle.block_list.specs.Tiling.{IsMerged}
 use Rattle.block_list.specs.Edits.{IsTiled, IsPlace, start_of}
 use Rattle.block_list.proofs.TileLemmas.{covered-append, tiled_from_tiles, tile_at, tile_read, start_all, start_mono}
 use Rattle.block_list.proofs.EditLemmas.{no_block, rising}
-use Rattle.block_list.proofs.LookupLemmas.{IsClear, clear_behind, clear_before, found_first, found_range_up, found_last, found_range_down}
+use Rattle.block_list.proofs.LookupLemmas.{IsClear, clear_after, clear_before, found_first, found_range_up, found_last, found_range_down}
 use Rattle.block_list.proofs.ApartLemmas.{merged_from_apart}
 use Rattle.block_list.proofs.StretchLemmas.{stretches_tiles, stretches_covered, stretches_apart}
 use Rattle.paged_blocks.specs.Search.{IsSearched, IsBare}
@@ -36,7 +36,7 @@ place_searched bs at n t w s = record {
   index = s.within;
   before = λ z. omega (arith, s.before (n - 1) no_block (omega arith), (tile_at bs (n - 1) no_block t (omega (arith, s.within))).begins);
   reaches = ⊎_elim
-      (λ (l : n < length bs). omega (arith, s.behind n no_block (omega arith) l, (tile_at bs n no_block t l).begins))
+      (λ (l : n < length bs). omega (arith, s.past n no_block (omega arith) l, (tile_at bs n no_block t l).begins))
       (λ (l : length bs ≤ n). omega (arith, start_all bs n l))
       (cases_lt n (length bs));
 }
@@ -65,7 +65,7 @@ all_searched map at i b h n e l =
         rising bs (stretches_tiled map h) j i d (omega arith) (omega arith),
         ap block_begins (get_or_from_slice_get bs i b d e),
       );
-      behind = λ j d u v. absurd (omega arith);
+      past = λ j d u v. absurd (omega arith);
     }
 
 pub all_searched_place : (map : List Status) (at i : ℕ) (b : Block) → length map < 2 ^ 63 → at ≤ length map
@@ -75,9 +75,9 @@ all_searched_place map at i b h w n e l =
     (all_searched map at i b h n e l)
 
 -- and where it doesn't, the place is at or in front of where it begins
-pub last_behind : (map : List Status) (at i : ℕ) (b : Block) → length map < 2 ^ 63 → i + 1 ≡ length (stretches map)
+pub last_after : (map : List Status) (at i : ℕ) (b : Block) → length map < 2 ^ 63 → i + 1 ≡ length (stretches map)
     → slice_get (stretches map) i ≡ Some b → at ≤ b.pos → at ≤ start_of (stretches map) (length (stretches map) - 1)
-last_behind map at i b h n e l =
+last_after map at i b h n e l =
     let bs : List Block = stretches map in
     let k : i ≡ length bs - 1 = omega arith in
     omega (arith, (tile_read bs i b (stretches_tiled map h) (omega arith) (block_read bs i b e)).begins, ap (λ j. start_of bs j) k)
@@ -110,21 +110,21 @@ narrowed_front map at i h z l n =
       order = omega arith;
       within = omega arith;
       before = λ d. omega (arith, (tile_at bs 0 d t (omega arith)).begins, none);
-      behind = λ d u. omega (arith, (tile_at bs i d t u).begins, ap (λ j. start_of bs j) n);
+      past = λ d u. omega (arith, (tile_at bs i d t u).begins, ap (λ j. start_of bs j) n);
     }
 
 few_index : (map : List Status) (i : ℕ) (b : Block) → slice_get (stretches map) i ≡ Some b → i < length (stretches map)
 few_index map i b e = slice_get_within (stretches map) i b e
 
 -- stretches of another status are passed
-pub few_behind : (map : List Status) (i from : ℕ) (s : Status) (b : Block) → length map < 2 ^ 63
+pub few_after : (map : List Status) (i from : ℕ) (s : Status) (b : Block) → length map < 2 ^ 63
     → slice_get (stretches map) i ≡ Some b → (b.status ≡ s → ⊥) → IsClear map s from (start_of (stretches map) i)
     → IsClear map s from (start_of (stretches map) (i + 1))
-few_behind map i from s b h e o c =
+few_after map i from s b h e o c =
     let bs : List Block = stretches map in
     let P : List Status → Type 0 = λ m. IsClear m s from (start_of bs i) → IsClear m s from (start_of bs (i + 1)) in
     subst P (stretches_covered 0 map)
-    (clear_behind bs i from s b (stretches_tiled map h) (stretches_merged map) (few_index map i b e) (block_read bs i b e) o) c
+    (clear_after bs i from s b (stretches_tiled map h) (stretches_merged map) (few_index map i b e) (block_read bs i b e) o) c
 
 pub few_front : (map : List Status) (i to : ℕ) (s : Status) (b : Block) → length map < 2 ^ 63
     → slice_get (stretches map) i ≡ Some b → (b.status ≡ s → ⊥) → IsClear map s (start_of (stretches map) (i + 1)) to

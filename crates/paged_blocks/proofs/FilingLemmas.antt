@@ -199,20 +199,20 @@ released_more es free new n k e h p q =
     )
 
 -- the numbers of all entries up to one became free
-pub released_numbers : (es kept : List PageEntry) (free new : List ℕ) (n first behind : ℕ) → kept ≡ take first es ++ drop behind es
-    → times_free n new + naming n (take first es) ≡ times_free n free + naming n (take behind es)
+pub released_numbers : (es kept : List PageEntry) (free new : List ℕ) (n first past : ℕ) → kept ≡ take first es ++ drop past es
+    → times_free n new + naming n (take first es) ≡ times_free n free + naming n (take past es)
     → naming n kept + times_free n new ≡ naming n es + times_free n free
-released_numbers es kept free new n first behind q h =
-    omega (arith, ap (λ r. naming n r) q, naming-append n (take first es) (drop behind es), naming-parts n es behind)
+released_numbers es kept free new n first past q h =
+    omega (arith, ap (λ r. naming n r) q, naming-append n (take first es) (drop past es), naming-parts n es past)
 
 -- the numbers of entries that were taken out became free
-pub released : (pages : List (List Block)) (es kept : List PageEntry) (free new : List ℕ) (first behind : ℕ)
-    → AreFiled pages es free → first ≤ behind → behind ≤ length es → kept ≡ take first es ++ drop behind es
+pub released : (pages : List (List Block)) (es kept : List PageEntry) (free new : List ℕ) (first past : ℕ)
+    → AreFiled pages es free → first ≤ past → past ≤ length es → kept ≡ take first es ++ drop past es
     → ((n : ℕ) → naming n kept + times_free n new ≡ naming n es + times_free n free)
     → length kept + length new ≡ length es + length free → AreFiled pages kept new
-released pages es kept free new first behind a l u q same n = record {
-  each = rw q (All-append (IsEntry pages) (take first es) (drop behind es) (All-take (IsEntry pages) first es a.each)
-      (All-drop (IsEntry pages) behind es a.each));
+released pages es kept free new first past a l u q same n = record {
+  each = rw q (All-append (IsEntry pages) (take first es) (drop past es) (All-take (IsEntry pages) first es a.each)
+      (All-drop (IsEntry pages) past es a.each));
   numbered = record {
     once = λ m. omega (arith, same m, a.numbered.once m);
     within = λ m h. omega (arith, same m, a.numbered.within m h);
@@ -270,15 +270,15 @@ rewritten_flat pages es free k page new named h p =
     ∙ ap (λ r. flat pages (take k es) ++ page ++ flat pages r) (drop_at (take k es) (drop (k + 1) es) k n)
 
 -- how many entries are left
-pub taken_out : (es kept : List PageEntry) (first behind : ℕ) → first ≤ behind → behind ≤ length es
-    → kept ≡ take first es ++ drop behind es → length kept + (behind - first) ≡ length es
-taken_out es kept first behind l u q =
+pub taken_out : (es kept : List PageEntry) (first past : ℕ) → first ≤ past → past ≤ length es
+    → kept ≡ take first es ++ drop past es → length kept + (past - first) ≡ length es
+taken_out es kept first past l u q =
     omega (
       arith,
       ap length q,
-      length-append (take first es) (drop behind es),
+      length-append (take first es) (drop past es),
       length-take-le first es (omega arith),
-      length-drop behind es,
+      length-drop past es,
     )
 
 -- no page is short
@@ -301,46 +301,46 @@ many_blocks pages (e ∷ es) h z =
     omega (arith, first.len, length-append (blocks_of pages e) (flat pages es))
 
 -- pages that no region holds aren't short
-pub kept_long : (es kept : List PageEntry) (first behind : ℕ) → AreHalfFull es → first ≤ behind → behind ≤ length es
-    → (0 < length es → first < behind) → kept ≡ take first es ++ drop behind es → short_pages kept ≡ 0
-kept_long es kept first behind half l u taken q =
+pub kept_long : (es kept : List PageEntry) (first past : ℕ) → AreHalfFull es → first ≤ past → past ≤ length es
+    → (0 < length es → first < past) → kept ≡ take first es ++ drop past es → short_pages kept ≡ 0
+kept_long es kept first past half l u taken q =
     ⊎_elim
     (λ (v : 1 < length es).
     omega (
       arith,
       half.half v,
       ap (λ r. short_pages r) q,
-      shorts-append (take first es) (drop behind es),
+      shorts-append (take first es) (drop past es),
       shorts-parts es first,
-      shorts-parts es behind,
+      shorts-parts es past,
     ))
     (λ (v : length es ≤ 1).
-    let none : length es + first ≤ behind =
+    let none : length es + first ≤ past =
     ⊎_elim (λ (w : 0 < length es). omega (arith, taken w)) (λ (w : length es ≤ 0). omega arith) (cases_lt 0 (length es)) in
     let z : length kept ≡ 0 =
     omega (
       arith,
       ap length q,
-      length-append (take first es) (drop behind es),
+      length-append (take first es) (drop past es),
       length-take-le first es (omega arith),
-      length-drop behind es,
+      length-drop past es,
       none,
     ) in
     ap (λ r. short_pages r) (nil_from_length kept z))
     (cases_lt 1 (length es))
 
 -- those pages are no more than their blocks need where each is half full
-pub kept_fits : (pages : List (List Block)) (es kept : List PageEntry) (blocks : List Block) (first behind : ℕ)
-    → All (IsEntry pages) kept → short_pages kept ≡ 0 → kept ≡ take first es ++ drop behind es
-    → 32 * length kept + length blocks ≤ length (flat pages (take first es) ++ blocks ++ flat pages (drop behind es))
-kept_fits pages es kept blocks first behind h z q =
+pub kept_fits : (pages : List (List Block)) (es kept : List PageEntry) (blocks : List Block) (first past : ℕ)
+    → All (IsEntry pages) kept → short_pages kept ≡ 0 → kept ≡ take first es ++ drop past es
+    → 32 * length kept + length blocks ≤ length (flat pages (take first es) ++ blocks ++ flat pages (drop past es))
+kept_fits pages es kept blocks first past h z q =
     let front : List Block = flat pages (take first es) in
-    let back : List Block = flat pages (drop behind es) in
+    let back : List Block = flat pages (drop past es) in
     omega (
       arith,
       many_blocks pages kept h z,
       ap (λ r. length (flat pages r)) q,
-      ap length (flat_map-append (blocks_of pages) (take first es) (drop behind es)),
+      ap length (flat_map-append (blocks_of pages) (take first es) (drop past es)),
       length-append front back,
       length-append (front ++ blocks) back,
       length-append front blocks,

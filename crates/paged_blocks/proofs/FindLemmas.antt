@@ -10,7 +10,7 @@ use Rattle.block_list.specs.Stretches.{covered}
 use Rattle.block_list.specs.Edits.{start_of}
 use Rattle.block_list.proofs.TileLemmas.{tile_at, tile_read, start_mono}
 use Rattle.block_list.proofs.EditLemmas.{no_block, read_there}
-use Rattle.block_list.proofs.LookupLemmas.{stretch_held, clear_behind, clear_before, clear_up, found_first, found_range_up, found_last, found_range_down}
+use Rattle.block_list.proofs.LookupLemmas.{stretch_held, clear_after, clear_before, clear_up, found_first, found_range_up, found_last, found_range_down}
 use Rattle.paged_blocks.specs.declared.entry.PageEntry.{PageEntry}
 use Rattle.paged_blocks.specs.Tally.{tallied}
 use Rattle.paged_blocks.specs.Search.{AreNonempty, HasNoneOf, HasAt, IsFirstBlock, IsLastBlock, IsBare}
@@ -33,7 +33,7 @@ bare_page pages es k e j (suc n) from s p h l o b =
     (record { none = λ m d v w q. o.none m d v (omega arith) q }) b in
     let v : i < length bs = page_index pages es k (j + n) e h u in
     let r = page_read pages es k (j + n) e no_block h u in
-    let c = clear_behind bs i from s (get_or bs i no_block) p.tiled p.merged v (read_there bs i v)
+    let c = clear_after bs i from s (get_or bs i no_block) p.tiled p.merged v (read_there bs i v)
     (λ q. o.none (j + n) no_block (omega arith) (omega arith) (ap (λ (y : Block). y.status) (sym r) ∙ q))
     (record { clear = rest.bare }) in
     let z : before pages es k + (j + suc n) ≡ i + 1 = omega arith in
@@ -253,9 +253,9 @@ held_has pages es k j x e s p h q =
     }
 
 -- the block that holds a position ends behind it, and so do the blocks of later pages
-pub held_behind : (pages : List (List Block)) (es : List PageEntry) (k j from : ℕ) → IsHeld pages es (from + 1) k j
+pub held_after : (pages : List (List Block)) (es : List PageEntry) (k j from : ℕ) → IsHeld pages es (from + 1) k j
     → from < start_of (flat pages es) (before pages es k + (j - 1) + 1)
-held_behind pages es k j from h =
+held_after pages es k j from h =
     let z : before pages es k + (j - 1) + 1 ≡ before pages es k + j = omega (arith, h.block) in
     rw z (omega (arith, h.place.reaches))
 

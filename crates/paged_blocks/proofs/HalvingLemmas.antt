@@ -8,7 +8,7 @@ pub record IsNarrowed {X : Type 0} (begin : X → ℕ) (xs : List X) (at last en
   pub order : last < end
   pub within : end ≤ length xs
   pub before : (d : X) → begin (get_or xs last d) < at
-  pub behind : (d : X) → end < length xs → at ≤ begin (get_or xs end d)
+  pub past : (d : X) → end < length xs → at ≤ begin (get_or xs end d)
 
 -- the search goes on among those from a middle one on, or among those in front of it
 pub narrowed_up : {X : Type 0} (begin : X → ℕ) (xs : List X) (at last end middle : ℕ) (x : X)
@@ -19,7 +19,7 @@ narrowed_up begin xs at last end middle x n a b e l = record {
   within = n.within;
   before = λ d.
       omega (arith, ap begin (e ∙ get_or_default xs middle x d (omega (arith, n.within))));
-  behind = n.behind;
+  past = n.past;
 }
 
 pub narrowed_down : {X : Type 0} (begin : X → ℕ) (xs : List X) (at last end middle : ℕ) (x : X)
@@ -29,7 +29,7 @@ narrowed_down begin xs at last end middle x n a b e l = record {
   order = a;
   within = omega (arith, n.within);
   before = n.before;
-  behind = λ d u. omega (arith, ap begin (e ∙ get_or_default xs middle x d u));
+  past = λ d u. omega (arith, ap begin (e ∙ get_or_default xs middle x d u));
 }
 
 pub narrowed_found : {X : Type 0} (begin : X → ℕ) (xs : List X) (at last end : ℕ) → IsNonDecreasingBy begin xs
@@ -37,7 +37,7 @@ pub narrowed_found : {X : Type 0} (begin : X → ℕ) (xs : List X) (at last end
 narrowed_found begin xs at last end r n h = record {
   within = omega (arith, n.order, n.within);
   before = λ i d l. omega (arith, n.before d, r i last d (omega arith) (omega (arith, n.order, n.within)));
-  behind = λ i d l u. omega (arith, n.behind d (omega (arith, n.order)), r end i d (omega (arith, n.order)) u);
+  past = λ i d l u. omega (arith, n.past d (omega (arith, n.order)), r end i d (omega (arith, n.order)) u);
 }
 
 -- how many steps a search has taken that halves its width in each

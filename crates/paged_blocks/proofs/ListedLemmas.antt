@@ -14,9 +14,9 @@ set_reverse (x ∷ ys) i (suc j) y e =
     ∙ set-append_left (reverse ys) (x ∷ []) i y (omega (arith, length-reverse ys))
     ∙ ap (λ r. r ++ x ∷ []) (set_reverse ys i j y (omega arith)) ∙ sym (reverse-append (x ∷ []) (set ys j y))
 
-pub set_behind : {X : Type 0} (xs ys : List X) (k : ℕ) (y : X) → length xs ≤ k → k < length xs + length ys
+pub set_past : {X : Type 0} (xs ys : List X) (k : ℕ) (y : X) → length xs ≤ k → k < length xs + length ys
     → set (xs ++ reverse ys) k y ≡ xs ++ reverse (set ys (length ys - 1 - (k - length xs)) y)
-set_behind xs ys k y h l =
+set_past xs ys k y h l =
     set-append_right xs (reverse ys) (length xs) k y refl h
     ∙ ap (λ r. xs ++ r) (set_reverse ys (k - length xs) (length ys - 1 - (k - length xs)) y (omega arith))
 

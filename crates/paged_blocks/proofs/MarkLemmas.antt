@@ -203,14 +203,14 @@ back_none bs high block e s l =
     }
 
 -- what is known of the block that holds a position
-pub record IsBehind (bs : List Block) (k at : ℕ) (b : Block) : Type 0 where
+pub record IsHolding (bs : List Block) (k at : ℕ) (b : Block) : Type 0 where
   pub index : k < length bs
   pub tile : IsTile bs k b
   pub begun : b.pos ≤ at
   pub beyond : at < b.pos + b.size
 
-pub behind_of : (bs : List Block) (k j at : ℕ) (b : Block) → j ≡ k + 1 → IsTiled bs → IsPlace bs (at + 1) j → b ≡ get_or bs k b → IsBehind bs k at b
-behind_of bs k j at b e t p q =
+pub holding_of : (bs : List Block) (k j at : ℕ) (b : Block) → j ≡ k + 1 → IsTiled bs → IsPlace bs (at + 1) j → b ≡ get_or bs k b → IsHolding bs k at b
+holding_of bs k j at b e t p q =
     let h : k < length bs = omega (arith, p.index) in
     let r = tile_read bs k b t h q in
     let z : j - 1 ≡ k = omega arith in
@@ -219,9 +219,9 @@ behind_of bs k j at b e t p q =
     record { index = h; tile = r; begun = omega (arith, r.begins); beyond = omega (arith, r.ends) }
 
 -- the tiles behind a block that holds a position
-tiles_behind : (bs : List Block) (k at mid : ℕ) (b : Block) → IsTiled bs → IsBehind bs k at b → mid ≡ b.pos + b.size
+tiles_after : (bs : List Block) (k at mid : ℕ) (b : Block) → IsTiled bs → IsHolding bs k at b → mid ≡ b.pos + b.size
     → AreTiles mid (drop (k + 1) bs) (max at (length (flat_map covered bs)))
-tiles_behind bs k at mid b t f e =
+tiles_after bs k at mid b t f e =
     let z : start_of bs (k + 1) ≡ mid = omega (arith, f.tile.ends) in
     let top : max at (length (flat_map covered bs)) ≡ length (flat_map covered bs) = omega (arith, f.tile.within, f.beyond) in
     rw top (rw z at (parts_of bs (k + 1) t).back)
@@ -231,10 +231,10 @@ pub back_other : (bs : List Block) (k j : ℕ) (block b : Block) → j ≡ k + 1
     → IsJoinedBack bs block j (Some (record { pos = block.pos + block.size; size = b.pos + b.size - (block.pos + block.size); status = b.status })) block
 back_other bs k j block b e t m p q s o =
     let at : ℕ = block.pos + block.size in
-    let f = behind_of bs k j at b e t p q in
+    let f = holding_of bs k j at b e t p q in
     let rest : Block = record { pos = at; size = b.pos + b.size - at; status = b.status } in
     let part = back_part bs k at b t f.index q f.begun (omega (arith, f.beyond)) in
-    let x = tiles_behind bs k at (at + rest.size) b t f (omega (arith, f.beyond)) in
+    let x = tiles_after bs k at (at + rest.size) b t f (omega (arith, f.beyond)) in
     let a : AreApart (b ∷ drop (k + 1) bs) = rw (from_on bs k b f.index q) at (merged_back k bs m) in
     record {
       within = p.index;
@@ -252,12 +252,12 @@ pub back_same : (bs : List Block) (k j : ℕ) (block b : Block) → j ≡ k + 1 
     → IsJoinedBack bs block j None (record { pos = block.pos; size = block.size + (b.pos + b.size - (block.pos + block.size)); status = block.status })
 back_same bs k j block b e t m p q some s =
     let at : ℕ = block.pos + block.size in
-    let f = behind_of bs k j at b e t p q in
+    let f = holding_of bs k j at b e t p q in
     let more : ℕ = b.pos + b.size - at in
     let whole : Block = record { pos = block.pos; size = block.size + more; status = block.status } in
     let back : List Status = flat_map covered (drop (k + 1) bs) in
     let part = back_part bs k at b t f.index q f.begun (omega (arith, f.beyond)) in
-    let x = tiles_behind bs k at (block.pos + whole.size) b t f (omega (arith, f.beyond)) in
+    let x = tiles_after bs k at (block.pos + whole.size) b t f (omega (arith, f.beyond)) in
     let a : AreApart (b ∷ drop (k + 1) bs) = rw (from_on bs k b f.index q) at (merged_back k bs m) in
     record {
       within = p.index;
@@ -279,7 +279,7 @@ pub back_kept : (bs : List Block) (k j : ℕ) (block b : Block) → j ≡ k + 1 
     → b.pos + b.size - (block.pos + block.size) ≡ b.size → IsJoinedBack bs block k None block
 back_kept bs k j block b e t m p q s o z =
     let at : ℕ = block.pos + block.size in
-    let f = behind_of bs k j at b e t p q in
+    let f = holding_of bs k j at b e t p q in
     let g = back_other bs k j block b e t m p q s o in
     let begins : b.pos ≡ at = omega (arith, f.begun, f.beyond) in
     let kept : record { pos = at; size = b.pos + b.size - at; status = b.status } ∷ drop j bs ≡ drop k bs =
@@ -298,23 +298,23 @@ back_kept bs k j block b e t m p q s o z =
     }
 
 -- such a block isn't the first
-pub kept_behind : (bs : List Block) (k j : ℕ) (block b : Block) → j ≡ k + 1 → IsTiled bs
+pub kept_after : (bs : List Block) (k j : ℕ) (block b : Block) → j ≡ k + 1 → IsTiled bs
     → IsPlace bs (block.pos + block.size + 1) j → b ≡ get_or bs k b → 0 < block.size
     → b.pos + b.size - (block.pos + block.size) ≡ b.size → 1 < j
-kept_behind bs k j block b e t p q s z =
-    let f = behind_of bs k j (block.pos + block.size) b e t p q in
+kept_after bs k j block b e t p q s z =
+    let f = holding_of bs k j (block.pos + block.size) b e t p q in
     let none : start_of bs 0 ≡ 0 = refl in
     omega (arith, index_before bs 0 k (omega (arith, none, f.tile.begins, f.begun, f.beyond)))
 
 -- the blocks with what was joined in the place of those between
-pub joined : (bs new : List Block) (low high : ℕ) (before behind : Option Block) (block wide whole : Block) → IsTiled bs
+pub joined : (bs new : List Block) (low high : ℕ) (before after : Option Block) (block wide whole : Block) → IsTiled bs
     → 0 < block.size → block.pos + block.size < 2 ^ 63 → IsJoinedFront bs block low before wide
-    → IsJoinedBack bs wide high behind whole → new ≡ option_to_list before ++ whole ∷ [] ++ option_to_list behind
+    → IsJoinedBack bs wide high after whole → new ≡ option_to_list before ++ whole ∷ [] ++ option_to_list after
     → AreOfMap (spliced bs low high new) (marked (flat_map covered bs) block.pos block.size block.status)
-joined bs new low high before behind block wide whole t s u f g n =
+joined bs new low high before after block wide whole t s u f g n =
     let map : List Status = flat_map covered bs in
     let xs : List Block = take low bs ++ option_to_list before in
-    let ys : List Block = option_to_list behind ++ drop high bs in
+    let ys : List Block = option_to_list after ++ drop high bs in
     let end : ℕ = max (wide.pos + wide.size) (length map) in
     let e : spliced bs low high new ≡ xs ++ whole ∷ ys =
     ap (λ r. take low bs ++ r ++ drop high bs) n ∙ simp append_assoc in
@@ -333,9 +333,9 @@ joined bs new low high before behind block wide whole t s u f g n =
     })
 
 -- at least one block is taken out
-pub some_taken : (bs : List Block) (low high : ℕ) (before behind : Option Block) (block wide whole : Block)
-    → 0 < block.size → IsJoinedFront bs block low before wide → IsJoinedBack bs wide high behind whole → low < high
-some_taken bs low high before behind block wide whole s f g =
+pub some_taken : (bs : List Block) (low high : ℕ) (before after : Option Block) (block wide whole : Block)
+    → 0 < block.size → IsJoinedFront bs block low before wide → IsJoinedBack bs wide high after whole → low < high
+some_taken bs low high before after block wide whole s f g =
     index_before bs low high (omega (arith, f.early, f.inside, f.ends, g.reaches))
 
 one_at_most : (rest : Option Block) → length (option_to_list rest) ≤ 1
@@ -343,29 +343,29 @@ one_at_most None = omega arith
 one_at_most (Some b) = omega arith
 
 -- the blocks that come in, one part behind the other
-pub new_blocks : (none one two three : List Block) (before behind : Option Block) (whole : Block) → none ≡ []
-    → one ≡ none ++ option_to_list before → two ≡ one ++ whole ∷ [] → three ≡ two ++ option_to_list behind
-    → three ≡ option_to_list before ++ whole ∷ [] ++ option_to_list behind
-new_blocks none one two three before behind whole z a b c =
-    c ∙ ap (λ r. r ++ option_to_list behind) (b ∙ ap (λ r. r ++ whole ∷ []) (a ∙ ap (λ r. r ++ option_to_list before) z))
+pub new_blocks : (none one two three : List Block) (before after : Option Block) (whole : Block) → none ≡ []
+    → one ≡ none ++ option_to_list before → two ≡ one ++ whole ∷ [] → three ≡ two ++ option_to_list after
+    → three ≡ option_to_list before ++ whole ∷ [] ++ option_to_list after
+new_blocks none one two three before after whole z a b c =
+    c ∙ ap (λ r. r ++ option_to_list after) (b ∙ ap (λ r. r ++ whole ∷ []) (a ∙ ap (λ r. r ++ option_to_list before) z))
 
 -- how many blocks come in
-pub record IsFew (new : List Block) (behind : Option Block) : Type 0 where
+pub record IsFew (new : List Block) (after : Option Block) : Type 0 where
   pub some : 0 < length new
   pub few : length new ≤ 3
-  pub fewer : behind ≡ None → length new ≤ 2
+  pub fewer : after ≡ None → length new ≤ 2
 
-pub few_new : (new : List Block) (before behind : Option Block) (whole : Block)
-    → new ≡ option_to_list before ++ whole ∷ [] ++ option_to_list behind → IsFew new behind
-few_new new before behind whole n =
+pub few_new : (new : List Block) (before after : Option Block) (whole : Block)
+    → new ≡ option_to_list before ++ whole ∷ [] ++ option_to_list after → IsFew new after
+few_new new before after whole n =
     let front : List Block = option_to_list before ++ whole ∷ [] in
-    let e : length new ≡ length (option_to_list before) + 1 + length (option_to_list behind) =
-    ap length n ∙ length-append front (option_to_list behind)
-    ∙ ap (λ k. k + length (option_to_list behind)) (length_push (option_to_list before) whole) in
+    let e : length new ≡ length (option_to_list before) + 1 + length (option_to_list after) =
+    ap length n ∙ length-append front (option_to_list after)
+    ∙ ap (λ k. k + length (option_to_list after)) (length_push (option_to_list before) whole) in
     record {
       some = omega (arith, e);
-      few = omega (arith, e, one_at_most before, one_at_most behind);
+      few = omega (arith, e, one_at_most before, one_at_most after);
       fewer = λ z.
-          let none : length (option_to_list behind) ≡ 0 = ap (λ (r : Option Block). length (option_to_list r)) z in
+          let none : length (option_to_list after) ≡ 0 = ap (λ (r : Option Block). length (option_to_list r)) z in
           omega (arith, e, one_at_most before);
     }

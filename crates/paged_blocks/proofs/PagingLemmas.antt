@@ -119,14 +119,14 @@ place_in_page pages es at k j e p z w s t =
     let y = p.each k e h in
     let some : 0 < j =
     ⊎_elim (λ (l : 0 < j). l)
-    (λ (l : j ≤ 0). absurd (omega (arith, t.behind 0 no_block l y.some, y.begins no_block, s.before k e (omega arith))))
+    (λ (l : j ≤ 0). absurd (omega (arith, t.past 0 no_block l y.some, y.begins no_block, s.before k e (omega arith))))
     (cases_lt 0 j) in
     let more = before_more pages es k e h in
     let inner : before pages es k + j < length bs → at ≤ start_of bs (before pages es k + j) =
     λ u. ⊎_elim
     (λ (l : j < length page). omega (
       arith,
-      t.behind j no_block (omega arith) l,
+      t.past j no_block (omega arith) l,
       ap block_begins (page_read pages es k j e no_block h l),
       (tile_at bs (before pages es k + j) no_block p.tiled u).begins,
     ))
@@ -136,7 +136,7 @@ place_in_page pages es at k j e p z w s t =
     ⊎_elim (λ (m : k + 1 < length es). m)
     (λ (m : length es ≤ k + 1). absurd (omega (arith, q, u, before_all pages es (k + 1) m)))
     (cases_lt (k + 1) (length es)) in
-    rw q (omega (arith, entry_at pages es (k + 1) no_entry p v, s.behind (k + 1) no_entry (omega arith) v)))
+    rw q (omega (arith, entry_at pages es (k + 1) no_entry p v, s.past (k + 1) no_entry (omega arith) v)))
     (cases_lt j (length page)) in
     record {
       index = omega (arith, t.within, more, before_le pages es (k + 1));
@@ -185,7 +185,7 @@ pub some_block : (pages : List (List Block)) (es : List PageEntry) (at k j : ℕ
 some_block pages es at k j e p s t =
     let y = p.each k e (omega (arith, s.within)) in
     ⊎_elim (λ (l : 0 < j). l)
-    (λ (l : j ≤ 0). absurd (omega (arith, t.behind 0 no_block l y.some, y.begins no_block, s.before k e (omega arith))))
+    (λ (l : j ≤ 0). absurd (omega (arith, t.past 0 no_block l y.some, y.begins no_block, s.before k e (omega arith))))
     (cases_lt 0 j)
 
 pub held_in_page : (pages : List (List Block)) (es : List PageEntry) (at k j : ℕ) (e : PageEntry) (page : List Block)

@@ -169,17 +169,17 @@ page_short pages es k d h =
 
 -- the blocks of a region are at most two more than its pages hold
 pub region_few : (pages : List (List Block)) (es : List PageEntry) (r : Region) → IsPaging pages es → IsRegion es r
-    → length (refilled pages es r) ≤ length (flat pages es) + 2 → length r.blocks ≤ 64 * (r.behind - r.first) + 2
+    → length (refilled pages es r) ≤ length (flat pages es) + 2 → length r.blocks ≤ 64 * (r.past - r.first) + 2
 region_few pages es r p i g =
-    let z : r.first + (r.behind - r.first) ≡ r.behind = omega (arith, i.order) in
+    let z : r.first + (r.past - r.first) ≡ r.past = omega (arith, i.order) in
     omega (
       arith,
       g,
-      length-append (flat pages (take r.first es) ++ r.blocks) (flat pages (drop r.behind es)),
+      length-append (flat pages (take r.first es) ++ r.blocks) (flat pages (drop r.past es)),
       length-append (flat pages (take r.first es)) r.blocks,
-      ap length (flat_parts pages es r.behind),
-      length-append (flat pages (take r.behind es)) (flat pages (drop r.behind es)),
-      rw z at (pages_hold pages es r.first (r.behind - r.first) p (omega (arith, i.order, i.within))),
+      ap length (flat_parts pages es r.past),
+      length-append (flat pages (take r.past es)) (flat pages (drop r.past es)),
+      rw z at (pages_hold pages es r.first (r.past - r.first) p (omega (arith, i.order, i.within))),
     )
 
 -- a region with the page behind it, and with the page in front of it

@@ -89,30 +89,30 @@ one_left pages capacity entries blocks total l h = omega (arith, h)
 -- a region that has an edit's blocks has at most two more than its pages hold
 pub region_size : (pages : List (List Block)) (es : List PageEntry) (free : List ℕ) (e : Edit) (r : Region) → IsKeptInPages pages es free
     → IsEdit pages es e → IsRegion es r → refilled pages es r ≡ edited pages es e
-    → length r.blocks ≤ 64 * (r.behind - r.first) + 2
+    → length r.blocks ≤ 64 * (r.past - r.first) + 2
 region_size pages es free e r k i g q =
     region_few pages es r k.paging g (omega (arith, ap length q, edit_len pages es e i, i.gain))
 
 pub region_room : (pages : List (List Block)) (es : List PageEntry) (free : List ℕ) (made capacity entries : ℕ) (e : Edit) (r : Region)
     → IsKeptInPages pages es free → IsEdit pages es e → IsRegion es r → refilled pages es r ≡ edited pages es e
     → entries ≡ length es → 1 ≤ room_for made capacity entries (length (edited pages es e) - 1)
-    → 64 * entries + length r.blocks ≤ 64 * (min made capacity + (r.behind - r.first))
+    → 64 * entries + length r.blocks ≤ 64 * (min made capacity + (r.past - r.first))
 region_room pages es free made capacity entries e r k i g q n s =
-    let kept : List PageEntry = take r.first es ++ drop r.behind es in
-    let z = kept_long es kept r.first r.behind k.half g.order g.within g.taken refl in
-    let each : All (IsEntry pages) kept = All-append (IsEntry pages) (take r.first es) (drop r.behind es)
-    (All-take (IsEntry pages) r.first es k.paging.each) (All-drop (IsEntry pages) r.behind es k.paging.each) in
-    let m : 32 * (entries - (r.behind - r.first)) + length r.blocks ≤ length (edited pages es e) =
+    let kept : List PageEntry = take r.first es ++ drop r.past es in
+    let z = kept_long es kept r.first r.past k.half g.order g.within g.taken refl in
+    let each : All (IsEntry pages) kept = All-append (IsEntry pages) (take r.first es) (drop r.past es)
+    (All-take (IsEntry pages) r.first es k.paging.each) (All-drop (IsEntry pages) r.past es k.paging.each) in
+    let m : 32 * (entries - (r.past - r.first)) + length r.blocks ≤ length (edited pages es e) =
     omega (
       arith,
-      kept_fits pages es kept r.blocks r.first r.behind each z refl,
+      kept_fits pages es kept r.blocks r.first r.past each z refl,
       ap length q,
-      length-append (take r.first es) (drop r.behind es),
+      length-append (take r.first es) (drop r.past es),
       length-take-le r.first es (omega (arith, g.order, g.within)),
-      length-drop r.behind es,
+      length-drop r.past es,
       g.order,
       g.within,
       n,
     ) in
-    room_enough made capacity entries (r.behind - r.first) (length r.blocks) (length (edited pages es e))
+    room_enough made capacity entries (r.past - r.first) (length r.blocks) (length (edited pages es e))
     (omega (arith, g.within, n)) g.some m (region_size pages es free e r k i g q) s

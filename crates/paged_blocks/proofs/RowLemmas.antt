@@ -201,9 +201,9 @@ pub searched_rows : (ps : List ℕ) (ss : List Status) (end at n : ℕ) → leng
 searched_rows ps ss end at n e s = record {
   within = omega (arith, s.within, rows_length ps ss end e);
   before = λ i d l. omega (arith, rows_begin ps ss end i 0 d e (omega (arith, s.within)), s.before i 0 l);
-  behind = λ i d l u.
+  past = λ i d l u.
       let v : i < length ps = omega (arith, rows_length ps ss end e) in
-      omega (arith, rows_begin ps ss end i 0 d e v, s.behind i 0 l v);
+      omega (arith, rows_begin ps ss end i 0 d e v, s.past i 0 l v);
 }
 
 -- a page has a status for each begin

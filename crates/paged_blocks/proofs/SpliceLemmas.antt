@@ -118,7 +118,7 @@ pub record IsPutOver (p q : Inside) (from : ℕ) (new : List Block) : Type 0 whe
   pub fits : length q.starts.items ≡ length p.starts.items
   pub alike : length q.statuses.items ≡ length q.starts.items
   pub before : from + length new < length p.starts.items → q.end ≡ p.end
-  pub behind : length p.starts.items ≤ from + length new → q.end ≡ end_or new p.end
+  pub past : length p.starts.items ≤ from + length new → q.end ≡ end_or new p.end
 
 nothing_over : {A : Type 0} (xs : List A) (from : ℕ) → xs ≡ put_over xs from []
 nothing_over xs from =
@@ -134,7 +134,7 @@ none_over p from k = record {
   fits = refl;
   alike = k.alike;
   before = λ _. refl;
-  behind = λ _. refl;
+  past = λ _. refl;
 }
 
 -- what a list is after a write of it as a slice
@@ -151,7 +151,7 @@ pub block_over : (p q r : Inside) (from i : ℕ) (new : List Block) (b : Block) 
     → (from + i + 1 < length p.starts.items → r.end ≡ q.end)
     → (length p.starts.items ≤ from + i + 1 → r.end ≡ b.pos + b.size)
     → IsPutOver p r from (take (i + 1) new)
-block_over p q r from i new b k w g o starts statuses before behind =
+block_over p q r from i new b k w g o starts statuses before past =
     let f : KeptStatus → Status = λ (x : KeptStatus). x.status in
     let l : i < length new = slice_get_within new i b g in
     let n : length (take i new) ≡ i = length-take-le i new (omega arith) in
@@ -166,7 +166,7 @@ block_over p q r from i new b k w g o starts statuses before behind =
       alike = ap length statuses ∙ length-set q.statuses.items (from + i) (record { status = b.status }) ∙ o.alike
           ∙ sym (ap length starts ∙ length-set q.starts.items (from + i) b.pos);
       before = λ h. before (omega arith) ∙ o.before (omega arith);
-      behind = λ h. behind (omega arith)
+      past = λ h. past (omega arith)
           ∙ sym (ap (λ x. end_or x p.end) (sym (front_more new i b g)) ∙ end_push (take i new) b p.end);
     }
 
@@ -192,7 +192,7 @@ over_end : (low top : ℕ) (ps : List ℕ) (ss : List Status) (end last from : �
     → from + length new ≤ length ps → AreTiles low (put_over (rows ps ss end) from new) top
     → (from + length new < length ps → last ≡ end) → (length ps ≤ from + length new → last ≡ end_or new end)
     → 0 < length (put_over (rows ps ss end) from new) → last ≡ top
-over_end low top ps ss end last from new e w t before behind h =
+over_end low top ps ss end last from new e w t before past h =
     let bs : List Block = rows ps ss end in
     let k : ℕ = from + length new in
     let n = rows_length ps ss end e in
@@ -205,7 +205,7 @@ over_end low top ps ss end last from new e w t before behind h =
     (λ (l : length ps ≤ k).
     let z : put_over bs from new ≡ take from bs ++ new =
     ap (λ r. take from bs ++ new ++ r) (drop_all k bs (omega arith)) ∙ append-nil (take from bs ++ new) in
-    behind l
+    past l
     ∙ sym (over_last low top (take from bs) new ps ss end e (λ y. take_all from bs (omega arith))
     (subst (λ r. AreTiles low r top) z t) (omega (arith, ap length z, h))))
     (cases_lt k (length ps))
@@ -229,7 +229,7 @@ overwritten p q self new from v k w r o =
     let t : AreTiles r.low (put_over (rows ps ss p.end) from new) r.end = rw v r.tiled in
     let fits : from + length new ≤ length ps = omega (arith, ap length v, rows_length ps ss p.end e, w) in
     let last : 0 < length bs → q.end ≡ r.end =
-    λ h. over_end r.low r.end ps ss p.end q.end from new e fits t o.before o.behind (rw v h) in
+    λ h. over_end r.low r.end ps ss p.end q.end from new e fits t o.before o.past (rw v h) in
     rw (a, b) (rows_own r.low r.end q.end bs last r.tiled)
 
 -- the first of the blocks behind an edit

@@ -64,9 +64,9 @@ looks_one entries total old found new h f c l =
     let a : found ≤ old + (entries - 1) + 7 = c (entries - 1) (omega (arith, below_power (entries - 1))) in
     ⊎_elim (λ (u : 1 < entries). omega (arith, f u, a)) (λ (u : entries ≤ 1). omega (arith, a)) (cases_lt 1 entries)
 
-pub looks_two : (entries total old found left behind new n m : ℕ) → 1 < entries → 32 * (entries - 2) + n + m ≤ total
-    → ((n : ℕ) → entries ≤ 2 ^ n → found ≤ old + n + 7) → IsWalk (found + 1) left n → behind ≤ left + (entries - 1)
-    → IsWalk behind new m → new ≤ old + total / 16 + 130
-looks_two entries total old found left behind new n m h f c v l w =
+pub looks_two : (entries total old found left past new n m : ℕ) → 1 < entries → 32 * (entries - 2) + n + m ≤ total
+    → ((n : ℕ) → entries ≤ 2 ^ n → found ≤ old + n + 7) → IsWalk (found + 1) left n → past ≤ left + (entries - 1)
+    → IsWalk past new m → new ≤ old + total / 16 + 130
+looks_two entries total old found left past new n m h f c v l w =
     let a : found ≤ old + (entries - 1) + 7 = c (entries - 1) (omega (arith, below_power (entries - 1))) in
     omega (arith, a, v.within, v.few, w.within, w.few)

@@ -8,24 +8,24 @@ use Rattle.paged_blocks.specs.Paging.{flat}
 
 -- the blocks of all pages, with others in the place of those of the pages from one entry up to another
 abbrev pub refilled : List (List Block) → List PageEntry → Region → List Block
-refilled pages es r = flat pages (take r.first es) ++ r.blocks ++ flat pages (drop r.behind es)
+refilled pages es r = flat pages (take r.first es) ++ r.blocks ++ flat pages (drop r.past es)
 
 -- a region is of pages that are there, of at least one if there is any, and it has a block
 pub record IsRegion (es : List PageEntry) (r : Region) : Type 0 where
-  pub order : r.first ≤ r.behind
-  pub within : r.behind ≤ length es
-  pub taken : 0 < length es → r.first < r.behind
+  pub order : r.first ≤ r.past
+  pub within : r.past ≤ length es
+  pub taken : 0 < length es → r.first < r.past
   pub some : 0 < length r.blocks
 
 -- a region with fewer than 32 blocks is of all pages
 pub record IsOfAllPages (es : List PageEntry) (r : Region) : Type 0 where
   pub first : length r.blocks < 32 → r.first ≡ 0
-  pub behind : length r.blocks < 32 → r.behind ≡ length es
+  pub past : length r.blocks < 32 → r.past ≡ length es
 
 -- a region is of no page, and has one block
 pub record IsOneBlock (r : Region) : Type 0 where
   pub first : r.first ≡ 0
-  pub behind : r.behind ≡ 0
+  pub past : r.past ≡ 0
   pub one : length r.blocks ≡ 1
 
 -- an edit touches one page, which has 32 to 64 blocks behind it, or fewer if it is the only one

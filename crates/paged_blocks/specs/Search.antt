@@ -8,7 +8,7 @@ use Rattle.block_list.specs.Map.{Has}
 pub record IsSearched {X : Type 0} (begins : X → ℕ) (xs : List X) (at n : ℕ) : Type 0 where
   pub within : n ≤ length xs
   pub before : (i : ℕ) (d : X) → i < n → begins (slice_index_or xs i d) < at
-  pub behind : (i : ℕ) (d : X) → n ≤ i → i < length xs → at ≤ begins (slice_index_or xs i d)
+  pub past : (i : ℕ) (d : X) → n ≤ i → i < length xs → at ≤ begins (slice_index_or xs i d)
 
 -- no block from an index up to another has a status
 pub record HasNoneOf (bs : List Block) (s : Status) (from to : ℕ) : Type 0 where

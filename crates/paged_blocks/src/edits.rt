@@ -14,7 +14,7 @@ ghost use Rattle.paged_blocks.specs.Rows.{AreRow};
 
 use crate::entries::Entries;
 use crate::filing::refill;
-use crate::fill::entry_behind;
+use crate::fill::entry_after;
 use crate::marks::{Edit, mark};
 use crate::page::Page;
 use crate::piece::MarkedBlocks;
@@ -77,7 +77,7 @@ fn splice_page(
     ensures capacity { entries.new.room ≡ entries.old.room }
 {
     let old = entries.at(k);
-    let entry = entry_behind(old, &pages[old.page], from, to, new);
+    let entry = entry_after(old, &pages[old.page], from, to, new);
     entries.put(k, entry);
     pages[old.page].splice(from, to, new);
 }

@@ -103,8 +103,8 @@ impl Entries {
         if k < front {
             self.front[k] = entry;
         } else {
-            let behind = self.back.len() - 1 - (k - front);
-            self.back[behind] = entry;
+            let past = self.back.len() - 1 - (k - front);
+            self.back[past] = entry;
         }
     }
 
@@ -133,13 +133,13 @@ impl Entries {
     }
 
     /// Takes out the entries from one index up to another.
-    pub fn take_out(&mut self, first: usize, behind: usize)
-        requires order { first ≤ behind }
-        requires within { behind ≤ length self.old.items }
-        ensures items { self.new.items ≡ take first self.old.items ++ drop behind self.old.items }
+    pub fn take_out(&mut self, first: usize, past: usize)
+        requires order { first ≤ past }
+        requires within { past ≤ length self.old.items }
+        ensures items { self.new.items ≡ take first self.old.items ++ drop past self.old.items }
         ensures room { self.old.room ≤ self.new.room }
     {
-        part(&mut self.front, &mut self.back, behind);
+        part(&mut self.front, &mut self.back, past);
         self.front.truncate(first);
     }
 }

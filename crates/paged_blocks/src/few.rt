@@ -90,7 +90,7 @@ fn first_from<L: Ledger>(
     requires short { length tiles.now.statuses < 2 ^ 63 }
     requires front { from < start_of (stretches tiles.now.statuses) (length (stretches tiles.now.statuses) - 1) }
     ensures bare { IsBare tiles.now.statuses status from (start_of (stretches tiles.now.statuses) result) }
-    ensures behind { from < start_of (stretches tiles.now.statuses) (result + 1) }
+    ensures past { from < start_of (stretches tiles.now.statuses) (result + 1) }
     ensures has { (b : Block) → slice_get (stretches tiles.now.statuses) result ≡ Some b → b.status ≡ status }
     ensures cost { steps.new ≤ steps.old + 127 }
 {

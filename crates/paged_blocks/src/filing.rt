@@ -42,22 +42,22 @@ fn place(pages: &mut Vec<Page>, entries: &mut Entries, free: &mut Vec<usize>, k:
 }
 
 /// Takes out the entries from one index up to another. Their pages become free.
-fn release(entries: &mut Entries, free: &mut Vec<usize>, first: usize, behind: usize)
-    requires order { first ≤ behind }
-    requires within { behind ≤ length entries.old.items }
+fn release(entries: &mut Entries, free: &mut Vec<usize>, first: usize, past: usize)
+    requires order { first ≤ past }
+    requires within { past ≤ length entries.old.items }
     requires room { length entries.old.items + vec_len free.old ≤ vec_capacity free.old }
-    ensures entries { entries.new.items ≡ take first entries.old.items ++ drop behind entries.old.items }
+    ensures entries { entries.new.items ≡ take first entries.old.items ++ drop past entries.old.items }
     ensures numbers { (n : ℕ) → naming n entries.new.items + times_free n free.new.items
         ≡ naming n entries.old.items + times_free n free.old.items }
     ensures len { length entries.new.items + vec_len free.new ≡ length entries.old.items + vec_len free.old }
     ensures capacity { entries.old.room ≤ entries.new.room }
     ensures free { vec_capacity free.old ≤ vec_capacity free.new }
 {
-    for k in first..behind {
+    for k in first..past {
         // There is room, so this takes no memory and succeeds.
         let _ = free.push(entries.at(k).page);
     }
-    entries.take_out(first, behind);
+    entries.take_out(first, past);
 }
 
 /// Files blocks in as few pages as hold them, in front of the entry with an index. Each of the pages has at least 32
@@ -106,18 +106,18 @@ pub fn refill(pages: &mut Vec<Page>, entries: &mut Entries, free: &mut Vec<usize
     requires tiled { IsTiled (refilled pages.old.items entries.old.items region.now) }
     requires merged { IsMerged (refilled pages.old.items entries.old.items region.now) }
     requires pages { 64 * length entries.old.items + length region.now.blocks
-        ≤ 64 * (vec_len pages.old + (region.now.behind - region.now.first)) }
+        ≤ 64 * (vec_len pages.old + (region.now.past - region.now.first)) }
     requires entries { 64 * length entries.old.items + length region.now.blocks
-        ≤ 64 * (entries.old.room + (region.now.behind - region.now.first)) }
+        ≤ 64 * (entries.old.room + (region.now.past - region.now.first)) }
     requires room { vec_len pages.old ≤ vec_capacity free.old }
     ensures kept { IsKeptInPages pages.new.items entries.new.items free.new.items }
     ensures flat { flat pages.new.items entries.new.items ≡ refilled pages.old.items entries.old.items region.now }
-    ensures few { 64 * (length entries.new.items + (region.now.behind - region.now.first))
+    ensures few { 64 * (length entries.new.items + (region.now.past - region.now.first))
         < 64 * length entries.old.items + length region.now.blocks + 64 }
     ensures pages { vec_len pages.new ≡ vec_len pages.old }
     ensures capacity { entries.old.room ≤ entries.new.room }
     ensures room { vec_len pages.new ≤ vec_capacity free.new }
 {
-    release(entries, free, region.first, region.behind);
+    release(entries, free, region.first, region.past);
     deal(pages, entries, free, region.first, &region.blocks);
 }

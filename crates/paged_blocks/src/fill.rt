@@ -83,7 +83,7 @@ pub fn entry_of(number: usize, page: &Page) -> PageEntry
 
 /// The entry of a page with other blocks in the place of those from one index up to another. Only the blocks that go
 /// and come are counted.
-pub fn entry_behind(
+pub fn entry_after(
     entry: PageEntry,
     page: &Page,
     from: usize,

@@ -37,7 +37,7 @@ pub struct Edit {
 }
 
 /// The place of the block behind the first ones of an entry's page, which may be all of them, in a map that goes on.
-fn place_behind(pages: &[Page], entries: &Entries, entry: usize, begun: usize) -> (usize, usize)
+fn place_after(pages: &[Page], entries: &Entries, entry: usize, begun: usize) -> (usize, usize)
     requires paging { IsPaging pages.now entries.now.items }
     requires entry { entry < length entries.now.items }
     requires begun { (d : PageEntry) → begun ≤ length (blocks_of pages.now (slice_index_or entries.now.items entry d)) }
@@ -118,7 +118,7 @@ fn join_front(pages: &[Page], entries: &Entries, end: u64, block: Block) -> Join
     }
     let size = block.pos - front.pos;
     if size == front.size && block.pos < end {
-        return joined_at(place_behind(pages, entries, entry, begun), None, block);
+        return joined_at(place_after(pages, entries, entry, begun), None, block);
     }
     let rest = Block { size, ..front };
     joined_at((entry, begun - 1), Some(rest), block)
@@ -137,15 +137,15 @@ fn join_back(pages: &[Page], entries: &Entries, end: u64, near: Near, block: Blo
     ensures joined { IsJoinedBack (flat pages.now entries.now.items) block
         (before pages.now entries.now.items result.entry + result.index) result.rest result.block }
 {
-    let behind = block.pos + block.size;
-    if end <= behind {
+    let past = block.pos + block.size;
+    if end <= past {
         let entry = entries.len() - 1;
         return joined_at((entry, entries.at(entry).len), None, block);
     }
-    let held = held_near(pages, entries, near, behind);
+    let held = held_near(pages, entries, near, past);
     let (entry, index) = (held.page, held.block + 1);
     let back = pages[entries.at(entry).page].block(held.block);
-    let size = back.pos + back.size - behind;
+    let size = back.pos + back.size - past;
     if back.status.is(block.status) {
         let wide = Block {
             pos: block.pos,
@@ -158,7 +158,7 @@ fn join_back(pages: &[Page], entries: &Entries, end: u64, near: Near, block: Blo
         return joined_at(place_in_front(pages, entries, entry, index), None, block);
     }
     let rest = Block {
-        pos: behind,
+        pos: past,
         size,
         status: back.status,
     };

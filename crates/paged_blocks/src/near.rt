@@ -30,7 +30,7 @@ fn is_held_by(pages: &[Page], entries: &Entries, near: Near, x: u64) -> bool
 }
 
 /// The block behind another, which may be the first of the next page.
-fn behind(entries: &Entries, near: Near) -> Near {
+fn after(entries: &Entries, near: Near) -> Near {
     if near.page < entries.len() && near.block < entries.at(near.page).len {
         let block = near.block + 1;
         if block < entries.at(near.page).len {
@@ -56,7 +56,7 @@ pub fn held_near(pages: &[Page], entries: &Entries, near: Near, x: u64) -> Near
     if is_held_by(pages, entries, near, x) {
         return near;
     }
-    let next = behind(entries, near);
+    let next = after(entries, near);
     if is_held_by(pages, entries, next, x) {
         return next;
     }

@@ -13,11 +13,11 @@ use crate::marks::Edit;
 use crate::page::Page;
 use block_list::block::Block;
 
-/// The pages of the entries from `first` up to `behind`, and the blocks that come in the place of theirs.
+/// The pages of the entries from `first` up to `past`, and the blocks that come in the place of theirs.
 #[derive(Drop)]
 pub struct Region {
     pub first: usize,
-    pub behind: usize,
+    pub past: usize,
     pub blocks: Gathered,
 }
 
@@ -37,7 +37,7 @@ pub fn first_region(pages: &[Page], entries: &Entries, block: Block) -> Region
     blocks.push(block);
     Region {
         first: 0,
-        behind: 0,
+        past: 0,
         blocks,
     }
 }
@@ -56,7 +56,7 @@ fn touched(pages: &[Page], entries: &Entries, edit: &Edit) -> Region
     blocks.copy(last, edit.to, last.len());
     Region {
         first: edit.first,
-        behind: edit.last + 1,
+        past: edit.last + 1,
         blocks,
     }
 }
@@ -67,14 +67,14 @@ fn with_next(pages: &[Page], entries: &Entries, mut region: Region) -> Region
     requires half { AreHalfFull entries.now.items }
     requires region { IsRegion entries.now.items region }
     requires few { length region.blocks < 32 }
-    requires there { region.behind < length entries.now.items }
+    requires there { region.past < length entries.now.items }
     ensures region { IsRegion entries.now.items result }
     ensures same { refilled pages.now entries.now.items result ≡ refilled pages.now entries.now.items region }
     ensures full { IsOfAllPages entries.now.items result }
 {
-    let next = &pages[entries.at(region.behind).page];
+    let next = &pages[entries.at(region.past).page];
     region.blocks.copy(next, 0, next.len());
-    region.behind += 1;
+    region.past += 1;
     region
 }
 
@@ -96,7 +96,7 @@ fn with_former(pages: &[Page], entries: &Entries, region: Region) -> Region
     blocks.append(&region.blocks);
     Region {
         first,
-        behind: region.behind,
+        past: region.past,
         blocks,
     }
 }
@@ -114,7 +114,7 @@ pub fn region_of(pages: &[Page], entries: &Entries, edit: &Edit) -> Region
     if region.blocks.len() >= 32 {
         return region;
     }
-    if region.behind < entries.len() {
+    if region.past < entries.len() {
         return with_next(pages, entries, region);
     }
     if region.first > 0 {

@@ -6,21 +6,21 @@ use Rattle.std.proofs.lemmas.Bool.{and_from, and_parts, and_right, cond-true, co
 use Rattle.partition_domain.specs.declared.table.TableEntry.{TableEntry}
 use Rattle.partition_domain.specs.declared.table.Partition.{Partition}
 use Rattle.partition_domain.specs.Table.{extended_entry, is_protected, is_record}
-use Rattle.partition_domain.specs.Chain.{chain_limit, given_by, given_from, linked, links_on, logical_partitions, next_in_chain, sector_behind}
+use Rattle.partition_domain.specs.Chain.{chain_limit, given_by, given_from, linked, links_on, logical_partitions, next_in_chain, next_sector}
 use Rattle.partition_domain.specs.Part.{are_records, chain_goes_on, is_lacking, is_primary, logical, next, next_of_chain, partition_of, primary}
 
 -- ---- one more record
 
-pub given_behind : (base at : ℕ) (chain : List (List ℕ)) (r : List ℕ)
-    → given_from base at (chain ++ r ∷ []) ≡ given_from base at chain ++ given_by (sector_behind base at chain) r
-given_behind base at [] r = append-nil (given_by at r)
-given_behind base at (x ∷ chain) r =
-    ap (λ (ps : List Partition). given_by at x ++ ps) (given_behind base (linked base x) chain r)
+pub given_after : (base at : ℕ) (chain : List (List ℕ)) (r : List ℕ)
+    → given_from base at (chain ++ r ∷ []) ≡ given_from base at chain ++ given_by (next_sector base at chain) r
+given_after base at [] r = append-nil (given_by at r)
+given_after base at (x ∷ chain) r =
+    ap (λ (ps : List Partition). given_by at x ++ ps) (given_after base (linked base x) chain r)
     ∙ sym (append_assoc (given_by at x) (given_from base (linked base x) chain)
-    (given_by (sector_behind base (linked base x) chain) r))
+    (given_by (next_sector base (linked base x) chain) r))
 
 pub sector_after : (base at : ℕ) (chain : List (List ℕ)) (r : List ℕ)
-    → sector_behind base at (chain ++ r ∷ []) ≡ linked base r
+    → next_sector base at (chain ++ r ∷ []) ≡ linked base r
 sector_after base at [] r = refl
 sector_after base at (x ∷ chain) r = sector_after base (linked base x) chain r
 
@@ -44,9 +44,9 @@ are_more main chain r are one =
     and_from front (list_all is_record (chain ++ r ∷ [])) parts.0 (all_more is_record chain r parts.1 one)
 
 -- the item behind a list
-pub item_behind : {X : Type 0} (xs : List X) (x : X) → slice_get (xs ++ x ∷ []) (length xs) ≡ Some x
-item_behind [] x = refl
-item_behind (y ∷ xs) x = item_behind xs x
+pub item_after : {X : Type 0} (xs : List X) (x : X) → slice_get (xs ++ x ∷ []) (length xs) ≡ Some x
+item_after [] x = refl
+item_after (y ∷ xs) x = item_after xs x
 
 -- ---- what comes next
 

@@ -13,9 +13,9 @@ use Rattle.partition_domain.specs.declared.stop.Refusal.TheVariants.{Protective,
 use Rattle.partition_domain.specs.Table.{table_entries, table_entry, extended_entry, is_extended, is_protected, is_protective, is_record, is_used}
 use Rattle.partition_domain.specs.Part.{are_records, is_primary, logical, primary}
 use Rattle.partition_domain.specs.Reads.{AreNext, Unextended, Unused, records_of}
-use Rattle.partition_domain.specs.Steps.{SearchFinds, LeadsToChain, ReadsTable, Searches, SearchesBehind, partition_at}
+use Rattle.partition_domain.specs.Steps.{SearchFinds, LeadsToChain, ReadsTable, Searches, SearchesAfter, partition_at}
 use Rattle.partition_domain.proofs.ChainLemmas.{not_primary}
-use Rattle.partition_domain.proofs.ReadLemmas.{gained_more, next_more, one_behind, read_next, records_more, stop_answers}
+use Rattle.partition_domain.proofs.ReadLemmas.{gained_more, next_more, one_after, read_next, records_more, stop_answers}
 
 -- ---- an entry of the first record
 
@@ -52,8 +52,8 @@ module _ (k : ℕ) (table : List TableEntry) (s t : SourceState) (r : ReadsTable
   abbrev main : List ℕ
   main = r.as_.0
 
-  behind : records_of r.reads ≡ main ∷ []
-  behind = one_behind [] 0 r.reads main r.as_.1
+  after : records_of r.reads ≡ main ∷ []
+  after = one_after [] 0 r.reads main r.as_.1
 
   next_first : AreNext k [] r.reads
   next_first = read_next k [] 0 refl r.reads (Ok table) r.as_
@@ -64,7 +64,7 @@ module _ (k : ℕ) (table : List TableEntry) (s t : SourceState) (r : ReadsTable
     reads = r.reads;
     gained = r.gained;
     next = next_first;
-    to = subst (λ (rs : List (List ℕ)). SearchFinds k rs result) (sym behind) comes;
+    to = subst (λ (rs : List (List ℕ)). SearchFinds k rs result) (sym after) comes;
   }
 
   pub first_protected : list_any is_protective table ≡ true → Searches k (Err (Refused Protective)) s t
@@ -110,15 +110,15 @@ module _ (k : ℕ) (table : List TableEntry) (s t : SourceState) (r : ReadsTable
     -- it leads on to a chain
     pub first_led : (e : TableEntry) (u : SourceState) (result : Result Partition SearchStop)
         → find is_extended table ≡ Some e → Stays s t
-        → ((m : List ℕ) → LeadsToChain m e.first → SearchesBehind k m result t u) → Searches k result s u
+        → ((m : List ℕ) → LeadsToChain m e.first → SearchesAfter k m result t u) → Searches k result s u
     first_led e u result is stays searches =
         let b = searches main (record { e = e; are = are; is_extended = extended_is (Some e) is; base_is = refl }) in
         let all : records_of (r.reads ++ b.reads) ≡ main ∷ records_of b.reads =
-        records_more r.reads b.reads ∙ ap (λ (rs : List (List ℕ)). rs ++ records_of b.reads) behind in
+        records_more r.reads b.reads ∙ ap (λ (rs : List (List ℕ)). rs ++ records_of b.reads) after in
         record {
           reads = r.reads ++ b.reads;
           gained = gained_more r.reads b.reads s t u stays.keeps.tells stays.keeps.bytes r.gained b.gained;
           next = next_more k [] r.reads b.reads next_first
-              (subst (λ (rs : List (List ℕ)). AreNext k rs b.reads) (sym behind) b.next);
+              (subst (λ (rs : List (List ℕ)). AreNext k rs b.reads) (sym after) b.next);
           to = subst (λ (rs : List (List ℕ)). SearchFinds k rs result) (sym all) b.to;
         }

@@ -15,8 +15,8 @@ all_non_tried none end is =
     ap (λ (m : List Status). extended m end) is ∙ ap (λ (n : ℕ). replicate n NonTried) (zero_less end)
 
 -- where the partition ends, or behind that the input
-behind_part : (length_ start size : ℕ) → max length_ (start + size) - (start + size) ≡ length_ - (start + size)
-behind_part length_ start size = omega arith
+past_part : (length_ start size : ℕ) → max length_ (start + size) - (start + size) ≡ length_ - (start + size)
+past_part length_ start size = omega arith
 
 pub map_marked : (p : Partition) (length_ : ℕ) (none grown made : List Status) → none ≡ []
     → grown ≡ extended none (max length_ (start_of p + size_of p))
@@ -31,7 +31,7 @@ map_marked p length_ none grown made empty is_grown is_made =
     ∙ ap (λ (f : List Status). f ++ replicate size Finished ++ drop (start + size) (replicate end NonTried))
     (take-replicate start end NonTried inside)
     ∙ ap (λ (b : List Status). replicate start NonTried ++ replicate size Finished ++ b)
-    (drop-replicate (start + size) end NonTried ∙ ap (λ (n : ℕ). replicate n NonTried) (behind_part length_ start size))
+    (drop-replicate (start + size) end NonTried ∙ ap (λ (n : ℕ). replicate n NonTried) (past_part length_ start size))
 
 -- a partition of no sectors
 pub map_unmarked : (p : Partition) (length_ : ℕ) (none made : List Status) → none ≡ [] → size_of p ≡ 0

@@ -53,24 +53,24 @@ read_some : (o : Option ℕ) (r : Reading) → IsSectorRead o r → (s : ℕ) ×
 read_some None r is = absurd is
 read_some (Some s) r is = (s, refl)
 
-few_behind : (k : ℕ) (before : List (List ℕ)) (reads : List Reading) → length before ≤ 129 → AreNext k before reads
+few_after : (k : ℕ) (before : List (List ℕ)) (reads : List Reading) → length before ≤ 129 → AreNext k before reads
     → length before + length reads ≤ 129
-few_behind k before [] short are = omega (arith, short)
-few_behind k before (r ∷ reads) short are =
+few_after k before [] short are = omega (arith, short)
+few_after k before (r ∷ reads) short are =
     let some = read_some (next before k) r are.0 in
     let at : length before ≤ 128 = next_short before k some.0 some.1 in
     let longer : length (before ++ r.given ∷ []) ≡ length before + 1 = length-append before (r.given ∷ []) in
-    let rest = few_behind k (before ++ r.given ∷ []) reads (omega (arith, at, longer)) are.1 in
+    let rest = few_after k (before ++ r.given ∷ []) reads (omega (arith, at, longer)) are.1 in
     omega (arith, longer, rest)
 
 pub few_reads : (k : ℕ) (reads : List Reading) → AreNext k [] reads → length reads ≤ 129
-few_reads k reads are = omega (arith, few_behind k [] reads (omega arith) are)
+few_reads k reads are = omega (arith, few_after k [] reads (omega arith) are)
 
 -- ---- what a read of a record did
 
-pub one_behind : (before : List (List ℕ)) (sector : ℕ) (reads : List Reading) (last : List ℕ)
+pub one_after : (before : List (List ℕ)) (sector : ℕ) (reads : List Reading) (last : List ℕ)
     → ReadsOne sector reads last → before ++ records_of reads ≡ before ++ last ∷ []
-one_behind before sector reads last one =
+one_after before sector reads last one =
     ap (λ (rs : List Reading). before ++ records_of rs) one.are ∙ ap (λ (r : List ℕ). before ++ r ∷ []) one.gave
 
 module _ (k : ℕ) (before : List (List ℕ)) (sector : ℕ) (is : next before k ≡ Some sector) where
@@ -88,8 +88,8 @@ module _ (k : ℕ) (before : List (List ℕ)) (sector : ℕ) (is : next before k
   read_next reads (Ok table) read = one_next reads read.0 read.1
   read_next reads (Err e) read = stop_next reads e read
 
-  none_behind : (reads : List Reading) → reads ≡ [] → next (before ++ records_of reads) k ≡ Some sector
-  none_behind reads none =
+  none_after : (reads : List Reading) → reads ≡ [] → next (before ++ records_of reads) k ≡ Some sector
+  none_after reads none =
       ap (λ (rs : List Reading). next (before ++ records_of rs) k) none
       ∙ ap (λ (b : List (List ℕ)). next b k) (append-nil before) ∙ is
 
@@ -97,13 +97,13 @@ module _ (k : ℕ) (before : List (List ℕ)) (sector : ℕ) (is : next before k
   last_is : (reads : List Reading) (last : List ℕ) → ReadsOne sector reads last
       → IsLastRecord k (before ++ records_of reads) sector last
   last_is reads last one =
-      record { before = before; are = one_behind before sector reads last one; sector_is = is }
+      record { before = before; are = one_after before sector reads last one; sector_is = is }
 
   pub stop_answers : (reads : List Reading) (e : SearchStop) → StopsAs sector reads e
       → StoppedBy e k (before ++ records_of reads)
   stop_answers reads e (Lost answer none) =
       subst (λ (x : SearchStop). StoppedBy x k (before ++ records_of reads)) (sym answer)
-      (ap is_some (none_behind reads none))
+      (ap is_some (none_after reads none))
   stop_answers reads e (Short last answer one few) =
       subst (λ (x : SearchStop). StoppedBy x k (before ++ records_of reads)) (sym answer)
       (record { last = last; is_last = last_is reads last one; short = few })

@@ -16,22 +16,22 @@ use Rattle.partition_domain.specs.Table.{table_entry, is_record, is_used}
 use Rattle.partition_domain.specs.Chain.{given_by, links_on, logical_partitions, next_in_chain}
 use Rattle.partition_domain.specs.Part.{are_records, next, partition_of}
 use Rattle.partition_domain.specs.Reads.{AreNext, Ended, RefusedBy, StoppedBy, records_of}
-use Rattle.partition_domain.specs.Steps.{Gained, LeadsToChain, IsNear, ReadsTable, Searched, StandsBehind, TookRecord, Turns, TurnsTo, leads, link_past, passes_by}
-use Rattle.partition_domain.proofs.ChainLemmas.{all_more, are_more, given_behind, item_behind, lacks, next_on, not_all, not_primary, part_on, sector_after}
-use Rattle.partition_domain.proofs.ReadLemmas.{gained_more, gained_none, next_more, one_behind, read_next, records_more, stop_answers}
+use Rattle.partition_domain.specs.Steps.{Gained, LeadsToChain, IsNear, ReadsTable, Searched, StandsAfter, TookRecord, Turns, TurnsTo, leads, link_past, passes_by}
+use Rattle.partition_domain.proofs.ChainLemmas.{all_more, are_more, given_after, item_after, lacks, next_on, not_all, not_primary, part_on, sector_after}
+use Rattle.partition_domain.proofs.ReadLemmas.{gained_more, gained_none, next_more, one_after, read_next, records_more, stop_answers}
 
 -- ---- the record that comes next
 
 -- it is the one at which the chain stands
 next_stands : (k : ℕ) (main : List ℕ) (c : Chain) (chain : List (List ℕ)) → IsNear k c → c.read < 128
-    → (s : StandsBehind main c chain) → next (main ∷ chain) k ≡ Some c.at
+    → (s : StandsAfter main c chain) → next (main ∷ chain) k ≡ Some c.at
 next_stands k main c chain near more s =
     next_on main chain k s.e s.are (not_primary k near.logical) s.is_extended s.links
     (lacks s.e.first chain k (omega (arith, s.given, near.given))) (omega (arith, s.read, more))
     ∙ ap (λ (n : ℕ). Some n) (sym s.at)
 
 module _ (k : ℕ) (main : List ℕ) (c : Chain) (chain : List (List ℕ)) (last : List ℕ) (near : IsNear k c)
-    (s : StandsBehind main c chain) (is : is_record last ≡ true) where
+    (s : StandsAfter main c chain) (is : is_record last ≡ true) where
   -- the records with this one, the partitions that they give, and the one that it gives, if it does
   abbrev grown : List (List ℕ)
   grown = chain ++ last ∷ []
@@ -45,15 +45,15 @@ module _ (k : ℕ) (main : List ℕ) (c : Chain) (chain : List (List ℕ)) (last
   are_grown : are_records main grown ≡ true
   are_grown = are_more main chain last s.are is
 
-  behind : logical_partitions s.e.first grown ≡ before ++ given_by (next_in_chain s.e.first chain) last
-  behind = given_behind s.e.first s.e.first chain last
+  after : logical_partitions s.e.first grown ≡ before ++ given_by (next_in_chain s.e.first chain) last
+  after = given_after s.e.first s.e.first chain last
 
   gives : is_used (table_entry last 0) ≡ true → logical_partitions s.e.first grown ≡ before ++ part ∷ []
-  gives used = behind ∙ ap (λ (ps : List Partition). before ++ ps) (cond-true (is_used (table_entry last 0)) _ _ used)
+  gives used = after ∙ ap (λ (ps : List Partition). before ++ ps) (cond-true (is_used (table_entry last 0)) _ _ used)
 
   gives_none : is_used (table_entry last 0) ≡ false → logical_partitions s.e.first grown ≡ before
   gives_none unused =
-      behind ∙ ap (λ (ps : List Partition). before ++ ps) (cond-false (is_used (table_entry last 0)) _ _ unused)
+      after ∙ ap (λ (ps : List Partition). before ++ ps) (cond-false (is_used (table_entry last 0)) _ _ unused)
       ∙ append-nil before
 
   counts : is_used (table_entry last 0) ≡ true → length (logical_partitions s.e.first grown) ≡ c.given + 1
@@ -75,7 +75,7 @@ module _ (k : ℕ) (main : List ℕ) (c : Chain) (chain : List (List ℕ)) (last
       part_on main grown k s.e (record { first = c.at + (table_entry last 0).first; count = (table_entry last 0).count }) are_grown
       (not_primary k near.logical) s.is_extended
       (ap (λ (ps : List Partition). slice_get ps (k - 5)) (gives used)
-      ∙ ap (λ (n : ℕ). slice_get (before ++ part ∷ []) n) (sym at ∙ s.given) ∙ item_behind before part
+      ∙ ap (λ (n : ℕ). slice_get (before ++ part ∷ []) n) (sym at ∙ s.given) ∙ item_after before part
       ∙ ap (λ (n : ℕ). Some (record { first = n + (table_entry last 0).first; count = (table_entry last 0).count })) (sym s.at))
 
   -- it links on, or the chain ends
@@ -117,13 +117,13 @@ pub turn_read : (k : ℕ) (main : List ℕ) (c : Chain) (chain : List (List ℕ)
 turn_read k main c chain table link old new near more t is = λ s.
     let at = next_stands k main c chain near more s in
     let last : List ℕ = t.as_.0 in
-    let behind : chain ++ records_of t.reads ≡ chain ++ last ∷ [] = one_behind chain c.at t.reads last t.as_.1 in
+    let after : chain ++ records_of t.reads ≡ chain ++ last ∷ [] = one_after chain c.at t.reads last t.as_.1 in
     let comes : passes_by k c (table_entry last 0) (table_entry last 1) ≡ link = ap (link_past k c) (sym t.as_.3) ∙ sym is in
     record {
       reads = t.reads;
       gained = t.gained;
       next = read_next k (main ∷ chain) c.at at t.reads (Ok table) t.as_;
-      to = subst (λ (rs : List (List ℕ)). TurnsTo k main rs (Ok link)) (sym behind)
+      to = subst (λ (rs : List (List ℕ)). TurnsTo k main rs (Ok link)) (sym after)
           (subst (λ (l : Link). TurnsTo k main (chain ++ last ∷ []) (Ok l)) comes
           (passed k main c chain last near s t.as_.2));
     }
@@ -147,7 +147,7 @@ pub record Searching (k : ℕ) (main : List ℕ) (c : Chain) (old new : SourceSt
   pub reads : List Reading
   pub gained : Gained reads old new
   pub next : AreNext k (main ∷ []) reads
-  pub stands : StandsBehind main c (records_of reads)
+  pub stands : StandsAfter main c (records_of reads)
 
 pub search_begun : (k : ℕ) (main : List ℕ) (base : ℕ) (s : SourceState) → LeadsToChain main base
     → Searching k main (record { base = base; at = base; given = 0; read = 0 }) s s
@@ -192,7 +192,7 @@ module _ (k : ℕ) (main : List ℕ) (c : Chain) (old mid new : SourceState) (st
         reads = so_far.reads ++ t.reads;
         gained = j.gained;
         next = j.next;
-        stands = subst (StandsBehind main n) (sym j.records) t.to;
+        stands = subst (StandsAfter main n) (sym j.records) t.to;
       }
 
   pub search_found : (p : Partition) → Turns k main c (records_of so_far.reads) (Ok (Found p)) mid new

@@ -17,9 +17,9 @@ abbrev pub linked : (base : ℕ) → List ℕ → ℕ
 linked base r = base + (table_entry r 1).first
 
 -- the sector after records that begin at one: each lies where the one before links to
-abbrev pub sector_behind : (base at : ℕ) → List (List ℕ) → ℕ
-sector_behind base at [] = at
-sector_behind base at (r ∷ chain) = sector_behind base (linked base r) chain
+abbrev pub next_sector : (base at : ℕ) → List (List ℕ) → ℕ
+next_sector base at [] = at
+next_sector base at (r ∷ chain) = next_sector base (linked base r) chain
 
 -- the partition that a record of a chain gives, whatever its type: its first entry, if that is used, relative to the
 -- record's own sector
@@ -38,4 +38,4 @@ logical_partitions base chain = given_from base base chain
 
 -- the sector after the records of a chain
 abbrev pub next_in_chain : (base : ℕ) → List (List ℕ) → ℕ
-next_in_chain base chain = sector_behind base base chain
+next_in_chain base chain = next_sector base base chain

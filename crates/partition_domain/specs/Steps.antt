@@ -85,7 +85,7 @@ link_past k c (first ∷ []) = End
 link_past k c (first ∷ second ∷ more) = passes_by k c first second
 
 -- how far a chain was read, by the records that were read of it: each is one, and links on
-pub record StandsBehind (main : List ℕ) (c : Chain) (chain : List (List ℕ)) : Type 0 where
+pub record StandsAfter (main : List ℕ) (c : Chain) (chain : List (List ℕ)) : Type 0 where
   pub e : TableEntry
   pub is_extended : extended_entry main ≡ Some e
   pub base : c.base ≡ e.first
@@ -98,7 +98,7 @@ pub record StandsBehind (main : List ℕ) (c : Chain) (chain : List (List ℕ)) 
 -- what comes of the next record of a chain, by all records that were read of it
 abbrev pub TurnsTo : (k : ℕ) → (main : List ℕ) → (chain : List (List ℕ)) → Result Link SearchStop → Type 0
 TurnsTo k main chain (Ok (Found p)) = partition_of (main ∷ chain) k ≡ Some p
-TurnsTo k main chain (Ok (On c)) = StandsBehind main c chain
+TurnsTo k main chain (Ok (On c)) = StandsAfter main c chain
 TurnsTo k main chain (Ok End) = RefusedBy NoPartition k (main ∷ chain)
 TurnsTo k main chain (Err e) = StoppedBy e k (main ∷ chain)
 
@@ -113,7 +113,7 @@ pub record TookRecord (k : ℕ) (main : List ℕ) (chain : List (List ℕ)) (res
 -- what a turn does, wherever the chain stands
 abbrev pub Turns : (k : ℕ) → (main : List ℕ) → (c : Chain) → (chain : List (List ℕ)) → Result Link SearchStop
     → (old new : SourceState) → Type 0
-Turns k main c chain result old new = StandsBehind main c chain → TookRecord k main chain result old new
+Turns k main c chain result old new = StandsAfter main c chain → TookRecord k main chain result old new
 
 -- ---- the whole search
 
@@ -137,8 +137,8 @@ pub record LeadsToChain (main : List ℕ) (base : ℕ) : Type 0 where
   pub is_extended : extended_entry main ≡ Some e
   pub base_is : e.first ≡ base
 
-abbrev pub SearchesBehind : (k : ℕ) → (main : List ℕ) → Result Partition SearchStop → (old new : SourceState) → Type 0
-SearchesBehind k main result old new = Searched k (main ∷ []) result old new
+abbrev pub SearchesAfter : (k : ℕ) → (main : List ℕ) → Result Partition SearchStop → (old new : SourceState) → Type 0
+SearchesAfter k main result old new = Searched k (main ∷ []) result old new
 
 -- from the beginning
 abbrev pub Searches : (k : ℕ) → Result Partition SearchStop → (old new : SourceState) → Type 0

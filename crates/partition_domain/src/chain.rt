@@ -2,7 +2,7 @@
 ghost use Rattle.std.specs.Prelude.{◌≡◌, ℕ, ◌-◌, ◌<◌, ◌≤◌, ◌^◌, List, true, OnOk, IfOk, IfErr};
 ghost use Rattle.faulty_source.specs.SourceChanges.{Stays};
 ghost use Rattle.partition_domain.specs.Reads.{losses_after};
-ghost use Rattle.partition_domain.specs.Steps.{LeadsToChain, IsNear, LeadsNear, SearchesBehind, Turns, leads, link_past};
+ghost use Rattle.partition_domain.specs.Steps.{LeadsToChain, IsNear, LeadsNear, SearchesAfter, Turns, leads, link_past};
 
 use crate::read::read_table;
 use crate::stop::{Refusal, SearchStop};
@@ -102,7 +102,7 @@ pub(crate) fn follow_chain<S: Source>(
     requires opened { (S.state source.old).is_open ≡ true }
     requires logical { 5 ≤ k }
     ensures searches { (main : List ℕ) → LeadsToChain main base
-        → SearchesBehind k main result (S.state source.old) (S.state source.new) }
+        → SearchesAfter k main result (S.state source.old) (S.state source.new) }
     ensures stays { Stays (S.state source.old) (S.state source.new) }
     ensures kept { OnOk result ((S.state source.new).losses ≡ (S.state source.old).losses) }
     ensures cause { IfErr result (λ stop. (S.state source.new).losses ≡ losses_after stop (S.state source.old).losses) }

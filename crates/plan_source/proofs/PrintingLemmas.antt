@@ -9,7 +9,7 @@ use Rattle.rescue_console.specs.ConsoleState.{ConsoleState, TextGoesOn, StaysBes
 use Rattle.plan_source.specs.declared.loss.PlanLoss.{PlanLoss}
 use Rattle.plan_source.specs.declared.loss.PlanLoss.TheVariants.{Memory, Console}
 use Rattle.plan_source.specs.Lines.{line_of_entry, lines_of_entries}
-use Rattle.plan_source.specs.Printing.{BeginsBehind, BreaksLast, HasPrinted, PutsBehind, but_last, last_of, AreCounted}
+use Rattle.plan_source.specs.Printing.{BeginsAfter, BreaksLast, HasPrinted, PutsAfter, but_last, last_of, AreCounted}
 
 -- ---- the last entry of a journal
 
@@ -46,7 +46,7 @@ lines_more es e = flat_map-append line_of_entry es (e ∷ [])
 -- ---- texts that go on
 
 begins_part : (before part left piece now : List ℕ) → part ++ left ≡ piece → now ≡ before ++ part
-    → BeginsBehind piece before now
+    → BeginsAfter piece before now
 begins_part before part left piece now split is =
     let rest : drop (length before) now ≡ part =
     ap (drop (length before)) is ∙ drop_at before part (length before) refl in
@@ -58,7 +58,7 @@ begins_part before part left piece now split is =
           ∙ take_at part left (length part) refl ∙ sym rest;
     }
 
-goes_on : (piece before now : List ℕ) → BeginsBehind piece before now → TextGoesOn piece before now
+goes_on : (piece before now : List ℕ) → BeginsAfter piece before now → TextGoesOn piece before now
 goes_on piece before now b =
     let n : ℕ = length now - length before in
     record {
@@ -68,10 +68,10 @@ goes_on piece before now b =
       is = b.is;
     }
 
-begins_as : (piece piece' before before' now : List ℕ) → piece ≡ piece' → before ≡ before' → BeginsBehind piece before now
-    → BeginsBehind piece' before' now
-begins_as piece piece' before before' now same behind b =
-    subst (λ (p : List ℕ). BeginsBehind p before' now) same (subst (λ (t : List ℕ). BeginsBehind piece t now) behind b)
+begins_as : (piece piece' before before' now : List ℕ) → piece ≡ piece' → before ≡ before' → BeginsAfter piece before now
+    → BeginsAfter piece' before' now
+begins_as piece piece' before before' now same after b =
+    subst (λ (p : List ℕ). BeginsAfter p before' now) same (subst (λ (t : List ℕ). BeginsAfter piece t now) after b)
 
 -- ---- what nothing changes, one after another
 
@@ -120,7 +120,7 @@ printed_one s s' e p = record {
 pub printed_part : (s s' : ConsoleState) (e : ReadEntry) → PutsPart Out (line_of_entry e) s s'
     → (IsTrue s.is_planned → s'.out.text ≡ s.out.text) → HasPrinted s s' (e ∷ []) (Some Console)
 printed_part s s' e p unput =
-    let behind : s.out.text ++ lines_of_entries (but_last (e ∷ [])) ≡ s.out.text =
+    let after : s.out.text ++ lines_of_entries (but_last (e ∷ [])) ≡ s.out.text =
     ap (λ (es : List ReadEntry). s.out.text ++ lines_of_entries es) (but_last_is [] e) ∙ append-nil s.out.text in
     let piece : lines_of_entries (last_of (e ∷ [])) ≡ line_of_entry e = ap lines_of_entries (last_is [] e) ∙ one_line e in
     record {
@@ -131,9 +131,9 @@ printed_part s s' e p unput =
         text = λ tells.
             let g = p.part tells in
             begins_as (line_of_entry e) (lines_of_entries (last_of (e ∷ []))) s.out.text
-            (s.out.text ++ lines_of_entries (but_last (e ∷ []))) s'.out.text (sym piece) (sym behind)
+            (s.out.text ++ lines_of_entries (but_last (e ∷ []))) s'.out.text (sym piece) (sym after)
             (begins_part s.out.text g.part g.left (line_of_entry e) s'.out.text g.split g.is);
-        unput = λ planned tells. unput planned ∙ sym behind;
+        unput = λ planned tells. unput planned ∙ sym after;
         rose = p.rose;
       };
     }
@@ -160,9 +160,9 @@ module _ (start now now' : ConsoleState) (es : List ReadEntry) (e : ReadEntry) (
         fed = λ planned. p.fed (planned_now planned) ∙ w.fed planned;
       }
 
-  behind_all : IsTrue start.tells → now.out.text ++ lines_of_entries (but_last (e ∷ []))
+  after_all : IsTrue start.tells → now.out.text ++ lines_of_entries (but_last (e ∷ []))
       ≡ start.out.text ++ lines_of_entries (but_last (es ++ e ∷ []))
-  behind_all tells =
+  after_all tells =
       ap (λ (xs : List ReadEntry). now.out.text ++ lines_of_entries xs) (but_last_is [] e) ∙ append-nil now.out.text
       ∙ (h.whole refl).whole tells
       ∙ ap (λ (xs : List ReadEntry). start.out.text ++ lines_of_entries xs) (sym (but_last_is es e))
@@ -176,9 +176,9 @@ module _ (start now now' : ConsoleState) (es : List ReadEntry) (e : ReadEntry) (
         text = λ tells.
             begins_as (lines_of_entries (last_of (e ∷ []))) (lines_of_entries (last_of (es ++ e ∷ [])))
             (now.out.text ++ lines_of_entries (but_last (e ∷ []))) (start.out.text ++ lines_of_entries (but_last (es ++ e ∷ [])))
-            now'.out.text (ap lines_of_entries (last_is [] e ∙ sym (last_is es e))) (behind_all tells)
+            now'.out.text (ap lines_of_entries (last_is [] e ∙ sym (last_is es e))) (after_all tells)
             (b.text (tells_now tells));
-        unput = λ planned tells. b.unput (planned_now planned) (tells_now tells) ∙ behind_all tells;
+        unput = λ planned tells. b.unput (planned_now planned) (tells_now tells) ∙ after_all tells;
         rose = b.rose ∙ ap raised w.kept;
       }
 
@@ -195,10 +195,10 @@ printed_starved start now es h = record { whole = λ whole. h.whole refl; broken
 
 -- What was printed by a journal whose last line's put failed is the lines before it, and a beginning of that one.
 pub puts_broken : (start now : ConsoleState) (es before : List ReadEntry) (last : ReadEntry) → es ≡ before ++ last ∷ []
-    → BreaksLast es start now → PutsBehind (lines_of_entries before) (line_of_entry last) start now
+    → BreaksLast es start now → PutsAfter (lines_of_entries before) (line_of_entry last) start now
 puts_broken start now es before last are b =
     let first : but_last es ≡ before = ap but_last are ∙ but_last_is before last in
-    let behind : start.out.text ++ lines_of_entries (but_last es) ≡ start.out.text ++ lines_of_entries before =
+    let after : start.out.text ++ lines_of_entries (but_last es) ≡ start.out.text ++ lines_of_entries before =
     ap (λ (xs : List ReadEntry). start.out.text ++ lines_of_entries xs) first in
     let piece : lines_of_entries (last_of es) ≡ line_of_entry last =
     ap lines_of_entries (ap last_of are ∙ last_is before last) ∙ one_line last in
@@ -207,8 +207,8 @@ puts_broken start now es before last are b =
       part = λ tells.
           goes_on (line_of_entry last) (start.out.text ++ lines_of_entries before) now.out.text
           (begins_as (lines_of_entries (last_of es)) (line_of_entry last) (start.out.text ++ lines_of_entries (but_last es))
-          (start.out.text ++ lines_of_entries before) now.out.text piece behind (b.text tells));
-      unput = λ planned tells. b.unput planned tells ∙ behind;
+          (start.out.text ++ lines_of_entries before) now.out.text piece after (b.text tells));
+      unput = λ planned tells. b.unput planned tells ∙ after;
       rose = b.rose;
     }
 

@@ -32,7 +32,7 @@ pub record AreCounted (lost : Option PlanLoss) (losses : ℕ) : Type 0 where
   pub some : lost ≡ Some Memory → 0 < losses
 
 -- a text is another one and a beginning of a piece behind it
-pub record BeginsBehind (piece before now : List ℕ) : Type 0 where
+pub record BeginsAfter (piece before now : List ℕ) : Type 0 where
   pub is : now ≡ before ++ drop (length before) now
   pub part : take (length now - length before) piece ≡ drop (length before) now
 
@@ -48,7 +48,7 @@ but_last entries = take (length entries - 1) entries
 pub record BreaksLast (entries : List ReadEntry) (start now : ConsoleState) : Type 0 where
   pub some : 0 < length entries
   pub stays : StaysBeside Out start now
-  pub text : IsTrue start.tells → BeginsBehind (lines_of_entries (last_of entries))
+  pub text : IsTrue start.tells → BeginsAfter (lines_of_entries (last_of entries))
       (start.out.text ++ lines_of_entries (but_last entries)) now.out.text
   pub unput : IsTrue start.is_planned → IsTrue start.tells
       → now.out.text ≡ start.out.text ++ lines_of_entries (but_last entries)
@@ -62,7 +62,7 @@ pub record HasPrinted (start now : ConsoleState) (entries : List ReadEntry) (los
 
 -- a text was put on standard output, and a beginning of a piece behind it; and then a put failed, of which nothing stands
 -- where it failed by a plan
-pub record PutsBehind (text piece : List ℕ) (old new : ConsoleState) : Type 0 where
+pub record PutsAfter (text piece : List ℕ) (old new : ConsoleState) : Type 0 where
   pub stays : StaysBeside Out old new
   pub part : IsTrue old.tells → TextGoesOn piece (old.out.text ++ text) new.out.text
   pub unput : IsTrue old.is_planned → IsTrue old.tells → new.out.text ≡ old.out.text ++ text

@@ -38,9 +38,9 @@ puts_both at s t a b c p q = record {
 }
 
 -- a beginning of a text that goes on is one of a longer text
-goes_behind : (s t before between now : List ℕ) → between ≡ before ++ s → TextGoesOn t between now
+goes_after : (s t before between now : List ℕ) → between ≡ before ++ s → TextGoesOn t between now
     → TextGoesOn (s ++ t) before now
-goes_behind s t before between now is g = record {
+goes_after s t before between now is g = record {
   part = s ++ g.part;
   left = g.left;
   split = append_assoc s g.part g.left ∙ ap (λ x. s ++ x) g.split;
@@ -59,7 +59,7 @@ pub puts_then_part : (at : Channel) (s t : List ℕ) (a b c : ConsoleState) → 
     → PutsPart at (s ++ t) a c
 puts_then_part at s t a b c p q = record {
   stays = beside_join at a b c p.stays q.stays;
-  part = λ tells. goes_behind s t _ _ _ (p.whole tells) (q.part (subst IsTrue (sym p.stays.keeps.tells) tells));
+  part = λ tells. goes_after s t _ _ _ (p.whole tells) (q.part (subst IsTrue (sym p.stays.keeps.tells) tells));
   rose = subst (λ n. Rose n (channel_of at c).faults) p.kept q.rose;
 }
 

@@ -10,9 +10,9 @@ unheard : (qs : List SpokenPiece) (h' : Bool) (a b : ConsoleState) → SpeaksOn 
 unheard [] h' a b is = is
 unheard (q ∷ qs) h' a b is = is
 
-unheard_behind : (qs : List SpokenPiece) (h' h'' : Bool) (b c : ConsoleState) → h' ≡ false → SpeaksOn qs h' h'' b c
+unheard_after : (qs : List SpokenPiece) (h' h'' : Bool) (b c : ConsoleState) → h' ≡ false → SpeaksOn qs h' h'' b c
     → (h'' ≡ false) × (c ≡ b)
-unheard_behind qs h' h'' b c f is = unheard qs h'' b c (subst (λ (h : Bool). SpeaksOn qs h h'' b c) f is)
+unheard_after qs h' h'' b c f is = unheard qs h'' b c (subst (λ (h : Bool). SpeaksOn qs h h'' b c) f is)
 
 pub speeches_join : SpeechesJoin
 speeches_join [] qs true h' h'' a b c first second =
@@ -22,11 +22,11 @@ speeches_join [] qs false h' h'' a b c first second =
     subst (λ (x : ConsoleState). SpeaksOn qs false h'' x c) first.1
     (subst (λ (h : Bool). SpeaksOn qs h h'' b c) first.0 second)
 speeches_join (p ∷ ps) qs false h' h'' a b c first second =
-    let last : (h'' ≡ false) × (c ≡ b) = unheard_behind qs h' h'' b c first.0 second in (last.0, last.1 ∙ first.1)
+    let last : (h'' ≡ false) × (c ≡ b) = unheard_after qs h' h'' b c first.0 second in (last.0, last.1 ∙ first.1)
 speeches_join (p ∷ ps) qs true h' h'' a b c (inl first) second =
     inl (first.0, first.1, speeches_join ps qs true h' h'' first.0 b c first.2 second)
 speeches_join (p ∷ ps) qs true h' h'' a b c (inr first) second =
-    let last : (h'' ≡ false) × (c ≡ b) = unheard_behind qs h' h'' b c first.0 second in
+    let last : (h'' ≡ false) × (c ≡ b) = unheard_after qs h' h'' b c first.0 second in
     inr (last.0, subst (λ (x : ConsoleState). PutsBroken p a x) (sym last.1) first.1)
 
 pub heard_speak : HeardSpeak

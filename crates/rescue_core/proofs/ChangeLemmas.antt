@@ -34,10 +34,10 @@ pub data Change (s : Setting) (m : Machine) (r : Reading) (map : List Status) (x
   Stands : (AsksFor r x → ⊥) → slice_get map x ≡ slice_get m.map x → Change s m r map x
 
 -- what is marked for scraping at a range's back lies before the read,
-pub scraped_behind : (mode : TrimMode) (p : ℕ) (map : List Status) (x : ℕ) → p ≤ length map
+pub scraped_past : (mode : TrimMode) (p : ℕ) (map : List Status) (x : ℕ) → p ≤ length map
     → ((low : ℕ) → mode ≡ Tail low → low ≤ p) → p ≤ x → slice_get (scraped mode p map) x ≡ slice_get map x
-scraped_behind Lead p map x there back from = refl
-scraped_behind (Tail low) p map x there back from =
+scraped_past Lead p map x there back from = refl
+scraped_past (Tail low) p map x there back from =
     let le : low ≤ p = back low refl in
     marked_outside map low (p - low) NonScraped x (omega arith) (inr (omega arith))
 
@@ -158,11 +158,11 @@ change_before s m r x a to =
     (scraped_before m.mode r.pos (with_rest s m r) x (omega (arith, size_rest s m r a, a.there)) a.back to)
 
 -- and behind its position
-change_behind : (s : Setting) (m : Machine) (r : Reading) (x : ℕ) → Asked s m r → is_failed r ≡ true → r.pos ≤ x
+change_past : (s : Setting) (m : Machine) (r : Reading) (x : ℕ) → Asked s m r → is_failed r ≡ true → r.pos ≤ x
     → Change s m r (scraped m.mode r.pos (with_rest s m r)) x
-change_behind s m r x a failed from =
+change_past s m r x a failed from =
     let same : slice_get (scraped m.mode r.pos (with_rest s m r)) x ≡ slice_get (with_rest s m r) x =
-    scraped_behind m.mode r.pos (with_rest s m r) x (omega (arith, size_rest s m r a, a.there)) a.back from in
+    scraped_past m.mode r.pos (with_rest s m r) x (omega (arith, size_rest s m r a, a.there)) a.back from in
     ⊎_elim
     (λ (to : x < r.pos + kept s.sector r).
     Kept (record { from = from; to = omega (arith, to, a.few) })
@@ -185,7 +185,7 @@ changes s m e x ok order request by =
     cond_both (is_failed r) (scraped m.mode r.pos (with_rest s m r)) (with_kept s m r)
     (λ (map : List Status). Change s m r map x)
     (λ failed. ⊎_elim (λ (to : x < r.pos). change_before s m r x a to)
-    (λ (from : r.pos ≤ x). change_behind s m r x a failed from)
+    (λ (from : r.pos ≤ x). change_past s m r x a failed from)
     (cases_lt x r.pos))
     (λ good. change_good s m r x a good)
 

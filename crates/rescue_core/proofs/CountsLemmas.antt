@@ -268,7 +268,7 @@ ends_at r e phase request turn live map got end is marked some =
 pub record IsEndOf (live : Live) (map : List Status) (top : ℕ) : Type 0 where
   pub within : top ≤ length map
   pub before : (x : ℕ) → x < top → is_before live.over x ≡ true
-  pub behind : (x : ℕ) → top ≤ x → x < length map → is_before live.over x ≡ false
+  pub past : (x : ℕ) → top ≤ x → x < length map → is_before live.over x ≡ false
 
 and_true : (b c : Bool) → c ≡ true → b ≡ (b && c)
 and_true true c e = sym e
@@ -280,13 +280,13 @@ left_before test live map top x is lt =
     ap (λ (b : Bool). b && passes test (slice_get map x))
     (and_true (covers live.domain.now x) (is_before live.over x) (is.before x lt))
 
-none_behind : (test : Status → Bool) (live : Live) (map : List Status) (top x : ℕ) → IsEndOf live map top → top ≤ x
+none_after : (test : Status → Bool) (live : Live) (map : List Status) (top x : ℕ) → IsEndOf live map top → top ≤ x
     → passing test (lives live) map x ≡ false
-none_behind test live map top x is le =
+none_after test live map top x is le =
     ⊎_elim
     (λ (lt : x < length map).
     ap (λ (b : Bool). b && passes test (slice_get map x))
-    (and_right (covers live.domain.now x) (is_before live.over x) (is.behind x le lt)))
+    (and_right (covers live.domain.now x) (is_before live.over x) (is.past x le lt)))
     (λ (ge : length map ≤ x).
     and_right (lives live x) (passes test (slice_get map x)) (ap (passes test) (slice_get_past map x ge)))
     (cases_lt x (length map))
@@ -296,7 +296,7 @@ left_counted : (test : Status → Bool) (live : Live) (map : List Status) (from 
     ≡ count_within (passing test (lives live) map) from (length map)
 left_counted test live map from top is =
     within_short (passing test (covers live.domain.now) map) (passing test (lives live) map) from top (length map) is.within
-    (λ x lt. left_before test live map top x is lt) (λ x le lt. none_behind test live map top x is le)
+    (λ x lt. left_before test live map top x is lt) (λ x le lt. none_after test live map top x is le)
 
 left_begun : (test : Status → Bool) (live : Live) (map : List Status) (from top : ℕ) → IsEndOf live map top
     → count_within (begins_area (passing test (covers live.domain.now) map)) from top
@@ -306,7 +306,7 @@ left_begun test live map from top is =
     let g : ℕ → Bool = passing test (lives live) map in
     within_short (begins_area f) (begins_area g) from top (length map) is.within
     (λ x lt. begins_same f g x (λ y le. left_before test live map top y is (omega (arith, le, lt))))
-    (λ x le lt. begins_is g x ∙ ap (λ b. b && not (is_in_front g x)) (none_behind test live map top x is le))
+    (λ x le lt. begins_is g x ∙ ap (λ b. b && not (is_in_front g x)) (none_after test live map top x is le))
 
 -- what goes at an end, as it is looked up
 pub cut_is : (live : Live) (map : List Status) (end top : ℕ) (counts got new : Counts) → IsEndOf live map top

@@ -8,7 +8,7 @@ use Rattle.std.proofs.lemmas.Option.{get_or_from_slice_get, same_Some, slice_get
 use Rattle.rescue_rules.specs.declared.phase.Phase.{Phase}
 use Rattle.rescue_rules.specs.declared.phase.Phase.TheVariants.{Copying, Trimming, Scraping, Retrying}
 use Rattle.rescue_rules.specs.Setting.{Setting}
-use Rattle.rescue_rules.specs.Passes.{Pass, numbered, passes_in, passes_behind, passes_from}
+use Rattle.rescue_rules.specs.Passes.{Pass, numbered, passes_in, passes_after, passes_from}
 
 -- each of these passes is followed by those from it on
 abbrev IsChain : Setting → List Pass → Type 0
@@ -16,14 +16,14 @@ IsChain s [] = Unit {0}
 IsChain s (p ∷ ps) = (p ∷ ps ≡ passes_from s p.phase p.number) × IsChain s ps
 
 -- one more than the number of a phase's last pass
-abbrev behind_last : Setting → Phase → ℕ
-behind_last s Copying = 6
-behind_last s Trimming = 2
-behind_last s Scraping = 2
-behind_last s Retrying = s.retries + 1
+abbrev after_last : Setting → Phase → ℕ
+after_last s Copying = 6
+after_last s Trimming = 2
+after_last s Scraping = 2
+after_last s Retrying = s.retries + 1
 
 passes_in-are : (s : Setting) (phase : Phase) (number : ℕ)
-    → passes_in s phase number ≡ map (numbered phase) (range_with_len number (behind_last s phase - number))
+    → passes_in s phase number ≡ map (numbered phase) (range_with_len number (after_last s phase - number))
 passes_in-are s Copying number = refl
 passes_in-are s Trimming number = refl
 passes_in-are s Scraping number = refl
@@ -31,43 +31,43 @@ passes_in-are s Retrying number = refl
 
 -- some passes of a phase, and those behind it
 abbrev some_from : Setting → Phase → (number few : ℕ) → List Pass
-some_from s phase number few = map (numbered phase) (range_with_len number few) ++ passes_behind s phase
+some_from s phase number few = map (numbered phase) (range_with_len number few) ++ passes_after s phase
 
-from_are : (s : Setting) (phase : Phase) (number few : ℕ) → behind_last s phase - number ≡ few
+from_are : (s : Setting) (phase : Phase) (number few : ℕ) → after_last s phase - number ≡ few
     → some_from s phase number few ≡ passes_from s phase number
 from_are s phase number few is =
-    ap (some_from s phase number) (sym is) ∙ ap (λ (ps : List Pass). ps ++ passes_behind s phase) (sym (passes_in-are s phase number))
+    ap (some_from s phase number) (sym is) ∙ ap (λ (ps : List Pass). ps ++ passes_after s phase) (sym (passes_in-are s phase number))
 
-chain_of : (s : Setting) (phase : Phase) (number few : ℕ) → behind_last s phase - number ≡ few → IsChain s (passes_behind s phase)
+chain_of : (s : Setting) (phase : Phase) (number few : ℕ) → after_last s phase - number ≡ few → IsChain s (passes_after s phase)
     → IsChain s (some_from s phase number few)
-chain_of s phase number zero is behind = behind
-chain_of s phase number (suc few) is behind =
-    (from_are s phase number (suc few) is, chain_of s phase (number + 1) few (omega (arith, is)) behind)
+chain_of s phase number zero is after = after
+chain_of s phase number (suc few) is after =
+    (from_are s phase number (suc few) is, chain_of s phase (number + 1) few (omega (arith, is)) after)
 
-chain_in : (s : Setting) (phase : Phase) (number : ℕ) → IsChain s (passes_behind s phase) → IsChain s (passes_from s phase number)
-chain_in s phase number behind =
-    subst (IsChain s) (from_are s phase number (behind_last s phase - number) refl)
-    (chain_of s phase number (behind_last s phase - number) refl behind)
+chain_in : (s : Setting) (phase : Phase) (number : ℕ) → IsChain s (passes_after s phase) → IsChain s (passes_from s phase number)
+chain_in s phase number after =
+    subst (IsChain s) (from_are s phase number (after_last s phase - number) refl)
+    (chain_of s phase number (after_last s phase - number) refl after)
 
-chain_behind_scraping : (s : Setting) → IsChain s (passes_behind s Scraping)
-chain_behind_scraping s = subst (IsChain s) (append-nil (passes_in s Retrying 1)) (chain_in s Retrying 1 tt)
+chain_after_scraping : (s : Setting) → IsChain s (passes_after s Scraping)
+chain_after_scraping s = subst (IsChain s) (append-nil (passes_in s Retrying 1)) (chain_in s Retrying 1 tt)
 
-chain_behind_trimming : (s : Setting) → IsChain s (passes_behind s Trimming)
-chain_behind_trimming s =
+chain_after_trimming : (s : Setting) → IsChain s (passes_after s Trimming)
+chain_after_trimming s =
     cond_both s.scrapes (passes_in s Scraping 1) [] (λ (ps : List Pass). IsChain s (ps ++ passes_in s Retrying 1))
-    (λ on. chain_in s Scraping 1 (chain_behind_scraping s)) (λ off. chain_behind_scraping s)
+    (λ on. chain_in s Scraping 1 (chain_after_scraping s)) (λ off. chain_after_scraping s)
 
-chain_behind_copying : (s : Setting) → IsChain s (passes_behind s Copying)
-chain_behind_copying s =
+chain_after_copying : (s : Setting) → IsChain s (passes_after s Copying)
+chain_after_copying s =
     cond_both s.trims (passes_in s Trimming 1) []
     (λ (ps : List Pass). IsChain s (ps ++ (if s.scrapes then passes_in s Scraping 1 else []) ++ passes_in s Retrying 1))
-    (λ on. chain_in s Trimming 1 (chain_behind_trimming s)) (λ off. chain_behind_trimming s)
+    (λ on. chain_in s Trimming 1 (chain_after_trimming s)) (λ off. chain_after_trimming s)
 
-chain_behind : (s : Setting) (phase : Phase) → IsChain s (passes_behind s phase)
-chain_behind s Copying = chain_behind_copying s
-chain_behind s Trimming = chain_behind_trimming s
-chain_behind s Scraping = chain_behind_scraping s
-chain_behind s Retrying = tt
+chain_after : (s : Setting) (phase : Phase) → IsChain s (passes_after s phase)
+chain_after s Copying = chain_after_copying s
+chain_after s Trimming = chain_after_trimming s
+chain_after s Scraping = chain_after_scraping s
+chain_after s Retrying = tt
 
 second_of : (s : Setting) (ps : List Pass) (p : Pass) → IsChain s ps → slice_get ps 1 ≡ Some p
     → passes_from s p.phase p.number ≡ p ∷ drop 2 ps
@@ -80,7 +80,7 @@ second_of s (a ∷ b ∷ ps) p chain is =
 -- the pass behind a run's, and those that follow it
 pub next_passes : (s : Setting) (phase : Phase) (number : ℕ) (p : Pass) → slice_get (passes_from s phase number) 1 ≡ Some p
     → passes_from s p.phase p.number ≡ p ∷ drop 2 (passes_from s phase number)
-next_passes s phase number p is = second_of s (passes_from s phase number) p (chain_in s phase number (chain_behind s phase)) is
+next_passes s phase number p is = second_of s (passes_from s phase number) p (chain_in s phase number (chain_after s phase)) is
 
 -- a pass behind one of a phase is of a phase that isn't off
 pub record IsOn (s : Setting) (phase : Phase) (p : Pass) : Type 0 where
@@ -89,9 +89,9 @@ pub record IsOn (s : Setting) (phase : Phase) (p : Pass) : Type 0 where
 
 in_on : (s : Setting) (phase at : Phase) (number : ℕ) → IsOn s phase (numbered at number) → All (IsOn s phase) (passes_in s at number)
 in_on s phase at number on =
-    All-same (IsOn s phase) (passes_in s at number) (map (numbered at) (range_with_len number (behind_last s at - number)))
+    All-same (IsOn s phase) (passes_in s at number) (map (numbered at) (range_with_len number (after_last s at - number)))
     (passes_in-are s at number)
-    (All-map (IsOn s phase) (numbered at) (range_with_len number (behind_last s at - number))
+    (All-map (IsOn s phase) (numbered at) (range_with_len number (after_last s at - number))
     (λ k d within. record { trims = on.trims; scrapes = on.scrapes }))
 
 trimming_on : (s : Setting) (phase : Phase) → All (IsOn s phase) (if s.trims then passes_in s Trimming 1 else [])
@@ -115,23 +115,23 @@ scraping_passes s = if s.scrapes then passes_in s Scraping 1 else []
 abbrev trimming_passes : Setting → List Pass
 trimming_passes s = if s.trims then passes_in s Trimming 1 else []
 
-behind_on : (s : Setting) (phase at : Phase) → All (IsOn s phase) (passes_behind s at)
-behind_on s phase Copying =
+after_on : (s : Setting) (phase at : Phase) → All (IsOn s phase) (passes_after s at)
+after_on s phase Copying =
     All-append (IsOn s phase) (trimming_passes s ++ scraping_passes s) (passes_in s Retrying 1)
     (All-append (IsOn s phase) (trimming_passes s) (scraping_passes s) (trimming_on s phase) (scraping_on s phase))
     (retrying_on s phase)
-behind_on s phase Trimming =
+after_on s phase Trimming =
     All-append (IsOn s phase) (scraping_passes s) (passes_in s Retrying 1) (scraping_on s phase) (retrying_on s phase)
-behind_on s phase Scraping = retrying_on s phase
-behind_on s phase Retrying = All-nil (IsOn s phase)
+after_on s phase Scraping = retrying_on s phase
+after_on s phase Retrying = All-nil (IsOn s phase)
 
 pub next_on : (s : Setting) (phase : Phase) (number : ℕ) (p : Pass) → slice_get (passes_from s phase number) 1 ≡ Some p
     → IsOn s phase p
 next_on s phase number p is =
     let ps : List Pass = passes_from s phase number in
     let all : All (IsOn s phase) ps
-    = All-append (IsOn s phase) (passes_in s phase number) (passes_behind s phase)
-    (in_on s phase phase number (record { trims = λ at. inl at; scrapes = λ at. inl at })) (behind_on s phase phase) in
+    = All-append (IsOn s phase) (passes_in s phase number) (passes_after s phase)
+    (in_on s phase phase number (record { trims = λ at. inl at; scrapes = λ at. inl at })) (after_on s phase phase) in
     subst (IsOn s phase) (get_or_from_slice_get ps 1 p p is)
     (All-get_or (IsOn s phase) ps 1 p (slice_get_within ps 1 p is) all)
 

@@ -59,9 +59,9 @@ module _ (P : ℕ → Type 0) (from start end : ℕ) (first : IsFirst P from sta
       (cases_lt end end'))
       (cases_lt end' end)
 
-  pub ranges_behind : (count : ℕ) → HasRanges P from count → (rest : ℕ) × (count ≡ suc rest) × HasRanges P end rest
-  ranges_behind zero h = absurd (h start first.after first.holds)
-  ranges_behind (suc count) h =
+  pub ranges_after : (count : ℕ) → HasRanges P from count → (rest : ℕ) × (count ≡ suc rest) × HasRanges P end rest
+  ranges_after zero h = absurd (h start first.after first.holds)
+  ranges_after (suc count) h =
       let is : h.1 ≡ end = same_end h.0 h.1 (same_start h.0 h.2) h.3 in
       (count, refl, subst (λ (e : ℕ). HasRanges P e count) is h.4)
 
@@ -214,7 +214,7 @@ module _ (domain : ℕ → Bool) (from to : Status) (at : ℕ) (old mid : List S
     one_less : (left : ℕ) → HasRanges (IsMarked domain old from) at left
         → (rest : ℕ) × (left ≡ suc rest) × HasRanges (IsMarked domain old from) end rest
     one_less left h =
-        ranges_behind (IsMarked domain old from) at start end
+        ranges_after (IsMarked domain old from) at start end
         (first_alike (IsMarked domain mid from) (IsMarked domain old from) at start were_ahead marked_ahead first)
         (range_alike (IsMarked domain mid from) (IsMarked domain old from) at start end first.after were_ahead
         marked_ahead range) left h

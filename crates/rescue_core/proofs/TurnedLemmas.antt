@@ -31,7 +31,7 @@ use Rattle.rescue_core.specs.Across.{Across}
 use Rattle.rescue_core.specs.RunState.{RunState, setting_in, run_at, HasPlaces, IsRunning, HasCounts}
 use Rattle.rescue_core.specs.Turning.{turn_of, stepped, Halted}
 use Rattle.rescue_core.specs.TurnParts.{progress_of, tally_of, RunsAt, IsReadOf, Gathers, Advances}
-use Rattle.rescue_core.specs.Behind.{Marks, GoesOnBehind}
+use Rattle.rescue_core.specs.After.{Marks, GoesOnAfter}
 use Rattle.rescue_core.proofs.TurnLemmas.{Fits, request_fits, wanted_in, run_steps}
 use Rattle.rescue_core.proofs.RunningLemmas.{running_steps}
 use Rattle.rescue_core.proofs.StageLemmas.{running_sensible}
@@ -65,8 +65,8 @@ abbrev pub run_of : Parts → RunState
 run_of p = run_at p.settings p.domain p.names p.line p.map p.phase p.progress p.tally p.heard
 
 -- the parts behind the marks of a turn
-abbrev pub parts_behind : Parts → List Status → Progress → Tally → Parts
-parts_behind p map progress tally = record p { map = map; progress = progress; tally = tally }
+abbrev pub parts_after : Parts → List Status → Progress → Tally → Parts
+parts_after p map progress tally = record p { map = map; progress = progress; tally = tally }
 
 -- a turn begins with this run, in which it has a request
 pub record Begins (p : Parts) (r : RunState) (room : ℕ) (request : Request) : Type 0 where
@@ -80,7 +80,7 @@ pub record Does (p : Parts) (request : Request) (got : Gathered) (map' : List St
     (counts counts' : Counts) (advanced : Advanced) : Type 0 where
   pub old : List Status
   pub old_is : old ≡ p.map
-  pub goes : GoesOnBehind p.settings p.domain p.phase request got old map' p.progress progress' p.tally tally' counts counts' advanced
+  pub goes : GoesOnAfter p.settings p.domain p.phase request got old map' p.progress progress' p.tally tally' counts counts' advanced
 
 pub begins_of : (T : Type 0) (statuses : T → List Status) (was : Inside T) (r : RunState) (request : Request)
     → run_of (parts_of T statuses was) ≡ r → IsRunning (run_of (parts_of T statuses was)) (length was.buf.items)
@@ -164,7 +164,7 @@ pub does_step : (p : Parts) (r : RunState) (room : ℕ) (request : Request) (got
     (site site' : SiteState) (clock clock' : ClockState) → Begins p r room request
     → (g : Gathers request p.settings got source source' site site' clock clock')
     → Does p request got map' progress' tally' counts counts' advanced
-    → run_of (parts_behind p map' progress' tally') ≡ stepped (run_of p) g.event p.heard
+    → run_of (parts_after p map' progress' tally') ≡ stepped (run_of p) g.event p.heard
 does_step p r room request got map' progress' tally' counts counts' advanced source source' site site' clock clock' b g d =
     let before : RunState = run_of p in
     let e : Event = g.event in
@@ -198,7 +198,7 @@ pub does_running : (p : Parts) (r : RunState) (room : ℕ) (request : Request) (
     (progress' : Progress) (tally' : Tally) (counts counts' : Counts) (advanced : Advanced) (source source' : SourceState)
     (site site' : SiteState) (clock clock' : ClockState) → Begins p r room request
     → Gathers request p.settings got source source' site site' clock clock'
-    → Does p request got map' progress' tally' counts counts' advanced → IsRunning (run_of (parts_behind p map' progress' tally')) room
+    → Does p request got map' progress' tally' counts counts' advanced → IsRunning (run_of (parts_after p map' progress' tally')) room
 does_running p r room request got map' progress' tally' counts counts' advanced source source' site site' clock clock' b g d =
     let before : RunState = run_of p in
     let e : Event = g.event in
@@ -215,7 +215,7 @@ pub does_counted : (p : Parts) (r : RunState) (room : ℕ) (request : Request) (
     (site site' : SiteState) (clock clock' : ClockState) → Begins p r room request
     → Gathers request p.settings got source source' site site' clock clock'
     → Does p request got map' progress' tally' counts counts' advanced → HasCounts (run_of p) counts
-    → HasCounts (run_of (parts_behind p map' progress' tally')) counts'
+    → HasCounts (run_of (parts_after p map' progress' tally')) counts'
 does_counted p r room request got map' progress' tally' counts counts' advanced source source' site site' clock clock' b g d were =
     subst (λ (x : RunState). HasCounts x counts')
     (sym (does_step p r room request got map' progress' tally' counts counts' advanced source source' site site' clock clock' b g d))
@@ -238,12 +238,12 @@ pub does_advance : (p : Parts) (r : RunState) (room : ℕ) (request : Request) (
     (site site' : SiteState) (clock clock' : ClockState) → Begins p r room request
     → Gathers request p.settings got source source' site site' clock clock'
     → Does p request got map' progress' tally' counts counts' advanced
-    → Advances request advanced r (run_of (parts_behind p map' progress' tally')) source source' site site' clock clock'
+    → Advances request advanced r (run_of (parts_after p map' progress' tally')) source source' site site' clock clock'
 does_advance p r room request got map' progress' tally' counts counts' advanced source source' site site' clock clock' b g d =
-    let behind : RunState = run_of (parts_behind p map' progress' tally') in
-    let is : behind ≡ stepped (run_of p) g.event p.heard
+    let later : RunState = run_of (parts_after p map' progress' tally') in
+    let is : later ≡ stepped (run_of p) g.event p.heard
     = does_step p r room request got map' progress' tally' counts counts' advanced source source' site site' clock clock' b g d in
-    subst (λ (x : RunState). Advances request advanced x behind source source' site site' clock clock') b.is (record {
+    subst (λ (x : RunState). Advances request advanced x later source source' site site' clock clock') b.is (record {
       event = g.event;
       is = g.is;
       answers = d.goes.answers ∙ g.turn (run_of p) refl;

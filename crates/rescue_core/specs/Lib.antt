@@ -8,4 +8,4 @@ pub mod Closing
 pub mod Stages
 pub mod TurnParts
 pub mod Counting
-pub mod Behind
+pub mod After

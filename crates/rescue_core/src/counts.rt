@@ -32,7 +32,7 @@ pub fn counts_at_first<T: Tiles>(domain: &Domain, tiles: &T) -> Counts
 /// Goes on with the counts behind a read. The map has the marks of the read; the domain is what was left in front of it.
 /// Where areas may have changed, the positions right beside the request are looked up.
 #[inline(always)]
-pub(crate) fn count_behind<T: Tiles>(
+pub(crate) fn count_after<T: Tiles>(
     counts: &mut Counts,
     live: Live<'_>,
     tiles: &T,
@@ -46,7 +46,7 @@ pub(crate) fn count_behind<T: Tiles>(
         → HasCounts (stepped r e heard) counts.new }
 {
     counts.rescued = counts.rescued.saturating_add(turn.kept);
-    fail_behind(&mut counts.failed, live, tiles, phase, request, turn);
+    fail_after(&mut counts.failed, live, tiles, phase, request, turn);
     if let Some(end) = end {
         *counts = counts_before(*counts, live, tiles, end);
     }
@@ -54,7 +54,7 @@ pub(crate) fn count_behind<T: Tiles>(
 
 /// Goes on with what failed behind the marks of a read. Behind a whole read of copying it is as before.
 #[inline(always)]
-fn fail_behind<T: Tiles>(
+fn fail_after<T: Tiles>(
     failed: &mut Count,
     live: Live<'_>,
     tiles: &T,
@@ -156,7 +156,7 @@ fn counts_before<T: Tiles>(counts: Counts, live: Live<'_>, tiles: &T, end: u64) 
 fn end_of<T: Tiles>(live: Live<'_>, tiles: &T) -> u64
     ensures within { result ≤ length (T.statuses tiles.now) }
     ensures before { (x : ℕ) → x < result → is_before live.entry.over x ≡ true }
-    ensures behind { (x : ℕ) → result ≤ x → x < length (T.statuses tiles.now) → is_before live.entry.over x ≡ false }
+    ensures past { (x : ℕ) → result ≤ x → x < length (T.statuses tiles.now) → is_before live.entry.over x ≡ false }
 {
     match live.over {
         None => tiles.end(),

@@ -12,7 +12,7 @@ ghost use Rattle.rescue_core.specs.TurnParts.{fetched_of, Gathers};
 
 use crate::landing::{Kept, land_kept};
 use crate::settings::Settings;
-use crate::tally::turn_behind;
+use crate::tally::turn_after;
 use crate::timed::{Timed, read_timed};
 use crate::turn::Turn;
 use crash_site::site::{Site, SiteCall};
@@ -81,6 +81,6 @@ pub(crate) fn gather<S: Source, D: Site, K: Clock>(
     let Ok(kept) = land_kept(fetched, buf, site, at) else {
         return Err(Stop::Site(SiteCall::ImageWrite));
     };
-    let turn = turn_behind(settings, request, got, kept.size(), before, after);
+    let turn = turn_after(settings, request, got, kept.size(), before, after);
     Ok(Gathered { kept, turn, after })
 }

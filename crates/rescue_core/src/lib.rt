@@ -1,7 +1,7 @@
 //! The run of a rescue: its state, its turns, its end. A turn is one step of the rules.
 #![tactic(auto)]
 
-mod behind;
+mod after;
 pub mod closing;
 pub mod counts;
 pub mod due;

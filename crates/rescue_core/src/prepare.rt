@@ -29,9 +29,9 @@ pub fn prepare<T: Tiles>(
     let trimmed = prepared_to(again, retrim, Status::NonTrimmed);
     let scraped = prepared_to(again, retrim, Status::NonScraped);
     let bad = prepared_to(again, retrim, Status::BadSector);
-    let room = room_behind(tiles, domain, Status::NonTrimmed, trimmed, 0)?;
-    let room = room_behind(tiles, domain, Status::NonScraped, scraped, room)?;
-    let room = room_behind(tiles, domain, Status::BadSector, bad, room)?;
+    let room = room_after(tiles, domain, Status::NonTrimmed, trimmed, 0)?;
+    let room = room_after(tiles, domain, Status::NonScraped, scraped, room)?;
+    let room = room_after(tiles, domain, Status::BadSector, bad, room)?;
     tiles.reserve(room)?;
     replace(tiles, domain, Status::NonTrimmed, trimmed);
     replace(tiles, domain, Status::NonScraped, scraped);
@@ -70,7 +70,7 @@ fn find_in<T: Tiles>(domain: &Domain, tiles: &T, from: u64, status: Status) -> O
 }
 
 /// The blocks that giving the positions of a domain with one status another may take, beside others.
-fn room_behind<T: Tiles>(
+fn room_after<T: Tiles>(
     tiles: &T,
     domain: &Domain,
     from: Status,

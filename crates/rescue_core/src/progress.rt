@@ -19,7 +19,7 @@ use transfer_token::token::Request;
 /// Goes on to where a run stands behind a read, in a map of so many positions. While it trims, `more` says whether the
 /// position behind the read is asked for.
 #[inline(always)]
-pub(crate) fn progress_behind(
+pub(crate) fn progress_after(
     settings: &Settings,
     phase: Phase,
     progress: &mut Progress,
@@ -41,9 +41,9 @@ pub(crate) fn progress_behind(
         → progress.new ≡ progress_of progress.old.pass (step (setting_in r) r.machine e) }
 {
     let jumped = jumps(phase, progress.pass, turn);
-    progress.cursor = cursor_behind(settings, phase, *progress, top, request, turn, jumped);
+    progress.cursor = next_cursor(settings, phase, *progress, top, request, turn, jumped);
     progress.mode = if phase == Phase::Trimming {
-        mode_behind(
+        next_mode(
             progress.mode,
             !turn.failed(),
             more,
@@ -53,12 +53,12 @@ pub(crate) fn progress_behind(
     } else {
         TrimMode::Lead
     };
-    progress.skip = skip_behind(settings, progress.skip, jumped, turn);
+    progress.skip = next_skip(settings, progress.skip, jumped, turn);
 }
 
 /// The cursor behind a read.
 #[tactic(auto, using(crate::proofs::ProgressLemmas::cursor_is))]
-fn cursor_behind(
+fn next_cursor(
     settings: &Settings,
     phase: Phase,
     progress: Progress,
@@ -91,7 +91,7 @@ fn cursor_behind(
 }
 
 /// How far copying jumps next.
-fn skip_behind(settings: &Settings, skip: u64, jumped: bool, turn: Turn) -> u64
+fn next_skip(settings: &Settings, skip: u64, jumped: bool, turn: Turn) -> u64
     requires small { skip < 2 ^ 63 }
     ensures { (r : RunState) (e : Event) → r.settings ≡ settings.now → r.machine.skip ≡ skip → turn ≡ turn_of r e
         → jumped ≡ is_jump (setting_in r) r.machine e → result ≡ skip_after (setting_in r) r.machine e }
@@ -119,7 +119,7 @@ fn jumps(phase: Phase, pass: u32, turn: Turn) -> bool
 }
 
 /// The mode of trimming behind a read from one position up to another.
-fn mode_behind(mode: TrimMode, good: bool, more: bool, from: u64, to: u64) -> TrimMode
+fn next_mode(mode: TrimMode, good: bool, more: bool, from: u64, to: u64) -> TrimMode
     ensures { result ≡ mode_after mode good more from to }
 {
     match (mode, good) {

@@ -18,7 +18,7 @@ ghost use Rattle.rescue_core.specs.Turning.{Turned, Halted};
 ghost use Rattle.rescue_core.specs.TurnParts.{Advances};
 ghost use Rattle.rescue_core.specs.Closing.{Closes, MayClose, LastSave, drafting_at_stop, last_pieces};
 
-use crate::behind::go_on_by_kind;
+use crate::after::go_on_by_kind;
 use crate::closing::{Closed, end_saved, last_shown};
 use crate::counts::counts_at_first;
 use crate::gather::gather;

@@ -21,7 +21,7 @@ use rescue_rules::report::Said;
 use transfer_token::token::Request;
 
 /// What a turn answers of what a read gave between two times, of which so many bytes were kept.
-pub(crate) fn turn_behind(
+pub(crate) fn turn_after(
     settings: &Settings,
     request: Request,
     got: Got,
@@ -59,7 +59,7 @@ pub(crate) struct Due {
 
 /// Counts what a run has come to behind a read at this time, which met the input's end there if it did.
 #[inline(always)]
-pub(crate) fn tally_behind(
+pub(crate) fn tally_after(
     tally: &mut Tally,
     turn: Turn,
     after: u64,

@@ -15,7 +15,7 @@ data Placed (parts : List Range) (n : ℕ) (part : Range) (x : ℕ) : Type 0 whe
   in_front : (i : ℕ) (other : Range) → i < n → slice_get parts i ≡ Some other → x < other.to → other.to < part.from
       → Placed parts n part x
   inside : part.from ≤ x → x < part.to → Placed parts n part x
-  behind : (i : ℕ) (other : Range) → n < i → slice_get parts i ≡ Some other → other.from ≤ x → part.to < other.from
+  past : (i : ℕ) (other : Range) → n < i → slice_get parts i ≡ Some other → other.from ≤ x → part.to < other.from
       → Placed parts n part x
 
 -- of the interval with an index
@@ -28,7 +28,7 @@ module _ (parts : List Range) (n : ℕ) (part : Range) (t : AreParts 0 parts) (t
       in_front k.index k.part l k.there k.ends (gap_between 0 parts k.index n k.part part t l k.there there))
       (λ (l : n ≤ k.index). ⊎_elim
       (λ (m : n < k.index).
-      behind k.index k.part m k.there k.begun (gap_between 0 parts n k.index part k.part t m there k.there))
+      past k.index k.part m k.there k.begun (gap_between 0 parts n k.index part k.part t m there k.there))
       (λ (m : k.index ≤ n).
       let same : k.index ≡ n = omega arith in
       let read : slice_get parts n ≡ Some k.part = rw same at k.there in
@@ -47,7 +47,7 @@ module _ (parts : List Range) (n : ℕ) (part : Range) (t : AreParts 0 parts) (t
         least = λ x m c. elim (seen_from x c) [
           | in_front i other u f v w ↦ absurd (omega (arith, ended i other u f))
           | inside u v ↦ omega arith
-          | behind i other u f v w ↦ omega (arith, k.some)
+          | past i other u f v w ↦ omega (arith, k.some)
         ];
       }
 
@@ -60,7 +60,7 @@ module _ (parts : List Range) (n : ℕ) (part : Range) (t : AreParts 0 parts) (t
         stops = λ c. elim (seen_from part.to c) [
           | in_front i other u f v w ↦ omega (arith, k.some)
           | inside u v ↦ omega arith
-          | behind i other u f v w ↦ omega arith
+          | past i other u f v w ↦ omega arith
         ];
       }
 
@@ -76,7 +76,7 @@ module _ (parts : List Range) (n : ℕ) (part : Range) (t : AreParts 0 parts) (t
         greatest = λ x m c. elim (seen_from x c) [
           | in_front i other u f v w ↦ omega (arith, k.some)
           | inside u v ↦ omega arith
-          | behind i other u f v w ↦ absurd (omega (arith, others i other u f))
+          | past i other u f v w ↦ absurd (omega (arith, others i other u f))
         ];
       }
 
@@ -90,7 +90,7 @@ module _ (parts : List Range) (n : ℕ) (part : Range) (t : AreParts 0 parts) (t
         stops = λ x m c. elim (seen_from x c) [
           | in_front i other u f v w ↦ omega arith
           | inside u v ↦ omega arith
-          | behind i other u f v w ↦ omega (arith, k.some)
+          | past i other u f v w ↦ omega (arith, k.some)
         ];
       }
 

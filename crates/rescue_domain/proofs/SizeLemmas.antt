@@ -102,13 +102,13 @@ counted_parts low n (part ∷ parts) t h =
     (λ x l u. clear_below part.from (part ∷ parts) x (omega arith, t.1, t.2) (omega arith)) in
     let here = counted_all all part.from (width part) rest
     (λ x l u. part_covers (part ∷ parts) 0 x part refl l (omega arith)) in
-    let behind = counted_same all (covers parts) part.to rest (λ x l. grind (arith, nat_tests)) in
+    let past = counted_same all (covers parts) part.to rest (λ x l. grind (arith, nat_tests)) in
     let k = counted_parts part.to rest parts later (λ x c. omega (arith, h x (grind (arith, nat_tests, c)))) in
     omega (
       arith,
       front,
       here,
-      behind,
+      past,
       k,
       sum_by-cons width part parts,
       ap (λ k. counted all low k) e,

@@ -17,19 +17,19 @@ module _ (parts : List Range) (t : AreParts 0 parts) (n x : ℕ) where
       let up = ends_ascend parts t i (n - 1) no_part (omega arith) (omega arith) in
       omega (arith, up, ends, ap (λ (r : Range). r.to) (get_or_from_slice_get parts i part no_part e))
 
-  pub end_behind : x < (get_or parts n no_part).to → (i : ℕ) (part : Range) → n ≤ i → slice_get parts i ≡ Some part
+  pub end_after : x < (get_or parts n no_part).to → (i : ℕ) (part : Range) → n ≤ i → slice_get parts i ≡ Some part
       → x < part.to
-  end_behind ahead i part l e =
+  end_after ahead i part l e =
       let up = ends_ascend parts t n i no_part l (slice_get_within parts i part e) in
       omega (arith, up, ahead, ap (λ (r : Range). r.to) (get_or_from_slice_get parts i part no_part e))
 
-  pub none_behind : n ≡ length parts → (i : ℕ) (part : Range) → n ≤ i → slice_get parts i ≡ Some part → x < part.to
-  none_behind all i part l e = absurd (omega (arith, slice_get_within parts i part e))
+  pub none_after : n ≡ length parts → (i : ℕ) (part : Range) → n ≤ i → slice_get parts i ≡ Some part → x < part.to
+  none_after all i part l e = absurd (omega (arith, slice_get_within parts i part e))
 
 -- of a position, by how many intervals end at or before it
 module _ (parts : List Range) (t : AreParts 0 parts) (n x limit : ℕ) (k : EndBy parts n x) (some : x < limit) where
-  pub stretch_behind : length parts ≤ n → IsStretchFrom (covers parts) x limit false limit
-  stretch_behind none = record {
+  pub stretch_past : length parts ≤ n → IsStretchFrom (covers parts) x limit false limit
+  stretch_past none = record {
     alike = record {
       some = some;
       each = λ y l u. false_from_ne_true (covers parts y) (λ c. none_from parts x n k.ended none y l c);

@@ -14,8 +14,8 @@ use Rattle.rescue_plan.specs.Running.{PutsPlan, PutsFirst, PutsPlanBroken}
 use Rattle.rescue_plan.specs.Laws.{PlanIsBegun}
 use Rattle.rescue_plan.proofs.PlanLemmas.{begin_with, plan_is_one}
 
-lines_behind : (first more : List PlannedRead) → lines_of (first ++ more) ≡ lines_of first ++ lines_of more
-lines_behind first more = flat_map-append line_of first more
+lines_after : (first more : List PlannedRead) → lines_of (first ++ more) ≡ lines_of first ++ lines_of more
+lines_after first more = flat_map-append line_of first more
 
 module _ (c : Command) (test : List Status) (old new : ConsoleState) (reads : List PlannedRead)
     (plain : ArePlain c.options.rescue) (plan : IsPlan (plan_setting c.options.rescue c.length) c.length test reads)
@@ -29,7 +29,7 @@ module _ (c : Command) (test : List Status) (old new : ConsoleState) (reads : Li
       record {
         part = lines_of p.reads;
         left = lines_of b.more;
-        split = sym (lines_behind p.reads b.more) ∙ ap lines_of b.are;
+        split = sym (lines_after p.reads b.more) ∙ ap lines_of b.are;
         is = p.puts.whole tells;
       }
 
@@ -39,9 +39,9 @@ module _ (c : Command) (test : List Status) (old new : ConsoleState) (reads : Li
       let g = p.puts.part tells in
       let rest : List ℕ = lines_of b.more in
       let next : lines_of (p.reads ++ p.next ∷ []) ≡ lines_of p.reads ++ line_of p.next =
-      lines_behind p.reads (p.next ∷ []) ∙ ap (λ (t : List ℕ). lines_of p.reads ++ t) (append-nil (line_of p.next)) in
+      lines_after p.reads (p.next ∷ []) ∙ ap (λ (t : List ℕ). lines_of p.reads ++ t) (append-nil (line_of p.next)) in
       let all : lines_of reads ≡ (lines_of p.reads ++ line_of p.next) ++ rest =
-      ap lines_of (sym b.are) ∙ lines_behind (p.reads ++ p.next ∷ []) b.more ∙ ap (λ (t : List ℕ). t ++ rest) next in
+      ap lines_of (sym b.are) ∙ lines_after (p.reads ++ p.next ∷ []) b.more ∙ ap (λ (t : List ℕ). t ++ rest) next in
       record {
         part = lines_of p.reads ++ g.part;
         left = g.left ++ rest;

@@ -43,7 +43,7 @@ use Rattle.ddrescueplan_words.specs.Command.{Command, AreInLimits}
 use Rattle.plan_source.specs.declared.loss.PlanLoss.{PlanLoss}
 use Rattle.plan_source.specs.declared.loss.PlanLoss.TheVariants.{Memory, Console}
 use Rattle.plan_source.specs.Lines.{PlannedRead, planned, planned_entry, line_of, lines_of, line_of_entry, lines_of_entries}
-use Rattle.plan_source.specs.Printing.{BreaksLast, HasPrinted, PutsBehind}
+use Rattle.plan_source.specs.Printing.{BreaksLast, HasPrinted, PutsAfter}
 use Rattle.plan_source.specs.Answering.{IsSeenIn, there, given_at, reading_of, plan_source_state}
 use Rattle.rescue_plan.specs.Plan.{IsPlannedIn, BeginsPlan, untried_map, plan_setting, plan_start}
 use Rattle.rescue_plan.specs.Running.{BeginsPlannedRun, PutsPlan, PutsPlanWhole, PutsFirst, PutsPlanBroken, end_by}
@@ -228,7 +228,7 @@ module _ (c : Command) (limits : AreInLimits c) (r : RunState) (is : BeginsPlann
         reads = reads;
         next = planned_entry end.last;
         first = subst (λ (rs : List PlannedRead). BeginsPlan s c.length test rs) are reads_begin;
-        puts = subst (λ (t : List ℕ). PutsBehind t (line_of_entry end.last) start now) (sym (lines_are end.before))
+        puts = subst (λ (t : List ℕ). PutsAfter t (line_of_entry end.last) start now) (sym (lines_are end.before))
             (puts_broken start now entries end.before end.last end.are b);
       }
 
@@ -246,20 +246,20 @@ module _ (c : Command) (limits : AreInLimits c) (r : RunState) (is : BeginsPlann
 -- ---- what the source tells behind the run
 
 -- it is the same source, and its journal is the run's
-record IsBehind (len len' : ℕ) (test test' : List Status) (opened : Bool) (entries : List ReadEntry) (reads : List Reading)
+record IsAfter (len len' : ℕ) (test test' : List Status) (opened : Bool) (entries : List ReadEntry) (reads : List Reading)
     : Type 0 where
   length_is : len' ≡ len
   test_is : test' ≡ test
   on : opened ≡ true
   journal : map reading_of entries ≡ reads
 
-is_behind : (len len' : ℕ) (test test' : List Status) (reference reference' : ℕ) (entries : List ReadEntry)
+is_after : (len len' : ℕ) (test test' : List Status) (reference reference' : ℕ) (entries : List ReadEntry)
     (name : List ℕ) (opened : Bool) (opens faults losses : ℕ) (old : SourceState) (reads : List Reading)
     → old ≡ plan_source_state len test reference [] [] true 0 0 0
     → Stays old (plan_source_state len' test' reference' entries name opened opens faults losses)
     → (IsTrue old.tells → map reading_of entries ≡ old.journal ++ reads)
-    → IsBehind len len' test test' opened entries reads
-is_behind len len' test test' reference reference' entries name opened opens faults losses old reads was stays read =
+    → IsAfter len len' test test' opened entries reads
+is_after len len' test test' reference reference' entries name opened opens faults losses old reads was stays read =
     let first : SourceState = plan_source_state len test reference [] [] true 0 0 0 in
     let new : SourceState = plan_source_state len' test' reference' entries name opened opens faults losses in
     let st : Stays first new = subst (λ (s : SourceState). Stays s new) was stays in
@@ -287,8 +287,8 @@ pub run_puts : (c : Command) (limits : AreInLimits c) (r : RunState) (is : Begin
     → PutsPlan c test (end_by lost end) start now
 run_puts c limits r is end es run spare calls ends len len' size test test' reference reference' entries name opened idle
     opens faults losses lost old was stays read seen start now printed =
-    let b : IsBehind len len' test test' (opened && idle) entries (reads_of es) =
-    is_behind len len' test test' reference reference' entries name (opened && idle) opens faults losses old (reads_of es)
+    let b : IsAfter len len' test test' (opened && idle) entries (reads_of es) =
+    is_after len len' test test' reference reference' entries name (opened && idle) opens faults losses old (reads_of es)
     was stays read in
     let seen_all : All (IsSeenIn c.length test) entries =
     subst (λ (n : ℕ). All (IsSeenIn n test) entries) (b.length_is ∙ sym size)

@@ -14,7 +14,7 @@ use Rattle.rescue_plan.specs.declared.run.PlanEnd.TheVariants.{Whole, Lost}
 use Rattle.plan_source.specs.declared.loss.PlanLoss.{PlanLoss}
 use Rattle.plan_source.specs.declared.loss.PlanLoss.TheVariants.{Memory, Console}
 use Rattle.plan_source.specs.Lines.{PlannedRead, line_of, lines_of}
-use Rattle.plan_source.specs.Printing.{PutsBehind}
+use Rattle.plan_source.specs.Printing.{PutsAfter}
 use Rattle.rescue_plan.specs.Plan.{plan_setting, BeginsPlan, IsPlan}
 pub use Rattle.rescue_plan.specs.Plan.{untried_map}
 
@@ -53,7 +53,7 @@ pub record PutsPlanBroken (c : Command) (test : List Status) (old new : ConsoleS
   pub reads : List PlannedRead
   pub next : PlannedRead
   pub first : BeginsPlan (plan_setting c.options.rescue c.length) c.length test (reads ++ next ∷ [])
-  pub puts : PutsBehind (lines_of reads) (line_of next) old new
+  pub puts : PutsAfter (lines_of reads) (line_of next) old new
 
 -- what is put on standard output, by how the plan ended
 abbrev pub PutsPlan : Command → List Status → PlanEnd → (old new : ConsoleState) → Type 0

@@ -187,12 +187,12 @@ failed_less s r few failed =
     omega (arith, kept_given s.sector r, other)
 
 -- the positions that are left of the domain in front of a read and failed behind it
-abbrev pub failed_behind : Setting → Machine → Reading → ℕ → Bool
-failed_behind s m r = passing has_failed (is_live s m) (map_after s m r)
+abbrev pub failed_after : Setting → Machine → Reading → ℕ → Bool
+failed_after s m r = passing has_failed (is_live s m) (map_after s m r)
 
 pub marks_count : (s : Setting) (m : Machine) (r : Reading) → IsSensible s → IsInOrder s m
     → IsRequest s m r.pos (r.pos + r.asked) → length r.given ≤ r.asked
-    → MarksCount s m r (failed_behind s m r) (counts_of (is_live s m) m.map) (counts_of (is_live s m) (map_after s m r))
+    → MarksCount s m r (failed_after s m r) (counts_of (is_live s m) m.map) (counts_of (is_live s m) (map_after s m r))
 marks_count s m r ok order request few =
     let t : Taking s m r = read_takes s m r ok order request few in
     let live : ℕ → Bool = is_live s m in
@@ -252,9 +252,9 @@ before_end (Some other) end last x below le lt =
     lt-ltb x (min other end) (omega arith) ∙ sym (lt-ltb x other (omega arith))
 
 -- and nothing else
-behind_end : (over : Option ℕ) (end x : ℕ) → end ≤ x → is_before (Some (earlier over end)) x ≡ false
-behind_end None end x le = le-ltb x end le
-behind_end (Some other) end x le = le-ltb x (min other end) (omega arith)
+past_end : (over : Option ℕ) (end x : ℕ) → end ≤ x → is_before (Some (earlier over end)) x ≡ false
+past_end None end x le = le-ltb x end le
+past_end (Some other) end x le = le-ltb x (min other end) (omega arith)
 
 end_cuts : (test : Status → Bool) (s : Setting) (m : Machine) (e : Event) → Taking s m e.reading
     → length e.reading.given ≤ e.reading.asked → e.reading.ended ≡ true
@@ -275,7 +275,7 @@ end_cuts test s m e t few ended =
           (before_end m.over k (r.pos + r.asked - 1) x last (omega (arith, few, t.asks.some)) lt);
       back = λ x le.
           ap (λ (o : Option ℕ). (s.domain x && is_before o x) && passes test (slice_get map x)) over
-          ∙ ap (λ (b : Bool). (s.domain x && b) && passes test (slice_get map x)) (behind_end m.over k x le)
+          ∙ ap (λ (b : Bool). (s.domain x && b) && passes test (slice_get map x)) (past_end m.over k x le)
           ∙ ap (λ (b : Bool). b && passes test (slice_get map x)) (and_right (s.domain x) false refl);
     }
 
@@ -283,7 +283,7 @@ pub end_counts : (s : Setting) (m : Machine) (e : Event) → IsSensible s → Is
     → IsRequest s m e.reading.pos (e.reading.pos + e.reading.asked) → length e.reading.given ≤ e.reading.asked
     → e.reading.ended ≡ true
     → EndsAt (e.reading.pos + length e.reading.given) (length (map_after s m e.reading))
-    (passing has_finished (is_live s m) (map_after s m e.reading)) (failed_behind s m e.reading)
+    (passing has_finished (is_live s m) (map_after s m e.reading)) (failed_after s m e.reading)
     (counts_of (is_live s m) (map_after s m e.reading)) (counts_of (is_live s (step s m e)) (step s m e).map)
 end_counts s m e ok order request few ended =
     let r : Reading = e.reading in
@@ -295,8 +295,8 @@ end_counts s m e ok order request few ended =
     record {
       rescued = bytes_cut (passing has_finished (is_live s m) map) (passing has_finished (is_live s (step s m e)) map) k
           (length map) (end_cuts has_finished s m e t few ended) there;
-      bytes = bytes_cut (failed_behind s m r) (passing has_failed (is_live s (step s m e)) map) k (length map) cut there;
-      areas = areas_cut (failed_behind s m r) (passing has_failed (is_live s (step s m e)) map) k (length map) cut there;
+      bytes = bytes_cut (failed_after s m r) (passing has_failed (is_live s (step s m e)) map) k (length map) cut there;
+      areas = areas_cut (failed_after s m r) (passing has_failed (is_live s (step s m e)) map) k (length map) cut there;
     }
 
 -- and where it met none, what is left stands

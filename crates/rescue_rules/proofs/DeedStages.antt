@@ -37,16 +37,16 @@ doing_is s deeds last on =
     ap (λ (b : Bool). flat_map (deed_calls s) deeds ++ (if b then last_calls s last else image_sync ∷ [])) on
 
 -- a save of a run's list
-slice_get_here : (before : List Snapshot) (p : Snapshot) (behind : List Snapshot)
-    → slice_get (before ++ p ∷ behind) (length before) ≡ Some p
-slice_get_here [] p behind = refl
-slice_get_here (q ∷ before) p behind = slice_get_here before p behind
+slice_get_here : (before : List Snapshot) (p : Snapshot) (later : List Snapshot)
+    → slice_get (before ++ p ∷ later) (length before) ≡ Some p
+slice_get_here [] p later = refl
+slice_get_here (q ∷ before) p later = slice_get_here before p later
 
-pub save_at : (saves before : List Snapshot) (p : Snapshot) (behind : List Snapshot) (n : ℕ) → length before ≡ n
-    → saves ≡ before ++ p ∷ behind → slice_get saves n ≡ Some p
-save_at saves before p behind n number is =
+pub save_at : (saves before : List Snapshot) (p : Snapshot) (later : List Snapshot) (n : ℕ) → length before ≡ n
+    → saves ≡ before ++ p ∷ later → slice_get saves n ≡ Some p
+save_at saves before p later n number is =
     ap (λ (l : List Snapshot). slice_get l n) is
-    ∙ subst (λ (m : ℕ). slice_get (before ++ p ∷ behind) m ≡ Some p) number (slice_get_here before p behind)
+    ∙ subst (λ (m : ℕ). slice_get (before ++ p ∷ later) m ≡ Some p) number (slice_get_here before p later)
 
 -- calls on an output don't make it shorter
 pub length-image_after : (bytes : List ℕ) (calls : List Call) → length bytes ≤ length (image_after bytes calls)

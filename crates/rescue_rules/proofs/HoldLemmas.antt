@@ -21,7 +21,7 @@ use Rattle.rescue_rules.specs.Held.{Held}
 use Rattle.rescue_rules.specs.MachineLaws.{IsInOrder, StepsBy, RunHolds}
 use Rattle.rescue_rules.proofs.MarkLemmas.{slice_get-take}
 use Rattle.rescue_rules.proofs.WriteLemmas.{length-written, written_inside, written_outside}
-use Rattle.rescue_rules.proofs.GivenLemmas.{covers_here, Covered, covered_here, kept_given, given_before, given_behind, given_off}
+use Rattle.rescue_rules.proofs.GivenLemmas.{covers_here, Covered, covered_here, kept_given, given_before, given_after, given_off}
 use Rattle.rescue_rules.proofs.StepLemmas.{wanted_domain}
 use Rattle.rescue_rules.proofs.MoveLemmas.{run_rest}
 use Rattle.rescue_rules.proofs.ReadyLemmas.{stays_ready}
@@ -99,7 +99,7 @@ held_covered : (s : Setting) (ok : IsSensible s) (front : List Reading) (image :
 held_covered s ok front image r x d low covered =
     let c : Covered s.sector r x = covered_here s.sector r x covered in
     output_here s image r (place s x) (x - r.pos) (omega (arith, c.from, d.low)) (omega (arith, c.from, c.to))
-    ∙ sym (given_behind s.sector front r x covered)
+    ∙ sym (given_after s.sector front r x covered)
 
 -- a position that a read covers was given
 covered_given : (s : Setting) (front : List Reading) (r : Reading) (x : ℕ) → covers s.sector r x ≡ true
@@ -107,7 +107,7 @@ covered_given : (s : Setting) (front : List Reading) (r : Reading) (x : ℕ) →
 covered_given s front r x covered none =
     let c : Covered s.sector r x = covered_here s.sector r x covered in
     none-some (get_or r.given (x - r.pos) 0)
-    (sym none ∙ given_behind s.sector front r x covered
+    (sym none ∙ given_after s.sector front r x covered
     ∙ slice_get-get_or r.given (x - r.pos) 0 (omega (arith, c.from, c.to, kept_given s.sector r)))
 
 -- what is finished behind a move and not covered by it was finished before it

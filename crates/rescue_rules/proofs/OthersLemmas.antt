@@ -20,7 +20,7 @@ use Rattle.save_resume.proofs.StageLemmas.{appended_draft}
 use Rattle.rescue_rules.specs.Setting.{Setting}
 use Rattle.rescue_rules.specs.Snapshots.{Snapshot, text_of}
 use Rattle.rescue_rules.specs.Deeds.{Deed, save_of, deed_calls, image_after, WritesAt, KeepsOn, KeepsUp}
-use Rattle.rescue_rules.specs.Stops.{Behind, is_settle, is_write}
+use Rattle.rescue_rules.specs.Stops.{Before, is_settle, is_write}
 use Rattle.rescue_rules.specs.StopsBy.{is_publish}
 use Rattle.rescue_rules.proofs.CutLemmas.{Cut, Each, at_stop, add}
 use Rattle.rescue_rules.proofs.SaveStages.{put_own, image_apart, image_stays}
@@ -223,7 +223,7 @@ deeds_lead s promise free (d ∷ ds) n image h =
     (deeds_lead s promise free ds on.0 after on.1)
 
 -- a file that could be found before, with the others as they read
-pub found_could : (b : Behind) (name : List ℕ) (files : List ℕ → Option File)
+pub found_could : (b : Before) (name : List ℕ) (files : List ℕ → Option File)
     → MayShow ((disk_before b).shows name) (files name)
     → (before : List ℕ → Option File) × MayBeLeft b.start b.earlier (length b.earlier) before ×
     (files name ≡ before name)
@@ -291,7 +291,7 @@ module _ (s : Setting) (makes : Bool) (deeds : List Deed) (last : Snapshot) (giv
       )
 
   -- so what is found there could be found before
-  pub others_could : (b : Behind) (name : List ℕ) (es : List Entry) (k : ℕ) (files : List ℕ → Option File)
+  pub others_could : (b : Before) (name : List ℕ) (es : List Entry) (k : ℕ) (files : List ℕ → Option File)
       → IsOther s name → Opens makes ((disk_before b).reads.files s.outfile)
       → AreOfRun s false (reads_of s given at answer ++ all_calls s deeds last)
       → Cut (opening_by s makes ++ (reads_of s given at answer ++ all_calls s deeds last)) es

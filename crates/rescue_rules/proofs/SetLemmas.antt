@@ -248,8 +248,8 @@ areas_went old new p k q end c some there ends ends' =
     let e : k ≡ q = omega (arith, all, c.high) in
     let after = begins_to new p q false c.some (subst (λ k. AllAre new p k false) e c.first_are) in
     let last : weight (new q && true) ≡ weight (new q) = ap weight (and-true (new q)) in
-    let behind : weight (nat_lt k q || new q) ≡ weight (new q) = ap (λ b. weight (b || new q)) (le-ltb k q all) in
-    omega (arith, change, before, none, front, after, last, behind))
+    let past : weight (nat_lt k q || new q) ≡ weight (new q) = ap (λ b. weight (b || new q)) (le-ltb k q all) in
+    omega (arith, change, before, none, front, after, last, past))
     (cases_lt k q)
 
 -- Where all that lies at an end or behind it goes out of a set, the rest stands.

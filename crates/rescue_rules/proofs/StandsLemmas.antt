@@ -67,7 +67,7 @@ continues_small end [] statuses small c = omega (arith, ap length c)
 continues_small end (l ∷ ls) statuses small c =
     let b : Block = c.0 in
     let rest : List Status = c.2 in
-    let behind : b.pos + b.size + length rest < 2 ^ 63 = continues_small (b.pos + b.size) ls rest c.3.end c.6 in
+    let after : b.pos + b.size + length rest < 2 ^ 63 = continues_small (b.pos + b.size) ls rest c.3.end c.6 in
     let none : length c.1 ≡ 0 = ap length c.4.1 in
     let size : length statuses ≡ length c.1 + (b.size + length rest)
     = ap length c.5
@@ -78,7 +78,7 @@ continues_small end (l ∷ ls) statuses small c =
           (replicate b.size b.status) rest,
       length-replicate b.size b.status,
     ) in
-    omega (arith, behind, none, size, c.4.0)
+    omega (arith, after, none, size, c.4.0)
 
 lists_small : (ls : List Line) (first : ℕ) (listed : Bool) (statuses : List Status)
     → Lists Tight ls first listed statuses → length statuses < 2 ^ 63
@@ -86,7 +86,7 @@ lists_small [] first listed statuses c = omega (arith, ap length c.2)
 lists_small (l ∷ ls) first listed statuses c =
     let b : Block = c.0 in
     let rest : List Status = c.1 in
-    let behind : b.pos + b.size + length rest < 2 ^ 63 = continues_small (b.pos + b.size) ls rest c.2.end c.6 in
+    let after : b.pos + b.size + length rest < 2 ^ 63 = continues_small (b.pos + b.size) ls rest c.2.end c.6 in
     let size : length statuses ≡ first + (b.size + length rest)
     = ap length c.5
     ∙ omega (
@@ -97,7 +97,7 @@ lists_small (l ∷ ls) first listed statuses c =
       length-replicate b.size b.status,
       length-replicate first NonTried,
     ) in
-    omega (arith, behind, size, c.3)
+    omega (arith, after, size, c.3)
 
 lines_small : (ls : List Line) (state : MapState) (first : ℕ) (listed : Bool) (statuses : List Status)
     → AreMapLines Tight ls state first listed statuses

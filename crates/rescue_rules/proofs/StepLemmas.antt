@@ -311,7 +311,7 @@ after_only s m r x t has =
     (λ (from : r.pos ≤ x). ⊎_elim
     (λ (to : x < r.pos + r.asked). ⊎_elim
     (λ (here : x < r.pos + kept s.sector r). inr (covers_here s.sector r x from here))
-    (λ (behind : r.pos + kept s.sector r ≤ x). absurd (rest_unfinished s m r x t behind to has))
+    (λ (past : r.pos + kept s.sector r ≤ x). absurd (rest_unfinished s m r x t past to has))
     (cases_lt x (r.pos + kept s.sector r)))
     (λ (ge : r.pos + r.asked ≤ x). inl (only_apart s m r x t (inr ge) has))
     (cases_lt x (r.pos + r.asked)))

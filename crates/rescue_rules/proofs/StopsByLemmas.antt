@@ -19,7 +19,7 @@ use Rattle.rescue_rules.specs.Start.{Stands}
 use Rattle.rescue_rules.specs.Snapshots.{Snapshot, text_of}
 use Rattle.rescue_rules.specs.Laws.{AreThreeNames}
 use Rattle.rescue_rules.specs.Deeds.{Deed, saves_in, Outlasts, KeepsUp}
-use Rattle.rescue_rules.specs.Stops.{Behind, files_before, is_sync, is_settle, is_write, has_barrier, CouldBefore, LeftBy}
+use Rattle.rescue_rules.specs.Stops.{Before, files_before, is_sync, is_settle, is_write, has_barrier, CouldBefore, LeftBy}
 use Rattle.rescue_rules.specs.StopsBy.{is_publish, IsSave, IsUnwritten, IsKeptBy, StopsBy}
 use Rattle.rescue_rules.proofs.StandsLemmas.{stands_for_one, printed_stands}
 use Rattle.rescue_rules.proofs.SnapshotLemmas.{IsReadable, one_of}
@@ -34,7 +34,7 @@ use Rattle.rescue_rules.proofs.OthersLemmas.{IsOther, reads_of, AreOfRun, all_of
 use Rattle.rescue_rules.proofs.UnwrittenLemmas.{Shown, Steady, unwritten_at, shown_found}
 
 -- what reads before a run
-pub reads_before : (b : Behind) (name : List ℕ) → (disk_before b).reads.files name ≡ files_before b name
+pub reads_before : (b : Before) (name : List ℕ) → (disk_before b).reads.files name ≡ files_before b name
 reads_before b name = ap (λ (r : Folder). r.files name) (run_reads (at_rest b.start) b.earlier)
 
 -- loads change nothing
@@ -86,10 +86,10 @@ other_test true b off is = absurd (cc)
 other_test false b off is = is
 
 -- the barrier is in what follows a call that is none
-pub barrier_behind : (c : Call) (tail : List Call) (es : List Entry) (k : ℕ) → is_sync (Done c) ≡ false
+pub barrier_after : (c : Call) (tail : List Call) (es : List Entry) (k : ℕ) → is_sync (Done c) ≡ false
     → (p : Peeled c tail es k) → has_barrier (take k es) ≡ true
     → has_barrier (take p.j p.rest) ≡ true
-barrier_behind c tail es k off p is =
+barrier_after c tail es k off p is =
     let here : has_barrier (take (suc p.j) (Done c ∷ p.rest)) ≡ true
     = subst (λ (m : ℕ). has_barrier (take m (Done c ∷ p.rest)) ≡ true) p.k_is
     (subst (λ (l : List Entry). has_barrier (take k l) ≡ true) p.es_is is) in
@@ -99,9 +99,9 @@ past : (s : Setting) (makes : Bool) (tail : List Call) (es : List Entry) (k : �
     → has_barrier (take k es) ≡ true → Past s makes tail es k
 past s makes tail es k cut is =
     let p1 = peel (image_open s.outfile makes) (map_settle s.names.map ∷ image_sync ∷ tail) es k cut is in
-    let is1 = barrier_behind (image_open s.outfile makes) (map_settle s.names.map ∷ image_sync ∷ tail) es k refl p1 is in
+    let is1 = barrier_after (image_open s.outfile makes) (map_settle s.names.map ∷ image_sync ∷ tail) es k refl p1 is in
     let p2 = peel (map_settle s.names.map) (image_sync ∷ tail) p1.rest p1.j p1.cut is1 in
-    let is2 = barrier_behind (map_settle s.names.map) (image_sync ∷ tail) p1.rest p1.j refl p2 is1 in
+    let is2 = barrier_after (map_settle s.names.map) (image_sync ∷ tail) p1.rest p1.j refl p2 is1 in
     let p3 = peel image_sync tail p2.rest p2.j p2.cut is2 in
     record {
       rest = p3.rest;
@@ -220,7 +220,7 @@ some_plan plan mapfile end (AnyMap any) = ([], None, any [] None)
 some_plan plan mapfile end (OneMap map at was p) = (map, at, p)
 
 -- one run, over one map
-module _ (promise : ℕ → List Status → List ℕ → Type 0) (free : ℕ → List Status → ℕ → Type 0) (makes : Bool) (b : Behind)
+module _ (promise : ℕ → List Status → List ℕ → Type 0) (free : ℕ → List Status → ℕ → Type 0) (makes : Bool) (b : Before)
     (s : Setting) (began : List Status) (saves : List Snapshot) (calls : List Entry) (three : AreThreeNames s)
     (opens : Opens makes (files_before b s.outfile))
     (p : Plan promise free makes s (bytes_of (files_before b s.outfile)) began saves calls) where
@@ -387,7 +387,7 @@ module _ (promise : ℕ → List Status → List ℕ → Type 0) (free : ℕ →
 -- So does any run that has a plan, and saves what can be read again.
 pub stops_by : (saves : List Status → Option MapState → List Snapshot)
     (promise : List Status → Option MapState → ℕ → List Status → List ℕ → Type 0)
-    (free : List Status → Option MapState → ℕ → List Status → ℕ → Type 0) (makes : Bool) (b : Behind) (s : Setting)
+    (free : List Status → Option MapState → ℕ → List Status → ℕ → Type 0) (makes : Bool) (b : Before) (s : Setting)
     (calls : List Entry) → AreThreeNames s → Opens makes (files_before b s.outfile)
     → OverMaps (λ began state. Plan (promise began state) (free began state) makes s (bytes_of (files_before b s.outfile)) began
     (saves began state) calls) (files_before b s.names.map) s.end

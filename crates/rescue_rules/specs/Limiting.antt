@@ -11,8 +11,8 @@ use Rattle.rescue_rules.specs.Beginning.{machine_of}
 pub record LooksAtLimits (s : Setting) (map : List Status) (from : Option MapState) (shown : MapState) (time : ℕ)
     (m : Machine) (e : Event) : Type 0 where
   pub first : limit_met s (machine_of s map from shown time) ≡ None
-  pub behind : is_none (step s m e).said ≡ false
+  pub after : is_none (step s m e).said ≡ false
 
-abbrev pub LimitsBehindEvents : Type 0
-LimitsBehindEvents = (s : Setting) (map : List Status) (from : Option MapState) (shown : MapState) (time : ℕ)
+abbrev pub LimitsAfterEvents : Type 0
+LimitsAfterEvents = (s : Setting) (map : List Status) (from : Option MapState) (shown : MapState) (time : ℕ)
     (m : Machine) (e : Event) → LooksAtLimits s map from shown time m e

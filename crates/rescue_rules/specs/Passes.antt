@@ -48,14 +48,14 @@ passes_in s Scraping number = map (numbered Scraping) (range_with_len number (2 
 passes_in s Retrying number = map (numbered Retrying) (range_with_len number (s.retries + 1 - number))
 
 -- the passes of the phases behind one: trimming and scraping unless they are off, and retrying
-abbrev pub passes_behind : Setting → Phase → List Pass
-passes_behind s Copying =
+abbrev pub passes_after : Setting → Phase → List Pass
+passes_after s Copying =
     (if s.trims then passes_in s Trimming 1 else []) ++ (if s.scrapes then passes_in s Scraping 1 else [])
     ++ passes_in s Retrying 1
-passes_behind s Trimming = (if s.scrapes then passes_in s Scraping 1 else []) ++ passes_in s Retrying 1
-passes_behind s Scraping = passes_in s Retrying 1
-passes_behind s Retrying = []
+passes_after s Trimming = (if s.scrapes then passes_in s Scraping 1 else []) ++ passes_in s Retrying 1
+passes_after s Scraping = passes_in s Retrying 1
+passes_after s Retrying = []
 
 -- all passes from this one of a phase on
 abbrev pub passes_from : Setting → Phase → ℕ → List Pass
-passes_from s phase number = passes_in s phase number ++ passes_behind s phase
+passes_from s phase number = passes_in s phase number ++ passes_after s phase

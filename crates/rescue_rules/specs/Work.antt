@@ -127,5 +127,5 @@ pub data Goes (s : Setting) (files : List ℕ → Option File) (g : Gain) : Type
   -- a read of such a map failed
   InMaps : (maps : List Call) → AreMapReads maps → g.reads ≡ [] → BrokeAt MapRead maps [] g.calls → Goes s files g
   -- all that were read returned, and the rescue went on
-  BehindMaps : (maps : List Call) (rest : List Entry) → AreMapReads maps → g.calls ≡ map Done maps ++ rest
+  AfterMaps : (maps : List Call) (rest : List Entry) → AreMapReads maps → g.calls ≡ map Done maps ++ rest
       → GoesOn s files (record g { calls = rest }) → Goes s files g

@@ -20,12 +20,12 @@ use Rattle.rescue_rules.specs.Events.{began_at}
 use Rattle.rescue_rules.proofs.StandsLemmas.{stands_for_one}
 use Rattle.mapfile_text.specs.declared.state.MapState.{MapState}
 use Rattle.block_list.specs.declared.status.Status.{Status}
-use Rattle.rescue_rules.specs.Stops.{Behind, files_before, has_barrier, LeftBy}
+use Rattle.rescue_rules.specs.Stops.{Before, files_before, has_barrier, LeftBy}
 use Rattle.rescue_rules.specs.StopsBy.{published, IsKeptBy}
 use Rattle.rescue_rules.proofs.CutLemmas.{Cut, cut_past}
 use Rattle.rescue_rules.proofs.MapfileLemmas.{opening_by}
 use Rattle.rescue_core.specs.RunState.{names_in}
-use Rattle.sweep_rules.specs.Sweep.{Sweep, Swept, Sweeper, generator, IsSweep, behind_piece, behind_pieces, sweep_over, sweep_end}
+use Rattle.sweep_rules.specs.Sweep.{Sweep, Swept, Sweeper, generator, IsSweep, after_piece, after_pieces, sweep_over, sweep_end}
 use Rattle.sweep_rules.specs.SweepLaws.{AreGiven}
 use Rattle.sweep_rules.specs.SweepStops.{GeneratePromise, SweepsOver, has_swept_out, sweep_saves}
 use Rattle.sweep_rules.specs.SweepWork.{sweep_begins, sweep_opening}
@@ -46,7 +46,7 @@ use Rattle.ddrescue_cli.specs.Ddrescue.{GenerateModePromise}
 use Rattle.ddrescue_cli.proofs.AskedLemmas.{sensible_in}
 use Rattle.ddrescue_cli.proofs.EarlyCut.{EarlyCut, early_cut}
 use Rattle.ddrescue_cli.proofs.SweepGoes.{Unbegun, Begun}
-use Rattle.ddrescue_cli.proofs.SweepWay.{SweepWay, InMaps, BehindMaps, generate_way}
+use Rattle.ddrescue_cli.proofs.SweepWay.{SweepWay, InMaps, AfterMaps, generate_way}
 use Rattle.ddrescue_laws.specs.ModeLaws.{promised_generate}
 use Rattle.rescue_safety.specs.Saves.{CallsFinished}
 use Rattle.rescue_safety.specs.Safe.{Target}
@@ -78,14 +78,14 @@ module _ (s : Setting) (files : List ℕ → Option File) (pieces : List Swept) 
     -- it published nothing, or its mapfile stood for a map
     pub way_comes : (g : Gain) → SweepWay ⊤ s (generator s) files pieces end g → Comes s files g.calls
     way_comes g (InMaps maps reads cut still) = quiet_comes s files maps g.calls (reads_still maps reads) cut
-    way_comes g (BehindMaps maps h reads grew timed ready (Unbegun ends opens none)) =
+    way_comes g (AfterMaps maps h reads grew timed ready (Unbegun ends opens none)) =
         let e : EarlyCut s false h.calls = early_cut s false files h.calls on ends in
         let front : List Call = opening_by s false ++ e.load in
         quiet_comes s files (maps ++ front) g.calls
         (All-append IsStill maps front (reads_still maps reads)
         (All-append IsStill (opening_by s false) e.load (opening_still s false) (reads_still e.load e.reads)))
         (subst (λ (l : List Entry). Cut (maps ++ front) l) (sym grew) (cut_past maps front h.calls e.cut))
-    way_comes g (BehindMaps maps h reads grew timed ready (Begun opens load statuses state rest loaded stands all sweeps is)) =
+    way_comes g (AfterMaps maps h reads grew timed ready (Begun opens load statuses state rest loaded stands all sweeps is)) =
         inr (At statuses state stands)
 
     starts_of : (ok : IsSensible s) (m : Sweep) (es : List Swept) → IsSweep s (generator s) m es → StartFrom s.from es
@@ -93,7 +93,7 @@ module _ (s : Setting) (files : List ℕ → Option File) (pieces : List Swept) 
     starts_of ok m (e ∷ es) run =
         All-cons (λ (e : Swept). s.from ≤ e.pos) e es
         (ok.from e.pos (piece_within s (generator s) m e.pos (e.pos + e.len) run.0).some)
-        (starts_of ok (behind_piece (generator s) m e) es run.2)
+        (starts_of ok (after_piece (generator s) m e) es run.2)
 
     none_starts : pieces ≡ [] → StartFrom s.from pieces
     none_starts none = subst (StartFrom s.from) (sym none) (All-nil (λ (e : Swept). s.from ≤ e.pos))
@@ -102,10 +102,10 @@ module _ (s : Setting) (files : List ℕ → Option File) (pieces : List Swept) 
     pub way_starts : (g : Gain) → IsSensible s → (g.times ≡ [] → pieces ≡ [])
         → SweepWay ⊤ s (generator s) files pieces end g → StartFrom s.from pieces
     way_starts g ok silent (InMaps maps reads cut still) = none_starts (silent still)
-    way_starts g ok silent (BehindMaps maps h reads grew timed ready (Unbegun ends opens none)) =
+    way_starts g ok silent (AfterMaps maps h reads grew timed ready (Unbegun ends opens none)) =
         none_starts (silent (sym timed ∙ none))
     way_starts g ok silent
-        (BehindMaps maps h reads grew timed ready (Begun opens load statuses state rest loaded stands all sweeps is)) =
+        (AfterMaps maps h reads grew timed ready (Begun opens load statuses state rest loaded stands all sweeps is)) =
         subst (StartFrom s.from) is (starts_of ok _ sweeps.events sweeps.run)
 
     -- and where it read the output they are
@@ -113,7 +113,7 @@ module _ (s : Setting) (files : List ℕ → Option File) (pieces : List Swept) 
         → looks_in g.calls ≡ map (piece_look s) pieces
     way_looks g silent (InMaps maps reads cut still) =
         cut_looks maps g.calls (reads_blind maps reads) cut ∙ sym (ap (map (piece_look s)) (silent still))
-    way_looks g silent (BehindMaps maps h reads grew timed ready (Unbegun ends opens none)) =
+    way_looks g silent (AfterMaps maps h reads grew timed ready (Unbegun ends opens none)) =
         let e : EarlyCut s false h.calls = early_cut s false files h.calls on ends in
         ap looks_in grew
         ∙ blind_before maps h.calls (reads_blind maps reads)
@@ -121,7 +121,7 @@ module _ (s : Setting) (files : List ℕ → Option File) (pieces : List Swept) 
         (All-append IsBlind (opening_by s false) e.load (opening_blind s false) (reads_blind e.load e.reads)) e.cut
         ∙ sym (ap (map (piece_look s)) (silent (sym timed ∙ none)))
     way_looks g silent
-        (BehindMaps maps h reads grew timed ready (Begun opens load statuses state rest loaded stands all sweeps is)) =
+        (AfterMaps maps h reads grew timed ready (Begun opens load statuses state rest loaded stands all sweeps is)) =
         let front : List Call = sweep_opening s false ++ load in
         let m : Sweep = sweep_begins (generator s) statuses state (record h { calls = rest }) in
         ap looks_in grew
@@ -134,12 +134,12 @@ module _ (s : Setting) (files : List ℕ → Option File) (pieces : List Swept) 
         ∙ ap (map (piece_look s)) is
 
 -- it published nothing, or it began over the map that its mapfile stood for
-module _ (b : Behind) (s : Setting) (pieces : List Swept) (end : RunEnd) (on : s.has_mapfile ≡ true) (began : List Status)
+module _ (b : Before) (s : Setting) (pieces : List Swept) (end : RunEnd) (on : s.has_mapfile ≡ true) (began : List Status)
     (was : Option MapState) (stood : Stands (files_before b s.names.map) s.end began was) where
   pub way_begins : (g : Gain) → SweepWay ⊤ s (generator s) (files_before b) pieces end g
       → ((n : ℕ) → published (take n g.calls) ≡ 0) ⊎ Begins s began was g pieces end
   way_begins g (InMaps maps reads cut still) = inl (λ n. still_none maps g.calls n (reads_still maps reads) cut)
-  way_begins g (BehindMaps maps h reads grew timed ready (Unbegun ends opens none)) =
+  way_begins g (AfterMaps maps h reads grew timed ready (Unbegun ends opens none)) =
       let e : EarlyCut s false h.calls = early_cut s false (files_before b) h.calls on ends in
       let front : List Call = opening_by s false ++ e.load in
       inl (λ n. still_none (maps ++ front) g.calls n
@@ -147,7 +147,7 @@ module _ (b : Behind) (s : Setting) (pieces : List Swept) (end : RunEnd) (on : s
       (All-append IsStill (opening_by s false) e.load (opening_still s false) (reads_still e.load e.reads)))
       (subst (λ (l : List Entry). Cut (maps ++ front) l) (sym grew) (cut_past maps front h.calls e.cut)))
   way_begins g
-      (BehindMaps maps h reads grew timed ready (Begun opens load statuses state rest loaded stands all sweeps is)) =
+      (AfterMaps maps h reads grew timed ready (Begun opens load statuses state rest loaded stands all sweeps is)) =
       let w : Sweeper = generator s in
       let o : SweepsOver s w b statuses state h = record {
         load = load;
@@ -165,12 +165,12 @@ module _ (b : Behind) (s : Setting) (pieces : List Swept) (end : RunEnd) (on : s
       ∙ ap (λ (l : List Status). sweep_over w l state (began_at g.times)) same.0
       ∙ ap (λ (n : Option MapState). sweep_over w began n (began_at g.times)) same.1 in
       let Cuts : Sweep → List Swept → Type 0
-      = λ m es. Cut (calls_of_pieces s (sweep_end (has_swept_out end) (behind_pieces w m es)) t.tail m es) rest in
+      = λ m es. Cut (calls_of_pieces s (sweep_end (has_swept_out end) (after_pieces w m es)) t.tail m es) rest in
       let last_cut : Cuts (sweep_begins w began was g) pieces
       = subst (λ (es : List Swept). Cuts (sweep_begins w began was g) es) is
       (subst (λ (m : Sweep). Cuts m sweeps.events) one t.cut) in
       let more : List Call = calls_of_pieces s
-      (sweep_end (has_swept_out end) (behind_pieces w (sweep_begins w began was g) pieces)) t.tail
+      (sweep_end (has_swept_out end) (after_pieces w (sweep_begins w began was g) pieces)) t.tail
       (sweep_begins w began was g) pieces in
       let front : List Call = sweep_opening s false ++ load in
       let are_reads : AreMapReads load = load_reads s.names.map (files_before b s.names.map) load loaded.begins in
@@ -194,7 +194,7 @@ module _ (b : Behind) (s : Setting) (pieces : List Swept) (end : RunEnd) (on : s
 abbrev pub own_target : Setting → Target
 own_target s = record { outfile = s.outfile; mapfile = s.names.map; from = s.from; to = s.to }
 
-module _ (b : Behind) (s : Setting) (g : Gain) (pieces : List Swept) (end : RunEnd)
+module _ (b : Before) (s : Setting) (g : Gain) (pieces : List Swept) (end : RunEnd)
     (comes : Comes s (files_before b) g.calls) (starts : StartFrom s.from pieces)
     (given : AreGiven s (bytes_of (files_before b s.outfile)) pieces) (stops : GenerateStops b s pieces end g)
     (apart : s.outfile ≢ s.names.map)
@@ -327,7 +327,7 @@ module _ (t : Target) (l : Link) (apart : t.outfile ≢ t.mapfile) (q : IsGenera
   abbrev g : Gain
   g = o.did.gain
 
-  abbrev b : Behind
+  abbrev b : Before
   b = calls_before q.call.told
 
   has : HasMapfile q.command
@@ -377,7 +377,7 @@ module _ (t : Target) (l : Link) (apart : t.outfile ≢ t.mapfile) (q : IsGenera
 
   next : NextBegins b g.calls q.step.moment l.next
   next =
-      subst (λ (n : Behind). NextBegins n g.calls q.step.moment l.next) q.step.before
+      subst (λ (n : Before). NextBegins n g.calls q.step.moment l.next) q.step.before
       (subst (λ (cs : List Entry). NextBegins l.before cs q.step.moment l.next) calls_are q.step.next)
 
   -- what it gave is what its pieces got that it had read by then
@@ -392,7 +392,7 @@ module _ (t : Target) (l : Link) (apart : t.outfile ≢ t.mapfile) (q : IsGenera
   pairs_are =
       let n : ℕ = seen_in (take (q.step.moment + 1) g.calls) in
       let part : List Entry = take (q.step.moment + 1) q.call.calls in
-      ap (λ (n : Behind). looked_at t (bytes_of (files_before n t.outfile)) part) q.step.before
+      ap (λ (n : Before). looked_at t (bytes_of (files_before n t.outfile)) part) q.step.before
       ∙ ap (λ (n : List ℕ). looked_at t (bytes_of (files_before b n)) part) (sym q.step.outfile)
       ∙ looked_by t bytes part
       ∙ ap (λ (ls : List (ℕ × ℕ)). look_pairs t bytes ls)
@@ -416,7 +416,7 @@ module _ (t : Target) (l : Link) (apart : t.outfile ≢ t.mapfile) (q : IsGenera
       let gives : List (ℕ × ℕ) = after_barrier (take q.step.moment g.calls) (pieces_given got_by_then) in
       let here : IsOwedAt (own_target s) gave old b
       = same_at t (own_target s) (same_back (own_target s) t same) gave old b
-      (subst (λ (n : Behind). IsOwedAt t gave old n) q.step.before owed) in
+      (subst (λ (n : Before). IsOwedAt t gave old n) q.step.before owed) in
       subst (λ (gs : List (ℕ × ℕ)). IsOwedAt t (gave ++ gs) old l.next) (sym gave_is)
       (same_at (own_target s) t same (gave ++ gives) old l.next
       (next_owed (own_target s) (gave ++ gives) old b g.calls q.step.moment l.next

@@ -11,7 +11,7 @@ use Rattle.block_list.proofs.HeldLemmas.{slice_get-drop}
 use Rattle.rescue_rules.specs.Setting.{Setting, place}
 use Rattle.rescue_rules.specs.Given.{last_of_both}
 use Rattle.rescue_rules.proofs.MarkLemmas.{slice_get-take}
-use Rattle.sweep_rules.specs.Sweep.{Sweep, Swept, generator, is_generated, is_there, part_of, behind_piece}
+use Rattle.sweep_rules.specs.Sweep.{Sweep, Swept, generator, is_generated, is_there, part_of, after_piece}
 use Rattle.sweep_rules.specs.SweepLaws.{AreGiven}
 use Rattle.sweep_rules.proofs.SweepLemmas.{changed_cases}
 use Rattle.rescue_safety.specs.Owed.{last_given}
@@ -52,7 +52,7 @@ gives_generated s e es x is =
     let both = and_parts (nat_le e.pos x) (nat_lt x (e.pos + length e.got)) a in
     gives_here e es x (leb-true e.pos x both.0) (ltb-true x (e.pos + length e.got) both.1)
 
-pub swept_given : (s : Setting) (m : Sweep) (e : Swept) (es : List Swept) (x : ℕ) → Has (behind_piece (generator s) m e).map Finished x
+pub swept_given : (s : Setting) (m : Sweep) (e : Swept) (es : List Swept) (x : ℕ) → Has (after_piece (generator s) m e).map Finished x
     → Has m.map Finished x ⊎ Gives (e ∷ es) x
 swept_given s m e es x is =
     ⊎_elim (λ (t : is_generated s e (0 + x) ≡ true).

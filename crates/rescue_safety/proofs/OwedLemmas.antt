@@ -6,7 +6,7 @@ use Rattle.crash_site.specs.Folder.{Folder}
 use Rattle.crash_site.specs.Left.{MayBeLeft}
 use Rattle.crash_site.proofs.DiskLemmas.{reads_rest}
 use Rattle.crash_site.proofs.LawLemmas.{others_stand}
-use Rattle.rescue_rules.specs.Stops.{Behind, files_before, CouldBefore, LeftBy}
+use Rattle.rescue_rules.specs.Stops.{Before, files_before, CouldBefore, LeftBy}
 use Rattle.rescue_rules.proofs.BeforeLemmas.{left_before}
 use Rattle.rescue_safety.specs.Saves.{CallsFinished}
 use Rattle.rescue_safety.specs.Safe.{Target}
@@ -49,7 +49,7 @@ module _ (t u : Target) (same : IsSame t u) (gave : List (ℕ × ℕ)) (old : �
         (owed.each x (subst (λ (n : List ℕ). CallsFinished (files n) x) (sym same.mapfile) fin));
   }
 
-  pub same_at : (b : Behind) → IsOwedAt t gave old b → IsOwedAt u gave old b
+  pub same_at : (b : Before) → IsOwedAt t gave old b → IsOwedAt u gave old b
   same_at b owed = record { each = λ files left. same_in files (owed.each files left) }
 
 -- ---- some files for others
@@ -74,11 +74,11 @@ owed_resting t gave old files owed = record {
 }
 
 -- the files as they read may be found
-pub reads_left : (b : Behind) → MayBeLeft b.start b.earlier (length b.earlier) (files_before b)
+pub reads_left : (b : Before) → MayBeLeft b.start b.earlier (length b.earlier) (files_before b)
 reads_left b = left_before b (files_before b) (reads_rest b.start b.earlier)
 
 -- what was found before a run's barrier could be found before it
-pub owed_before : (t : Target) (b : Behind) (gave : List (ℕ × ℕ)) (old : ℕ → Bool) (files : List ℕ → Option File)
+pub owed_before : (t : Target) (b : Before) (gave : List (ℕ × ℕ)) (old : ℕ → Bool) (files : List ℕ → Option File)
     → t.outfile ≢ t.mapfile → IsOwedAt t gave old b → CouldBefore b t.outfile files → IsOwedIn t gave old files
 owed_before t b gave old files apart owed could =
     owed_alike t gave old could.before files (could.others t.mapfile (λ is. apart (sym is)))
@@ -88,11 +88,11 @@ owed_before t b gave old files apart owed could =
     (owed.each could.before could.left)
 
 -- what is owed at each stop of a run is owed where the next one begins
-pub next_owed : (t : Target) (gave : List (ℕ × ℕ)) (old : ℕ → Bool) (from : Behind) (calls : List Entry) (k : ℕ)
-    (next : Behind) → ((files : List ℕ → Option File) → LeftBy from calls k files → IsOwedIn t gave old files)
+pub next_owed : (t : Target) (gave : List (ℕ × ℕ)) (old : ℕ → Bool) (from : Before) (calls : List Entry) (k : ℕ)
+    (next : Before) → ((files : List ℕ → Option File) → LeftBy from calls k files → IsOwedIn t gave old files)
     → NextBegins from calls k next → IsOwedAt t gave old next
 next_owed t gave old from calls k next owed (Stopped files left is) =
-    subst (λ (n : Behind). IsOwedAt t gave old n) (sym is) (owed_resting t gave old files (owed files left))
+    subst (λ (n : Before). IsOwedAt t gave old n) (sym is) (owed_resting t gave old files (owed files left))
 next_owed t gave old from calls k next owed (Ended part p is) =
-    subst (λ (n : Behind). IsOwedAt t gave old n) (sym is)
+    subst (λ (n : Before). IsOwedAt t gave old n) (sym is)
     (record { each = λ files left. owed files (ended_left from calls k part files p left) })

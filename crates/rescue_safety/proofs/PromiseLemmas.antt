@@ -8,7 +8,7 @@ use Rattle.crash_site.specs.Files.{File}
 use Rattle.rescue_rules.specs.Setting.{Setting, IsSensible}
 use Rattle.rescue_rules.specs.Given.{given}
 use Rattle.rescue_rules.specs.Events.{began_at}
-use Rattle.rescue_rules.specs.Work.{Gain, begins, events_in, opening_calls, InOpening, is_map_read, Goes, InMaps, BehindMaps}
+use Rattle.rescue_rules.specs.Work.{Gain, begins, events_in, opening_calls, InOpening, is_map_read, Goes, InMaps, AfterMaps}
 use Rattle.rescue_rules.proofs.GoesLemmas.{Course, Way, AnyMap, OneMap, way}
 use Rattle.rescue_rules.proofs.ReadyLemmas.{order_over}
 use Rattle.option_words.specs.Words.{command_line}
@@ -27,7 +27,7 @@ use Rattle.rescue_safety.proofs.ClaimLemmas.{given_domain}
 -- a rescue that made no call and no read goes as it should
 idle_goes : (s : Setting) (files : List ℕ → Option File) (g : Gain) → g.calls ≡ [] → g.reads ≡ [] → Goes s files g
 idle_goes s files g none unread =
-    BehindMaps [] g.calls (All-nil (λ c. is_map_read c ≡ true)) refl
+    AfterMaps [] g.calls (All-nil (λ c. is_map_read c ≡ true)) refl
     (InOpening [] (opening_calls s) refl unread (inl none))
 
 -- the work of a promise goes as it should
@@ -64,5 +64,5 @@ pub goes_domain : (s : Setting) (ok : IsSensible s) (files : List ℕ → Option
     → s.has_mapfile ≡ true → Goes s files g → given s.sector g.reads x ≡ Some byte → s.domain x ≡ true
 goes_domain s ok files g x byte on (InMaps maps reads none broke) is =
     let e : None ≡ Some byte = sym (ap (λ (r : List Reading). given s.sector r x) none) ∙ is in absurd (cc)
-goes_domain s ok files g x byte on (BehindMaps maps rest reads is_rest goes) is =
+goes_domain s ok files g x byte on (AfterMaps maps rest reads is_rest goes) is =
     way_domain s ok files (record g { calls = rest }) x byte (way s files (record g { calls = rest }) on goes) is

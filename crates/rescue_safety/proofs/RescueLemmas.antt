@@ -5,7 +5,7 @@ use Rattle.std.proofs.lemmas.Option.{slice_get_within}
 use Rattle.crash_site.specs.Files.{File, bytes_of}
 use Rattle.crash_site.specs.Calls.{Entry}
 use Rattle.rescue_rules.specs.Given.{last_of_both}
-use Rattle.rescue_rules.specs.Stops.{Behind, files_before, has_barrier}
+use Rattle.rescue_rules.specs.Stops.{Before, files_before, has_barrier}
 use Rattle.rescue_safety.specs.Saves.{CallsFinished}
 use Rattle.rescue_safety.specs.Safe.{Target, Run, by_then, gives, IsHeld, IsSafeAnywhere}
 use Rattle.rescue_safety.specs.Rescue.{run_of}
@@ -99,7 +99,7 @@ module _ (t : Target) (l : Link) (apart : t.outfile ≢ t.mapfile) (q : IsRescue
   own_apart = λ is. apart (sym same.outfile ∙ is ∙ same.mapfile)
 
   next : NextBegins d.past calls q.step.moment l.next
-  next = subst (λ (n : Behind). NextBegins n calls q.step.moment l.next) q.step.before q.step.next
+  next = subst (λ (n : Before). NextBegins n calls q.step.moment l.next) q.step.before q.step.next
 
   -- once its barrier has returned, what is owed as the files read is owed at each stop
   late : (gave : List (ℕ × ℕ)) (old : ℕ → Bool) → has_barrier (take q.step.moment calls) ≡ true
@@ -139,12 +139,12 @@ module _ (t : Target) (l : Link) (apart : t.outfile ≢ t.mapfile) (q : IsRescue
   pub barrier_makes_sure : (gave : List (ℕ × ℕ)) (old : ℕ → Bool) → has_barrier (take q.step.moment calls) ≡ true
       → IsOwedIn t gave old (files_before l.before) → IsOwedAt t (gave ++ l.gave) old l.next
   barrier_makes_sure gave old is owed =
-      gave_late gave old is (late gave old is (subst (λ (n : Behind). IsOwedIn t gave old (files_before n)) q.step.before owed))
+      gave_late gave old is (late gave old is (subst (λ (n : Before). IsOwedIn t gave old (files_before n)) q.step.before owed))
 
   pub rescue_owes : (gave : List (ℕ × ℕ)) (old : ℕ → Bool) → IsOwedAt t gave old l.before
       → IsOwedAt t (gave ++ l.gave) old l.next
   rescue_owes gave old owed =
-      let here : IsOwedAt t gave old d.past = subst (λ (n : Behind). IsOwedAt t gave old n) q.step.before owed in
+      let here : IsOwedAt t gave old d.past = subst (λ (n : Before). IsOwedAt t gave old n) q.step.before owed in
       ⊎_elim
       (λ (is : has_barrier (take q.step.moment calls) ≡ true).
       gave_late gave old is (late gave old is (here.each (files_before d.past) (reads_left d.past))))

@@ -16,7 +16,7 @@ use Rattle.rescue_rules.specs.Setting.{Setting, IsSensible, place}
 use Rattle.rescue_rules.specs.Start.{Stands}
 use Rattle.rescue_rules.specs.Given.{given}
 use Rattle.rescue_rules.specs.Work.{Gain, Goes}
-use Rattle.rescue_rules.specs.Stops.{Behind, files_before, has_barrier, LeftBy}
+use Rattle.rescue_rules.specs.Stops.{Before, files_before, has_barrier, LeftBy}
 use Rattle.rescue_rules.specs.StopsBy.{IsKept, RescueStopsBy}
 use Rattle.rescue_core.specs.RunState.{names_in}
 use Rattle.option_words.specs.Words.{command_line}
@@ -72,7 +72,7 @@ module _ (r : Rescue) where
   abbrev pub g : Gain
   g = w.did.gain
 
-  abbrev pub b : Behind
+  abbrev pub b : Before
   b = calls_before r.did.call.told
 
   pub on : s.has_mapfile ≡ true

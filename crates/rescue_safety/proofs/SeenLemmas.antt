@@ -18,7 +18,7 @@ use Rattle.rescue_rules.specs.Work.{Gain}
 use Rattle.rescue_rules.specs.StopsBy.{is_publish, published, IsSave}
 use Rattle.rescue_rules.proofs.CutLemmas.{Cut}
 use Rattle.rescue_rules.proofs.DeedStages.{last_calls, all_calls}
-use Rattle.sweep_rules.specs.Sweep.{Sweep, Swept, generator, behind_piece, behind_pieces, is_save_due, sweep_snapshot, sweep_end, due_save, deeds_of}
+use Rattle.sweep_rules.specs.Sweep.{Sweep, Swept, generator, after_piece, after_pieces, is_save_due, sweep_snapshot, sweep_end, due_save, deeds_of}
 use Rattle.sweep_rules.specs.SweepStops.{has_swept_out, sweep_saves}
 use Rattle.sweep_rules.specs.SweepWork.{sweep_begins}
 use Rattle.sweep_rules.proofs.EndLemmas.{end_map}
@@ -76,7 +76,7 @@ module _ (s : Setting) (x : ℕ) (last : Snapshot) (tail : List Deed) where
 
   module _ (m : Sweep) (e : Swept) (es : List Swept) where
     abbrev n : Sweep
-    n = behind_piece (generator s) m e
+    n = after_piece (generator s) m e
 
     abbrev read : Call
     read = image_read (place s e.pos) e.len (Some (length e.got))
@@ -120,14 +120,14 @@ module _ (s : Setting) (x : ℕ) (last : Snapshot) (tail : List Deed) where
 
   -- what such a save finishes was finished, or a piece gave it that had been read
   pub saved_seen : (m : Sweep) (es : List Swept) (part : List Entry) (i : ℕ) (p : Snapshot)
-      → (Has last.map Finished x → Has (behind_pieces (generator s) m es).map Finished x) → Cut (calls_from m es) part
+      → (Has last.map Finished x → Has (after_pieces (generator s) m es).map Finished x) → Cut (calls_from m es) part
       → slice_get (saves_in (deeds_of (generator s) m es) last) i ≡ Some p → i < published part → Has p.map Finished x
       → Seen m es part
   saved_seen m [] part zero p end cut is low has =
       inl (end (subst (λ (q : Snapshot). Has q.map Finished x) (same_shot p last is) has))
   saved_seen m [] part (suc i) p end cut is low has = absurd (cc)
   saved_seen m (e ∷ es) part i p end cut is low has =
-      let n : Sweep = behind_piece (generator s) m e in
+      let n : Sweep = after_piece (generator s) m e in
       let read : Call = image_read (place s e.pos) e.len (Some (length e.got)) in
       let save : List Call = save_of s (due_save (generator s) m e) in
       let deeds : List Deed = deeds_of (generator s) n es in
@@ -161,7 +161,7 @@ pub record Begins (s : Setting) (began : List Status) (state : Option MapState) 
   pub blind : All IsBlind front
   pub tail : List Deed
   pub cut : Cut (front ++ calls_of_pieces s
-      (sweep_end (has_swept_out end) (behind_pieces (generator s) (sweep_begins (generator s) began state g) pieces)) tail
+      (sweep_end (has_swept_out end) (after_pieces (generator s) (sweep_begins (generator s) began state g) pieces)) tail
       (sweep_begins (generator s) began state g) pieces) g.calls
 
 module _ (s : Setting) (began : List Status) (state : Option MapState) (g : Gain) (pieces : List Swept) (end : RunEnd)
@@ -170,7 +170,7 @@ module _ (s : Setting) (began : List Status) (state : Option MapState) (g : Gain
   m = sweep_begins (generator s) began state g
 
   abbrev last : Snapshot
-  last = sweep_end (has_swept_out end) (behind_pieces (generator s) (sweep_begins (generator s) began state g) pieces)
+  last = sweep_end (has_swept_out end) (after_pieces (generator s) (sweep_begins (generator s) began state g) pieces)
 
   begins_seen : (k i : ℕ) (p : Snapshot) (x : ℕ) → slice_get (sweep_saves (generator s) began state g pieces end) i ≡ Some p
       → i < published (take k g.calls) → Has p.map Finished x
@@ -187,7 +187,7 @@ module _ (s : Setting) (began : List Status) (state : Option MapState) (g : Gain
       let same : looks_in part ≡ looks_in c.rest = ap looks_in c.is ∙ blind_before b.front c.rest b.blind in
       subst (λ (ls : List (ℕ × ℕ)). Has began Finished x ⊎ Gives (take (count_of ls) pieces) x) (sym same)
       (saved_seen s x last b.tail m pieces c.rest i p
-      (λ h. subst (λ (l : List Status). Has l Finished x) (end_map (has_swept_out end) (behind_pieces (generator s) m pieces)) h)
+      (λ h. subst (λ (l : List Status). Has l Finished x) (end_map (has_swept_out end) (after_pieces (generator s) m pieces)) h)
       c.cut is (omega (arith, low, few, still_published b.front b.still)) has))
       (cut_split b.front more part (cut_take k (b.front ++ more) g.calls b.cut))
 

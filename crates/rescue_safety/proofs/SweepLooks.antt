@@ -18,7 +18,7 @@ use Rattle.rescue_rules.specs.RunCalls.{closing_calls}
 use Rattle.rescue_rules.specs.Work.{is_map_read, AreMapReads}
 use Rattle.rescue_rules.proofs.CutLemmas.{Cut}
 use Rattle.rescue_rules.proofs.MapfileLemmas.{opening_by}
-use Rattle.sweep_rules.specs.Sweep.{Sweep, Swept, generator, behind_piece, behind_pieces, due_save, sweep_end}
+use Rattle.sweep_rules.specs.Sweep.{Sweep, Swept, generator, after_piece, after_pieces, due_save, sweep_end}
 use Rattle.sweep_rules.specs.SweepLaws.{AreGiven}
 use Rattle.sweep_rules.specs.SweepWork.{SweepEnds, IsSaved, IsUnsaved, IsCut, IsBroken, sweep_calls, sweep_opening, lost_call}
 use Rattle.rescue_safety.specs.Safe.{Target}
@@ -209,23 +209,23 @@ module _ (s : Setting) where
   pieces_look m (e ∷ es) =
       let read : Call = image_read (place s e.pos) e.len (Some (length e.got)) in
       let save : List Call = save_of s (due_save (generator s) m e) in
-      let more : List Call = sweep_calls s (generator s) (behind_piece (generator s) m e) es in
+      let more : List Call = sweep_calls s (generator s) (after_piece (generator s) m e) es in
       ap looks_in (map-append Done (read ∷ save) more)
       ∙ looks_both (map Done (read ∷ save)) (map Done more)
       ∙ ap (λ (l : List (ℕ × ℕ)). l ++ looks_in (map Done more))
       (ap (λ (l : List (ℕ × ℕ)). piece_look e ∷ l) (blind_looks save (saves_blind s (due_save (generator s) m e))))
-      ∙ ap (λ (l : List (ℕ × ℕ)). piece_look e ∷ l) (pieces_look (behind_piece (generator s) m e) es)
+      ∙ ap (λ (l : List (ℕ × ℕ)). piece_look e ∷ l) (pieces_look (after_piece (generator s) m e) es)
 
   pub sweep_looks : (m : Sweep) (es : List Swept) (calls : List Entry) (end : RunEnd)
       → SweepEnds s (generator s) m es calls end → looks_in calls ≡ map piece_look es
   sweep_looks m es calls end (IsSaved stop by end_is is) =
       let all : List Call = sweep_calls s (generator s) m es in
-      let last : List Call = closing_calls s (sweep_end (is_none stop) (behind_pieces (generator s) m es)) in
+      let last : List Call = closing_calls s (sweep_end (is_none stop) (after_pieces (generator s) m es)) in
       ap looks_in (is ∙ map-append Done all last)
       ∙ blind_after (map Done all) last (closing_blind s.has_mapfile s.names _) ∙ pieces_look m es
   sweep_looks m es calls end (IsUnsaved stop call by end_is broke) =
       let all : List Call = sweep_calls s (generator s) m es in
-      let last : List Call = closing_calls s (sweep_end (is_none stop) (behind_pieces (generator s) m es)) in
+      let last : List Call = closing_calls s (sweep_end (is_none stop) (after_pieces (generator s) m es)) in
       broke_looks call last (map Done all) calls (closing_blind s.has_mapfile s.names _) broke ∙ pieces_look m es
   sweep_looks m es calls end (IsCut p q piece end_is broke) =
       broke_looks _ (lost_call (generator s) p q ∷ []) (map Done (sweep_calls s (generator s) m es)) calls
@@ -234,9 +234,9 @@ module _ (s : Setting) where
   sweep_looks m es calls end (IsBroken before last call es_is end_is broke) =
       let all : List Call = sweep_calls s (generator s) m before in
       let read : Call = image_read (place s last.pos) last.len (Some (length last.got)) in
-      let save : List Call = save_of s (due_save (generator s) (behind_pieces (generator s) m before) last) in
+      let save : List Call = save_of s (due_save (generator s) (after_pieces (generator s) m before) last) in
       broke_looks call save (map Done (all ++ read ∷ [])) calls
-      (saves_blind s (due_save (generator s) (behind_pieces (generator s) m before) last)) broke
+      (saves_blind s (due_save (generator s) (after_pieces (generator s) m before) last)) broke
       ∙ ap looks_in (map-append Done all (read ∷ []))
       ∙ looks_both (map Done all) (Done read ∷ [])
       ∙ ap (λ (l : List (ℕ × ℕ)). l ++ piece_look last ∷ []) (pieces_look m before)

@@ -20,8 +20,8 @@ use Rattle.rescue_rules.specs.Moves.{state_after, IsRun}
 use Rattle.rescue_rules.specs.Events.{began_at, reads_of}
 use Rattle.rescue_rules.specs.Given.{given}
 use Rattle.rescue_rules.specs.Snapshots.{last_snapshot}
-use Rattle.rescue_rules.specs.Work.{Gain, begins, events_in, is_map_read, AreMapReads, Goes, InMaps, BehindMaps}
-use Rattle.rescue_rules.specs.Stops.{Behind, files_before, is_write}
+use Rattle.rescue_rules.specs.Work.{Gain, begins, events_in, is_map_read, AreMapReads, Goes, InMaps, AfterMaps}
+use Rattle.rescue_rules.specs.Stops.{Before, files_before, is_write}
 use Rattle.rescue_rules.specs.StopsBy.{is_publish, published, IsSave, saves_of, IsUnwritten, IsKept}
 use Rattle.rescue_rules.proofs.CutLemmas.{Cut, add}
 use Rattle.rescue_rules.proofs.FinishLemmas.{finished_stands}
@@ -179,7 +179,7 @@ module _ (s : Setting) (began : List Status) (state : Option MapState) (g : Gain
 
 -- ---- of a rescue
 
-pub kept_given : (b : Behind) (s : Setting) (g : Gain) (began : List Status) (state : Option MapState) (ok : IsSensible s)
+pub kept_given : (b : Before) (s : Setting) (g : Gain) (began : List Status) (state : Option MapState) (ok : IsSensible s)
     → s.has_mapfile ≡ true → Goes s (files_before b) g → Stands (files_before b s.names.map) s.end began state
     → (k : ℕ) (files : List ℕ → Option File) (kept : IsKept b s g began state k files) (x : ℕ)
     → Has kept.statuses Finished x
@@ -217,5 +217,5 @@ module _ (s : Setting) (ok : IsSensible s) (y : ℕ) where
   goes_unwritten files g k on (InMaps maps reads never broke) none =
       cut_unwritten y maps (take k g.calls) (reads_spare y maps reads)
       (cut_take k maps g.calls (broke_cut MapReadName [] maps g.calls broke))
-  goes_unwritten files g k on (BehindMaps maps rest reads is goes) none =
+  goes_unwritten files g k on (AfterMaps maps rest reads is goes) none =
       way_unwritten files g k maps rest reads is (way s files (record g { calls = rest }) on goes) none

@@ -22,7 +22,7 @@ use Rattle.rescue_rules.specs.Deeds.{save_of, deed_calls}
 use Rattle.rescue_rules.specs.RunDeeds.{run_deeds}
 use Rattle.rescue_rules.specs.RunCalls.{write_calls}
 use Rattle.rescue_rules.specs.Snapshots.{Snapshot, text_of, snapshot_of, is_due, last_snapshot}
-use Rattle.rescue_rules.specs.Work.{Gain, begins, events_in, AreMapReads, Goes, InMaps, BehindMaps}
+use Rattle.rescue_rules.specs.Work.{Gain, begins, events_in, AreMapReads, Goes, InMaps, AfterMaps}
 use Rattle.rescue_rules.proofs.CutLemmas.{Cut}
 use Rattle.rescue_rules.proofs.DeedStages.{last_calls, all_calls}
 use Rattle.rescue_rules.proofs.FinishLemmas.{run_steps}
@@ -229,5 +229,5 @@ module _ (t : Target) (s : Setting) (ok : IsSensible s) (from : s.from ≡ t.fro
       subst (λ (rs : List Reading). IsFront (written_in g.calls) (kept_in t s.sector rs)) (sym never)
       (subst (λ (l : List (ℕ × List ℕ)). IsFront (written_in g.calls) l) (none_written maps (reads_dry maps reads))
       (cut_written maps g.calls (broke_cut MapReadName [] maps g.calls broke)))
-  goes_written files g on (BehindMaps maps rest reads is goes) =
+  goes_written files g on (AfterMaps maps rest reads is goes) =
       way_written files g maps rest reads is (way s files (record g { calls = rest }) on goes)

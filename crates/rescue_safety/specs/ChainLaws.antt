@@ -9,7 +9,7 @@ use Rattle.crash_site.specs.Files.{File}
 use Rattle.crash_site.specs.Folder.{Folder}
 use Rattle.rescue_rules.specs.Given.{given}
 use Rattle.rescue_rules.specs.Start.{Stands}
-use Rattle.rescue_rules.specs.Stops.{Behind, files_before, has_barrier}
+use Rattle.rescue_rules.specs.Stops.{Before, files_before, has_barrier}
 use Rattle.rescue_safety.specs.Saves.{CallsFinished}
 use Rattle.rescue_safety.specs.Safe.{Target}
 use Rattle.rescue_safety.specs.Owed.{last_given, pairs_of}
@@ -19,7 +19,7 @@ use Rattle.rescue_safety.specs.Early.{IsTooEarly, IsUnwrittenMap}
 
 -- If all is owed at each stop before a chain of runs, it is after them, with what they gave.
 abbrev pub ChainOwes : Type 0
-ChainOwes = (t : Target) (from to : Behind) (links : List Link) (gave : List (ℕ × ℕ)) (old : ℕ → Bool)
+ChainOwes = (t : Target) (from to : Before) (links : List Link) (gave : List (ℕ × ℕ)) (old : ℕ → Bool)
     → IsChain t from links to → IsOwedAt t gave old from → IsOwedAt t (gave ++ all_given links) old to
 
 -- If all is owed as the files read, a rescue whose barrier has returned makes it owed at each stop.

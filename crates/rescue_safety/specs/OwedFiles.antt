@@ -2,7 +2,7 @@
 use Rattle.std.specs.Prelude.{◌≡◌, ◌⊎◌, ℕ, Bool, true, List, length, Option}
 use Rattle.crash_site.specs.Files.{File, bytes_of}
 use Rattle.crash_site.specs.Left.{MayBeLeft}
-use Rattle.rescue_rules.specs.Stops.{Behind}
+use Rattle.rescue_rules.specs.Stops.{Before}
 use Rattle.rescue_safety.specs.Saves.{CallsFinished}
 use Rattle.rescue_safety.specs.Safe.{Target}
 use Rattle.rescue_safety.specs.Owed.{HoldsLast}
@@ -14,6 +14,6 @@ pub record IsOwedIn (t : Target) (gave : List (ℕ × ℕ)) (old : ℕ → Bool)
       → (old x ≡ true) ⊎ HoldsLast t gave (bytes_of (files t.outfile)) x
 
 -- The same holds in all files that may be found after these calls.
-pub record IsOwedAt (t : Target) (gave : List (ℕ × ℕ)) (old : ℕ → Bool) (b : Behind) : Type 0 where
+pub record IsOwedAt (t : Target) (gave : List (ℕ × ℕ)) (old : ℕ → Bool) (b : Before) : Type 0 where
   pub each : (files : List ℕ → Option File) → MayBeLeft b.start b.earlier (length b.earlier) files
       → IsOwedIn t gave old files

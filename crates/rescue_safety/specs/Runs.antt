@@ -5,7 +5,7 @@ use Rattle.faulty_source.specs.Journal.{Reading}
 use Rattle.crash_site.specs.Files.{File, bytes_of}
 use Rattle.crash_site.specs.Calls.{Entry, Done, Failed, image_write, draft_append}
 use Rattle.crash_site.specs.Left.{in_progress}
-use Rattle.rescue_rules.specs.Stops.{Behind, files_before, has_barrier, LeftBy}
+use Rattle.rescue_rules.specs.Stops.{Before, files_before, has_barrier, LeftBy}
 use Rattle.ddrescue_words.specs.Command.{Command, Generate}
 use Rattle.ddrescue_words.specs.Asking.{AskTask}
 use Rattle.ddrescue_cli.specs.Told.{calls_before}
@@ -15,7 +15,7 @@ use Rattle.rescue_safety.specs.Rescue.{Invocation, Rescue, target_of, run_of}
 use Rattle.rescue_safety.specs.AskedFor.{AreSeen}
 
 -- these files, all durable, before any call
-abbrev pub resting : (List ℕ → Option File) → Behind
+abbrev pub resting : (List ℕ → Option File) → Before
 resting files = record { start = record { files = files; image = None; draft = None }; earlier = [] }
 
 -- ---- where the next run begins
@@ -36,7 +36,7 @@ pub data LeavesPart (next : List Entry) (part : List Entry) : Type 0 where
 
 -- Where the next run begins, when the first k of these calls have returned and the next may be in progress: the machine
 -- was stopped, and what it left is durable now; or the process alone ended, and its files go on as they are.
-pub data NextBegins (from : Behind) (calls : List Entry) (k : ℕ) (next : Behind) : Type 0 where
+pub data NextBegins (from : Before) (calls : List Entry) (k : ℕ) (next : Before) : Type 0 where
   Stopped : (files : List ℕ → Option File) → LeftBy from calls k files → next ≡ resting files
       → NextBegins from calls k next
   Ended : (part : List Entry) → LeavesPart (drop k calls) part
@@ -47,8 +47,8 @@ pub data NextBegins (from : Behind) (calls : List Entry) (k : ℕ) (next : Behin
 
 -- One run of a chain: where it begins and where the next one does, and what it gave, as pairs of a position and a byte.
 pub record Link : Type 0 where
-  pub before : Behind
-  pub next : Behind
+  pub before : Before
+  pub next : Before
   pub gave : List (ℕ × ℕ)
 
 -- A run of a chain has the target's files, and its offset from infile to outfile is the target's. When it ended, as
@@ -91,11 +91,11 @@ pub data IsLink (t : Target) (l : Link) : Type 0 where
 -- ---- a chain of them
 
 -- each link begins where the one before it leads, the first at one moment, and the last leads to another
-abbrev pub AreJoined : (from : Behind) → List Link → (to : Behind) → Type 0
+abbrev pub AreJoined : (from : Before) → List Link → (to : Before) → Type 0
 AreJoined from [] to = to ≡ from
 AreJoined from (l ∷ ls) to = (l.before ≡ from) × AreJoined l.next ls to
 
-pub record IsChain (t : Target) (from : Behind) (links : List Link) (to : Behind) : Type 0 where
+pub record IsChain (t : Target) (from : Before) (links : List Link) (to : Before) : Type 0 where
   pub apart : t.outfile ≢ t.mapfile
   pub each : All (IsLink t) links
   pub joined : AreJoined from links to

@@ -5,7 +5,7 @@ use Rattle.crash_site.specs.Files.{File, bytes_of}
 use Rattle.crash_site.specs.Calls.{Entry}
 use Rattle.crash_site.specs.Left.{MayBeLeft}
 use Rattle.rescue_rules.specs.Given.{given}
-use Rattle.rescue_rules.specs.Stops.{Behind, files_before, has_barrier, is_write, CouldBefore, LeftBy}
+use Rattle.rescue_rules.specs.Stops.{Before, files_before, has_barrier, is_write, CouldBefore, LeftBy}
 use Rattle.rescue_safety.specs.Saves.{CallsFinished, IsOneSaved}
 
 -- The names of an output and of its mapfile; and the place `to` that the position `from` has in the output.
@@ -22,7 +22,7 @@ HasPlace t x y = y + t.from ≡ x + t.to
 -- What a rescue did on its target: its calls, after all earlier ones; the bytes of its input; and its reads, by sectors.
 pub record Run : Type 0 where
   pub target : Target
-  pub past : Behind
+  pub past : Before
   pub calls : List Entry
   pub input : List ℕ
   pub sector : ℕ

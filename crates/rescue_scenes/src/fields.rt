@@ -37,15 +37,15 @@ impl<'a> Iterator for Fields<'a> {
 
     fn next(&mut self) -> Option<Result<Field, Refusal>> {
         let line = without_spaces(self.rest);
-        let (first, behind) = line.split_first()?;
+        let (first, after) = line.split_first()?;
         let read = if *first == b'"' {
-            read_quoted(self.alloc, behind)
+            read_quoted(self.alloc, after)
         } else {
-            read_bare(self.alloc, *first, behind)
+            read_bare(self.alloc, *first, after)
         };
         match read {
             Ok((field, read)) => {
-                self.rest = &behind[read..];
+                self.rest = &after[read..];
                 Some(Ok(field))
             }
             Err(refusal) => {
@@ -68,16 +68,16 @@ fn without_spaces(line: &[u8]) -> &[u8]
 }
 
 /// Reads a field without quotes from its second byte on. Answers how many bytes were read.
-fn read_bare(alloc: Global, first: u8, behind: &[u8]) -> Result<(Field, usize), Refusal>
-    ensures { IfOk result (λ read. read.1 ≤ length behind.now) }
+fn read_bare(alloc: Global, first: u8, after: &[u8]) -> Result<(Field, usize), Refusal>
+    ensures { IfOk result (λ read. read.1 ≤ length after.now) }
 {
-    let end = behind
+    let end = after
         .iter()
         .position(|byte| *byte == b' ')
-        .unwrap_or(behind.len());
+        .unwrap_or(after.len());
     let mut bytes = Vec::new(alloc);
     bytes.push(first)?;
-    bytes.extend_from_slice(&behind[..end])?;
+    bytes.extend_from_slice(&after[..end])?;
     let field = Field {
         bytes,
         is_quoted: false,
@@ -86,28 +86,28 @@ fn read_bare(alloc: Global, first: u8, behind: &[u8]) -> Result<(Field, usize), 
 }
 
 /// Reads a field from behind its first quote. Answers how many bytes were read.
-fn read_quoted(alloc: Global, behind: &[u8]) -> Result<(Field, usize), Refusal>
-    ensures { IfOk result (λ read. read.1 ≤ length behind.now) }
+fn read_quoted(alloc: Global, after: &[u8]) -> Result<(Field, usize), Refusal>
+    ensures { IfOk result (λ read. read.1 ≤ length after.now) }
 {
     let mut text = Quoted {
         bytes: Vec::new(alloc),
         place: NextByte::Text,
     };
-    for (i, byte) in behind.iter().enumerate() {
+    for (i, byte) in after.iter().enumerate() {
         if text.take(*byte)? {
-            return close(text.bytes, behind, i);
+            return close(text.bytes, after, i);
         }
     }
     Err(Refusal::NotUnderstood)
 }
 
 /// The field that ends at a quote. A space or the line's end follows.
-fn close(bytes: Vec<u8>, behind: &[u8], quote: usize) -> Result<(Field, usize), Refusal>
-    requires { quote < length behind.now }
-    ensures { IfOk result (λ read. read.1 ≤ length behind.now) }
+fn close(bytes: Vec<u8>, after: &[u8], quote: usize) -> Result<(Field, usize), Refusal>
+    requires { quote < length after.now }
+    ensures { IfOk result (λ read. read.1 ≤ length after.now) }
 {
     let end = quote + 1;
-    if end < behind.len() && behind[end] != b' ' {
+    if end < after.len() && after[end] != b' ' {
         return Err(Refusal::NotUnderstood);
     }
     let field = Field {

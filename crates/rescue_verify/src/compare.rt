@@ -35,7 +35,7 @@ fn compare_piece<S: Source, D: Site, T: Tiles>(
     requires short { piece.to < 2 ^ 63 }
     requires fits { piece.to ≤ piece.from + length given.old }
     requires same { length there.old ≡ length given.old }
-    requires behind { comparison.from ≤ piece.from }
+    requires past { comparison.from ≤ piece.from }
     requires placed { place_from comparison.from comparison.to piece.from + (piece.to - piece.from) < 2 ^ 63 }
     requires counts { tally.old.compared + tally.old.unread ≤ piece.from }
     requires part { tally.old.differing ≤ tally.old.compared }
@@ -86,7 +86,7 @@ pub fn compare<S: Source, D: Site, T: Tiles>(
     requires small { comparison.sector ≤ 1048576 }
     requires within { (x : ℕ) → IsIn (covers comparison.compared.now) x → x < length (T.statuses tiles.old) }
     requires short { (x : ℕ) → IsIn (covers comparison.compared.now) x → x + 1 < 2 ^ 63 }
-    requires behind { (x : ℕ) → IsIn (covers comparison.compared.now) x → comparison.from ≤ x }
+    requires past { (x : ℕ) → IsIn (covers comparison.compared.now) x → comparison.from ≤ x }
     requires placed { AreAllPlaced (covers comparison.compared.now) comparison.from comparison.to }
     requires input { (S.state source.old).is_open ≡ true }
     requires image { (D.state site.old).is_open ≡ true }

@@ -104,6 +104,6 @@ ends_filled ps old new b m = record {
       ∙ ap (λ es. b.before ++ Done image_sync ∷ Done (draft_begin b.draft) ∷ es) (entries_of_pieces ps);
 }
 
-pub filled_behind : (text left : List ℕ) (old new : SiteState) → PartlyFilled text left old new → IsTrue old.tells
+pub filled_after : (text left : List ℕ) (old new : SiteState) → PartlyFilled text left old new → IsTrue old.tells
     → EndsBegun old.calls → EndsFilled new.calls
-filled_behind text left old new f t b = ends_filled f.went old.calls new.calls b (f.made t)
+filled_after text left old new f t b = ends_filled f.went old.calls new.calls b (f.made t)

@@ -48,10 +48,10 @@ pieces_stand d name pos [] = refl
 pieces_stand d name pos (n ∷ ns) = pieces_stand d name (pos + n) ns
 
 -- what the next read finds
-pub read_behind : (name text : List ℕ) (start start' : Folder) (calls calls' : List Entry) (pos : ℕ) (buf : List ℕ) (read : MapRead)
+pub read_after : (name text : List ℕ) (start start' : Folder) (calls calls' : List Entry) (pos : ℕ) (buf : List ℕ) (read : MapRead)
     → Pieces name ((after start calls).files name) text calls calls' → start' ≡ start
     → IsRead ((after start' calls').files name) pos buf read → IsRead ((after start calls).files name) pos buf read
-read_behind name text start start' calls calls' pos buf read p same r =
+read_after name text start start' calls calls' pos buf read p same r =
     let stands : after start' calls' ≡ after start calls
     = ap (λ d. after d calls') same ∙ ap (after start) p.made ∙ after-append start calls (map Done (piece_reads name 0 p.given))
     ∙ pieces_stand (after start calls) name 0 p.given
@@ -59,10 +59,10 @@ read_behind name text start start' calls calls' pos buf read p same r =
     subst (λ (d : Folder). IsRead (d.files name) pos buf read) stands r
 
 -- the calls of the pieces, and one read more
-made_behind : (name : List ℕ) (file : Option File) (text : List ℕ) (calls calls' calls'' : List Entry) (pos asked : ℕ)
+made_after : (name : List ℕ) (file : Option File) (text : List ℕ) (calls calls' calls'' : List Entry) (pos asked : ℕ)
     (answer : Option MapRead) (p : Pieces name file text calls calls') → pos ≡ length text → asked ≡ piece_size
     → calls'' ≡ calls' ++ Done (map_read name pos asked answer) ∷ [] → Made (load_reads name p.given answer) calls calls''
-made_behind name file text calls calls' calls'' pos asked answer p at size done =
+made_after name file text calls calls' calls'' pos asked answer p at size done =
     let from : pos ≡ sum p.given = at ∙ sym p.counted in
     made_more calls calls' calls'' (piece_reads name 0 p.given) (map_read name (sum p.given) piece_size answer ∷ []) p.made
     (rw (from, size) at done)
@@ -86,7 +86,7 @@ load_ended : (name : List ℕ) (file : Option File) (text : List ℕ) (calls cal
 load_ended name file text calls calls' calls'' pos asked answer p at size done ends = (
   load_reads name p.given answer,
   record { begins = begins name file text calls calls' answer p; ends = ends },
-  made_behind name file text calls calls' calls'' pos asked answer p at size done,
+  made_after name file text calls calls' calls'' pos asked answer p at size done,
 )
 
 -- a read finds no file where none is
@@ -160,7 +160,7 @@ more_pieces name (Some f) text text' calls calls' calls'' pos asked buf n p at s
       front = added ∙ ap (λ t. t ++ take n buf) p.front ∙ ap (λ t. take (length text) f.bytes ++ t) piece
           ∙ sym (ap (λ k. take k f.bytes) long ∙ take-add (length text) n f.bytes);
       made = subst (λ reads. Made reads calls calls'') (sym more)
-          (made_behind name (Some f) text calls calls' calls'' pos asked (Some (Bytes n)) p at size done);
+          (made_after name (Some f) text calls calls' calls'' pos asked (Some (Bytes n)) p at size done);
     }
 
 -- a read that failed
@@ -185,7 +185,7 @@ pub stopped : (name : List ℕ) (file : Option File) (text : List ℕ) (calls ca
     → (e ≡ NoMemory) ⊎ ((e ≡ Refused TooLong) × (text_limit < length text + n)) → TextStop name file e calls calls''
 stopped name None text calls calls' calls'' pos asked buf n e p at size done r some few fits why = absurd r
 stopped name (Some f) text calls calls' calls'' pos asked buf n e p at size done r some few fits why =
-    let made = made_behind name (Some f) text calls calls' calls'' pos asked (Some (Bytes n)) p at size done in
+    let made = made_after name (Some f) text calls calls' calls'' pos asked (Some (Bytes n)) p at size done in
     elim why [
       | inl x ↦ subst (λ e'. TextStop name (Some f) e' calls calls'') (sym x)
           (load_reads name p.given (Some (Bytes n)), begins name (Some f) text calls calls' (Some (Bytes n)) p, made)

@@ -31,26 +31,26 @@ says_nothing file mode r =
     ]
 
 -- the calls of a load, behind the barrier
-load_behind_barrier : (names : MapNames) (file : Option File) (calls mid calls' : List Entry) → Made (barrier_calls names) calls mid
+load_after_barrier : (names : MapNames) (file : Option File) (calls mid calls' : List Entry) → Made (barrier_calls names) calls mid
     → LoadEnded [] names.map file mid calls' → LoadEnded (barrier_calls names) names.map file calls calls'
-load_behind_barrier names file calls mid calls' made l = (l.0, l.1, made_more calls mid calls' (barrier_calls names) l.0 made l.2)
+load_after_barrier names file calls mid calls' made l = (l.0, l.1, made_more calls mid calls' (barrier_calls names) l.0 made l.2)
 
 -- a mapfile that was refused
 resumes_refused : (names : MapNames) (file : Option File) (e : MapError) (calls mid calls' : List Entry) → Made (barrier_calls names) calls mid
     → IsRefusedFor file Tight e × LoadEnded [] names.map file mid calls' → Resumes names file (refused_as e) calls calls'
-resumes_refused names file NoStatusLine calls mid calls' made r = (says_nothing file Tight r.0, load_behind_barrier names file calls mid calls' made r.1)
-resumes_refused names file (BadStatusLine line) calls mid calls' made r = (r.0, λ is. cc, load_behind_barrier names file calls mid calls' made r.1)
-resumes_refused names file (BadBlockLine line) calls mid calls' made r = (r.0, λ is. cc, load_behind_barrier names file calls mid calls' made r.1)
-resumes_refused names file (Gap line) calls mid calls' made r = (r.0, λ is. cc, load_behind_barrier names file calls mid calls' made r.1)
-resumes_refused names file (Overlap line) calls mid calls' made r = (r.0, λ is. cc, load_behind_barrier names file calls mid calls' made r.1)
-resumes_refused names file (TooLarge line) calls mid calls' made r = (r.0, λ is. cc, load_behind_barrier names file calls mid calls' made r.1)
-resumes_refused names file TooLong calls mid calls' made r = (r.0, λ is. cc, load_behind_barrier names file calls mid calls' made r.1)
-resumes_refused names file OutOfMemory calls mid calls' made r = (r.0, λ is. cc, load_behind_barrier names file calls mid calls' made r.1)
+resumes_refused names file NoStatusLine calls mid calls' made r = (says_nothing file Tight r.0, load_after_barrier names file calls mid calls' made r.1)
+resumes_refused names file (BadStatusLine line) calls mid calls' made r = (r.0, λ is. cc, load_after_barrier names file calls mid calls' made r.1)
+resumes_refused names file (BadBlockLine line) calls mid calls' made r = (r.0, λ is. cc, load_after_barrier names file calls mid calls' made r.1)
+resumes_refused names file (Gap line) calls mid calls' made r = (r.0, λ is. cc, load_after_barrier names file calls mid calls' made r.1)
+resumes_refused names file (Overlap line) calls mid calls' made r = (r.0, λ is. cc, load_after_barrier names file calls mid calls' made r.1)
+resumes_refused names file (TooLarge line) calls mid calls' made r = (r.0, λ is. cc, load_after_barrier names file calls mid calls' made r.1)
+resumes_refused names file TooLong calls mid calls' made r = (r.0, λ is. cc, load_after_barrier names file calls mid calls' made r.1)
+resumes_refused names file OutOfMemory calls mid calls' made r = (r.0, λ is. cc, load_after_barrier names file calls mid calls' made r.1)
 
 load_resumes : (names : MapNames) (file : Option File) (read : Result (Option ReadMap) ResumeFault) (calls mid calls' : List Entry)
     → Made (barrier_calls names) calls mid → LoadAnswers names.map Tight file read mid calls' → Resumes names file (resumed_of read) calls calls'
-load_resumes names file (Ok None) calls mid calls' made l = (NoFile l.0, load_behind_barrier names file calls mid calls' made l.1)
-load_resumes names file (Ok (Some m)) calls mid calls' made l = (l.0, load_behind_barrier names file calls mid calls' made l.1)
+load_resumes names file (Ok None) calls mid calls' made l = (NoFile l.0, load_after_barrier names file calls mid calls' made l.1)
+load_resumes names file (Ok (Some m)) calls mid calls' made l = (l.0, load_after_barrier names file calls mid calls' made l.1)
 load_resumes names file (Err (Site call)) calls mid calls' made l =
     inr (l.0, (l.1.0, l.1.1, broke_back MapRead (barrier_calls names) l.1.0 calls mid calls' made l.1.2))
 load_resumes names file (Err (Refused e)) calls mid calls' made l = resumes_refused names file e calls mid calls' made l

@@ -39,7 +39,7 @@ moved_none r None draft name is = absurd (cc)
 moved_none r (Some from) draft name is = refl
 
 -- the disk behind a publish that returned Ok
-pub record BehindPublish (names : MapNames) (text : List ℕ) (was now : Disk) : Type 0 where
+pub record AfterPublish (names : MapNames) (text : List ℕ) (was now : Disk) : Type 0 where
   pub published : ShowsNew names text was now
   pub map : now.reads.files names.map ≡ Some (text_file text)
   pub draft : names.draft ≢ names.map → now.reads.files names.draft ≡ None
@@ -48,7 +48,7 @@ pub record BehindPublish (names : MapNames) (text : List ℕ) (was now : Disk) :
   pub none_begun : now.reads.draft ≡ None
 
 was_moved : (names : MapNames) (text : List ℕ) (was now : Disk) → Drafting names text was now → now.firm ≡ true
-    → BehindPublish names text was (entered now (Done (draft_publish names.map)))
+    → AfterPublish names text was (entered now (Done (draft_publish names.map)))
 was_moved names text was now d firm = record {
   published = reshown names text was _ (entered now (Done (draft_publish names.map))) (λ n. refl)
       (published_in_part names text was now d firm);

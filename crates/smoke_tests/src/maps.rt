@@ -101,12 +101,12 @@ fn a_list_has_no_gap_and_no_overlap(rt: HostRuntime) -> Result<(), Fail> {
     };
     tiles.push(first)?;
     let status = Status::NonTried;
-    let behind = Block {
+    let after = Block {
         pos: 768,
         size: 1,
         status,
     };
-    assert_eq!(rt; tiles.push(behind), Err(PushError::Gap { at: 512 }));
+    assert_eq!(rt; tiles.push(after), Err(PushError::Gap { at: 512 }));
     let within = Block {
         pos: 256,
         size: 1,

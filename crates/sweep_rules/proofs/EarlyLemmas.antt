@@ -18,7 +18,7 @@ use Rattle.rescue_rules.specs.Setting.{Setting}
 use Rattle.rescue_rules.specs.Start.{Stands}
 use Rattle.rescue_rules.specs.Snapshots.{Snapshot}
 use Rattle.rescue_rules.specs.Laws.{AreThreeNames}
-use Rattle.rescue_rules.specs.Stops.{Behind, files_before, has_barrier, LeftBy}
+use Rattle.rescue_rules.specs.Stops.{Before, files_before, has_barrier, LeftBy}
 use Rattle.rescue_rules.specs.StopsBy.{is_publish, IsSave, IsKeptBy, StopsBy}
 use Rattle.rescue_rules.proofs.CutLemmas.{Cut, cut_all, cut_more, tally, tally_is, Each, at_stop}
 use Rattle.rescue_rules.proofs.BarrierLemmas.{Opens}
@@ -26,7 +26,7 @@ use Rattle.rescue_rules.proofs.MapfileLemmas.{opening_by}
 use Rattle.rescue_rules.proofs.BeforeLemmas.{disk_before, left_by, could_before}
 use Rattle.rescue_rules.proofs.DeedStages.{all_calls}
 use Rattle.rescue_rules.proofs.OthersLemmas.{reads_of, found_could}
-use Rattle.rescue_rules.proofs.StopsByLemmas.{peel, barrier_behind, Plan, found_keeps, output_stands, map_stands, unwritten_stands, could_be_before, others_stand}
+use Rattle.rescue_rules.proofs.StopsByLemmas.{peel, barrier_after, Plan, found_keeps, output_stands, map_stands, unwritten_stands, could_be_before, others_stand}
 use Rattle.rescue_rules.proofs.GoesLemmas.{broke_cut, front_cut}
 use Rattle.sweep_rules.specs.SweepOpens.{EndsEarly, InOpening, InLoad, OpensOrEnds, EndsEarlySafely}
 use Rattle.sweep_rules.proofs.EndLemmas.{opening_is}
@@ -123,7 +123,7 @@ early_plan s makes old began calls e =
     }
 
 -- where its output was opened
-module _ (b : Behind) (s : Setting) (makes : Bool) (calls : List Entry) (three : AreThreeNames s)
+module _ (b : Before) (s : Setting) (makes : Bool) (calls : List Entry) (three : AreThreeNames s)
     (opens : Opens makes (files_before b s.outfile)) (e : Early s makes calls) where
   plan : (began : List Status)
       → Plan (Same began) Nowhere makes s (bytes_of (files_before b s.outfile)) began (unsaved began ∷ []) calls
@@ -179,14 +179,14 @@ none_left [] zero cut is = absurd (cc)
 none_left [] (suc j) cut is = absurd (cc)
 none_left (e ∷ es) j cut is = absurd cut
 
-module _ (b : Behind) (s : Setting) (calls : List Entry) (few : length calls ≤ 1) (e : Early s false calls) where
+module _ (b : Before) (s : Setting) (calls : List Entry) (few : length calls ≤ 1) (e : Early s false calls) where
   one : Cut (image_open s.outfile false ∷ []) calls
   one = cut_one (image_open s.outfile false) _ calls few e.cut
 
   no_barrier : (k : ℕ) → has_barrier (take k calls) ≡ true → ⊥
   no_barrier k is =
       let p = peel (image_open s.outfile false) [] calls k one is in
-      none_left p.rest p.j p.cut (barrier_behind (image_open s.outfile false) [] calls k refl p is)
+      none_left p.rest p.j p.cut (barrier_after (image_open s.outfile false) [] calls k refl p is)
 
   unopened_others : (k : ℕ) (files : List ℕ → Option File) (name : List ℕ) → LeftBy b calls k files → name ≢ s.outfile
       → (before : List ℕ → Option File) × MayBeLeft b.start b.earlier (length b.earlier) before
@@ -213,7 +213,7 @@ module _ (b : Behind) (s : Setting) (calls : List Entry) (few : length calls ≤
     others = λ k files name le left output mapfile draft. unopened_others k files name left output;
   }
 
-early_by : (b : Behind) (s : Setting) (makes : Bool) (file : Option File) (calls : List Entry) → AreThreeNames s
+early_by : (b : Before) (s : Setting) (makes : Bool) (file : Option File) (calls : List Entry) → AreThreeNames s
     → files_before b s.outfile ≡ file → OpensOrEnds makes file calls → Early s makes calls
     → StopsBy (λ began shown. []) (λ began shown number map image. map ≡ began) makes b s calls
 early_by b s true file calls three is opens e = opened_safely b s true calls three tt e

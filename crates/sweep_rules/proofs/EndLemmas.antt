@@ -17,7 +17,7 @@ use Rattle.rescue_rules.specs.RunCalls.{closing_calls}
 use Rattle.rescue_rules.specs.Work.{Gain, end_of}
 use Rattle.rescue_rules.specs.Laws.{AreThreeNames, AreTimes}
 use Rattle.rescue_rules.specs.Deeds.{Deed, deed_calls, save_of, doing_calls, some_save, saves_in}
-use Rattle.rescue_rules.specs.Stops.{Behind, files_before}
+use Rattle.rescue_rules.specs.Stops.{Before, files_before}
 use Rattle.rescue_rules.specs.StopsBy.{StopsBy}
 use Rattle.rescue_rules.proofs.CutLemmas.{Cut, cut_all, cut_more}
 use Rattle.rescue_rules.proofs.BarrierLemmas.{Opens}
@@ -28,7 +28,7 @@ use Rattle.rescue_rules.proofs.DeedStages.{last_calls, all_calls, doing_is}
 use Rattle.rescue_rules.proofs.StopsByLemmas.{CutOf, Plan, OneMap, stops_by}
 use Rattle.rescue_rules.proofs.GoesLemmas.{broke_cut, past_load}
 use Rattle.rescue_rules.proofs.StopsLemmas.{first_small}
-use Rattle.sweep_rules.specs.Sweep.{Sweeper, Sweep, Swept, IsPiece, behind_piece, behind_pieces, due_save, sweep_end, deeds_of}
+use Rattle.sweep_rules.specs.Sweep.{Sweeper, Sweep, Swept, IsPiece, after_piece, after_pieces, due_save, sweep_end, deeds_of}
 use Rattle.sweep_rules.specs.SweepWork.{SweepEnds, IsSaved, IsUnsaved, IsCut, IsBroken, sweep_calls, lost_call, sweep_begins, sweep_opening}
 use Rattle.sweep_rules.specs.SweepStops.{SweepsOver, has_swept_out, sweep_saves}
 use Rattle.sweep_rules.proofs.SavedLemmas.{pieces_timed, begins_tame, all_readable}
@@ -46,7 +46,7 @@ IsTail s w m tail =
 pub record Tailed (s : Setting) (w : Sweeper) (m : Sweep) (es : List Swept) (last : Snapshot) (calls : List Entry)
     : Type 0 where
   pub tail : List Deed
-  pub is_tail : IsTail s w (behind_pieces w m es) tail
+  pub is_tail : IsTail s w (after_pieces w m es) tail
   pub cut : Cut (all_calls s (deeds_of w m es ++ tail) last) calls
 
 no_tail : (s : Setting) (w : Sweeper) (m : Sweep) (es : List Swept) (last : Snapshot) (calls : List Entry)
@@ -59,10 +59,10 @@ no_tail s w m es last calls h = record {
 
 deeds_more : (w : Sweeper) (m : Sweep) (before : List Swept) (e : Swept)
     → deeds_of w m (before ++ e ∷ [])
-    ≡ deeds_of w m before ++ record { calls = w.call e ∷ []; save = due_save w (behind_pieces w m before) e } ∷ []
+    ≡ deeds_of w m before ++ record { calls = w.call e ∷ []; save = due_save w (after_pieces w m before) e } ∷ []
 deeds_more w m [] e = refl
 deeds_more w m (x ∷ xs) e =
-    ap (λ (l : List Deed). record { calls = w.call x ∷ []; save = due_save w m x } ∷ l) (deeds_more w (behind_piece w m x) xs e)
+    ap (λ (l : List Deed). record { calls = w.call x ∷ []; save = due_save w m x } ∷ l) (deeds_more w (after_piece w m x) xs e)
 
 swept_out_of : (stop : Option Stop) → has_swept_out (end_of stop) ≡ is_none stop
 swept_out_of None = refl
@@ -70,26 +70,26 @@ swept_out_of (Some stop) = refl
 
 ends_tailed : (s : Setting) (w : Sweeper) (m : Sweep) (es : List Swept) (calls : List Entry) (end : RunEnd)
     → s.has_mapfile ≡ true → SweepEnds s w m es calls end
-    → Tailed s w m es (sweep_end (has_swept_out end) (behind_pieces w m es)) calls
+    → Tailed s w m es (sweep_end (has_swept_out end) (after_pieces w m es)) calls
 ends_tailed s w m es calls end on (IsSaved stop by end_is is) =
     let deeds : List Deed = deeds_of w m es in
     let out : has_swept_out end ≡ is_none stop = ap has_swept_out end_is ∙ swept_out_of stop in
-    let last : Snapshot = sweep_end (is_none stop) (behind_pieces w m es) in
-    no_tail s w m es (sweep_end (has_swept_out end) (behind_pieces w m es)) calls
-    (subst (λ (b : Bool). Cut (all_calls s deeds (sweep_end b (behind_pieces w m es))) calls) (sym out)
+    let last : Snapshot = sweep_end (is_none stop) (after_pieces w m es) in
+    no_tail s w m es (sweep_end (has_swept_out end) (after_pieces w m es)) calls
+    (subst (λ (b : Bool). Cut (all_calls s deeds (sweep_end b (after_pieces w m es))) calls) (sym out)
     (subst (λ (l : List Call). Cut l calls) (doing_is s deeds last on)
     (subst (λ (l : List Entry). Cut (doing_calls s deeds last) l) (sym is) (cut_all (doing_calls s deeds last)))))
 ends_tailed s w m es calls end on (IsUnsaved stop call by end_is broke) =
     let deeds : List Deed = deeds_of w m es in
     let out : has_swept_out end ≡ is_none stop = ap has_swept_out end_is in
-    let last : Snapshot = sweep_end (is_none stop) (behind_pieces w m es) in
-    no_tail s w m es (sweep_end (has_swept_out end) (behind_pieces w m es)) calls
-    (subst (λ (b : Bool). Cut (all_calls s deeds (sweep_end b (behind_pieces w m es))) calls) (sym out)
+    let last : Snapshot = sweep_end (is_none stop) (after_pieces w m es) in
+    no_tail s w m es (sweep_end (has_swept_out end) (after_pieces w m es)) calls
+    (subst (λ (b : Bool). Cut (all_calls s deeds (sweep_end b (after_pieces w m es))) calls) (sym out)
     (subst (λ (l : List Call). Cut l calls) (doing_is s deeds last on)
     (broke_cut call (sweep_calls s w m es) (closing_calls s last) calls broke)))
 ends_tailed s w m es calls end on (IsCut p q piece end_is broke) =
     let deeds : List Deed = deeds_of w m es in
-    let last : Snapshot = sweep_end (has_swept_out end) (behind_pieces w m es) in
+    let last : Snapshot = sweep_end (has_swept_out end) (after_pieces w m es) in
     record {
       tail = lost_deed w p q ∷ [];
       is_tail = inr (p, q, piece, refl);
@@ -98,17 +98,17 @@ ends_tailed s w m es calls end on (IsCut p q piece end_is broke) =
           (broke_cut _ (sweep_calls s w m es) (lost_call w p q ∷ []) calls broke));
     }
 ends_tailed s w m es calls end on (IsBroken before last call is end_is broke) =
-    let saved : List Call = save_of s (due_save w (behind_pieces w m before) last) in
-    let deed : Deed = record { calls = w.call last ∷ []; save = due_save w (behind_pieces w m before) last } in
+    let saved : List Call = save_of s (due_save w (after_pieces w m before) last) in
+    let deed : Deed = record { calls = w.call last ∷ []; save = due_save w (after_pieces w m before) last } in
     let all : flat_map (deed_calls s) (deeds_of w m es) ≡ (sweep_calls s w m before ++ w.call last ∷ []) ++ saved
     = ap (λ (l : List Swept). flat_map (deed_calls s) (deeds_of w m l)) is
     ∙ ap (λ (l : List Deed). flat_map (deed_calls s) l) (deeds_more w m before last)
     ∙ flat_map-append (deed_calls s) (deeds_of w m before) (deed ∷ [])
     ∙ ap (λ (l : List Call). sweep_calls s w m before ++ l) (append-nil (w.call last ∷ saved))
     ∙ sym (append_assoc (sweep_calls s w m before) (w.call last ∷ []) saved) in
-    no_tail s w m es (sweep_end (has_swept_out end) (behind_pieces w m es)) calls
+    no_tail s w m es (sweep_end (has_swept_out end) (after_pieces w m es)) calls
     (cut_more (flat_map (deed_calls s) (deeds_of w m es))
-    (last_calls s (sweep_end (has_swept_out end) (behind_pieces w m es))) calls
+    (last_calls s (sweep_end (has_swept_out end) (after_pieces w m es))) calls
     (subst (λ (l : List Call). Cut l calls) (sym all)
     (broke_cut call (sweep_calls s w m before ++ w.call last ∷ []) saved calls broke)))
 
@@ -134,13 +134,13 @@ pub opening_is : (s : Setting) (makes : Bool) → s.has_mapfile ≡ true → swe
 opening_is s makes on = ap (λ (b : Bool). image_open s.outfile makes ∷ (if b then barrier_calls s.names else [])) on
 
 -- a sweep over what its mapfile stood for
-module _ (b : Behind) (s : Setting) (w : Sweeper) (g : Gain) (statuses : List Status) (state : Option MapState)
+module _ (b : Before) (s : Setting) (w : Sweeper) (g : Gain) (statuses : List Status) (state : Option MapState)
     (on : s.has_mapfile ≡ true) (o : SweepsOver s w b statuses state g) where
   abbrev pub first : Sweep
   first = sweep_begins w statuses state g
 
   abbrev pub last_of : Snapshot
-  last_of = sweep_end (has_swept_out o.end) (behind_pieces w first o.sweeps.events)
+  last_of = sweep_end (has_swept_out o.end) (after_pieces w first o.sweeps.events)
 
   pub tailed : Tailed s w first o.sweeps.events last_of o.rest
   tailed = ends_tailed s w first o.sweeps.events o.rest o.end on o.sweeps.ends

@@ -16,7 +16,7 @@ use Rattle.rescue_rules.proofs.WriteLemmas.{written_inside, written_outside}
 use Rattle.rescue_rules.proofs.MarkLemmas.{slice_get-take}
 use Rattle.rescue_rules.proofs.HoldLemmas.{loose_same}
 use Rattle.rescue_rules.proofs.KeepLemmas.{SavesOn, KeepsMaps, Promise, Free}
-use Rattle.sweep_rules.specs.Sweep.{Sweeper, Sweep, Swept, IsSweep, filler, behind_piece, behind_pieces, is_save_due, sweep_snapshot, deeds_of}
+use Rattle.sweep_rules.specs.Sweep.{Sweeper, Sweep, Swept, IsSweep, filler, after_piece, after_pieces, is_save_due, sweep_snapshot, deeds_of}
 use Rattle.sweep_rules.specs.SweepWork.{sweep_begins}
 use Rattle.sweep_rules.specs.SweepStops.{pieces_before, AreFilled, FillPromise, sweep_saves, FillsSafely}
 use Rattle.sweep_rules.proofs.SweepLemmas.{Within, piece_within}
@@ -41,8 +41,8 @@ before_all : (P : Swept → Type 0) (w : Sweeper) (es : List Swept) (m : Sweep) 
 before_all P w [] m n all = All-nil P
 before_all P w (e ∷ es) m zero all = All-nil P
 before_all P w (e ∷ es) m (suc n) all =
-    All-cons P e (pieces_before w (behind_piece w m e) es (if is_save_due m e then n else suc n)) (All-head P e es all)
-    (before_all P w es (behind_piece w m e) (if is_save_due m e then n else suc n) (All-tail P e es all))
+    All-cons P e (pieces_before w (after_piece w m e) es (if is_save_due m e then n else suc n)) (All-head P e es all)
+    (before_all P w es (after_piece w m e) (if is_save_due m e then n else suc n) (All-tail P e es all))
 
 -- what was filled outlasts writes elsewhere
 filled_outlasts : (s : Setting) (buffer : List ℕ) (before : List Swept) (was now : File) (loose : List (ℕ × ℕ))
@@ -119,7 +119,7 @@ module _ (s : Setting) (types : TypeSet) (buffer : List ℕ) (ok : IsSensible s)
   pieces_few m (e ∷ es) sweep =
       All-cons (λ (e : Swept). e.len ≤ length buffer) e es
       (piece_few m e.pos e.len (piece_within s (filler s types buffer) m e.pos (e.pos + e.len) sweep.0))
-      (pieces_few (behind_piece (filler s types buffer) m e) es sweep.2)
+      (pieces_few (after_piece (filler s types buffer) m e) es sweep.2)
 
   module _ (began : List Status) (pieces : ℕ → List Swept) where
     abbrev Filling : ℕ → List Status → List ℕ → Type 0
@@ -167,23 +167,23 @@ module _ (s : Setting) (types : TypeSet) (buffer : List ℕ) (ok : IsSensible s)
         let piece : List ℕ = take (q - p) buffer in
         let in_it : Within s m p q = piece_within s (filler s types buffer) m p q t.2 in
         subst (λ (l : List Deed). KeepsMaps Filling Open n map image l last) (sym t.3) (
-          (λ y from to. places_off m.cursor p y (pieces n) in_it.behind from h.saved, tt),
+          (λ y from to. places_off m.cursor p y (pieces n) in_it.past from h.saved, tt),
           fill_end done n m (written image (place s p) piece) last.map (same ∙ h.kept) h.goes
-              (writes_off m.cursor p piece image done in_it.behind h.low h.holds),
+              (writes_off m.cursor p piece image done in_it.past h.low h.holds),
         )
 
     fill_due : (due : Bool) (done : List Swept) (n : ℕ) (map : List Status) (m : Sweep) (e : Swept) (es : List Swept)
-        (image : List ℕ) → is_save_due m e ≡ due → (behind_piece (filler s types buffer) m e).map ≡ began
+        (image : List ℕ) → is_save_due m e ≡ due → (after_piece (filler s types buffer) m e).map ≡ began
         → All (IsBelow (e.pos + e.len)) (done ++ e ∷ []) → All (IsBelow (e.pos + e.len)) (pieces n)
         → AreFilled s buffer (done ++ e ∷ []) image
         → ((k j : ℕ) → k ≡ n + suc j → pieces k ≡ done ++ pieces_before (filler s types buffer) m (e ∷ es) (suc j))
         → (next : ℕ → List Status → Type 0)
-        → ((k : ℕ) (t : List Status) → Filled (done ++ e ∷ []) k (behind_piece (filler s types buffer) m e) es image → next k t)
+        → ((k : ℕ) (t : List Status) → Filled (done ++ e ∷ []) k (after_piece (filler s types buffer) m e) es image → next k t)
         → SavesOn Filling Open n map image
-        (if due then Some (sweep_snapshot (behind_piece (filler s types buffer) m e)) else None) next
+        (if due then Some (sweep_snapshot (after_piece (filler s types buffer) m e)) else None) next
     fill_due true done n map m e es image is kept low saved holds goes next go =
         let w : Sweeper = filler s types buffer in
-        let m' : Sweep = behind_piece w m e in
+        let m' : Sweep = after_piece w m e in
         let later : (k j : ℕ) → k ≡ n + suc j → pieces k ≡ (done ++ e ∷ []) ++ pieces_before w m' es j
         = λ k j at. goes k j at
         ∙ ap (λ (b : Bool). done ++ e ∷ pieces_before w m' es (if b then j else suc j)) is
@@ -202,7 +202,7 @@ module _ (s : Setting) (types : TypeSet) (buffer : List ℕ) (ok : IsSensible s)
         )
     fill_due false done n map m e es image is kept low saved holds goes next go =
         let w : Sweeper = filler s types buffer in
-        let m' : Sweep = behind_piece w m e in
+        let m' : Sweep = after_piece w m e in
         go n map (record {
           kept = kept;
           low = low;
@@ -215,25 +215,25 @@ module _ (s : Setting) (types : TypeSet) (buffer : List ℕ) (ok : IsSensible s)
 
     fill_keeps : (es : List Swept) (done : List Swept) (n : ℕ) (map : List Status) (m : Sweep) (image : List ℕ)
         (tail : List Deed) (last : Snapshot) → IsSweep s (filler s types buffer) m es → Filled done n m es image
-        → IsTail s (filler s types buffer) (behind_pieces (filler s types buffer) m es) tail
-        → last.map ≡ (behind_pieces (filler s types buffer) m es).map
+        → IsTail s (filler s types buffer) (after_pieces (filler s types buffer) m es) tail
+        → last.map ≡ (after_pieces (filler s types buffer) m es).map
         → KeepsMaps Filling Open n map image (deeds_of (filler s types buffer) m es ++ tail) last
     fill_keeps [] done n map m image tail last sweep h is_tail same = fill_tail done n map m image tail last h is_tail same
     fill_keeps (e ∷ es) done n map m image tail last sweep h is_tail same =
         let w : Sweeper = filler s types buffer in
-        let m' : Sweep = behind_piece w m e in
+        let m' : Sweep = after_piece w m e in
         let in_it : Within s m e.pos (e.pos + e.len) = piece_within s w m e.pos (e.pos + e.len) sweep.0 in
         let few : e.len ≤ length buffer = piece_few m e.pos e.len in_it in
-        let on : m.cursor ≤ e.pos + e.len = omega (arith, in_it.behind) in
+        let on : m.cursor ≤ e.pos + e.len = omega (arith, in_it.past) in
         let after : List ℕ = written image (place s e.pos) (take e.len buffer) in
         let here : IsBelow (e.pos + e.len) e = record { low = ok.from e.pos in_it.some; end = omega arith; few = few } in (
-          (λ y from to. places_off m.cursor e.pos y (pieces n) in_it.behind from h.saved, tt),
+          (λ y from to. places_off m.cursor e.pos y (pieces n) in_it.past from h.saved, tt),
           fill_due (is_save_due m e) done n map m e es after refl h.kept
               (All-append (IsBelow (e.pos + e.len)) done (e ∷ []) (below_more m.cursor (e.pos + e.len) done on h.low)
               (All-cons (IsBelow (e.pos + e.len)) e [] here (All-nil (IsBelow (e.pos + e.len)))))
               (below_more m.cursor (e.pos + e.len) (pieces n) on h.saved)
               (All-append (HoldsPiece s buffer after) done (e ∷ [])
-              (writes_off m.cursor e.pos (take e.len buffer) image done in_it.behind h.low h.holds)
+              (writes_off m.cursor e.pos (take e.len buffer) image done in_it.past h.low h.holds)
               (All-cons (HoldsPiece s buffer after) e [] (writes_piece e image few) (All-nil (HoldsPiece s buffer after))))
               h.goes
               (λ k t. KeepsMaps Filling Open k t after (deeds_of w m' es ++ tail) last)
@@ -258,7 +258,7 @@ fills_safely b s types buffer g statuses state ok on three low times size o =
     (record {
       deeds = deeds_of w m es ++ t.tail;
       last = last;
-      saves_are = saves_tailed s w (behind_pieces w m es) (deeds_of w m es) t.tail last t.is_tail;
+      saves_are = saves_tailed s w (after_pieces w m es) (deeds_of w m es) t.tail last t.is_tail;
       outlasts = fill_outlasts s types buffer ok size statuses pieces (sweep_saves w statuses state g es o.end) old
           (λ n. before_all (λ (e : Swept). e.len ≤ length buffer) w es m n
           (pieces_few s types buffer ok size m es o.sweeps.run));
@@ -275,6 +275,6 @@ fills_safely b s types buffer g statuses state ok on three low times size o =
             holds = nothing;
             goes = λ k j at. ap pieces (let e : k ≡ suc j = omega (arith, at) in e);
           })
-          t.is_tail (end_map _ (behind_pieces w m es));
+          t.is_tail (end_map _ (after_pieces w m es));
       course = course b s w g statuses state on o;
     })

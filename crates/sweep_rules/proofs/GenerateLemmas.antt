@@ -15,7 +15,7 @@ use Rattle.rescue_rules.proofs.PreparationLemmas.{length_changed}
 use Rattle.rescue_rules.proofs.HoldLemmas.{loose_same}
 use Rattle.rescue_rules.proofs.BarrierLemmas.{Opens}
 use Rattle.rescue_rules.proofs.KeepLemmas.{SavesOn, KeepsMaps, Promise, Free}
-use Rattle.sweep_rules.specs.Sweep.{Sweep, Swept, generator, is_generated, behind_piece, behind_pieces, is_save_due, sweep_snapshot, deeds_of}
+use Rattle.sweep_rules.specs.Sweep.{Sweep, Swept, generator, is_generated, after_piece, after_pieces, is_save_due, sweep_snapshot, deeds_of}
 use Rattle.sweep_rules.specs.SweepLaws.{AreGiven}
 use Rattle.sweep_rules.specs.SweepStops.{GeneratePromise, sweep_saves, GeneratesSafely}
 use Rattle.sweep_rules.proofs.SweepLemmas.{swept_held}
@@ -52,7 +52,7 @@ module _ (s : Setting) (old : List ℕ) (began : List Status) where
   promised map held = record { held = held; stands = λ y lt. refl }
 
   held_piece : (m : Sweep) (e : Swept) → e.got ≡ take e.len (drop (place s e.pos) old) → AreHeld m.map
-      → AreHeld (behind_piece (generator s) m e).map
+      → AreHeld (after_piece (generator s) m e).map
   held_piece m e given held x is =
       ⊎_elim (λ (was : Has m.map Finished x). held x was)
       (λ (b : (b : ℕ) × (slice_get old (place s x) ≡ Some b)). inr b)
@@ -74,12 +74,12 @@ module _ (s : Setting) (old : List ℕ) (began : List Status) where
       (tt, subst (λ (t : List Status). GeneratePromise s old began t old) (sym same) (promised m.map held))
 
   generate_keeps : (es : List Swept) (n : ℕ) (map : List Status) (m : Sweep) (tail : List Deed) (last : Snapshot)
-      → AreGiven s old es → AreHeld m.map → IsTail s (generator s) (behind_pieces (generator s) m es) tail
-      → last.map ≡ (behind_pieces (generator s) m es).map
+      → AreGiven s old es → AreHeld m.map → IsTail s (generator s) (after_pieces (generator s) m es) tail
+      → last.map ≡ (after_pieces (generator s) m es).map
       → KeepsMaps Generating Nowhere n map old (deeds_of (generator s) m es ++ tail) last
   generate_keeps [] n map m tail last given held is_tail same = generate_tail n map m tail last held is_tail same
   generate_keeps (e ∷ es) n map m tail last given held is_tail same =
-      let next : Sweep = behind_piece (generator s) m e in
+      let next : Sweep = after_piece (generator s) m e in
       let held' : AreHeld next.map
       = held_piece m e (All-head (λ e. e.got ≡ take e.len (drop (place s e.pos) old)) e es given) held in (
         tt,
@@ -103,10 +103,10 @@ generates_safely b s g statuses state file ok on three low times there o given =
     (record {
       deeds = deeds_of w m o.sweeps.events ++ t.tail;
       last = last;
-      saves_are = saves_tailed s w (behind_pieces w m o.sweeps.events) (deeds_of w m o.sweeps.events) t.tail last t.is_tail;
+      saves_are = saves_tailed s w (after_pieces w m o.sweeps.events) (deeds_of w m o.sweeps.events) t.tail last t.is_tail;
       outlasts = generate_outlasts s old statuses (sweep_saves w statuses state g o.sweeps.events o.end);
       first = promised s old statuses statuses (λ x is. inl is);
       keeps = generate_keeps s old statuses o.sweeps.events 0 statuses m t.tail last given (λ x is. inl is) t.is_tail
-          (end_map _ (behind_pieces w m o.sweeps.events));
+          (end_map _ (after_pieces w m o.sweeps.events));
       course = course b s w g statuses state on o;
     })

@@ -10,7 +10,7 @@ use Rattle.rescue_rules.specs.Laws.{AreTimes}
 use Rattle.rescue_rules.specs.Deeds.{Deed, some_save, saves_in}
 use Rattle.rescue_rules.proofs.StandsLemmas.{IsPrintable, IsSmall}
 use Rattle.rescue_rules.proofs.SnapshotLemmas.{IsReadable}
-use Rattle.sweep_rules.specs.Sweep.{Sweeper, Sweep, Swept, sweep_over, IsSweep, behind_piece, behind_pieces, is_save_due, sweep_snapshot, sweep_end, due_save, deeds_of}
+use Rattle.sweep_rules.specs.Sweep.{Sweeper, Sweep, Swept, sweep_over, IsSweep, after_piece, after_pieces, is_save_due, sweep_snapshot, sweep_end, due_save, deeds_of}
 use Rattle.sweep_rules.proofs.SweepLemmas.{Within, piece_within}
 
 -- a piece with a reading that a clock can give
@@ -65,7 +65,7 @@ begins_tame s w began state time first small =
     record { long = small.long; short = small.short; shown = small.shown; began = first; now = first }
 
 module _ (s : Setting) (w : Sweeper) (sizes : (map : List Status) (e : Swept) → length (w.marks map e) ≡ length map) where
-  tame_piece : (m : Sweep) (e : Swept) → Within s m e.pos (e.pos + e.len) → IsTimed e → IsTame s m → IsTame s (behind_piece w m e)
+  tame_piece : (m : Sweep) (e : Swept) → Within s m e.pos (e.pos + e.len) → IsTimed e → IsTame s m → IsTame s (after_piece w m e)
   tame_piece m e in_it timed h =
       let size : length (w.marks m.map e) ≡ length m.map = sizes m.map e in
       record {
@@ -77,23 +77,23 @@ module _ (s : Setting) (w : Sweeper) (sizes : (map : List Status) (e : Swept) �
       }
 
   dues_readable : (m : Sweep) (es : List Swept) → IsSweep s w m es → All IsTimed es → IsTame s m
-      → All (IsReadable s.end) (flat_map (λ (d : Deed). some_save d.save) (deeds_of w m es)) × IsTame s (behind_pieces w m es)
+      → All (IsReadable s.end) (flat_map (λ (d : Deed). some_save d.save) (deeds_of w m es)) × IsTame s (after_pieces w m es)
   dues_readable m [] sweep timed h = (All-nil (IsReadable s.end), h)
   dues_readable m (e ∷ es) sweep timed h =
-      let next : IsTame s (behind_piece w m e)
+      let next : IsTame s (after_piece w m e)
       = tame_piece m e (piece_within s w m e.pos (e.pos + e.len) sweep.0) (All-head IsTimed e es timed) h in
-      let rest = dues_readable (behind_piece w m e) es sweep.2 (All-tail IsTimed e es timed) next in (
+      let rest = dues_readable (after_piece w m e) es sweep.2 (All-tail IsTimed e es timed) next in (
         All-append (IsReadable s.end) (some_save (due_save w m e))
-            (flat_map (λ (d : Deed). some_save d.save) (deeds_of w (behind_piece w m e) es))
-            (if_readable s (is_save_due m e) (behind_piece w m e) next) rest.0,
+            (flat_map (λ (d : Deed). some_save d.save) (deeds_of w (after_piece w m e) es))
+            (if_readable s (is_save_due m e) (after_piece w m e) next) rest.0,
         rest.1,
       )
 
   pub all_readable : (m : Sweep) (es : List Swept) (done : Bool) → IsSweep s w m es → All IsTimed es → IsTame s m
-      → All (IsReadable s.end) (saves_in (deeds_of w m es) (sweep_end done (behind_pieces w m es)))
+      → All (IsReadable s.end) (saves_in (deeds_of w m es) (sweep_end done (after_pieces w m es)))
   all_readable m es done sweep timed h =
       let dues = dues_readable m es sweep timed h in
       All-append (IsReadable s.end) (flat_map (λ (d : Deed). some_save d.save) (deeds_of w m es))
-      (sweep_end done (behind_pieces w m es) ∷ []) dues.0
-      (All-cons (IsReadable s.end) (sweep_end done (behind_pieces w m es)) [] (end_readable s done (behind_pieces w m es) dues.1)
+      (sweep_end done (after_pieces w m es) ∷ []) dues.0
+      (All-cons (IsReadable s.end) (sweep_end done (after_pieces w m es)) [] (end_readable s done (after_pieces w m es) dues.1)
       (All-nil (IsReadable s.end)))

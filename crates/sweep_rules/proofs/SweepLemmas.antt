@@ -16,7 +16,7 @@ use Rattle.rescue_rules.specs.Preparation.{changed_from, if_asked}
 use Rattle.rescue_rules.specs.Machine.{cut_end}
 use Rattle.rescue_rules.specs.Setting.{Setting, place}
 use Rattle.rescue_rules.proofs.MarkLemmas.{slice_get-take}
-use Rattle.sweep_rules.specs.Sweep.{Sweeper, Sweep, Swept, IsTaken, IsPiece, sweep_search, filler, generator, behind_piece, is_generated, is_there, part_of}
+use Rattle.sweep_rules.specs.Sweep.{Sweeper, Sweep, Swept, IsTaken, IsPiece, sweep_search, filler, generator, after_piece, is_generated, is_there, part_of}
 use Rattle.sweep_rules.specs.SweepLaws.{PieceIsOne, GeneratesWhatIsHeld, FilledMapStands}
 
 -- a position that a change finishes, or that was finished
@@ -60,7 +60,7 @@ generated_there s image e x given is =
 
 -- so what is finished behind a piece was finished, or has a byte there
 pub swept_held : (s : Setting) (image : List ℕ) (m : Sweep) (e : Swept) (x : ℕ)
-    → e.got ≡ take e.len (drop (place s e.pos) image) → Has (behind_piece (generator s) m e).map Finished x
+    → e.got ≡ take e.len (drop (place s e.pos) image) → Has (after_piece (generator s) m e).map Finished x
     → Has m.map Finished x ⊎ ((b : ℕ) × (slice_get image (place s x) ≡ Some b))
 swept_held s image m e x given is =
     ⊎_elim (λ (t : is_generated s e (0 + x) ≡ true).
@@ -73,15 +73,15 @@ pub generates_what_is_held : GeneratesWhatIsHeld
 generates_what_is_held s image m [] all x is = inl is
 generates_what_is_held s image m (e ∷ es) all x is =
     ⊎_elim
-    (λ (was : Has (behind_piece (generator s) m e).map Finished x). swept_held s image m e x
+    (λ (was : Has (after_piece (generator s) m e).map Finished x). swept_held s image m e x
     (All-head (λ e. e.got ≡ take e.len (drop (place s e.pos) image)) e es all) was)
     (λ (there : (b : ℕ) × (slice_get image (place s x) ≡ Some b)). inr there)
-    (generates_what_is_held s image (behind_piece (generator s) m e) es
+    (generates_what_is_held s image (after_piece (generator s) m e) es
     (All-tail (λ e. e.got ≡ take e.len (drop (place s e.pos) image)) e es all) x is)
 
 pub filled_map_stands : FilledMapStands
 filled_map_stands s types buffer m [] = refl
-filled_map_stands s types buffer m (e ∷ es) = filled_map_stands s types buffer (behind_piece (filler s types buffer) m e) es
+filled_map_stands s types buffer m (e ∷ es) = filled_map_stands s types buffer (after_piece (filler s types buffer) m e) es
 
 first_one : (P : ℕ → Type 0) (from p p' : ℕ) → IsFirst P from p → IsFirst P from p' → p ≡ p'
 first_one P from p p' a b = omega (arith, a.least p' b.after b.holds, b.least p a.after a.holds)
@@ -105,7 +105,7 @@ piece_is_one s w m p q p' q' a b =
 
 -- What a piece is: it lies behind the cursor, in the map, is a cluster at most, and begins with a position of the domain.
 pub record Within (s : Setting) (m : Sweep) (p q : ℕ) : Type 0 where
-  pub behind : m.cursor ≤ p
+  pub past : m.cursor ≤ p
   pub inside : q ≤ length m.map
   pub few : q ≤ p + s.cluster
   pub some : s.domain p ≡ true
@@ -131,7 +131,7 @@ piece_within s w m p q h =
     let last : IsTaken s w m (h.end - 1)
     = h.range.1.within (h.end - 1) (omega (arith, h.range.1.begun)) (omega (arith, h.range.1.begun)) in
     record {
-      behind = h.range.0.after;
+      past = h.range.0.after;
       inside = omega (arith, h.ends, h.range.1.begun, taken_within s w m (h.end - 1) last);
       few = omega (arith, h.ends, floor_below s.sector (p + s.cluster));
       some = taken_domain s w m p h.range.0.holds;

@@ -140,8 +140,8 @@ abbrev pub is_save_due : Sweep → Swept → Bool
 is_save_due m e = nat_le (m.due_at + save_interval) e.after
 
 -- the state behind a piece
-abbrev pub behind_piece : Sweeper → Sweep → Swept → Sweep
-behind_piece w m e = record {
+abbrev pub after_piece : Sweeper → Sweep → Swept → Sweep
+after_piece w m e = record {
   map = w.marks m.map e;
   cursor = e.pos + e.len;
   written = more_written m.written (w.writes e);
@@ -152,14 +152,14 @@ behind_piece w m e = record {
   said = said_after m.said w.current (e.after / 1000);
 }
 
-abbrev pub behind_pieces : Sweeper → Sweep → List Swept → Sweep
-behind_pieces w m [] = m
-behind_pieces w m (e ∷ es) = behind_pieces w (behind_piece w m e) es
+abbrev pub after_pieces : Sweeper → Sweep → List Swept → Sweep
+after_pieces w m [] = m
+after_pieces w m (e ∷ es) = after_pieces w (after_piece w m e) es
 
 -- the pieces are a sweep from a state
 abbrev pub IsSweep : Setting → Sweeper → Sweep → List Swept → Type 0
 IsSweep s w m [] = ⊤
-IsSweep s w m (e ∷ es) = IsPiece s w m e.pos (e.pos + e.len) × (w.gives e ≡ true) × IsSweep s w (behind_piece w m e) es
+IsSweep s w m (e ∷ es) = IsPiece s w m e.pos (e.pos + e.len) × (w.gives e ≡ true) × IsSweep s w (after_piece w m e) es
 
 -- no piece is left
 abbrev pub IsSweptOut : Setting → Sweeper → Sweep → Type 0
@@ -176,9 +176,9 @@ sweep_end done m =
 
 -- the save that is due behind a piece, if one is
 abbrev pub due_save : Sweeper → Sweep → Swept → Option Snapshot
-due_save w m e = if is_save_due m e then Some (sweep_snapshot (behind_piece w m e)) else None
+due_save w m e = if is_save_due m e then Some (sweep_snapshot (after_piece w m e)) else None
 
 -- what each piece does on the files: its call, and the save that is due behind it
 abbrev pub deeds_of : Sweeper → Sweep → List Swept → List Deed
 deeds_of w m [] = []
-deeds_of w m (e ∷ es) = record { calls = w.call e ∷ []; save = due_save w m e } ∷ deeds_of w (behind_piece w m e) es
+deeds_of w m (e ∷ es) = record { calls = w.call e ∷ []; save = due_save w m e } ∷ deeds_of w (after_piece w m e) es

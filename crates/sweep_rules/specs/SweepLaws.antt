@@ -4,7 +4,7 @@ use Rattle.block_list.specs.declared.status.Status.TheVariants.{Finished}
 use Rattle.block_list.specs.declared.types.TypeSet.{TypeSet}
 use Rattle.block_list.specs.Map.{Has}
 use Rattle.rescue_rules.specs.Setting.{Setting, place}
-use Rattle.sweep_rules.specs.Sweep.{Sweeper, Sweep, Swept, filler, generator, IsPiece, behind_pieces}
+use Rattle.sweep_rules.specs.Sweep.{Sweeper, Sweep, Swept, filler, generator, IsPiece, after_pieces}
 
 -- the pieces gave what an output holds at their places, as far as it goes
 abbrev pub AreGiven : Setting → (image : List ℕ) → List Swept → Type 0
@@ -18,10 +18,10 @@ PieceIsOne = (s : Setting) (w : Sweeper) (m : Sweep) (p q p' q' : ℕ) → IsPie
 -- law: a filled map stands
 abbrev pub FilledMapStands : Type 0
 FilledMapStands = (s : Setting) (types : TypeSet) (buffer : List ℕ) (m : Sweep) (es : List Swept)
-    → (behind_pieces (filler s types buffer) m es).map ≡ m.map
+    → (after_pieces (filler s types buffer) m es).map ≡ m.map
 
 -- law: generate mode finishes only positions that were finished, or for which the output holds a byte
 abbrev pub GeneratesWhatIsHeld : Type 0
 GeneratesWhatIsHeld = (s : Setting) (image : List ℕ) (m : Sweep) (es : List Swept) → AreGiven s image es → (x : ℕ)
-    → Has (behind_pieces (generator s) m es).map Finished x
+    → Has (after_pieces (generator s) m es).map Finished x
     → Has m.map Finished x ⊎ ((b : ℕ) × (slice_get image (place s x) ≡ Some b))

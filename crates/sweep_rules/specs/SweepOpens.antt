@@ -7,7 +7,7 @@ use Rattle.crash_site.specs.CallsMade.{Lost, BrokeAt}
 use Rattle.save_resume.specs.Loading.{BeginsLoad}
 use Rattle.rescue_rules.specs.Setting.{Setting}
 use Rattle.rescue_rules.specs.Laws.{AreThreeNames}
-use Rattle.rescue_rules.specs.Stops.{Behind, files_before}
+use Rattle.rescue_rules.specs.Stops.{Before, files_before}
 use Rattle.rescue_rules.specs.StopsBy.{StopsBy}
 use Rattle.sweep_rules.specs.SweepWork.{sweep_opening}
 
@@ -32,6 +32,6 @@ OpensOrEnds false (Some f) calls = ⊤
 -- law: such a sweep stops safely: it saves nothing, and so the mapfile that is found stands for the map that it stood
 -- for
 abbrev pub EndsEarlySafely : Type 0
-EndsEarlySafely = (b : Behind) (s : Setting) (makes : Bool) (calls : List Entry) → s.has_mapfile ≡ true
+EndsEarlySafely = (b : Before) (s : Setting) (makes : Bool) (calls : List Entry) → s.has_mapfile ≡ true
     → AreThreeNames s → OpensOrEnds makes (files_before b s.outfile) calls → EndsEarly s makes (files_before b) calls
     → StopsBy (λ began shown. []) (λ began shown number map image. map ≡ began) makes b s calls

@@ -14,10 +14,10 @@ use Rattle.rescue_rules.specs.Start.{Stands}
 use Rattle.rescue_rules.specs.Snapshots.{Snapshot}
 use Rattle.rescue_rules.specs.Work.{Gain, IsLoadOf}
 use Rattle.rescue_rules.specs.Deeds.{saves_in}
-use Rattle.rescue_rules.specs.Stops.{Behind, files_before}
+use Rattle.rescue_rules.specs.Stops.{Before, files_before}
 use Rattle.rescue_rules.specs.StopsBy.{StopsBy}
 use Rattle.rescue_rules.specs.Laws.{AreThreeNames, AreTimes}
-use Rattle.sweep_rules.specs.Sweep.{Sweeper, Sweep, Swept, filler, generator, behind_piece, behind_pieces, is_save_due, sweep_end, deeds_of}
+use Rattle.sweep_rules.specs.Sweep.{Sweeper, Sweep, Swept, filler, generator, after_piece, after_pieces, is_save_due, sweep_end, deeds_of}
 use Rattle.sweep_rules.specs.SweepLaws.{AreGiven}
 use Rattle.sweep_rules.specs.SweepWork.{Sweeps, sweep_begins, sweep_opening}
 
@@ -25,7 +25,7 @@ use Rattle.sweep_rules.specs.SweepWork.{Sweeps, sweep_begins, sweep_opening}
 abbrev pub pieces_before : Sweeper → Sweep → List Swept → (number : ℕ) → List Swept
 pieces_before w m [] number = []
 pieces_before w m (e ∷ es) zero = []
-pieces_before w m (e ∷ es) (suc n) = e ∷ pieces_before w (behind_piece w m e) es (if is_save_due m e then n else suc n)
+pieces_before w m (e ∷ es) (suc n) = e ∷ pieces_before w (after_piece w m e) es (if is_save_due m e then n else suc n)
 
 -- each of these pieces holds the buffer's front
 abbrev pub AreFilled : Setting → (buffer : List ℕ) → (pieces : List Swept) → (image : List ℕ) → Type 0
@@ -46,7 +46,7 @@ pub record GeneratePromise (s : Setting) (old : List ℕ) (began map : List Stat
   pub stands : (y : ℕ) → y < length old → slice_get image y ≡ slice_get old y
 
 -- a sweep is the last part of what was done, behind the opening's calls and the mapfile's
-pub record SweepsOver (s : Setting) (w : Sweeper) (b : Behind) (statuses : List Status) (state : Option MapState)
+pub record SweepsOver (s : Setting) (w : Sweeper) (b : Before) (statuses : List Status) (state : Option MapState)
     (g : Gain) : Type 0 where
   pub load : List Call
   pub loads : IsLoadOf s (files_before b) load
@@ -66,11 +66,11 @@ has_swept_out (SaveFailed call earlier) = is_none earlier
 abbrev pub sweep_saves : Sweeper → List Status → Option MapState → Gain → List Swept → RunEnd → List Snapshot
 sweep_saves w statuses state g es end =
     saves_in (deeds_of w (sweep_begins w statuses state g) es)
-    (sweep_end (has_swept_out end) (behind_pieces w (sweep_begins w statuses state g) es))
+    (sweep_end (has_swept_out end) (after_pieces w (sweep_begins w statuses state g) es))
 
 -- law: a filling stops safely
 abbrev pub FillsSafely : Type 0
-FillsSafely = (b : Behind) (s : Setting) (types : TypeSet) (buffer : List ℕ) (g : Gain) (statuses : List Status)
+FillsSafely = (b : Before) (s : Setting) (types : TypeSet) (buffer : List ℕ) (g : Gain) (statuses : List Status)
     (state : Option MapState) → IsSensible s → s.has_mapfile ≡ true → AreThreeNames s → s.end < 2 ^ 63
     → AreTimes g.times → length buffer ≡ s.cluster
     → (o : SweepsOver s (filler s types buffer) b statuses state g)
@@ -82,7 +82,7 @@ FillsSafely = (b : Behind) (s : Setting) (types : TypeSet) (buffer : List ℕ) (
 -- law: a generating over an output that is there, which was given what that holds, stops safely, and changes nothing of
 -- the output
 abbrev pub GeneratesSafely : Type 0
-GeneratesSafely = (b : Behind) (s : Setting) (g : Gain) (statuses : List Status) (state : Option MapState) (file : File)
+GeneratesSafely = (b : Before) (s : Setting) (g : Gain) (statuses : List Status) (state : Option MapState) (file : File)
     → IsSensible s → s.has_mapfile ≡ true → AreThreeNames s → s.end < 2 ^ 63 → AreTimes g.times
     → files_before b s.outfile ≡ Some file
     → (o : SweepsOver s (generator s) b statuses state g)

@@ -20,7 +20,7 @@ use Rattle.rescue_rules.specs.RunCalls.{closing_calls}
 use Rattle.rescue_rules.specs.Events.{began_at}
 use Rattle.rescue_rules.specs.Work.{Gain, end_of}
 use Rattle.rescue_rules.specs.Deeds.{save_of, deed_calls, doing_calls}
-use Rattle.sweep_rules.specs.Sweep.{Sweeper, Sweep, Swept, sweep_over, IsPiece, IsSweep, IsSweptOut, behind_piece, behind_pieces, due_save, sweep_end, deeds_of}
+use Rattle.sweep_rules.specs.Sweep.{Sweeper, Sweep, Swept, sweep_over, IsPiece, IsSweep, IsSweptOut, after_piece, after_pieces, due_save, sweep_end, deeds_of}
 
 -- why a sweep ended: no piece is left; or memory ran out in front of one, where it takes any
 abbrev pub SweepEndsBy : Option Stop → Setting → Sweeper → Sweep → Type 0
@@ -42,22 +42,22 @@ lost_call w p q = unanswered (w.call (record { pos = p; len = q - p; got = []; a
 pub data SweepEnds (s : Setting) (w : Sweeper) (m : Sweep) (es : List Swept) (calls : List Entry) (end : RunEnd)
     : Type 0 where
   -- it ended, and its last calls returned
-  IsSaved : (stop : Option Stop) → SweepEndsBy stop s w (behind_pieces w m es) → end ≡ end_of stop
-      → calls ≡ map Done (doing_calls s (deeds_of w m es) (sweep_end (is_none stop) (behind_pieces w m es)))
+  IsSaved : (stop : Option Stop) → SweepEndsBy stop s w (after_pieces w m es) → end ≡ end_of stop
+      → calls ≡ map Done (doing_calls s (deeds_of w m es) (sweep_end (is_none stop) (after_pieces w m es)))
       → SweepEnds s w m es calls end
   -- it ended, and one of them failed
-  IsUnsaved : (stop : Option Stop) (call : SiteCall) → SweepEndsBy stop s w (behind_pieces w m es) → end ≡ SaveFailed call stop
-      → BrokeAt call (closing_calls s (sweep_end (is_none stop) (behind_pieces w m es)))
+  IsUnsaved : (stop : Option Stop) (call : SiteCall) → SweepEndsBy stop s w (after_pieces w m es) → end ≡ SaveFailed call stop
+      → BrokeAt call (closing_calls s (sweep_end (is_none stop) (after_pieces w m es)))
       (map Done (sweep_calls s w m es)) calls
       → SweepEnds s w m es calls end
   -- the call of the next piece failed, which isn't one that was done
-  IsCut : (p q : ℕ) → IsPiece s w (behind_pieces w m es) p q → end ≡ Stopped (Site (call_name (lost_call w p q)))
+  IsCut : (p q : ℕ) → IsPiece s w (after_pieces w m es) p q → end ≡ Stopped (Site (call_name (lost_call w p q)))
       → BrokeAt (call_name (lost_call w p q)) (lost_call w p q ∷ []) (map Done (sweep_calls s w m es)) calls
       → SweepEnds s w m es calls end
   -- a call of the save that was due behind the last piece failed
   IsBroken : (before : List Swept) (last : Swept) (call : SiteCall) → es ≡ before ++ last ∷ []
       → end ≡ Stopped (Site call)
-      → BrokeAt call (save_of s (due_save w (behind_pieces w m before) last))
+      → BrokeAt call (save_of s (due_save w (after_pieces w m before) last))
       (map Done (sweep_calls s w m before ++ w.call last ∷ [])) calls
       → SweepEnds s w m es calls end
 
@@ -75,17 +75,17 @@ sweep_report s m = record {
 abbrev pub piece_lines : Setting → Sweeper → Sweep → Swept → List (List ℕ)
 piece_lines s w m e =
     if is_line_due m.said w.current (e.after / 1000)
-    then report_text (phase_front (behind_piece w m e).shown) (sweep_report s (behind_piece w m e)) ∷ []
+    then report_text (phase_front (after_piece w m e).shown) (sweep_report s (after_piece w m e)) ∷ []
     else []
 
 abbrev pub pieces_lines : Setting → Sweeper → Sweep → List Swept → List (List ℕ)
 pieces_lines s w m [] = []
-pieces_lines s w m (e ∷ es) = piece_lines s w m e ++ pieces_lines s w (behind_piece w m e) es
+pieces_lines s w m (e ∷ es) = piece_lines s w m e ++ pieces_lines s w (after_piece w m e) es
 
 -- all lines of a sweep: those behind pieces, and the last one
 abbrev pub sweep_lines : Setting → Sweeper → Sweep → List Swept → RunEnd → List (List ℕ)
 sweep_lines s w m es end =
-    pieces_lines s w m es ++ report_text (last_front (is_done end)) (sweep_report s (behind_pieces w m es)) ∷ []
+    pieces_lines s w m es ++ report_text (last_front (is_done end)) (sweep_report s (after_pieces w m es)) ∷ []
 
 -- a sweep over a map, by the readings of the clock
 abbrev pub sweep_begins : Sweeper → List Status → Option MapState → Gain → Sweep

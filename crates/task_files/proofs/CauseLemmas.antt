@@ -47,12 +47,12 @@ map_causes which e s d d' early (inr (inr (inl c))) =
 map_causes which e s d d' early (inr (inr (inr c))) = rw c.0 (record { faults = refl; losses_ = refl; site_faults = c.1 })
 
 -- behind reads of maps that went on no call is counted
-rises_behind : (opens losses calls : ℕ → ℕ) (s s' : SourceState) (d d1 d' : SiteState) → d1.faults ≡ d.faults
+rises_after : (opens losses calls : ℕ → ℕ) (s s' : SourceState) (d d1 d' : SiteState) → d1.faults ≡ d.faults
     → Rises opens losses calls s s' d1 d' → Rises opens losses calls s s' d d'
-rises_behind opens losses calls s s' d d1 d' same r =
+rises_after opens losses calls s s' d d1 d' same r =
     record { faults = r.faults; losses_ = r.losses_; site_faults = r.site_faults ∙ ap calls same }
 
-pub causes_behind : (e : Ending) (s s' : SourceState) (d d1 d' : SiteState) → d1.faults ≡ d.faults → Causes e s s' d1 d' → Causes e s s' d d'
-causes_behind (MapRefused which error) s s' d d1 d' same c = (c.0, c.1, rises_behind _ _ _ s s' d d1 d' same c.2)
-causes_behind (SiteFault call (Some (Site before))) s s' d d1 d' same c = absurd c
-causes_behind e s s' d d1 d' same c = rises_behind _ _ _ s s' d d1 d' same c
+pub causes_after : (e : Ending) (s s' : SourceState) (d d1 d' : SiteState) → d1.faults ≡ d.faults → Causes e s s' d1 d' → Causes e s s' d d'
+causes_after (MapRefused which error) s s' d d1 d' same c = (c.0, c.1, rises_after _ _ _ s s' d d1 d' same c.2)
+causes_after (SiteFault call (Some (Site before))) s s' d d1 d' same c = absurd c
+causes_after e s s' d d1 d' same c = rises_after _ _ _ s s' d d1 d' same c

@@ -23,7 +23,7 @@ use Rattle.copy_passes.specs.Turns.{IsFrom}
 use Rattle.copy_passes.proofs.TurnLemmas.{between as across}
 use Rattle.work_rules.specs.Work.{Opened as IsOpened, Unopened, Deeds, Look, Works}
 use Rattle.work_rules.specs.Parts.{only_calls, WentThrough}
-use Rattle.work_rules.specs.Holds.{behind_entries, behind_open}
+use Rattle.work_rules.specs.Holds.{after_entries, after_open}
 use Rattle.work_rules.proofs.PartLemmas.{stopped_more, through_then, grew_both}
 use Rattle.ddrescue_words.specs.declared.options.Options.{Options}
 use Rattle.ddrescue_words.specs.Command.{Command}
@@ -36,7 +36,7 @@ use Rattle.task_files.specs.Maps.{Found, file_of, found_in, mapfile_of, seen_thr
 use Rattle.task_files.specs.Refusals.{PlacesRefused}
 use Rattle.task_files.specs.Outside.{AreOpens, HasGainedReads}
 use Rattle.task_files.specs.Work.{Rescues, rescue_faults, output_rows, load_rows, opened_rows, RunsOver}
-use Rattle.task_files.specs.Steps.{Gains, DidRun, OpensOutput, Loads, mapfile_by, maps_of, DidBehindMaps}
+use Rattle.task_files.specs.Steps.{Gains, DidRun, OpensOutput, Loads, mapfile_by, maps_of, DidAfterMaps}
 use Rattle.task_files.proofs.ListingLemmas.{Listing, listed_if, own_listing, some_listing}
 use Rattle.mapfile_text.specs.declared.state.MapState.{MapState}
 use Rattle.rescue_rules.specs.Setting.{Setting}
@@ -90,7 +90,7 @@ gains_alone test s0 s1 d0 d1 k x calls same grew = record {
 -- the input couldn't be opened
 pub input_fails : (c : Command) (l : List ℕ) (domain test : Option (List Status)) (heard : Bool) (s0 s1 : SourceState)
     (d : SiteState) (k : ClockState) (x : ConsoleState) → (IsTrue s0.tells → s1.journal ≡ s0.journal)
-    → IsNotOpen c.infile s0 s1 → DidBehindMaps c l domain test heard heard SourceFault (across s0 s1 d d k k x x)
+    → IsNotOpen c.infile s0 s1 → DidAfterMaps c l domain test heard heard SourceFault (across s0 s1 d d k k x x)
 input_fails c l domain test heard s0 s1 d k x same opens =
     let found : Found = found_in c (files_in d) in
     let some : (listed : Option (ℕ × ℕ)) × Listing c found.mapfile listed = some_listing c found.mapfile in
@@ -117,7 +117,7 @@ input_fails c l domain test heard s0 s1 d k x same opens =
 pub output_fails : (c : Command) (l : List ℕ) (domain test : Option (List Status)) (heard : Bool) (end : ℕ) (e : Ending)
     (s0 s1 : SourceState) (d0 d1 : SiteState) (k : ClockState) (x : ConsoleState) → HasInput c.infile end s0 s1
     → OpensOutput {T = Unit {0}} true c.options.forced c.outfile (Err e) d0 d1
-    → DidBehindMaps c l domain test heard heard e (across s0 s1 d0 d1 k k x x)
+    → DidAfterMaps c l domain test heard heard e (across s0 s1 d0 d1 k k x x)
 output_fails c l domain test heard end e s0 s1 d0 d1 k x input o =
     let found : Found = record (found_in c (files_in d0)) { output = o.file } in
     let some : (listed : Option (ℕ × ℕ)) × Listing c found.mapfile listed = some_listing c found.mapfile in
@@ -130,7 +130,7 @@ output_fails c l domain test heard end e s0 s1 d0 d1 k x input o =
       listed = some.0;
       whole = some.1.whole;
       lists = some.1.are;
-      did = behind_open c.infile (only_calls o.calls);
+      did = after_open c.infile (only_calls o.calls);
       opens = input.opened;
       gains = gains_alone test s0 s1 d0 d1 k x o.calls input.same o.gained;
       lines = [];
@@ -216,7 +216,7 @@ own_mapfile makes c n end r d0 d1 d2 h file own td =
 pub load_fails : (c : Command) (l : List ℕ) (domain test : Option (List Status)) (heard : Bool) (n : Option MapNames)
     (end : ℕ) (e : Ending) (s0 s1 : SourceState) (d0 d1 d2 : SiteState) (k : ClockState) (x : ConsoleState)
     → HasInput c.infile end s0 s1 → HasLoaded true c n end (Err e) d0 d1 d2
-    → DidBehindMaps c l domain test heard heard e (across s0 s1 d0 d2 k k x x)
+    → DidAfterMaps c l domain test heard heard e (across s0 s1 d0 d2 k k x x)
 load_fails c l domain test heard n end e s0 s1 d0 d1 d2 k x input h =
     let o : OpensOutput {T = Unit {0}} true c.options.forced c.outfile (Ok tt) d0 d1 = h.output in
     let p : Loads c.mapfile end (Err e) d1 d2 = own_loads true c n end (Err e) d0 d1 d2 h in
@@ -231,7 +231,7 @@ load_fails c l domain test heard n end e s0 s1 d0 d1 d2 k x input h =
       listed = some.0;
       whole = some.1.whole;
       lists = some.1.are;
-      did = behind_open c.infile (behind_entries o.calls (only_calls p.calls));
+      did = after_open c.infile (after_entries o.calls (only_calls p.calls));
       opens = input.opened;
       gains = gains_alone test s0 s1 d0 d2 k x (o.calls ++ p.calls) input.same
           (λ td. p.gained (rw h.keeps.tells td) ∙ ap (λ r. r ++ p.calls) (o.gained td)
@@ -257,14 +257,14 @@ loaded_goes : (c : Command) (found : Found) (end : ℕ) (run : Ending → Deeds 
     → WentThrough (load_rows c.mapfile found.mapfile) load
     → Works rescue_faults (Look (PlacesRefused c.options end) ∷ []) run e d
     → Works rescue_faults (opened_rows c found end) run e
-    (behind_open c.infile (behind_entries output (behind_entries load d)))
+    (after_open c.infile (after_entries output (after_entries load d)))
 loaded_goes c found end run e output load d t u w =
     inr (
       d.opens,
       refl,
       through_then rescue_faults (output_rows true c.options.forced c.outfile found.output)
           (load_rows c.mapfile found.mapfile ++ Look (PlacesRefused c.options end) ∷ []) run e output
-          (behind_entries load d) t
+          (after_entries load d) t
           (through_then rescue_faults (load_rows c.mapfile found.mapfile) (Look (PlacesRefused c.options end) ∷ []) run e
           load d u w),
     )
@@ -273,7 +273,7 @@ loaded_goes c found end run e output load d t u w =
 pub place_fails : (c : Command) (l : List ℕ) (domain test : Option (List Status)) (heard : Bool) (n : Option MapNames)
     (end : ℕ) (start : LoadedMap) (s0 s1 : SourceState) (d0 d1 d2 : SiteState) (k : ClockState) (x : ConsoleState)
     → HasInput c.infile end s0 s1 → HasLoaded true c n end (Ok start) d0 d1 d2 → IsBeyond c.options end
-    → DidBehindMaps c l domain test heard heard (Usage PlaceTooLarge) (across s0 s1 d0 d2 k k x x)
+    → DidAfterMaps c l domain test heard heard (Usage PlaceTooLarge) (across s0 s1 d0 d2 k k x x)
 place_fails c l domain test heard n end start s0 s1 d0 d1 d2 k x input h far =
     let o : OpensOutput {T = Unit {0}} true c.options.forced c.outfile (Ok tt) d0 d1 = h.output in
     let p : Loads c.mapfile end (Ok start) d1 d2 = own_loads true c n end (Ok start) d0 d1 d2 h in
@@ -290,7 +290,7 @@ place_fails c l domain test heard n end start s0 s1 d0 d1 d2 k x input h far =
       listed = listed;
       whole = listing.whole;
       lists = listing.are;
-      did = behind_open c.infile (behind_entries o.calls (behind_entries p.calls (only_calls [])));
+      did = after_open c.infile (after_entries o.calls (after_entries p.calls (only_calls [])));
       opens = input.opened;
       gains = gains_alone test s0 s1 d0 d2 k x (o.calls ++ (p.calls ++ [])) input.same
           (λ td. sym (append-nil d2.calls)
@@ -326,7 +326,7 @@ pub run_goes : (c : Command) (l : List ℕ) (domain test : Option (List Status))
     → DidRun (setting_of c l end
     (maps_of domain test (listed_if c.options.complete_only start.first start.listed_end))) test start.tiles.statuses
     start.state heard heard' e (across s1 s2 d2 d3 k k' x x')
-    → DidBehindMaps c l domain test heard heard' e (across s0 s2 d0 d3 k k' x x')
+    → DidAfterMaps c l domain test heard heard' e (across s0 s2 d0 d3 k k' x x')
 run_goes c l domain test heard heard' n end start e s0 s1 s2 d0 d1 d2 d3 k k' x x' input h told placed stays ran =
     let o : OpensOutput {T = Unit {0}} true c.options.forced c.outfile (Ok tt) d0 d1 = h.output in
     let p : Loads c.mapfile end (Ok start) d1 d2 = own_loads true c n end (Ok start) d0 d1 d2 h in
@@ -343,8 +343,8 @@ run_goes c l domain test heard heard' n end start e s0 s1 s2 d0 d1 d2 d3 k k' x 
       listed = listed;
       whole = listing.whole;
       lists = listing.are;
-      did = behind_open c.infile
-          (behind_entries o.calls (behind_entries p.calls (record { opens = []; gain = ran.gain })));
+      did = after_open c.infile
+          (after_entries o.calls (after_entries p.calls (record { opens = []; gain = ran.gain })));
       opens = (stays.opens ∙ input.opened.0, λ ts. stays.name (rw input.tells ts) ∙ input.opened.1 ts);
       gains = record {
         calls = λ td. ran.gains.calls (rw told td)

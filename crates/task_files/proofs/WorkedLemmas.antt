@@ -20,8 +20,8 @@ use Rattle.rescue_rules.specs.Work.{Gain, IsNothing, AreMapReads}
 use Rattle.copy_passes.specs.Turns.{IsFrom}
 use Rattle.work_rules.specs.Work.{Deeds, Works}
 use Rattle.work_rules.specs.Parts.{only_calls, StoppedIn, WentThrough}
-use Rattle.work_rules.specs.Holds.{behind_entries}
-use Rattle.work_rules.proofs.GainLemmas.{broke_behind}
+use Rattle.work_rules.specs.Holds.{after_entries}
+use Rattle.work_rules.proofs.GainLemmas.{broke_after}
 use Rattle.work_rules.proofs.PartLemmas.{stopped_more, through_then}
 use Rattle.ddrescue_words.specs.Command.{Command}
 use Rattle.save_resume.proofs.NamedLemmas.{map_is_one}
@@ -31,7 +31,7 @@ use Rattle.task_files.specs.declared.ending.Ending.{Ending}
 use Rattle.task_files.specs.Asked.{Maps, setting_of}
 use Rattle.task_files.specs.Maps.{Found, IsNamedMap, file_of, found_in, mapfile_of}
 use Rattle.task_files.specs.Work.{Rescues, rescue_faults, map_rows, opened_rows}
-use Rattle.task_files.specs.Steps.{statuses_in, HasTiles, ReadsMap, IsOnlyMaps, maps_of, DidBehindMaps, Worked}
+use Rattle.task_files.specs.Steps.{statuses_in, HasTiles, ReadsMap, IsOnlyMaps, maps_of, DidAfterMaps, Worked}
 use Rattle.task_files.proofs.OpenedLemmas.{none_seen}
 use Rattle.copy_passes.proofs.TurnLemmas.{between as across}
 use Rattle.rescue_core.proofs.TurnEndLemmas.{says_none}
@@ -83,22 +83,22 @@ reads_stopped which mode (Some name) file e calls (inr (inr (load, rest, loaded,
 reads_stopped which mode (Some name) file e calls (inr (inr (load, rest, loaded, is, inr (passed, h)))) = absurd h
 
 -- behind others
-ends_behind : (front maps : List Call) (calls : List Entry) → EndsReads maps calls
+ends_after : (front maps : List Call) (calls : List Entry) → EndsReads maps calls
     → EndsReads (front ++ maps) (map Returned front ++ calls)
-ends_behind front maps calls (inl all) =
+ends_after front maps calls (inl all) =
     inl (ap (λ (r : List Entry). map Returned front ++ r) (all ∙ sym (append-nil (map Returned maps)))
     ∙ made_both front maps [] ∙ append-nil (map Returned (front ++ maps)))
-ends_behind front maps calls (inr broke) =
+ends_after front maps calls (inr broke) =
     inr (broke_in_both MapRead front maps [] (map Returned front ++ calls)
     (subst (λ (r : List Entry). BrokeAt MapRead maps r (map Returned front ++ calls)) (append-nil (map Returned front))
-    (broke_behind MapRead maps (map Returned front) [] calls broke)))
+    (broke_after MapRead maps (map Returned front) [] calls broke)))
 
-pub reads_behind : (front calls : List Entry) → AllReads front → AreReads calls → AreReads (front ++ calls)
-reads_behind front calls f r = record {
+pub reads_after : (front calls : List Entry) → AllReads front → AreReads calls → AreReads (front ++ calls)
+reads_after front calls f r = record {
   maps = f.maps ++ r.maps;
   are = All-append IsMapRead f.maps r.maps f.are r.are;
   ends = subst (λ (xs : List Entry). EndsReads (f.maps ++ r.maps) (xs ++ calls)) (sym f.all)
-      (ends_behind f.maps r.maps calls r.ends);
+      (ends_after f.maps r.maps calls r.ends);
 }
 
 pub only_maps : (g : Gain) → AreReads g.calls → g.reads ≡ [] → g.times ≡ [] → IsOnlyMaps g
@@ -176,9 +176,9 @@ grew_both : (d0 d1 d2 o l : List Entry) → d1 ≡ d0 ++ o → d2 ≡ d1 ++ l �
 grew_both d0 d1 d2 o l first second = second ∙ ap (λ r. r ++ l) first ∙ append_assoc d0 o l
 
 -- behind a read that went well the files stand
-pub stands_behind : (which : Which) (mode : Mode) (name : Option (List ℕ)) (tiles : Option Tiled) (old new : SiteState)
+pub stands_after : (which : Which) (mode : Mode) (name : Option (List ℕ)) (tiles : Option Tiled) (old new : SiteState)
     → (f : ReadsMap which mode name (Ok tiles) old new) → Stays old new → IsTrue old.tells → files_in new ≡ files_in old
-stands_behind which mode name tiles old new f stays t =
+stands_after which mode name tiles old new f stays t =
     files_stand f.calls old new (reads_through which mode name f.file f.calls f.did.1) (stays.keeps.start t) (f.gained t)
 
 -- or in the second,
@@ -190,12 +190,12 @@ worked_test c line domain heard e source old mid new clock x f stays r =
     let found : Found = record (found_in c (files_in old)) { domain = f.file; test = r.file } in
     let own : IsTrue old.tells → r.file ≡ file_of c.test_map (files_in old) =
     λ t. r.is_own (rw stays.keeps.tells t)
-    ∙ ap (file_of c.test_map) (stands_behind DomainMap (mode_by c) c.domain_map domain old mid f stays t) in
+    ∙ ap (file_of c.test_map) (stands_after DomainMap (mode_by c) c.domain_map domain old mid f stays t) in
     worked_reads c line heard e source old new clock x found (f.calls ++ r.calls)
     (λ t. ap (λ (g : Option File). record (found_in c (files_in old)) { domain = g; test = r.file }) (f.is_own t)
     ∙ ap (λ (g : Option File). record (found_in c (files_in old)) { test = g }) (own t))
     (λ t. grew_both old.calls mid.calls new.calls f.calls r.calls (f.gained t) (r.gained (rw stays.keeps.tells t)))
-    (reads_behind f.calls r.calls (reads_through DomainMap (mode_by c) c.domain_map f.file f.calls f.did.1)
+    (reads_after f.calls r.calls (reads_through DomainMap (mode_by c) c.domain_map f.file f.calls f.did.1)
     (reads_stopped TestMap (mode_by c) c.test_map r.file e r.calls r.did))
     (λ run. through_then rescue_faults (map_rows DomainMap (mode_by c) c.domain_map f.file)
     (map_rows TestMap (mode_by c) c.test_map r.file ++ opened_rows c found (length source.bytes)) run e f.calls
@@ -223,22 +223,22 @@ found_is f g domain test output mapfile =
     ∙ ap (λ (x : Option File). record g { output = x; mapfile = f.mapfile }) output
     ∙ ap (λ (x : Option File). record g { mapfile = x }) mapfile
 
-short_behind : (g : Gain) (end : ℕ) (first second : List Entry) → AllReads first → AllReads second
+short_after : (g : Gain) (end : ℕ) (first second : List Entry) → AllReads first → AllReads second
     → IsNothing g ⊎ (end < 2 ^ 63) → IsOnlyMaps (record g { calls = first ++ (second ++ g.calls) }) ⊎ (end < 2 ^ 63)
-short_behind g end first second f h (inl none) =
+short_after g end first second f h (inl none) =
     inl (only_maps (record g { calls = first ++ (second ++ g.calls) })
-    (reads_behind first (second ++ g.calls) f
-    (reads_behind second g.calls h (record { maps = []; are = All-nil IsMapRead; ends = inl none.calls })))
+    (reads_after first (second ++ g.calls) f
+    (reads_after second g.calls h (record { maps = []; are = All-nil IsMapRead; ends = inl none.calls })))
     none.reads none.times)
-short_behind g end first second f h (inr short) = inr short
+short_after g end first second f h (inr short) = inr short
 
-pub worked_behind : (c : Command) (line : List ℕ) (domain test : Option Tiled) (heard heard' : Bool) (e : Ending)
+pub worked_after : (c : Command) (line : List ℕ) (domain test : Option Tiled) (heard heard' : Bool) (e : Ending)
     (s0 s1 : SourceState) (old mid new last : SiteState) (k k' : ClockState) (x x' : ConsoleState)
     → ReadsMap DomainMap (mode_by c) c.domain_map (Ok domain) old mid → Stays old mid
     → ReadsMap TestMap (mode_by c) c.test_map (Ok test) mid new → Stays mid new
-    → DidBehindMaps c line (statuses_in domain) (statuses_in test) heard heard' e (across s0 s1 new last k k' x x')
+    → DidAfterMaps c line (statuses_in domain) (statuses_in test) heard heard' e (across s0 s1 new last k k' x x')
     → Worked c line heard heard' e (across s0 s1 old last k k' x x')
-worked_behind c line domain test heard heard' e s0 s1 old mid new last k k' x x' f stays h stays' o =
+worked_after c line domain test heard heard' e s0 s1 old mid new last k k' x x' f stays h stays' o =
     let found : Found = record o.found { domain = f.file; test = h.file } in
     let maps : Maps = maps_of (statuses_in domain) (statuses_in test) o.listed in
     let run : Ending → Deeds → Type 0 = Rescues (setting_of c line o.end maps) o.found.mapfile o.lines in
@@ -247,15 +247,15 @@ worked_behind c line domain test heard heard' e s0 s1 old mid new last k k' x x'
     let told : IsTrue old.tells → IsTrue mid.tells = λ t. rw stays.keeps.tells t in
     let told' : IsTrue old.tells → IsTrue new.tells = λ t. rw stays'.keeps.tells (told t) in
     let stand : IsTrue old.tells → files_in mid ≡ files_in old =
-    stands_behind DomainMap (mode_by c) c.domain_map domain old mid f stays in
+    stands_after DomainMap (mode_by c) c.domain_map domain old mid f stays in
     let stand' : IsTrue old.tells → files_in new ≡ files_in old =
-    λ t. stands_behind TestMap (mode_by c) c.test_map test mid new h stays' (told t) ∙ stand t in
+    λ t. stands_after TestMap (mode_by c) c.test_map test mid new h stays' (told t) ∙ stand t in
     record {
       outside = record {
         found = found;
         end = o.end;
         maps = maps;
-        did = behind_entries f.calls (behind_entries h.calls o.did);
+        did = after_entries f.calls (after_entries h.calls o.did);
         lines = o.lines;
       };
       agrees = record {
@@ -284,11 +284,11 @@ worked_behind c line domain test heard heard' e s0 s1 old mid new last k k' x x'
       };
       works = through_then rescue_faults (map_rows DomainMap (mode_by c) c.domain_map f.file)
           (map_rows TestMap (mode_by c) c.test_map h.file ++ opened_rows c found o.end) run e f.calls
-          (behind_entries h.calls o.did) f.did.1
+          (after_entries h.calls o.did) f.did.1
           (through_then rescue_faults (map_rows TestMap (mode_by c) c.test_map h.file) (opened_rows c found o.end) run e
           h.calls o.did h.did.1 o.works);
       silent = o.silent;
       says = o.says;
       fit = o.gains.fit;
-      short = short_behind o.did.gain o.end f.calls h.calls first second o.short;
+      short = short_after o.did.gain o.end f.calls h.calls first second o.short;
     }

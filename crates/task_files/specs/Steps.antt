@@ -49,9 +49,9 @@ ending_of (Ok ended) = ended.ending
 ending_of (Err e) = e
 
 -- whether it is heard then: where it was refused it is heard as before
-abbrev pub heard_behind : (heard : Bool) → Result Ended Ending → Bool
-heard_behind heard (Ok ended) = ended.heard
-heard_behind heard (Err e) = heard
+abbrev pub heard_after : (heard : Bool) → Result Ended Ending → Bool
+heard_after heard (Ok ended) = ended.heard
+heard_after heard (Err e) = heard
 
 -- what a rescue needs before it opens a file: the names of its mapfile and its draft, apart from the outfile's, files of
 -- different names, the heading of a map that wasn't saved yet, and options within their limits
@@ -179,7 +179,7 @@ abbrev pub maps_of : (domain test : Option (List Status)) → (listed : Option (
 maps_of domain test listed = record { domain = domain; test = test; listed = listed }
 
 -- What the work did behind the maps that options name, which have these statuses. Of their files nothing is said here.
-pub record DidBehindMaps (c : Command) (line : List ℕ) (domain test : Option (List Status)) (heard heard' : Bool) (e : Ending)
+pub record DidAfterMaps (c : Command) (line : List ℕ) (domain test : Option (List Status)) (heard heard' : Bool) (e : Ending)
     (o : Across) : Type 0 where
   pub found : Found
   pub output : IsTrue o.site.tells → found.output ≡ files_in o.site c.outfile

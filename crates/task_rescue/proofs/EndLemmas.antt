@@ -45,11 +45,11 @@ use Rattle.rescue_core.specs.Turning.{IsEvent, stepped, move_by, Halted, Starved
 use Rattle.rescue_core.specs.Closing.{LastSave, Saved, Unsaved as UnsavedEnd, Closes, closing_snapshot, end_of as core_end, last_pieces}
 use Rattle.rescue_core.specs.Across.{Across}
 use Rattle.copy_passes.specs.Turns.{IsFrom, IsAlike, moved_to, Went, WentUpTo}
-use Rattle.trim_scrape.specs.Behind.{IsBehind}
+use Rattle.trim_scrape.specs.Past.{IsPast}
 use Rattle.task_rescue.specs.Running.{WentToEnd}
-use Rattle.task_rescue.proofs.LastLemmas.{behind_all}
+use Rattle.task_rescue.proofs.LastLemmas.{past_all}
 use Rattle.task_rescue.proofs.SpokenLemmas.{SaidMore, said_more, save_writes_none, saves_written, says_all, says_front}
-use Rattle.work_rules.proofs.GainLemmas.{MayGain, may_gain, broke_behind}
+use Rattle.work_rules.proofs.GainLemmas.{MayGain, may_gain, broke_after}
 use Rattle.task_rescue.proofs.TurnLemmas.{EventMore, event_more, ReadsMore, read_more}
 
 ends_as : (stop : Option Stop) → core_end stop ≡ end_of stop
@@ -91,37 +91,37 @@ finished_alike s m n alike =
     ap (λ (p : Snapshot). record p { shown = record p.shown { current = Finished; pass = 1 } }) (snapshot_alike s m n alike)
 
 -- the state that a run of events led to, and the one that a run came to
-abbrev behind : RunState → List Event → Machine
-behind r events = state_after (setting_in r) r.machine events
+abbrev led_to : RunState → List Event → Machine
+led_to r events = state_after (setting_in r) r.machine events
 
-pub behind_over : (r r1 : RunState) (events : List Event) (over : Bool) → r1 ≡ moved_to r r1
-    → IsAlike (setting_in r) (behind r events) r1.machine → has_ended (setting_in r1) r1.machine ≡ over
-    → has_ended (setting_in r) (behind r events) ≡ over
-behind_over r r1 events over stands alike is =
-    over_alike r (behind r events) r1.machine over alike
+pub after_over : (r r1 : RunState) (events : List Event) (over : Bool) → r1 ≡ moved_to r r1
+    → IsAlike (setting_in r) (led_to r events) r1.machine → has_ended (setting_in r1) r1.machine ≡ over
+    → has_ended (setting_in r) (led_to r events) ≡ over
+after_over r r1 events over stands alike is =
+    over_alike r (led_to r events) r1.machine over alike
     (subst (λ (t : Setting). has_ended t r1.machine ≡ over) (setting_stands r r1 stands) is)
 
 -- the limit that it met, if it did, or none
-behind_limit : (r r1 : RunState) (events : List Event) (met : Option Limit) → r1 ≡ moved_to r r1
-    → IsAlike (setting_in r) (behind r events) r1.machine → limit_met (setting_in r1) r1.machine ≡ met
-    → limit_met (setting_in r) (behind r events) ≡ met
-behind_limit r r1 events met stands alike is =
-    sym (limit_alike (setting_in r) (behind r events) r1.machine alike)
+after_limit : (r r1 : RunState) (events : List Event) (met : Option Limit) → r1 ≡ moved_to r r1
+    → IsAlike (setting_in r) (led_to r events) r1.machine → limit_met (setting_in r1) r1.machine ≡ met
+    → limit_met (setting_in r) (led_to r events) ≡ met
+after_limit r r1 events met stands alike is =
+    sym (limit_alike (setting_in r) (led_to r events) r1.machine alike)
     ∙ subst (λ (t : Setting). limit_met t r1.machine ≡ met) (setting_stands r r1 stands) is
 
 -- what the end of that one saves is what the run's end saves
-saves_over : (r r1 : RunState) (events : List Event) → IsAlike (setting_in r) (behind r events) r1.machine
-    → has_ended (setting_in r) (behind r events) ≡ true
-    → closing_snapshot None r1 ≡ last_snapshot (setting_in r) (behind r events)
+saves_over : (r r1 : RunState) (events : List Event) → IsAlike (setting_in r) (led_to r events) r1.machine
+    → has_ended (setting_in r) (led_to r events) ≡ true
+    → closing_snapshot None r1 ≡ last_snapshot (setting_in r) (led_to r events)
 saves_over r r1 events alike over =
-    let m : Machine = behind r events in
+    let m : Machine = led_to r events in
     finished_alike (setting_in r) m r1.machine alike ∙ sym (last_over (setting_in r) m true over)
 
-saves_on : (r r1 : RunState) (events : List Event) (stop : Stop) → IsAlike (setting_in r) (behind r events) r1.machine
-    → has_ended (setting_in r) (behind r events) ≡ false
-    → closing_snapshot (Some stop) r1 ≡ last_snapshot (setting_in r) (behind r events)
+saves_on : (r r1 : RunState) (events : List Event) (stop : Stop) → IsAlike (setting_in r) (led_to r events) r1.machine
+    → has_ended (setting_in r) (led_to r events) ≡ false
+    → closing_snapshot (Some stop) r1 ≡ last_snapshot (setting_in r) (led_to r events)
 saves_on r r1 events stop alike on =
-    let m : Machine = behind r events in
+    let m : Machine = led_to r events in
     snapshot_alike (setting_in r) m r1.machine alike ∙ sym (last_over (setting_in r) m false on)
 
 -- what was done up to the end of a run, or where it stopped
@@ -171,8 +171,8 @@ done_went r r1 o site2 console2 w =
 
 -- The save at the end of a run, or a call of it that failed.
 save_ends : (r r1 : RunState) (events : List Event) (stop : Option Stop) (spare : ℕ) (end : RunEnd) (tells : Bool) (old : List Entry)
-    (a b : SiteState) → EndsBy stop (setting_in r) (behind r events) spare → setting_in r1 ≡ setting_in r
-    → closing_snapshot stop r1 ≡ last_snapshot (setting_in r) (behind r events)
+    (a b : SiteState) → EndsBy stop (setting_in r) (led_to r events) spare → setting_in r1 ≡ setting_in r
+    → closing_snapshot stop r1 ≡ last_snapshot (setting_in r) (led_to r events)
     → (IsTrue tells → Made (run_calls (setting_in r) r.machine events) old a.calls) → (IsTrue tells → IsTrue a.tells)
     → LastSave stop r1 end a b → EndsCalls r events spare end tells old b.calls
 save_ends r r1 events stop spare end tells old a b by same text made told (Saved is makes rest) =
@@ -199,7 +199,7 @@ save_ends r r1 events stop spare end tells old a b by same text made told (Unsav
       gained = calls ++ g.more;
       grew = λ t. g.grew t ∙ ap (λ (c : List Entry). c ++ g.more) (made t) ∙ append_assoc old calls g.more;
       ends = IsUnsaved stop call by is
-          (subst Q (append-nil calls) (broke_behind call (end_calls s r.machine events) calls [] g.more g.broke));
+          (subst Q (append-nil calls) (broke_after call (end_calls s r.machine events) calls [] g.more g.broke));
     }
 
 saves_as : (stop : Option Stop) (r q : RunState) (end : RunEnd) (a b : SiteState) → r ≡ q → LastSave stop r end a b → LastSave stop q end a b
@@ -211,7 +211,7 @@ ended_done : (r r1 : RunState) (end : RunEnd) (heard : Bool) (o : Across) (site2
     → Closes None r1 end o.site' site2 → SpeaksOn (last_pieces r1 end) r1.heard heard o.console' console2
     → WentToEnd r end heard (record o { site' = site2; console' = console2 })
 ended_done r r1 end heard o site2 console2 w over same saves last =
-    let over' : has_ended (setting_in r) (behind r w.events) ≡ true = behind_over r r1 w.events true w.stands w.state over in
+    let over' : has_ended (setting_in r) (led_to r w.events) ≡ true = after_over r r1 w.events true w.stands w.state over in
     to_end r end heard w.events [] (record o { site' = site2; console' = console2 })
     (done_went r r1 o site2 console2 w)
     (save_ends r r1 w.events None 0 end o.site.tells o.site.calls o.site' site2 (over', refl) (setting_stands r r1 w.stands)
@@ -221,11 +221,11 @@ ended_done r r1 end heard o site2 console2 w over same saves last =
 
 -- a run that came behind its last phase
 pub run_end : (r r1 : RunState) (end : RunEnd) (heard : Bool) (o : Across) (site2 : SiteState) (console2 : ConsoleState)
-    → Went r r1 o → IsBehind Retrying r1 → o.site'.tells ≡ o.site.tells → Closes None r1 end o.site' site2
+    → Went r r1 o → IsPast Retrying r1 → o.site'.tells ≡ o.site.tells → Closes None r1 end o.site' site2
     → SpeaksOn (last_pieces r1 end) r1.heard heard o.console' console2
     → WentToEnd r end heard (record o { site' = site2; console' = console2 })
-run_end r r1 end heard o site2 console2 w behind same saves last =
-    ended_done r r1 end heard o site2 console2 w (behind_all r1 behind) same saves last
+run_end r r1 end heard o site2 console2 w led_to same saves last =
+    ended_done r r1 end heard o site2 console2 w (past_all r1 led_to) same saves last
 
 -- a run whose last event met a limit
 limited_end : (r r2 : RunState) (limit : Limit) (end : RunEnd) (heard : Bool) (o : Across) (site2 : SiteState)
@@ -235,8 +235,8 @@ limited_end : (r r2 : RunState) (limit : Limit) (end : RunEnd) (heard : Bool) (o
     → WentToEnd r end heard (record o { site' = site2; console' = console2 })
 limited_end r r2 limit end heard o site2 console2 w is same saves last =
     let s : Setting = setting_in r in
-    let m : Machine = behind r w.events in
-    let met : limit_met s m ≡ Some limit = behind_limit r r2 w.events (Some limit) w.stands w.state is in
+    let m : Machine = led_to r w.events in
+    let met : limit_met s m ≡ Some limit = after_limit r r2 w.events (Some limit) w.stands w.state is in
     let on : has_ended s m ≡ false =
     ap (λ (l : Option Limit). no_pass_left (ready s m).passes && is_none l) met ∙ and-false (no_pass_left (ready s m).passes) in
     to_end r end heard w.events [] (record o { site' = site2; console' = console2 })
@@ -287,12 +287,12 @@ stopped_saves : (r r1 r2 : RunState) (stop : Stop) (end : RunEnd) (heard : Bool)
     → WentToEnd r end heard (across_to o source2 site2 clock2 console3)
 stopped_saves r r1 r2 stop end heard p q spare o site2 source2 clock2 console2 console3 w within asks still by told same d
     saves unsaid last =
-    let on : has_ended (setting_in r) (behind r w.events) ≡ false =
-    behind_over r r1 w.events false w.stands w.state (asked_on (setting_in r1) r1.machine p q asks) in
+    let on : has_ended (setting_in r) (led_to r w.events) ≡ false =
+    after_over r r1 w.events false w.stands w.state (asked_on (setting_in r1) r1.machine p q asks) in
     let saves' : LastSave (Some stop) r1 end o.site' site2 = saves_as (Some stop) r2 r1 end o.site' site2 still saves in
     to_end r end heard w.events spare (across_to o source2 site2 clock2 console3) d
     (save_ends r r1 w.events (Some stop) (length spare) end o.site.tells o.site.calls o.site' site2
-    (by (behind r w.events) on (behind_limit r r1 w.events None w.stands w.state within)) (setting_stands r r1 w.stands)
+    (by (led_to r w.events) on (after_limit r r1 w.events None w.stands w.state within)) (setting_stands r r1 w.stands)
     (saves_on r r1 w.events stop w.state on) w.made.made
     (λ tells. rw same tells) saves')
     (says_all r r1 w.events end heard o.console o.console' console3 (setting_stands r r1 w.stands) w.state w.says
@@ -315,7 +315,7 @@ broken_calls r r1 es e call end tells old a b more is made named broke =
       gained = calls ++ g.more;
       grew = λ t. g.grew t ∙ ap (λ (c : List Entry). c ++ g.more) (made t) ∙ append_assoc old calls g.more;
       ends = IsBroken es e call refl refl is
-          (subst M (sym more.calls) (subst Q (append-nil calls) (broke_behind call moves calls [] g.more g.broke)));
+          (subst M (sym more.calls) (subst Q (append-nil calls) (broke_after call moves calls [] g.more g.broke)));
     }
 
 broken_end : (r r1 : RunState) (call : SiteCall) (end : RunEnd) (heard : Bool) (request : Request) (e : Event) (o : Across)

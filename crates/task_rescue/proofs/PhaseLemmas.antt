@@ -10,15 +10,15 @@ use Rattle.copy_passes.specs.Turns.{WentByTurns, PhaseEnds}
 use Rattle.copy_passes.proofs.TurnLemmas.{between, goes_on, objects_stay, went_up_to_on}
 
 -- a phase behind others, by its outcome
-pub ends_behind : (r q : RunState) (result : Result RunState StoppedState) (a b c : SourceState) (d e f : SiteState)
+pub ends_after : (r q : RunState) (result : Result RunState StoppedState) (a b c : SourceState) (d e f : SiteState)
     (k l n : ClockState) (x y z : ConsoleState) → WentByTurns r q (between a b d e k l x y)
     → PhaseEnds q result (between b c e f l n y z) → PhaseEnds r result (between a c d f k n x z)
-ends_behind r q (Ok p) a b c d e f k l n x y z i ends = record {
+ends_after r q (Ok p) a b c d e f k l n x y z i ends = record {
   goes = goes_on r q p a b c d e f k l n x y z i ends.goes;
   halted = tt;
   objects = objects_stay a b c d e f k l n x y z i.objects ends.objects;
 }
-ends_behind r q (Err s) a b c d e f k l n x y z i ends = record {
+ends_after r q (Err s) a b c d e f k l n x y z i ends = record {
   goes = tt;
   halted = went_up_to_on s.stop r q s.run a b c d e f k l n x y z i.went i.objects.source i.objects.site.tells ends.halted;
   objects = objects_stay a b c d e f k l n x y z i.objects ends.objects;

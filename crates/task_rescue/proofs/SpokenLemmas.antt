@@ -60,9 +60,9 @@ marked_front end es e on =
 -- no call of a save is a write to the output
 appends_write_none : (call : SiteCall) (ps : List (List ℕ)) (rest : List Call)
     → (IsNameIn call rest → is_image_write call ≡ false) → IsNameIn call (map draft_append ps ++ rest) → is_image_write call ≡ false
-appends_write_none call [] rest behind h = behind h
-appends_write_none call (p ∷ ps) rest behind (inl is) = ap is_image_write is
-appends_write_none call (p ∷ ps) rest behind (inr h) = appends_write_none call ps rest behind h
+appends_write_none call [] rest later h = later h
+appends_write_none call (p ∷ ps) rest later (inl is) = ap is_image_write is
+appends_write_none call (p ∷ ps) rest later (inr h) = appends_write_none call ps rest later h
 
 publish_writes_none : (call : SiteCall) (n : MapNames) → IsNameIn call (draft_sync ∷ publish_calls n)
     → is_image_write call ≡ false

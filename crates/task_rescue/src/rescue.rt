@@ -7,7 +7,7 @@ ghost use Rattle.block_list.specs.Tiled.{Tiled};
 ghost use Rattle.ddrescue_words.specs.Asking.{told_by};
 ghost use Rattle.task_files.specs.Asked.{setting_of, ArePlacedBy};
 ghost use Rattle.task_files.specs.Answers.{Causes, drafting_left};
-ghost use Rattle.task_files.specs.Steps.{ending_of, heard_behind, maps_read, statuses_in, DidRun, SuitsInput, IsPlanned, DidBehindMaps, Worked};
+ghost use Rattle.task_files.specs.Steps.{ending_of, heard_after, maps_read, statuses_in, DidRun, SuitsInput, IsPlanned, DidAfterMaps, Worked};
 ghost use Rattle.task_rescue.specs.Running.{AreReady};
 
 use crate::ready::{begin, make_ready};
@@ -159,8 +159,8 @@ fn open_and_run<S: Source, D: Site, K: Clock, C: Console>(
 ) -> Result<Ended, Ending>
     requires no_draft { (D.state site.old).is_drafting ≡ false }
     requires planned { IsPlanned plan }
-    ensures opened { DidBehindMaps (told_by plan.entry.command) plan.entry.heading.line (statuses_in domain_map.now)
-        (statuses_in test_map.now) heard (heard_behind heard result) (ending_of result) (record {
+    ensures opened { DidAfterMaps (told_by plan.entry.command) plan.entry.heading.line (statuses_in domain_map.now)
+        (statuses_in test_map.now) heard (heard_after heard result) (ending_of result) (record {
           source = S.state source.old;
           source' = S.state source.new;
           site = D.state site.old;
@@ -203,7 +203,7 @@ pub fn rescue<S: Source, D: Site, K: Clock, C: Console>(
 ) -> Result<Ended, Ending>
     requires no_draft { (D.state site.old).is_drafting ≡ false }
     requires planned { IsPlanned plan }
-    ensures worked { Worked (told_by plan.entry.command) plan.entry.heading.line heard (heard_behind heard result)
+    ensures worked { Worked (told_by plan.entry.command) plan.entry.heading.line heard (heard_after heard result)
         (ending_of result) (record {
           source = S.state source.old;
           source' = S.state source.new;

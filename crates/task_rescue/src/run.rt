@@ -8,7 +8,7 @@ ghost use Rattle.rescue_rules.specs.declared.phase.Phase.TheVariants.{Retrying a
 ghost use Rattle.rescue_core.specs.RunState.{HasPlaces};
 ghost use Rattle.copy_passes.specs.Turns.{PhaseEnds};
 ghost use Rattle.copy_passes.specs.Copying.{MayCopy};
-ghost use Rattle.trim_scrape.specs.Behind.{IsBehind};
+ghost use Rattle.trim_scrape.specs.Past.{IsPast};
 ghost use Rattle.task_files.specs.Answers.{Causes, drafting_left};
 ghost use Rattle.task_files.specs.Work.{answer_of};
 ghost use Rattle.task_rescue.specs.Running.{AreReady, WentToEnd};
@@ -44,7 +44,7 @@ pub fn run_phases<S: Source, D: Site, K: Clock, C: Console>(
       console = C.state console.old;
       console' = C.state console.new;
     }) }
-    ensures behind { IfOk result (λ r. IsBehind LastPhase r) }
+    ensures past { IfOk result (λ r. IsPast LastPhase r) }
 {
     let copied = match run_copying(rescue, source, site, clock, console) {
         Ok(copied) => copied,

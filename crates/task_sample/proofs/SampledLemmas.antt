@@ -31,7 +31,7 @@ use Rattle.rescue_core.specs.RunState.{RunState, setting_in}
 use Rattle.rescue_core.specs.Across.{Across}
 use Rattle.copy_passes.specs.Turns.{Went, WentByTurns}
 use Rattle.copy_passes.proofs.TurnLemmas.{timed_more}
-use Rattle.trim_scrape.specs.Behind.{IsBehind}
+use Rattle.trim_scrape.specs.Past.{IsPast}
 use Rattle.rescue_sample.specs.declared.source.Answered.{Answered}
 use Rattle.rescue_sample.specs.Sample.{sample_bytes, sample_size, AreSampleReads, IsSampleRead}
 use Rattle.rescue_sample.specs.Line.{sample_text, IsStill, IsSampleRun}
@@ -44,20 +44,20 @@ use Rattle.task_files.specs.Asked.{no_maps, ArePlacedBy, names_by}
 use Rattle.task_files.specs.Steps.{maps_read}
 use Rattle.task_rescue.specs.Running.{IsRunOver}
 use Rattle.task_sample.specs.Sampled.{sample_setting, sample_start, IsLineOf, RanSample, RanToEnd, TellsSample}
-use Rattle.task_rescue.proofs.LastLemmas.{behind_all}
-use Rattle.task_rescue.proofs.EndLemmas.{behind_over}
+use Rattle.task_rescue.proofs.LastLemmas.{past_all}
+use Rattle.task_rescue.proofs.EndLemmas.{after_over}
 use Rattle.task_rescue.proofs.RanLemmas.{setting_is}
 
 -- whole turns up to the end of the last phase
-pub ran_to_end : (r r1 : RunState) (o : Across) (counts : Counts) → WentByTurns r r1 o → IsBehind Retrying r1
+pub ran_to_end : (r r1 : RunState) (o : Across) (counts : Counts) → WentByTurns r r1 o → IsPast Retrying r1
     → counts ≡ counts_of (covers r1.domain) r1.machine.map → RanToEnd r counts o.source o.source' o.clock o.clock'
-ran_to_end r r1 o counts goes behind counted =
+ran_to_end r r1 o counts goes past counted =
     let w : Went r r1 o = goes.went in
     let domain : r1.domain ≡ r.domain = ap (λ (q : RunState). q.domain) w.stands in
     record {
       events = w.events;
       run = w.run;
-      over = behind_over r r1 w.events true w.stands w.state (behind_all r1 behind);
+      over = after_over r r1 w.events true w.stands w.state (past_all r1 past);
       read = w.read.told;
       bytes = goes.objects.source.keeps.bytes;
       timed = w.timed;

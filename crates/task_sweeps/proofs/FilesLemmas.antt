@@ -6,7 +6,7 @@ use Rattle.crash_site.specs.Calls.{Entry, Done as Returned}
 use Rattle.crash_site.proofs.LawLemmas.{after-append}
 use Rattle.work_rules.specs.Work.{Deeds, Look, Works}
 use Rattle.work_rules.specs.Parts.{only_calls, StoppedIn, WentThrough}
-use Rattle.work_rules.specs.Holds.{behind_entries}
+use Rattle.work_rules.specs.Holds.{after_entries}
 use Rattle.work_rules.proofs.PartLemmas.{stopped_more, through_then}
 use Rattle.work_rules.proofs.FrontLemmas.{load_reads, reads_stand}
 use Rattle.ddrescue_words.specs.Command.{Command}
@@ -31,7 +31,7 @@ module _ (c : Command) (found : Found) (limit : ℕ) (run : Ending → Deeds →
   output_then : (makes : Bool) (calls : List Entry) (d : Deeds)
       → WentThrough (output_rows makes c.options.forced c.outfile found.output) calls
       → Works rescue_faults (load_rows c.mapfile found.mapfile ++ Look (PlacesRefused c.options limit) ∷ []) run e d
-      → Works rescue_faults (files_rows makes c found limit) run e (behind_entries calls d)
+      → Works rescue_faults (files_rows makes c found limit) run e (after_entries calls d)
   output_then true calls d t w =
       through_then rescue_faults (output_rows true c.options.forced c.outfile found.output)
       (load_rows c.mapfile found.mapfile ++ Look (PlacesRefused c.options limit) ∷ []) run e calls d t w
@@ -54,9 +54,9 @@ module _ (c : Command) (found : Found) (limit : ℕ) (run : Ending → Deeds →
       → WentThrough (output_rows makes c.options.forced c.outfile found.output) calls
       → WentThrough (load_rows c.mapfile found.mapfile) load
       → Works rescue_faults (Look (PlacesRefused c.options limit) ∷ []) run e d
-      → Works rescue_faults (files_rows makes c found limit) run e (behind_entries calls (behind_entries load d))
+      → Works rescue_faults (files_rows makes c found limit) run e (after_entries calls (after_entries load d))
   files_then makes calls load d t u w =
-      output_then makes calls (behind_entries load d) t
+      output_then makes calls (after_entries load d) t
       (through_then rescue_faults (load_rows c.mapfile found.mapfile) (Look (PlacesRefused c.options limit) ∷ []) run e load
       d u w)
 

@@ -46,8 +46,8 @@ use Rattle.task_files.proofs.ListingLemmas.{listed_if}
 use Rattle.task_files.proofs.OpenedLemmas.{HasInput, HasLoaded, IsNotOpen, own_loads, placed_passes}
 use Rattle.task_files.proofs.WorkedLemmas.{mode_by}
 use Rattle.task_sweeps.proofs.FilesLemmas.{output_stops, load_stops, files_then}
-use Rattle.task_sweeps.proofs.SweepOutside.{BehindMap, outside_behind, is_outside, named_then, unread_outside, is_unread, named_stops}
-use Rattle.task_sweeps.proofs.SweepFiles.{HasRead, then_read, own_end, some_end, deeds_with, behind_unopened, behind_input, behind_output, behind_load, behind_files}
+use Rattle.task_sweeps.proofs.SweepOutside.{AfterMap, outside_after, is_outside, named_then, unread_outside, is_unread, named_stops}
+use Rattle.task_sweeps.proofs.SweepFiles.{HasRead, then_read, own_end, some_end, deeds_with, after_unopened, after_input, after_output, after_load, after_files}
 
 -- ---- the pattern
 
@@ -196,15 +196,15 @@ module _ (types : TypeSet) (c : Command) (line : List ℕ) (heard : Bool)
   module _ (domain : Option Tiled) (s0 : SourceState) (old mid : SiteState)
       (f : ReadsMap DomainMap (mode_by c) c.domain_map (Ok domain) old mid) (stays : Stays old mid) where
     -- what was done behind it
-    behind_map : (heard' : Bool) (e : Ending) (s1 : SourceState) (last : SiteState) (k k' : ClockState)
-        (x x' : ConsoleState) (b : BehindMap c (across s0 s1 mid last k k' x x')) (top : ℕ) (buffer : List ℕ)
+    after_map : (heard' : Bool) (e : Ending) (s1 : SourceState) (last : SiteState) (k k' : ClockState)
+        (x x' : ConsoleState) (b : AfterMap c (across s0 s1 mid last k k' x x')) (top : ℕ) (buffer : List ℕ)
         (pieces : List Swept) (end : RunEnd) → IsMapEnd b.mapfile top
         → Works rescue_faults (pattern_rows c b.end)
-        (Patterned types c line (outside_behind c domain s0 s1 old mid last k k' x x' f stays b) top buffer pieces end) e b.did
+        (Patterned types c line (outside_after c domain s0 s1 old mid last k k' x x' f stays b) top buffer pieces end) e b.did
         → (b.did.gain.times ≡ [] → (b.lines ≡ []) × (pieces ≡ [])) → SpeaksOn (out_pieces b.lines) heard heard' x x'
         → WorkedFill types c line heard heard' e (across s0 s1 old last k k' x x')
-    behind_map heard' e s1 last k k' x x' b top buffer pieces end tops works silent says =
-        let w : Outside = outside_behind c domain s0 s1 old mid last k k' x x' f stays b in
+    after_map heard' e s1 last k k' x x' b top buffer pieces end tops works silent says =
+        let w : Outside = outside_after c domain s0 s1 old mid last k k' x x' f stays b in
         record {
           outside = w;
           is_outside = is_outside c domain s0 s1 old mid last k k' x x' f stays b;
@@ -224,9 +224,9 @@ module _ (types : TypeSet) (c : Command) (line : List ℕ) (heard : Bool)
         → (IsTrue s0.tells → s1.journal ≡ s0.journal) → IsNotOpen c.infile s0 s1
         → WorkedFill types c line heard heard SourceFault (across s0 s1 old mid k k x x)
     fill_unopened s1 k x same opens =
-        let b : BehindMap c (across s0 s1 mid mid k k x x) = behind_unopened c s0 s1 mid k x same opens in
+        let b : AfterMap c (across s0 s1 mid mid k k x x) = after_unopened c s0 s1 mid k x same opens in
         let some : (top : ℕ) × IsMapEnd b.mapfile top = some_end b.mapfile in
-        behind_map heard SourceFault s1 mid k k x x b some.0 [] [] Finished some.1
+        after_map heard SourceFault s1 mid k k x x b some.0 [] [] Finished some.1
         (inl (refl, refl, record { calls = refl; reads = refl; times = refl })) (λ none. (refl, refl)) (says_none heard x)
 
     module _ (end : ℕ) (s1 s2 : SourceState) (k : ClockState) (x : ConsoleState) (input : HasInput c.infile end s0 s1)
@@ -236,10 +236,10 @@ module _ (types : TypeSet) (c : Command) (line : List ℕ) (heard : Bool)
           → WorkedFill types c line heard heard e (across s0 s2 old mid k k x x)
       fill_unpatterned e p =
           let i : HasRead c.infile end p.reads s0 s2 = then_read c.infile end p.reads s0 s1 s2 input stands p.gained in
-          let b : BehindMap c (across s0 s2 mid mid k k x x) = behind_input c end p.reads s0 s2 k x i mid in
-          let w : Outside = outside_behind c domain s0 s2 old mid mid k k x x f stays b in
+          let b : AfterMap c (across s0 s2 mid mid k k x x) = after_input c end p.reads s0 s2 k x i mid in
+          let w : Outside = outside_after c domain s0 s2 old mid mid k k x x f stays b in
           let some : (top : ℕ) × IsMapEnd b.mapfile top = some_end b.mapfile in
-          behind_map heard e s2 mid k k x x b some.0 [] [] Finished some.1
+          after_map heard e s2 mid k k x x b some.0 [] [] Finished some.1
           (pattern_stops c end s1 s2 e [] (Onward types c line w some.0 [] [] Finished) p) (λ none. (refl, refl))
           (says_none heard x)
 
@@ -252,12 +252,12 @@ module _ (types : TypeSet) (c : Command) (line : List ℕ) (heard : Bool)
             → OpensOutput {T = Unit {0}} true c.options.forced c.outfile (Err e) mid d1
             → WorkedFill types c line heard heard e (across s0 s2 old d1 k k x x)
         fill_output e d1 o =
-            let b : BehindMap c (across s0 s2 mid d1 k k x x) =
-            behind_output c end p.reads s0 s2 k x has_read true e mid d1 o in
-            let w : Outside = outside_behind c domain s0 s2 old mid d1 k k x x f stays b in
+            let b : AfterMap c (across s0 s2 mid d1 k k x x) =
+            after_output c end p.reads s0 s2 k x has_read true e mid d1 o in
+            let w : Outside = outside_after c domain s0 s2 old mid d1 k k x x f stays b in
             let some : (top : ℕ) × IsMapEnd b.mapfile top = some_end b.mapfile in
             let s : Setting = fill_setting c line some.0 w.maps in
-            behind_map heard e s2 d1 k k x x b some.0 buffer [] Finished some.1
+            after_map heard e s2 d1 k k x x b some.0 buffer [] Finished some.1
             (pattern_then c end s1 s2 e buffer (Onward types c line w some.0 buffer [] Finished) o.calls [] p
             (output_stops c w.found some.0 (ThenSweep s (filler s types buffer) w.found.mapfile [] Finished []) e true o.calls
             o.did))
@@ -268,12 +268,12 @@ module _ (types : TypeSet) (c : Command) (line : List ℕ) (heard : Bool)
             → WorkedFill types c line heard heard e (across s0 s2 old d2 k k x x)
         fill_load n e d1 d2 h =
             let l : Loads c.mapfile 0 (Err e) d1 d2 = own_loads true c n 0 (Err e) mid d1 d2 h in
-            let b : BehindMap c (across s0 s2 mid d2 k k x x) =
-            behind_load c end p.reads s0 s2 k x has_read true n 0 e mid d1 d2 h in
-            let w : Outside = outside_behind c domain s0 s2 old mid d2 k k x x f stays b in
+            let b : AfterMap c (across s0 s2 mid d2 k k x x) =
+            after_load c end p.reads s0 s2 k x has_read true n 0 e mid d1 d2 h in
+            let w : Outside = outside_after c domain s0 s2 old mid d2 k k x x f stays b in
             let some : (top : ℕ) × IsMapEnd b.mapfile top = some_end b.mapfile in
             let s : Setting = fill_setting c line some.0 w.maps in
-            behind_map heard e s2 d2 k k x x b some.0 buffer [] Finished some.1
+            after_map heard e s2 d2 k k x x b some.0 buffer [] Finished some.1
             (pattern_then c end s1 s2 e buffer (Onward types c line w some.0 buffer [] Finished) (h.output.calls ++ l.calls)
             [] p
             (load_stops c w.found some.0 (ThenSweep s (filler s types buffer) w.found.mapfile [] Finished []) e true
@@ -288,12 +288,12 @@ module _ (types : TypeSet) (c : Command) (line : List ℕ) (heard : Bool)
           fill_unplaced far =
               let e : Ending = Usage PlaceTooLarge in
               let l : Loads c.mapfile 0 (Ok start) d1 d2 = own_loads true c n 0 (Ok start) mid d1 d2 h in
-              let b : BehindMap c (across s0 s2 mid d2 k k x x) =
-              behind_files c end p.reads s0 s2 k x has_read true n 0 start mid d1 d2 d2 k x [] [] [] h told
+              let b : AfterMap c (across s0 s2 mid d2 k k x x) =
+              after_files c end p.reads s0 s2 k x has_read true n 0 start mid d1 d2 d2 k x [] [] [] h told
               (λ t. sym (append-nil d2.calls)) (λ t. sym (append-nil k.readings)) (All-nil (λ t. t < 2 ^ 64)) in
-              let w : Outside = outside_behind c domain s0 s2 old mid d2 k k x x f stays b in
+              let w : Outside = outside_after c domain s0 s2 old mid d2 k k x x f stays b in
               let s : Setting = fill_setting c line top w.maps in
-              behind_map heard e s2 d2 k k x x b top buffer [] Finished
+              after_map heard e s2 d2 k k x x b top buffer [] Finished
               (subst (λ (k : ℕ). IsMapEnd l.file k) (sym long)
               (own_end l.file start.tiles.statuses start.state l.did.0.stands))
               (pattern_then c end s1 s2 e buffer (Onward types c line w top buffer [] Finished)
@@ -312,13 +312,13 @@ module _ (types : TypeSet) (c : Command) (line : List ℕ) (heard : Bool)
               → WorkedFill types c line heard heard' e (across s0 s2 old d3 k k' x x')
           fill_goes heard' e d3 k' x' placed ran =
               let l : Loads c.mapfile 0 (Ok start) d1 d2 = own_loads true c n 0 (Ok start) mid d1 d2 h in
-              let b : BehindMap c (across s0 s2 mid d3 k k' x x') =
-              behind_files c end p.reads s0 s2 k x has_read true n 0 start mid d1 d2 d3 k' x' ran.gain.calls ran.gain.times
+              let b : AfterMap c (across s0 s2 mid d3 k k' x x') =
+              after_files c end p.reads s0 s2 k x has_read true n 0 start mid d1 d2 d3 k' x' ran.gain.calls ran.gain.times
               ran.lines h told ran.gains.calls ran.gains.times ran.gains.fit in
-              let w : Outside = outside_behind c domain s0 s2 old mid d3 k k' x x' f stays b in
+              let w : Outside = outside_after c domain s0 s2 old mid d3 k k' x x' f stays b in
               let s : Setting = fill_setting c line top w.maps in
               let v : Sweeper = filler s types buffer in
-              behind_map heard' e s2 d3 k k' x x' b top buffer ran.pieces ran.end
+              after_map heard' e s2 d3 k k' x x' b top buffer ran.pieces ran.end
               (subst (λ (k : ℕ). IsMapEnd l.file k) (sym long)
               (own_end l.file start.tiles.statuses start.state l.did.0.stands))
               (pattern_then c end s1 s2 e buffer (Onward types c line w top buffer ran.pieces ran.end)

@@ -43,8 +43,8 @@ use Rattle.task_files.proofs.ListingLemmas.{listed_if}
 use Rattle.task_files.proofs.OpenedLemmas.{HasInput, HasLoaded, IsNotOpen, only_open, own_loads, placed_passes}
 use Rattle.task_files.proofs.WorkedLemmas.{mode_by}
 use Rattle.task_sweeps.proofs.FilesLemmas.{output_stops, load_stops, files_then, load_stands}
-use Rattle.task_sweeps.proofs.SweepOutside.{BehindMap, outside_behind, is_outside, named_then, short_behind, unread_outside, is_unread, named_stops, only_unread}
-use Rattle.task_sweeps.proofs.SweepFiles.{HasRead, none_read, behind_unopened, behind_output, behind_load, behind_files}
+use Rattle.task_sweeps.proofs.SweepOutside.{AfterMap, outside_after, is_outside, named_then, short_after, unread_outside, is_unread, named_stops, only_unread}
+use Rattle.task_sweeps.proofs.SweepFiles.{HasRead, none_read, after_unopened, after_output, after_load, after_files}
 use Rattle.task_sweeps.proofs.FilledLemmas.{sweep_silent, sweep_unread}
 
 -- ---- the output that was opened
@@ -65,10 +65,10 @@ open_there d out file never own =
     subst (λ (o : Option File). IsOpenFile out file (opened d out false o)) (sym own) (opened_there d out file never own)
 
 -- behind the load the output reads as it did before it was opened
-open_behind : (c : Command) (n : Option MapNames) (limit : ℕ) (start : LoadedMap) (d0 d1 d2 : SiteState)
+open_after : (c : Command) (n : Option MapNames) (limit : ℕ) (start : LoadedMap) (d0 d1 d2 : SiteState)
     → (h : HasLoaded false c n limit (Ok start) d0 d1 d2) → Keeps d1 d2 → IsTrue d0.tells
     → IsOpenFile c.outfile h.output.file (after d2.start d2.calls)
-open_behind c n limit start d0 d1 d2 h keeps t =
+open_after c n limit start d0 d1 d2 h keeps t =
     let l : Loads c.mapfile limit (Ok start) d1 d2 = own_loads false c n limit (Ok start) d0 d1 d2 h in
     let told : IsTrue d1.tells = rw h.keeps.tells t in
     let d : Folder = after d0.start d0.calls in
@@ -121,18 +121,18 @@ module _ (c : Command) (line : List ℕ) (heard : Bool) (different : first_same 
   module _ (domain : Option Tiled) (s0 : SourceState) (old mid : SiteState)
       (f : ReadsMap DomainMap (mode_by c) c.domain_map (Ok domain) old mid) (stays : Stays old mid) where
     -- what was done behind it
-    behind_map : (heard' : Bool) (e : Ending) (s1 : SourceState) (last : SiteState) (k k' : ClockState)
-        (x x' : ConsoleState) (b : BehindMap c (across s0 s1 mid last k k' x x')) (pieces : List Swept) (end : RunEnd)
-        → (let w = outside_behind c domain s0 s1 old mid last k k' x x' f stays b in
+    after_map : (heard' : Bool) (e : Ending) (s1 : SourceState) (last : SiteState) (k k' : ClockState)
+        (x x' : ConsoleState) (b : AfterMap c (across s0 s1 mid last k k' x x')) (pieces : List Swept) (end : RunEnd)
+        → (let w = outside_after c domain s0 s1 old mid last k k' x x' f stays b in
         let s = setting_of c line w.end w.maps in
         Works rescue_faults (Open c.infile ∷ files_rows false c w.found w.end)
         (ThenSweep s (generator s) w.found.mapfile pieces end w.lines) e b.did)
-        → (let w = outside_behind c domain s0 s1 old mid last k k' x x' f stays b in
+        → (let w = outside_after c domain s0 s1 old mid last k k' x x' f stays b in
         IsTrue mid.tells → AreGiven (setting_of c line w.end w.maps) (bytes_of b.output) pieces)
         → (b.did.gain.times ≡ [] → (b.lines ≡ []) × (pieces ≡ [])) → SpeaksOn (out_pieces b.lines) heard heard' x x'
         → WorkedGenerate c line heard heard' e (across s0 s1 old last k k' x x')
-    behind_map heard' e s1 last k k' x x' b pieces end works given silent says =
-        let w : Outside = outside_behind c domain s0 s1 old mid last k k' x x' f stays b in
+    after_map heard' e s1 last k k' x x' b pieces end works given silent says =
+        let w : Outside = outside_after c domain s0 s1 old mid last k k' x x' f stays b in
         let s : Setting = setting_of c line w.end w.maps in
         record {
           outside = w;
@@ -142,7 +142,7 @@ module _ (c : Command) (line : List ℕ) (heard : Bool) (different : first_same 
           works = named_then c domain s0 s1 old mid last k k' x x' f stays b different
               (Open c.infile ∷ files_rows false c w.found w.end)
               (ThenSweep s (generator s) w.found.mapfile pieces end w.lines) e works;
-          short = short_behind c domain s0 s1 old mid last k k' x x' f stays b;
+          short = short_after c domain s0 s1 old mid last k k' x x' f stays b;
           given = λ t. given (rw stays.keeps.tells t);
           silent = silent;
           says = says;
@@ -153,7 +153,7 @@ module _ (c : Command) (line : List ℕ) (heard : Bool) (different : first_same 
         → (IsTrue s0.tells → s1.journal ≡ s0.journal) → IsNotOpen c.infile s0 s1
         → WorkedGenerate c line heard heard SourceFault (across s0 s1 old mid k k x x)
     generate_unopened s1 k x same opens =
-        behind_map heard SourceFault s1 mid k k x x (behind_unopened c s0 s1 mid k x same opens) [] Finished
+        after_map heard SourceFault s1 mid k k x x (after_unopened c s0 s1 mid k x same opens) [] Finished
         (inl (refl, refl, record { calls = refl; reads = refl; times = refl })) (λ t. All-nil _) (λ none. (refl, refl))
         (says_none heard x)
 
@@ -166,10 +166,10 @@ module _ (c : Command) (line : List ℕ) (heard : Bool) (different : first_same 
           → OpensOutput {T = Unit {0}} false c.options.forced c.outfile (Err e) mid d1
           → WorkedGenerate c line heard heard e (across s0 s1 old d1 k k x x)
       generate_output e d1 o =
-          let b : BehindMap c (across s0 s1 mid d1 k k x x) = behind_output c end [] s0 s1 k x has_read false e mid d1 o in
-          let w : Outside = outside_behind c domain s0 s1 old mid d1 k k x x f stays b in
+          let b : AfterMap c (across s0 s1 mid d1 k k x x) = after_output c end [] s0 s1 k x has_read false e mid d1 o in
+          let w : Outside = outside_after c domain s0 s1 old mid d1 k k x x f stays b in
           let s : Setting = setting_of c line end w.maps in
-          behind_map heard e s1 d1 k k x x b [] Finished
+          after_map heard e s1 d1 k k x x b [] Finished
           (inr (
             [],
             refl,
@@ -182,11 +182,11 @@ module _ (c : Command) (line : List ℕ) (heard : Bool) (different : first_same 
           → WorkedGenerate c line heard heard e (across s0 s1 old d2 k k x x)
       generate_load n e d1 d2 h =
           let l : Loads c.mapfile end (Err e) d1 d2 = own_loads false c n end (Err e) mid d1 d2 h in
-          let b : BehindMap c (across s0 s1 mid d2 k k x x) =
-          behind_load c end [] s0 s1 k x has_read false n end e mid d1 d2 h in
-          let w : Outside = outside_behind c domain s0 s1 old mid d2 k k x x f stays b in
+          let b : AfterMap c (across s0 s1 mid d2 k k x x) =
+          after_load c end [] s0 s1 k x has_read false n end e mid d1 d2 h in
+          let w : Outside = outside_after c domain s0 s1 old mid d2 k k x x f stays b in
           let s : Setting = setting_of c line end w.maps in
-          behind_map heard e s1 d2 k k x x b [] Finished
+          after_map heard e s1 d2 k k x x b [] Finished
           (inr (
             [],
             refl,
@@ -203,12 +203,12 @@ module _ (c : Command) (line : List ℕ) (heard : Bool) (different : first_same 
         generate_unplaced far =
             let e : Ending = Usage PlaceTooLarge in
             let l : Loads c.mapfile end (Ok start) d1 d2 = own_loads false c n end (Ok start) mid d1 d2 h in
-            let b : BehindMap c (across s0 s1 mid d2 k k x x) =
-            behind_files c end [] s0 s1 k x has_read false n end start mid d1 d2 d2 k x [] [] [] h told
+            let b : AfterMap c (across s0 s1 mid d2 k k x x) =
+            after_files c end [] s0 s1 k x has_read false n end start mid d1 d2 d2 k x [] [] [] h told
             (λ t. sym (append-nil d2.calls)) (λ t. sym (append-nil k.readings)) (All-nil (λ t. t < 2 ^ 64)) in
-            let w : Outside = outside_behind c domain s0 s1 old mid d2 k k x x f stays b in
+            let w : Outside = outside_after c domain s0 s1 old mid d2 k k x x f stays b in
             let s : Setting = setting_of c line end w.maps in
-            behind_map heard e s1 d2 k k x x b [] Finished
+            after_map heard e s1 d2 k k x x b [] Finished
             (inr (
               [],
               refl,
@@ -228,13 +228,13 @@ module _ (c : Command) (line : List ℕ) (heard : Bool) (different : first_same 
         generate_goes heard' e d3 k' x' named keeps placed did =
             let ran = did.did in
             let l : Loads c.mapfile end (Ok start) d1 d2 = own_loads false c n end (Ok start) mid d1 d2 h in
-            let b : BehindMap c (across s0 s1 mid d3 k k' x x') =
-            behind_files c end [] s0 s1 k x has_read false n end start mid d1 d2 d3 k' x' ran.gain.calls ran.gain.times
+            let b : AfterMap c (across s0 s1 mid d3 k k' x x') =
+            after_files c end [] s0 s1 k x has_read false n end start mid d1 d2 d3 k' x' ran.gain.calls ran.gain.times
             ran.lines h told ran.gains.calls ran.gains.times ran.gains.fit in
-            let w : Outside = outside_behind c domain s0 s1 old mid d3 k k' x x' f stays b in
+            let w : Outside = outside_after c domain s0 s1 old mid d3 k k' x x' f stays b in
             let s : Setting = setting_of c line end w.maps in
             let v : Sweeper = generator s in
-            behind_map heard' e s1 d3 k k' x x' b ran.pieces ran.end
+            after_map heard' e s1 d3 k k' x x' b ran.pieces ran.end
             (inr (
               [],
               refl,
@@ -256,7 +256,7 @@ module _ (c : Command) (line : List ℕ) (heard : Bool) (different : first_same 
             ))
             (λ t.
             let file : IsOpenFile c.outfile h.output.file (after d2.start d2.calls) =
-            open_behind c n end start mid d1 d2 h keeps t in
+            open_after c n end start mid d1 d2 h keeps t in
             let three : AreThreeNames s = three_names c line end w.maps (has_names c.mapfile named) different in
             subst (λ (o : Option File). AreGiven s (bytes_of o) ran.pieces) file.is
             (did.given (rw told t) (output_apart s d2 three file.image)))

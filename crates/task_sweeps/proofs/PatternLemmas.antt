@@ -35,8 +35,8 @@ next_each : (ys xs : List ℕ) (front i j : ℕ) → 0 < front → i < length xs
 next_each ys xs front i j some within h lt =
     elim (cases_lt j i) [
       | inl before ↦ get_or-set_other xs i j (get_or xs (i - front) 0) 0 (ne_of_lt before) ∙ h.each j before
-      | inr behind ↦
-          let here : j ≡ i = omega (arith, lt, behind) in
+      | inr past ↦
+          let here : j ≡ i = omega (arith, lt, past) in
           let less : i - front < i = omega (arith, h.low, some) in
           rw here (get_or-set_same xs i (get_or xs (i - front) 0) 0 within ∙ h.each (i - front) less
           ∙ ap (λ (k : ℕ). get_or ys k 0) (sym (mod-eq-sub-mod h.low)))

@@ -32,7 +32,7 @@ use Rattle.task_files.specs.Steps.{OpensOutput, Loads}
 use Rattle.task_sweeps.specs.Modes.{IsMapEnd}
 use Rattle.task_files.proofs.ListingLemmas.{Listing, OneListing, listed_if, one_listing, own_listing, some_listing}
 use Rattle.task_files.proofs.OpenedLemmas.{HasInput, HasLoaded, IsNotOpen, IsOpen, own_loads, own_mapfile}
-use Rattle.task_sweeps.proofs.SweepOutside.{BehindMap}
+use Rattle.task_sweeps.proofs.SweepOutside.{AfterMap}
 
 -- ---- the input
 
@@ -118,9 +118,9 @@ deeds_with infile calls reads times =
     record { opens = Opened infile ∷ []; gain = record { calls = calls; reads = reads; times = times } }
 
 -- the input couldn't be opened
-abbrev pub behind_unopened : (c : Command) (s0 s1 : SourceState) (d : SiteState) (k : ClockState) (x : ConsoleState)
-    → (IsTrue s0.tells → s1.journal ≡ s0.journal) → IsNotOpen c.infile s0 s1 → BehindMap c (across s0 s1 d d k k x x)
-behind_unopened c s0 s1 d k x same opens =
+abbrev pub after_unopened : (c : Command) (s0 s1 : SourceState) (d : SiteState) (k : ClockState) (x : ConsoleState)
+    → (IsTrue s0.tells → s1.journal ≡ s0.journal) → IsNotOpen c.infile s0 s1 → AfterMap c (across s0 s1 d d k k x x)
+after_unopened c s0 s1 d k x same opens =
     let some : (listed : Option (ℕ × ℕ)) × Listing c (mapfile_of c (files_in d)) listed =
     some_listing c (mapfile_of c (files_in d)) in
     record {
@@ -152,8 +152,8 @@ behind_unopened c s0 s1 d k x same opens =
 module _ (c : Command) (end : ℕ) (reads : List Reading) (s0 s1 : SourceState) (k : ClockState) (x : ConsoleState)
     (input : HasRead c.infile end reads s0 s1) where
   -- the steps ended in front of the output
-  abbrev pub behind_input : (d : SiteState) → BehindMap c (across s0 s1 d d k k x x)
-  behind_input d =
+  abbrev pub after_input : (d : SiteState) → AfterMap c (across s0 s1 d d k k x x)
+  after_input d =
       let some : (listed : Option (ℕ × ℕ)) × Listing c (mapfile_of c (files_in d)) listed =
       some_listing c (mapfile_of c (files_in d)) in
       record {
@@ -178,10 +178,10 @@ module _ (c : Command) (end : ℕ) (reads : List Reading) (s0 s1 : SourceState) 
       }
 
   -- at its open
-  abbrev pub behind_output : (makes : Bool) (e : Ending) (d0 d1 : SiteState)
+  abbrev pub after_output : (makes : Bool) (e : Ending) (d0 d1 : SiteState)
       → OpensOutput {T = Unit {0}} makes c.options.forced c.outfile (Err e) d0 d1
-      → BehindMap c (across s0 s1 d0 d1 k k x x)
-  behind_output makes e d0 d1 o =
+      → AfterMap c (across s0 s1 d0 d1 k k x x)
+  after_output makes e d0 d1 o =
       let some : (listed : Option (ℕ × ℕ)) × Listing c (mapfile_of c (files_in d0)) listed =
       some_listing c (mapfile_of c (files_in d0)) in
       record {
@@ -206,9 +206,9 @@ module _ (c : Command) (end : ℕ) (reads : List Reading) (s0 s1 : SourceState) 
       }
 
   -- at the load of the mapfile
-  abbrev pub behind_load : (makes : Bool) (n : Option MapNames) (limit : ℕ) (e : Ending) (d0 d1 d2 : SiteState)
-      → HasLoaded makes c n limit (Err e) d0 d1 d2 → BehindMap c (across s0 s1 d0 d2 k k x x)
-  behind_load makes n limit e d0 d1 d2 h =
+  abbrev pub after_load : (makes : Bool) (n : Option MapNames) (limit : ℕ) (e : Ending) (d0 d1 d2 : SiteState)
+      → HasLoaded makes c n limit (Err e) d0 d1 d2 → AfterMap c (across s0 s1 d0 d2 k k x x)
+  after_load makes n limit e d0 d1 d2 h =
       let p : Loads c.mapfile limit (Err e) d1 d2 = own_loads makes c n limit (Err e) d0 d1 d2 h in
       let some : (listed : Option (ℕ × ℕ)) × Listing c p.file listed = some_listing c p.file in
       record {
@@ -234,13 +234,13 @@ module _ (c : Command) (end : ℕ) (reads : List Reading) (s0 s1 : SourceState) 
       }
 
   -- behind it, with these calls and readings, and these lines
-  abbrev pub behind_files : (makes : Bool) (n : Option MapNames) (limit : ℕ) (start : LoadedMap) (d0 d1 d2 d3 : SiteState)
+  abbrev pub after_files : (makes : Bool) (n : Option MapNames) (limit : ℕ) (start : LoadedMap) (d0 d1 d2 d3 : SiteState)
       (k' : ClockState) (x' : ConsoleState) (calls : List Entry) (times : List ℕ) (lines : List (List ℕ))
       → HasLoaded makes c n limit (Ok start) d0 d1 d2 → d2.tells ≡ d0.tells
       → (IsTrue d2.tells → d3.calls ≡ d2.calls ++ calls)
       → (IsTrue k'.tells → k'.readings ≡ k.readings ++ times) → AreTimes times
-      → BehindMap c (across s0 s1 d0 d3 k k' x x')
-  behind_files makes n limit start d0 d1 d2 d3 k' x' calls times lines h told grew timed fit =
+      → AfterMap c (across s0 s1 d0 d3 k k' x x')
+  after_files makes n limit start d0 d1 d2 d3 k' x' calls times lines h told grew timed fit =
       let p : Loads c.mapfile limit (Ok start) d1 d2 = own_loads makes c n limit (Ok start) d0 d1 d2 h in
       record {
         output = h.output.file;

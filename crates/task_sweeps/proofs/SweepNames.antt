@@ -12,7 +12,7 @@ use Rattle.rescue_rules.specs.Snapshots.{Snapshot}
 use Rattle.rescue_rules.specs.Lines.{is_done, last_front, report_text}
 use Rattle.rescue_rules.specs.RunCalls.{closing_calls}
 use Rattle.rescue_rules.specs.Deeds.{Deed, save_of, deed_calls, doing_calls}
-use Rattle.sweep_rules.specs.Sweep.{Sweeper, Sweep, Swept, IsPiece, IsSweep, behind_piece, behind_pieces, deeds_of, due_save, sweep_end}
+use Rattle.sweep_rules.specs.Sweep.{Sweeper, Sweep, Swept, IsPiece, IsSweep, after_piece, after_pieces, deeds_of, due_save, sweep_end}
 use Rattle.sweep_rules.specs.SweepWork.{SweepEndsBy, SweepEnds, IsSaved, IsUnsaved, IsCut, IsBroken, sweep_calls, pieces_lines, piece_lines, sweep_lines, sweep_report, lost_call}
 
 module _ (s : Setting) (w : Sweeper) where
@@ -21,7 +21,7 @@ module _ (s : Setting) (w : Sweeper) where
 
   pub sweep_named : (m : Sweep) (es : List Swept) → IsSweep (nameless s) w m es → IsSweep s w m es
   sweep_named m [] h = tt
-  sweep_named m (e ∷ es) h = (piece_named m e.pos (e.pos + e.len) h.0, h.1, sweep_named (behind_piece w m e) es h.2)
+  sweep_named m (e ∷ es) h = (piece_named m e.pos (e.pos + e.len) h.0, h.1, sweep_named (after_piece w m e) es h.2)
 
   save_named : (o : Option Snapshot) → save_of (nameless s) o ≡ save_of s o
   save_named None = refl
@@ -49,18 +49,18 @@ module _ (s : Setting) (w : Sweeper) where
   pub ends_named : (m : Sweep) (es : List Swept) (calls : List Entry) (end : RunEnd)
       → SweepEnds (nameless s) w m es calls end → SweepEnds s w m es calls end
   ends_named m es calls end (IsSaved stop by is all) =
-      IsSaved stop (by_named stop (behind_pieces w m es) by) is
-      (all ∙ ap (map Done) (doing_named (deeds_of w m es) (sweep_end (is_none stop) (behind_pieces w m es))))
+      IsSaved stop (by_named stop (after_pieces w m es) by) is
+      (all ∙ ap (map Done) (doing_named (deeds_of w m es) (sweep_end (is_none stop) (after_pieces w m es))))
   ends_named m es calls end (IsUnsaved stop call by is broke) =
       let P : List Call → Type 0 = λ front.
-      BrokeAt call (closing_calls s (sweep_end (is_none stop) (behind_pieces w m es))) (map Done front) calls in
-      IsUnsaved stop call (by_named stop (behind_pieces w m es) by) is (subst P (deeds_named (deeds_of w m es)) broke)
+      BrokeAt call (closing_calls s (sweep_end (is_none stop) (after_pieces w m es))) (map Done front) calls in
+      IsUnsaved stop call (by_named stop (after_pieces w m es) by) is (subst P (deeds_named (deeds_of w m es)) broke)
   ends_named m es calls end (IsCut p q piece is broke) =
       let P : List Call → Type 0 = λ front.
       BrokeAt (call_name (lost_call w p q)) (lost_call w p q ∷ []) (map Done front) calls in
-      IsCut p q (piece_named (behind_pieces w m es) p q piece) is (subst P (deeds_named (deeds_of w m es)) broke)
+      IsCut p q (piece_named (after_pieces w m es) p q piece) is (subst P (deeds_named (deeds_of w m es)) broke)
   ends_named m es calls end (IsBroken before last call split is broke) =
-      let due : Option Snapshot = due_save w (behind_pieces w m before) last in
+      let due : Option Snapshot = due_save w (after_pieces w m before) last in
       let P : List Call → Type 0 = λ front. BrokeAt call (save_of (nameless s) due) (map Done (front ++ w.call last ∷ [])) calls in
       let Q : List Call → Type 0 = λ save.
       BrokeAt call save (map Done (sweep_calls s w m before ++ w.call last ∷ [])) calls in
@@ -69,12 +69,12 @@ module _ (s : Setting) (w : Sweeper) where
 
   pieces_named : (m : Sweep) (es : List Swept) → pieces_lines (nameless s) w m es ≡ pieces_lines s w m es
   pieces_named m [] = refl
-  pieces_named m (e ∷ es) = ap (λ (lines : List (List ℕ)). piece_lines s w m e ++ lines) (pieces_named (behind_piece w m e) es)
+  pieces_named m (e ∷ es) = ap (λ (lines : List (List ℕ)). piece_lines s w m e ++ lines) (pieces_named (after_piece w m e) es)
 
   pub lines_named : (m : Sweep) (es : List Swept) (end : RunEnd)
       → sweep_lines (nameless s) w m es end ≡ sweep_lines s w m es end
   lines_named m es end =
       ap
       (λ (lines : List (List ℕ)).
-      lines ++ report_text (last_front (is_done end)) (sweep_report s (behind_pieces w m es)) ∷ [])
+      lines ++ report_text (last_front (is_done end)) (sweep_report s (after_pieces w m es)) ∷ [])
       (pieces_named m es)

@@ -15,7 +15,7 @@ use Rattle.copy_passes.specs.Turns.{IsFrom}
 use Rattle.copy_passes.proofs.TurnLemmas.{between as across}
 use Rattle.work_rules.specs.Work.{Deeds, WorkStep, Works}
 use Rattle.work_rules.specs.Parts.{only_calls}
-use Rattle.work_rules.specs.Holds.{behind_entries}
+use Rattle.work_rules.specs.Holds.{after_entries}
 use Rattle.work_rules.proofs.FrontLemmas.{IsMapRead}
 use Rattle.work_rules.proofs.PartLemmas.{stopped_more, through_then}
 use Rattle.ddrescue_words.specs.Command.{Command}
@@ -33,12 +33,12 @@ use Rattle.task_files.proofs.ApartLemmas.{names_pass}
 use Rattle.task_files.proofs.ListingLemmas.{Listing}
 use Rattle.task_sweeps.proofs.SweepMaps.{MapsOfSweep, sweep_maps_for}
 use Rattle.task_files.proofs.OpenedLemmas.{none_seen}
-use Rattle.task_files.proofs.WorkedLemmas.{found_is, mode_by, named_map, only_maps, reads_behind, reads_stopped, reads_through, stands_behind, unasked}
+use Rattle.task_files.proofs.WorkedLemmas.{found_is, mode_by, named_map, only_maps, reads_after, reads_stopped, reads_through, stands_after, unasked}
 
 -- What was there and what was done behind the map that an option names; where the input's length isn't known nothing was
 
 -- done but its open.
-pub record BehindMap (c : Command) (o : Across) : Type 0 where
+pub record AfterMap (c : Command) (o : Across) : Type 0 where
   pub output : Option File
   pub mapfile : Option File
   pub own_output : IsTrue o.site.tells → output ≡ files_in o.site c.outfile
@@ -57,9 +57,9 @@ pub record BehindMap (c : Command) (o : Across) : Type 0 where
 
 module _ (c : Command) (domain : Option Tiled) (s0 s1 : SourceState) (old mid last : SiteState) (k k' : ClockState)
     (x x' : ConsoleState) (f : ReadsMap DomainMap (mode_by c) c.domain_map (Ok domain) old mid) (stays : Stays old mid)
-    (b : BehindMap c (across s0 s1 mid last k k' x x')) where
-  abbrev pub outside_behind : Outside
-  outside_behind = record {
+    (b : AfterMap c (across s0 s1 mid last k k' x x')) where
+  abbrev pub outside_after : Outside
+  outside_after = record {
     found = record {
       domain = f.file;
       test = file_of c.test_map (files_in old);
@@ -68,19 +68,19 @@ module _ (c : Command) (domain : Option Tiled) (s0 s1 : SourceState) (old mid la
     };
     end = b.end;
     maps = maps_of (statuses_in domain) None b.listed;
-    did = behind_entries f.calls b.did;
+    did = after_entries f.calls b.did;
     lines = b.lines;
   }
 
-  pub is_outside : IsOutside c (across s0 s1 old last k k' x x') outside_behind
+  pub is_outside : IsOutside c (across s0 s1 old last k k' x x') outside_after
   is_outside =
       let told : IsTrue old.tells → IsTrue mid.tells = λ t. rw stays.keeps.tells t in
       let stand : IsTrue old.tells → files_in mid ≡ files_in old =
-      stands_behind DomainMap (mode_by c) c.domain_map domain old mid f stays in
+      stands_after DomainMap (mode_by c) c.domain_map domain old mid f stays in
       record {
         agrees = record {
           opens = b.opens;
-          found = λ t. found_is outside_behind.found (found_in c (files_in old)) (f.is_own t) refl
+          found = λ t. found_is outside_after.found (found_in c (files_in old)) (f.is_own t) refl
               (b.own_output (told t) ∙ ap (λ (fs : List ℕ → Option File). fs c.outfile) (stand t))
               (b.own_mapfile (told t) ∙ ap (mapfile_of c) (stand t));
           calls = λ t. b.gains.calls (told t) ∙ ap (λ (r : List Entry). r ++ b.did.gain.calls) (f.gained t)
@@ -105,18 +105,18 @@ module _ (c : Command) (domain : Option Tiled) (s0 s1 : SourceState) (old mid la
   -- the steps in front of what was done behind it
   pub named_then : first_same c.infile c.outfile (names_by c) ≡ None → (more : List (WorkStep Ending))
       (run : Ending → Deeds → Type 0) (e : Ending) → Works rescue_faults more run e b.did
-      → Works rescue_faults (named_rows c outside_behind.found ++ more) run e outside_behind.did
+      → Works rescue_faults (named_rows c outside_after.found ++ more) run e outside_after.did
   named_then different more run e w =
       inr (inr (
         names_pass c different,
         through_then rescue_faults (map_rows DomainMap (mode_by c) c.domain_map f.file) more run e f.calls b.did f.did.1 w,
       ))
 
-  pub short_behind : IsOnlyMaps outside_behind.did.gain ⊎ (b.end < 2 ^ 63)
-  short_behind =
+  pub short_after : IsOnlyMaps outside_after.did.gain ⊎ (b.end < 2 ^ 63)
+  short_after =
       elim b.short [
-        | inl none ↦ inl (only_maps outside_behind.did.gain
-            (reads_behind f.calls b.did.gain.calls (reads_through DomainMap (mode_by c) c.domain_map f.file f.calls f.did.1)
+        | inl none ↦ inl (only_maps outside_after.did.gain
+            (reads_after f.calls b.did.gain.calls (reads_through DomainMap (mode_by c) c.domain_map f.file f.calls f.did.1)
             (record { maps = []; are = All-nil IsMapRead; ends = inl none.calls })) none.reads none.times)
         | inr short ↦ inr short
       ]

@@ -10,15 +10,15 @@ use Rattle.rescue_rules.specs.declared.stop.RunEnd.{RunEnd}
 use Rattle.rescue_rules.specs.declared.stop.RunEnd.TheVariants.{Done as Finished, Stopped, SaveFailed}
 use Rattle.rescue_rules.specs.Setting.{Setting}
 use Rattle.rescue_rules.specs.Work.{end_of}
-use Rattle.sweep_rules.specs.Sweep.{Sweeper, Sweep, Swept, behind_pieces}
+use Rattle.sweep_rules.specs.Sweep.{Sweeper, Sweep, Swept, after_pieces}
 use Rattle.sweep_rules.specs.SweepWork.{SweepEndsBy}
-use Rattle.fill_generate.specs.Sweeping.{EndsSweep, Saved, Unsaved, Cut, Broken, drafting_behind}
+use Rattle.fill_generate.specs.Sweeping.{EndsSweep, Saved, Unsaved, Cut, Broken, drafting_after}
 use Rattle.task_files.specs.declared.ending.Ending.{Ending}
 use Rattle.task_files.specs.declared.ending.Ending.TheVariants.{MapRefused, SiteFault, NoMemory}
 use Rattle.task_files.specs.Answers.{Causes, Rises, drafting_left}
 use Rattle.task_files.specs.Work.{answer_of}
 use Rattle.task_sweeps.specs.SweepSteps.{SweepCause}
-use Rattle.task_files.proofs.CauseLemmas.{causes_behind}
+use Rattle.task_files.proofs.CauseLemmas.{causes_after}
 
 -- its last calls returned, or one of them failed
 saved_cause : (s : Setting) (w : Sweeper) (m : Sweep) (stop : Option Stop) (source : SourceState) (site site' : SiteState)
@@ -44,10 +44,10 @@ pub sweep_cause : (s : Setting) (w : Sweeper) (m : Sweep) (es : List Swept) (end
     → EndsSweep s w m es end site site' → e ≡ answer_of end → SweepCause e site site'
 sweep_cause s w m es end site site' e (Saved stop by is makes) answered = λ source.
     subst (λ (v : Ending). Causes v source source site site') (ap answer_of (sym is) ∙ sym answered)
-    (saved_cause s w (behind_pieces w m es) stop source site site' by makes.faults)
+    (saved_cause s w (after_pieces w m es) stop source site site' by makes.faults)
 sweep_cause s w m es end site site' e (Unsaved stop call by is breaks) answered = λ source.
     subst (λ (v : Ending). Causes v source source site site') (ap answer_of (sym is) ∙ sym answered)
-    (unsaved_cause s w (behind_pieces w m es) stop call source site site' by breaks.rose)
+    (unsaved_cause s w (after_pieces w m es) stop call source site site' by breaks.rose)
 sweep_cause s w m es end site site' e (Cut p q piece is breaks) answered = λ source.
     subst (λ (v : Ending). Causes v source source site site') (ap answer_of (sym is) ∙ sym answered)
     (record { faults = refl; losses_ = refl; site_faults = breaks.rose })
@@ -56,9 +56,9 @@ sweep_cause s w m es end site site' e (Broken before last call split is breaks) 
     (record { faults = refl; losses_ = refl; site_faults = breaks.rose })
 
 -- behind steps that counted nothing,
-input_behind : (opens losses calls : ℕ → ℕ) (s s' : SourceState) (d d' : SiteState) → s'.faults ≡ s.faults
+input_after : (opens losses calls : ℕ → ℕ) (s s' : SourceState) (d d' : SiteState) → s'.faults ≡ s.faults
     → s'.losses ≡ s.losses → Rises opens losses calls s' s' d d' → Rises opens losses calls s s' d d'
-input_behind opens losses calls s s' d d' faults lost r = record {
+input_after opens losses calls s s' d d' faults lost r = record {
   faults = r.faults ∙ ap opens faults;
   losses_ = r.losses_ ∙ ap losses lost;
   site_faults = r.site_faults;
@@ -67,21 +67,21 @@ input_behind opens losses calls s s' d d' faults lost r = record {
 causes_input : (e : Ending) (s s' : SourceState) (d d' : SiteState) → s'.faults ≡ s.faults → s'.losses ≡ s.losses
     → Causes e s' s' d d' → Causes e s s' d d'
 causes_input (MapRefused which error) s s' d d' faults lost c =
-    (c.0, c.1, input_behind _ _ _ s s' d d' faults lost c.2)
+    (c.0, c.1, input_after _ _ _ s s' d d' faults lost c.2)
 causes_input (SiteFault call (Some (Site before))) s s' d d' faults lost c = absurd c
-causes_input e s s' d d' faults lost c = input_behind _ _ _ s s' d d' faults lost c
+causes_input e s s' d d' faults lost c = input_after _ _ _ s s' d d' faults lost c
 
-pub cause_behind : (e : Ending) (s s' : SourceState) (d d1 d' : SiteState) → s'.faults ≡ s.faults → s'.losses ≡ s.losses
+pub cause_after : (e : Ending) (s s' : SourceState) (d d1 d' : SiteState) → s'.faults ≡ s.faults → s'.losses ≡ s.losses
     → d1.faults ≡ d.faults → SweepCause e d1 d' → Causes e s s' d d'
-cause_behind e s s' d d1 d' faults lost same cause =
-    causes_input e s s' d d' faults lost (causes_behind e s' s' d d1 d' same (cause s'))
+cause_after e s s' d d1 d' faults lost same cause =
+    causes_input e s s' d d' faults lost (causes_after e s' s' d d1 d' same (cause s'))
 
 -- also where memory ran out before it began,
 pub none_cause : (site : SiteState) → SweepCause NoMemory site site
 none_cause site = λ source. record { faults = refl; losses_ = refl; site_faults = refl }
 
 -- and leaves a draft begun where its answer says so.
-pub draft_as : (end : RunEnd) → drafting_behind end ≡ drafting_left (answer_of end)
+pub draft_as : (end : RunEnd) → drafting_after end ≡ drafting_left (answer_of end)
 draft_as Finished = refl
 draft_as (Stopped InputLost) = refl
 draft_as (Stopped (Site call)) = refl

@@ -29,13 +29,13 @@ use Rattle.rescue_core.specs.declared.settings.Settings.{Settings}
 use Rattle.rescue_core.specs.RunState.{names_in, Suits}
 use Rattle.rescue_core.proofs.TurnEndLemmas.{says_none}
 use Rattle.copy_passes.proofs.TurnLemmas.{says_more, timed_more}
-use Rattle.sweep_rules.specs.Sweep.{Sweeper, Sweep, Swept, filler, generator, sweep_over, behind_pieces, due_save, sweep_end, deeds_of}
+use Rattle.sweep_rules.specs.Sweep.{Sweeper, Sweep, Swept, filler, generator, sweep_over, after_pieces, due_save, sweep_end, deeds_of}
 use Rattle.sweep_rules.specs.SweepWork.{SweepEnds, IsSaved, IsUnsaved, IsCut, IsBroken, sweep_calls, sweep_lines, lost_call}
 use Rattle.fill_generate.specs.declared.job.Job.{Job}
 use Rattle.fill_generate.specs.SweepState.{setting_for}
-use Rattle.fill_generate.specs.Sweeping.{Around, BreaksBehind, EndsSweep, Saved, Unsaved, Cut, Broken, SweepTold, LookupTold, times_behind}
+use Rattle.fill_generate.specs.Sweeping.{Around, BreaksAfter, EndsSweep, Saved, Unsaved, Cut, Broken, SweepTold, LookupTold, times_after}
 use Rattle.fill_generate.proofs.TellLemmas.{between}
-use Rattle.work_rules.proofs.GainLemmas.{MayGain, may_gain, broke_behind}
+use Rattle.work_rules.proofs.GainLemmas.{MayGain, may_gain, broke_after}
 use Rattle.ddrescue_words.specs.declared.options.Options.{Options}
 use Rattle.ddrescue_words.specs.Command.{Command}
 use Rattle.task_sweeps.specs.declared.sweep.SweepReady.{SweepReady}
@@ -55,7 +55,7 @@ record BreaksCalls (at : SiteCall) (made calls : List Call) (site site' : SiteSt
   grew : IsTrue site.tells → site'.calls ≡ site.calls ++ all
   broke : BrokeAt at calls (map Returned made) all
 
-breaks_calls : (at : SiteCall) (made calls : List Call) (site site' : SiteState) → BreaksBehind at made calls site site'
+breaks_calls : (at : SiteCall) (made calls : List Call) (site site' : SiteState) → BreaksAfter at made calls site site'
     → BreaksCalls at made calls site site'
 breaks_calls at made calls site site' b =
     let front : List Entry = map Returned made in
@@ -65,7 +65,7 @@ breaks_calls at made calls site site' b =
     record {
       all = front ++ g.more;
       grew = λ t. g.grew t ∙ append_assoc site.calls front g.more;
-      broke = subst Q (append-nil front) (broke_behind at calls front [] g.more g.broke);
+      broke = subst Q (append-nil front) (broke_after at calls front [] g.more g.broke);
     }
 
 record EndsCalls (s : Setting) (w : Sweeper) (m : Sweep) (es : List Swept) (end : RunEnd) (site site' : SiteState)
@@ -77,13 +77,13 @@ record EndsCalls (s : Setting) (w : Sweeper) (m : Sweep) (es : List Swept) (end 
 ends_calls : (s : Setting) (w : Sweeper) (m : Sweep) (es : List Swept) (end : RunEnd) (site site' : SiteState)
     → EndsSweep s w m es end site site' → EndsCalls s w m es end site site'
 ends_calls s w m es end site site' (Saved stop by is makes) = record {
-  calls = map Returned (doing_calls s (deeds_of w m es) (sweep_end (is_none stop) (behind_pieces w m es)));
+  calls = map Returned (doing_calls s (deeds_of w m es) (sweep_end (is_none stop) (after_pieces w m es)));
   grew = makes.made;
   ends = IsSaved stop by is refl;
 }
 ends_calls s w m es end site site' (Unsaved stop call by is breaks) =
     let made : List Call = sweep_calls s w m es in
-    let calls : List Call = closing_calls s (sweep_end (is_none stop) (behind_pieces w m es)) in
+    let calls : List Call = closing_calls s (sweep_end (is_none stop) (after_pieces w m es)) in
     let b : BreaksCalls call made calls site site' = breaks_calls call made calls site site' breaks in
     record { calls = b.all; grew = b.grew; ends = IsUnsaved stop call by is b.broke }
 ends_calls s w m es end site site' (Cut p q piece is breaks) =
@@ -94,7 +94,7 @@ ends_calls s w m es end site site' (Cut p q piece is breaks) =
     record { calls = b.all; grew = b.grew; ends = IsCut p q piece is b.broke }
 ends_calls s w m es end site site' (Broken before last call split is breaks) =
     let made : List Call = sweep_calls s w m before ++ w.call last ∷ [] in
-    let calls : List Call = save_of s (due_save w (behind_pieces w m before) last) in
+    let calls : List Call = save_of s (due_save w (after_pieces w m before) last) in
     let b : BreaksCalls call made calls site site' = breaks_calls call made calls site site' breaks in
     record { calls = b.all; grew = b.grew; ends = IsBroken before last call split is b.broke }
 
@@ -159,15 +159,15 @@ module _ (s : Setting) (w : Sweeper) (statuses : List Status) (state : Option Ma
       let m : Sweep = sweep_over w statuses state moment in
       let c : EndsCalls (nameless s) w m t.events end o.site o.site' =
       ends_calls (nameless s) w m t.events end o.site o.site' t.ends in
-      let all : ReadsClock (moment ∷ times_behind t.events) before o.clock' =
-      timed_more (moment ∷ []) (times_behind t.events) before o.clock o.clock' first t.timed in
+      let all : ReadsClock (moment ∷ times_after t.events) before o.clock' =
+      timed_more (moment ∷ []) (times_after t.events) before o.clock o.clock' first t.timed in
       record {
-        gain = record { calls = c.calls; reads = []; times = moment ∷ times_behind t.events };
+        gain = record { calls = c.calls; reads = []; times = moment ∷ times_after t.events };
         gains = record {
           calls = c.grew;
           reads = refl;
           times = λ tell. all.told tell;
-          fit = All-cons (λ n. n < 2 ^ 64) moment (times_behind t.events) small t.fit;
+          fit = All-cons (λ n. n < 2 ^ 64) moment (times_after t.events) small t.fit;
         };
         pieces = t.events;
         end = end;

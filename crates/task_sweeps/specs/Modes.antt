@@ -10,7 +10,7 @@ use Rattle.rescue_rules.specs.Setting.{Setting}
 use Rattle.rescue_rules.specs.Start.{Stands}
 use Rattle.rescue_rules.specs.Lines.{opening_lines}
 use Rattle.rescue_rules.specs.Work.{Gain}
-use Rattle.rescue_rules.specs.Stops.{Behind, files_before}
+use Rattle.rescue_rules.specs.Stops.{Before, files_before}
 use Rattle.rescue_rules.specs.StopsBy.{StopsBy}
 use Rattle.sweep_rules.specs.Sweep.{Sweeper, Swept, filler, generator}
 use Rattle.sweep_rules.specs.SweepWork.{Sweeps, sweep_begins, sweep_lines}
@@ -103,7 +103,7 @@ Generates c found input_end s pieces end lines =
 
 -- At whatever moment a filling is stopped, the mapfile found is the one it began with or one that it saved, with the
 -- map that it began with, and the output holds the buffer's front in each piece that came before that save.
-abbrev pub FillStops : Behind → Setting → (types : TypeSet) → (buffer : List ℕ) → List Swept → RunEnd → Gain → Type 0
+abbrev pub FillStops : Before → Setting → (types : TypeSet) → (buffer : List ℕ) → List Swept → RunEnd → Gain → Type 0
 FillStops b s types buffer pieces end g =
     let w = filler s types buffer in
     StopsBy (λ began shown. sweep_saves w began shown g pieces end)
@@ -112,7 +112,7 @@ FillStops b s types buffer pieces end g =
 
 -- At whatever moment a generating is stopped, what the mapfile found calls finished was so when it began, or has a byte
 -- in the output, whose bytes stand.
-abbrev pub GenerateStops : Behind → Setting → List Swept → RunEnd → Gain → Type 0
+abbrev pub GenerateStops : Before → Setting → List Swept → RunEnd → Gain → Type 0
 GenerateStops b s pieces end g =
     StopsBy (λ began shown. sweep_saves (generator s) began shown g pieces end)
     (λ began shown number map image. GeneratePromise s (bytes_of (files_before b s.outfile)) began map image)

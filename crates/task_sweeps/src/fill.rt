@@ -9,7 +9,7 @@ ghost use Rattle.ddrescue_words.specs.Asking.{told_by};
 ghost use Rattle.sweep_rules.specs.Sweep.{filler};
 ghost use Rattle.task_files.specs.Asked.{ArePlacedBy};
 ghost use Rattle.task_files.specs.Answers.{Causes, drafting_left};
-ghost use Rattle.task_files.specs.Steps.{ending_of, heard_behind, maps_read, SuitsInput, IsPlanned};
+ghost use Rattle.task_files.specs.Steps.{ending_of, heard_after, maps_read, SuitsInput, IsPlanned};
 ghost use Rattle.task_sweeps.specs.Modes.{fill_setting};
 ghost use Rattle.task_sweeps.specs.SweepSteps.{DidSweep, SweepCause, WorkedFill};
 
@@ -108,7 +108,7 @@ pub fn fill<S: Source, D: Site, K: Clock, C: Console>(
     requires planned { IsPlanned plan }
     requires named { is_some (told_by plan.command).mapfile ≡ true }
     ensures worked { WorkedFill types (told_by plan.entry.command) plan.entry.heading.line heard
-        (heard_behind heard result) (ending_of result) (record {
+        (heard_after heard result) (ending_of result) (record {
           source = S.state source.old;
           source' = S.state source.new;
           site = D.state site.old;

@@ -7,7 +7,7 @@ ghost use Rattle.rescue_console.specs.ClockState.{Keeps as ClockKeeps};
 ghost use Rattle.ddrescue_words.specs.Asking.{told_by};
 ghost use Rattle.task_files.specs.Asked.{ArePlacedBy, setting_of};
 ghost use Rattle.task_files.specs.Answers.{Causes, drafting_left};
-ghost use Rattle.task_files.specs.Steps.{ending_of, heard_behind, maps_read, SuitsInput, IsPlanned};
+ghost use Rattle.task_files.specs.Steps.{ending_of, heard_after, maps_read, SuitsInput, IsPlanned};
 ghost use Rattle.task_sweeps.specs.SweepSteps.{DidGenerate, SweepCause, WorkedGenerate};
 
 use crate::sweep::{make_job, make_sweep};
@@ -102,7 +102,7 @@ pub fn generate<S: Source, D: Site, K: Clock, C: Console>(
     requires planned { IsPlanned plan }
     requires named { is_some (told_by plan.command).mapfile ≡ true }
     ensures worked { WorkedGenerate (told_by plan.entry.command) plan.entry.heading.line heard
-        (heard_behind heard result) (ending_of result) (record {
+        (heard_after heard result) (ending_of result) (record {
           source = S.state source.old;
           source' = S.state source.new;
           site = D.state site.old;

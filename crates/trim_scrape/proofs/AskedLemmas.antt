@@ -17,7 +17,7 @@ use Rattle.rescue_rules.proofs.GivenLemmas.{covers_here}
 use Rattle.rescue_rules.proofs.MarkLemmas.{marked_inside}
 use Rattle.rescue_rules.proofs.OverLemmas.{good_reaches}
 use Rattle.rescue_rules.proofs.StepLemmas.{asks_back, move_steps}
-use Rattle.rescue_core.proofs.ChangeLemmas.{scraped_behind}
+use Rattle.rescue_core.proofs.ChangeLemmas.{scraped_past}
 
 -- An event of a request of a phase behind copying, and what it does.
 pub record StepsLater (s : Setting) (m : Machine) (e : Event) : Type 0 where
@@ -51,7 +51,7 @@ rest_marked s m e x l before from to =
     let size_rest : length rest ≡ length whole = length-marked whole (r.pos + k) (r.asked - k) t there in
     cond_both (is_failed r) (scraped m.mode r.pos rest) whole (λ (map : List Status). Has map BadSector x)
     (λ failed.
-    scraped_behind m.mode r.pos rest x (omega (arith, size, size_rest, l.steps.there)) l.back (omega (arith, from))
+    scraped_past m.mode r.pos rest x (omega (arith, size, size_rest, l.steps.there)) l.back (omega (arith, from))
     ∙ marked_inside whole (r.pos + k) (r.asked - k) t x there from (omega (arith, to, l.steps.kept_asked))
     ∙ ap (λ (u : Status). Some u) (rest_bad s m (r.asked - k) l.later))
     (λ good. let far : r.pos + r.asked ≤ x = good_reaches m r s.sector x good before from in absurd (omega (arith, far, to)))
@@ -67,8 +67,8 @@ unasked s m e u x l before unfinished well has =
     (λ (from : r.pos ≤ x). ⊎_elim
     (λ (here : x < r.pos + k).
     absurd (unfinished (same_Some Finished u (sym (l.steps.finishes x (covers_here s.sector r x from here)) ∙ has))))
-    (λ (behind : r.pos + k ≤ x). ⊎_elim
-    (λ (to : x < r.pos + r.asked). absurd (well (same_Some BadSector u (sym (rest_marked s m e x l before behind to) ∙ has))))
+    (λ (past : r.pos + k ≤ x). ⊎_elim
+    (λ (to : x < r.pos + r.asked). absurd (well (same_Some BadSector u (sym (rest_marked s m e x l before past to) ∙ has))))
     (λ (above : r.pos + r.asked ≤ x). inr above)
     (cases_lt x (r.pos + r.asked)))
     (cases_lt x (r.pos + k)))

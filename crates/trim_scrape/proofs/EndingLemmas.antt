@@ -10,7 +10,7 @@ use Rattle.mapfile_text.specs.declared.state.MapState.{MapState}
 use Rattle.faulty_source.specs.Ends.{is_before}
 use Rattle.rescue_rules.specs.declared.phase.Phase.TheVariants.{Copying, Trimming, Scraping, Retrying}
 use Rattle.rescue_rules.specs.Setting.{Setting, IsSensible}
-use Rattle.rescue_rules.specs.Passes.{Pass, taken, is_up, numbered, copying_passes, passes_behind, passes_from}
+use Rattle.rescue_rules.specs.Passes.{Pass, taken, is_up, numbered, copying_passes, passes_after, passes_from}
 use Rattle.rescue_rules.specs.Machine.{Machine, pass_of, start_of, is_live}
 use Rattle.rescue_rules.specs.Step.{Event, limit_met}
 use Rattle.rescue_rules.specs.Moves.{ready, no_pass_left, moves, state_after, has_ended, IsRun}
@@ -21,7 +21,7 @@ use Rattle.trim_scrape.specs.Endings.{IsLeftWell, Rescued, Untrimmed, Unscraped,
 use Rattle.trim_scrape.specs.Laws.{RunEndsWell}
 use Rattle.trim_scrape.proofs.CursorLemmas.{LiesAhead, IsLeft, JumpsNever, start_by}
 use Rattle.trim_scrape.proofs.FailLemmas.{Fails, owed_fails}
-use Rattle.trim_scrape.proofs.OrderLemmas.{ordered_from, behind_contains, has_last, has_trimming, has_scraping, has_retrying}
+use Rattle.trim_scrape.proofs.OrderLemmas.{ordered_from, after_contains, has_last, has_trimming, has_scraping, has_retrying}
 use Rattle.trim_scrape.proofs.OwedLemmas.{Owes, Now, Later}
 use Rattle.trim_scrape.proofs.RunLemmas.{MayRun}
 
@@ -53,17 +53,17 @@ owes_last s map from shown time x within =
     ⊎_elim (λ (less : first_pass from < 5). Later (has_last s (first_pass from) less))
     (λ (ge : 5 ≤ first_pass from).
     let last : first_pass from ≡ 5 = omega (arith, few, ge) in
-    let are : m.passes ≡ numbered Copying 5 ∷ passes_behind s Copying = ap (passes_from s Copying) last in
+    let are : m.passes ≡ numbered Copying 5 ∷ passes_after s Copying = ap (passes_from s Copying) last in
     let here : pass_of m ≡ numbered Copying 5 =
     ap (λ (ps : List Pass). slice_index_or ps 0 (numbered Copying 1)) are in
-    Now (passes_behind s Copying) are (left_at_start s m (numbered Copying 5) x here (last_cursor s from map last)
+    Now (passes_after s Copying) are (left_at_start s m (numbered Copying 5) x here (last_cursor s from map last)
     within refl))
     (cases_lt (first_pass from) 5)
 
 -- and the passes behind copying
-owes_behind : (s : Setting) (map : List Status) (from : Option MapState) (shown : MapState) (time x : ℕ) (p : Pass)
-    → Contains (passes_behind s Copying) p → Owes s (machine_of s map from shown time) p x
-owes_behind s map from shown time x p has = Later (behind_contains s (first_pass from) p (first_few from) has)
+owes_after : (s : Setting) (map : List Status) (from : Option MapState) (shown : MapState) (time x : ℕ) (p : Pass)
+    → Contains (passes_after s Copying) p → Owes s (machine_of s map from shown time) p x
+owes_after s map from shown time x p has = Later (after_contains s (first_pass from) p (first_few from) has)
 
 -- a run that went on to its end
 record Ended (s : Setting) (m : Machine) (es : List Event) : Type 0 where
@@ -113,7 +113,7 @@ left_well s map from shown time es x NonTrimmed e inside within has =
     (λ (on : s.trims ≡ true).
     let f : Fails p (moves s (machine_of s map from shown time) es) x =
     fails s (machine_of s map from shown time) es p x e (record { last = λ is. absurd (cc) }) inside within has
-    (owes_behind s map from shown time x p (has_trimming s on)) in
+    (owes_after s map from shown time x p (has_trimming s on)) in
     let never : Trimming ≡ Retrying = f.retries in
     absurd (cc))
     (λ (off : s.trims ≡ false). Untrimmed off has)
@@ -124,7 +124,7 @@ left_well s map from shown time es x NonScraped e inside within has =
     (λ (on : s.scrapes ≡ true).
     let f : Fails p (moves s (machine_of s map from shown time) es) x =
     fails s (machine_of s map from shown time) es p x e (record { last = λ is. absurd (cc) }) inside within has
-    (owes_behind s map from shown time x p (has_scraping s on)) in
+    (owes_after s map from shown time x p (has_scraping s on)) in
     let never : Scraping ≡ Retrying = f.retries in
     absurd (cc))
     (λ (off : s.scrapes ≡ false). Unscraped off has)
@@ -133,7 +133,7 @@ left_well s map from shown time es x BadSector e inside within has =
     Bad has (λ n some few.
     (fails s (machine_of s map from shown time) es (numbered Retrying n) x e (record { last = λ is. absurd (cc) })
     inside within has
-    (owes_behind s map from shown time x (numbered Retrying n) (has_retrying s n some few))).there)
+    (owes_after s map from shown time x (numbered Retrying n) (has_retrying s n some few))).there)
 left_well s map from shown time es x Finished e inside within has = Rescued has
 
 pub run_ends_well : RunEndsWell

@@ -73,11 +73,11 @@ takes phase t is = sym (taken_order phase) ∙ ap order_of is
 -- What has the status that a phase asks for had it before, in that phase and behind it.
 back_step : (s : Setting) (m : Machine) (e : Event) (p : Pass) (x : ℕ) → Moves s m e → IsFrom p (pass_of (ready s m))
     → Has (move_of s m e).after.map (taken p.phase) x → Has (ready s m).map (taken p.phase) x
-back_step s m e p x by behind has =
+back_step s m e p x by past has =
     let k : Machine = ready s m in
     let at : Phase = (pass_of k).phase in
     let now : Phase = p.phase in
-    let few : order now ≤ order at = behind in
+    let few : order now ≤ order at = past in
     elim (by.changes x) [
       | Kept asks done ↦
           let n : order now ≡ 4 = takes now Finished (same_Some (taken now) Finished (sym has ∙ done)) in

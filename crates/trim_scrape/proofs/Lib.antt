@@ -7,7 +7,7 @@ pub mod OrderLemmas
 pub mod OwedLemmas
 pub mod RunLemmas
 -- These are the crate's own.
-mod BehindLemmas
+mod PastLemmas
 mod AskedLemmas
 mod CountLemmas
 mod GoingLemmas

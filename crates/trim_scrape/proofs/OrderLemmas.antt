@@ -7,7 +7,7 @@ use Rattle.std.proofs.lemmas.List.Elements.{All-append, All-cons, All-nil, All-s
 use Rattle.rescue_rules.specs.declared.phase.Phase.{Phase}
 use Rattle.rescue_rules.specs.declared.phase.Phase.TheVariants.{Copying, Trimming, Scraping, Retrying}
 use Rattle.rescue_rules.specs.Setting.{Setting}
-use Rattle.rescue_rules.specs.Passes.{Pass, numbered, passes_in, passes_behind, passes_from}
+use Rattle.rescue_rules.specs.Passes.{Pass, numbered, passes_in, passes_after, passes_from}
 
 abbrev pub order : Phase → ℕ
 order Copying = 0
@@ -47,14 +47,14 @@ abbrev some_in : Phase → (number few : ℕ) → List Pass
 some_in phase number few = map (numbered phase) (range_with_len number few)
 
 -- one more than the number of a phase's last pass
-abbrev behind_last : Setting → Phase → ℕ
-behind_last s Copying = 6
-behind_last s Trimming = 2
-behind_last s Scraping = 2
-behind_last s Retrying = s.retries + 1
+abbrev after_last : Setting → Phase → ℕ
+after_last s Copying = 6
+after_last s Trimming = 2
+after_last s Scraping = 2
+after_last s Retrying = s.retries + 1
 
 in_are : (s : Setting) (phase : Phase) (number : ℕ)
-    → passes_in s phase number ≡ some_in phase number (behind_last s phase - number)
+    → passes_in s phase number ≡ some_in phase number (after_last s phase - number)
 in_are s Copying number = refl
 in_are s Trimming number = refl
 in_are s Scraping number = refl
@@ -79,26 +79,26 @@ some_later p phase number (suc few) later =
 in_later : (s : Setting) (p : Pass) (phase : Phase) (number : ℕ) → order p.phase < order phase
     → All (Follows p) (passes_in s phase number)
 in_later s p phase number later =
-    All-same (Follows p) (passes_in s phase number) (some_in phase number (behind_last s phase - number))
+    All-same (Follows p) (passes_in s phase number) (some_in phase number (after_last s phase - number))
     (in_are s phase number)
-    (some_later p phase number (behind_last s phase - number) later)
+    (some_later p phase number (after_last s phase - number) later)
 
-ordered_front : (phase : Phase) (number few : ℕ) (behind : List Pass)
-    → ((n : ℕ) → All (Follows (numbered phase n)) behind)
-    → AreOrdered behind → AreOrdered (some_in phase number few ++ behind)
-ordered_front phase number zero behind later ordered = ordered
-ordered_front phase number (suc few) behind later ordered = (
-  All-append (Follows (numbered phase number)) (some_in phase (number + 1) few) behind
+ordered_front : (phase : Phase) (number few : ℕ) (after : List Pass)
+    → ((n : ℕ) → All (Follows (numbered phase n)) after)
+    → AreOrdered after → AreOrdered (some_in phase number few ++ after)
+ordered_front phase number zero after later ordered = ordered
+ordered_front phase number (suc few) after later ordered = (
+  All-append (Follows (numbered phase number)) (some_in phase (number + 1) few) after
       (some_follow phase number (number + 1) few (omega arith)) (later number),
-  ordered_front phase (number + 1) few behind later ordered,
+  ordered_front phase (number + 1) few after later ordered,
 )
 
-ordered_in : (s : Setting) (phase : Phase) (number : ℕ) (behind : List Pass)
-    → ((n : ℕ) → All (Follows (numbered phase n)) behind)
-    → AreOrdered behind → AreOrdered (passes_in s phase number ++ behind)
-ordered_in s phase number behind later ordered =
-    subst (λ (ps : List Pass). AreOrdered (ps ++ behind)) (sym (in_are s phase number))
-    (ordered_front phase number (behind_last s phase - number) behind later ordered)
+ordered_in : (s : Setting) (phase : Phase) (number : ℕ) (after : List Pass)
+    → ((n : ℕ) → All (Follows (numbered phase n)) after)
+    → AreOrdered after → AreOrdered (passes_in s phase number ++ after)
+ordered_in s phase number after later ordered =
+    subst (λ (ps : List Pass). AreOrdered (ps ++ after)) (sym (in_are s phase number))
+    (ordered_front phase number (after_last s phase - number) after later ordered)
 
 -- the passes of trimming and of scraping, unless they are off
 abbrev trimming_passes : Setting → List Pass
@@ -117,48 +117,48 @@ scraping_later s p early =
     cond_both s.scrapes (passes_in s Scraping 1) [] (All (Follows p)) (λ on. in_later s p Scraping 1 early)
     (λ off. All-nil (Follows p))
 
-behind_later : (s : Setting) (phase : Phase) (n : ℕ) → All (Follows (numbered phase n)) (passes_behind s phase)
-behind_later s Copying n =
+after_later : (s : Setting) (phase : Phase) (n : ℕ) → All (Follows (numbered phase n)) (passes_after s phase)
+after_later s Copying n =
     let p : Pass = numbered Copying n in
     All-append (Follows p) (trimming_passes s ++ scraping_passes s) (passes_in s Retrying 1)
     (All-append (Follows p) (trimming_passes s) (scraping_passes s) (trimming_later s p (omega arith))
     (scraping_later s p (omega arith)))
     (in_later s p Retrying 1 (omega arith))
-behind_later s Trimming n =
+after_later s Trimming n =
     let p : Pass = numbered Trimming n in
     All-append (Follows p) (scraping_passes s) (passes_in s Retrying 1) (scraping_later s p (omega arith))
     (in_later s p Retrying 1 (omega arith))
-behind_later s Scraping n = in_later s (numbered Scraping n) Retrying 1 (omega arith)
-behind_later s Retrying n = All-nil (Follows (numbered Retrying n))
+after_later s Scraping n = in_later s (numbered Scraping n) Retrying 1 (omega arith)
+after_later s Retrying n = All-nil (Follows (numbered Retrying n))
 
-ordered_behind_scraping : (s : Setting) → AreOrdered (passes_behind s Scraping)
-ordered_behind_scraping s =
+ordered_after_scraping : (s : Setting) → AreOrdered (passes_after s Scraping)
+ordered_after_scraping s =
     subst AreOrdered (append-nil (passes_in s Retrying 1))
     (ordered_in s Retrying 1 [] (λ n. All-nil (Follows (numbered Retrying n))) tt)
 
-ordered_behind_trimming : (s : Setting) → AreOrdered (passes_behind s Trimming)
-ordered_behind_trimming s =
+ordered_after_trimming : (s : Setting) → AreOrdered (passes_after s Trimming)
+ordered_after_trimming s =
     cond_both s.scrapes (passes_in s Scraping 1) [] (λ (ps : List Pass). AreOrdered (ps ++ passes_in s Retrying 1))
-    (λ on. ordered_in s Scraping 1 (passes_behind s Scraping) (behind_later s Scraping) (ordered_behind_scraping s))
-    (λ off. ordered_behind_scraping s)
+    (λ on. ordered_in s Scraping 1 (passes_after s Scraping) (after_later s Scraping) (ordered_after_scraping s))
+    (λ off. ordered_after_scraping s)
 
-ordered_behind_copying : (s : Setting) → AreOrdered (passes_behind s Copying)
-ordered_behind_copying s =
+ordered_after_copying : (s : Setting) → AreOrdered (passes_after s Copying)
+ordered_after_copying s =
     cond_both s.trims (passes_in s Trimming 1) []
     (λ (ps : List Pass). AreOrdered (ps ++ scraping_passes s ++ passes_in s Retrying 1))
-    (λ on. ordered_in s Trimming 1 (passes_behind s Trimming) (behind_later s Trimming) (ordered_behind_trimming s))
-    (λ off. ordered_behind_trimming s)
+    (λ on. ordered_in s Trimming 1 (passes_after s Trimming) (after_later s Trimming) (ordered_after_trimming s))
+    (λ off. ordered_after_trimming s)
 
-ordered_behind : (s : Setting) (phase : Phase) → AreOrdered (passes_behind s phase)
-ordered_behind s Copying = ordered_behind_copying s
-ordered_behind s Trimming = ordered_behind_trimming s
-ordered_behind s Scraping = ordered_behind_scraping s
-ordered_behind s Retrying = tt
+ordered_after : (s : Setting) (phase : Phase) → AreOrdered (passes_after s phase)
+ordered_after s Copying = ordered_after_copying s
+ordered_after s Trimming = ordered_after_trimming s
+ordered_after s Scraping = ordered_after_scraping s
+ordered_after s Retrying = tt
 
 -- The passes of a run are ordered.
 pub ordered_from : (s : Setting) (phase : Phase) (number : ℕ) → AreOrdered (passes_from s phase number)
 ordered_from s phase number =
-    ordered_in s phase number (passes_behind s phase) (behind_later s phase) (ordered_behind s phase)
+    ordered_in s phase number (passes_after s phase) (after_later s phase) (ordered_after s phase)
 
 -- Which passes there are.
 contains_here : (p : Pass) (ps : List Pass) → Contains (p ∷ ps) p
@@ -191,14 +191,14 @@ contains_some phase n number (suc few) from to =
     (contains_here (numbered phase number) (some_in phase (number + 1) few)))
     (cases_lt number n)
 
-pub has_trimming : (s : Setting) → s.trims ≡ true → Contains (passes_behind s Copying) (numbered Trimming 1)
+pub has_trimming : (s : Setting) → s.trims ≡ true → Contains (passes_after s Copying) (numbered Trimming 1)
 has_trimming s on =
     Contains-append_left (trimming_passes s ++ scraping_passes s) (passes_in s Retrying 1) (numbered Trimming 1)
     (Contains-append_left (trimming_passes s) (scraping_passes s) (numbered Trimming 1)
     (cond_both s.trims (passes_in s Trimming 1) [] (λ (ps : List Pass). Contains ps (numbered Trimming 1))
     (λ is. contains_here (numbered Trimming 1) []) (λ off. absurd (true≢false (sym on ∙ off)))))
 
-pub has_scraping : (s : Setting) → s.scrapes ≡ true → Contains (passes_behind s Copying) (numbered Scraping 1)
+pub has_scraping : (s : Setting) → s.scrapes ≡ true → Contains (passes_after s Copying) (numbered Scraping 1)
 has_scraping s on =
     Contains-append_left (trimming_passes s ++ scraping_passes s) (passes_in s Retrying 1) (numbered Scraping 1)
     (Contains-append_right (trimming_passes s) (scraping_passes s) (numbered Scraping 1)
@@ -206,7 +206,7 @@ has_scraping s on =
     (λ is. contains_here (numbered Scraping 1) []) (λ off. absurd (true≢false (sym on ∙ off)))))
 
 pub has_retrying : (s : Setting) (n : ℕ) → 0 < n → n ≤ s.retries
-    → Contains (passes_behind s Copying) (numbered Retrying n)
+    → Contains (passes_after s Copying) (numbered Retrying n)
 has_retrying s n some few =
     Contains-append_right (trimming_passes s ++ scraping_passes s) (passes_in s Retrying 1) (numbered Retrying n)
     (contains_some Retrying n 1 (s.retries + 1 - 1) (omega (arith, some)) (omega (arith, few)))
@@ -214,21 +214,21 @@ has_retrying s n some few =
 -- Behind a pass of copying there are the others of copying, and those behind copying.
 copying_are : (s : Setting) (number : ℕ) → number ≤ 5
     → passes_from s Copying number
-    ≡ numbered Copying number ∷ some_in Copying (number + 1) (5 - number) ++ passes_behind s Copying
+    ≡ numbered Copying number ∷ some_in Copying (number + 1) (5 - number) ++ passes_after s Copying
 copying_are s number few =
     let some : 6 - number ≡ suc (5 - number) = omega (arith, few) in
-    ap (λ (n : ℕ). some_in Copying number n ++ passes_behind s Copying) some
+    ap (λ (n : ℕ). some_in Copying number n ++ passes_after s Copying) some
 
-pub behind_contains : (s : Setting) (number : ℕ) (p : Pass) → number ≤ 5 → Contains (passes_behind s Copying) p
+pub after_contains : (s : Setting) (number : ℕ) (p : Pass) → number ≤ 5 → Contains (passes_after s Copying) p
     → Contains (drop 1 (passes_from s Copying number)) p
-behind_contains s number p few has =
+after_contains s number p few has =
     subst (λ (ps : List Pass). Contains (drop 1 ps) p) (sym (copying_are s number few))
-    (Contains-append_right (some_in Copying (number + 1) (5 - number)) (passes_behind s Copying) p has)
+    (Contains-append_right (some_in Copying (number + 1) (5 - number)) (passes_after s Copying) p has)
 
 pub has_last : (s : Setting) (number : ℕ) → number < 5
     → Contains (drop 1 (passes_from s Copying number)) (numbered Copying 5)
 has_last s number few =
     subst (λ (ps : List Pass). Contains (drop 1 ps) (numbered Copying 5))
     (sym (copying_are s number (omega (arith, few))))
-    (Contains-append_left (some_in Copying (number + 1) (5 - number)) (passes_behind s Copying) (numbered Copying 5)
+    (Contains-append_left (some_in Copying (number + 1) (5 - number)) (passes_after s Copying) (numbered Copying 5)
     (contains_some Copying 5 (number + 1) (5 - number) (omega (arith, few)) (omega (arith, few))))

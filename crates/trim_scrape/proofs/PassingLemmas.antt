@@ -10,7 +10,7 @@ use Rattle.rescue_rules.specs.declared.stop.TrimMode.TheVariants.{Lead, Tail}
 use Rattle.rescue_rules.specs.declared.phase.Phase.{Phase}
 use Rattle.rescue_rules.specs.declared.phase.Phase.TheVariants.{Copying, Trimming, Scraping, Retrying}
 use Rattle.rescue_rules.specs.Setting.{Setting, IsSensible}
-use Rattle.rescue_rules.specs.Passes.{Pass, taken, is_up, numbered, passes_behind, passes_from}
+use Rattle.rescue_rules.specs.Passes.{Pass, taken, is_up, numbered, passes_after, passes_from}
 use Rattle.rescue_rules.specs.Machine.{Machine, pass_of, has_taken, is_live, is_wanted, Search, search_in, search_of, is_ahead, IsRequest, has_request}
 use Rattle.rescue_rules.specs.Step.{Event, copies, is_copying, limit_met, step}
 use Rattle.rescue_rules.specs.MachineLaws.{IsInOrder}
@@ -217,7 +217,7 @@ first_is s Scraping number there =
     subst (λ (n : ℕ). passes_from s Scraping n ≡ numbered Scraping n ∷ passes_from s Scraping (n + 1)) (sym there) refl
 first_is s Retrying number there =
     let some : s.retries + 1 - number ≡ suc (s.retries + 1 - (number + 1)) = omega (arith, there) in
-    ap (λ (n : ℕ). map (numbered Retrying) (range_with_len number n) ++ passes_behind s Retrying) some
+    ap (λ (n : ℕ). map (numbered Retrying) (range_with_len number n) ++ passes_after s Retrying) some
 
 -- So a run goes on with that pass,
 pub record GoesNext (phase : Phase) (number : ℕ) (r : RunState) : Type 0 where

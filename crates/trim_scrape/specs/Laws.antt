@@ -21,7 +21,7 @@ use Rattle.rescue_core.specs.Across.{Across}
 use Rattle.rescue_core.specs.RunState.{RunState, setting_in}
 use Rattle.copy_passes.specs.Turns.{Went, WentUpTo}
 use Rattle.copy_passes.specs.Copying.{MayCopy}
-use Rattle.trim_scrape.specs.Behind.{IsBehind}
+use Rattle.trim_scrape.specs.Past.{IsPast}
 use Rattle.trim_scrape.specs.Bounds.{AskFew}
 use Rattle.trim_scrape.specs.Endings.{EndsWell}
 
@@ -38,9 +38,9 @@ RunEndsWell = (s : Setting) (map : List Status) (from : Option MapState) (shown 
     → EndsWell s (machine_of s map from shown time) events
 
 -- a run in copying's last pass, which has no request left, is behind copying
-abbrev pub CopiedIsBehind : Type 0
-CopiedIsBehind = (r : RunState) → MayCopy r → r.pass ≡ copying_passes → has_request (setting_in r) r.machine ≡ false
-    → IsBehind Copying r
+abbrev pub CopiedIsPast : Type 0
+CopiedIsPast = (r : RunState) → MayCopy r → r.pass ≡ copying_passes → has_request (setting_in r) r.machine ≡ false
+    → IsPast Copying r
 
 -- whole turns behind whole turns are whole turns
 abbrev pub TurnsJoin : Type 0

@@ -1,4 +1,4 @@
-pub mod Behind
+pub mod Past
 pub mod Bounds
 pub mod Endings
 pub mod Laws

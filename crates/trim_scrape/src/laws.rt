@@ -1,5 +1,5 @@
 //! What the definitions mean.
-ghost use Rattle.trim_scrape.specs.Laws.{CopiedIsBehind, RunAsksFew, RunEndsWell, StoppedTurnsJoin, TurnsJoin};
+ghost use Rattle.trim_scrape.specs.Laws.{CopiedIsPast, RunAsksFew, RunEndsWell, StoppedTurnsJoin, TurnsJoin};
 
 /// A run asks for a position once at most in copying, in trimming and scraping together, and in each pass of retrying,
 /// and never for a finished one.
@@ -14,8 +14,8 @@ pub fn a_run_ends_well()
 {}
 
 /// A run in copying's last pass, which has no request left, is behind copying.
-pub fn what_copied_is_behind()
-    ensures { CopiedIsBehind }
+pub fn what_copied_is_past()
+    ensures { CopiedIsPast }
 {}
 
 /// Whole turns behind whole turns are whole turns.

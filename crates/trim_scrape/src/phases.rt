@@ -5,7 +5,7 @@ ghost use Rattle.rescue_domain.specs.Parts.{covers};
 ghost use Rattle.rescue_rules.specs.declared.phase.Phase.TheVariants.{Copying as CopyingPhase, Trimming as TrimmingPhase, Scraping as ScrapingPhase, Retrying as RetryingPhase};
 ghost use Rattle.rescue_core.specs.RunState.{setting_in, HasPlaces};
 ghost use Rattle.copy_passes.specs.Turns.{TurnsEnd, PhaseEnds};
-ghost use Rattle.trim_scrape.specs.Behind.{IsBehind};
+ghost use Rattle.trim_scrape.specs.Past.{IsPast};
 ghost use Rattle.trim_scrape.specs.Passing.{IsBeforePass, PhaseLeavesNone, IsPassOf};
 
 use block_list::tiles::Tiles;
@@ -62,7 +62,7 @@ pub fn run_trimming<S: Source, D: Site, K: Clock, C: Console, T: Tiles>(
     clock: &mut K,
     console: &mut C,
 ) -> Result<Rescue<Scraping, T>, Stopped<T>>
-    requires behind { IsBehind CopyingPhase rescue }
+    requires past { IsPast CopyingPhase rescue }
     requires places { HasPlaces rescue.settings (covers rescue.domain) }
     requires input { (S.state source.old).is_open ≡ true }
     requires image { (D.state site.old).is_open ≡ true }
@@ -77,7 +77,7 @@ pub fn run_trimming<S: Source, D: Site, K: Clock, C: Console, T: Tiles>(
       console = C.state console.old;
       console' = C.state console.new;
     }) }
-    ensures behind { IfOk result (λ r. IsBehind TrimmingPhase r) }
+    ensures past { IfOk result (λ r. IsPast TrimmingPhase r) }
 {
     let mut rescue = rescue;
     if rescue.settings().no_trim {
@@ -105,7 +105,7 @@ pub fn run_scraping<S: Source, D: Site, K: Clock, C: Console, T: Tiles>(
     clock: &mut K,
     console: &mut C,
 ) -> Result<Rescue<Retrying, T>, Stopped<T>>
-    requires behind { IsBehind TrimmingPhase rescue }
+    requires past { IsPast TrimmingPhase rescue }
     requires places { HasPlaces rescue.settings (covers rescue.domain) }
     requires input { (S.state source.old).is_open ≡ true }
     requires image { (D.state site.old).is_open ≡ true }
@@ -120,7 +120,7 @@ pub fn run_scraping<S: Source, D: Site, K: Clock, C: Console, T: Tiles>(
       console = C.state console.old;
       console' = C.state console.new;
     }) }
-    ensures behind { IfOk result (λ r. IsBehind ScrapingPhase r) }
+    ensures past { IfOk result (λ r. IsPast ScrapingPhase r) }
 {
     let mut rescue = rescue;
     if rescue.settings().no_scrape {
@@ -148,7 +148,7 @@ fn run_retries<S: Source, D: Site, K: Clock, C: Console, T: Tiles>(
     clock: &mut K,
     console: &mut C,
 ) -> Result<(), Stop>
-    requires behind { IsBehind ScrapingPhase rescue.old }
+    requires past { IsPast ScrapingPhase rescue.old }
     requires places { HasPlaces rescue.old.settings (covers rescue.old.domain) }
     requires input { (S.state source.old).is_open ≡ true }
     requires image { (D.state site.old).is_open ≡ true }
@@ -163,7 +163,7 @@ fn run_retries<S: Source, D: Site, K: Clock, C: Console, T: Tiles>(
       console = C.state console.old;
       console' = C.state console.new;
     }) }
-    ensures behind { OnOk result (IsBehind RetryingPhase rescue.new) }
+    ensures past { OnOk result (IsPast RetryingPhase rescue.new) }
 {
     'passes: for pass in 1..=rescue.settings().retries {
         run_pass(rescue, Phase::Retrying, pass, source, site, clock, console)?;
@@ -179,7 +179,7 @@ pub fn run_retrying<S: Source, D: Site, K: Clock, C: Console, T: Tiles>(
     clock: &mut K,
     console: &mut C,
 ) -> Result<Rescue<Finished, T>, Stopped<T>>
-    requires behind { IsBehind ScrapingPhase rescue }
+    requires past { IsPast ScrapingPhase rescue }
     requires places { HasPlaces rescue.settings (covers rescue.domain) }
     requires input { (S.state source.old).is_open ≡ true }
     requires image { (D.state site.old).is_open ≡ true }
@@ -194,7 +194,7 @@ pub fn run_retrying<S: Source, D: Site, K: Clock, C: Console, T: Tiles>(
       console = C.state console.old;
       console' = C.state console.new;
     }) }
-    ensures behind { IfOk result (λ r. IsBehind RetryingPhase r) }
+    ensures past { IfOk result (λ r. IsPast RetryingPhase r) }
 {
     let mut rescue = rescue;
     match run_retries(&mut rescue, source, site, clock, console) {

@@ -41,8 +41,8 @@ use Rattle.rescue_core.specs.RunState.{RunState, setting_in}
 use Rattle.rescue_core.specs.Closing.{LastSave, Saved, Unsaved}
 use Rattle.copy_passes.specs.Turns.{Went}
 use Rattle.task_rescue.specs.Running.{WentToEnd}
-use Rattle.task_rescue.proofs.EndLemmas.{behind_over, finished_alike}
-use Rattle.task_rescue.proofs.LastLemmas.{behind_all}
+use Rattle.task_rescue.proofs.EndLemmas.{after_over, finished_alike}
+use Rattle.task_rescue.proofs.LastLemmas.{past_all}
 use Rattle.ddrescue_laws.proofs.DoneLemmas.{last_finished}
 use Rattle.turn_laws.specs.UnderWay.{StillComes, Now, Later, IsUnderWay}
 use Rattle.turn_laws.specs.Ended.{IsLastSaved, IsWellEnded}
@@ -190,9 +190,9 @@ closes_made s r r' o site setting tells keeps w over (Unsaved call is names brea
     absurd (let no : RunDone ≡ SaveFailed call None = is in cc)
 
 pub phases_end_well : PhasesEndWell
-phases_end_well s r r' o site setting ok under tells keeps after w behind closes =
+phases_end_well s r r' o site setting ok under tells keeps after w passed closes =
     let over : has_ended (setting_in r) (state_after (setting_in r) r.machine w.events) ≡ true
-    = behind_over r r' w.events true w.stands w.state (behind_all r' behind) in
+    = after_over r r' w.events true w.stands w.state (past_all r' passed) in
     let t : TurnsRun s r r' w.events o.site o.site' = turns_run s r r' o setting tells w in
     all_made_ends s r.machine w.events o.site site (sensible_named s r setting ok) (way_named s r setting under) t.run tells
     (keeps_more o.site o.site' site keeps after)

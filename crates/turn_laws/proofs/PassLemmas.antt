@@ -8,7 +8,7 @@ use Rattle.block_list.specs.Map.{Has}
 use Rattle.rescue_rules.specs.declared.phase.Phase.{Phase}
 use Rattle.rescue_rules.specs.declared.phase.Phase.TheVariants.{Copying, Trimming, Scraping, Retrying}
 use Rattle.rescue_rules.specs.Setting.{Setting}
-use Rattle.rescue_rules.specs.Passes.{Pass, taken, numbered, copying_passes, passes_in, passes_behind, passes_from}
+use Rattle.rescue_rules.specs.Passes.{Pass, taken, numbered, copying_passes, passes_in, passes_after, passes_from}
 use Rattle.rescue_rules.specs.Machine.{Machine, pass_of, is_live, search_of, is_ahead}
 use Rattle.rescue_rules.specs.MachineLaws.{HasNone}
 use Rattle.rescue_rules.specs.Step.{trims, is_trimming}
@@ -21,45 +21,45 @@ use Rattle.rescue_core.specs.Stages.{Known, IsTrimmed}
 use Rattle.copy_passes.proofs.AlikeLemmas.{alike_by, alike_on, next_pass_is_alike}
 use Rattle.copy_passes.specs.Copying.{MayCopy}
 use Rattle.copy_passes.proofs.CopyingLemmas.{first_of, wanted_here}
-use Rattle.trim_scrape.specs.Behind.{IsBehind}
-use Rattle.trim_scrape.proofs.OrderLemmas.{Follows, AreOrdered, ordered_from, never_follows, behind_contains, has_last, has_trimming, has_scraping}
+use Rattle.trim_scrape.specs.Past.{IsPast}
+use Rattle.trim_scrape.proofs.OrderLemmas.{Follows, AreOrdered, ordered_from, never_follows, after_contains, has_last, has_trimming, has_scraping}
 use Rattle.turn_laws.specs.UnderWay.{StillComes, Now, Later}
-use Rattle.turn_laws.specs.PassLaws.{passed_over, LeadsBehind, SpentLeadsBehind, passes_up_to, known_behind, TypedLeadsBehind, UnderWayMayCopy, CopyingIsUnderWay, BehindIsUnderWay}
+use Rattle.turn_laws.specs.PassLaws.{passed_over, LeadsPast, SpentLeadsPast, passes_up_to, known_past, TypedLeadsPast, UnderWayMayCopy, CopyingIsUnderWay, PastIsUnderWay}
 
 -- the next pass, and those behind it
 two_by : (ps : List Pass) (p : Pass) (qs : List Pass) → drop 1 ps ≡ p ∷ qs → (c : Pass) × (ps ≡ c ∷ p ∷ qs)
 two_by [] p qs is = absurd (cc)
 two_by (c ∷ ps) p qs is = (c, ap (λ (rest : List Pass). c ∷ rest) is)
 
-pub spent_leads_behind : SpentLeadsBehind
-spent_leads_behind r phase [] ok within off left none = record {
+pub spent_leads_past : SpentLeadsPast
+spent_leads_past r phase [] ok within off left none = record {
   may = tt;
-  behind = record { sensible = ok; within = within; spent = off; left = left };
+  is_past = record { sensible = ok; within = within; spent = off; left = left };
   alike = alike_by (setting_in r) r.machine r.machine refl;
 }
-spent_leads_behind r phase (p ∷ spent) ok within off left none =
+spent_leads_past r phase (p ∷ spent) ok within off left none =
     let s : Setting = setting_in r in
     let m : Machine = r.machine in
-    let two : (c : Pass) × (m.passes ≡ c ∷ p ∷ (spent ++ passes_behind s phase))
-    = two_by m.passes p (spent ++ passes_behind s phase) left in
-    let rest : drop 2 m.passes ≡ spent ++ passes_behind s phase = ap (λ (ps : List Pass). drop 2 ps) two.1 in
+    let two : (c : Pass) × (m.passes ≡ c ∷ p ∷ (spent ++ passes_after s phase))
+    = two_by m.passes p (spent ++ passes_after s phase) left in
+    let rest : drop 2 m.passes ≡ spent ++ passes_after s phase = ap (λ (ps : List Pass). drop 2 ps) two.1 in
     let q : RunState = passed r p.phase p.number in
     let are : m.passes ≡ two.0 ∷ p ∷ drop 2 m.passes
     = two.1 ∙ ap (λ (ps : List Pass). two.0 ∷ p ∷ ps) (sym rest) in
     let first : HasNone s q.machine p = All-head (HasNone s m) p spent none in
     let later : All (HasNone s q.machine) spent = All-tail (HasNone s m) p spent none in
-    let l : LeadsBehind phase q spent
-    = spent_leads_behind q phase spent ok within (request_none s q.machine p (drop 2 m.passes) refl first) rest later in
+    let l : LeadsPast phase q spent
+    = spent_leads_past q phase spent ok within (request_none s q.machine p (drop 2 m.passes) refl first) rest later in
     record {
       may = (ap (λ (ps : List Pass). slice_get ps 1) are, off, l.may);
-      behind = l.behind;
+      is_past = l.is_past;
       alike = alike_on s m q.machine (passed_over q spent).machine
           (next_pass_is_alike s m two.0 p (drop 2 m.passes) off are) l.alike;
     }
 
 -- The passes up to the end of a phase, and those behind it.
 up_to_trimming : (s : Setting) (number : ℕ)
-    → passes_from s Copying number ≡ passes_up_to s Trimming number ++ passes_behind s Trimming
+    → passes_from s Copying number ≡ passes_up_to s Trimming number ++ passes_after s Trimming
 up_to_trimming s number =
     let copying : List Pass = passes_in s Copying number in
     let scraping : List Pass = if s.scrapes then passes_in s Scraping 1 else [] in
@@ -70,7 +70,7 @@ up_to_trimming s number =
     (λ off. sym (append_assoc copying [] (scraping ++ retrying)))
 
 up_to : (s : Setting) (phase : Phase) (number : ℕ) → (phase ≡ Retrying → ⊥)
-    → passes_from s Copying number ≡ passes_up_to s phase number ++ passes_behind s phase
+    → passes_from s Copying number ≡ passes_up_to s phase number ++ passes_after s phase
 up_to s Copying number other = refl
 up_to s Trimming number other = up_to_trimming s number
 up_to s Scraping number other =
@@ -125,7 +125,7 @@ none_trims r number known =
     (cond_both s.trims (passes_in s Trimming 1) [] (All P)
     (λ on. all_in P Trimming 1 1 (λ n. known.trimmed (not_true r.settings.no_trim on))) (λ off. All-nil P))
 
-none_up_to : (r : RunState) (phase : Phase) (number : ℕ) → (phase ≡ Retrying → ⊥) → Known (known_behind phase) r
+none_up_to : (r : RunState) (phase : Phase) (number : ℕ) → (phase ≡ Retrying → ⊥) → Known (known_past phase) r
     → All (HasNone (setting_in r) r.machine) (passes_up_to (setting_in r) phase number)
 none_up_to r Copying number other known = none_copies r number known
 none_up_to r Trimming number other known = none_trims r number known
@@ -138,19 +138,19 @@ none_up_to r Scraping number other known =
     (λ on. all_in P Scraping 1 1 (λ n. known.scraped (not_true r.settings.no_scrape on))) (λ off. All-nil P))
 none_up_to r Retrying number other known = absurd (other refl)
 
-pub typed_leads_behind : TypedLeadsBehind
-typed_leads_behind r phase other ok within few passes known =
+pub typed_leads_past : TypedLeadsPast
+typed_leads_past r phase other ok within few passes known =
     let s : Setting = setting_in r in
     let m : Machine = r.machine in
     let front : List Pass = passes_up_to s phase r.pass in
     let are : front ≡ numbered Copying r.pass ∷ drop 1 front = begins_up_to s phase r.pass other few in
-    let all : m.passes ≡ numbered Copying r.pass ∷ (drop 1 front ++ passes_behind s phase)
-    = passes ∙ up_to s phase r.pass other ∙ ap (λ (ps : List Pass). ps ++ passes_behind s phase) are in
+    let all : m.passes ≡ numbered Copying r.pass ∷ (drop 1 front ++ passes_after s phase)
+    = passes ∙ up_to s phase r.pass other ∙ ap (λ (ps : List Pass). ps ++ passes_after s phase) are in
     let none : All (HasNone s m) front = none_up_to r phase r.pass other known in
     let first : HasNone s m (numbered Copying r.pass)
     = All-head (HasNone s m) (numbered Copying r.pass) (drop 1 front) (subst (All (HasNone s m)) are none) in
-    spent_leads_behind r phase (drop 1 front) ok within
-    (request_none s m (numbered Copying r.pass) (drop 1 front ++ passes_behind s phase) all first)
+    spent_leads_past r phase (drop 1 front) ok within
+    (request_none s m (numbered Copying r.pass) (drop 1 front ++ passes_after s phase) all first)
     (ap (λ (ps : List Pass). drop 1 ps) all) (All-drop (HasNone s m) 1 front none)
 
 -- a pass doesn't come again
@@ -205,14 +205,14 @@ last_comes r x c live has =
     Later (subst (λ (ps : List Pass). Contains (drop 1 ps) p) (sym c.passes) (has_last s r.pass less)))
     (λ (ge : copying_passes ≤ r.pass).
     let last : r.pass ≡ copying_passes = omega (arith, c.few, ge) in
-    let are : m.passes ≡ p ∷ passes_behind s Copying = c.passes ∙ ap (passes_from s Copying) last in
-    Now (passes_behind s Copying) are (λ off. (c.last last).ahead x (wanted_here r x c live has)))
+    let are : m.passes ≡ p ∷ passes_after s Copying = c.passes ∙ ap (passes_from s Copying) last in
+    Now (passes_after s Copying) are (λ off. (c.last last).ahead x (wanted_here r x c live has)))
     (cases_lt r.pass copying_passes)
 
-behind_comes : (r : RunState) (p : Pass) (x : ℕ) → MayCopy r → Contains (passes_behind (setting_in r) Copying) p
+past_comes : (r : RunState) (p : Pass) (x : ℕ) → MayCopy r → Contains (passes_after (setting_in r) Copying) p
     → StillComes (setting_in r) r.machine p x
-behind_comes r p x c has =
-    Later (subst (λ (ps : List Pass). Contains (drop 1 ps) p) (sym c.passes) (behind_contains (setting_in r) r.pass p c.few has))
+past_comes r p x c has =
+    Later (subst (λ (ps : List Pass). Contains (drop 1 ps) p) (sym c.passes) (after_contains (setting_in r) r.pass p c.few has))
 
 pub copying_is_under_way : CopyingIsUnderWay
 copying_is_under_way r c = record {
@@ -221,54 +221,54 @@ copying_is_under_way r c = record {
   past = [];
   passes = c.passes;
   tried = λ x live has. last_comes r x c live has;
-  trimmed = λ on x live has. behind_comes r (numbered Trimming 1) x c (has_trimming (setting_in r) on);
-  scraped = λ on x live has. behind_comes r (numbered Scraping 1) x c (has_scraping (setting_in r) on);
+  trimmed = λ on x live has. past_comes r (numbered Trimming 1) x c (has_trimming (setting_in r) on);
+  scraped = λ on x live has. past_comes r (numbered Scraping 1) x c (has_scraping (setting_in r) on);
 }
 
 -- What is left for the phases behind one is to come, and nothing is for those up to it.
-has_scraping_next : (s : Setting) → s.scrapes ≡ true → Contains (passes_behind s Trimming) (numbered Scraping 1)
+has_scraping_next : (s : Setting) → s.scrapes ≡ true → Contains (passes_after s Trimming) (numbered Scraping 1)
 has_scraping_next s on =
     Contains-append_left (if s.scrapes then passes_in s Scraping 1 else []) (passes_in s Retrying 1) (numbered Scraping 1)
     (cond_both s.scrapes (passes_in s Scraping 1) [] (λ (ps : List Pass). Contains ps (numbered Scraping 1))
     (λ is. (0, omega arith, refl)) (λ off. absurd (true≢false (sym on ∙ off))))
 
-tried_behind : (r : RunState) (phase : Phase) → Known (known_behind phase) r → IsGone NonTried r
-tried_behind r Copying known = known
-tried_behind r Trimming known = known.tried
-tried_behind r Scraping known = known.trimmed.tried
-tried_behind r Retrying known = known.scraped.trimmed.tried
+tried_past : (r : RunState) (phase : Phase) → Known (known_past phase) r → IsGone NonTried r
+tried_past r Copying known = known
+tried_past r Trimming known = known.tried
+tried_past r Scraping known = known.trimmed.tried
+tried_past r Retrying known = known.scraped.trimmed.tried
 
-trimmed_behind : (r : RunState) (phase : Phase) (x : ℕ) → IsBehind phase r → Known (known_behind phase) r
+trimmed_past : (r : RunState) (phase : Phase) (x : ℕ) → IsPast phase r → Known (known_past phase) r
     → (setting_in r).trims ≡ true → is_live (setting_in r) r.machine x ≡ true → Has r.machine.map NonTrimmed x
     → StillComes (setting_in r) r.machine (numbered Trimming 1) x
-trimmed_behind r Copying x b known on live has =
+trimmed_past r Copying x b known on live has =
     Later (subst (λ (ps : List Pass). Contains ps (numbered Trimming 1)) (sym b.left) (has_trimming (setting_in r) on))
-trimmed_behind r Trimming x b known on live has =
+trimmed_past r Trimming x b known on live has =
     absurd (known.trimmed (not_true r.settings.no_trim on) x live has)
-trimmed_behind r Scraping x b known on live has =
+trimmed_past r Scraping x b known on live has =
     absurd (known.trimmed.trimmed (not_true r.settings.no_trim on) x live has)
-trimmed_behind r Retrying x b known on live has =
+trimmed_past r Retrying x b known on live has =
     absurd (known.scraped.trimmed.trimmed (not_true r.settings.no_trim on) x live has)
 
-scraped_behind : (r : RunState) (phase : Phase) (x : ℕ) → IsBehind phase r → Known (known_behind phase) r
+scraped_past : (r : RunState) (phase : Phase) (x : ℕ) → IsPast phase r → Known (known_past phase) r
     → (setting_in r).scrapes ≡ true → is_live (setting_in r) r.machine x ≡ true → Has r.machine.map NonScraped x
     → StillComes (setting_in r) r.machine (numbered Scraping 1) x
-scraped_behind r Copying x b known on live has =
+scraped_past r Copying x b known on live has =
     Later (subst (λ (ps : List Pass). Contains ps (numbered Scraping 1)) (sym b.left) (has_scraping (setting_in r) on))
-scraped_behind r Trimming x b known on live has =
+scraped_past r Trimming x b known on live has =
     Later (subst (λ (ps : List Pass). Contains ps (numbered Scraping 1)) (sym b.left) (has_scraping_next (setting_in r) on))
-scraped_behind r Scraping x b known on live has =
+scraped_past r Scraping x b known on live has =
     absurd (known.scraped (not_true r.settings.no_scrape on) x live has)
-scraped_behind r Retrying x b known on live has =
+scraped_past r Retrying x b known on live has =
     absurd (known.scraped.scraped (not_true r.settings.no_scrape on) x live has)
 
-pub behind_is_under_way : BehindIsUnderWay
-behind_is_under_way r phase first past order passes b known = record {
+pub past_is_under_way : PastIsUnderWay
+past_is_under_way r phase first past order passes b known = record {
   order = order;
   first = first;
   past = past;
   passes = passes;
-  tried = λ x live has. absurd (tried_behind r phase known x live has);
-  trimmed = λ on x live has. trimmed_behind r phase x b known on live has;
-  scraped = λ on x live has. scraped_behind r phase x b known on live has;
+  tried = λ x live has. absurd (tried_past r phase known x live has);
+  trimmed = λ on x live has. trimmed_past r phase x b known on live has;
+  scraped = λ on x live has. scraped_past r phase x b known on live has;
 }

@@ -11,7 +11,7 @@ use Rattle.rescue_rules.specs.declared.stop.TrimMode.{TrimMode}
 use Rattle.rescue_rules.specs.declared.phase.Phase.{Phase}
 use Rattle.rescue_rules.specs.declared.phase.Phase.TheVariants.{Copying, Trimming, Scraping, Retrying}
 use Rattle.rescue_rules.specs.Setting.{Setting}
-use Rattle.rescue_rules.specs.Passes.{Pass, taken, is_up, numbered, copying_passes, passes_in, passes_behind, passes_from}
+use Rattle.rescue_rules.specs.Passes.{Pass, taken, is_up, numbered, copying_passes, passes_in, passes_after, passes_from}
 use Rattle.rescue_rules.specs.Machine.{Machine, pass_of, is_live, IsWanted, search_in, search_of, is_ahead, has_request}
 use Rattle.rescue_rules.specs.MachineLaws.{IsInOrder, AsksFor}
 use Rattle.rescue_rules.specs.Step.{Event, trims, is_copying, is_trimming, rest_status}
@@ -89,12 +89,12 @@ follows_past (q ∷ past) ps g p ordered has there =
 
 -- so the passes of later phases are still there.
 later_there : (s : Setting) (m : Machine) (w : IsUnderWay s m) (p : Pass) (ps : List Pass) (q : Pass)
-    → m.passes ≡ p ∷ ps → order p.phase < order q.phase → Contains (passes_behind s Copying) q
+    → m.passes ≡ p ∷ ps → order p.phase < order q.phase → Contains (passes_after s Copying) q
     → Contains (drop 1 m.passes) q
 later_there s m w p ps q is less there =
     let whole : Contains (w.past ++ m.passes) q
     = subst (λ (qs : List Pass). Contains qs q) (sym w.passes)
-    (Contains-append_right (passes_in s Copying w.first) (passes_behind s Copying) q there) in
+    (Contains-append_right (passes_in s Copying w.first) (passes_after s Copying) q there) in
     let here : Contains m.passes p = subst (λ (qs : List Pass). Contains qs p) (sym is) (0, omega arith, refl) in
     ⊎_elim
     (λ (gone : Contains w.past q).
@@ -172,7 +172,7 @@ stands_to_come s m e p x by never come live apart has =
     ]
 
 left_later : (s : Setting) (m : Machine) (e : Event) (q : Pass) (x : ℕ) → Moves s m e → IsUnderWay s (ready s m)
-    → order (pass_of (ready s m)).phase < order q.phase → Contains (passes_behind s Copying) q
+    → order (pass_of (ready s m)).phase < order q.phase → Contains (passes_after s Copying) q
     → StillComes s (move_of s m e).after q x
 left_later s m e q x by w less there =
     let k : Machine = ready s m in
@@ -282,7 +282,7 @@ to_come_next s m c p ps q order off are come x live has =
           ⊎_elim
           (λ (here : p ≡ q). comes_by s n q x (OwedNow ps (ap (λ (r : Pass). r ∷ ps) here)
           (left_begun s m p ps x (slice_get_within m.map x (taken q.phase) has) (live_before s m x live))))
-          (λ (behind : Contains ps q). Later behind)
+          (λ (further : Contains ps q). Later further)
           (contains_cases p ps q
           (subst (λ (qs : List Pass). Contains qs q) (ap (λ (rs : List Pass). drop 1 rs) are) later))
     ]

@@ -9,7 +9,7 @@ use Rattle.mapfile_text.specs.declared.state.MapState.{MapState}
 use Rattle.faulty_source.specs.Ends.{is_before}
 use Rattle.rescue_rules.specs.declared.phase.Phase.TheVariants.{Copying, Trimming, Scraping, Retrying}
 use Rattle.rescue_rules.specs.Setting.{Setting, IsSensible}
-use Rattle.rescue_rules.specs.Passes.{Pass, taken, numbered, copying_passes, passes_behind}
+use Rattle.rescue_rules.specs.Passes.{Pass, taken, numbered, copying_passes, passes_after}
 use Rattle.rescue_rules.specs.Machine.{Machine, is_live}
 use Rattle.rescue_rules.specs.Step.{Event, limit_met}
 use Rattle.rescue_rules.specs.Moves.{ready, no_pass_left, state_after, IsRun}
@@ -19,7 +19,7 @@ use Rattle.rescue_rules.proofs.OverLemmas.{live_before}
 use Rattle.rescue_rules.proofs.ReadyLemmas.{order_begins}
 use Rattle.trim_scrape.specs.Endings.{IsLeftWell, Rescued as RescuedAll, Untrimmed as UntrimmedAll, Unscraped as UnscrapedAll, Bad as BadAll}
 use Rattle.trim_scrape.proofs.FailLemmas.{owed_fails, none_owed}
-use Rattle.trim_scrape.proofs.OrderLemmas.{behind_contains, has_trimming, has_scraping, has_retrying}
+use Rattle.trim_scrape.proofs.OrderLemmas.{after_contains, has_trimming, has_scraping, has_retrying}
 use Rattle.trim_scrape.proofs.OwedLemmas.{Owes, owes_ready, owes_contains}
 use Rattle.trim_scrape.proofs.RunLemmas.{MayRun, run_live}
 use Rattle.trim_scrape.proofs.EndingLemmas.{owes_last}
@@ -28,9 +28,9 @@ use Rattle.turn_laws.specs.EndLaws.{StartIsUnderWay, UnderWayEndsWell, SinceStar
 use Rattle.turn_laws.proofs.WayLemmas.{owes_by, comes_by, may_run, run_stays_under_way}
 
 -- the passes behind copying come to each
-comes_behind : (s : Setting) (map : List Status) (from : Option MapState) (shown : MapState) (time : ℕ) (p : Pass)
-    (x : ℕ) → Contains (passes_behind s Copying) p → StillComes s (machine_of s map from shown time) p x
-comes_behind s map from shown time p x has = Later (behind_contains s (first_pass from) p (first_few from) has)
+comes_after : (s : Setting) (map : List Status) (from : Option MapState) (shown : MapState) (time : ℕ) (p : Pass)
+    (x : ℕ) → Contains (passes_after s Copying) p → StillComes s (machine_of s map from shown time) p x
+comes_after s map from shown time p x has = Later (after_contains s (first_pass from) p (first_few from) has)
 
 pub start_is_under_way : StartIsUnderWay
 start_is_under_way s map from shown time = record {
@@ -40,8 +40,8 @@ start_is_under_way s map from shown time = record {
   passes = refl;
   tried = λ x live has. comes_by s (machine_of s map from shown time) (numbered Copying copying_passes) x
       (owes_last s map from shown time x (slice_get_within map x NonTried has));
-  trimmed = λ on x live has. comes_behind s map from shown time (numbered Trimming 1) x (has_trimming s on);
-  scraped = λ on x live has. comes_behind s map from shown time (numbered Scraping 1) x (has_scraping s on);
+  trimmed = λ on x live has. comes_after s map from shown time (numbered Trimming 1) x (has_trimming s on);
+  scraped = λ on x live has. comes_after s map from shown time (numbered Scraping 1) x (has_scraping s on);
 }
 
 none_comes : (s : Setting) (m : Machine) (p : Pass) (x : ℕ) → MayRun s m → no_pass_left (ready s m).passes ≡ true
@@ -112,7 +112,7 @@ since_start s map from shown time es x (Untrimmed off has) = UntrimmedAll off ha
 since_start s map from shown time es x (Unscraped off has) = UnscrapedAll off has
 since_start s map from shown time es x (Bad has each) =
     BadAll has (λ n some few. each n
-    (comes_behind s map from shown time (numbered Retrying n) x (has_retrying s n some few)))
+    (comes_after s map from shown time (numbered Retrying n) x (has_retrying s n some few)))
 
 pub since_start_is_well : SinceStartIsWell
 since_start_is_well s map from shown time es w =

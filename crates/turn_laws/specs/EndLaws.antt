@@ -31,7 +31,7 @@ use Rattle.rescue_core.specs.Across.{Across}
 use Rattle.rescue_core.specs.RunState.{RunState, setting_in}
 use Rattle.rescue_core.specs.Closing.{Closes}
 use Rattle.copy_passes.specs.Turns.{Went}
-use Rattle.trim_scrape.specs.Behind.{IsBehind}
+use Rattle.trim_scrape.specs.Past.{IsPast}
 use Rattle.trim_scrape.specs.Endings.{EndsWell}
 use Rattle.task_rescue.specs.Running.{WentToEnd}
 use Rattle.turn_laws.specs.Safe.{IsHeldIn, IsSafe}
@@ -72,7 +72,7 @@ SinceStartIsWell = (s : Setting) (map : List Status) (from : Option MapState) (s
 abbrev pub PhasesEndWell : Type 0
 PhasesEndWell = (s : Setting) (r r' : RunState) (o : Across) (site : SiteState) → setting_in r ≡ nameless s
     → IsSensible (setting_in r) → IsUnderWay (setting_in r) r.machine → IsTrue o.site.tells → Keeps o.site o.site' → Keeps o.site' site
-    → (w : Went r r' o) → IsBehind Retrying r' → Closes None r' RunDone o.site' site
+    → (w : Went r r' o) → IsPast Retrying r' → Closes None r' RunDone o.site' site
     → IsWellEnded s r.machine w.events (disk_of o.site) (disk_of site)
 
 -- So is a whole run that answers so.

@@ -3,7 +3,7 @@ use Rattle.std.specs.Prelude.{◌≡◌, ◌≢◌, ⊤, ℕ, ◌≤◌, false, 
 use Rattle.rescue_rules.specs.declared.phase.Phase.{Phase}
 use Rattle.rescue_rules.specs.declared.phase.Phase.TheVariants.{Copying, Trimming, Scraping, Retrying}
 use Rattle.rescue_rules.specs.Setting.{Setting, IsSensible}
-use Rattle.rescue_rules.specs.Passes.{Pass, numbered, copying_passes, passes_in, passes_behind, passes_from}
+use Rattle.rescue_rules.specs.Passes.{Pass, numbered, copying_passes, passes_in, passes_after, passes_from}
 use Rattle.rescue_rules.specs.Machine.{has_request}
 use Rattle.rescue_rules.specs.MachineLaws.{IsInOrder, HasNone}
 use Rattle.rescue_rules.specs.Step.{limit_met}
@@ -11,7 +11,7 @@ use Rattle.rescue_core.specs.RunState.{RunState, setting_in, passed}
 use Rattle.rescue_core.specs.Stages.{Reached, Copied, Trimmed, Scraped, Over, Known}
 use Rattle.copy_passes.specs.Turns.{IsAlike}
 use Rattle.copy_passes.specs.Copying.{MayCopy}
-use Rattle.trim_scrape.specs.Behind.{IsBehind}
+use Rattle.trim_scrape.specs.Past.{IsPast}
 use Rattle.turn_laws.specs.UnderWay.{IsUnderWay}
 
 -- a run that has begun these passes, one after another
@@ -27,18 +27,18 @@ MayPassOver r (p ∷ ps) =
     × (has_request (setting_in r) r.machine ≡ false) × MayPassOver (passed r p.phase p.number) ps
 
 -- Over these passes a run comes to where the phase behind this one takes it, with the same reads to come.
-pub record LeadsBehind (phase : Phase) (r : RunState) (spent : List Pass) : Type 0 where
+pub record LeadsPast (phase : Phase) (r : RunState) (spent : List Pass) : Type 0 where
   pub may : MayPassOver r spent
-  pub behind : IsBehind phase (passed_over r spent)
+  pub is_past : IsPast phase (passed_over r spent)
   pub alike : IsAlike (setting_in r) r.machine (passed_over r spent).machine
 
 -- A run whose pass has no request left, and whose passes up to those behind a phase have no position to ask for, may
 -- begin these, and then be handed to the next phase.
-abbrev pub SpentLeadsBehind : Type 0
-SpentLeadsBehind = (r : RunState) (phase : Phase) (spent : List Pass) → IsSensible (setting_in r)
+abbrev pub SpentLeadsPast : Type 0
+SpentLeadsPast = (r : RunState) (phase : Phase) (spent : List Pass) → IsSensible (setting_in r)
     → limit_met (setting_in r) r.machine ≡ None → has_request (setting_in r) r.machine ≡ false
-    → drop 1 r.machine.passes ≡ spent ++ passes_behind (setting_in r) phase
-    → All (HasNone (setting_in r) r.machine) spent → LeadsBehind phase r spent
+    → drop 1 r.machine.passes ≡ spent ++ passes_after (setting_in r) phase
+    → All (HasNone (setting_in r) r.machine) spent → LeadsPast phase r spent
 
 -- the passes up to the end of a phase, from one of copying on
 abbrev pub passes_up_to : Setting → Phase → (number : ℕ) → List Pass
@@ -50,19 +50,19 @@ passes_up_to s Scraping number =
 passes_up_to s Retrying number = passes_from s Copying number
 
 -- what the type of a run knows that the phase behind this one takes
-abbrev pub known_behind : Phase → Reached
-known_behind Copying = Copied
-known_behind Trimming = Trimmed
-known_behind Scraping = Scraped
-known_behind Retrying = Over
+abbrev pub known_past : Phase → Reached
+known_past Copying = Copied
+known_past Trimming = Trimmed
+known_past Scraping = Scraped
+known_past Retrying = Over
 
 -- By what its type knows, a run that stands in any pass of copying still may be handed so to trimming, to scraping or to
 -- retrying.
-abbrev pub TypedLeadsBehind : Type 0
-TypedLeadsBehind = (r : RunState) (phase : Phase) → phase ≢ Retrying → IsSensible (setting_in r)
+abbrev pub TypedLeadsPast : Type 0
+TypedLeadsPast = (r : RunState) (phase : Phase) → phase ≢ Retrying → IsSensible (setting_in r)
     → limit_met (setting_in r) r.machine ≡ None → r.pass ≤ copying_passes
-    → r.machine.passes ≡ passes_from (setting_in r) Copying r.pass → Known (known_behind phase) r
-    → LeadsBehind phase r (drop 1 (passes_up_to (setting_in r) phase r.pass))
+    → r.machine.passes ≡ passes_from (setting_in r) Copying r.pass → Known (known_past phase) r
+    → LeadsPast phase r (drop 1 (passes_up_to (setting_in r) phase r.pass))
 
 -- Copying takes a run that is under way in any of its passes, wherever its cursor.
 abbrev pub UnderWayMayCopy : Type 0
@@ -75,7 +75,7 @@ abbrev pub CopyingIsUnderWay : Type 0
 CopyingIsUnderWay = (r : RunState) → MayCopy r → IsUnderWay (setting_in r) r.machine
 
 -- So is one that is behind a phase, by what its type knows, and may be handed to the next.
-abbrev pub BehindIsUnderWay : Type 0
-BehindIsUnderWay = (r : RunState) (phase : Phase) (first : ℕ) (past : List Pass) → IsInOrder (setting_in r) r.machine
-    → past ++ r.machine.passes ≡ passes_from (setting_in r) Copying first → IsBehind phase r
-    → Known (known_behind phase) r → IsUnderWay (setting_in r) r.machine
+abbrev pub PastIsUnderWay : Type 0
+PastIsUnderWay = (r : RunState) (phase : Phase) (first : ℕ) (past : List Pass) → IsInOrder (setting_in r) r.machine
+    → past ++ r.machine.passes ≡ passes_from (setting_in r) Copying first → IsPast phase r
+    → Known (known_past phase) r → IsUnderWay (setting_in r) r.machine

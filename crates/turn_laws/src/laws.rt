@@ -2,7 +2,7 @@
 ghost use Rattle.turn_laws.specs.EndLaws.{DoneEndsWell, NextPassIsUnderWay, PhasesEndWell, RunStaysUnderWay, SinceStartIsWell, StartIsUnderWay, StoppedIsSaved, UnderWayEndsWell, WholeRunIsHeld, WholeRunIsKept};
 ghost use Rattle.turn_laws.specs.Laws.{CloseIsHeld, HaltedTurnIsHeld, RestIsSafe, RunIsHeld, RunStaysSafe, SafeIsHeld, TurnIsHeld, TurnStaysSafe};
 ghost use Rattle.turn_laws.specs.NowLaws.{CloseStaysSafeNow, HaltedStaysSafeNow, NowIsSafe, PhaseStaysSafeNow, RestIsSafeNow, RunStaysSafeNow, StoppedStaysSafeNow, TurnStaysSafeNow};
-ghost use Rattle.turn_laws.specs.PassLaws.{BehindIsUnderWay, CopyingIsUnderWay, SpentLeadsBehind, TypedLeadsBehind, UnderWayMayCopy};
+ghost use Rattle.turn_laws.specs.PassLaws.{PastIsUnderWay, CopyingIsUnderWay, SpentLeadsPast, TypedLeadsPast, UnderWayMayCopy};
 ghost use Rattle.turn_laws.specs.PhaseLaws.{AlikeAreSafe, HaltedTurnStaysSafe, PhaseIsHeld, PhaseStaysSafe, StoppedTurnsAreHeld, StoppedTurnsStaySafe};
 
 /// A run is safe where it begins on an open output and a mapfile that are durable.
@@ -169,13 +169,13 @@ pub fn a_whole_run_is_kept()
 {}
 
 /// A run whose earlier passes are spent may begin those that are left of them, and is behind that phase then.
-pub fn spent_passes_lead_behind()
-    ensures { SpentLeadsBehind }
+pub fn spent_passes_lead_past()
+    ensures { SpentLeadsPast }
 {}
 
 /// By what its type knows, a run that stands in copying still may be handed so to the phase that takes its type.
-pub fn a_typed_run_leads_behind()
-    ensures { TypedLeadsBehind }
+pub fn a_typed_run_leads_past()
+    ensures { TypedLeadsPast }
 {}
 
 /// Copying takes a run that is under way in any of its passes.
@@ -189,6 +189,6 @@ pub fn what_may_copy_is_under_way()
 {}
 
 /// So is one that is behind a phase, by what its type knows.
-pub fn what_is_behind_is_under_way()
-    ensures { BehindIsUnderWay }
+pub fn what_is_past_is_under_way()
+    ensures { PastIsUnderWay }
 {}

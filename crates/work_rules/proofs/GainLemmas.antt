@@ -6,17 +6,17 @@ use Rattle.crash_site.specs.CallsMade.{Lost, BrokeAt}
 use Rattle.save_resume.specs.Saving.{IsNameIn}
 
 -- a record that grew, behind other calls
-pub lost_behind : (c : Call) (front old new : List Entry) → Lost c old new → Lost c (front ++ old) (front ++ new)
-lost_behind c front old new (inl e) = inl (ap (λ r. front ++ r) e ∙ sym (append_assoc front old (Failed c ∷ [])))
-lost_behind c front old new (inr e) = inr (ap (λ r. front ++ r) e)
+pub lost_after : (c : Call) (front old new : List Entry) → Lost c old new → Lost c (front ++ old) (front ++ new)
+lost_after c front old new (inl e) = inl (ap (λ r. front ++ r) e ∙ sym (append_assoc front old (Failed c ∷ [])))
+lost_after c front old new (inr e) = inr (ap (λ r. front ++ r) e)
 
-pub broke_behind : (at : SiteCall) (calls : List Call) (front old new : List Entry) → BrokeAt at calls old new
+pub broke_after : (at : SiteCall) (calls : List Call) (front old new : List Entry) → BrokeAt at calls old new
     → BrokeAt at calls (front ++ old) (front ++ new)
-broke_behind at [] front old new b = absurd b
-broke_behind at (c ∷ cs) front old new (inl l) = inl (l.0, lost_behind c front old new l.1)
-broke_behind at (c ∷ cs) front old new (inr b) =
+broke_after at [] front old new b = absurd b
+broke_after at (c ∷ cs) front old new (inl l) = inl (l.0, lost_after c front old new l.1)
+broke_after at (c ∷ cs) front old new (inr b) =
     let P : List Entry → Type 0 = λ r. BrokeAt at cs r (front ++ new) in
-    inr (subst P (sym (append_assoc front old (Done c ∷ []))) (broke_behind at cs front (old ++ Done c ∷ []) new b))
+    inr (subst P (sym (append_assoc front old (Done c ∷ []))) (broke_after at cs front (old ++ Done c ∷ []) new b))
 
 -- what a record gained with a call that failed
 pub record GainsBroken (at : SiteCall) (calls : List Call) (old new : List Entry) : Type 0 where
@@ -33,7 +33,7 @@ broke_gains at (c ∷ cs) old new (inr b) =
     record {
       more = Done c ∷ rest.more;
       grew = rest.grew ∙ append_assoc old (Done c ∷ []) rest.more;
-      broke = inr (broke_behind at cs (Done c ∷ []) [] rest.more rest.broke);
+      broke = inr (broke_after at cs (Done c ∷ []) [] rest.more rest.broke);
     }
 
 -- calls that broke behind others that returned, of which none has the name of the one that failed

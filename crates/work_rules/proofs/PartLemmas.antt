@@ -3,7 +3,7 @@ use Rattle.std.proofs.Common.{◌≡◌, List, [], ◌∷◌, ◌++◌, map, Som
 use Rattle.crash_site.specs.Calls.{Entry, Done as Returned}
 use Rattle.work_rules.specs.Work.{Deeds, Faults, WorkStep, Take, Look, Open, Make, Read, Works, with_calls}
 use Rattle.work_rules.specs.Parts.{WentThrough}
-use Rattle.work_rules.specs.Holds.{behind_entries}
+use Rattle.work_rules.specs.Holds.{after_entries}
 
 -- what stopped in some rows stopped in front of all that is behind them
 pub stopped_more : {E : Type 0} (f : Faults E) (rows more : List (WorkStep E)) (run : E → Deeds → Type 0) (e : E) (d : Deeds)
@@ -37,7 +37,7 @@ grew_both d0 d1 d2 more o l first second =
 -- what is done behind rows that the work went through is done by all of it
 pub through_then : {E : Type 0} (f : Faults E) (rows more : List (WorkStep E)) (run : E → Deeds → Type 0) (e : E)
     (calls : List Entry) (d : Deeds) → WentThrough rows calls → Works f more run e d
-    → Works f (rows ++ more) run e (behind_entries calls d)
+    → Works f (rows ++ more) run e (after_entries calls d)
 through_then f [] more run e calls d t w =
     subst (λ c. Works f more run e (with_calls d (c ++ d.gain.calls))) (sym t) w
 through_then f (Take ∷ rows) more run e calls d t w = inr (through_then f rows more run e calls d t w)

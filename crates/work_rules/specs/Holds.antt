@@ -9,14 +9,14 @@ use Rattle.rescue_rules.specs.Work.{IsNothing}
 use Rattle.work_rules.specs.Work.{Opened, Unopened, Deeds, IsIdle, IsOnlyCalls, with_calls, with_opens, Faults, WorkStep, Take, Look, Open, Make, Read}
 
 -- deeds behind these calls, behind such as returned, and behind an open
-abbrev pub behind_entries : List Entry → Deeds → Deeds
-behind_entries calls d = with_calls d (calls ++ d.gain.calls)
+abbrev pub after_entries : List Entry → Deeds → Deeds
+after_entries calls d = with_calls d (calls ++ d.gain.calls)
 
-abbrev pub behind_calls : List Call → Deeds → Deeds
-behind_calls calls d = behind_entries (map Returned calls) d
+abbrev pub after_calls : List Call → Deeds → Deeds
+after_calls calls d = after_entries (map Returned calls) d
 
-abbrev pub behind_open : List ℕ → Deeds → Deeds
-behind_open name d = with_opens d (Opened name ∷ d.opens)
+abbrev pub after_open : List ℕ → Deeds → Deeds
+after_open name d = with_opens d (Opened name ∷ d.opens)
 
 -- The property holds of what each step may answer, and behind each step of what those behind it may answer.
 abbrev pub Holds : {E : Type 0} → Faults E → List (WorkStep E) → (run P : E → Deeds → Type 0) → Type 0
@@ -27,10 +27,10 @@ Holds {E} f (Look refuses ∷ more) run P =
     × (((v : E) → refuses v → ⊥) → Holds f more run P)
 Holds f (Open name ∷ more) run P =
     ((d : Deeds) → d.opens ≡ Unopened name ∷ [] → IsNothing d.gain → P f.input d)
-    × Holds f more run (λ e d. P e (behind_open name d))
+    × Holds f more run (λ e d. P e (after_open name d))
 Holds f (Make calls ∷ more) run P =
     ((call : SiteCall) (d : Deeds) → BrokeAt call calls [] d.gain.calls → IsOnlyCalls d → P (f.call call) d)
-    × Holds f more run (λ e d. P e (behind_calls calls d))
+    × Holds f more run (λ e d. P e (after_calls calls d))
 Holds f (Read name file ∷ more) run P =
     (name ≡ None → ((d : Deeds) → IsIdle d → P f.memory d) × (file ≡ None → Holds f more run P))
     × ((n : List ℕ) → name ≡ Some n
@@ -38,4 +38,4 @@ Holds f (Read name file ∷ more) run P =
     → P (f.call MapRead) d)
     × ((load : List Call) (d : Deeds) → BeginsLoad n file load → d.gain.calls ≡ map Returned load → IsOnlyCalls d
     → P f.memory d)
-    × ((load : List Call) → IsLoad n file load → Holds f more run (λ e d. P e (behind_calls load d))))
+    × ((load : List Call) → IsLoad n file load → Holds f more run (λ e d. P e (after_calls load d))))

@@ -1,7 +1,7 @@
 use Rattle.std.proofs.Common.{◌+◌, ◌<◌, length, arith}
 use Rattle.block_list.specs.Edits.{start_of}
 use Rattle.block_list.proofs.TileLemmas.{tile_read, start_mono}
-use Rattle.block_list.proofs.LookupLemmas.{clear_behind, clear_up, found_first, found_range_up}
+use Rattle.block_list.proofs.LookupLemmas.{clear_after, clear_up, found_first, found_range_up}
 use Rattle.block_list.proofs.lookups.first_with.Goals as goal
 
 pub overflow_add-result : goal.overflow_add-result
@@ -36,7 +36,7 @@ returns-then-is-clause-range c =
 pub loop-i-preserved : goal.loop-i-preserved
 loop-i-preserved c =
     let h : c.loop-i.i < length c.args.blocks.now.items = omega arith in
-    clear_behind _ _ _ _ _ c.requires.tiled c.requires.merged h c.block-block.ensures
+    clear_after _ _ _ _ _ c.requires.tiled c.requires.merged h c.block-block.ensures
     (λ q. let t = c.is.ensures.1 q in cc) c.loop-i.invariant
 
 pub returns-clause-none : goal.returns-clause-none

@@ -1,6 +1,6 @@
 -- By the step at which the work stopped.
 use Rattle.ddrescuelog_words.specs.Command.{told_by}
-use Rattle.ddrescuelog_cli.proofs.CreateLemmas.{created_starved, created_stopped, created_refused, created, is_alone, feed_behind_save}
+use Rattle.ddrescuelog_cli.proofs.CreateLemmas.{created_starved, created_stopped, created_refused, created, is_alone, feed_after_save}
 use Rattle.ddrescuelog_cli.proofs.create.create_map.Goals as goal
 
 pub returns-in_default-clause-work : goal.returns-in_default-clause-work
@@ -20,7 +20,7 @@ returns-in-Ok-make_map-clause-work g c = λ line is.
 
 pub returns-in-Ok-make_map-clause-feed : goal.returns-in-Ok-make_map-clause-feed
 returns-in-Ok-make_map-clause-feed g c =
-    feed_behind_save c.in-Ok.names _ _ _ _ _ _ c.save_map.ensures.saves c.in-Ok-make_map.ensures.feed
+    feed_after_save c.in-Ok.names _ _ _ _ _ _ c.save_map.ensures.saves c.in-Ok-make_map.ensures.feed
 
 pub returns-clause-work : goal.returns-clause-work
 returns-clause-work g c = λ line is.

@@ -10,12 +10,12 @@ numbers-init g c = none_put _ _ _ _ c.requires.begin c.new-buffer.ensures
 pub numbers-smaller : goal.numbers-smaller
 numbers-smaller g c =
     fewer_left (wanted_of c.args.listing.now (covers c.args.domain.now) (g.T.Tiles.statuses c.args.tiles.now)) _ _
-    c.in-Some.number (next_of _ _ _ _ _ _ _ _ c.numbers.invariant c.in-Some.ensures.least) c.in-Some.ensures.behind
+    c.in-Some.number (next_of _ _ _ _ _ _ _ _ c.numbers.invariant c.in-Some.ensures.least) c.in-Some.ensures.after
 
 pub numbers-preserved : goal.numbers-preserved
 numbers-preserved g c =
     number_put _ _ _ _ _ _ c.in-Some.number _ _ _ c.numbers.invariant
-    (next_of _ _ _ _ _ _ _ _ c.numbers.invariant c.in-Some.ensures.least) c.in-Some.ensures.behind
+    (next_of _ _ _ _ _ _ _ _ c.numbers.invariant c.in-Some.ensures.least) c.in-Some.ensures.after
     (rw (← c.make_number_line-line.ensures) (rw (← c.as_slice.ensures.value) c.in-Ok.ensures.added))
 
 pub returns-clause-put : goal.returns-clause-put

@@ -2,7 +2,7 @@
 use Rattle.std.proofs.Common.{◌∙◌}
 use Rattle.std.proofs.lemmas.Result.{err_from_is_err_and}
 use Rattle.ddrescuelog_words.specs.Command.{told_by}
-use Rattle.ddrescuelog_cli.proofs.LoadedLemmas.{mapfile_refused, other_refused, domain_refused, loaded_or_starved, cause_behind}
+use Rattle.ddrescuelog_cli.proofs.LoadedLemmas.{mapfile_refused, other_refused, domain_refused, loaded_or_starved, cause_after}
 use Rattle.ddrescuelog_cli.proofs.load.load_maps.Goals as goal
 
 pub returns-in_err-map-clause-maps : goal.returns-in_err-map-clause-maps
@@ -25,13 +25,13 @@ pub returns-in_err-other-clause-cause : goal.returns-in_err-other-clause-cause
 returns-in_err-other-clause-cause g c =
     let p = err_from_is_err_and c.from_residual-in_err-other.result c.from_residual-in_err-other.ensures.1 in
     rw (p.1, p.2)
-    (cause_behind c.in_err-other.field-0.0 _ _ _ c.in_ok-map.ensures.kept c.in_err-other.ensures.cause)
+    (cause_after c.in_err-other.field-0.0 _ _ _ c.in_ok-map.ensures.kept c.in_err-other.ensures.cause)
 
 pub returns-in_err-domain_map-clause-cause : goal.returns-in_err-domain_map-clause-cause
 returns-in_err-domain_map-clause-cause g c =
     let p = err_from_is_err_and c.from_residual-in_err-domain_map.result c.from_residual-in_err-domain_map.ensures.1 in
     rw (p.1, p.2)
-    (cause_behind c.in_err-domain_map.field-0.0 _ _ _ (c.in_ok-other.ensures.kept ∙ c.in_ok-map.ensures.kept)
+    (cause_after c.in_err-domain_map.field-0.0 _ _ _ (c.in_ok-other.ensures.kept ∙ c.in_ok-map.ensures.kept)
     c.in_err-domain_map.ensures.cause)
 
 pub returns-in_err-domain_map-clause-maps : goal.returns-in_err-domain_map-clause-maps

@@ -2,7 +2,7 @@
 use Rattle.std.proofs.Common.{sym, ◌∙◌}
 use Rattle.ddrescuelog_words.specs.Command.{told_by}
 use Rattle.ddrescuelog_cli.proofs.AfterLemmas.{removing_prints_nothing}
-use Rattle.ddrescuelog_cli.proofs.WorkedLemmas.{load_stopped, load_removed, load_found, found_behind}
+use Rattle.ddrescuelog_cli.proofs.WorkedLemmas.{load_stopped, load_removed, load_found, found_after}
 use Rattle.ddrescuelog_cli.proofs.log.run_over_maps.Goals as goal
 
 pub returns-in-Err-clause-work : goal.returns-in-Err-clause-work
@@ -28,7 +28,7 @@ returns-clause-work g c = λ line feed heads.
 
 pub returns-clause-site : goal.returns-clause-site
 returns-clause-site g c =
-    found_behind (told_by c.args.command.now) c.in-Ok.loaded c.args.heading.now c.find.result
+    found_after (told_by c.args.command.now) c.in-Ok.loaded c.args.heading.now c.find.result
     (g.D.Site.state c.args.site.now) (g.D.Site.state c.load_maps.new.site) (g.P.Console.state c.args.console.now)
     (g.P.Console.state c.find.new.console) c.requires.reads (sym c.removes_map.ensures ∙ c.if-removes_map.false)
     c.in-Ok.ensures.maps c.load_maps.ensures.site c.in-Ok.ensures.kept c.find.ensures

@@ -2,7 +2,7 @@
 use Rattle.std.proofs.Common.{refl}
 use Rattle.faulty_source.proofs.Keeping.{stays_self}
 use Rattle.ddrescueverify_cli.specs.Steps.{Beyond, Halted, Starved}
-use Rattle.ddrescueverify_cli.proofs.ComparingLemmas.{are_placed, compares_as, far_by, halt_cause, is_behind, is_short, is_within, near_by}
+use Rattle.ddrescueverify_cli.proofs.ComparingLemmas.{are_placed, compares_as, far_by, halt_cause, is_past, is_short, is_within, near_by}
 use Rattle.ddrescueverify_cli.proofs.verify.compare_loaded.Goals as goal
 
 pub returns-then-not-places_fit-clause-stops : goal.returns-then-not-places_fit-clause-stops
@@ -21,9 +21,9 @@ pub compare-requires-clause-short : goal.compare-requires-clause-short
 compare-requires-clause-short g c =
     is_short c.args.options.now c.args.end c.args.loaded.now.tiles.statuses _ c.in-Ok.ensures c.requires.end
 
-pub compare-requires-clause-behind : goal.compare-requires-clause-behind
-compare-requires-clause-behind g c =
-    is_behind c.args.options.now c.args.end c.args.loaded.now.tiles.statuses _ c.in-Ok.ensures
+pub compare-requires-clause-past : goal.compare-requires-clause-past
+compare-requires-clause-past g c =
+    is_past c.args.options.now c.args.end c.args.loaded.now.tiles.statuses _ c.in-Ok.ensures
 
 pub compare-requires-clause-placed : goal.compare-requires-clause-placed
 compare-requires-clause-placed g c =

@@ -7,7 +7,7 @@ use Rattle.sweep_rules.specs.Sweep.{filler}
 use Rattle.fill_generate.specs.SweepState.{setting_of}
 use Rattle.fill_generate.proofs.TellLemmas.{clock_self}
 use Rattle.fill_generate.proofs.PieceLemmas.{uncalled, breaks_one, makes_one, lost_write, fills_is}
-use Rattle.fill_generate.proofs.OutcomeLemmas.{piece_ends, goes_behind, passes_behind}
+use Rattle.fill_generate.proofs.OutcomeLemmas.{piece_ends, goes_after, passes_after}
 use Rattle.fill_generate.proofs.fill.fill_piece.Goals as goal
 
 pub returns-in-Err-clause-ends : goal.returns-in-Err-clause-ends
@@ -53,10 +53,10 @@ returns-in-Ok-clause-ends g c types is =
     })
 
 pub returns-in-Ok-clause-stands : goal.returns-in-Ok-clause-stands
-returns-in-Ok-clause-stands g c = goes_behind _ _ _ _ _ _ c.end_piece.ensures.ends
+returns-in-Ok-clause-stands g c = goes_after _ _ _ _ _ _ c.end_piece.ensures.ends
 
 pub returns-in-Ok-clause-passed : goal.returns-in-Ok-clause-passed
-returns-in-Ok-clause-passed g c = passes_behind _ _ _ _ _ _ c.end_piece.ensures.ends
+returns-in-Ok-clause-passed g c = passes_after _ _ _ _ _ _ c.end_piece.ensures.ends
 
 pub returns-in-Ok-clause-objects : goal.returns-in-Ok-clause-objects
 returns-in-Ok-clause-objects g c = record {

@@ -5,7 +5,7 @@ use Rattle.std.proofs.Math.Nat.{div-mul-le_self, mul-le-mul_right}
 use Rattle.map_algebra.proofs.listing.first_of.Goals as goal
 
 pub returns : goal.returns
-returns c = λ x short behind placed.
+returns c = λ x short past placed.
     let s = c.args.shape in
     let n = c.args.number in
     let p : ℕ = x - s.ipos + s.opos in
@@ -15,9 +15,9 @@ returns c = λ x short behind placed.
       λ h.
           let low : n * s.size ≤ p =
           le_trans (mul-le-mul_right {m = n} {n = p / s.size} s.size h) (div-mul-le_self p s.size) in
-          omega (arith, low, placed, behind, product, less, more),
+          omega (arith, low, placed, past, product, less, more),
       λ h.
           let low : n * s.size ≤ p =
-          omega (arith, h, short, placed, behind, product, less, more) in
+          omega (arith, h, short, placed, past, product, less, more) in
           le-div n p s.size c.requires low,
     )

@@ -21,8 +21,8 @@ pub loop-line-preserved : goal.loop-line-preserved
 loop-line-preserved c =
     let s = c.args.shape in
     let n = c.loop-line.count in
-    let left : c.lines_behind-lines.result ≡ c.in-Some.line.behind =
-    c.lines_behind-lines.ensures ∙ ap (λ (l : OpenLine). l.behind) c.number_of.ensures.kept in
+    let left : c.lines_after-lines.result ≡ c.in-Some.line.after =
+    c.lines_after-lines.ensures ∙ ap (λ (l : OpenLine). l.after) c.number_of.ensures.kept in
     record {
       numbers = counted-next s (checked (numbers_in s c.args.text.now)) n c.loop-line.lines c.in-Some.line
           c.in_ok-number_of.field-0 c.loop-line.invariant.numbers c.in-Some.ensures c.in_ok-number_of.ensures.number
@@ -35,8 +35,8 @@ overflow_add-count c = omega (arith, ap length c.in-Some.ensures)
 
 pub loop-line-smaller : goal.loop-line-smaller
 loop-line-smaller c =
-    let left : c.lines_behind-lines.result ≡ c.in-Some.line.behind =
-    c.lines_behind-lines.ensures ∙ ap (λ (l : OpenLine). l.behind) c.number_of.ensures.kept in
+    let left : c.lines_after-lines.result ≡ c.in-Some.line.after =
+    c.lines_after-lines.ensures ∙ ap (λ (l : OpenLine). l.after) c.number_of.ensures.kept in
     omega (arith, ap length left, ap length c.in-Some.ensures)
 
 pub returns-in_err-number_of : goal.returns-in_err-number_of

@@ -1,6 +1,6 @@
 use Rattle.std.proofs.Common.{arith}
 use Rattle.block_list.proofs.HeldLemmas.{stretch_within}
-use Rattle.map_algebra.proofs.WalkLemmas.{constant_in, constant_behind}
+use Rattle.map_algebra.proofs.WalkLemmas.{constant_in, constant_past}
 use Rattle.map_algebra.proofs.pieces.status_from.Goals as goal
 
 pub overflow_add-block : goal.overflow_add-block
@@ -8,7 +8,7 @@ overflow_add-block g c =
     omega (arith, stretch_within _ _ c.stretch_near-block.ensures.stretch, c.end.ensures.end, c.end.ensures.short)
 
 pub returns-then-end-x-clause-stretch : goal.returns-then-end-x-clause-stretch
-returns-then-end-x-clause-stretch g c = constant_behind _ _ _ (omega arith) (omega arith)
+returns-then-end-x-clause-stretch g c = constant_past _ _ _ (omega arith) (omega arith)
 
 pub returns-clause-stretch : goal.returns-clause-stretch
 returns-clause-stretch g c =

@@ -13,14 +13,14 @@ pub returns-in_err-block-clause-fault : goal.returns-in_err-block-clause-fault
 returns-in_err-block-clause-fault c =
     let line = c.in-Some.line in
     let q : c.from_residual.result ≡ Err c.in_err-block.field-0.0 = search rules in
-    let g : Comes c.args.mode (no_comments c.args.lines) c.loop-line.shape (line_of line ∷ no_comments line.behind) =
+    let g : Comes c.args.mode (no_comments c.args.lines) c.loop-line.shape (line_of line ∷ no_comments line.after) =
     rw c.in-Some.ensures at c.loop-line.invariant.comes in
     rw q (comes-bad_block _ g c.in_err-block.ensures.fault)
 
 pub put-requires-clause-few : goal.put-requires-clause-few
 put-requires-clause-few c =
     let line = c.in-Some.line in
-    let g : Comes c.args.mode (no_comments c.args.lines) c.loop-line.shape (line_of line ∷ no_comments line.behind) =
+    let g : Comes c.args.mode (no_comments c.args.lines) c.loop-line.shape (line_of line ∷ no_comments line.after) =
     rw c.in-Some.ensures at c.loop-line.invariant.comes in
     omega (arith, g.lines)
 
@@ -28,10 +28,10 @@ pub loop-line-preserved : goal.loop-line-preserved
 loop-line-preserved c =
     let line = c.in-Some.line in
     let more = c.in_ok-put.ensures in
-    let g : Comes c.args.mode (no_comments c.args.lines) c.loop-line.shape (line_of line ∷ no_comments line.behind) =
+    let g : Comes c.args.mode (no_comments c.args.lines) c.loop-line.shape (line_of line ∷ no_comments line.after) =
     rw c.in-Some.ensures at c.loop-line.invariant.comes in
-    let left : no_comments c.lines_behind-lines.result ≡ no_comments line.behind =
-    ap no_comments (c.lines_behind-lines.ensures ∙ ap (λ (l : OpenLine). l.behind) c.read_block.ensures.kept) in
+    let left : no_comments c.lines_after-lines.result ≡ no_comments line.after =
+    ap no_comments (c.lines_after-lines.ensures ∙ ap (λ (l : OpenLine). l.after) c.read_block.ensures.kept) in
     record {
       state = ap (λ (s : MapShape). s.state) more.put ∙ c.loop-line.invariant.state;
       comes = subst (λ (ls : List Line). Comes c.args.mode (no_comments c.args.lines) c.put.new.self ls) (sym left)
@@ -42,7 +42,7 @@ pub returns-in_err-put-clause-fault : goal.returns-in_err-put-clause-fault
 returns-in_err-put-clause-fault c =
     let line = c.in-Some.line in
     let q : c.from_residual-in_err-put.result ≡ Err c.in_err-put.field-0.0 = search rules in
-    let g : Comes c.args.mode (no_comments c.args.lines) c.loop-line.shape (line_of line ∷ no_comments line.behind) =
+    let g : Comes c.args.mode (no_comments c.args.lines) c.loop-line.shape (line_of line ∷ no_comments line.after) =
     rw c.in-Some.ensures at c.loop-line.invariant.comes in
     let place = c.in_err-put.ensures.fault in
     let number = ap (λ (l : OpenLine). l.number) c.read_block.ensures.kept in
@@ -55,6 +55,6 @@ returns-clause-lists c = comes-end (rw c.in_default.ensures at c.loop-line.invar
 pub loop-line-smaller : goal.loop-line-smaller
 loop-line-smaller c =
     let line = c.in-Some.line in
-    let left : no_comments c.lines_behind-lines.result ≡ no_comments line.behind =
-    ap no_comments (c.lines_behind-lines.ensures ∙ ap (λ (l : OpenLine). l.behind) c.read_block.ensures.kept) in
+    let left : no_comments c.lines_after-lines.result ≡ no_comments line.after =
+    ap no_comments (c.lines_after-lines.ensures ∙ ap (λ (l : OpenLine). l.after) c.read_block.ensures.kept) in
     omega (arith, ap length left, ap length c.in-Some.ensures)

@@ -16,4 +16,4 @@ has_memory mode ls (Ok shape) f = f
 has_memory mode ls (Err e) f = lists_have_memory mode ls e f
 
 pub returns-clause-no_memory : goal.returns-clause-no_memory
-returns-clause-no_memory c = has_memory c.args.mode (no_comments c.lines_behind.result) c.check_blocks.result c.check_blocks.ensures.fault
+returns-clause-no_memory c = has_memory c.args.mode (no_comments c.lines_after.result) c.check_blocks.result c.check_blocks.ensures.fault

@@ -27,8 +27,8 @@ pub returns : goal.returns
 returns c =
     let l = c.loop-i in
     let two : l.i ≡ 2 = omega arith in
-    let behind : drop 2 l.out ≡ last_digits 8 c.args.n [] =
+    let after : drop 2 l.out ≡ last_digits 8 c.args.n [] =
     sym (last_none (l.i - 2) l.rest (drop 2 l.out) (omega arith))
     ∙ ap (λ j. last_digits (l.i - 2) l.rest (drop j l.out)) (sym two) ∙ l.invariant.digits_are in
     sym (take-append-drop 2 l.out) ∙ ap (λ t. t ++ drop 2 l.out) l.invariant.mark
-    ∙ ap (λ ds. 48 ∷ 120 ∷ ds) (behind ∙ eight_last c.args.n c.requires)
+    ∙ ap (λ ds. 48 ∷ 120 ∷ ds) (after ∙ eight_last c.args.n c.requires)

@@ -3,7 +3,7 @@ use Rattle.std.proofs.Common.{◌≡◌, ◌-◌, ◌++◌, [], ◌∷◌, lengt
 use Rattle.std.specs.Fmt.{digits}
 use Rattle.mapfile_text.specs.Printed.{at_least_eight}
 use Rattle.mapfile_text.proofs.Appended.{joined}
-use Rattle.mapfile_text.proofs.DigitLemmas.{slice_from, padded_behind, length_hexadecimal}
+use Rattle.mapfile_text.proofs.DigitLemmas.{slice_from, padded_after, length_hexadecimal}
 use Rattle.mapfile_text.proofs.made_lines.append_long.Goals as goal
 
 pub append-requires-2 : goal.append-requires-2
@@ -12,7 +12,7 @@ append-requires-2 c =
     let e : take (64 - c.min-begin.result) (drop c.min-begin.result d.new.out) ≡ at_least_eight (digits 16 true c.args.n) =
     slice_from d.new.out c.min-begin.result d.array_long
     ∙ ap (λ k. drop k d.new.out) c.min-begin.ensures
-    ∙ padded_behind d.new.out d.result d.array_long d.ensures.within d.ensures.zeros
+    ∙ padded_after d.new.out d.result d.array_long d.ensures.within d.ensures.zeros
     ∙ ap at_least_eight d.ensures.digits in
     let m = ap length c.append.ensures ∙ length-append c.args.line.now.items (48 ∷ 120 ∷ []) in
     omega (arith, ap length e, length_hexadecimal c.args.n c.ranges.n.fits)
@@ -23,7 +23,7 @@ returns-clause-text c =
     let e : take (64 - c.min-begin.result) (drop c.min-begin.result d.new.out) ≡ at_least_eight (digits 16 true c.args.n) =
     slice_from d.new.out c.min-begin.result d.array_long
     ∙ ap (λ k. drop k d.new.out) c.min-begin.ensures
-    ∙ padded_behind d.new.out d.result d.array_long d.ensures.within d.ensures.zeros
+    ∙ padded_after d.new.out d.result d.array_long d.ensures.within d.ensures.zeros
     ∙ ap at_least_eight d.ensures.digits in
     joined (48 ∷ 120 ∷ []) (at_least_eight (digits 16 true c.args.n)) c.args.line.now.items c.append.new.line.items c.append-2.new.line.items
     c.append.ensures (c.append-2.ensures ∙ ap (λ t. c.append.new.line.items ++ t) e)

@@ -5,14 +5,14 @@ use Rattle.mapfile_text.proofs.TakenOff.{piece_is, rest_is}
 use Rattle.mapfile_text.proofs.PartLemmas.{GoesOn, goes_on, left_past, not_there}
 use Rattle.mapfile_text.proofs.printer.fill.Goals as goal
 
-went : (g : _) (c : goal.After-behind-place g)
-    → GoesOn c.args.heading.now c.args.state (g.T.Tiles.statuses c.args.tiles.now) c.loop-state.place c.behind-place.result
+went : (g : _) (c : goal.After-after-place g)
+    → GoesOn c.args.heading.now c.args.state (g.T.Tiles.statuses c.args.tiles.now) c.loop-state.place c.after-place.result
     c.loop-state.out.items c.append_part-len.new.out.items c.remaining_capacity-room.result
 went g c =
-    goes_on c.args.heading.now c.args.state (g.T.Tiles.statuses c.args.tiles.now) c.loop-state.place c.behind-place.result
+    goes_on c.args.heading.now c.args.state (g.T.Tiles.statuses c.args.tiles.now) c.loop-state.place c.after-place.result
     c.loop-state.out.items c.append_part-len.new.out.items c.append_part-len.result.1 c.append_part-len.result.0 c.remaining_capacity-room.result
     c.remaining_capacity-room.ensures c.append_part-len.ensures
-    c.behind-place.ensures.past c.behind-place.ensures.whole c.behind-place.ensures.cut
+    c.after-place.ensures.past c.after-place.ensures.whole c.after-place.ensures.cut
 
 -- nothing is left where the loop ended
 gone : (g : _) (c : goal.After-loop-state g) → left_of c.loop-state.place c.args.heading.now c.args.state (g.T.Tiles.statuses c.args.tiles.now) ≡ []

@@ -18,7 +18,7 @@ returns-in_err-block-clause-fault c =
     let map = c.loop-line.map in
     let line = c.in-Some.line in
     let q : c.from_residual.result ≡ Err c.in_err-block.field-0.0 = search rules in
-    let g : Goes c.args.mode (no_comments c.args.lines) map.listed map.first map.tiles.statuses (line_of line ∷ no_comments line.behind) =
+    let g : Goes c.args.mode (no_comments c.args.lines) map.listed map.first map.tiles.statuses (line_of line ∷ no_comments line.after) =
     rw c.in-Some.ensures at c.loop-line.invariant.goes in
     rw q (inr (goes-bad_block _ map.listed g c.in_err-block.ensures.fault))
 
@@ -27,10 +27,10 @@ loop-line-preserved c =
     let map = c.loop-line.map in
     let line = c.in-Some.line in
     let more = c.in_ok-put.ensures in
-    let g : Goes c.args.mode (no_comments c.args.lines) map.listed map.first map.tiles.statuses (line_of line ∷ no_comments line.behind) =
+    let g : Goes c.args.mode (no_comments c.args.lines) map.listed map.first map.tiles.statuses (line_of line ∷ no_comments line.after) =
     rw c.in-Some.ensures at c.loop-line.invariant.goes in
-    let left : no_comments c.lines_behind-lines.result ≡ no_comments line.behind =
-    ap no_comments (c.lines_behind-lines.ensures ∙ ap (λ (l : OpenLine). l.behind) c.read_block.ensures.kept) in
+    let left : no_comments c.lines_after-lines.result ≡ no_comments line.after =
+    ap no_comments (c.lines_after-lines.ensures ∙ ap (λ (l : OpenLine). l.after) c.read_block.ensures.kept) in
     record {
       state = more.state ∙ c.loop-line.invariant.state;
       goes = subst (λ (ls : List Line).
@@ -44,7 +44,7 @@ returns-in_err-put-clause-fault c =
     let map = c.loop-line.map in
     let line = c.in-Some.line in
     let q : c.from_residual-in_err-put.result ≡ Err c.in_err-put.field-0.0 = search rules in
-    let g : Goes c.args.mode (no_comments c.args.lines) map.listed map.first map.tiles.statuses (line_of line ∷ no_comments line.behind) =
+    let g : Goes c.args.mode (no_comments c.args.lines) map.listed map.first map.tiles.statuses (line_of line ∷ no_comments line.after) =
     rw c.in-Some.ensures at c.loop-line.invariant.goes in
     let number = ap (λ (l : OpenLine). l.number) c.read_block.ensures.kept in
     rw q (⊎_elim (λ out. inl out) (λ place. inr (goes-bad_place _ map.listed g place.0 c.in_ok-block.ensures.block
@@ -57,6 +57,6 @@ returns-clause-lists c = goes-end c.loop-line.map.listed (rw c.in_default.ensure
 pub loop-line-smaller : goal.loop-line-smaller
 loop-line-smaller c =
     let line = c.in-Some.line in
-    let left : no_comments c.lines_behind-lines.result ≡ no_comments line.behind =
-    ap no_comments (c.lines_behind-lines.ensures ∙ ap (λ (l : OpenLine). l.behind) c.read_block.ensures.kept) in
+    let left : no_comments c.lines_after-lines.result ≡ no_comments line.after =
+    ap no_comments (c.lines_after-lines.ensures ∙ ap (λ (l : OpenLine). l.after) c.read_block.ensures.kept) in
     omega (arith, ap length left, ap length c.in-Some.ensures)

@@ -9,20 +9,20 @@ use Rattle.paged_blocks.proofs.RowLemmas.{row_short}
 use Rattle.paged_blocks.proofs.SpliceLemmas.{spliced_length}
 use Rattle.paged_blocks.proofs.edits.splice_page.Goals as goal
 
-pub entry_behind-entry-requires-clause-says : goal.entry_behind-entry-requires-clause-says
-entry_behind-entry-requires-clause-says c =
+pub entry_after-entry-requires-clause-says : goal.entry_after-entry-requires-clause-says
+entry_after-entry-requires-clause-says c =
     entry_says c.args.pages.now.items c.args.entries.now.items c.args.k no_entry _ _ c.requires.each c.requires.index
     (c.at-old.ensures no_entry) c.index.ensures
 
-pub entry_behind-entry-requires-clause-within : goal.entry_behind-entry-requires-clause-within
-entry_behind-entry-requires-clause-within c =
+pub entry_after-entry-requires-clause-within : goal.entry_after-entry-requires-clause-within
+entry_after-entry-requires-clause-within c =
     let pages : List (List Block) = c.args.pages.now.items in
     let es : List PageEntry = c.args.entries.now.items in
     let own = named_by pages es c.args.k no_entry _ c.requires.each c.requires.index (rw (c.at-old.ensures no_entry) at c.index.ensures) in
     omega (arith, c.requires.within no_entry, ap length own)
 
-pub entry_behind-entry-requires-clause-fits : goal.entry_behind-entry-requires-clause-fits
-entry_behind-entry-requires-clause-fits c =
+pub entry_after-entry-requires-clause-fits : goal.entry_after-entry-requires-clause-fits
+entry_after-entry-requires-clause-fits c =
     let pages : List (List Block) = c.args.pages.now.items in
     let es : List PageEntry = c.args.entries.now.items in
     let own = named_by pages es c.args.k no_entry _ c.requires.each c.requires.index (rw (c.at-old.ensures no_entry) at c.index.ensures) in
@@ -34,15 +34,15 @@ entry_behind-entry-requires-clause-fits c =
       spliced_length c.index.result.now c.args.new.now c.args.from c.args.to c.requires.order (omega (arith, c.requires.within no_entry, ap length own)),
     )
 
-pub entry_behind-entry-requires-clause-short : goal.entry_behind-entry-requires-clause-short
-entry_behind-entry-requires-clause-short c =
+pub entry_after-entry-requires-clause-short : goal.entry_after-entry-requires-clause-short
+entry_after-entry-requires-clause-short c =
     let pages : List (List Block) = c.args.pages.now.items in
     let es : List PageEntry = c.args.entries.now.items in
     let own = named_by pages es c.args.k no_entry _ c.requires.each c.requires.index (rw (c.at-old.ensures no_entry) at c.index.ensures) in
     rw own (row_short _ (c.requires.row no_entry))
 
-pub entry_behind-entry-requires-clause-new_short : goal.entry_behind-entry-requires-clause-new_short
-entry_behind-entry-requires-clause-new_short c =
+pub entry_after-entry-requires-clause-new_short : goal.entry_after-entry-requires-clause-new_short
+entry_after-entry-requires-clause-new_short c =
     let pages : List (List Block) = c.args.pages.now.items in
     let es : List PageEntry = c.args.entries.now.items in
     let own = named_by pages es c.args.k no_entry _ c.requires.each c.requires.index (rw (c.at-old.ensures no_entry) at c.index.ensures) in
@@ -78,5 +78,5 @@ returns-clause-rewritten c = λ d.
     let own = named_by pages es c.args.k d _ c.requires.each c.requires.index (rw (c.at-old.ensures d) at c.index_mut.ensures.value) in
     let made : c.splice.new.self ≡ over (blocks_of pages (get_or es c.args.k d)) = c.splice.ensures ∙ ap over own in
     rw (sym made)
-    (written_page pages es c.args.k c.at-old.result c.entry_behind-entry.result _ _ _ c.at-old.ensures c.entry_behind-entry.ensures.number
-    c.entry_behind-entry.ensures.says (made ∙ sym (ap over read)) c.put.ensures.items)
+    (written_page pages es c.args.k c.at-old.result c.entry_after-entry.result _ _ _ c.at-old.ensures c.entry_after-entry.ensures.number
+    c.entry_after-entry.ensures.says (made ∙ sym (ap over read)) c.put.ensures.items)

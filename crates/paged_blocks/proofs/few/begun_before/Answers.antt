@@ -1,5 +1,5 @@
 use Rattle.std.proofs.Common.{arith}
-use Rattle.paged_blocks.proofs.FewLemmas.{some_stretch, all_searched_place, last_behind}
+use Rattle.paged_blocks.proofs.FewLemmas.{some_stretch, all_searched_place, last_after}
 use Rattle.paged_blocks.proofs.few.begun_before.Goals as goal
 
 pub overflow_sub-last : goal.overflow_sub-last
@@ -15,5 +15,5 @@ returns-then-block-at-clause-place g c =
 
 pub begun_in_front-requires-clause-front : goal.begun_in_front-requires-clause-front
 begun_in_front-requires-clause-front g c =
-    last_behind c.args.tiles.now.statuses _ _ _ c.requires.short
+    last_after c.args.tiles.now.statuses _ _ _ c.requires.short
     (omega (arith, some_stretch _ _ c.requires.some c.requires.within, c.blocks-last.ensures)) c.block.ensures (omega arith)

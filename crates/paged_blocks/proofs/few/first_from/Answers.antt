@@ -1,5 +1,5 @@
 use Rattle.std.proofs.Common.{◌+◌, arith}
-use Rattle.paged_blocks.proofs.FewLemmas.{few_behind, few_begun, few_reached, few_over, few_front_of, front_within}
+use Rattle.paged_blocks.proofs.FewLemmas.{few_after, few_begun, few_reached, few_over, few_front_of, front_within}
 use Rattle.paged_blocks.proofs.few.first_from.Goals as goal
 
 pub overflow_add-from : goal.overflow_add-from
@@ -14,13 +14,13 @@ loop-i-init g c = record {
 
 pub loop-i-preserved : goal.loop-i-preserved
 loop-i-preserved g c = record {
-  clear = few_behind c.args.tiles.now.statuses _ _ _ _ c.requires.short c.block.ensures
+  clear = few_after c.args.tiles.now.statuses _ _ _ _ c.requires.short c.block.ensures
       (λ q. let t = c.is.ensures.1 q in cc) c.loop-i.invariant.clear;
   cost = omega (arith, c.tick.ensures, c.loop-i.invariant.cost);
 }
 
-pub returns-then-is-clause-behind : goal.returns-then-is-clause-behind
-returns-then-is-clause-behind g c =
+pub returns-then-is-clause-past : goal.returns-then-is-clause-past
+returns-then-is-clause-past g c =
     few_reached c.args.tiles.now.statuses _ _ _ c.begun_in_front-begun.ensures.place (omega arith)
 
 pub returns-then-is-clause-cost : goal.returns-then-is-clause-cost
@@ -35,8 +35,8 @@ returns-then-is-clause-cost g c =
       c.requires.few,
     )
 
-pub returns-clause-behind : goal.returns-clause-behind
-returns-clause-behind g c =
+pub returns-clause-past : goal.returns-clause-past
+returns-clause-past g c =
     few_front_of c.args.tiles.now.statuses _ _ c.requires.front (omega (arith, c.blocks-2.ensures))
 
 pub returns-clause-has : goal.returns-clause-has

@@ -25,7 +25,7 @@ pub deal-requires-clause-pages : goal.deal-requires-clause-pages
 deal-requires-clause-pages c =
     omega (
       arith,
-      taken_out c.args.entries.now.items c.release.new.entries.items c.args.region.now.first c.args.region.now.behind
+      taken_out c.args.entries.now.items c.release.new.entries.items c.args.region.now.first c.args.region.now.past
           c.requires.region.order c.requires.region.within c.release.ensures.entries,
       c.requires.pages,
     )
@@ -34,7 +34,7 @@ pub deal-requires-clause-entries : goal.deal-requires-clause-entries
 deal-requires-clause-entries c =
     omega (
       arith,
-      taken_out c.args.entries.now.items c.release.new.entries.items c.args.region.now.first c.args.region.now.behind
+      taken_out c.args.entries.now.items c.release.new.entries.items c.args.region.now.first c.args.region.now.past
           c.requires.region.order c.requires.region.within c.release.ensures.entries,
       c.requires.entries,
       c.release.ensures.capacity,
@@ -44,7 +44,7 @@ pub returns-clause-few : goal.returns-clause-few
 returns-clause-few c =
     omega (
       arith,
-      taken_out c.args.entries.now.items c.release.new.entries.items c.args.region.now.first c.args.region.now.behind
+      taken_out c.args.entries.now.items c.release.new.entries.items c.args.region.now.first c.args.region.now.past
           c.requires.region.order c.requires.region.within c.release.ensures.entries,
       c.deal.ensures.few,
     )
@@ -53,16 +53,16 @@ pub returns-clause-kept : goal.returns-clause-kept
 returns-clause-kept c =
     let r = c.requires.region in
     let first : ℕ = c.args.region.now.first in
-    let behind : ℕ = c.args.region.now.behind in
+    let past : ℕ = c.args.region.now.past in
     let blocks : List Block = c.args.region.now.blocks in
     let pages : List (List Block) = c.args.pages.now.items in
     let es : List PageEntry = c.args.entries.now.items in
     let kept : List PageEntry = c.release.new.entries.items in
     let e = c.release.ensures.entries in
-    let z = kept_long es kept first behind c.requires.kept.half r.order r.within r.taken e in
+    let z = kept_long es kept first past c.requires.kept.half r.order r.within r.taken e in
     let n : length (take first es) ≡ first = length-take-le first es (omega (arith, r.order, r.within)) in
-    let front : take first kept ≡ take first es = ap (λ x. take first x) e ∙ take_at (take first es) (drop behind es) first n in
-    let back : drop first kept ≡ drop behind es = ap (λ x. drop first x) e ∙ drop_at (take first es) (drop behind es) first n in
+    let front : take first kept ≡ take first es = ap (λ x. take first x) e ∙ take_at (take first es) (drop past es) first n in
+    let back : drop first kept ≡ drop past es = ap (λ x. drop first x) e ∙ drop_at (take first es) (drop past es) first n in
     let q : flat c.deal.new.pages.items c.deal.new.entries.items ≡ refilled pages es c.args.region.now =
     c.deal.ensures.flat
     ∙ ap (λ x. flat pages x ++ blocks ++ flat pages (drop first kept)) front
@@ -79,11 +79,11 @@ returns-clause-kept c =
               arith,
               c.deal.ensures.one v,
               ap length e,
-              length-append (take first es) (drop behind es),
-              length-drop behind es,
+              length-append (take first es) (drop past es),
+              length-drop past es,
               n,
               c.requires.full.first v,
-              c.requires.full.behind v,
+              c.requires.full.past v,
             )))
             (λ (v : 32 ≤ length blocks). c.deal.ensures.half v ∙ z)
             (cases_lt (length blocks) 32);

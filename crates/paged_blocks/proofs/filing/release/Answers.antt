@@ -24,11 +24,11 @@ loop-k-preserved c =
 
 pub returns-clause-numbers : goal.returns-clause-numbers
 returns-clause-numbers c =
-    let e : c.take_out.new.self.items ≡ take c.args.first c.args.entries.now.items ++ drop c.args.behind c.args.entries.now.items =
+    let e : c.take_out.new.self.items ≡ take c.args.first c.args.entries.now.items ++ drop c.args.past c.args.entries.now.items =
     c.take_out.ensures.items in
-    let z : c.loop-k.k ≡ c.args.behind = omega (arith, c.loop-k.auto.k-end, c.requires.order, c.loop-k-test.false) in
+    let z : c.loop-k.k ≡ c.args.past = omega (arith, c.loop-k.auto.k-end, c.requires.order, c.loop-k-test.false) in
     λ n. released_numbers c.args.entries.now.items c.take_out.new.self.items c.args.free.now.items c.loop-k.free.items n
-    c.args.first c.args.behind e
+    c.args.first c.args.past e
     (c.loop-k.invariant.numbers n ∙ ap (λ k. times_free n c.args.free.now.items + naming n (take k c.args.entries.now.items)) z)
 
 pub returns-clause-len : goal.returns-clause-len
@@ -37,8 +37,8 @@ returns-clause-len c =
     omega (
       arith,
       ap length c.take_out.ensures.items,
-      length-append (take c.args.first es) (drop c.args.behind es),
-      length-drop c.args.behind es,
+      length-append (take c.args.first es) (drop c.args.past es),
+      length-drop c.args.past es,
       length-take-le c.args.first es (omega (arith, c.requires.order, c.requires.within)),
       c.loop-k.invariant.len,
       c.loop-k.auto.k-end,

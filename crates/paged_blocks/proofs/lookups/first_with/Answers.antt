@@ -2,7 +2,7 @@ use Rattle.std.proofs.Common.{◌≡◌, ◌+◌, arith, refl}
 use Rattle.paged_blocks.specs.Paging.{before}
 use Rattle.paged_blocks.proofs.PagingLemmas.{no_entry}
 use Rattle.paged_blocks.proofs.StepLemmas.{one_page, two_pages, looks_one, looks_two}
-use Rattle.paged_blocks.proofs.FindLemmas.{page_filled, read_short, first_found, first_range, bare_start, bare_rest, bare_up, reaches_page, held_has, held_behind, held_below, not_bare}
+use Rattle.paged_blocks.proofs.FindLemmas.{page_filled, read_short, first_found, first_range, bare_start, bare_rest, bare_up, reaches_page, held_has, held_after, held_below, not_bare}
 use Rattle.paged_blocks.proofs.KeptLemmas.{entries_short}
 use Rattle.paged_blocks.proofs.lookups.first_with.Goals as goal
 
@@ -26,13 +26,13 @@ pub returns-in-Some-clause-first : goal.returns-in-Some-clause-first
 returns-in-Some-clause-first g c =
     let h = c.held_counted-held.ensures.held in
     rw c.range_up.ensures (first_found _ _ _ no_entry _ _ _ _ c.requires.paging h.entry (rw (c.at.ensures no_entry) at c.in-Some.ensures.found)
-    (bare_start _ _ _ _ _ _ h) (held_behind _ _ _ _ _ h))
+    (bare_start _ _ _ _ _ _ h) (held_after _ _ _ _ _ h))
 
 pub returns-in-Some-clause-range : goal.returns-in-Some-clause-range
 returns-in-Some-clause-range g c =
     let h = c.held_counted-held.ensures.held in
     rw c.range_up.ensures (first_range _ _ _ no_entry _ _ _ _ c.requires.paging h.entry (rw (c.at.ensures no_entry) at c.in-Some.ensures.found)
-    (held_behind _ _ _ _ _ h))
+    (held_after _ _ _ _ _ h))
 
 pub returns-in-Some-clause-cost : goal.returns-in-Some-clause-cost
 returns-in-Some-clause-cost g c =

@@ -28,8 +28,8 @@ overflow_sub-size c =
     let q = held_read _ _ _ _ _ no_entry _ _ c.requires.paging h (rw (c.at.ensures no_entry) at c.index-pages-at.is) c.block-front.ensures in
     omega (arith, (in_front _ _ _ _ _ (omega (arith, h.block)) c.requires.paging.tiled h.place q).begun)
 
-pub place_behind-requires-clause-later : goal.place_behind-requires-clause-later
-place_behind-requires-clause-later c =
+pub place_after-requires-clause-later : goal.place_after-requires-clause-later
+place_after-requires-clause-later c =
     let h = c.held_before-entry.ensures in
     let q = held_read _ _ _ _ _ no_entry _ _ c.requires.paging h (rw (c.at.ensures no_entry) at c.index-pages-at.is) c.block-front.ensures in
     kept_within _ _ _ c.args.block _ (omega (arith, h.block)) c.requires.paging.tiled h.place q c.if-size-front.true
@@ -39,7 +39,7 @@ pub returns-then-block-end-clause-joined : goal.returns-then-block-end-clause-jo
 returns-then-block-end-clause-joined c =
     let h = c.held_before-entry.ensures in
     let q = held_read _ _ _ _ _ no_entry _ _ c.requires.paging h (rw (c.at.ensures no_entry) at c.index-pages-at.is) c.block-front.ensures in
-    rw (c.joined_at-then-block-end.ensures, c.place_behind.ensures.same)
+    rw (c.joined_at-then-block-end.ensures, c.place_after.ensures.same)
     (front_kept _ _ _ c.args.block _ (omega (arith, h.block)) c.requires.paging.tiled c.requires.paging.merged h.place q
     (λ e. let t = c.is.ensures.1 e in cc) c.if-size-front.true (omega (arith, c.if-block-end.true, c.requires.end)))
 

@@ -16,9 +16,9 @@ returns-clause-same c =
     let there : c.args.region.first - 1 < length es = omega (arith, r.order, r.within, c.requires.there) in
     let former = named pages es _ no_entry _ c.requires.paging there (rw (c.at.ensures no_entry) at c.index-pages-at.is) in
     let all = former_blocks _ _ _ _ _ _ c.new-blocks.ensures c.copy.ensures.copied c.len.ensures.value c.append.ensures in
-    ap (λ x. flat pages (take (c.args.region.first - 1) es) ++ x ++ flat pages (drop c.args.region.behind es))
+    ap (λ x. flat pages (take (c.args.region.first - 1) es) ++ x ++ flat pages (drop c.args.region.past es))
     (all ∙ ap (λ x. x ++ blocks) former)
-    ∙ former_same pages es (flat pages (drop c.args.region.behind es)) blocks (c.args.region.first - 1) c.args.region.first no_entry
+    ∙ former_same pages es (flat pages (drop c.args.region.past es)) blocks (c.args.region.first - 1) c.args.region.first no_entry
     (omega (arith, c.requires.there)) there
 
 pub returns-clause-full : goal.returns-clause-full
@@ -41,4 +41,4 @@ returns-clause-full c =
       (c.requires.paging.each first no_entry there).len,
       long,
     ) in
-    record { first = λ u. absurd (omega (arith, size)); behind = λ u. absurd (omega (arith, size)) }
+    record { first = λ u. absurd (omega (arith, size)); past = λ u. absurd (omega (arith, size)) }

@@ -10,7 +10,7 @@ returns g c = λ new ends.
     let top : IsEndOf c.args.live map c.end_of-top.result = record {
       within = c.end_of-top.ensures.within;
       before = c.end_of-top.ensures.before;
-      behind = c.end_of-top.ensures.behind;
+      past = c.end_of-top.ensures.past;
     } in
     cut_is c.args.live map c.args.end c.end_of-top.result c.args.counts _ new top ends
     (omega (arith, ap (λ (n : Counts). n.rescued) gone)) (omega (arith, ap (λ (n : Counts). n.failed.bytes) gone))

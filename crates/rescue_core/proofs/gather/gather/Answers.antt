@@ -36,7 +36,7 @@ returns-clause-gathered g c =
       event = t.event;
       is = t.is;
       cut = cut;
-      turn = λ r same. c.turn_behind-turn.ensures r t.event same (record { pos = t.is.pos; asked = t.is.asked; count = t.count; end = t.ended })
+      turn = λ r same. c.turn_after-turn.ensures r t.event same (record { pos = t.is.pos; asked = t.is.asked; count = t.count; end = t.ended })
           (c.size.ensures c.args.settings.now.sector t.event.reading cut
           ∙ ap (λ (s : Settings). kept s.sector t.event.reading) (sym same)) t.before t.after;
       after = t.after;

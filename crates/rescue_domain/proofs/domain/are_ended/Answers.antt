@@ -1,6 +1,6 @@
 use Rattle.std.proofs.Common.{arith}
 use Rattle.std.proofs.lemmas.Bool.{ltb-true}
-use Rattle.rescue_domain.proofs.StretchLemmas.{end_in_front, end_behind, none_behind}
+use Rattle.rescue_domain.proofs.StretchLemmas.{end_in_front, end_after, none_after}
 use Rattle.rescue_domain.proofs.domain.are_ended.Goals.{else-count-gt0-via-then-count-gt0+else-x-parts, else-count-gt0-via-else-count-gt0}
 use Rattle.rescue_domain.proofs.domain.are_ended.Goals as goal
 
@@ -11,7 +11,7 @@ returns-then-count-parts c = λ last. record {
         end_in_front c.args.parts.now c.requires c.args.count c.args.x w.if-count-gt0.true (omega arith) w.if-x-parts.false
     | else-count-gt0-via-else-count-gt0 w ↦ λ i part l e. absurd (omega (arith, l, w.if-count-gt0.false))
   ];
-  others = none_behind c.args.parts.now c.requires c.args.count c.args.x c.if-count-parts.true;
+  others = none_after c.args.parts.now c.requires c.args.count c.args.x c.if-count-parts.true;
 }
 
 pub returns-else-count-parts : goal.returns-else-count-parts
@@ -21,5 +21,5 @@ returns-else-count-parts c = λ ahead. record {
         end_in_front c.args.parts.now c.requires c.args.count c.args.x w.if-count-gt0.true (omega arith) w.if-x-parts.false
     | else-count-gt0-via-else-count-gt0 w ↦ λ i part l e. absurd (omega (arith, l, w.if-count-gt0.false))
   ];
-  others = end_behind c.args.parts.now c.requires c.args.count c.args.x (ltb-true _ _ ahead);
+  others = end_after c.args.parts.now c.requires c.args.count c.args.x (ltb-true _ _ ahead);
 }

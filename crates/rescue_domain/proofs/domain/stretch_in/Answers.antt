@@ -1,10 +1,10 @@
 use Rattle.std.proofs.Common.{refl}
 use Rattle.std.proofs.lemmas.Option.{slice_get_read}
-use Rattle.rescue_domain.proofs.StretchLemmas.{stretch_behind, stretch_within, stretch_before}
+use Rattle.rescue_domain.proofs.StretchLemmas.{stretch_past, stretch_within, stretch_before}
 use Rattle.rescue_domain.proofs.domain.stretch_in.Goals as goal
 
 pub returns-in_default : goal.returns-in_default
-returns-in_default c = stretch_behind _ c.requires.parts _ _ _ c.requires.ended c.requires.limit c.in_default.ensures.lookup.3
+returns-in_default c = stretch_past _ c.requires.parts _ _ _ c.requires.ended c.requires.limit c.in_default.ensures.lookup.3
 
 pub returns-then-part-x : goal.returns-then-part-x
 returns-then-part-x c =

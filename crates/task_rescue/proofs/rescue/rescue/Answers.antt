@@ -4,8 +4,8 @@ use Rattle.faulty_source.proofs.Keeping.{keeps_self}
 use Rattle.save_resume.proofs.FillLemmas.{keeps_more as site_keeps_more}
 use Rattle.ddrescue_words.specs.Asking.{told_by}
 use Rattle.task_files.specs.declared.ending.Which.TheVariants.{DomainMap, TestMap}
-use Rattle.task_files.proofs.CauseLemmas.{map_causes, map_drafts, causes_behind}
-use Rattle.task_files.proofs.WorkedLemmas.{worked_domain, worked_test, worked_behind}
+use Rattle.task_files.proofs.CauseLemmas.{map_causes, map_drafts, causes_after}
+use Rattle.task_files.proofs.WorkedLemmas.{worked_domain, worked_test, worked_after}
 use Rattle.task_rescue.proofs.rescue.rescue.Goals as goal
 
 pub returns-in_err-domain_map-clause-worked : goal.returns-in_err-domain_map-clause-worked
@@ -41,7 +41,7 @@ returns-in_err-test_map-clause-worked g c =
 pub returns-in_err-test_map-clause-cause : goal.returns-in_err-test_map-clause-cause
 returns-in_err-test_map-clause-cause g c =
     let p = err_from_is_err_and c.from_residual-in_err-test_map.result c.from_residual-in_err-test_map.ensures.1 in
-    rw (p.1, p.2) (causes_behind _ (g.S.Source.state c.args.source.now) (g.S.Source.state c.args.source.now)
+    rw (p.1, p.2) (causes_after _ (g.S.Source.state c.args.source.now) (g.S.Source.state c.args.source.now)
     (g.D.Site.state c.args.site.now) (g.D.Site.state c.read_named.new.site) (g.D.Site.state c.read_named-2.new.site)
     c.in_ok-domain_map.ensures.kept
     (map_causes TestMap _ (g.S.Source.state c.args.source.now) (g.D.Site.state c.read_named.new.site)
@@ -61,7 +61,7 @@ returns-in_err-test_map-clause-site g c = site_keeps_more _ _ _ c.in_ok-domain_m
 
 pub returns-clause-worked : goal.returns-clause-worked
 returns-clause-worked g c =
-    worked_behind (told_by c.args.plan.command) _ c.in_ok-domain_map.domain_map c.in_ok-test_map.test_map c.args.heard _ _
+    worked_after (told_by c.args.plan.command) _ c.in_ok-domain_map.domain_map c.in_ok-test_map.test_map c.args.heard _ _
     (g.S.Source.state c.args.source.now) (g.S.Source.state c.open_and_run.new.source)
     (g.D.Site.state c.args.site.now) (g.D.Site.state c.read_named.new.site) (g.D.Site.state c.read_named-2.new.site)
     (g.D.Site.state c.open_and_run.new.site) (g.K.Clock.state c.args.clock.now)
@@ -72,10 +72,10 @@ returns-clause-worked g c =
 
 pub returns-clause-cause : goal.returns-clause-cause
 returns-clause-cause g c =
-    causes_behind _ (g.S.Source.state c.args.source.now) (g.S.Source.state c.open_and_run.new.source)
+    causes_after _ (g.S.Source.state c.args.source.now) (g.S.Source.state c.open_and_run.new.source)
     (g.D.Site.state c.args.site.now) (g.D.Site.state c.read_named.new.site) (g.D.Site.state c.open_and_run.new.site)
     c.in_ok-domain_map.ensures.kept
-    (causes_behind _ (g.S.Source.state c.args.source.now) (g.S.Source.state c.open_and_run.new.source)
+    (causes_after _ (g.S.Source.state c.args.source.now) (g.S.Source.state c.open_and_run.new.source)
     (g.D.Site.state c.read_named.new.site) (g.D.Site.state c.read_named-2.new.site)
     (g.D.Site.state c.open_and_run.new.site) c.in_ok-test_map.ensures.kept c.open_and_run.ensures.cause)
 

@@ -5,7 +5,7 @@ use Rattle.task_rescue.proofs.run.run_rescue.Goals as goal
 
 pub returns-in-Ok-clause-went : goal.returns-in-Ok-clause-went
 returns-in-Ok-clause-went g c =
-    run_end _ _ _ _ _ _ _ c.in-Ok.ensures.ends.goes.went c.in-Ok.ensures.behind c.in-Ok.ensures.ends.objects.site.tells c.close.ensures.closes
+    run_end _ _ _ _ _ _ _ c.in-Ok.ensures.ends.goes.went c.in-Ok.ensures.past c.in-Ok.ensures.ends.objects.site.tells c.close.ensures.closes
     c.close.ensures.says
 
 pub returns-in-Ok-clause-site : goal.returns-in-Ok-clause-site

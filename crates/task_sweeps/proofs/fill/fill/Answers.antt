@@ -5,7 +5,7 @@ use Rattle.ddrescue_words.specs.Asking.{told_by}
 use Rattle.task_files.specs.declared.ending.Which.TheVariants.{DomainMap}
 use Rattle.task_files.proofs.CauseLemmas.{map_causes, map_drafts, load_leaves}
 use Rattle.task_files.proofs.OpenedLemmas.{not_opened}
-use Rattle.task_sweeps.proofs.SweptEnds.{cause_behind}
+use Rattle.task_sweeps.proofs.SweptEnds.{cause_after}
 use Rattle.task_sweeps.proofs.FilledLemmas.{takes_as, takes_into, fill_unread, fill_unopened, fill_unpatterned, fill_output, fill_load, fill_unplaced, fill_goes}
 use Rattle.task_sweeps.proofs.fill.fill.Goals as goal
 
@@ -192,7 +192,7 @@ returns-clause-source g c =
 
 pub returns-clause-cause : goal.returns-clause-cause
 returns-clause-cause g c =
-    cause_behind _ (g.S.Source.state c.args.source.now) (g.S.Source.state c.read_pattern.new.source)
+    cause_after _ (g.S.Source.state c.args.source.now) (g.S.Source.state c.read_pattern.new.source)
     (g.D.Site.state c.args.site.now) (g.D.Site.state c.load.new.site) (g.D.Site.state c.run.new.site)
     (c.read_pattern.ensures.source.faults ∙ c.in-Ok.ensures.call.kept)
     (c.in_ok-buffer.ensures.cause.losses ∙ c.open_input.ensures.call.losses)

@@ -5,7 +5,7 @@ use Rattle.ddrescue_words.specs.Asking.{told_by}
 use Rattle.task_files.specs.declared.ending.Which.TheVariants.{DomainMap}
 use Rattle.task_files.proofs.CauseLemmas.{map_causes, map_drafts, load_leaves}
 use Rattle.task_files.proofs.OpenedLemmas.{not_opened}
-use Rattle.task_sweeps.proofs.SweptEnds.{cause_behind}
+use Rattle.task_sweeps.proofs.SweptEnds.{cause_after}
 use Rattle.task_sweeps.proofs.GeneratedLemmas.{generate_unread, generate_unopened, generate_output, generate_load, generate_unplaced, generate_goes}
 use Rattle.task_sweeps.proofs.generate.generate.Goals as goal
 
@@ -134,7 +134,7 @@ returns-clause-worked g c =
 
 pub returns-clause-cause : goal.returns-clause-cause
 returns-clause-cause g c =
-    cause_behind _ (g.S.Source.state c.args.source.now) (g.S.Source.state c.open_input.new.self)
+    cause_after _ (g.S.Source.state c.args.source.now) (g.S.Source.state c.open_input.new.self)
     (g.D.Site.state c.args.site.now) (g.D.Site.state c.load.new.site) (g.D.Site.state c.run.new.site)
     c.in-Ok.ensures.call.kept c.open_input.ensures.call.losses
     (c.in_ok-start.ensures.kept ∙ c.in_ok-open_output.ensures.kept ∙ c.in_ok-domain_map.ensures.kept) c.run.ensures.cause

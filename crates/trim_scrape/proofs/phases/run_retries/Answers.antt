@@ -11,10 +11,10 @@ pub passes-init : goal.passes-init
 passes-init g c = (
   begins _ _ _ _ _ c.requires.places c.requires.input c.requires.image c.requires.no_draft,
   record {
-    sensible = c.requires.behind.sensible;
-    within = c.requires.behind.within;
-    spent = c.requires.behind.spent;
-    left = c.requires.behind.left ∙ sym (append-nil (passes_in (setting_in c.args.rescue.now) Retrying 1));
+    sensible = c.requires.past.sensible;
+    within = c.requires.past.within;
+    spent = c.requires.past.spent;
+    left = c.requires.past.left ∙ sym (append-nil (passes_in (setting_in c.args.rescue.now) Retrying 1));
   },
 )
 

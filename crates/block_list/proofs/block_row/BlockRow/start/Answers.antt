@@ -1,5 +1,5 @@
 use Rattle.std.proofs.Common.{arith}
-use Rattle.block_list.proofs.RowLemmas.{row_size, begins_behind, begins_first}
+use Rattle.block_list.proofs.RowLemmas.{row_size, begins_after, begins_first}
 use Rattle.block_list.proofs.block_row.BlockRow.start.Goals as goal
 
 pub index-requires : goal.index-requires
@@ -7,7 +7,7 @@ index-requires c = omega (arith, c.requires, row_size _ _ c.self.view_is c.self.
 
 pub returns-then-i-gt0 : goal.returns-then-i-gt0
 returns-then-i-gt0 c = λ d.
-    rw (← c.self.view_is) (begins_behind _ _ _ _ d c.self.invariant.alike c.if-i-gt0.true
+    rw (← c.self.view_is) (begins_after _ _ _ _ d c.self.invariant.alike c.if-i-gt0.true
     (omega (arith, c.requires, row_size _ _ c.self.view_is c.self.invariant)) c.index.ensures)
 
 pub returns-else-i-gt0 : goal.returns-else-i-gt0

@@ -10,23 +10,23 @@ use Rattle.block_list.proofs.plain_tiles.PlainTiles.push.Goals as goal
 pub append-requires-clause-tiled : goal.append-requires-clause-tiled
 append-requires-clause-tiled c = tiled_from_tiling _ c.self.invariant
 
-pub append-requires-clause-behind : goal.append-requires-clause-behind
-append-requires-clause-behind c = omega (arith, tiling_end _ c.self.invariant, c.in_ok-end.ensures.begins)
+pub append-requires-clause-after : goal.append-requires-clause-after
+append-requires-clause-after c = omega (arith, tiling_end _ c.self.invariant, c.in_ok-end.ensures.begins)
 
 pub returns-in_err-end-clause-answer : goal.returns-in_err-end-clause-answer
 returns-in_err-end-clause-answer c =
     let q : c.from_residual.result ≡ Err c.in_err-end.field-0.0 = search rules in
-    rw (← c.self.view_is, ← tiling_end _ c.self.invariant) (fault_passed _ c.end_behind.result _ _ _ c.end_behind.ensures.answer c.in_err-end.was q)
+    rw (← c.self.view_is, ← tiling_end _ c.self.invariant) (fault_passed _ c.end_after.result _ _ _ c.end_after.ensures.answer c.in_err-end.was q)
 
 pub returns-in_err-end-clause-joins : goal.returns-in_err-end-clause-joins
 returns-in_err-end-clause-joins c =
     rw (← c.self.view_is, ← tiling_end _ c.self.invariant)
-    (λ none room. fault_was_there _ c.end_behind.result _ _ c.end_behind.ensures.answer c.in_err-end.was none)
+    (λ none room. fault_was_there _ c.end_after.result _ _ c.end_after.ensures.answer c.in_err-end.was none)
 
 pub returns-in_err-map_err-clause-answer : goal.returns-in_err-map_err-clause-answer
 returns-in_err-map_err-clause-answer c =
     let q : c.from_residual-in_err-map_err.result ≡ Err NoMemory = search rules in
-    rw (← c.self.view_is, ← tiling_end _ c.self.invariant) (no_fault _ c.end_behind.result _ _ _ c.end_behind.ensures.answer c.in_ok-end.was (inr q))
+    rw (← c.self.view_is, ← tiling_end _ c.self.invariant) (no_fault _ c.end_after.result _ _ _ c.end_after.ensures.answer c.in_ok-end.was (inr q))
 
 pub invariant_of-self-then-block-gt0 : goal.invariant_of-self-then-block-gt0
 invariant_of-self-then-block-gt0 c =
@@ -50,9 +50,9 @@ invariant_of-self-then-block-gt0 c =
 pub returns-in_ok-map_err-clause-answer : goal.returns-in_ok-map_err-clause-answer
 returns-in_ok-map_err-clause-answer c =
     rw (← c.self.view_is, ← tiling_end _ c.self.invariant)
-    (no_fault _ c.end_behind.result _ _ _ c.end_behind.ensures.answer c.in_ok-end.was (inl (search rules)))
+    (no_fault _ c.end_after.result _ _ _ c.end_after.ensures.answer c.in_ok-end.was (inl (search rules)))
 
 pub returns-else-block-gt0-clause-answer : goal.returns-else-block-gt0-clause-answer
 returns-else-block-gt0-clause-answer c =
     rw (← c.self.view_is, ← tiling_end _ c.self.invariant)
-    (no_fault _ c.end_behind.result _ _ _ c.end_behind.ensures.answer c.in_ok-end.was (inl (search rules)))
+    (no_fault _ c.end_after.result _ _ _ c.end_after.ensures.answer c.in_ok-end.was (inl (search rules)))

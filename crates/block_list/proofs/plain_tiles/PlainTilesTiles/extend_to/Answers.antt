@@ -10,8 +10,8 @@ use Rattle.block_list.proofs.plain_tiles.PlainTilesTiles.extend_to.Goals as goal
 pub append-requires-clause-tiled : goal.append-requires-clause-tiled
 append-requires-clause-tiled c = tiled_from_tiling _ c.self.invariant
 
-pub append-requires-clause-behind : goal.append-requires-clause-behind
-append-requires-clause-behind c = omega (arith, tiling_end _ c.self.invariant)
+pub append-requires-clause-after : goal.append-requires-clause-after
+append-requires-clause-after c = omega (arith, tiling_end _ c.self.invariant)
 
 pub invariant_of-self : goal.invariant_of-self
 invariant_of-self c =

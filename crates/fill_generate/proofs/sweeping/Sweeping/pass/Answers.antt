@@ -11,6 +11,6 @@ returns-clause-moved g c =
     let map = g.T.Tiles.statuses i.tiles in
     let p = c.args.piece in
     let r : SweepState = state_at i.settings i.domain i.names i.heading.line map i.mode i.tally i.heard in
-    ap (λ (m : Sweep). standing r m) (c.behind-self-inside.ensures map)
+    ap (λ (m : Sweep). standing r m) (c.with_piece-self-inside.ensures map)
     ∙ ap (λ (k : Current). standing r (moved k (sweep_at map i.tally) p.pos p.len c.args.written c.args.after)) c.current-current.ensures
     ∙ ap (λ (q : SweepState). standing q (moved (current_in q.mode) q.sweep p.pos p.len c.args.written c.args.after)) c.self.view_is

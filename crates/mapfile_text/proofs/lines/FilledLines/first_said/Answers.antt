@@ -9,11 +9,11 @@ pub returns-then-not-is_comment : goal.returns-then-not-is_comment
 returns-then-not-is_comment c =
     let line = c.in-Some.line in
     let says : is_comment (line_of line).fields ≡ false = sym c.is_comment.ensures ∙ c.if-not-is_comment.true in
-    sym c.loop-line.invariant ∙ ap no_comments c.in-Some.ensures ∙ says-some line.number (line_of line).fields line.behind says
+    sym c.loop-line.invariant ∙ ap no_comments c.in-Some.ensures ∙ says-some line.number (line_of line).fields line.after says
 
 pub loop-line-preserved : goal.loop-line-preserved
 loop-line-preserved c =
     let line = c.in-Some.line in
     let comment : is_comment (line_of line).fields ≡ true = sym c.is_comment.ensures ∙ c.if-not-is_comment.false in
-    ap no_comments c.lines_behind-lines.ensures ∙ sym (says-none line.number (line_of line).fields line.behind comment)
+    ap no_comments c.lines_after-lines.ensures ∙ sym (says-none line.number (line_of line).fields line.after comment)
     ∙ sym (ap no_comments c.in-Some.ensures) ∙ c.loop-line.invariant

@@ -7,7 +7,7 @@ use Rattle.std.specs.Char.{len_utf8}
 use Rattle.option_words.specs.declared.choice.Chosen.{Chosen}
 use Rattle.option_words.specs.declared.fault.WordFault.TheVariants.{UnknownShort}
 use Rattle.option_words.specs.Rows.{first_row, has_letter, is_alone}
-use Rattle.option_words.specs.Meanings.{option_meaning, value_behind}
+use Rattle.option_words.specs.Meanings.{option_meaning, rest_value}
 use Rattle.option_words.proofs.SpotLemmas.{letters_boundary}
 use Rattle.option_words.proofs.TakeLemmas.{leads_along, leads_end, leads_flag, letter_ends, letter_found, letter_goes_on, letter_unknown, length_past, ok_along, chars_end}
 use Rattle.option_words.proofs.reader.Reader.take_letters.Goals as goal
@@ -33,9 +33,9 @@ returns-then-not-stands_alone-clause-ok c =
     let chosen : Chosen = c.in-Some-find_letter.chosen in
     let found : first_row (has_letter c.in-Some.letter) 0 c.args.rows.now ≡ Some c.in-Some-find_letter.chosen = cc in
     let alone : is_alone chosen.takes ≡ false = sym c.stands_alone.ensures ∙ c.if-not-stands_alone.true in
-    let valued : value_behind c.args.n (length c.args.word.now - length rest) (chars rest) ≡ c.find_value_behind-value.result
-    = ap (λ (v : List ℕ). value_behind c.args.n (length c.args.word.now - length v) (chars v)) (sym c.as_str.ensures)
-    ∙ sym c.find_value_behind-value.ensures in
+    let valued : rest_value c.args.n (length c.args.word.now - length rest) (chars rest) ≡ c.find_rest_value-value.result
+    = ap (λ (v : List ℕ). rest_value c.args.n (length c.args.word.now - length v) (chars v)) (sym c.as_str.ensures)
+    ∙ sym c.find_rest_value-value.ensures in
     ok_along c.put_option.result _ _ _ _ _ _ c.loop-letter.invariant.leads
     (letter_found c.args.rows.now c.args.n (length c.args.word.now) c.in-Some.letter bs rest chosen c.loop-letter.invariant.utf8
     c.in-Some.ensures.steps.0 short found

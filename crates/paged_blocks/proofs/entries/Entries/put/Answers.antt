@@ -1,6 +1,6 @@
 use Rattle.std.proofs.Common.{◌≡◌, ◌+◌, ◌<◌, length, reverse, sym, arith, length-append}
 use Rattle.std.proofs.lemmas.List.{set-append_left, length-reverse}
-use Rattle.paged_blocks.proofs.ListedLemmas.{set_behind}
+use Rattle.paged_blocks.proofs.ListedLemmas.{set_past}
 use Rattle.paged_blocks.proofs.entries.Entries.put.Goals as goal
 
 pub returns-then-k-front-clause-items : goal.returns-then-k-front-clause-items
@@ -20,5 +20,5 @@ returns-else-k-front-clause-items c =
       length-append c.self.inside.front.items (reverse c.self.inside.back.items),
       length-reverse c.self.inside.back.items,
     ) in
-    rw (← c.self.view_is, a, b) (sym (set_behind c.self.inside.front.items c.self.inside.back.items c.args.k c.args.entry
+    rw (← c.self.view_is, a, b) (sym (set_past c.self.inside.front.items c.self.inside.back.items c.args.k c.args.entry
     (omega (arith, b, c.if-k-front.false)) l))

@@ -3,7 +3,7 @@ use Rattle.std.proofs.lemmas.Result.{err_from_is_err_and}
 use Rattle.rescue_console.specs.ConsoleState.{ConsoleState}
 use Rattle.rescue_core.specs.declared.turn.Turn.{Turn}
 use Rattle.rescue_core.specs.RunState.{IsRunning}
-use Rattle.rescue_core.proofs.TurnedLemmas.{Parts, parts_of, parts_behind, run_of, begins_of, begins_fits, Does, does_running, does_counted, does_advance, halts_same, holds_same, counted_same, room_same}
+use Rattle.rescue_core.proofs.TurnedLemmas.{Parts, parts_of, parts_after, run_of, begins_of, begins_fits, Does, does_running, does_counted, does_advance, halts_same, holds_same, counted_same, room_same}
 use Rattle.faulty_source.proofs.Keeping.{stays_self}
 use Rattle.rescue_core.proofs.running.Running.advance.Goals as goal
 
@@ -80,7 +80,7 @@ invariant_of-self-2 g c =
     got does in
     let room = room_same c.self.inside.buf.len c.gather.new.buf _ c.self.inside.buf.items c.deref_mut.ensures.len
     c.deref_mut.ensures.value c.gather.ensures.same in (
-      subst (λ n. IsRunning (run_of (parts_behind p (g.T.Tiles.statuses c.go_on_by_kind.new.tiles)
+      subst (λ n. IsRunning (run_of (parts_after p (g.T.Tiles.statuses c.go_on_by_kind.new.tiles)
           c.go_on_by_kind.new.progress c.go_on_by_kind.new.tally)) n) (sym room) running,
       c.self.invariant.1,
       does_counted p c.args.self.now _ c.args.request c.in_ok-gathered.gathered _ _ _ _ _ _ _ _ _ _ _ _ begins got does

@@ -2,7 +2,7 @@
 use Rattle.std.proofs.Common.{arith}
 use Rattle.std.proofs.lemmas.List.{length-drop}
 use Rattle.mapfile_text.specs.LeftOf.{left_of}
-use Rattle.save_resume.proofs.FillLemmas.{nothing_filled, piece_filled, piece_refused, filled_behind}
+use Rattle.save_resume.proofs.FillLemmas.{nothing_filled, piece_filled, piece_refused, filled_after}
 use Rattle.save_resume.proofs.draft.Draft+Begun.fill.Goals as goal
 
 pub loop-state-init : goal.loop-state-init
@@ -25,4 +25,4 @@ loop-state-preserved g c =
 
 pub returns-clause-filled : goal.returns-clause-filled
 returns-clause-filled g c = λ t.
-    filled_behind _ _ _ _ c.loop-state.invariant t (c.requires.begun t)
+    filled_after _ _ _ _ c.loop-state.invariant t (c.requires.begun t)

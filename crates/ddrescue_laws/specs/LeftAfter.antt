@@ -1,0 +1,48 @@
+-- What an answer before the first read leaves of the files.
+use Rattle.std.specs.Prelude.{◌≡◌, ◌≢◌, ◌⊎◌, ℕ, ◌||◌, Bool, true, List, Option, Some, None, is_some}
+use Rattle.mapfile_text.specs.declared.read.MapError.{MapError}
+use Rattle.crash_site.specs.declared.site.SiteCall.TheVariants.{MapRead}
+use Rattle.crash_site.specs.Files.{File, empty_file}
+use Rattle.rescue_rules.specs.declared.stop.Stop.{Stop}
+use Rattle.option_words.specs.declared.fault.UsageFault.TheVariants.{PlaceTooLarge}
+use Rattle.ddrescue_words.specs.Command.{Command}
+use Rattle.task_files.specs.declared.ending.Which.TheVariants.{RunMap}
+use Rattle.task_files.specs.declared.ending.Ending.{Ending}
+use Rattle.task_files.specs.declared.ending.Ending.TheVariants.{Usage, MapRefused, SiteFault}
+use Rattle.ddrescue_laws.specs.InputRead.{IsBeforeReads}
+
+-- an option names a map
+abbrev pub names_maps : Command → Bool
+names_maps c = is_some c.domain_map || is_some c.test_map
+
+-- every file reads as it did
+abbrev pub AllStand : (files files' : List ℕ → Option File) → Type 0
+AllStand files files' = (name : List ℕ) → files' name ≡ files name
+
+-- an absent file is made, empty
+abbrev pub made_of : Option File → Option File
+made_of None = Some empty_file
+made_of (Some f) = Some f
+
+-- every file reads as it did, but that an absent output was made, empty
+pub record OutputMade (outfile : List ℕ) (files files' : List ℕ → Option File) : Type 0 where
+  pub output : files' outfile ≡ made_of (files outfile)
+  pub others : (name : List ℕ) → name ≢ outfile → files' name ≡ files name
+
+-- an answer that comes behind the open of the output, before the first read
+abbrev pub IsAfterOutput : Ending → Type 0
+IsAfterOutput e = (e ≡ Usage PlaceTooLarge) ⊎ ((error : MapError) × (e ≡ MapRefused RunMap error))
+
+-- a read of a map that failed: of the mapfile, or if an option names a map maybe of that one
+abbrev pub IsMapReadFault : Ending → Type 0
+IsMapReadFault e = (earlier : Option Stop) × (e ≡ SiteFault MapRead earlier)
+
+-- What an answer before the first read leaves of the files as they read; of others nothing is said here.
+pub record IsLeft (e : Ending) (names_maps : Bool) (outfile : List ℕ) (files files' : List ℕ → Option File)
+    : Type 0 where
+  -- an absent output is made, once the output is open
+  pub made : IsAfterOutput e → OutputMade outfile files files'
+  pub read : IsMapReadFault e
+      → OutputMade outfile files files' ⊎ ((names_maps ≡ true) × AllStand files files')
+  -- before that every file stands
+  pub stand : IsBeforeReads e → (IsAfterOutput e → ⊥) → (IsMapReadFault e → ⊥) → AllStand files files'

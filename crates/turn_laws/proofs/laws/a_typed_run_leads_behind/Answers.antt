@@ -1,5 +1,0 @@
-use Rattle.turn_laws.proofs.PassLemmas.{typed_leads_behind}
-use Rattle.turn_laws.proofs.laws.a_typed_run_leads_behind.Goals as goal
-
-pub returns : goal.returns
-returns c = typed_leads_behind
