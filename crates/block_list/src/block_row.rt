@@ -1,4 +1,4 @@
-//! Blocks that lie one behind the other, in 9 bytes each.
+//! Blocks that follow one another, in 9 bytes each.
 ghost use Rattle.std.specs.Prelude.{◌≡◌, ◌+◌, ◌-◌, ◌<◌, ◌≤◌, ◌^◌, ◌++◌, [], ◌∷◌, length, take, drop, slice_index_or, vec_len, vec_capacity, is_ok, if◌then◌else◌, IsOk, OnOk};
 ghost use Rattle.std.specs.List.{flat_map};
 ghost use Rattle.block_list.specs.Stretches.{covered, back_of};
@@ -145,7 +145,7 @@ impl BlockRow {
         self.statuses.truncate(i);
     }
 
-    /// Puts a block behind the last one.
+    /// Puts a block after the last one.
     pub fn push(&mut self, block: Block) -> Result<(), NoMemory>
         requires tiled { IsTiled self.old.items }
         requires starts { length (flat_map covered self.old.items) ≡ block.pos }

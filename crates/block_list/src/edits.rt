@@ -40,7 +40,7 @@ pub fn mark(blocks: &mut BlockRow, block: Block)
     overwrite(blocks, i, block.pos, block.size, block.status);
 }
 
-/// Adds a block behind the last one. It takes memory only where the two don't join.
+/// Adds a block after the last one. It takes memory only if the two don't join.
 pub fn append(blocks: &mut BlockRow, block: Block) -> Result<(), NoMemory>
     requires tiled { IsTiled blocks.old.items }
     requires merged { IsMerged blocks.old.items }
@@ -141,7 +141,7 @@ fn join_before(blocks: &BlockRow, i: usize, block: Block) -> (usize, Block)
     (i, block)
 }
 
-/// A block, widened over the one behind it where that has its status, and the index behind its last part.
+/// A block, widened over the one after it if that has its status, and the index after its last part.
 fn join_after(blocks: &BlockRow, j: usize, block: Block) -> (usize, Block)
     requires tiled { IsTiled blocks.now.items }
     requires index { j ≤ length blocks.now.items }

@@ -12,8 +12,8 @@ use crate::block::Range;
 use crate::block_row::BlockRow;
 use crate::status::Status;
 
-/// How many blocks begin at or before a position. It looks at the block with the index `near` first, and at the one
-/// behind it.
+/// How many blocks begin at or before a position. It looks first at the block with the index `near` and at the one
+/// after it.
 pub fn begun_near(blocks: &BlockRow, near: usize, x: u64) -> usize
     requires tiled { IsTiled blocks.now.items }
     requires within { x < length (flat_map covered blocks.now.items) }

@@ -11,14 +11,14 @@ use crate::{edits, lookups};
 use std::alloc::Global;
 use std::marker::Model;
 
-/// Why a block can't be put behind a map. `at` is the map's end.
+/// Why a block can't be put after a map. `at` is the map's end.
 #[derive(Clone, Copy, Debug, PartialEq, Eq)]
 pub enum PushError {
     /// The block's end is 2^63 or more.
     TooLarge,
     /// The block begins before the map's end.
     Overlap { at: u64 },
-    /// The block begins behind the map's end.
+    /// The block begins past the map's end.
     Gap { at: u64 },
     /// Memory wasn't there.
     NoMemory,
@@ -57,7 +57,7 @@ impl PlainTiles {
         }
     }
 
-    /// Puts a block behind the last position. It takes memory only for one that isn't empty and doesn't join the last.
+    /// Puts a block after the last position. It takes memory only for one that isn't empty and doesn't join the last.
     pub fn push(&mut self, block: Block) -> Result<(), PushError>
         ensures ok { OnOk result (self.new.statuses ≡ self.old.statuses ++ replicate block.size block.status) }
         ensures err { OnErr result (self.new.statuses ≡ self.old.statuses) }
@@ -75,7 +75,7 @@ impl PlainTiles {
     }
 }
 
-/// The end of a map that ends at `end`, with a block behind it.
+/// The end of a map that ends at `end`, with a block after it.
 fn end_after(end: u64, block: Block) -> Result<u64, PushError>
     ensures answer { MatchOption (push_fault block.pos block.size end) (IsOk result) (λ e. result ≡ Err e) }
     ensures begins { OnOk result (block.pos ≡ end) }

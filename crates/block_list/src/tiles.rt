@@ -22,7 +22,7 @@ pub trait Tiles: Drop {
     /// The number of blocks that there is room for.
     ghost spare: { Self → ℕ };
 
-    /// The position behind the last one.
+    /// The position past the last one.
     fn end(&self) -> u64
         ensures end { result ≡ length (statuses self.now) }
         ensures short { result < 2 ^ 63 };
@@ -37,7 +37,7 @@ pub trait Tiles: Drop {
         requires { x < length (statuses self.now) }
         ensures { IsStretchAt (statuses self.now) x result };
 
-    /// `stretch_at`, which looks at `near` and right behind it first, and then has `near` say where that stretch stands. So
+    /// `stretch_at`, which looks first at `near` and right after it, and then has `near` say where that stretch is. So
     /// a walk upwards from stretch to stretch takes a few steps for each.
     fn stretch_near(&self, near: &mut Near, x: u64) -> Block
         requires { x < length (statuses self.now) }

@@ -52,7 +52,7 @@ fn run_pass<S: Source, D: Site, K: Clock, C: Console, T: Tiles>(
     Ok(())
 }
 
-/// Runs this pass of copying and those behind it.
+/// Runs this pass of copying and the later ones.
 fn run_passes<S: Source, D: Site, K: Clock, C: Console, T: Tiles>(
     rescue: &mut Rescue<Copying, T>,
     source: &mut S,
@@ -89,7 +89,7 @@ fn run_passes<S: Source, D: Site, K: Clock, C: Console, T: Tiles>(
     }
 }
 
-/// Copies all that is non-tried, in this pass and those behind it, up to the end of the fifth. It stops where a turn
+/// Copies all that is non-tried, in this pass and the later ones, up to the end of the fifth. It stops when a turn
 /// does: for want of memory, at a read that was lost, or at a call on the output or the mapfile that failed.
 pub fn run_copying<S: Source, D: Site, K: Clock, C: Console, T: Tiles>(
     rescue: Rescue<Copying, T>,

@@ -17,7 +17,7 @@ pub fn faults_are_of_steps()
     ensures { FaultsAreOfSteps }
 {}
 
-/// Behind each answer that comes after the barrier, the files as they read keep the promise.
+/// After each answer that follows the barrier, the files as they read keep the promise.
 pub fn files_hold_at_the_end()
     ensures { HoldsAtEnd }
 {}

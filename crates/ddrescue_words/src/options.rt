@@ -201,7 +201,7 @@ pub struct Options {
     pub sector: u64,
     /// The size of a cluster in sectors; if it isn't given, as many as 65,536 bytes have, but one at least.
     pub cluster_sectors: Option<u64>,
-    /// How far copying skips at first behind a failed or slow read, in bytes and not yet rounded up to whole sectors;
+    /// How far copying skips at first after a failed or slow read, in bytes and not yet rounded up to whole sectors;
     /// 64 KiB if it isn't given, or the largest skip if that is less.
     pub skip: u64,
     /// How far it skips at most, in bytes and not yet rounded up to whole sectors; 1 GiB if it isn't given, or the

@@ -1,4 +1,4 @@
-//! The sizes of `-K`: how far copying skips behind a failed or slow read, at first and at most.
+//! The sizes of `-K`: how far copying skips after a failed or slow read, at first and at most.
 ghost use Rattle.std.specs.Prelude.{◌≡◌, [], ◌∷◌, ◌^◌, ◌<◌, ◌≤◌};
 ghost use Rattle.ddrescue_words.specs.Options.{comma_parts, size_if_given, skips_given, skips_in_parts, skips_of, whole_sectors};
 

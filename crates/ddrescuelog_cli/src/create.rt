@@ -82,7 +82,7 @@ fn look<D: Site>(
     }
 }
 
-/// Takes a piece behind a list, and answers whether any was left. Memory is asked for in front of the take, so that
+/// Takes a piece onto the end of a list, and answers whether any was left. It asks for memory before the take, so that
 /// nothing that was taken is lost for want of it.
 fn take_piece<I: Feed>(feed: &mut I, list: &mut Vec<u8>) -> Result<bool, LogEnding>
     ensures took { IfOk result (λ some. TakesFeedPiece some list.old.items list.new.items

@@ -6,7 +6,7 @@ ghost use Rattle.fault_texts.specs.Texts.{numbered_text};
 use arrayvec::ArrayVec;
 use itoa::Buffer;
 
-/// A message. Each text of a fault fits behind 40 bytes.
+/// A message. Each text of a fault fits after 40 bytes.
 pub type Message = ArrayVec<u8, 128>;
 
 /// A message that a program begins, with its name.

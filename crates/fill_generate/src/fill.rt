@@ -24,7 +24,7 @@ use rescue_rules::stop::Stop;
 
 /// Writes the buffer's front over each piece of the positions with these statuses, from the lowest up, and leaves the
 /// map. The buffer is a cluster long. The map is saved meanwhile when it is due, and at the end. It takes no memory. It
-/// stops where a call on the output or the mapfile fails, and behind a failed write or a failed save it makes no further
+/// stops when a call on the output or the mapfile fails, and after a failed write or a failed save it makes no further
 /// call.
 pub fn run_fill<D: Site, K: Clock, C: Console, T: Tiles>(
     job: Job<T>,

@@ -22,8 +22,8 @@ use rescue_core::closing::Closed;
 use rescue_rules::stop::Stop;
 
 /// Reads each piece of the positions that weren't tried from the output, from the lowest up, and marks as finished what
-/// the output holds of it. The buffer is a cluster long; what stands in it behind the call is any bytes. The map is saved
-/// meanwhile when it is due, and at the end. It stops where a call on the output or the mapfile fails; and for want of
+/// the output holds of it. The buffer is a cluster long; after the call it holds any bytes. The map is saved
+/// meanwhile when it is due, and at the end. It stops when a call on the output or the mapfile fails; and for want of
 /// memory, in front of a piece whose marks the map has no room for.
 pub fn run_generate<D: Site, K: Clock, C: Console, T: Tiles>(
     job: Job<T>,
@@ -90,7 +90,7 @@ fn generate_pieces<D: Site, K: Clock, C: Console, T: Tiles>(
     Ok(())
 }
 
-/// Looks up a piece, behind taking memory for its marks.
+/// Looks up a piece, after taking memory for its marks.
 fn generate_piece<D: Site, K: Clock, C: Console, T: Tiles>(
     sweeping: &mut Sweeping<T>,
     piece: Piece,

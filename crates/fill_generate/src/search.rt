@@ -16,7 +16,7 @@ struct Alike {
     pub to: u64,
 }
 
-/// Whether a sweep takes a position, and up to where those behind it are like it. `part` and `near` say where to look
+/// Whether a sweep takes a position, and up to where those after it are like it. `part` and `near` say where to look
 /// first, in the domain and in the map.
 fn alike_from<T: Tiles>(
     mode: SweepMode,

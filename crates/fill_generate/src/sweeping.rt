@@ -61,11 +61,11 @@ pub(crate) struct Tally {
     pub due_at: u64,
     /// What a saved mapfile shows.
     pub shown: MapState,
-    /// The line that was said last behind a piece, if one was.
+    /// The line that was said last after a piece, if one was.
     pub said: Option<Said>,
 }
 
-/// What is due behind a piece.
+/// What is due after a piece.
 #[derive(Clone, Copy, Debug, PartialEq, Eq)]
 pub(crate) struct Due {
     pub line: bool,
@@ -141,7 +141,7 @@ impl Tally {
         }
     }
 
-    /// What a sweep has come to behind a piece at this time, of which so many bytes were written.
+    /// What a sweep has come to after a piece at this time, of which this many bytes were written.
     fn with_piece(self, piece: Piece, current: Current, written: u64, after: u64) -> Tally
         requires { piece.pos + piece.len < 2 ^ 63 }
         ensures { (map : List Status)
@@ -237,7 +237,7 @@ impl<T: Tiles> Sweeping<T> {
         piece.pos - self.settings.ipos + self.settings.opos
     }
 
-    /// Looks up a piece in the output, behind taking memory for its marks, and marks as finished what is held of it.
+    /// Looks up a piece in the output, after taking memory for its marks, and marks as finished what is held of it.
     pub fn look_up<D: Site>(
         &mut self,
         piece: Piece,
@@ -266,7 +266,7 @@ impl<T: Tiles> Sweeping<T> {
         Ok(())
     }
 
-    /// Goes on behind a piece at this time, of which so many bytes were written. Says what is due.
+    /// Goes on after a piece at this time, of which this many bytes were written. Says what is due.
     fn pass(&mut self, piece: Piece, written: u64, after: u64) -> Due
         requires { piece.pos + piece.len < 2 ^ 63 }
         ensures moved { self.new ≡ standing self.old
@@ -296,7 +296,7 @@ impl<T: Tiles> Sweeping<T> {
         }
     }
 
-    /// Says the line behind a piece, if one is due and it is heard. A console that fails isn't told any further.
+    /// Says the line after a piece, if one is due and it is heard. A console that fails isn't told any further.
     fn say_due<C: Console>(&mut self, due: bool, console: &mut C)
         ensures stands { self.new ≡ record self.old { heard = self.new.heard } }
         ensures says { SpeaksOn (out_pieces (if due then report_text (phase_front self.old.sweep.shown)
@@ -339,8 +339,8 @@ impl<T: Tiles> Sweeping<T> {
         }
     }
 
-    /// Goes on behind a piece of which so many bytes were written: reads the clock, says the line and makes the save that
-    /// are due.
+    /// Goes on after a piece of which this many bytes were written: reads the clock, says the line and makes the save
+    /// that are due.
     pub fn end_piece<D: Site, K: Clock, C: Console>(
         &mut self,
         piece: Piece,
@@ -397,7 +397,7 @@ impl<T: Tiles> Sweeping<T> {
         Closed { end, heard }
     }
 
-    /// Makes the last calls on the files; behind one that failed it makes no further one.
+    /// Makes the last calls on the files; after one that failed it makes no further one.
     fn close_files<D: Site>(self, stop: Option<Stop>, site: &mut D) -> RunEnd
         requires no_draft { MayClose stop (D.state site.old) }
         ensures closes { ClosesFiles (setting_of self) self.sweep stop result (D.state site.old) (D.state site.new) }

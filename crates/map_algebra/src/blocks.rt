@@ -28,7 +28,7 @@ fn greatest(numbers: &[u64]) -> Option<u64>
     numbers.iter().copied().max()
 }
 
-/// The end behind all positions that stand in these blocks, 0 where none does.
+/// The end past all positions in these blocks, 0 if there are none.
 pub fn end_of_blocks(numbers: &[u64], shape: Shape) -> u64
     requires shape { IsShape shape }
     requires limits { All (IsInRange shape) numbers.now }

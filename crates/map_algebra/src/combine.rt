@@ -46,7 +46,7 @@ fn combined_piece(op: Op, pair: Pair) -> Status
 }
 
 /// The first map, in which a domain's positions are combined with those of the second. It ends where the longer one
-/// does; a map is non-tried behind its own end.
+/// does; a map is non-tried past its own end.
 pub fn combine<T: Tiles, U: Tiles>(
     alloc: Global,
     op: Op,

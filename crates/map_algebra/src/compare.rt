@@ -27,7 +27,7 @@ pub fn is_done<T: Tiles>(tiles: &T, domain: &Domain) -> bool
     true
 }
 
-/// Whether two maps agree at each position of a domain. A map is non-tried behind its end.
+/// Whether two maps agree at each position of a domain. A map is non-tried past its end.
 pub fn same<T: Tiles, U: Tiles>(first: &T, second: &U, domain: &Domain) -> bool
     ensures agree { result ≡ true → AgreeIn (covers domain.now) (T.statuses first.now) (U.statuses second.now) }
     ensures differ { result ≡ false → DifferIn (covers domain.now) (T.statuses first.now) (U.statuses second.now) }
@@ -45,7 +45,7 @@ pub fn same<T: Tiles, U: Tiles>(first: &T, second: &U, domain: &Domain) -> bool
     true
 }
 
-/// Whether the same positions of a domain are finished in both maps. None is behind a map's end.
+/// Whether the same positions of a domain are finished in both maps. No position past a map's end is finished.
 pub fn same_finished<T: Tiles, U: Tiles>(first: &T, second: &U, domain: &Domain) -> bool
     ensures alike { result ≡ true → FinishAlikeIn (covers domain.now) (T.statuses first.now) (U.statuses second.now) }
     ensures unlike { result ≡ false

@@ -97,7 +97,7 @@ fn is_typed(piece: &DomainPiece, types: TypeSet) -> bool
     piece.inside && types.has(piece.status)
 }
 
-/// The first position of a domain, at or behind one and below another, that has one of some types.
+/// The first position of a domain, at or past one and below another, that has one of some types.
 fn first_wanted<T: Tiles>(
     tiles: &T,
     domain: &Domain,

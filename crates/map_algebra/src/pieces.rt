@@ -71,7 +71,7 @@ impl PairNearby {
     }
 }
 
-/// The status of a position, and up to where, at most a limit, the positions behind it have it too.
+/// The status of a position, and up to where, at most a limit, the positions after it have it too.
 pub(crate) fn status_from<T: Tiles>(tiles: &T, near: &mut Near, x: u64, limit: u64) -> Stretch
     requires { x < limit }
     ensures stretch { IsConstant (status_at (T.statuses tiles.now)) x result.to result.status }
@@ -137,7 +137,7 @@ pub(crate) fn pair_at<T: Tiles, U: Tiles>(
     }
 }
 
-/// Gives a status to the positions from a map's end up to another, if that lies behind. The map is as before where the
+/// Gives a status to the positions from a map's end up to another, if that lies past it. The map is as before if the
 /// memory for one block wasn't there.
 pub(crate) fn put(tiles: &mut PlainTiles, to: u64, status: Status) -> Result<(), NoMemory>
     requires { to < 2 ^ 63 }

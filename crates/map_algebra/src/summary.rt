@@ -48,7 +48,7 @@ fn count_status<T: Tiles>(tiles: &T, domain: &Domain, status: Status) -> Count
 }
 
 /// How much of a domain has one of some statuses in a map, from one position up to another. Of an area its beginning
-/// counts, and what lies behind the map's end is non-tried.
+/// counts, and what lies past the map's end is non-tried.
 pub fn count_statuses<T: Tiles>(
     tiles: &T,
     domain: &Domain,

@@ -21,14 +21,14 @@ pub struct MapShape {
     pub first: u64,
     /// Whether a block is listed.
     pub listed: bool,
-    /// The position behind the last block.
+    /// The position past the last block.
     pub end: u64,
     /// The number of its block lines.
     pub lines: usize,
 }
 
 impl MapShape {
-    /// Puts the block of a line behind the positions so far.
+    /// Puts the block of a line after the positions so far.
     fn put(&mut self, mode: Mode, line: &FilledLine<'_>, block: Block) -> Result<(), MapError>
         requires short { block.pos + block.size < 2 ^ 63 }
         requires few { self.old.lines + 1 < 2 ^ 64 }
@@ -54,7 +54,7 @@ impl MapShape {
     }
 }
 
-/// Whether the block of a line may stand behind one that ended at a place.
+/// Whether the block of a line may come after one that ended at a place.
 pub(crate) fn check_place(
     mode: Mode,
     end: u64,

@@ -53,7 +53,7 @@ fn field_end(text: &[u8]) -> usize
         .unwrap_or(text.len())
 }
 
-/// The first field of the first line of a text, and what stands behind it.
+/// The first field of the first line of a text, and what comes after it.
 pub(crate) fn first_field(text: &[u8]) -> Option<(&[u8], &[u8])>
     ensures field { MatchOption result (fields (first_line text.now) ≡ [])
         (λ parts. fields (first_line text.now) ≡ parts.0.now ∷ fields (first_line parts.1.now)) }
@@ -98,7 +98,7 @@ fn begins_with_digit(field: &[u8]) -> bool
     matches!(field, [b'0'..=b'9', ..])
 }
 
-/// The pass by the fields that are left behind the current status.
+/// The pass by the fields that are left after the current status.
 fn capped_pass(line: &mut FilledLine<'_>) -> Option<u64>
     ensures pass { result ≡ option_map capped (pass_of line.old.more) }
     ensures kept { line.new ≡ record line.old { more = line.new.more } }

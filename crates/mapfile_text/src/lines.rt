@@ -11,7 +11,7 @@ use std::marker::Model;
 pub struct FilledLine<'a> {
     number: usize,
     first: &'a [u8],
-    /// The text behind the fields that were taken.
+    /// The text after the fields that were taken.
     rest: &'a [u8],
 }
 
@@ -54,7 +54,7 @@ impl<'a> FilledLine<'a> {
         matches!(self.first, [b'#', ..])
     }
 
-    /// Takes the first of the fields that are left, which are those behind the first one to begin with.
+    /// Takes the first of the fields that are left, which are those after the first one to begin with.
     pub fn take_field(&mut self) -> Option<&'a [u8]>
         ensures taken { MatchOption result (self.old.more ≡ []) (λ field. self.old.more ≡ field.now ∷ self.new.more) }
         ensures kept { self.new ≡ record self.old { more = self.new.more } }
@@ -64,7 +64,7 @@ impl<'a> FilledLine<'a> {
         Some(field)
     }
 
-    /// The lines behind it.
+    /// The lines after it.
     pub fn lines_after(&self) -> FilledLines<'a>
         ensures { result ≡ self.now.after }
     {
@@ -75,7 +75,7 @@ impl<'a> FilledLine<'a> {
     }
 }
 
-/// The lines of a text that aren't blank, or those of them behind a line.
+/// The lines of a text that aren't blank, or those of them after a line.
 #[derive(Drop)]
 pub struct FilledLines<'a> {
     /// The number of the line with which the rest begins.
@@ -148,7 +148,7 @@ impl<'a> FilledLines<'a> {
     }
 }
 
-/// What stands behind the newline of the first line of a text.
+/// What comes after the newline of the first line of a text.
 fn after_line(text: &[u8]) -> &[u8]
     ensures after { result.now ≡ after_line text.now }
     ensures shorter { 0 < length text.now → length result.now < length text.now }

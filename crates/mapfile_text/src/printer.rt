@@ -76,7 +76,7 @@ impl MapPrinter {
     }
 }
 
-/// Fills an empty piece from a place on, and returns the place behind it.
+/// Fills an empty piece from a place on, and returns the place after it.
 fn fill<T: Tiles>(
     begun: TextPosition,
     state: MapState,
@@ -114,7 +114,7 @@ fn is_there(part: TextPart, end: u64) -> bool
 }
 
 /// Appends what is left of a part, or as much as there is room for, and returns the length of the whole part and the
-/// part behind it.
+/// part after it.
 fn append_part<T: Tiles>(
     out: &mut ArrayVec<u8, 4096>,
     place: TextPosition,

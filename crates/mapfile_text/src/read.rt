@@ -55,7 +55,7 @@ pub enum MapError {
     /// A later line that says something isn't a position, a size and a status.
     #[error("BadBlockLine")]
     BadBlockLine { line: usize },
-    /// A block begins behind the end of the one before.
+    /// A block begins past the end of the one before.
     #[error("Gap")]
     Gap { line: usize },
     /// A block begins in front of the end of the one before.
@@ -73,8 +73,8 @@ pub enum MapError {
 }
 
 impl ReadMap {
-    /// A map of no position, with room for so many lines' blocks, where there is memory for them at once, and for what
-    /// may stand in front of the first and behind the last.
+    /// A map of no position, with room for this many lines' blocks, if there is memory for them at once, and for what
+    /// may come before the first and after the last.
     fn blank(alloc: Global, state: MapState, lines: usize) -> ReadMap
         ensures state { result.state ≡ state }
         ensures first { result.first ≡ 0 }
@@ -92,7 +92,7 @@ impl ReadMap {
         }
     }
 
-    /// Puts the block of a line behind the positions so far.
+    /// Puts the block of a line after the positions so far.
     fn put(&mut self, mode: Mode, line: &FilledLine<'_>, block: Block) -> Result<(), MapError>
         requires short { block.pos + block.size < 2 ^ 63 }
         requires blank { self.old.listed ≡ false → self.old.tiles.statuses ≡ [] }
@@ -119,7 +119,7 @@ impl ReadMap {
     }
 }
 
-/// Puts a block behind the last position.
+/// Puts a block after the last position.
 fn append(tiles: &mut PlainTiles, block: Block) -> Result<(), MapError>
     requires begins { block.pos ≡ length tiles.old.statuses }
     requires short { block.pos + block.size < 2 ^ 63 }
@@ -130,7 +130,7 @@ fn append(tiles: &mut PlainTiles, block: Block) -> Result<(), MapError>
     tiles.push(block).map_err(|_| MapError::NoMemory)
 }
 
-/// Gives a status to the positions behind the last one, up to an end.
+/// Gives a status to the positions past the last one, up to an end.
 fn fill_up_to(tiles: &mut PlainTiles, end: u64, status: Status) -> Result<(), MapError>
     requires later { length tiles.old.statuses ≤ end }
     requires short { end < 2 ^ 63 }

@@ -26,7 +26,7 @@ pub(crate) struct TextPosition {
 }
 
 impl TextPart {
-    /// The part behind one of the heading's.
+    /// The part after one of the heading's.
     pub(crate) fn next(self) -> TextPart
         requires { number_of self < 9 }
         ensures number { number_of result ≡ number_of self + 1 }
@@ -48,7 +48,7 @@ impl TextPart {
 }
 
 impl TextPosition {
-    /// The place behind as much of a part of `len` bytes as there is room for; `next` is the part behind it.
+    /// The place after as much of a part of `len` bytes as there is room for; `next` is the part after it.
     pub(crate) fn after(self, len: usize, next: TextPart, room: usize) -> TextPosition
         ensures past { len ≤ self.went → result ≡ record { part = next; went = self.went - len } }
         ensures whole { self.went < len → len ≤ self.went + room → result ≡ record { part = next; went = 0 } }

@@ -6,12 +6,12 @@ pub fn kinds_may_be_left()
     ensures { KindsMayBeLeft }
 {}
 
-/// Oldest leaves what was durable behind the first k calls, and nothing else.
+/// Oldest leaves what was durable after the first k calls, and nothing else.
 pub fn oldest_is_durable()
     ensures { OldestIsDurable }
 {}
 
-/// Newest leaves what reads behind the next call, where none of the first k failed.
+/// Newest leaves what reads after the next call, if none of the first k failed.
 pub fn newest_is_made()
     ensures { NewestIsMade }
 {}

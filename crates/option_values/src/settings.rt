@@ -23,7 +23,7 @@ pub trait Settings: Copy {
         ensures { result ≡ set_by (slice_get rows row) sector self (option_map (λ v. v.now) value.entry) };
 }
 
-/// The sector behind one option, if it is the one of the letter that gives it, or the word of its bad value.
+/// The sector after one option, if it is an option of the letter that gives it, or the word of its bad value.
 fn set_sector(
     table: &OptionTable,
     words: &Words,

@@ -5,7 +5,7 @@ ghost use Rattle.option_words.specs.Forms.{form_of};
 /// What a word looks like.
 #[derive(Clone, Copy, Debug, PartialEq, Eq)]
 pub(crate) enum Form {
-    /// No hyphen in front, or nothing behind it.
+    /// No hyphen in front, or nothing after it.
     Plain,
     /// `--`.
     Stop,

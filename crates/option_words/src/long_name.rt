@@ -6,7 +6,7 @@ ghost use Rattle.option_words.specs.declared.form.Form.TheVariants.{Name as IsNa
 
 use crate::reading::Spot;
 
-/// A long name, and the value that stands behind its `=`.
+/// A long name, and the value after its `=`.
 #[derive(Clone, Copy, Debug)]
 pub(crate) struct LongName<'a> {
     pub name: &'a [u8],
@@ -21,7 +21,7 @@ fn find_sign(text: &[u8]) -> Option<usize>
     text.iter().position(|byte| *byte == b'=')
 }
 
-/// Parts a word behind its two hyphens into name and value.
+/// Parts a word after its two hyphens into name and value.
 pub(crate) fn split_name(n: usize, word: &str) -> LongName<'_>
     requires { form_of word.now ≡ IsName }
     ensures name { result.name.now ≡ name_before (equals_sign (drop 2 word.now)) (drop 2 word.now) }

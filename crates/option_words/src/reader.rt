@@ -189,7 +189,7 @@ impl Reader {
     }
 }
 
-/// The value behind a letter: the rest of its word, unless that is empty.
+/// The value after a letter: the rest of its word, unless that is empty.
 fn find_rest_value(n: usize, word: &str, rest: &str) -> Option<Spot>
     requires { length rest.now ≤ length word.now }
     ensures { result ≡ rest_value n (length word.now - length rest.now) (chars rest.now) }
@@ -218,8 +218,8 @@ fn read_by_rows(alloc: Global, words: &Words, rows: &[Row]) -> Result<WordReadin
 
 /// Reads words by a table, in time linear in their bytes and in the rows.
 ///
-/// Words are read from the first to the last. Behind a word `--` all words are operands. A longer word that begins with
-/// `--` has a long name, or the only beginning of one, and behind `=` its value. A word that begins with one `-` and is
+/// Words are read from the first to the last. After a word `--` all words are operands. A longer word that begins with
+/// `--` has a long name, or the only beginning of one, and after `=` its value. A word that begins with one `-` and is
 /// longer is a group of letters; the first that takes a value takes the rest of the word. An option that always takes a
 /// value and has none in its own word takes the whole next word, also one that begins with `-`. Every other word is an
 /// operand.

@@ -7,9 +7,9 @@ ghost use Rattle.option_words.specs.Rows.{is_alone};
 pub enum Takes {
     /// It stands alone.
     Never,
-    /// It has a value: behind the letter, behind `=`, or else the whole next word, whatever that is.
+    /// It has a value: after the letter, after `=`, or else the whole next word, whatever that is.
     Always,
-    /// It may have a value, behind the letter or behind `=`, and never takes the next word.
+    /// It may have a value, after the letter or after `=`, and never takes the next word.
     Optional,
 }
 

@@ -169,7 +169,7 @@ fn edit_none(pages: &mut Vec<Page>, entries: &mut Entries, free: &mut Vec<usize>
     refill(pages, entries, free, &region);
 }
 
-/// Gives a status to the positions of a block, of which the last ones may stand behind the map's end.
+/// Gives a status to the positions of a block, of which the last ones may lie past the map's end.
 pub fn overwrite(
     pages: &mut Vec<Page>,
     entries: &mut Entries,

@@ -13,7 +13,7 @@ use std::marker::Model;
 use std::sync::ledger::Ledger;
 
 /// Entries with a gap where one was last put in or taken out, so that few move where changes stand near each other.
-/// Those behind the gap are kept last first.
+/// Those after the gap are kept last first.
 #[derive(Drop)]
 pub struct Entries {
     front: Vec<PageEntry>,

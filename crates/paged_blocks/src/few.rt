@@ -77,8 +77,8 @@ fn begun_before<L: Ledger>(tiles: &PlainTiles, at: u64, steps: &mut Steps<L>) ->
     begun_in_front(tiles, at, steps)
 }
 
-/// The index of the first block with a status that ends behind a position, where the last one begins behind it; without
-/// one the number of blocks.
+/// The index of the first block with a status that ends past a position, if the last one begins past it; without one
+/// the number of blocks.
 #[inline(never)]
 fn first_from<L: Ledger>(
     tiles: &PlainTiles,

@@ -115,7 +115,7 @@ pub fn entry_after(
     }
 }
 
-/// Puts a page behind the others. Where memory wasn't there an entry may have been added without its page.
+/// Puts a page after the others. If memory wasn't there, an entry may have been added without its page.
 pub fn add(pages: &mut Vec<Page>, entries: &mut Entries, page: Page) -> Result<(), NoMemory>
     requires some { 0 < length page }
     requires short { length (flat_map covered page) < 2 ^ 63 }

@@ -52,7 +52,7 @@ impl Gathered {
         self.slots[i].block
     }
 
-    /// Puts a block behind the last one.
+    /// Puts a block after the last one.
     pub fn push(&mut self, block: Block)
         requires { length self.old < 192 }
         ensures { self.new ≡ self.old ++ block ∷ [] }
@@ -60,7 +60,7 @@ impl Gathered {
         self.slots.push(Slot { block });
     }
 
-    /// Puts the blocks of a page from one index up to another behind the last one.
+    /// Puts the blocks of a page from one index up to another after the last one.
     pub fn copy(&mut self, page: &Page, from: usize, to: usize)
         requires order { from ≤ to }
         requires within { to ≤ length page.now }
@@ -73,7 +73,7 @@ impl Gathered {
         }
     }
 
-    /// Puts all blocks of a piece behind the last one.
+    /// Puts all blocks of a piece after the last one.
     pub fn add(&mut self, piece: &MarkedBlocks)
         requires { length self.old + length piece.now ≤ 192 }
         ensures { self.new ≡ self.old ++ piece.now }
@@ -83,7 +83,7 @@ impl Gathered {
         }
     }
 
-    /// Puts all blocks of others behind the last one.
+    /// Puts all blocks of others after the last one.
     pub fn append(&mut self, others: &Gathered)
         requires { length self.old + length others.now ≤ 192 }
         ensures { self.new ≡ self.old ++ others.now }

@@ -36,7 +36,7 @@ pub struct Edit {
     pub new: MarkedBlocks,
 }
 
-/// The place of the block behind the first ones of an entry's page, which may be all of them, in a map that goes on.
+/// The place of the block after the first ones of an entry's page, which may be all of them, in a map that goes on.
 fn place_after(pages: &[Page], entries: &Entries, entry: usize, begun: usize) -> (usize, usize)
     requires paging { IsPaging pages.now entries.now.items }
     requires entry { entry < length entries.now.items }
@@ -55,7 +55,7 @@ fn place_after(pages: &[Page], entries: &Entries, entry: usize, begun: usize) ->
     }
 }
 
-/// The place behind all but the last of the first blocks of an entry's page, in a map with one in front of that.
+/// The place after all but the last of the first blocks of an entry's page, in a map with one before that.
 fn place_in_front(pages: &[Page], entries: &Entries, entry: usize, begun: usize) -> (usize, usize)
     requires paging { IsPaging pages.now entries.now.items }
     requires entry { entry < length entries.now.items }
@@ -124,7 +124,7 @@ fn join_front(pages: &[Page], entries: &Entries, end: u64, block: Block) -> Join
     joined_at((entry, begun - 1), Some(rest), block)
 }
 
-/// A block, joined with the block that holds the position behind it, in a map with an end. It looks `near` first.
+/// A block, joined with the block that holds the position after it, in a map with an end. It looks `near` first.
 fn join_back(pages: &[Page], entries: &Entries, end: u64, near: Near, block: Block) -> Joined
     requires paging { IsPaging pages.now entries.now.items }
     requires there { 0 < length entries.now.items }
@@ -165,7 +165,7 @@ fn join_back(pages: &[Page], entries: &Entries, end: u64, near: Near, block: Blo
     joined_at((entry, index), Some(rest), block)
 }
 
-/// The edit that gives a status to the positions of a block, which may go on behind the map's end.
+/// The edit that gives a status to the positions of a block, which may go on past the map's end.
 pub fn mark(pages: &[Page], entries: &Entries, end: u64, block: Block) -> Edit
     requires paging { IsPaging pages.now entries.now.items }
     requires there { 0 < length entries.now.items }

@@ -29,7 +29,7 @@ fn is_held_by(pages: &[Page], entries: &Entries, near: Near, x: u64) -> bool
     x - block.pos < block.size
 }
 
-/// The block behind another, which may be the first of the next page.
+/// The block after another, which may be the first of the next page.
 fn after(entries: &Entries, near: Near) -> Near {
     if near.page < entries.len() && near.block < entries.at(near.page).len {
         let block = near.block + 1;
@@ -47,7 +47,7 @@ fn after(entries: &Entries, near: Near) -> Near {
     near
 }
 
-/// Where the block that holds a position stands. It looks at one block first, and at the one behind it.
+/// Where the block that holds a position is. It looks first at one block and at the one after it.
 pub fn held_near(pages: &[Page], entries: &Entries, near: Near, x: u64) -> Near
     requires paging { IsPaging pages.now entries.now.items }
     requires within { x < length (flat_map covered (flat pages.now entries.now.items)) }

@@ -160,7 +160,7 @@ impl Page {
         None
     }
 
-    /// Puts a block behind the last one.
+    /// Puts a block after the last one.
     pub fn push(&mut self, block: Block)
         requires room { length self.old < 64 }
         requires row { AreRow (self.old ++ block ∷ []) }
@@ -173,7 +173,7 @@ impl Page {
         self.end = block.pos + block.size;
     }
 
-    /// Puts the blocks of a page from one index up to another behind the last one.
+    /// Puts the blocks of a page from one index up to another after the last one.
     fn copy(&mut self, page: &Page, from: usize, to: usize)
         requires order { from ≤ to }
         requires within { to ≤ length page.now }
@@ -192,7 +192,7 @@ impl Page {
         }
     }
 
-    /// Puts all blocks of a piece behind the last one.
+    /// Puts all blocks of a piece after the last one.
     fn add(&mut self, piece: &MarkedBlocks)
         requires room { length self.old + length piece.now ≤ 64 }
         requires row { AreRow (self.old ++ piece.now) }

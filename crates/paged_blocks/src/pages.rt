@@ -75,7 +75,7 @@ impl Pages {
 }
 
 impl Pages {
-    /// The position behind the last one.
+    /// The position past the last one.
     pub fn end(&self) -> u64
         ensures end { result ≡ length self.now.statuses }
         ensures short { result < 2 ^ 63 }

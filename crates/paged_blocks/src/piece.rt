@@ -12,7 +12,7 @@ use arrayvec::ArrayVec;
 use block_list::block::Block;
 use std::marker::Model;
 
-/// At most three blocks: what is left in front of a mark, the mark, and what is left behind it.
+/// At most three blocks: what is left before a mark, the mark, and what is left after it.
 #[derive(Drop)]
 pub struct MarkedBlocks {
     slots: ArrayVec<Slot, 3>,
@@ -82,7 +82,7 @@ impl MarkedBlocks {
         part
     }
 
-    /// Puts a block behind the last one.
+    /// Puts a block after the last one.
     pub fn push(&mut self, block: Block)
         requires { length self.old < 3 }
         ensures { self.new ≡ self.old ++ block ∷ [] }
@@ -90,7 +90,7 @@ impl MarkedBlocks {
         self.slots.push(Slot { block });
     }
 
-    /// Puts a block, if there is one, behind the last one.
+    /// Puts a block, if there is one, after the last one.
     pub fn push_some(&mut self, block: Option<Block>)
         requires { length self.old < 3 }
         ensures { self.new ≡ self.old ++ option_to_list block }

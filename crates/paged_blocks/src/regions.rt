@@ -61,7 +61,7 @@ fn touched(pages: &[Page], entries: &Entries, edit: &Edit) -> Region
     }
 }
 
-/// A region with the page behind it.
+/// A region with the page after it.
 fn with_next(pages: &[Page], entries: &Entries, mut region: Region) -> Region
     requires paging { IsPaging pages.now entries.now.items }
     requires half { AreHalfFull entries.now.items }

@@ -8,10 +8,10 @@ use arrayvec::ArrayVec;
 use faulty_source::journal::ReadEntry;
 use itoa::Buffer;
 
-/// A line: three numbers of up to 40 digits, each with a byte behind it.
+/// A line: three numbers of up to 40 digits, each with a byte after it.
 pub(crate) type Line = ArrayVec<u8, 128>;
 
-/// Adds a number and a byte behind it.
+/// Adds a number and a byte after it.
 fn add_number(line: &mut Line, n: u64, end: u8)
     requires { array_vec_len line.old ≤ 82 }
     ensures text { line.new.items ≡ line.old.items ++ decimal n ++ end ∷ [] }

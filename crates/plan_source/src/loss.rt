@@ -5,6 +5,6 @@
 pub enum PlanLoss {
     /// There was no memory for the entry of one in the journal. Its line wasn't put.
     Memory,
-    /// The line of one couldn't be put, or not all of it. It was answered, and those behind it are lost.
+    /// The line of one couldn't be put, or not all of it. It was answered, and those after it are lost.
     Console,
 }

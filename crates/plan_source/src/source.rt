@@ -35,8 +35,8 @@ impl Origin for Brand {
 
 /// A source of zeros, of which as much is given as a test map has finished. It says each read on the first channel of a
 /// console before it answers, and keeps a journal of them; what the console got is the lines of the journal, in order.
-/// Behind a read whose line couldn't be put, which is the journal's last one, all reads are lost: so what may stand of
-/// the line is told of a read that was answered. Its input is open from the start.
+/// After a read whose line couldn't be put, which is the journal's last one, all reads are lost: so what may be there
+/// of the line is told of a read that was answered. Its input is open from the start.
 #[derive(Drop)]
 pub struct PlanSource<'a, C: Console, T: Tiles, O: Origin = Brand> {
     length: u64,
@@ -73,7 +73,7 @@ fn got_at<T: Tiles>(length: u64, tiles: &T, pos: u64, asked: usize) -> Got
     }
 }
 
-/// Puts the line of a read. Says why those behind it are lost, if they are.
+/// Puts the line of a read. Says why those after it are lost, if they are.
 fn say<C: Console>(console: &mut C, entry: &ReadEntry) -> Option<PlanLoss>
     ensures printed { HasPrinted (C.state console.old) (C.state console.new) (entry.now ∷ []) result }
     ensures counted { AreCounted result 0 }
@@ -188,7 +188,7 @@ impl<C: Console, T: Tiles, O: Origin> Source for PlanSource<'_, C, T, O> {
         Ok(self.length)
     }
 
-    /// A read is lost where there is no memory for its entry, and so is each behind it, and each behind one whose line
+    /// A read is lost if there is no memory for its entry, and so is each after it, and each after one whose line
     /// couldn't be put.
     fn read_at(&mut self, pos: u64, buf: &mut [u8]) -> Result<Got, SourceLost> {
         if self.lost.is_some() {

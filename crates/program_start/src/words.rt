@@ -9,7 +9,7 @@ use std::alloc::Global;
 use std::env::{self, Args};
 use std::io::{self, ErrorKind};
 
-/// The arguments behind the first, which is the program's own name.
+/// The arguments after the first, which is the program's own name.
 fn words_of(alloc: Global, args: Args) -> Result<Words, NoMemory>
     ensures { IfOk result (λ words. words ≡ map string_bytes (drop 1 (into_iter_items args))) }
 {

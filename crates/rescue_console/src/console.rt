@@ -19,7 +19,7 @@ pub trait Console {
     /// What it tells: the text on each channel, and how often a put there failed.
     ghost state: { Self → ConsoleState };
 
-    /// Puts a piece on a channel, behind what was put there before. After a fault a beginning of the piece was put.
+    /// Puts a piece on a channel, after what was put there before. After a fault a beginning of the piece was put.
     fn put(&mut self, channel: Channel, piece: &[u8]) -> Result<(), ConsoleFault>
         ensures { Answers channel piece.now result (state self.old) (state self.new) };
 }

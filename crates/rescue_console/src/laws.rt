@@ -1,7 +1,7 @@
 //! What the definitions mean.
 ghost use Rattle.rescue_console.specs.Speaking.{HeardSpeak, OnePieceIsSaid, SpeechesJoin, SpokenIsPut};
 
-/// What is said in two parts, one behind the other, is said together.
+/// What is said in two parts, one after the other, is said together.
 pub fn speeches_join()
     ensures { SpeechesJoin }
 {}
@@ -16,7 +16,7 @@ pub fn one_piece_is_said()
     ensures { OnePieceIsSaid }
 {}
 
-/// What is said and heard to its end stands on the channels, each text behind the one before.
+/// What is said and heard to its end is on the channels, each text after the one before.
 pub fn what_is_spoken_is_put()
     ensures { SpokenIsPut }
 {}

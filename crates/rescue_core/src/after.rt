@@ -1,4 +1,4 @@
-//! What a run does behind a read that it gathered.
+//! What a run does after a read that it gathered.
 ghost use Rattle.std.specs.Prelude.{◌+◌, ◌≤◌, length};
 ghost use Rattle.transfer_token.specs.Tokens.{Spans};
 ghost use Rattle.rescue_core.specs.RunState.{IsSound};

@@ -29,7 +29,7 @@ pub fn counts_at_first<T: Tiles>(domain: &Domain, tiles: &T) -> Counts
     counts_between(domain, tiles, 0, tiles.end())
 }
 
-/// Goes on with the counts behind a read. The map has the marks of the read; the domain is what was left in front of it.
+/// Goes on with the counts after a read. The map has the marks of the read; the domain is what was left before it.
 /// Where areas may have changed, the positions right beside the request are looked up.
 #[inline(always)]
 pub(crate) fn count_after<T: Tiles>(
@@ -52,7 +52,7 @@ pub(crate) fn count_after<T: Tiles>(
     }
 }
 
-/// Goes on with what failed behind the marks of a read. Behind a whole read of copying it is as before.
+/// Goes on with the count of what failed, after the marks of a read. After a whole read of copying it is as before.
 #[inline(always)]
 fn fail_after<T: Tiles>(
     failed: &mut Count,
@@ -81,7 +81,7 @@ fn fail_after<T: Tiles>(
     }
 }
 
-/// Where positions from `from` up to `to` had not failed, and those from `kept` on do behind a read.
+/// The count of failures, when positions from `from` up to `to` hadn't failed, and those from `kept` on do after a read.
 #[inline(never)]
 fn failed_more<T: Tiles>(
     failed: Count,
@@ -102,7 +102,7 @@ fn failed_more<T: Tiles>(
     }
 }
 
-/// Where positions from `from` up to `to` had failed, and those up to `kept` haven't behind a read.
+/// The count of failures, when positions from `from` up to `to` had failed, and those up to `kept` haven't after a read.
 #[inline(never)]
 fn failed_less<T: Tiles>(
     failed: Count,
@@ -133,7 +133,7 @@ fn moved(areas: u64, begins: bool, ends: bool) -> u64
         .saturating_sub(u64::from(ends))
 }
 
-/// The counts less what lies at an end or behind it.
+/// The counts less what lies at an end or past it.
 #[cold]
 #[inline(never)]
 fn counts_before<T: Tiles>(counts: Counts, live: Live<'_>, tiles: &T, end: u64) -> Counts

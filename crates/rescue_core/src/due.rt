@@ -9,7 +9,7 @@ use rescue_rules::report::Said;
 /// So many milliseconds lie between two due saves.
 const SAVE_INTERVAL: u64 = 30000;
 
-/// Whether a line is due behind an event, in this phase and this second.
+/// Whether a line is due after an event, in this phase and this second.
 pub fn is_line_due(said: Option<Said>, current: Current, second: u64) -> bool
     ensures { result ≡ is_line_due said current second }
 {
@@ -19,7 +19,7 @@ pub fn is_line_due(said: Option<Said>, current: Current, second: u64) -> bool
     }
 }
 
-/// Whether a save is due behind an event at this time, by when the last one was.
+/// Whether a save is due after an event at this time, by when the last one was.
 pub fn is_save_due(due_at: u64, after: u64) -> bool
     ensures { result ≡ nat_le (due_at + save_interval) after }
 {

@@ -25,7 +25,7 @@ use transfer_token::token::Request;
 pub(crate) struct Gathered {
     pub kept: Kept,
     pub turn: Turn,
-    /// The time behind the read, in milliseconds since 1970.
+    /// The time after the read, in milliseconds since 1970.
     pub after: u64,
 }
 

@@ -22,7 +22,7 @@ fn add(line: &mut Line, text: &str)
     let _fits = line.try_extend_from_slice(text.as_bytes());
 }
 
-/// Adds a text and a number behind it, which has up to 40 digits.
+/// Adds a text and a number after it, which has up to 40 digits.
 fn add_number(line: &mut Line, text: &str, n: u64)
     requires { array_vec_len line.old + length text.now ≤ 472 }
     ensures text { line.new.items ≡ line.old.items ++ text.now ++ decimal n }
@@ -78,7 +78,7 @@ fn add_report(line: &mut Line, report: &Report)
     add(line, " B/s\n");
 }
 
-/// The line behind an event.
+/// The line after an event.
 fn phase_line(report: &Report) -> Line
     ensures { result.items ≡ report_text (phase_front report.now.shown) report.now }
 {
@@ -106,7 +106,7 @@ fn say<C: Console>(console: &mut C, line: &Line) -> bool
     console.put(Channel::Out, line).is_ok()
 }
 
-/// Says the line behind an event of a run that is heard so far or not. Says whether it is heard still.
+/// Says the line after an event of a run that is heard so far or not. Says whether it is heard still.
 // A line is due once in a second at most, so its text is no part of a turn's code.
 #[cold]
 #[inline(never)]

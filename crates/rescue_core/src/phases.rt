@@ -258,7 +258,7 @@ impl<P: Stage, T: Tiles> Rescue<P, T> {
         self.running.next_request()
     }
 
-    /// Goes on to the next pass, behind one that has no request left.
+    /// Goes on to the next pass, after one that has no request left.
     pub fn begin_pass(&mut self, phase: Phase, pass: u32)
         requires next { slice_get self.old.machine.passes 1 ≡ Some (numbered phase pass) }
         requires spent { has_request (setting_in self.old) self.old.machine ≡ false }
@@ -270,7 +270,7 @@ impl<P: Stage, T: Tiles> Rescue<P, T> {
     /// One turn: room in the map, a reading of the clock, the read, another reading, the write of what was kept, the
     /// marks, the line if one is due and the rescue is heard, and the save if one is due (without a mapfile none is).
     /// Want of memory comes before the read; a lost read or a failed write leaves the range as it was, and says
-    /// nothing; a call of the save may fail behind the marks. Behind a put that fails it isn't heard any more.
+    /// nothing; a call of the save may fail after the marks. After a put that fails it isn't heard any more.
     // Inlined in the loop of each phase, or a request of one sector costs half as much again (bench/turns).
     #[inline(always)]
     pub fn turn<S: Source, D: Site, K: Clock, C: Console>(

@@ -1,4 +1,4 @@
-//! Where a run stands behind a read.
+//! Where a run is after a read.
 ghost use Rattle.std.specs.Prelude.{◌≡◌, ◌+◌, ◌<◌, ◌≤◌, ◌^◌, length};
 ghost use Rattle.rescue_rules.specs.declared.phase.Phase.TheVariants.{Trimming};
 ghost use Rattle.rescue_rules.specs.Passes.{numbered};
@@ -16,8 +16,8 @@ use rescue_rules::phase::Phase;
 use rescue_rules::stop::TrimMode;
 use transfer_token::token::Request;
 
-/// Goes on to where a run stands behind a read, in a map of so many positions. While it trims, `more` says whether the
-/// position behind the read is asked for.
+/// Goes on to where a run is after a read, in a map of this many positions. While it trims, `more` says whether the
+/// position after the read is asked for.
 #[inline(always)]
 pub(crate) fn progress_after(
     settings: &Settings,
@@ -56,7 +56,7 @@ pub(crate) fn progress_after(
     progress.skip = next_skip(settings, progress.skip, jumped, turn);
 }
 
-/// The cursor behind a read.
+/// The cursor after a read.
 #[tactic(auto, using(crate::proofs::ProgressLemmas::cursor_is))]
 fn next_cursor(
     settings: &Settings,
@@ -105,7 +105,7 @@ fn next_skip(settings: &Settings, skip: u64, jumped: bool, turn: Turn) -> u64
     }
 }
 
-/// Whether copying jumps behind a read.
+/// Whether copying jumps after a read.
 fn jumps(phase: Phase, pass: u32, turn: Turn) -> bool
     ensures { (r : RunState) (e : Event) → pass_of r.machine ≡ numbered phase pass → turn ≡ turn_of r e
         → result ≡ is_jump (setting_in r) r.machine e }
@@ -118,7 +118,7 @@ fn jumps(phase: Phase, pass: u32, turn: Turn) -> bool
     far && phase == Phase::Copying
 }
 
-/// The mode of trimming behind a read from one position up to another.
+/// The mode of trimming after a read from one position up to another.
 fn next_mode(mode: TrimMode, good: bool, more: bool, from: u64, to: u64) -> TrimMode
     ensures { result ≡ mode_after mode good more from to }
 {

@@ -28,7 +28,7 @@ use transfer_token::token::Request;
 /// How a request is found. Sizes and positions are in bytes.
 #[derive(Clone, Copy, Debug, PartialEq, Eq)]
 struct Search {
-    /// Upwards: the first range at or behind `from`. Downwards: the last one that ends at or before it.
+    /// Upwards: the first range at or past `from`. Downwards: the last one that ends at or before it.
     pub up: bool,
     pub from: u64,
     /// Whether it is cut from the range's front, or else from its back.

@@ -259,7 +259,7 @@ impl<T: Tiles> Running<T> {
         Ok(turn)
     }
 
-    /// A turn up to its marks, and what it has come to behind them.
+    /// A turn up to its marks, and what it has come to after them.
     #[inline(always)]
     fn advance<S: Source, D: Site, K: Clock>(
         &mut self,
@@ -349,7 +349,7 @@ impl<T: Tiles> Running<T> {
         limit_met(&self.settings, self.tally, self.counts)
     }
 
-    /// Says the line behind an event, if one is due. A console that fails isn't told any further.
+    /// Says the line after an event, if one is due. A console that fails isn't told any further.
     fn say_due<C: Console>(&mut self, due: bool, console: &mut C)
         ensures stands { self.new ≡ record self.old { heard = self.new.heard } }
         ensures says { SpeaksOn (out_pieces (if due then report_text (phase_front self.old.machine.shown)
@@ -394,7 +394,7 @@ impl<T: Tiles> Running<T> {
         }
     }
 
-    /// Behind a call on the files that failed it makes no further one.
+    /// Makes the last calls on the files of a run that stopped; after one that failed it makes no further one.
     fn close_stopped<D: Site>(self, stop: Stop, site: &mut D) -> RunEnd
         requires no_draft { MayClose (Some stop) (D.state site.old) }
         ensures closes { Closes (Some stop) self result (D.state site.old) (D.state site.new) }
@@ -408,7 +408,7 @@ impl<T: Tiles> Running<T> {
         }
     }
 
-    /// Does so behind whatever else has stopped it, or at its end.
+    /// Makes the last save, of a run that ended or that anything but a failed call on the files stopped.
     fn save_last<D: Site>(self, stop: Option<Stop>, site: &mut D) -> RunEnd
         requires no_draft { (D.state site.old).is_drafting ≡ false }
         ensures saves { LastSave stop self result (D.state site.old) (D.state site.new) }

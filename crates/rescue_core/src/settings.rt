@@ -10,7 +10,7 @@ pub struct Settings {
     /// A position of the input, and where it stands in the output.
     pub ipos: u64,
     pub opos: u64,
-    /// How far copying jumps behind a failed or slow read, at first and at most: multiples of the sector.
+    /// How far copying jumps after a failed or slow read, at first and at most: multiples of the sector.
     pub skip: u64,
     pub skip_max: u64,
     /// A read is slow below so many bytes a second; with 0 none is.

@@ -88,7 +88,7 @@ pub(crate) struct Tally {
     pub over: Option<u64>,
     /// How many bytes were written.
     pub written: u64,
-    /// The line that was said last behind an event, if one was.
+    /// The line that was said last after an event, if one was.
     pub said: Option<Said>,
     /// How many areas had failed at the start.
     pub first_areas: u64,

@@ -1,4 +1,4 @@
-//! What a run has come to behind a read.
+//! What a run has come to after a read.
 ghost use Rattle.std.specs.Prelude.{◌≡◌, ◌*◌, ◌/◌, ◌<◌, ◌^◌};
 ghost use Rattle.faulty_source.specs.Got.{count_of, is_end};
 ghost use Rattle.faulty_source.specs.Journal.{kept as kept_by};
@@ -50,14 +50,14 @@ pub(crate) fn turn_after(
     }
 }
 
-/// What is due behind a read.
+/// What is due after a read.
 pub(crate) struct Due {
     /// Whether a line is due, and whether it is time for a save.
     pub speaks: bool,
     pub saves: bool,
 }
 
-/// Counts what a run has come to behind a read at this time, which met the input's end there if it did.
+/// Counts what a run has come to after a read at this time, which met the input's end there if it did.
 #[inline(always)]
 pub(crate) fn tally_after(
     tally: &mut Tally,

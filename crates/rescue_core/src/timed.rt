@@ -15,7 +15,7 @@ pub(crate) struct Timed {
     pub fetched: Fetched,
     /// What the read gave.
     pub got: Got,
-    /// The times before it and behind it, in milliseconds since 1970.
+    /// The times before it and after it, in milliseconds since 1970.
     pub before: u64,
     pub after: u64,
 }

@@ -11,7 +11,7 @@ pub struct Turn {
     pub whole: bool,
     /// Whether it was whole, and slow.
     pub slow: bool,
-    /// Whether the input ended behind what was given, which is then no failure.
+    /// Whether the input ended after what was given, which is then no failure.
     pub ended: bool,
 }
 

@@ -131,7 +131,7 @@ impl Domain {
         })
     }
 
-    /// Whether a position is in it, and up to where, below a limit, the positions behind it are like it. `near` says
+    /// Whether a position is in it, and up to where, below a limit, the positions after it are like it. `near` says
     /// where to look first, and then where this was found. Each value gives the same answer; from stretch to stretch
     /// with one `near` a step takes constant time, and any other one a search by halves.
     pub fn stretch_at(&self, near: &mut usize, x: u64, limit: u64) -> Stretch

@@ -7,8 +7,8 @@ use block_list::tiles::Tiles;
 use faulty_source::source::{Got, Source, SourceFault, SourceLost};
 
 /// A source for trying how a rescue goes. It asks the source below it for all of each read. What came of it in front of
-/// the first position that isn't finished in a map of positions it gives as a read that failed there; where all of it
-/// is finished, it answers as that source did. A position at the map's end or behind it isn't finished. All else is as
+/// the first position that isn't finished in a map of positions it gives as a read that failed there; if all of it
+/// is finished, it answers as that source did. A position at the map's end or past it isn't finished. All else is as
 /// that source does it: what opens, its length, and how often something failed.
 #[derive(Drop)]
 pub struct TestSource<'a, S, T> {

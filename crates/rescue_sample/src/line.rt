@@ -17,7 +17,7 @@ pub fn add(line: &mut Vec<u8>, text: &str) -> Result<(), NoMemory>
         .map_err(|_| NoMemory)
 }
 
-/// Adds a number, and a text behind it.
+/// Adds a number, and a text after it.
 fn add_number(line: &mut Vec<u8>, number: u64, text: &str) -> Result<(), NoMemory>
     ensures { OnOk result (line.new.items ≡ line.old.items ++ decimal number ++ text.now) }
 {

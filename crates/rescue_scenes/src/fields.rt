@@ -13,7 +13,7 @@ pub(crate) struct Field {
     pub(crate) is_quoted: bool,
 }
 
-/// What is left of a line: its fields, one after another. Behind a field that can't be read nothing is left.
+/// What is left of a line: its fields, one after another. After a field that can't be read nothing is left.
 #[derive(Drop)]
 pub(crate) struct Fields<'a> {
     alloc: Global,
@@ -85,7 +85,7 @@ fn read_bare(alloc: Global, first: u8, after: &[u8]) -> Result<(Field, usize), R
     Ok((field, end))
 }
 
-/// Reads a field from behind its first quote. Answers how many bytes were read.
+/// Reads a field from after its first quote. Answers how many bytes were read.
 fn read_quoted(alloc: Global, after: &[u8]) -> Result<(Field, usize), Refusal>
     ensures { IfOk result (λ read. read.1 ≤ length after.now) }
 {

@@ -94,7 +94,7 @@ fn append_pieces(out: &mut Vec<u8>, bytes: &[u8]) -> Result<(), Refusal> {
     Ok(())
 }
 
-/// Adds a piece behind the last one. Bytes follow each other in one item.
+/// Adds a piece after the last one. Bytes follow each other in one item.
 fn append_piece(out: &mut Vec<u8>, last: Option<Piece>, piece: Piece) -> Result<(), Refusal> {
     match (last, piece) {
         (None, _) | (Some(Piece::Byte(_)), Piece::Byte(_)) => {}
@@ -108,7 +108,7 @@ fn append_piece(out: &mut Vec<u8>, last: Option<Piece>, piece: Piece) -> Result<
     Ok(())
 }
 
-/// Adds a line for each line of a text, behind a word, and one for a rest without a newline, behind another word.
+/// Adds a line for each line of a text, after a word, and one for a rest without a newline, after another word.
 pub(crate) fn append_lines(
     out: &mut Vec<u8>,
     text: &[u8],
@@ -124,7 +124,7 @@ pub(crate) fn append_lines(
     Ok(())
 }
 
-/// Adds a line behind a word. Nothing stands behind the word of an empty one.
+/// Adds a line after a word. If the line is empty, nothing comes after the word.
 fn append_line(out: &mut Vec<u8>, word: &[u8], line: &[u8]) -> Result<(), Refusal> {
     out.extend_from_slice(word)?;
     if !line.is_empty() {

@@ -13,7 +13,7 @@ const ROOM: usize = 1_000_000;
 /// The most reads that a journal holds.
 const ROOM_LIMIT: usize = 1 << 24;
 
-/// Bad ranges, none of them empty, each behind those before it.
+/// Bad ranges, none of them empty, each past those before it.
 #[derive(Drop)]
 pub(crate) struct BadRanges {
     ranges: Vec<BadRange>,
@@ -46,7 +46,7 @@ impl BadRanges {
         }
     }
 
-    /// Adds a range, if it isn't empty and stands behind the others.
+    /// Adds a range, if it isn't empty and lies past the others.
     fn push(&mut self, range: BadRange) -> Result<(), Refusal>
         ensures ok { OnOk result (self.new ≡ self.old ++ range ∷ []) }
         ensures err { OnErr result (self.new ≡ self.old) }

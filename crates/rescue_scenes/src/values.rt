@@ -50,7 +50,7 @@ fn read_digits(digits: &[u8], base: u8) -> Result<u64, Refusal> {
     Ok(value)
 }
 
-/// Reads a number: decimal, or hexadecimal behind `0x`.
+/// Reads a number: decimal, or hexadecimal after `0x`.
 pub(crate) fn read_number(text: &[u8]) -> Result<u64, Refusal> {
     match text.strip_prefix(b"0x") {
         Some(digits) => read_digits(digits, 16),

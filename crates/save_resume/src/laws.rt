@@ -23,7 +23,7 @@ pub fn mapfile_has_an_answer()
     ensures { HasAnswer }
 {}
 
-/// Behind a resume a stop finds the mapfile and the open image as they read.
+/// After a resume a stop finds the mapfile and the open image as they read.
 pub fn nothing_pending_is_found()
     ensures { PendingNothingIsFound }
 {}

@@ -28,7 +28,7 @@ pub enum ResumeFault {
     NoMemory,
 }
 
-/// Puts a piece behind a text, unless that makes it too long.
+/// Puts a piece after a text, unless that makes it too long.
 fn add_piece(text: &mut Vec<u8>, piece: &[u8]) -> Result<(), ResumeFault>
     requires { vec_len text.old ≤ text_limit }
     ensures added { OnOk result (text.new.items ≡ text.old.items ++ piece.now) }

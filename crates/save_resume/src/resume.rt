@@ -1,4 +1,4 @@
-//! Resumes from a mapfile, behind a barrier.
+//! Resumes from a mapfile, after a barrier.
 ghost use Rattle.std.specs.Prelude.{◌≡◌, ◌≢◌, IsTrue, OnOk, IfErr};
 ghost use Rattle.mapfile_text.specs.declared.read.MapError.TheVariants.{NoStatusLine as Nothing};
 ghost use Rattle.crash_site.specs.SiteState.{files_in};

@@ -10,7 +10,7 @@ pub enum SizeError {
     /// A byte where a digit is wanted, or no digit at all.
     #[error("BadDigit")]
     BadDigit { at: usize },
-    /// Something else than a multiplier behind the number.
+    /// Something other than a multiplier after the number.
     #[error("BadSuffix")]
     BadSuffix { at: usize },
     /// The value is 2^63 or more.

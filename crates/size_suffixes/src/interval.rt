@@ -20,7 +20,7 @@ fn unit_value(suffix: &[u8]) -> Option<u64>
 }
 
 /// Reads an interval, in seconds, and nothing else: a number as `parse_number` reads it, then `s`, `m`, `h` or `d` for
-/// seconds, minutes, hours or days, or nothing for seconds. Anything else behind the number is `BadSuffix` at the
+/// seconds, minutes, hours or days, or nothing for seconds. Anything else after the number is `BadSuffix` at the
 /// number's end.
 pub fn read_interval(text: &str) -> Result<u64, SizeError>
     ensures { result ≡ interval text.now }

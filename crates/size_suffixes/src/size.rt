@@ -23,7 +23,7 @@ fn letter_value(sector: u64, letter: u8) -> Option<u64>
     }
 }
 
-/// What a letter with `i` behind it stands for.
+/// What a letter with `i` after it stands for.
 fn binary_value(letter: u8) -> Option<u64>
     ensures value { result ≡ binary_multiplier letter }
     ensures positive { IfSome result (λ m. 0 < m) }
@@ -55,8 +55,8 @@ fn suffix_value(sector: u64, suffix: &[u8]) -> Option<u64>
 
 /// Reads a size, in bytes, and nothing else: a number as `parse_number` reads it, then a multiplier or none, then `B`
 /// or nothing. The multiplier `s` is the size of a sector; `k`, `M`, `G`, `T`, `P` and `E` are powers of 1,000, and
-/// `Ki`, `Mi`, `Gi`, `Ti`, `Pi` and `Ei` powers of 1,024. A `B` behind a hexadecimal number is a digit of it. Anything
-/// else behind the number is `BadSuffix` at the number's end.
+/// `Ki`, `Mi`, `Gi`, `Ti`, `Pi` and `Ei` powers of 1,024. A `B` after a hexadecimal number is a digit of it. Anything
+/// else after the number is `BadSuffix` at the number's end.
 pub fn read_size(text: &str, sector: u64) -> Result<u64, SizeError>
     requires positive { 0 < sector }
     requires small { sector ≤ 1048576 }

@@ -54,7 +54,7 @@ pub fn opening_line(
     Ok(line)
 }
 
-/// Puts a line on standard output, by one put, if there is one and the rescue is heard. Says whether it is heard behind
+/// Puts a line on standard output, by one put, if there is one and the rescue is heard. Says whether it is heard after
 /// that.
 pub fn say_line<C: Console>(console: &mut C, line: &Option<Vec<u8>>, heard: bool) -> bool
     ensures { SpeaksOn (out_pieces (lines_in (option_map (λ l. l.items) line.now))) heard result

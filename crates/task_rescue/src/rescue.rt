@@ -29,7 +29,7 @@ use task_files::opening::say_line;
 use task_files::places::places_fit;
 
 /// Runs the rescue over the map that it goes on with. All memory is taken before the clock is read; what is said first
-/// is said behind that.
+/// is said after that.
 fn run<S: Source, D: Site, K: Clock, C: Console>(
     alloc: Global,
     plan: CheckedCommand<'_>,

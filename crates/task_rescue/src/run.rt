@@ -1,4 +1,4 @@
-//! The run of a rescue: its phases, and behind them the last save and the last line.
+//! The run of a rescue: its phases, and after them the last save and the last line.
 ghost use Rattle.std.specs.Prelude.{◌≡◌, IfOk};
 ghost use Rattle.faulty_source.specs.SourceChanges.{Stays as SourceStays};
 ghost use Rattle.crash_site.specs.SiteChanges.{Keeps as SiteKeeps};

@@ -34,7 +34,7 @@ use task_files::opening::say_line;
 use task_files::places::places_fit;
 
 /// Fills over the map that the mapfile stands for. All memory is taken before the clock is read; what is said first is
-/// said behind that.
+/// said after that.
 fn run<D: Site, K: Clock, C: Console>(
     alloc: Global,
     plan: CheckedCommand<'_>,

@@ -7,7 +7,7 @@ use faulty_source::source::Source;
 use std::alloc::Global;
 use task_files::ending::Ending;
 
-/// Repeats the front of a buffer behind itself, up to the buffer's end.
+/// Repeats the front of a buffer after itself, up to the buffer's end.
 fn repeat_front(buffer: &mut [u8], front: usize)
     requires some { 0 < front }
     requires within { front ≤ length buffer.old }

@@ -17,7 +17,7 @@ pub enum Fetched {
     Part(Loaded, Missed),
     /// Nothing of it was kept.
     Nothing(Missed),
-    /// The input ended behind what was read, all of which is kept.
+    /// The input ended after what was read, all of which is kept.
     Ended(Loaded, Over),
     /// The input ended at its front or before.
     Empty(Over),

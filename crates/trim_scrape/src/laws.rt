@@ -13,17 +13,17 @@ pub fn a_run_ends_well()
     ensures { RunEndsWell }
 {}
 
-/// A run in copying's last pass, which has no request left, is behind copying.
+/// A run in copying's last pass, which has no request left, is past copying.
 pub fn what_copied_is_past()
     ensures { CopiedIsPast }
 {}
 
-/// Whole turns behind whole turns are whole turns.
+/// Whole turns after whole turns are whole turns.
 pub fn turns_join()
     ensures { TurnsJoin }
 {}
 
-/// Turns up to one that stopped, behind whole turns, are such turns.
+/// Turns up to one that stopped, after whole turns, are such turns.
 pub fn stopped_turns_join()
     ensures { StoppedTurnsJoin }
 {}

@@ -1,4 +1,4 @@
-//! What a rescue does behind copying: it trims, scrapes and retries.
+//! What a rescue does after copying: it trims, scrapes and retries.
 #![tactic(auto)]
 
 pub mod laws;

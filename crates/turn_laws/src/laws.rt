@@ -40,7 +40,7 @@ pub fn a_halted_turn_is_held()
     ensures { HaltedTurnIsHeld }
 {}
 
-/// A turn that stopped leaves the run safe, unless it stopped at a call on the files, behind which none is made.
+/// A turn that stopped leaves the run safe, unless it stopped at a call on the files, after which none is made.
 pub fn a_halted_turn_stays_safe()
     ensures { HaltedTurnStaysSafe }
 {}
@@ -141,7 +141,7 @@ pub fn what_is_well_since_the_start_is_well()
     ensures { SinceStartIsWell }
 {}
 
-/// Whole turns from where it is under way, up to behind the last phase, and the close behind them leave no request, each
+/// Whole turns from where it is under way, to past the last phase, and the close after them leave no request, each
 /// position left well, and the last map saved.
 pub fn phases_end_well()
     ensures { PhasesEndWell }
@@ -168,7 +168,7 @@ pub fn a_whole_run_is_kept()
     ensures { WholeRunIsKept }
 {}
 
-/// A run whose earlier passes are spent may begin those that are left of them, and is behind that phase then.
+/// A run whose earlier passes are spent may begin those that are left of them, and is past that phase then.
 pub fn spent_passes_lead_past()
     ensures { SpentLeadsPast }
 {}
@@ -188,7 +188,7 @@ pub fn what_may_copy_is_under_way()
     ensures { CopyingIsUnderWay }
 {}
 
-/// So is one that is behind a phase, by what its type knows.
+/// A run that is past a phase is under way, by what its type knows.
 pub fn what_is_past_is_under_way()
     ensures { PastIsUnderWay }
 {}

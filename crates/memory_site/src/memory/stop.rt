@@ -384,7 +384,7 @@ impl Replay {
         }
     }
 
-    /// The files that are left, where the call behind the first k is in progress if there is one.
+    /// The files that are left while the call after the first k is in progress, if there is one.
     fn cut_off(mut self, log: &CallLog, k: usize) -> Result<MemoryFolder, AllocError>
         requires { k ≤ length log.now.listed.items }
         ensures { IfOk result (λ left. (d : Disk) (files : List ℕ → Option File) → Replays self d files
