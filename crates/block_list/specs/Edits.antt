@@ -11,7 +11,7 @@ pub record IsTiled (bs : List Block) : Type 0 where
   pub tiled : AreTiles 0 bs (length (flat_map covered bs))
   pub short : length (flat_map covered bs) < 2 ^ 63
 
--- where the block with an index begins: behind the positions of those in front of it
+-- where the block with an index begins: past the positions of those before it
 abbrev pub start_of : List Block → ℕ → ℕ
 start_of bs i = length (flat_map covered (take i bs))
 
@@ -40,7 +40,7 @@ pub record IsBlockCut (bs new : List Block) (at i : ℕ) : Type 0 where
   pub front : IsMerged bs → IsMerged (take i new)
   pub back : (n : ℕ) → start_of bs n ≤ at → IsMerged (drop n bs) → IsMerged (drop i new)
 
--- wide is the block, or the block and the one in front of it; it stands behind the first low blocks in the place of
+-- wide is the block, or the block and the one before it; it comes after the first low blocks in place of
 -- those up to i
 pub record IsJoinedBefore (bs : List Block) (i : ℕ) (block : Block) (low : ℕ) (wide : Block) : Type 0 where
   pub index : low ≤ i
@@ -51,7 +51,7 @@ pub record IsJoinedBefore (bs : List Block) (i : ℕ) (block : Block) (low : ℕ
   pub same : flat_map covered (take low bs) ++ covered wide ≡ flat_map covered (take i bs) ++ covered block
   pub merged : IsMerged (take i bs) → IsMerged (take low bs ++ wide ∷ [])
 
--- wide is the block, or the block and the one behind it; it stands in front of the blocks from high on in the place of
+-- wide is the block, or the block and the one after it; it comes before the blocks from high on in place of
 -- those from j on
 pub record IsJoinedAfter (bs : List Block) (j : ℕ) (block : Block) (high : ℕ) (wide : Block) : Type 0 where
   pub index : j ≤ high
@@ -63,8 +63,8 @@ pub record IsJoinedAfter (bs : List Block) (j : ℕ) (block : Block) (high : ℕ
   pub same : covered wide ++ flat_map covered (drop high bs) ≡ covered block ++ flat_map covered (drop j bs)
   pub merged : IsMerged (drop j bs) → IsMerged (wide ∷ drop high bs)
 
--- new are the blocks with the boundary in front of the one at i at another position; where it rose, what it passed has
--- the status of the block in front of it, and where it fell, that of the block behind it
+-- new are the blocks with the boundary in front of the one at i at another position; if it rose, what it passed has the
+-- status of the block before it, and if it fell, that of the block after it
 pub record IsShifted (bs new : List Block) (i at : ℕ) : Type 0 where
   pub tiled : IsTiled new
   pub merged : IsMerged bs → IsMerged new

@@ -1,4 +1,4 @@
--- Whole turns of a run, by what the objects tell, and a turn that stopped behind them.
+-- Whole turns of a run, by what the objects tell, and a turn that stopped after them.
 use Rattle.std.specs.Prelude.{◌≡◌, ℕ, ◌+◌, true, false, IsTrue, List, length, slice_range, All, Result, IfOk, IfErr, OnOk, None}
 use Rattle.faulty_source.specs.Journal.{Reading}
 use Rattle.faulty_source.specs.SourceState.{SourceState}
@@ -49,7 +49,7 @@ abbrev pub moved_to : RunState → RunState → RunState
 moved_to r q = record r { phase = q.phase; pass = q.pass; machine = q.machine; heard = q.heard }
 
 -- Whole turns: a run of events, which gave the input's own bytes, with its readings of the clock, its calls and its
--- lines. They lead to the state behind the events, or from there on over passes without a request; all else of the run
+-- lines. They lead to the state after the events, or from there on over passes without a request; all else of the run
 -- stands.
 pub record Went (r r' : RunState) (o : Across) : Type 0 where
   pub events : List Event
@@ -63,7 +63,7 @@ pub record Went (r r' : RunState) (o : Across) : Type 0 where
   pub made : Makes (run_calls (setting_in r) r.machine events) o.site o.site'
   pub says : SpeaksOn (out_pieces (run_lines (setting_in r) r.machine events)) r.heard r'.heard o.console o.console'
 
--- a turn that stopped, behind whole ones, which had met no limit; and a draft is left begun where its stop says so
+-- a turn that stopped, after whole ones, which had met no limit; and a draft is left begun if its stop says so
 pub record WentUpTo (stop : Stop) (r r' : RunState) (o : Across) : Type 0 where
   pub between : RunState
   pub source_between : SourceState

@@ -4,7 +4,7 @@ use Rattle.crash_site.specs.Calls.{Call, Entry, Done, Failed}
 use Rattle.crash_site.specs.Disk.{Disk, entered}
 use Rattle.crash_site.specs.Left.{in_part}
 
--- it holds at every stop within these entries of a record, and behind them
+-- it holds at every stop within these entries of a record, and after them
 abbrev pub Along : (Disk → Type 0) → Disk → List Entry → Type 0
 Along P d [] = P d
 Along P d (e ∷ es) = P (entered d (in_part e)) × Along P (entered d e) es

@@ -21,7 +21,7 @@ abbrev pub IsWithin : MapRead → ℕ → Type 0
 IsWithin (Bytes n) asked = n ≤ asked
 IsWithin NoMap asked = ⊤
 
--- what a read of a file at a place may answer: bytes that stand there, none only at its end or behind it
+-- what a read of a file at a place may answer: bytes that are there, and none only at its end or past it
 abbrev pub IsRead : Option File → ℕ → List ℕ → MapRead → Type 0
 IsRead None pos buf NoMap = ⊤
 IsRead None pos buf (Bytes n) = ⊥

@@ -51,7 +51,7 @@ drafting_after (draft_begin name) ok drafting = ok
 drafting_after (draft_publish name) ok drafting = false
 drafting_after call ok drafting = drafting
 
--- an open says of itself what is open behind it; no other call opens or closes an image
+-- an open says of itself what is open after it; no other call opens or closes an image
 abbrev pub KeepsOpen : Call → (before now : Bool) → Type 0
 KeepsOpen (image_open name make) before now = ⊤
 KeepsOpen call before now = now ≡ before

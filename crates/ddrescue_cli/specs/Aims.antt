@@ -1,4 +1,4 @@
--- The work of fill mode and of generate mode: their steps in order, and the sweep behind them.
+-- The work of fill mode and of generate mode: their steps in order, and the sweep after them.
 use Rattle.std.specs.Prelude.{◌≡◌, ⊤, true, is_some, ℕ, Bool, List}
 use Rattle.ddrescue_words.specs.Command.{Command, Task, Rescue, Fill, Generate}
 use Rattle.ddrescue_cli.specs.declared.aim.Aim.{Aim}
@@ -20,7 +20,7 @@ IsNamedFor ToRescue c = ⊤
 IsNamedFor (ToFill types) c = is_some c.mapfile ≡ true
 IsNamedFor ToGenerate c = is_some c.mapfile ≡ true
 
--- what was done behind the words, by what files are for
+-- what was done after the words, by what files are for
 abbrev pub WorkedFor : Aim → Command → (line : List ℕ) → (heard heard' : Bool) → Ending → Across → Type 0
 WorkedFor ToRescue c line heard heard' e o = Worked c line heard heard' e o
 WorkedFor (ToFill types) c line heard heard' e o = WorkedFill types c line heard heard' e o

@@ -132,7 +132,7 @@ pub record Ddrescue (t : Told) : Type 0 where
   pub cause : Causes t.answer t.source t.source' t.site t.site'
   -- What the words ask for is done, as far as the answer says.
   pub asked_for : (task : Task) → AskTask t.words task → PromiseOf task t
-  -- A draft is left begun exactly where an append to it failed, or its sync. (A file of its name may be left behind any
+  -- A draft is left begun exactly if an append to it failed, or its sync. (A file of its name may be left after any
   -- failed call of a save.)
   pub draft : t.site'.is_drafting ≡ drafting_left t.answer
   -- What is said of words that ask for nothing is the message of the answer.

@@ -20,6 +20,6 @@ pub record Told : Type 0 where
   pub console : ConsoleState
   pub console' : ConsoleState
 
--- the calls stand behind those that the site had made
+-- the calls come after those that the site had made
 abbrev pub calls_before : Told → Before
 calls_before t = record { start = t.site.start; earlier = t.site.calls }

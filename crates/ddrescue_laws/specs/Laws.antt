@@ -61,7 +61,7 @@ abbrev pub FaultsAreOfSteps : Type 0
 FaultsAreOfSteps = (t : Told) (c : Command) (d : Ddrescue t) (call : SiteCall) (earlier : Option Stop)
     → Asks t.words c → t.answer ≡ SiteFault call earlier → IsRescueCall call
 
--- Behind each answer that comes after the barrier, the files as they read keep the promise.
+-- After each answer that follows the barrier, the files as they read keep the promise.
 abbrev pub HoldsAtEnd : Type 0
 HoldsAtEnd =
     (t : Told) (c : Command) (began : List Status) (state : Option MapState) (d : Ddrescue t) (asks : Asks t.words c)

@@ -29,7 +29,7 @@ pub record OutputMade (outfile : List ℕ) (files files' : List ℕ → Option F
   pub output : files' outfile ≡ made_of (files outfile)
   pub others : (name : List ℕ) → name ≢ outfile → files' name ≡ files name
 
--- an answer that comes behind the open of the output, before the first read
+-- an answer that comes after the open of the output, before the first read
 abbrev pub IsAfterOutput : Ending → Type 0
 IsAfterOutput e = (e ≡ Usage PlaceTooLarge) ⊎ ((error : MapError) × (e ≡ MapRefused RunMap error))
 

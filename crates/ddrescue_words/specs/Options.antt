@@ -34,7 +34,7 @@ in_sectors o n = whole_sectors o.sector n
 
 -- ---- how far copying skips
 
--- how far copying skips behind a failed read in bytes, at first and at most, where no option says it
+-- how far copying skips after a failed read in bytes, at first and at most, if no option says it
 abbrev pub default_skip : ℕ
 default_skip = 65536
 
@@ -85,7 +85,7 @@ skips_of sector text =
 abbrev pub limit_with : (new : Bool) → List ℕ → Option (Bool × Option ℕ)
 limit_with new text = option_map (λ n. (new, Some n)) (result_ok (number text))
 
--- It is a number, or, where new areas alone count, a number behind a `+`.
+-- It is a number or, if new areas alone count, a number after a `+`.
 abbrev pub area_limit_of : List ℕ → Option (Bool × Option ℕ)
 area_limit_of [] = None
 area_limit_of (c ∷ text) = if nat_eq c 43 then limit_with true text else limit_with false (c ∷ text)
@@ -101,8 +101,8 @@ abbrev pub valued : (letter : ℕ) → List ℕ → (ℕ → Options → Option 
 valued letter name sets = record { letter = Some letter; name = name; takes = Always; sets = sets }
 
 -- The letters of options that are looked at by themselves. The size of a sector (`-b`) is set before all others, the
--- size of a cluster (`-c`) is looked at again behind all, `-F` and `-G` are modes, which don't go together and not with
--- `-H`; `-H` and `-m` name maps, and `-q` asks that nothing be said.
+-- size of a cluster (`-c`) is looked at again after all others, `-F` and `-G` are modes, which don't go together and
+-- not with `-H`; `-H` and `-m` name maps, and `-q` asks that nothing be said.
 abbrev pub sector_letter : ℕ
 sector_letter = 98
 
@@ -181,7 +181,7 @@ sample_row = record {
   sets = λ sector o value. option_map (λ n. record o { sample = Some n }) (sample_of value);
 }
 
--- all options, that of a sample behind the others
+-- all options, that of a sample after the others
 abbrev pub option_rows : List (OptionRow Options)
 option_rows = lettered_rows ++ sample_row ∷ []
 

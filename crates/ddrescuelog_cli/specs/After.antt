@@ -1,4 +1,4 @@
--- What became of the files and of the feed behind an answer of a mode that changes files.
+-- What became of the files and of the feed after an answer of a mode that changes files.
 use Rattle.std.specs.Prelude.{◌≡◌, ℕ, false}
 use Rattle.crash_site.specs.SiteState.{SiteState}
 use Rattle.crash_site.specs.SiteChanges.{Keeps as SiteKeeps}

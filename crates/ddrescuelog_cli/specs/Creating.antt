@@ -66,7 +66,7 @@ abbrev pub StoppedEarly : Command → Found → LogEnding → List Entry → Typ
 StoppedEarly c found e calls =
     (line list : List ℕ) (m : Maps) → WorksAs true c line list found m e (only_calls calls)
 
--- it came past these calls: what is done behind them over maps is done by the whole work
+-- it came past these calls: what is done after them over maps is done by the whole work
 abbrev pub CameOver : Command → Found → List Entry → Type 0
 CameOver c found calls =
     (line list : List ℕ) (m : Maps) (e : LogEnding) (later : List Entry) → WorksOver c line list m e (only_calls later)
@@ -88,7 +88,7 @@ pub record Looks (c : Command) (result : Result (Option Tiled) LogEnding) (old n
 
 -- ---- the list
 
--- A piece was taken behind a list: it has bytes where the feed had some, and else nothing is left.
+-- A piece was taken onto the end of a list: it has bytes if the feed had some, and else nothing is left.
 pub record TakesFeedPiece (some : Bool) (before now : List ℕ) (old new : FeedState) : Type 0 where
   pub piece : List ℕ
   pub grew : now ≡ before ++ piece
@@ -98,7 +98,7 @@ pub record TakesFeedPiece (some : Bool) (before now : List ℕ) (old new : FeedS
   pub more : some ≡ true → 0 < length piece
   pub ended : some ≡ false → (piece ≡ []) × (IsTrue old.tells → new.left ≡ [])
 
--- so many bytes were taken, and what is left is behind them
+-- this many bytes were taken, and what is left comes after them
 pub record TookBytes (bytes : List ℕ) (old new : FeedState) : Type 0 where
   pub keeps : FeedKeeps old new
   pub kept : new.faults ≡ old.faults

@@ -1,4 +1,4 @@
--- The refusals behind the words, one a row.
+-- The refusals after the words, one a row.
 use Rattle.std.specs.Prelude.{◌≡◌, ◌⊎◌, ℕ, ◌<◌, ◌≤◌, true, List, length, Option, None, is_some, Err}
 use Rattle.mapfile_text.specs.declared.read.Mode.{Mode}
 use Rattle.mapfile_text.specs.declared.read.MapError.{MapError}
@@ -30,7 +30,7 @@ IfNamed name refuses e = (is_some name ≡ true) × refuses e
 abbrev pub MapIsThere : (file : Option File) → LogEnding → Type 0
 MapIsThere file e = (is_some file ≡ true) × (e ≡ Exists)
 
--- a position of the mapfile would end too far behind in the output, whatever the domain map leaves of it
+-- a position of the mapfile would end too far on in the output, whatever the domain map leaves of it
 pub record PlacesRefused (c : Command) (m : Maps) (e : LogEnding) : Type 0 where
   pub lists : looks_at_places c.mode ≡ true
   pub beyond : IsAnyBeyond (whole_domain c.options.input_position c.options.size (length m.statuses))

@@ -110,7 +110,7 @@ text_of Summarize c line m = summary_text m.shown (summary_of (domain_of c m) m.
 
 -- ---- what is saved
 
--- where a map of listed blocks ends: behind the size, if that is given, else behind the last listed position
+-- where a map of listed blocks ends: the size past the input position, if that is given, else past the last listed one
 abbrev pub ListEndsAt : (size : Option ℕ) → LogOptions → (numbers : List ℕ) → (end : ℕ) → Type 0
 ListEndsAt (Some n) o numbers end = end ≡ o.input_position + n
 ListEndsAt None o numbers end = IsEndOfBlocks (shape_of o) numbers end

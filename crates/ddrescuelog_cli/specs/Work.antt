@@ -40,7 +40,7 @@ log_faults = record { call = λ call. SiteFault call; memory = NoMemory; input =
 abbrev pub map_rows : Which → Mode → (name : Option (List ℕ)) → (file : Option File) → List (WorkStep LogEnding)
 map_rows which mode name file = Read name file ∷ Look (IfNamed name (MapIsRefused which mode file)) ∷ []
 
--- behind the mapfile: the other map, and then the domain map
+-- after the mapfile: the other map, and then the domain map
 abbrev pub named_rows : Command → Found → List (WorkStep LogEnding)
 named_rows c found =
     map_rows OtherMap Tight c.other found.other

@@ -72,11 +72,11 @@ size_word_by (Some i) = word_at i.value
 abbrev pub size_word : List Item → ℕ
 size_word items = size_word_by (last_of option_meanings size_letter items)
 
--- a map to be created ends at 2^63 or behind
+-- a map to be created ends at 2^63 or past
 abbrev pub is_too_long : Command → Bool
 is_too_long c = creates c.mode && ends_beyond c.options c.options.size
 
--- unless a map to be created is too long, which is looked at behind all else
+-- unless a map to be created is too long, which is looked at after all else
 abbrev pub unless_too_long : (size_word : ℕ) → Result Command UsageFault → Result Command UsageFault
 unless_too_long n (Err fault) = Err fault
 unless_too_long n (Ok c) = if is_too_long c then Err (BadValue n) else Ok c

@@ -25,7 +25,7 @@ abbrev pub valued : (letter : ℕ) → List ℕ → (ℕ → LogOptions → Opti
     → OptionRow LogOptions
 valued letter name sets = record { letter = Some letter; name = name; takes = Always; sets = sets }
 
--- what is done, if a value says it; of several the last is kept, and that there is one is looked at behind all values
+-- what is done, if a value says it; of several the last is kept, and that there is one is looked at after all values
 abbrev pub as_mode : LogOptions → Option LogMode → Option LogOptions
 as_mode o m = option_map (λ mode. record o { mode = Some mode }) m
 
@@ -36,7 +36,7 @@ mode letter name takes read =
 
 -- The letters of options that are looked at by themselves. The size of a block (`-b`) is set before all others, `-m`
 -- names the map of the positions that are looked at, `-q` asks that no message be put, and `-s` is looked at again
--- behind all where a map is to be made.
+-- after all others if a map is to be made.
 abbrev pub block_letter : ℕ
 block_letter = 98
 

@@ -32,7 +32,7 @@ option_row letter = record {
 }
 
 -- The letters of options that are looked at by themselves: the size of a sector (`-b`) is set before all others, the
--- size of a cluster (`-c`) is looked at again behind all, and `-q` asks that nothing be said.
+-- size of a cluster (`-c`) is looked at again after all others, and `-q` asks that nothing be said.
 abbrev pub sector_letter : ℕ
 sector_letter = 98
 

@@ -23,7 +23,7 @@ output_from o = unwrap_or o.output_position o.input_position
 abbrev pub domain_asked : VerifyOptions → (end : ℕ) → ℕ → Bool
 domain_asked o end = whole_domain o.input_position o.size end
 
--- one of these positions would end in the output at 2^63 or behind it
+-- one of these positions would end in the output at 2^63 or past it
 abbrev pub IsBeyond : VerifyOptions → (end : ℕ) → Type 0
 IsBeyond o end = IsAnyBeyond (domain_asked o end) o.input_position (output_from o)
 
@@ -48,6 +48,6 @@ shown_by loaded looks = shown_for loaded (differing_bytes looks)
 abbrev pub heading_of : (line : List ℕ) → HeadingLines
 heading_of line = record { program = Ddrescuelog; line = line; start_s = 0; now_s = 0 }
 
--- the text that is saved behind looks at all pieces of a map whose mapfile showed this
+-- the text that is saved after the looks at all pieces of a map whose mapfile showed this
 abbrev pub text_of : (line : List ℕ) → List Status → MapState → List Look → List ℕ
 text_of line statuses shown looks = printed (heading_of line) (shown_by shown looks) (judged_by statuses looks)

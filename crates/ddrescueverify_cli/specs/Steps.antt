@@ -66,7 +66,7 @@ LoadCause e faults faults' =
     × (faults' ≡ faults))
     ⊎ ((call : SiteCall) × (e ≡ SiteFault call) × IsResumeCall call × Rose faults faults')
 
--- Why a comparison behind the mapfile saves nothing: a position has no place, or each has one, and memory ran out before
+-- Why a comparison after the mapfile saves nothing: a position has no place, or each has one, and memory ran out before
 -- it began, or it stopped.
 pub data StopsComparing (o : VerifyOptions) (end : ℕ) (old new : List Status) (e : VerifyEnding)
     (source source' : SourceState) (site site' : SiteState) : Type 0 where
@@ -85,7 +85,7 @@ pub record SavesText {T : Type 0} (names : MapNames) (text : List ℕ) (result :
   pub gained : IsTrue old.tells → new.calls ≡ old.calls ++ calls
   pub did : Did verify_faults (Make (save_calls names text) ∷ []) (λ x. ⊤) result calls
 
--- why it wasn't saved: a call of the save failed, behind which a draft may be left begun
+-- why it wasn't saved: a call of the save failed, after which a draft may be left begun
 abbrev pub SaveCause : VerifyEnding → (old new : SiteState) → Type 0
 SaveCause e old new =
     (call : SiteCall) × (e ≡ SiteFault call) × Rose old.faults new.faults

@@ -37,8 +37,8 @@ abbrev pub load_rows : (mapfile : List ℕ) → (file : Option File) → List (W
 load_rows mapfile file =
     Make (barrier_calls (names_of mapfile)) ∷ Read (Some mapfile) file ∷ LookAt (MapfileRefused file) ∷ []
 
--- what follows the names: the input is opened first, and behind the mapfile each position that is asked for wants a place
--- in the output
+-- what follows the names: the input is opened first, and after the mapfile each position that is asked for wants a
+-- place in the output
 abbrev pub opened_rows : Command → Found → (end : ℕ) → List (WorkStep VerifyEnding)
 opened_rows c found end =
     Open c.infile
@@ -66,8 +66,8 @@ IsAnswer quiet t e = (e ≡ answer_of_tally t) ⊎ ((quiet ≡ false) × (e ≡ 
 abbrev pub EndsSaved : (quiet : Bool) → Tally → VerifyEnding → Deeds → Type 0
 EndsSaved quiet t e d = IsAnswer quiet t e × IsIdle d
 
--- The end of a comparison behind looks at its first pieces. It stopped before its last one, and saves nothing; or it came
--- to the last, and made one save, and said how much it compared, unless it was asked to say nothing.
+-- The end of a comparison after the looks at its first pieces. It stopped before its last one, and saves nothing; or it
+-- came to the last, and made one save, and said how much it compared, unless it was asked to say nothing.
 pub data EndsAfter (c : Command) (p : ComparisonPlan) (text : List ℕ) (looks : List Look) (e : VerifyEnding) (d : Deeds)
     : Type 0 where
   Halts : (halt : Halt) → e ≡ answer_of_halt halt → d.opens ≡ [] → d.gain.times ≡ []
@@ -77,7 +77,7 @@ pub data EndsAfter (c : Command) (p : ComparisonPlan) (text : List ℕ) (looks :
       (EndsSaved c.options.quiet (tally_of looks)) e d
       → EndsAfter c p text looks e d
 
--- the same deeds behind these reads, and behind calls that returned
+-- the same deeds after these reads, and after calls that returned
 abbrev pub after_looks : (place : ℕ → ℕ) → List Look → Deeds → Deeds
 after_looks place looks d = record {
   opens = d.opens;
@@ -88,8 +88,8 @@ after_looks place looks d = record {
   };
 }
 
--- The comparison over a map: it looks at the first pieces, each by one read of the input and, where that was whole, one of
--- the image, and ends behind them.
+-- The comparison over a map: it looks at the first pieces, each by one read of the input and, if that was whole, one of
+-- the image, and ends after them.
 pub record ComparesOver (c : Command) (line : List ℕ) (end : ℕ) (statuses : List Status) (shown : MapState)
     (looks : List Look) (e : VerifyEnding) (d : Deeds) : Type 0 where
   pub asks : AskForPieces (plan_of c.options end statuses).compared c.options.sector 0 (reads_of looks)
@@ -97,7 +97,7 @@ pub record ComparesOver (c : Command) (line : List ℕ) (end : ℕ) (statuses : 
   pub is : d ≡ after_looks (place_in (plan_of c.options end statuses)) looks rest
   pub ends : EndsAfter c (plan_of c.options end statuses) (text_of line statuses shown looks) looks e rest
 
--- The comparison over the map that the mapfile stands for, which ends at the input's end or behind it.
+-- The comparison over the map that the mapfile stands for, which ends at the input's end or past it.
 pub record Verifies (c : Command) (line : List ℕ) (found : Found) (end : ℕ) (looks : List Look) (e : VerifyEnding)
     (d : Deeds) : Type 0 where
   pub statuses : List Status

@@ -10,7 +10,7 @@ use Rattle.option_words.specs.declared.fault.WordFault.TheVariants.{UnknownShort
 use Rattle.option_words.specs.declared.fault.UsageFault.{UsageFault}
 use Rattle.option_words.specs.declared.fault.UsageFault.TheVariants.{Word, BadValue, Conflict, Modes, Operands, PlaceTooLarge}
 
--- a number behind a word, and what is said of it
+-- a number after a word, and what is said of it
 abbrev pub numbered_text : List ℕ → ℕ → List ℕ → List ℕ
 numbered_text what n says = what ++ decimal n ++ says
 

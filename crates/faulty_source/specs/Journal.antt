@@ -2,7 +2,7 @@
 use Rattle.std.specs.Prelude.{ℕ, ◌+◌, ◌-◌, ◌*◌, ◌/◌, Bool, List, length, nat_eq, nat_le, nat_lt, ◌&&◌, ◌||◌, not, if◌then◌else◌}
 
 -- one read that was answered: where it began, how many bytes were asked for, the bytes that were given, and whether the
--- input ended behind them
+-- input ended after them
 pub record Reading : Type 0 where
   pub pos : ℕ
   pub asked : ℕ

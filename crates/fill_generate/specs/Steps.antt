@@ -36,7 +36,7 @@ use Rattle.rescue_core.specs.Closing.{drafting_at_stop}
 abbrev pub deed_of : Sweeper → Sweep → Swept → Deed
 deed_of w m e = record { calls = w.call e ∷ []; save = due_save w m e }
 
--- A piece as it is found: the next one of each sweeper of its kind. It lies at the input position or behind it, isn't
+-- A piece as it is found: the next one of each sweeper of its kind. It lies at the input position or past it, isn't
 -- empty, and has places in the output.
 pub record IsFound (r : SweepState) (p : Piece) : Type 0 where
   pub next : (w : Sweeper) → IsSweeperOf r.mode w → IsPiece (setting_of r) w r.sweep p.pos (p.pos + p.len)
@@ -51,7 +51,7 @@ pub record IsFound (r : SweepState) (p : Piece) : Type 0 where
 abbrev pub heard_as : SweepState → Bool → SweepState
 heard_as r heard = record r { heard = heard }
 
--- the line behind a piece, if one is due at this time, and the save
+-- the line after a piece, if one is due at this time, and the save
 abbrev pub line_after : (r r' : SweepState) → (after : ℕ) → List (List ℕ)
 line_after r r' after =
     if is_line_due r.sweep.said (current_in r.mode) (after / 1000)
@@ -74,7 +74,7 @@ pub record BreaksSave (stop : Stop) (calls : List Call) (site site' : SiteState)
 abbrev pub got_at : Piece → List ℕ → Swept
 got_at piece got = piece_at piece.pos piece.len got
 
--- A piece was done: what holds of its event besides, the state behind it, the reading of the clock, and its line.
+-- A piece was done: what holds of its event besides, the state after it, the reading of the clock, and its line.
 pub record DoesPiece (G : Swept → Type 0) (s : Setting) (w : Sweeper) (m m' : Sweep) (heard heard' : Bool) (e : Swept)
     (o : Around) : Type 0 where
   pub asks : IsPiece s w m e.pos (e.pos + e.len)
@@ -102,7 +102,7 @@ pub data Halted (G : Swept → Type 0) (s : Setting) (w : Sweeper) (m m' : Sweep
   Uncalled : (p q : ℕ) → IsPiece s w m p q → stop ≡ Site (call_name (lost_call w p q)) → m' ≡ m → heard' ≡ heard
       → Breaks (call_name (lost_call w p q)) (lost_call w p q ∷ []) o.site o.site' → o.clock' ≡ o.clock
       → o.console' ≡ o.console → Halted G s w m m' heard heard' stop o
-  -- at the save that was due behind it
+  -- at the save that was due after it
   Unsaved : (event : Swept) → DoesPiece G s w m m' heard heard' event o → (call : SiteCall) → stop ≡ Site call
       → BreaksAfter call (w.call event ∷ []) (save_of s (due_save w m event)) o.site o.site'
       → Halted G s w m m' heard heard' stop o
@@ -124,8 +124,8 @@ pub record WentOn (G : Swept → Type 0) (s : Setting) (w : Sweeper) (m m' : Swe
   pub went : SweepWent G s w m m' heard heard' events o
   pub made : Makes (sweep_calls s w m events) o.site o.site'
 
--- The calls of pieces behind which a sweep stopped, for want of memory, at the call of the next one, or at the save that
--- was due behind the last one.
+-- The calls of pieces after which a sweep stopped, for want of memory, at the call of the next one, or at the save that
+-- was due after the last one.
 pub data SweepStopsAt (s : Setting) (w : Sweeper) (m : Sweep) (es : List Swept) (stop : Stop) (site site' : SiteState)
     : Type 0 where
   IsStarved : stop ≡ NoMemory → w.starves ≡ true → (p q : ℕ) → IsPiece s w (after_pieces w m es) p q
@@ -161,7 +161,7 @@ pub data SavesLast (s : Setting) (m : Sweep) (stop : Option Stop) (end : RunEnd)
       → Breaks call (closing_calls s (sweep_end (is_none stop) m)) site site'
       → site'.is_drafting ≡ drafting_after_fault call false → SavesLast s m stop end site site'
 
--- behind a call on the files that failed no further one is made
+-- after a call on the files that failed no further one is made
 abbrev pub ClosesFiles : Setting → Sweep → Option Stop → RunEnd → (site site' : SiteState) → Type 0
 ClosesFiles s m None end site site' = SavesLast s m None end site site'
 ClosesFiles s m (Some SourceLost) end site site' = SavesLast s m (Some SourceLost) end site site'
@@ -169,7 +169,7 @@ ClosesFiles s m (Some (Site call)) end site site' = (end ≡ Stopped (Site call)
 ClosesFiles s m (Some (LimitMet limit)) end site site' = SavesLast s m (Some (LimitMet limit)) end site site'
 ClosesFiles s m (Some NoMemory) end site site' = SavesLast s m (Some NoMemory) end site site'
 
--- Behind a piece of which so many bytes were written, at this time: the reading of the clock, the state, and the line.
+-- After a piece of which this many bytes were written, at this time: the reading of the clock, the state, and the line.
 pub record StepsPastPiece (piece : Piece) (written after : ℕ) (r r' : SweepState) (o : Around) : Type 0 where
   pub timed : ReadsClock (after ∷ []) o.clock o.clock'
   pub fit : after < 2 ^ 64

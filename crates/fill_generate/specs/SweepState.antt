@@ -67,7 +67,7 @@ pub record IsSweeping (r : SweepState) : Type 0 where
 abbrev pub standing : SweepState → Sweep → SweepState
 standing r m = record r { sweep = m }
 
--- where a sweep over a map stands behind a piece that it marked in it
+-- where a sweep over a map is after a piece that it marked in it
 abbrev pub moved : Current → Sweep → (pos len written after : ℕ) → Sweep
 moved current m pos len written after = record {
   map = m.map;

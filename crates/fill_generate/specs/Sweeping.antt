@@ -27,7 +27,7 @@ use Rattle.sweep_rules.specs.Sweep.{Sweeper, Sweep, Swept, IsPiece, IsSweep, aft
 use Rattle.sweep_rules.specs.SweepLaws.{AreGiven}
 use Rattle.sweep_rules.specs.SweepWork.{SweepEndsBy, SweepEnds, sweep_calls, sweep_lines, lost_call}
 
--- what the objects of a sweep tell before something was done, and behind it
+-- what the objects of a sweep tell before something was done, and after it
 pub record Around : Type 0 where
   pub site : SiteState
   pub site' : SiteState
@@ -36,7 +36,7 @@ pub record Around : Type 0 where
   pub console : ConsoleState
   pub console' : ConsoleState
 
--- behind these calls, which all returned, one of others failed, which has this name
+-- after these calls, which all returned, one of others failed, which has this name
 pub record BreaksAfter (at : SiteCall) (made calls : List Call) (old new : SiteState) : Type 0 where
   pub named : IsNameIn at calls
   pub broke : IsTrue old.tells → BrokeAt at calls (old.calls ++ map Done made) new.calls
@@ -57,13 +57,13 @@ pub data EndsSweep (s : Setting) (w : Sweeper) (m : Sweep) (es : List Swept) (en
   Cut : (p q : ℕ) → IsPiece s w (after_pieces w m es) p q → end ≡ Stopped (Site (call_name (lost_call w p q)))
       → BreaksAfter (call_name (lost_call w p q)) (sweep_calls s w m es) (lost_call w p q ∷ []) site site'
       → EndsSweep s w m es end site site'
-  -- a call of the save that was due behind the last piece failed
+  -- a call of the save that was due after the last piece failed
   Broken : (before : List Swept) (last : Swept) (call : SiteCall) → es ≡ before ++ last ∷ [] → end ≡ Stopped (Site call)
       → BreaksAfter call (sweep_calls s w m before ++ w.call last ∷ [])
       (save_of s (due_save w (after_pieces w m before) last)) site site'
       → EndsSweep s w m es end site site'
 
--- whether a draft is left begun behind a sweep that ended so
+-- whether a draft is left begun after a sweep that ended so
 abbrev pub drafting_after : RunEnd → Bool
 drafting_after Finished = false
 drafting_after (Stopped stop) = drafting_at_stop stop
@@ -75,11 +75,11 @@ EndsAreTold = (s : Setting) (w : Sweeper) (m : Sweep) (es : List Swept) (end : R
     → EndsSweep s w m es end site site' → IsTrue site.tells
     → (calls : List Entry) × (site'.calls ≡ site.calls ++ calls) × SweepEnds s w m es calls end
 
--- the readings of the clock behind pieces
+-- the readings of the clock after pieces
 abbrev pub times_after : List Swept → List ℕ
 times_after es = map (λ e. e.after) es
 
--- A sweep from a state, by its pieces: the clock is read behind each, and its lines are said.
+-- A sweep from a state, by its pieces: the clock is read after each, and its lines are said.
 pub record SweepTold (s : Setting) (w : Sweeper) (m : Sweep) (heard heard' : Bool) (end : RunEnd) (o : Around)
     : Type 0 where
   pub events : List Swept

@@ -4,7 +4,7 @@ use Rattle.std.specs.List.{range_with_len}
 use Rattle.block_list.specs.declared.status.Status.{Status}
 use Rattle.block_list.specs.declared.status.Status.TheVariants.{NonTried}
 
--- the status of a position; what lies behind a map's end is non-tried
+-- the status of a position; what lies past a map's end is non-tried
 abbrev pub status_at : List Status → ℕ → Status
 status_at statuses x = slice_index_or statuses x NonTried
 

@@ -17,7 +17,7 @@ ListedAre =
     × ((k : ℕ) → Contains (listed w) k
     ↔ ((x : ℕ) × (x < length w.statuses) × (has_wanted_type w x ≡ true) × (block_of w.shape x ≡ k)))
 
--- Who takes the first listed number from the least one on, and goes on from the number behind it until there is none,
+-- Who takes the first listed number from the least one on, and goes on from the number after it until there is none,
 -- has taken the listed numbers.
 pub record ListingGoesOn (w : Wanted) : Type 0 where
   pub begins : listed_from w 0 ≡ listed w
@@ -28,7 +28,7 @@ pub record ListingGoesOn (w : Wanted) : Type 0 where
 abbrev pub ListingsGoOn : Type 0
 ListingsGoOn = (w : Wanted) → ListingGoesOn w
 
--- a position at the input position or behind it stands in one block, and in no other
+-- a position at the input position or past it is in one block, and in no other
 abbrev pub StandsInOne : Type 0
 StandsInOne = (s : Shape) (k x : ℕ) → s.ipos ≤ x → (is_in_block s k x ≡ true) ↔ (k ≡ block_of s x)
 

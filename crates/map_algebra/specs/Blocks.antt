@@ -31,7 +31,7 @@ end_of s k = s.ipos + (k * s.size + s.size - s.opos)
 abbrev pub is_in_blocks : Shape → List ℕ → ℕ → Bool
 is_in_blocks s ks x = list_any (λ k. is_in_block s k x) ks
 
--- the end behind all positions that stand in these blocks, 0 where none does
+-- the end past all positions in these blocks, 0 if there are none
 pub record IsEndOfBlocks (s : Shape) (ks : List ℕ) (end : ℕ) : Type 0 where
   pub within : (x : ℕ) → is_in_blocks s ks x ≡ true → x < end
   pub least : (other : ℕ) → ((x : ℕ) → is_in_blocks s ks x ≡ true → x < other) → end ≤ other

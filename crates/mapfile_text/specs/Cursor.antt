@@ -7,7 +7,7 @@ use Rattle.mapfile_text.specs.Lines.{Line, lines, numbered_lines, is_newline, is
 abbrev pub first_line : List ℕ → List ℕ
 first_line text = before_first is_newline text
 
--- what stands behind the newline of the first line
+-- what comes after the newline of the first line
 abbrev pub after_line : List ℕ → List ℕ
 after_line text = after_first is_newline text
 
@@ -20,7 +20,7 @@ abbrev pub no_comments : List Line → List Line
 no_comments ls = filter (λ l. not (is_comment l.fields)) ls
 
 -- a line that is taken field by field: its number, its first field, the fields that are left, and the filled lines
--- behind it
+-- after it
 pub record OpenLine : Type 0 where
   pub number : ℕ
   pub first : List ℕ

@@ -46,7 +46,7 @@ number_of State = 7
 number_of Columns = 8
 number_of (Block pos) = 9
 
--- the position from which the map's lines go on behind the heading's parts that are left
+-- the position from which the map's lines go on after the heading's parts that are left
 abbrev pub position_of : TextPart → ℕ
 position_of (Block pos) = pos
 position_of part = 0
@@ -64,7 +64,7 @@ unfoldable pub left_of : TextPosition → HeadingLines → MapState → List Sta
 left_of place h s statuses = drop place.went (concat (parts_from place.part h s statuses))
 
 -- the first of `parts` was appended to `old`, as far as a piece had room for it, less the bytes of it that went; `len`
--- is its whole length, and `others` are the parts behind it
+-- is its whole length, and `others` are the parts after it
 pub record IsAppended (old new : List ℕ) (went len : ℕ) (parts others : List (List ℕ)) : Type 0 where
   pub part : List ℕ
   pub first : parts ≡ part ∷ others

@@ -31,7 +31,7 @@ abbrev pub IsGap : Mode → (end pos : ℕ) → List Status → Type 0
 IsGap Tight end pos gap = (pos ≡ end) × (gap ≡ [])
 IsGap (Loose status) end pos gap = (end ≤ pos) × (gap ≡ replicate (pos - end) status)
 
--- Block lines behind one that ended at a place list these statuses.
+-- Block lines after one that ended at a place list these statuses.
 abbrev pub Continues : Mode → ℕ → List Line → List Status → Type 0
 Continues mode end [] statuses = statuses ≡ []
 Continues mode end (l ∷ ls) statuses =
@@ -81,7 +81,7 @@ PlaceFault Tight end line block e =
     ((e ≡ Overlap line.number) × (block.pos < end)) ⊎ ((e ≡ Gap line.number) × (end < block.pos))
 PlaceFault (Loose status) end line block e = (e ≡ Overlap line.number) × (block.pos < end)
 
--- the first line that breaks a rule, behind a block that ended at a place
+-- the first line that breaks a rule, after a block that ended at a place
 abbrev pub ContinuesFault : Mode → ℕ → List Line → MapError → Type 0
 ContinuesFault mode end [] e = ⊥
 ContinuesFault mode end (l ∷ ls) e =

@@ -21,7 +21,7 @@ KindsMayBeLeft = (kind : Left) (start : Folder) (calls : List Entry) (k : ℕ)
 abbrev pub durable_files : Disk → List ℕ → Option File
 durable_files d n = (d.shows n).durable.file
 
--- Oldest leaves what was durable behind the first k calls, and nothing else.
+-- Oldest leaves what was durable after the first k calls, and nothing else.
 abbrev pub OldestIsDurable : Type 0
 OldestIsDurable = (start : Folder) (calls : List Entry) (k : ℕ) (n : List ℕ)
     → files_left Oldest start calls k n ≡ durable_files (disk_after (at_rest start) (take k calls)) n
@@ -31,7 +31,7 @@ abbrev pub completed : List Entry → List Entry
 completed [] = []
 completed (e ∷ es) = Done (call_in e) ∷ []
 
--- Newest leaves what reads behind the next call, where none of the first k failed.
+-- Newest leaves what reads after the next call, if none of the first k failed.
 abbrev pub NewestIsMade : Type 0
 NewestIsMade = (start : Folder) (calls : List Entry) (k : ℕ) (n : List ℕ) → AllDone (take k calls)
     → files_left Newest start calls k n ≡ (after start (take k calls ++ completed (drop k calls))).files n
@@ -56,7 +56,7 @@ abbrev pub GarbageIsUnsynced : Type 0
 GarbageIsUnsynced = (start : Folder) (calls : List Entry) (k : ℕ) (n : List ℕ)
     → IsSpoilt (files_left Newest start calls k n) (unsynced_at start calls k n) (files_left Garbage start calls k n)
 
--- x isn't sure in a version: it lies in a range that was written, or behind the version's end
+-- x isn't sure in a version: it lies in a range that was written, or past the version's end
 abbrev pub IsUnsure : Version → ℕ → Type 0
 IsUnsure v x = IsLoose v.loose x ⊎ (length (bytes_of v.file) ≤ x)
 

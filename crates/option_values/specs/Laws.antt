@@ -3,7 +3,7 @@ use Rattle.std.specs.Prelude.{◌≡◌, ℕ, true, false, List, ◌∷◌, ◌+
 use Rattle.option_words.specs.declared.reading.Item.{Item}
 use Rattle.option_values.specs.Values.{Meaning, is_given, is_of, last_of}
 
--- the option that counts is the last of its letter: that behind which no other is given
+-- the option that counts is the last of its letter: the one after which no other is given
 abbrev pub LastCounts : Type 0
 LastCounts = (options : List Meaning) (letter : ℕ) (before after : List Item) (i : Item)
     → is_of options letter i ≡ true → is_given options letter after ≡ false

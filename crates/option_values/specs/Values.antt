@@ -121,7 +121,7 @@ set_in_turn f (Err n) items = Err n
 set_in_turn f (Ok o) [] = Ok o
 set_in_turn f (Ok o) (i ∷ items) = set_in_turn f (f o i) items
 
--- the sector behind an option that may give it, which is that of this letter; or the word of its bad value
+-- the sector after an option that may give it, which is that of this letter; or the word of its bad value
 abbrev pub with_sector : List Meaning → (letter : ℕ) → List (List ℕ) → (sector : ℕ) → Item → Result ℕ ℕ
 with_sector options letter words sector i =
     if is_of options letter i then ok_or (option_and_then sector_of (value_of words i.value)) (word_at i.value)

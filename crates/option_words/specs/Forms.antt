@@ -3,12 +3,12 @@ use Rattle.std.specs.Prelude.{ℕ, List, [], ◌∷◌, nat_eq, if◌then◌else
 use Rattle.option_words.specs.declared.form.Form.{Form}
 use Rattle.option_words.specs.declared.form.Form.TheVariants.{Plain, Stop, Name, Letters}
 
--- what stands behind two hyphens
+-- what comes after two hyphens
 abbrev pub form_after : List ℕ → Form
 form_after [] = Stop
 form_after (c ∷ cs) = Name
 
--- What a word looks like: `--`, a long name behind `--`, letters behind `-`, or plain; so are an empty word and a lone
+-- What a word looks like: `--`, a long name after `--`, letters after `-`, or plain; so are an empty word and a lone
 -- hyphen.
 abbrev pub form_of : List ℕ → Form
 form_of [] = Plain

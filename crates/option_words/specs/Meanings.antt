@@ -55,7 +55,7 @@ abbrev pub with_flag : (row n : ℕ) → Result Brought WordFault → Result Bro
 with_flag row n (Ok b) = Ok (record b { items = (record { row = row; word = n; value = None }) ∷ b.items })
 with_flag row n (Err fault) = Err fault
 
--- the value that stands behind a letter, from byte `at` on: the rest of the word, unless it is empty
+-- the value after a letter, from byte `at` on: the rest of the word, unless it is empty
 abbrev pub rest_value : (n at : ℕ) → (rest : List ℕ) → Option Spot
 rest_value n at [] = None
 rest_value n at (c ∷ cs) = Some (record { word = n; from = at })
@@ -88,7 +88,7 @@ abbrev pub name_before : Option ℕ → List ℕ → List ℕ
 name_before None text = text
 name_before (Some k) text = take k text
 
--- the value behind it; the text stands behind two hyphens
+-- the value after it; the text comes after two hyphens
 abbrev pub value_after : ℕ → Option ℕ → Option Spot
 value_after n None = None
 value_after n (Some k) = Some (record { word = n; from = k + 3 })
@@ -99,7 +99,7 @@ choice_meaning (One chosen) n value = option_meaning chosen.takes chosen.row n v
 choice_meaning Unknown n value = Err (UnknownLong n)
 choice_meaning Several n value = Err (Ambiguous n)
 
--- a long name, and behind the first `=` its value
+-- a long name, and after the first `=` its value
 abbrev pub name_meaning : List Row → ℕ → List ℕ → Result Brought WordFault
 name_meaning rows n text =
     choice_meaning (chosen_by_name rows (name_before (equals_sign text) text)) n (value_after n (equals_sign text))

@@ -27,7 +27,7 @@ share_letter (Some c) (Some d) = nat_eq c d
 abbrev pub share_nothing : Row → Row → Bool
 share_nothing row other = not (share_letter row.short other.short) && not (bytes_eq row.long.now other.long.now)
 
--- a row has a letter and a name that may be an option's, and shares neither with the rows behind it
+-- a row has a letter and a name that may be an option's, and shares neither with the rows after it
 abbrev pub fits_table : Row → List Row → Bool
 fits_table row rows = letter_fits row.short && name_fits row.long.now && list_all (share_nothing row) rows
 

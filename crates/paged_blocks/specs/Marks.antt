@@ -10,8 +10,8 @@ use Rattle.paged_blocks.specs.declared.entry.PageEntry.{PageEntry}
 use Rattle.paged_blocks.specs.declared.marks.Edit.{Edit}
 use Rattle.paged_blocks.specs.Paging.{blocks_of, flat, before}
 
--- wide is a block, with what stands in front of it where that has its status; rest is what is left of the one that it
--- begins in. They come behind the first low blocks, in the place of all up to the block's end
+-- wide is a block, with what comes before it if that has its status; rest is what is left of the one that it begins in.
+-- They come after the first low blocks, in place of all up to the block's end
 pub record IsJoinedFront (bs : List Block) (block : Block) (low : ℕ) (rest : Option Block) (wide : Block) : Type 0 where
   pub within : low ≤ length bs
   pub early : start_of bs low ≤ block.pos
@@ -25,8 +25,8 @@ pub record IsJoinedFront (bs : List Block) (block : Block) (low : ℕ) (rest : O
   pub same : flat_map covered (take low bs ++ option_to_list rest ++ wide ∷ [])
       ≡ take block.pos (flat_map covered bs) ++ covered block
 
--- whole is a block, with what stands behind it where that has its status; rest is what is left of the one that it ends
--- in. They come in front of the blocks from high on, in the place of all from the block's begin on
+-- whole is a block, with what comes after it if that has its status; rest is what is left of the one that it ends in.
+-- They come before the blocks from high on, in place of all from the block's begin on
 pub record IsJoinedBack (bs : List Block) (block : Block) (high : ℕ) (rest : Option Block) (whole : Block)
     : Type 0 where
   pub within : high ≤ length bs

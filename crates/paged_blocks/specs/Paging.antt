@@ -14,7 +14,7 @@ use Rattle.paged_blocks.specs.Tally.{tallied}
 abbrev pub blocks_of : List (List Block) → PageEntry → List Block
 blocks_of pages e = slice_index_or pages e.page []
 
--- all blocks, page behind page in the order of the entries
+-- all blocks, page after page in the order of the entries
 abbrev pub flat : List (List Block) → List PageEntry → List Block
 flat pages entries = flat_map (blocks_of pages) entries
 
@@ -53,7 +53,7 @@ pub record IsHeld (pages : List (List Block)) (entries : List PageEntry) (at k j
   pub within : (d : PageEntry) → j ≤ length (blocks_of pages (slice_index_or entries k d))
   pub place : IsPlace (flat pages entries) at (before pages entries k + j)
 
--- a page was put behind the others, and an entry that says what it holds
+-- a page was put after the others, and an entry that says what it holds
 pub record IsAdded (pages : List (List Block)) (entries : List PageEntry) (page : List Block)
     (new : List (List Block)) (named : List PageEntry) : Type 0 where
   pub grown : new ≡ pages ++ page ∷ []

@@ -28,7 +28,7 @@ pub record IsOneBlock (r : Region) : Type 0 where
   pub past : r.past ≡ 0
   pub one : length r.blocks ≡ 1
 
--- an edit touches one page, which has 32 to 64 blocks behind it, or fewer if it is the only one
+-- an edit touches one page, which then has 32 to 64 blocks, or fewer if it is the only one
 pub record StaysInPage (es : List PageEntry) (e : Edit) : Type 0 where
   pub page : e.first ≡ e.last
   pub fits : (d : PageEntry) → (slice_index_or es e.first d).len + length e.new ≤ 64 + (e.to - e.from)

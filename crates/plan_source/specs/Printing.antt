@@ -31,7 +31,7 @@ pub record AreCounted (lost : Option PlanLoss) (losses : ℕ) : Type 0 where
   pub none : lost ≡ None → losses ≡ 0
   pub some : lost ≡ Some Memory → 0 < losses
 
--- a text is another one and a beginning of a piece behind it
+-- a text is another one and a beginning of a piece after it
 pub record BeginsAfter (piece before now : List ℕ) : Type 0 where
   pub is : now ≡ before ++ drop (length before) now
   pub part : take (length now - length before) piece ≡ drop (length before) now
@@ -60,8 +60,8 @@ pub record HasPrinted (start now : ConsoleState) (entries : List ReadEntry) (los
   pub whole : is_line_lost lost ≡ false → Puts Out (lines_of_entries entries) start now
   pub broken : is_line_lost lost ≡ true → BreaksLast entries start now
 
--- a text was put on standard output, and a beginning of a piece behind it; and then a put failed, of which nothing stands
--- where it failed by a plan
+-- a text was put on standard output, and a beginning of a piece after it; and then a put failed, of which nothing is
+-- there if it failed by a plan
 pub record PutsAfter (text piece : List ℕ) (old new : ConsoleState) : Type 0 where
   pub stays : StaysBeside Out old new
   pub part : IsTrue old.tells → TextGoesOn piece (old.out.text ++ text) new.out.text

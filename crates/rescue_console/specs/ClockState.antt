@@ -17,12 +17,12 @@ pub record Keeps (old new : ClockState) : Type 0 where
   pub planned : new.is_planned ≡ old.is_planned
   pub plan : new.plan ≡ old.plan
 
--- these readings were made: a clock that tells behind them told before, and tells them
+-- these readings were made: a clock that tells after them told before, and tells them
 pub record Reads (times : List ℕ) (old new : ClockState) : Type 0 where
   pub tells : IsTrue new.tells → IsTrue old.tells
   pub told : IsTrue new.tells → new.readings ≡ old.readings ++ times
 
--- how many readings a clock in memory tells; behind so many it tells none
+-- how many readings a clock in memory tells; after that many it tells none
 abbrev pub most_readings : ℕ
 most_readings = 2 ^ 64 - 2
 

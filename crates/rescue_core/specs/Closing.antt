@@ -14,7 +14,7 @@ use Rattle.rescue_rules.specs.Lines.{is_done, last_line}
 use Rattle.rescue_console.specs.Speaking.{SpokenPiece, out_pieces}
 use Rattle.rescue_core.specs.RunState.{RunState, setting_in}
 
--- whether a draft is left begun behind a stop
+-- whether a draft is left begun after a stop
 abbrev pub drafting_at_stop : Stop → Bool
 drafting_at_stop SourceLost = false
 drafting_at_stop (Site call) = drafting_after_fault call false
@@ -40,7 +40,7 @@ pub data LastSave (stop : Option Stop) (r : RunState) (end : RunEnd) (site site'
       → Breaks call (closing_calls (setting_in r) (closing_snapshot stop r)) site site'
       → site'.is_drafting ≡ drafting_after_fault call false → LastSave stop r end site site'
 
--- The end of a run saves its map, or without a mapfile syncs its output; but behind a call on its files that failed it
+-- The end of a run saves its map, or without a mapfile syncs its output; but after a call on its files that failed it
 -- makes no further call.
 abbrev pub Closes : Option Stop → RunState → RunEnd → (site site' : SiteState) → Type 0
 Closes None r end site site' = LastSave None r end site site'

@@ -1,4 +1,4 @@
--- How the counts of a run go on behind a read.
+-- How the counts of a run go on after a read.
 use Rattle.std.specs.Prelude.{◌≡◌, ℕ, ◌+◌, ◌≤◌, Bool, List, length}
 use Rattle.block_list.specs.declared.status.Status.{Status}
 use Rattle.block_list.specs.Areas.{begins_area}
@@ -16,8 +16,8 @@ use Rattle.rescue_core.specs.RunState.{RunState, setting_in, IsRunning}
 use Rattle.rescue_core.specs.Turning.{turn_of}
 use Rattle.rescue_core.specs.TurnParts.{IsReadOf}
 
--- an event of a run's request, what a turn answers of it, what was left of the domain in front of it, and the map
--- behind its marks
+-- an event of a run's request, what a turn answers of it, what was left of the domain before it, and the map after its
+-- marks
 pub record IsMarkedRead (r : RunState) (e : Event) (phase : Phase) (request : Request) (turn : Turn) (live : Live)
     (map : List Status) : Type 0 where
   pub room : ℕ

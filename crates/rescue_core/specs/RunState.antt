@@ -91,7 +91,7 @@ pub record IsSound (settings : Settings) : Type 0 where
   pub opos : settings.opos < 2 ^ 63
   pub retries : settings.retries < 2 ^ 32
 
--- a domain for a map of so many positions: it begins at an input's position or behind it, and ends with the map
+-- a domain for a map of this many positions: it begins at an input's position or past it, and ends with the map
 pub record Suits (settings : Settings) (domain : ℕ → Bool) (top : ℕ) : Type 0 where
   pub from : (x : ℕ) → domain x ≡ true → settings.ipos ≤ x
   pub to : (x : ℕ) → domain x ≡ true → x < top

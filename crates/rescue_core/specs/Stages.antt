@@ -12,13 +12,13 @@ pub data Reached : Type 0 where
   Scraped : Reached
   Over : Reached
 
--- behind copying no position that is left of the domain is non-tried; behind trimming none is non-trimmed either,
+-- after copying no position that is left of the domain is non-tried; after trimming none is non-trimmed either,
 -- unless trimming is off
 pub record IsTrimmed (r : RunState) : Type 0 where
   pub tried : IsGone NonTried r
   pub trimmed : r.settings.no_trim ≡ false → IsGone NonTrimmed r
 
--- behind scraping none is non-scraped either, unless scraping is off
+-- after scraping none is non-scraped either, unless scraping is off
 pub record IsScraped (r : RunState) : Type 0 where
   pub trimmed : IsTrimmed r
   pub scraped : r.settings.no_scrape ≡ false → IsGone NonScraped r

@@ -109,7 +109,7 @@ pub record Gathers (request : Request) (settings : Settings) (got : Gathered) (s
   pub after : event.after ≡ got.after
   pub writes : (r : RunState) → r.settings ≡ settings → Makes (write_calls (setting_in r) event.reading) site site'
 
--- A turn up to its marks: one event of the request, its step and its write; and whether a line is due behind it, and
+-- A turn up to its marks: one event of the request, its step and its write; and whether a line is due after it, and
 -- whether it is time for a save.
 pub record Advances (request : Request) (got : Advanced) (r r' : RunState) (source source' : SourceState)
     (site site' : SiteState) (clock clock' : ClockState) : Type 0 where

@@ -40,7 +40,7 @@ pub record IsEvent (request : Request) (e : Event) (source source' : SourceState
   pub before : e.before < 2 ^ 64
   pub after : e.after < 2 ^ 64
 
--- the state behind an event, of a run that is heard behind it or not: one step of the rules; all else of the run stands
+-- the state after an event, of a run that is heard after it or not: one step of the rules; all else of the run stands
 abbrev pub stepped : RunState → Event → (heard : Bool) → RunState
 stepped r e heard = record r { machine = step (setting_in r) r.machine e; heard = heard }
 
@@ -63,7 +63,7 @@ turn_of r e = record {
 abbrev pub move_pieces : RunState → Event → List SpokenPiece
 move_pieces r e = out_pieces (move_lines (setting_in r) (move_by r e))
 
--- A whole turn: one event of the request, its step, its write, its line, and the save that is due behind it; it meets no
+-- A whole turn: one event of the request, its step, its write, its line, and the save that is due after it; it meets no
 -- limit.
 pub record Turned (request : Request) (turn : Turn) (r r' : RunState) (o : Across) : Type 0 where
   pub event : Event
@@ -89,14 +89,14 @@ pub data Halted (request : Request) (stop : Stop) (r r' : RunState) (o : Across)
       → IsNameIn ImageWrite (write_calls (setting_in r) event.reading)
       → Breaks ImageWrite (write_calls (setting_in r) event.reading) o.site o.site' → o.console' ≡ o.console
       → Halted request stop r r' o
-  -- at a limit, behind the event's step, its write and its line; no save is due then
+  -- at a limit, after the event's step, its write and its line; no save is due then
   Limited : (limit : Limit) → stop ≡ LimitMet limit → (event : Event)
       → IsEvent request event o.source o.source' o.clock o.clock'
       → r' ≡ stepped r event r'.heard → limit_met (setting_in r) r'.machine ≡ Some limit
       → Makes (write_calls (setting_in r) event.reading) o.site o.site'
       → SpeaksOn (move_pieces r event) r.heard r'.heard o.console o.console'
       → Halted request stop r r' o
-  -- in a call of the save that was due, behind the event's step and its line
+  -- in a call of the save that was due, after the event's step and its line
   Unsaved : (call : SiteCall) → stop ≡ Site call → (event : Event)
       → IsEvent request event o.source o.source' o.clock o.clock'
       → r' ≡ stepped r event r'.heard → is_due (setting_in r) (move_by r event) ≡ true

@@ -30,6 +30,6 @@ in_map domain (Some map) = finished_in domain map
 abbrev pub listed_in : (ℕ → Bool) → (first end : ℕ) → ℕ → Bool
 listed_in domain first end x = domain x && nat_le first x && nat_lt x end
 
--- n is the number of positions of the set: that of those below any end that lies behind all of them
+-- n is the number of positions of the set: that of those below any end that lies past all of them
 pub record IsSize (domain : ℕ → Bool) (n : ℕ) : Type 0 where
   pub counts : (end : ℕ) → ((x : ℕ) → IsIn domain x → x < end) → n ≡ count_by domain (range_with_len 0 end)

@@ -9,6 +9,6 @@ abbrev pub is_finished : Option Status → Bool
 is_finished None = false
 is_finished (Some status) = same status Finished
 
--- a position is finished in a map; its end and what lies behind it isn't
+-- a position is finished in a map; its end and what lies past it isn't
 abbrev pub is_finished_at : List Status → ℕ → Bool
 is_finished_at map x = is_finished (slice_get map x)

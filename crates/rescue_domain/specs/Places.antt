@@ -1,7 +1,7 @@
 -- Where positions stand in the output.
 use Rattle.std.specs.Prelude.{◌≡◌, ℕ, ◌+◌, ◌-◌, ◌^◌, ◌<◌, ◌≤◌, Bool, true}
 
--- a position stands at its distance from the input position behind the output position
+-- a position is in the output as far past the output position as it is past the input position
 abbrev pub place_from : (from to : ℕ) → ℕ → ℕ
 place_from from to x = x - from + to
 
@@ -9,6 +9,6 @@ place_from from to x = x - from + to
 abbrev pub AreAllPlaced : (domain : ℕ → Bool) → (from to : ℕ) → Type 0
 AreAllPlaced domain from to = (x : ℕ) → domain x ≡ true → place_from from to x < 2 ^ 63 - 1
 
--- one of them would end there at 2^63 or behind it
+-- one of them would end there at 2^63 or past it
 abbrev pub IsAnyBeyond : (domain : ℕ → Bool) → (from to : ℕ) → Type 0
 IsAnyBeyond domain from to = (x : ℕ) × (domain x ≡ true) × (2 ^ 63 ≤ place_from from to x + 1)

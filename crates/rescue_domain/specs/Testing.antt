@@ -31,7 +31,7 @@ pub record GainsSeen (statuses : List Status) (reads old new : List Reading) : T
   pub seen : map (seen statuses) gains.reads ≡ reads
 
 -- What a source tells in test mode: what the one that it reads does, but its journal has the reads as they are seen.
--- That one's plan isn't its own, since a failure behind the first position that isn't finished is met all the same.
+-- That one's plan isn't its own, since a failure past the first position that isn't finished is met all the same.
 abbrev pub state_seen : (reference : ℕ) (statuses : List Status) → SourceState → SourceState
 state_seen reference statuses s = record s {
   journal = map (seen statuses) s.journal;

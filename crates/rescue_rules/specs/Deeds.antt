@@ -9,7 +9,7 @@ use Rattle.rescue_rules.specs.Setting.{Setting}
 use Rattle.rescue_rules.specs.Snapshots.{Snapshot, text_of}
 use Rattle.rescue_rules.specs.RunCalls.{closing_calls}
 
--- one thing that a run does on its files: calls on the open output, and the save that is due behind them, if one is
+-- one thing that a run does on its files: calls on the open output, and the save that is due after them, if one is
 pub record Deed : Type 0 where
   pub calls : List Call
   pub save : Option Snapshot
@@ -60,7 +60,7 @@ abbrev pub KeepsOn : (promise : ℕ → List ℕ → Type 0) → (n : ℕ) → (
 KeepsOn promise n image None next = next n
 KeepsOn promise n image (Some p) next = promise (suc n) image × next (suc n)
 
--- Behind the save with a number, over an output: what is written until the next save is free of its promise, and when
+-- After the save with a number, over an output: what is written until the next save is free of its promise, and when
 -- the next one is made its promise holds of the output as it reads.
 abbrev pub KeepsUp : (promise : ℕ → List ℕ → Type 0) → (free : ℕ → ℕ → Type 0) → (n : ℕ) → (image : List ℕ) → List Deed
     → Type 0

@@ -3,7 +3,7 @@ use Rattle.std.specs.Prelude.{ℕ, List, [], ◌∷◌, slice_index_or, drop, ma
 use Rattle.faulty_source.specs.Journal.{Reading}
 use Rattle.rescue_rules.specs.Step.{Event}
 
--- reads, each with two readings of the clock: before it and behind it
+-- reads, each with two readings of the clock: before it and after it
 abbrev pub with_times : List Reading → (times : List ℕ) → List Event
 with_times [] times = []
 with_times (r ∷ rs) [] = []
@@ -15,7 +15,7 @@ with_times (r ∷ rs) (before ∷ after ∷ times) =
 abbrev pub began_at : (times : List ℕ) → ℕ
 began_at times = slice_index_or times 0 0
 
--- the events behind it
+-- the events after it
 abbrev pub events_of : List Reading → (times : List ℕ) → List Event
 events_of reads times = with_times reads (drop 1 times)
 

@@ -53,7 +53,7 @@ event_at pos asked given =
       after = 0;
     }
 
--- the pass of each event and the cursor behind it
+-- the pass of each event and the cursor after it
 abbrev pub trail : Setting → Machine → List Event → List (Pass × ℕ)
 trail s m events = map (λ v. (pass_of v.before, v.after.cursor)) (moves s m events)
 
@@ -66,7 +66,7 @@ TrimsFrontAndBack =
     (state_after (small 6 128 0) (small_start 6 128 0) trimmed).map
     ≡ Finished ∷ Finished ∷ BadSector ∷ BadSector ∷ Finished ∷ Finished ∷ []
 
--- bad sectors 0 and 3 of 16: the first pass jumps behind each, by two sectors and then by four, and the second comes
+-- bad sectors 0 and 3 of 16: the first pass jumps past each, by two sectors and then by four, and the second comes
 -- back for what was jumped over
 abbrev pub jumping : List Event
 jumping = event_at 0 2 0 ∷ event_at 6 2 0 ∷ event_at 16 2 2 ∷ event_at 18 2 2 ∷ event_at 20 2 2 ∷ event_at 22 2 2

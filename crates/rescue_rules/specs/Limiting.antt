@@ -7,7 +7,7 @@ use Rattle.rescue_rules.specs.Machine.{Machine}
 use Rattle.rescue_rules.specs.Step.{Event, step, limit_met}
 use Rattle.rescue_rules.specs.Beginning.{machine_of}
 
--- none is met where a run begins, and behind an event a line was said, so that they are looked at
+-- none is met when a run begins, and after an event a line was said, so that they are looked at
 pub record LooksAtLimits (s : Setting) (map : List Status) (from : Option MapState) (shown : MapState) (time : ℕ)
     (m : Machine) (e : Event) : Type 0 where
   pub first : limit_met s (machine_of s map from shown time) ≡ None

@@ -44,7 +44,7 @@ phase_text Filling = codes "filling"
 phase_text Generating = codes "generating"
 phase_text Finished = codes "finished"
 
--- what a line behind an event begins with
+-- what a line after an event begins with
 abbrev pub phase_front : MapState → List ℕ
 phase_front shown = phase_text shown.current ++ codes " pass " ++ decimal shown.pass
 
@@ -62,14 +62,14 @@ report_of s m = record {
   written = m.written;
 }
 
--- the line behind a move, if one is due
+-- the line after a move, if one is due
 abbrev pub move_lines : Setting → Move → List (List ℕ)
 move_lines s v =
     if is_line_due v.before.said v.after.shown.current (v.after.now / 1000)
     then report_text (phase_front v.after.shown) (report_of s v.after) ∷ []
     else []
 
--- those behind the moves of events
+-- those after the moves of events
 abbrev pub run_lines : Setting → Machine → List Event → List (List ℕ)
 run_lines s m events = flat_map (move_lines s) (moves s m events)
 
@@ -110,7 +110,7 @@ ends_at_write (SaveFailed call earlier) = false
 abbrev pub marked_events : RunEnd → List Event → List Event
 marked_events end events = if ends_at_write end then take (length events - 1) events else events
 
--- All lines of a run: those behind the events that were marked, and the last one.
+-- All lines of a run: those after the events that were marked, and the last one.
 abbrev pub lines_of : Setting → Machine → List Event → RunEnd → List (List ℕ)
 lines_of s m events end =
     run_lines s m (marked_events end events)

@@ -17,7 +17,7 @@ use Rattle.rescue_rules.specs.declared.report.Said.{Said}
 
 pub record Machine : Type 0 where
   pub map : List Status
-  -- the pass that it is in, and those behind it
+  -- the pass that it is in, and those after it
   pub passes : List Pass
   pub cursor : ℕ
   pub mode : TrimMode
@@ -31,7 +31,7 @@ pub record Machine : Type 0 where
   pub due_at : ℕ
   -- where a mapfile would say that it stands
   pub shown : MapState
-  -- where reads met the input's end, if they did: what lies there or behind isn't asked for any more
+  -- where reads met the input's end, if they did: what lies there or past it isn't asked for any more
   pub over : Option ℕ
   -- how many bytes were written, and the line that was said last, if an event had one
   pub written : ℕ
@@ -86,7 +86,7 @@ search_in s m Retrying mode =
 abbrev pub search_of : Setting → Machine → Search
 search_of s m = search_in s m (pass_of m).phase m.mode
 
--- upwards the first range of wanted positions at or behind a place; downwards the last one that ends there or before
+-- upwards the first range of wanted positions at or past a place; downwards the last one that ends there or before
 abbrev pub IsNextRange : (up : Bool) → (ℕ → Type 0) → ℕ → (start end : ℕ) → Type 0
 IsNextRange true P from start end = IsFirst P from start × IsRangeUp P start end
 IsNextRange false P from start end = IsLast P from end × IsRangeDown P start end

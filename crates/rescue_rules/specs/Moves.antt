@@ -23,7 +23,7 @@ at_next s m (p ∷ ps) = if has_request s (begun s m p ps) then begun s m p ps e
 abbrev pub ready : Setting → Machine → Machine
 ready s m = if has_request s m then m else at_next s m (drop 1 m.passes)
 
--- an event between the states before it and behind it
+-- an event between the states before it and after it
 pub record Move : Type 0 where
   pub before : Machine
   pub event : Event

@@ -47,7 +47,7 @@ passes_in s Trimming number = map (numbered Trimming) (range_with_len number (2 
 passes_in s Scraping number = map (numbered Scraping) (range_with_len number (2 - number))
 passes_in s Retrying number = map (numbered Retrying) (range_with_len number (s.retries + 1 - number))
 
--- the passes of the phases behind one: trimming and scraping unless they are off, and retrying
+-- the passes of the phases after one: trimming and scraping unless they are off, and retrying
 abbrev pub passes_after : Setting → Phase → List Pass
 passes_after s Copying =
     (if s.trims then passes_in s Trimming 1 else []) ++ (if s.scrapes then passes_in s Scraping 1 else [])

@@ -26,7 +26,7 @@ abbrev pub output_after : Setting → List ℕ → List Event → List ℕ
 output_after s bytes [] = bytes
 output_after s bytes (e ∷ es) = output_after s (output_by s bytes e.reading) es
 
--- the save that is due behind a move, if one is
+-- the save that is due after a move, if one is
 abbrev pub due_calls : Setting → Move → List Call
 due_calls s v = if is_due s v then save_calls s.names (text_of s.line (snapshot_of v.after)) else []
 

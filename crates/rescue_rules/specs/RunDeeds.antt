@@ -8,7 +8,7 @@ use Rattle.rescue_rules.specs.Snapshots.{snapshot_of, is_due, last_snapshot, sna
 use Rattle.rescue_rules.specs.RunCalls.{write_calls, run_calls, end_calls}
 use Rattle.rescue_rules.specs.Deeds.{Deed, doing_calls, saves_in}
 
--- what a move does: its write, and the save that is due behind it
+-- what a move does: its write, and the save that is due after it
 abbrev pub move_deed : Setting → Move → Deed
 move_deed s v = record {
   calls = write_calls s v.event.reading;

@@ -8,14 +8,14 @@ use Rattle.rescue_rules.specs.declared.report.Said.{Said}
 abbrev pub is_said_in : Said → Current → Bool
 is_said_in said current = nat_eq (current_symbol said.current) (current_symbol current)
 
--- A line is due behind an event that is the first of its phase, or whose second is later than that of the last line.
+-- A line is due after an event that is the first of its phase, or whose second is later than that of the last line.
 -- (The first event of each phase has its line, and no phase comes twice: so the phase of the last line is that of the
 -- last event.)
 abbrev pub is_line_due : Option Said → (current : Current) → (second : ℕ) → Bool
 is_line_due None current second = true
 is_line_due (Some said) current second = not (is_said_in said current) || nat_lt said.second second
 
--- the line that was said last, behind an event
+-- the line that was said last, after an event
 abbrev pub said_after : Option Said → (current : Current) → (second : ℕ) → Option Said
 said_after said current second =
     if is_line_due said current second then Some (record { current = current; second = second }) else said

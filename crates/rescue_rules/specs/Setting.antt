@@ -25,7 +25,7 @@ pub record Setting : Type 0 where
   -- a read is cut at a multiple of the sector; copying asks for a cluster at most, the other phases for a sector
   pub sector : ℕ
   pub cluster : ℕ
-  -- how far copying jumps behind a failed or slow read, at first and at most; slow is below so many bytes a second
+  -- how far copying jumps after a failed or slow read, at first and at most; slow is below this many bytes a second
   pub skip : ℕ
   pub skip_max : ℕ
   pub min_rate : ℕ
@@ -49,7 +49,7 @@ abbrev pub place : Setting → ℕ → ℕ
 place s x = x - s.from + s.to
 
 -- a setting that words can ask for: a sector isn't empty, a cluster is some whole sectors, the domain begins at `from`
--- or behind it, and the number of a pass can be printed
+-- or past it, and the number of a pass can be printed
 pub record IsSensible (s : Setting) : Type 0 where
   pub sector : 0 < s.sector
   pub sectors : ℕ

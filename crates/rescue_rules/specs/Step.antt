@@ -18,7 +18,7 @@ use Rattle.rescue_rules.specs.Counts.{counts_of}
 use Rattle.rescue_rules.specs.Machine.{Machine, pass_of, is_live, is_wanted}
 use Rattle.rescue_rules.specs.Said.{said_after, more_written}
 
--- a read, and the times before it and behind it
+-- a read, and the times before it and after it
 pub record Event : Type 0 where
   pub reading : Reading
   pub before : ℕ
@@ -47,7 +47,7 @@ is_slow s e = is_whole e.reading && nat_lt (length e.reading.given * 1000) (s.mi
 abbrev pub rest_status : Setting → Machine → ℕ → Status
 rest_status s m size = if is_copying m && nat_lt s.sector size then NonTrimmed else BadSector
 
--- behind a failed read at a range's back, what lies between its front and its back is for scraping
+-- after a failed read at a range's back, what lies between its front and its back is for scraping
 abbrev pub scraped : TrimMode → ℕ → List Status → List Status
 scraped Lead p map = map
 scraped (Tail low) p map = marked map low (p - low) NonScraped
@@ -57,7 +57,7 @@ abbrev pub earlier : Option ℕ → ℕ → ℕ
 earlier None end = end
 earlier (Some other) end = min other end
 
--- where the input was found to end, behind a read
+-- where the input was found to end, after a read
 abbrev pub over_after : Machine → Reading → Option ℕ
 over_after m r = if r.ended then Some (earlier m.over (r.pos + length r.given)) else m.over
 
@@ -78,7 +78,7 @@ mode_after Lead false more p q = if more then Tail q else Lead
 mode_after (Tail low) true more p q = if nat_lt low p then Tail low else Lead
 mode_after (Tail low) false more p q = Lead
 
--- copying jumps behind a read that failed in its first four passes, or was slow in its first two
+-- copying jumps after a read that failed in its first four passes, or was slow in its first two
 abbrev pub is_jump : Setting → Machine → Event → Bool
 is_jump s m e = is_copying m
     && (if is_failed e.reading then nat_le (pass_of m).number 4 else is_slow s e && nat_le (pass_of m).number 2)
@@ -108,7 +108,7 @@ save_interval = 30000
 abbrev pub is_timely : Machine → Event → Bool
 is_timely m e = nat_le (m.due_at + save_interval) e.after
 
--- the state behind an event
+-- the state after an event
 abbrev pub step : Setting → Machine → Event → Machine
 step s m e =
     let r : Reading = e.reading in

@@ -67,13 +67,13 @@ pub data Ends (s : Setting) (m : Machine) (events : List Event) (spare : ℕ) (c
   IsUnsaved : (stop : Option Stop) (call : SiteCall) → EndsBy stop s (state_after s m events) spare
       → end ≡ SaveFailed call stop → BrokeAt call (end_calls s m events) (map Done (run_calls s m events)) calls
       → Ends s m events spare calls end
-  -- a call for the last read failed: its write, or one of the save that was due behind it
+  -- a call for the last read failed: its write, or one of the save that was due after it
   IsBroken : (before : List Event) (last : Event) (call : SiteCall) → events ≡ before ++ last ∷ [] → spare ≡ 0
       → end ≡ Stopped (Site call)
       → BrokeAt call (move_calls s (move_of s (state_after s m before) last)) (map Done (run_calls s m before)) calls
       → Ends s m events spare calls end
 
--- A run over a map: the clock is read once at its start, and then before and behind each read; each read asks for the
+-- A run over a map: the clock is read once at its start, and then before and after each read; each read asks for the
 -- request of the state that those before it led to.
 pub record Runs (s : Setting) (statuses : List Status) (state : Option MapState) (g : Gain) (end : RunEnd)
     : Type 0 where
@@ -95,7 +95,7 @@ pub record IsLoadOf (s : Setting) (files : List ℕ → Option File) (load : Lis
   pub all : s.has_mapfile ≡ true → IsLoad s.names.map (files s.names.map) load
   pub none : s.has_mapfile ≡ false → load ≡ []
 
--- How far a rescue came over files as they read before it, by what it did behind the reads of other maps.
+-- How far a rescue came over files as they read before it, by what it did after the reads of other maps.
 pub data GoesOn (s : Setting) (files : List ℕ → Option File) (g : Gain) : Type 0 where
   -- some of the opening's calls returned, and perhaps one more failed
   InOpening : (front : List Call) (back : List Call) → front ++ back ≡ opening_calls s → g.reads ≡ []

@@ -93,7 +93,7 @@ pub record HasLooked (p : ComparisonPlan) (looks : List Look) (source source' : 
   pub seen : IsTrue site.tells
       → looks ≡ map (seen_in (bytes_of (image_in site)) (place_in p)) (reads_of looks)
 
--- What a comparison did, by its outcome: looks at the first pieces, in order, and what came behind them.
+-- What a comparison did, by its outcome: looks at the first pieces, in order, and what came after them.
 pub record Compares (p : ComparisonPlan) (old new : List Status) (result : Result Tally Halt) (source source' : SourceState)
     (site site' : SiteState) : Type 0 where
   pub looks : List Look

@@ -7,11 +7,11 @@ use Rattle.block_list.specs.Map.{Has, marked}
 use Rattle.faulty_source.specs.Journal.{Reading}
 use Rattle.rescue_verify.specs.Looks.{Look, differs, seen_in}
 
--- a map behind one look: the piece is to be copied again if it differs
+-- a map after one look: the piece is to be copied again if it differs
 abbrev pub judged : List Status → Look → List Status
 judged statuses l = if differs l then marked statuses l.read.pos l.read.asked NonTried else statuses
 
--- the same behind looks, one after the other
+-- the same after these looks, one after the other
 abbrev pub judged_by : List Status → List Look → List Status
 judged_by statuses [] = statuses
 judged_by statuses (l ∷ looks) = judged_by (judged statuses l) looks

@@ -10,13 +10,13 @@ use Rattle.crash_site.specs.Calls.{Call, map_read}
 abbrev pub piece_size : ℕ
 piece_size = 4096
 
--- reads of a file from a position on that gave so many bytes each: every one asks for a piece behind those that were
+-- reads of a file from a position on that gave this many bytes each: every one asks for a piece after those that were
 -- given
 abbrev pub piece_reads : (name : List ℕ) → (pos : ℕ) → (given : List ℕ) → List Call
 piece_reads name pos [] = []
 piece_reads name pos (n ∷ ns) = map_read name pos piece_size (Some (Bytes n)) ∷ piece_reads name (pos + n) ns
 
--- the same from the file's beginning on, and the read behind them with its answer
+-- the same from the file's beginning on, and the read after them with its answer
 abbrev pub load_reads : (name : List ℕ) → (given : List ℕ) → (answer : Option MapRead) → List Call
 load_reads name given answer = piece_reads name 0 given ++ map_read name (sum given) piece_size answer ∷ []
 
@@ -33,7 +33,7 @@ pub record BeginsLoad (name : List ℕ) (file : Option File) (calls : List Call)
   pub limited : sum given ≤ text_limit
   pub calls_are : calls ≡ load_reads name given answer
 
--- the read behind so many bytes ends a load: it finds no such file, the file's end, or more bytes than a text may have
+-- the read after this many bytes ends a load: it finds no such file, the file's end, or more bytes than a text may have
 abbrev pub EndsLoad : Option File → (taken : ℕ) → Option MapRead → Type 0
 EndsLoad file taken None = ⊥
 EndsLoad file taken (Some Absent) = file ≡ None

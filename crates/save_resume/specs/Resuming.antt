@@ -1,4 +1,4 @@
--- What a mapfile is read as, alone and behind the barrier.
+-- What a mapfile is read as, alone and after the barrier.
 use Rattle.std.specs.Prelude.{◌≡◌, ◌≢◌, ◌⊎◌, ⊤, ℕ, ◌<◌, ◌≤◌, ◌^◌, Bool, IsTrue, List, [], ◌∷◌, ◌++◌, length, Option, Some, None, Result, Ok, Err}
 use Rattle.fault_count.specs.Counts.{Rose}
 use Rattle.mapfile_text.specs.declared.read.Mode.{Mode}
@@ -41,17 +41,17 @@ pub data IsLikeNone (file : Option File) : Type 0 where
   NoFile : file ≡ None → IsLikeNone file
   Silent : (there : File) → file ≡ Some there → length there.bytes ≤ text_limit → Blank there.bytes → IsLikeNone file
 
--- the reads of a load that ended, behind other calls
+-- the reads of a load that ended, after other calls
 abbrev pub LoadEnded : List Call → List ℕ → Option File → List Entry → List Entry → Type 0
 LoadEnded before name file calls calls' =
     (load : List Call) × IsLoad name file load × Made (before ++ load) calls calls'
 
--- the first reads of a load, behind other calls, for which memory ran out
+-- the first reads of a load, after other calls, for which memory ran out
 abbrev pub StarvedInLoad : List Call → List ℕ → Option File → List Entry → List Entry → Type 0
 StarvedInLoad before name file calls calls' =
     (load : List Call) × BeginsLoad name file load × Made (before ++ load) calls calls'
 
--- a read of a load failed, behind other calls
+-- a read of a load failed, after other calls
 abbrev pub BrokeInLoad : List Call → List ℕ → Option File → List Entry → List Entry → Type 0
 BrokeInLoad before name file calls calls' =
     (load : List Call) × BeginsLoad name file load × BrokeAt MapRead (before ++ load) calls calls'
@@ -68,7 +68,7 @@ LoadAnswers name mode file (Err NoMemory) calls calls' = StarvedInLoad [] name f
 abbrev pub barrier_calls : MapNames → List Call
 barrier_calls names = map_settle names.map ∷ image_sync ∷ []
 
--- a call that failed as a rescue resumed: one of the barrier, or a read behind it
+-- a call that failed as a rescue resumed: one of the barrier, or a read after it
 abbrev pub BrokeAsResumed : MapNames → Option File → SiteCall → List Entry → List Entry → Type 0
 BrokeAsResumed names file call calls calls' =
     BrokeAt call (barrier_calls names) calls calls'
@@ -124,7 +124,7 @@ ResumedWithinLimits (Ok Fresh) = ⊤
 ResumedWithinLimits (Ok (Map m)) = IsWithinLimits m
 ResumedWithinLimits (Err e) = ⊤
 
--- Behind the barrier nothing is pending: each stop from here on finds the mapfile and the open image as they read.
+-- After the barrier nothing is pending: each stop from here on finds the mapfile and the open image as they read.
 pub record NothingPending (names : MapNames) (was now : Disk) : Type 0 where
   pub mapfile : now.shows names.map ≡ only (was.reads.files names.map)
   pub image : (image : List ℕ) → was.reads.image ≡ Some image → now.shows image ≡ only (was.reads.files image)

@@ -38,7 +38,7 @@ StopsInSave names text old new =
     → (name : List ℕ) → name ≢ names.draft
     → IsOldOrNew names text (disk_of old) (disk_after (at_rest new.start) (until k new.calls)) name (found name)
 
--- Behind a save that returned Ok the mapfile is the new text, the open image is durable as it read, and no draft is
+-- After a save that returned Ok the mapfile is the new text, the open image is durable as it read, and no draft is
 -- left; other files read as they did, and nothing else may be found in their place.
 pub record IsSaved (names : MapNames) (text : List ℕ) (was now : Disk) : Type 0 where
   pub map_sure : now.shows names.map ≡ only (Some (text_file text))

@@ -22,7 +22,7 @@ fill_calls text = map draft_append (pieces_of text)
 abbrev pub publish_calls : MapNames → List Call
 publish_calls names = draft_publish names.map ∷ map_settle names.map ∷ []
 
--- A whole save puts a whole and synced draft in the mapfile's place, behind an image sync.
+-- A whole save puts a whole and synced draft in the mapfile's place, after an image sync.
 abbrev pub save_calls : MapNames → List ℕ → List Call
 save_calls names text = begin_calls names ++ (fill_calls text ++ draft_sync ∷ publish_calls names)
 
@@ -32,7 +32,7 @@ pub record EndsBegun (calls : List Entry) : Type 0 where
   pub draft : List ℕ
   pub is : calls ≡ before ++ Done image_sync ∷ Done (draft_begin draft) ∷ []
 
--- The draft is filled: nothing but appends to it came behind that.
+-- The draft is filled: nothing but appends to it came after that.
 pub record EndsFilled (calls : List Entry) : Type 0 where
   pub before : List Entry
   pub draft : List ℕ
@@ -40,7 +40,7 @@ pub record EndsFilled (calls : List Entry) : Type 0 where
   pub is : calls ≡ before ++ Done image_sync ∷ Done (draft_begin draft)
       ∷ map (λ piece. Done (draft_append piece)) pieces
 
--- The draft is firm: it was synced behind its last append.
+-- The draft is firm: it was synced after its last append.
 pub record EndsFirm (calls : List Entry) : Type 0 where
   pub before : List Entry
   pub draft : List ℕ
@@ -48,7 +48,7 @@ pub record EndsFirm (calls : List Entry) : Type 0 where
   pub is : calls ≡ before ++ Done image_sync ∷ Done (draft_begin draft)
       ∷ (map (λ piece. Done (draft_append piece)) pieces ++ Done draft_sync ∷ [])
 
--- whether a draft is begun behind a part of a save, by the call that failed
+-- whether a draft is begun after a part of a save, by the call that failed
 abbrev pub drafting_after_fault : SiteCall → (before : Bool) → Bool
 drafting_after_fault ImageOpen before = before
 drafting_after_fault ImageRead before = before
@@ -68,7 +68,7 @@ IsNameIn at [] = ⊥
 IsNameIn at (call ∷ calls) = (at ≡ call_name call) ⊎ IsNameIn at calls
 
 -- What a part of a save does to a site, by its outcome: these calls and no other, or those up to one that failed, which
--- it names; `drafting` says whether a draft is begun behind it where none failed.
+-- it names; `drafting` says whether a draft is begun after it if none failed.
 pub record Saves {T : Type 0} (calls : List Call) (drafting : Bool) (result : Result T SaveFault) (old new : SiteState)
     : Type 0 where
   pub keeps : Keeps old new

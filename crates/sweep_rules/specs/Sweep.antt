@@ -23,8 +23,8 @@ use Rattle.rescue_rules.specs.Snapshots.{Snapshot}
 use Rattle.rescue_rules.specs.Said.{said_after, more_written}
 use Rattle.rescue_rules.specs.Deeds.{Deed}
 
--- A piece that was done: where it begins, its length, the bytes that the output gave where it was read (none where it
--- was written), and the time behind it.
+-- A piece that was done: where it begins, its length, the bytes that the output gave if it was read (none if it
+-- was written), and the time after it.
 pub record Swept : Type 0 where
   pub pos : ℕ
   pub len : ℕ
@@ -135,11 +135,11 @@ pub record IsPiece (s : Setting) (w : Sweeper) (m : Sweep) (p q : ℕ) : Type 0 
   pub range : IsNextRange true (IsTaken s w m) m.cursor p end
   pub ends : q ≡ cut_end (sweep_search s m) s.sector p end
 
--- a save is due behind a piece that comes long enough after the last due one
+-- a save is due after a piece that comes long enough after the last due one
 abbrev pub is_save_due : Sweep → Swept → Bool
 is_save_due m e = nat_le (m.due_at + save_interval) e.after
 
--- the state behind a piece
+-- the state after a piece
 abbrev pub after_piece : Sweeper → Sweep → Swept → Sweep
 after_piece w m e = record {
   map = w.marks m.map e;
@@ -174,11 +174,11 @@ sweep_end done m =
     if done then record (sweep_snapshot m) { shown = record m.shown { current = NowFinished; pass = 1 } }
     else sweep_snapshot m
 
--- the save that is due behind a piece, if one is
+-- the save that is due after a piece, if one is
 abbrev pub due_save : Sweeper → Sweep → Swept → Option Snapshot
 due_save w m e = if is_save_due m e then Some (sweep_snapshot (after_piece w m e)) else None
 
--- what each piece does on the files: its call, and the save that is due behind it
+-- what each piece does on the files: its call, and the save that is due after it
 abbrev pub deeds_of : Sweeper → Sweep → List Swept → List Deed
 deeds_of w m [] = []
 deeds_of w m (e ∷ es) = record { calls = w.call e ∷ []; save = due_save w m e } ∷ deeds_of w (after_piece w m e) es

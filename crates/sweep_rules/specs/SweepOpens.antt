@@ -23,7 +23,7 @@ pub data EndsEarly (s : Setting) (makes : Bool) (files : List ℕ → Option Fil
       → (calls ≡ map Done (sweep_opening s makes ++ load)) ⊎ BrokeAt MapRead (sweep_opening s makes ++ load) [] calls
       → EndsEarly s makes files calls
 
--- the output is there, or it is made where it is absent; where it is neither, there is no call behind the open
+-- the output is there, or it is made if it is absent; if it is neither, there is no call after the open
 abbrev pub OpensOrEnds : (makes : Bool) → Option File → List Entry → Type 0
 OpensOrEnds true file calls = ⊤
 OpensOrEnds false None calls = length calls ≤ 1

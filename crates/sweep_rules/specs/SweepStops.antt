@@ -45,7 +45,7 @@ pub record GeneratePromise (s : Setting) (old : List ℕ) (began map : List Stat
   pub held : (x : ℕ) → Has map Rescued x → Has began Rescued x ⊎ ((b : ℕ) × (slice_get image (place s x) ≡ Some b))
   pub stands : (y : ℕ) → y < length old → slice_get image y ≡ slice_get old y
 
--- a sweep is the last part of what was done, behind the opening's calls and the mapfile's
+-- a sweep is the last part of what was done, after the opening's calls and the mapfile's
 pub record SweepsOver (s : Setting) (w : Sweeper) (b : Before) (statuses : List Status) (state : Option MapState)
     (g : Gain) : Type 0 where
   pub load : List Call

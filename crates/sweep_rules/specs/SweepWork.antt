@@ -54,7 +54,7 @@ pub data SweepEnds (s : Setting) (w : Sweeper) (m : Sweep) (es : List Swept) (ca
   IsCut : (p q : ℕ) → IsPiece s w (after_pieces w m es) p q → end ≡ Stopped (Site (call_name (lost_call w p q)))
       → BrokeAt (call_name (lost_call w p q)) (lost_call w p q ∷ []) (map Done (sweep_calls s w m es)) calls
       → SweepEnds s w m es calls end
-  -- a call of the save that was due behind the last piece failed
+  -- a call of the save that was due after the last piece failed
   IsBroken : (before : List Swept) (last : Swept) (call : SiteCall) → es ≡ before ++ last ∷ []
       → end ≡ Stopped (Site call)
       → BrokeAt call (save_of s (due_save w (after_pieces w m before) last))
@@ -71,7 +71,7 @@ sweep_report s m = record {
   written = m.written;
 }
 
--- the line behind a piece, if one is due
+-- the line after a piece, if one is due
 abbrev pub piece_lines : Setting → Sweeper → Sweep → Swept → List (List ℕ)
 piece_lines s w m e =
     if is_line_due m.said w.current (e.after / 1000)
@@ -82,7 +82,7 @@ abbrev pub pieces_lines : Setting → Sweeper → Sweep → List Swept → List 
 pieces_lines s w m [] = []
 pieces_lines s w m (e ∷ es) = piece_lines s w m e ++ pieces_lines s w (after_piece w m e) es
 
--- all lines of a sweep: those behind pieces, and the last one
+-- all lines of a sweep: those after pieces, and the last one
 abbrev pub sweep_lines : Setting → Sweeper → Sweep → List Swept → RunEnd → List (List ℕ)
 sweep_lines s w m es end =
     pieces_lines s w m es ++ report_text (last_front (is_done end)) (sweep_report s (after_pieces w m es)) ∷ []
@@ -91,7 +91,7 @@ sweep_lines s w m es end =
 abbrev pub sweep_begins : Sweeper → List Status → Option MapState → Gain → Sweep
 sweep_begins w statuses state g = sweep_over w statuses state (began_at g.times)
 
--- The whole of it: the clock is read once at its start and once behind each piece, and the input not at all.
+-- The whole of it: the clock is read once at its start and once after each piece, and the input not at all.
 pub record Sweeps (s : Setting) (w : Sweeper) (statuses : List Status) (state : Option MapState) (g : Gain)
     (end : RunEnd) : Type 0 where
   pub events : List Swept

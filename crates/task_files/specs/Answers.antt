@@ -52,7 +52,7 @@ pub record NameOneFileTwice (words : List (List ℕ)) (first second : Operand) :
   pub asks : AskForFiles words command
   pub same : first_same command.infile command.outfile (names_by command) ≡ Some (first, second)
 
--- When a fault is found: in the words, but for a place that is too large, which is looked for behind the mapfile.
+-- When a fault is found: in the words, except for a place that is too large, which is looked for after the mapfile.
 abbrev pub is_of_words : UsageFault → Bool
 is_of_words (Word fault) = true
 is_of_words (BadValue n) = true
@@ -95,9 +95,9 @@ pub record Rises (opens losses calls : ℕ → ℕ) (source source' : SourceStat
   pub site_faults : site'.faults ≡ calls site.faults
 
 -- A fault is answered exactly where its count rose, by one.
--- No other count rose; so behind an answer that is no fault all stand.
--- Where a run had stopped and a call of the save behind the stop failed, the answer is that call's: behind a loss
--- the count of the losses rose, too; behind a limit or want of memory no other did; behind a failed call on the files
+-- No other count rose; so after an answer that is no fault all stand.
+-- If a run had stopped and a call of the save after the stop failed, the answer is that call's: after a loss
+-- the count of the losses rose, too; after a limit or want of memory no other did; after a failed call on the files
 -- there is no save.
 -- Want of memory isn't told as an error of the mapfile, nor is a mapfile refused that says nothing.
 abbrev pub Causes : Ending → (source source' : SourceState) → (site site' : SiteState) → Type 0
@@ -137,7 +137,7 @@ IsGenerateCall ImageWrite = never
 IsGenerateCall MapRemove = never
 IsGenerateCall call = ⊤
 
--- whether a draft is left begun: one that was begun is so behind a failed append or sync
+-- whether a draft is left begun: one that was begun is so after a failed append or sync
 abbrev pub drafting_left : Ending → Bool
 drafting_left (SiteFault call earlier) = drafting_after_fault call false
 drafting_left e = false

@@ -22,7 +22,7 @@ place_by o x = place_from o.input_position (output_from o) x
 abbrev pub ArePlacedBy : Options → (end : ℕ) → Type 0
 ArePlacedBy o end = AreAllPlaced (whole_domain o.input_position o.size end) o.input_position (output_from o)
 
--- one of these positions would end there at 2^63 or behind it
+-- one of these positions would end there at 2^63 or past it
 abbrev pub IsBeyond : Options → (end : ℕ) → Type 0
 IsBeyond o end = IsAnyBeyond (whole_domain o.input_position o.size end) o.input_position (output_from o)
 

@@ -51,5 +51,5 @@ pub record Agrees (c : Command) (o : Across) (w : Outside) : Type 0 where
   -- where the source tells, the length is its own, and the reads;
   pub end : IsTrue o.source.tells → w.end ≡ length o.source.bytes
   pub reads : IsTrue o.source.tells → HasGainedReads w.maps.test o.source o.source' w.did.gain.reads
-  -- where the clock tells behind the call, the readings are its own.
+  -- if the clock tells after the call, the readings are its own.
   pub times : IsTrue o.clock'.tells → o.clock'.readings ≡ o.clock.readings ++ w.did.gain.times

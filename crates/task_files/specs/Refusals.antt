@@ -51,6 +51,6 @@ abbrev pub MapfileRefused : (mapfile : Option File) → Ending → Type 0
 MapfileRefused mapfile e =
     (error : MapError) × IsRefusedFor mapfile Tight error × (error ≢ NoStatusLine) × (e ≡ MapRefused RunMap error)
 
--- a position that is asked for would end too far behind in the output, whatever maps leave of it
+-- a position that is asked for would end too far on in the output, whatever maps leave of it
 abbrev pub PlacesRefused : Options → (end : ℕ) → Ending → Type 0
 PlacesRefused o end e = IsBeyond o end × (e ≡ Usage PlaceTooLarge)

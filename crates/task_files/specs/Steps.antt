@@ -92,7 +92,7 @@ pub record Gains (test : Option (List Status)) (o : Across) (g : Gain) : Type 0 
   pub times : IsTrue o.clock'.tells → o.clock'.readings ≡ o.clock.readings ++ g.times
   pub fit : AreTimes g.times
 
--- These lines were said by one who is heard before, and behind them or not.
+-- These lines were said by one who is heard before, and after them or not.
 abbrev pub SaysLines : (lines : List (List ℕ)) → (heard heard' : Bool) → Across → Type 0
 SaysLines lines heard heard' o = SpeaksOn (out_pieces lines) heard heard' o.console o.console'
 
@@ -178,7 +178,7 @@ pub record IsOnlyMaps (g : Gain) : Type 0 where
 abbrev pub maps_of : (domain test : Option (List Status)) → (listed : Option (ℕ × ℕ)) → Maps
 maps_of domain test listed = record { domain = domain; test = test; listed = listed }
 
--- What the work did behind the maps that options name, which have these statuses. Of their files nothing is said here.
+-- What the work did after the maps that options name, which have these statuses. Of their files nothing is said here.
 pub record DidAfterMaps (c : Command) (line : List ℕ) (domain test : Option (List Status)) (heard heard' : Bool) (e : Ending)
     (o : Across) : Type 0 where
   pub found : Found
@@ -199,7 +199,7 @@ pub record DidAfterMaps (c : Command) (line : List ℕ) (domain test : Option (L
   pub says : SaysLines lines heard heard' o
   pub short : IsNothing did.gain ⊎ (end < 2 ^ 63)
 
--- what it did behind the words
+-- what it did after the words
 pub record Worked (c : Command) (line : List ℕ) (heard heard' : Bool) (e : Ending) (o : Across) : Type 0 where
   pub outside : Outside
   pub agrees : Agrees c o outside

@@ -1,4 +1,4 @@
--- The work of a rescue: its steps in order, each a row, and the run behind them.
+-- The work of a rescue: its steps in order, each a row, and the run after them.
 use Rattle.std.specs.Prelude.{◌≡◌, ◌⊎◌, ℕ, Bool, true, false, List, [], ◌∷◌, ◌++◌, length, Option, Some, None, is_some}
 use Rattle.block_list.specs.declared.status.Status.{Status}
 use Rattle.mapfile_text.specs.declared.read.Mode.{Mode}
@@ -116,6 +116,6 @@ ThenRun s mapfile lines e g =
     (statuses : List Status) × (state : Option MapState) × Stands mapfile s.end statuses state
     × RunsOver s statuses state lines e g
 
--- That run is behind the steps, and opens no input.
+-- That run comes after the steps, and opens no input.
 abbrev pub Rescues : Setting → (mapfile : Option File) → (lines : List (List ℕ)) → Ending → Deeds → Type 0
 Rescues s mapfile lines e d = (d.opens ≡ []) × ThenRun s mapfile lines e d.gain

@@ -35,8 +35,8 @@ pub record AreReady (source : SourceState) (site : SiteState) : Type 0 where
   pub image : site.is_open ≡ true
   pub no_draft : site.is_drafting ≡ false
 
--- A run up to its end, or to where it stopped, which is heard behind it or not: its events, its readings of the clock,
--- of which some may be behind them, its calls, and its lines.
+-- A run up to its end, or to where it stopped, which is heard after it or not: its events, its readings of the clock,
+-- of which some may be after them, its calls, and its lines.
 pub record WentToEnd (r : RunState) (end : RunEnd) (heard : Bool) (o : Across) : Type 0 where
   pub events : List Event
   pub spare : List ℕ

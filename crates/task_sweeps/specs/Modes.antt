@@ -1,4 +1,4 @@
--- The work of fill mode and of generate mode: their steps in order, and the sweep behind them.
+-- The work of fill mode and of generate mode: their steps in order, and the sweep after them.
 use Rattle.std.specs.Prelude.{◌≡◌, ◌⊎◌, ℕ, true, false, List, [], ◌∷◌, ◌++◌, length, Option, None}
 use Rattle.block_list.specs.declared.status.Status.{Status}
 use Rattle.block_list.specs.declared.types.TypeSet.{TypeSet}
@@ -58,7 +58,7 @@ fill_rows c found end = named_rows c found ++ Open c.infile ∷ Look (PatternEmp
 abbrev pub generate_rows : Command → Found → (end : ℕ) → List (WorkStep Ending)
 generate_rows c found end = named_rows c found ++ Open c.infile ∷ files_rows false c found end
 
--- ---- the sweep behind them
+-- ---- the sweep after them
 
 -- a sweep over a map, by its pieces and its end, and what it said
 pub record SweptOver (s : Setting) (w : Sweeper) (statuses : List Status) (state : Option MapState)
@@ -99,7 +99,7 @@ abbrev pub Generates : Command → Found → (input_end : ℕ) → Setting → L
 Generates c found input_end s pieces end lines =
     Works rescue_faults (generate_rows c found input_end) (ThenSweep s (generator s) found.mapfile pieces end lines)
 
--- ---- what is found behind a stop
+-- ---- what is found after a stop
 
 -- At whatever moment a filling is stopped, the mapfile found is the one it began with or one that it saved, with the
 -- map that it began with, and the output holds the buffer's front in each piece that came before that save.

@@ -96,7 +96,7 @@ pub record IsOutside (c : Command) (o : Across) (w : Outside) : Type 0 where
   pub are_maps : AreMapsOfSweep c w.found w.maps
   pub fit : AreTimes w.did.gain.times
 
--- what a filling did behind the words
+-- what a filling did after the words
 pub record WorkedFill (types : TypeSet) (c : Command) (line : List ℕ) (heard heard' : Bool) (e : Ending) (o : Across)
     : Type 0 where
   pub outside : Outside

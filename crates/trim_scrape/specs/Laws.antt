@@ -37,12 +37,12 @@ RunEndsWell = (s : Setting) (map : List Status) (from : Option MapState) (shown 
     → has_ended s (state_after s (machine_of s map from shown time) events) ≡ true
     → EndsWell s (machine_of s map from shown time) events
 
--- a run in copying's last pass, which has no request left, is behind copying
+-- a run in copying's last pass, which has no request left, is past copying
 abbrev pub CopiedIsPast : Type 0
 CopiedIsPast = (r : RunState) → MayCopy r → r.pass ≡ copying_passes → has_request (setting_in r) r.machine ≡ false
     → IsPast Copying r
 
--- whole turns behind whole turns are whole turns
+-- whole turns after whole turns are whole turns
 abbrev pub TurnsJoin : Type 0
 TurnsJoin = (r q p : RunState) (o : Across) (source : SourceState) (site : SiteState) (clock : ClockState)
     (console : ConsoleState)

@@ -1,4 +1,4 @@
--- The passes behind copying, one after another.
+-- The passes after copying, one after another.
 use Rattle.std.specs.Prelude.{◌≡◌, ⊤, ℕ, ◌≤◌, false, drop, None}
 use Rattle.block_list.specs.declared.status.Status.TheVariants.{NonTrimmed, NonScraped}
 use Rattle.rescue_rules.specs.declared.phase.Phase.{Phase}
@@ -9,14 +9,14 @@ use Rattle.rescue_rules.specs.Machine.{has_request}
 use Rattle.rescue_rules.specs.Step.{limit_met}
 use Rattle.rescue_core.specs.RunState.{RunState, setting_in, IsGone}
 
--- a phase behind copying has a pass with this number
+-- a phase after copying has a pass with this number
 abbrev pub IsPassOf : Setting → Phase → ℕ → Type 0
 IsPassOf s Copying number = ⊥
 IsPassOf s Trimming number = number ≡ 1
 IsPassOf s Scraping number = number ≡ 1
 IsPassOf s Retrying number = number ≤ s.retries
 
--- behind trimming no position of the domain is non-trimmed, and behind scraping none is non-scraped
+-- after trimming no position of the domain is non-trimmed, and after scraping none is non-scraped
 abbrev pub PhaseLeavesNone : Phase → RunState → Type 0
 PhaseLeavesNone Copying r = ⊤
 PhaseLeavesNone Trimming r = IsGone NonTrimmed r

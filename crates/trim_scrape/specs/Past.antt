@@ -7,8 +7,8 @@ use Rattle.rescue_rules.specs.Machine.{has_request}
 use Rattle.rescue_rules.specs.Step.{limit_met}
 use Rattle.rescue_core.specs.RunState.{RunState, setting_in}
 
--- A run that is behind a phase: it has met no limit, its pass has no request left, and those that follow are the passes
--- behind that phase.
+-- A run that is past a phase: it has met no limit, its pass has no request left, and those that follow are the passes
+-- after that phase.
 -- The pass may be one of an earlier phase, if none of this one was asked for.
 pub record IsPast (phase : Phase) (r : RunState) : Type 0 where
   pub sensible : IsSensible (setting_in r)

@@ -67,8 +67,8 @@ SinceStartIsWell = (s : Setting) (map : List Status) (from : Option MapState) (s
     (es : List Event) → EndsWellSince s (machine_of s map from shown time) es
     → EndsWell s (machine_of s map from shown time) es
 
--- Whole turns from such a state, up to behind the last phase, and the close behind them are a run that is well ended,
--- where that answers that it is done.
+-- Whole turns from such a state to past the last phase, and the close after them, are a run that is well ended, if that
+-- answers that it is done.
 abbrev pub PhasesEndWell : Type 0
 PhasesEndWell = (s : Setting) (r r' : RunState) (o : Across) (site : SiteState) → setting_in r ≡ nameless s
     → IsSensible (setting_in r) → IsUnderWay (setting_in r) r.machine → IsTrue o.site.tells → Keeps o.site o.site' → Keeps o.site' site

@@ -18,7 +18,7 @@ pub record IsLastSaved (s : Setting) (p : Snapshot) (was now : Disk) : Type 0 wh
       → now.shows image ≡ only (was.reads.files image)
 
 -- A run from a state, over a disk, is done: no request is left and no limit was met, each position is left well, and
--- behind its calls its map was saved, which says that it is finished.
+-- after its calls its map was saved, which says that it is finished.
 pub record IsWellEnded (s : Setting) (m : Machine) (es : List Event) (was now : Disk) : Type 0 where
   pub over : has_ended s (state_after s m es) ≡ true
   pub well : EndsWellSince s m es

@@ -46,7 +46,7 @@ abbrev pub SafeIsHeld : Type 0
 SafeIsHeld = (s : Setting) (start : List ℕ) (reads : List Reading) (m : Machine) (d : Disk)
     (files : List ℕ → Option File) → IsSafe s start reads m d → Leaves d files → IsHeldIn s start reads files
 
--- A run that goes on by some events stays safe behind all their calls.
+-- A run that goes on by some events stays safe after all their calls.
 abbrev pub RunStaysSafe : Type 0
 RunStaysSafe = (s : Setting) (start : List ℕ) (reads : List Reading) (m : Machine) (d : Disk) (es : List Event)
     → IsSafe s start reads m d → IsRun s m es
@@ -98,7 +98,7 @@ reads_by (Unwritten is same event reads names breaks console) = event.reading �
 reads_by (Limited limit is event reads steps met makes says) = event.reading ∷ []
 reads_by (Unsaved call is event reads steps due names broke rose says) = event.reading ∷ []
 
--- Within a turn that stopped, and behind it, what may be found is held at each stop.
+-- Within a turn that stopped, and after it, what may be found is held at each stop.
 abbrev pub HaltedTurnIsHeld : Type 0
 HaltedTurnIsHeld = (s : Setting) (start : List ℕ) (reads : List Reading) (request : Request) (stop : Stop)
     (r r' : RunState) (o : Across) (files : List ℕ → Option File) → IsTurnOf s request r o

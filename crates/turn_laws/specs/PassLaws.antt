@@ -26,13 +26,13 @@ MayPassOver r (p ∷ ps) =
     (slice_get r.machine.passes 1 ≡ Some (numbered p.phase p.number))
     × (has_request (setting_in r) r.machine ≡ false) × MayPassOver (passed r p.phase p.number) ps
 
--- Over these passes a run comes to where the phase behind this one takes it, with the same reads to come.
+-- Over these passes a run comes to where the phase after this one takes it, with the same reads to come.
 pub record LeadsPast (phase : Phase) (r : RunState) (spent : List Pass) : Type 0 where
   pub may : MayPassOver r spent
   pub is_past : IsPast phase (passed_over r spent)
   pub alike : IsAlike (setting_in r) r.machine (passed_over r spent).machine
 
--- A run whose pass has no request left, and whose passes up to those behind a phase have no position to ask for, may
+-- A run whose pass has no request left, and whose passes up to those after a phase have no position to ask for, may
 -- begin these, and then be handed to the next phase.
 abbrev pub SpentLeadsPast : Type 0
 SpentLeadsPast = (r : RunState) (phase : Phase) (spent : List Pass) → IsSensible (setting_in r)
@@ -49,7 +49,7 @@ passes_up_to s Scraping number =
     ++ (if s.scrapes then passes_in s Scraping 1 else [])
 passes_up_to s Retrying number = passes_from s Copying number
 
--- what the type of a run knows that the phase behind this one takes
+-- what the type of a run knows that the phase after this one takes
 abbrev pub known_past : Phase → Reached
 known_past Copying = Copied
 known_past Trimming = Trimmed
@@ -74,7 +74,7 @@ UnderWayMayCopy = (r : RunState) → IsSensible (setting_in r) → limit_met (se
 abbrev pub CopyingIsUnderWay : Type 0
 CopyingIsUnderWay = (r : RunState) → MayCopy r → IsUnderWay (setting_in r) r.machine
 
--- So is one that is behind a phase, by what its type knows, and may be handed to the next.
+-- A run that is past a phase is under way, by what its type knows, and may be handed to the next.
 abbrev pub PastIsUnderWay : Type 0
 PastIsUnderWay = (r : RunState) (phase : Phase) (first : ℕ) (past : List Pass) → IsInOrder (setting_in r) r.machine
     → past ++ r.machine.passes ≡ passes_from (setting_in r) Copying first → IsPast phase r

@@ -22,7 +22,7 @@ pub data StillComes (s : Setting) (m : Machine) (p : Pass) (x : ℕ) : Type 0 wh
 abbrev pub IsToCome : Setting → Machine → Pass → Type 0
 IsToCome s m p = (x : ℕ) → is_live s m x ≡ true → Has m.map (taken p.phase) x → StillComes s m p x
 
--- A run is under way: its mode fits, and its passes are those behind some of a run's; what is non-tried, copying's last
+-- A run is under way: its mode fits, and its passes are those after some of a run's; what is non-tried, copying's last
 -- pass still comes to, and so do trimming and scraping to what is left for them, unless they are off.
 pub record IsUnderWay (s : Setting) (m : Machine) : Type 0 where
   pub order : IsInOrder s m

@@ -8,7 +8,7 @@ use Rattle.save_resume.specs.Loading.{BeginsLoad, IsLoad}
 use Rattle.rescue_rules.specs.Work.{IsNothing}
 use Rattle.work_rules.specs.Work.{Opened, Unopened, Deeds, IsIdle, IsOnlyCalls, with_calls, with_opens, Faults, WorkStep, Take, Look, Open, Make, Read}
 
--- deeds behind these calls, behind such as returned, and behind an open
+-- deeds after these calls, after such as returned, and after an open
 abbrev pub after_entries : List Entry → Deeds → Deeds
 after_entries calls d = with_calls d (calls ++ d.gain.calls)
 
@@ -18,7 +18,7 @@ after_calls calls d = after_entries (map Returned calls) d
 abbrev pub after_open : List ℕ → Deeds → Deeds
 after_open name d = with_opens d (Opened name ∷ d.opens)
 
--- The property holds of what each step may answer, and behind each step of what those behind it may answer.
+-- The property holds of what each step may answer, and after each step of what those after it may answer.
 abbrev pub Holds : {E : Type 0} → Faults E → List (WorkStep E) → (run P : E → Deeds → Type 0) → Type 0
 Holds {E} f [] run P = (e : E) (d : Deeds) → run e d → P e d
 Holds f (Take ∷ more) run P = ((d : Deeds) → IsIdle d → P f.memory d) × Holds f more run P

@@ -31,7 +31,7 @@ pub record AreVerdicts {E : Type 0} (f : Faults E) (verdict : E → Type 0) : Ty
   pub input : verdict f.input → ⊥
   pub call : (call : SiteCall) → verdict (f.call call) → ⊥
 
--- Where each refusal has one answer, and so has what is run behind the steps, the work has one verdict at most.
+-- If each refusal has one answer, and so has what is run after the steps, the work has one verdict at most.
 abbrev pub HasOneVerdict : Type 1
 HasOneVerdict = (E : Type 0) (f : Faults E) (verdict : E → Type 0) → AreVerdicts f verdict
     → (steps : List (WorkStep E)) (run : E → Deeds → Type 0) → RefuseOnce steps
