@@ -49,8 +49,8 @@ abbrev pub moved_to : RunState → RunState → RunState
 moved_to r q = record r { phase = q.phase; pass = q.pass; machine = q.machine; heard = q.heard }
 
 -- Whole turns: a run of events, which gave the input's own bytes, with its readings of the clock, its calls and its
--- lines. They lead to the state after the events, or from there on over passes without a request; all else of the run
--- stands.
+-- lines. They lead to the state after the events, or from there on over passes without a request; nothing else of the
+-- run changes.
 pub record Went (r r' : RunState) (o : Across) : Type 0 where
   pub events : List Event
   pub run : IsRun (setting_in r) r.machine events

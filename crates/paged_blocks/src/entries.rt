@@ -12,7 +12,7 @@ use std::alloc::Global;
 use std::marker::Model;
 use std::sync::ledger::Ledger;
 
-/// Entries with a gap where one was last put in or taken out, so that few move where changes stand near each other.
+/// Entries with a gap where one was last put in or taken out, so that few move if changes are near each other.
 /// Those after the gap are kept last first.
 #[derive(Drop)]
 pub struct Entries {

@@ -40,7 +40,8 @@ pub record IsEvent (request : Request) (e : Event) (source source' : SourceState
   pub before : e.before < 2 ^ 64
   pub after : e.after < 2 ^ 64
 
--- the state after an event, of a run that is heard after it or not: one step of the rules; all else of the run stands
+-- the state after an event, of a run that is heard after it or not: one step of the rules; nothing else of the run
+-- changes
 abbrev pub stepped : RunState → Event → (heard : Bool) → RunState
 stepped r e heard = record r { machine = step (setting_in r) r.machine e; heard = heard }
 

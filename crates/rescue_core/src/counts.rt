@@ -30,7 +30,7 @@ pub fn counts_at_first<T: Tiles>(domain: &Domain, tiles: &T) -> Counts
 }
 
 /// Goes on with the counts after a read. The map has the marks of the read; the domain is what was left before it.
-/// Where areas may have changed, the positions right beside the request are looked up.
+/// If areas may have changed, the positions right beside the request are looked up.
 #[inline(always)]
 pub(crate) fn count_after<T: Tiles>(
     counts: &mut Counts,

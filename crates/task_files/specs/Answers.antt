@@ -94,8 +94,8 @@ pub record Rises (opens losses calls : ℕ → ℕ) (source source' : SourceStat
   pub losses_ : source'.losses ≡ losses source.losses
   pub site_faults : site'.faults ≡ calls site.faults
 
--- A fault is answered exactly where its count rose, by one.
--- No other count rose; so after an answer that is no fault all stand.
+-- A fault is answered exactly if its count rose, by one.
+-- No other count rose; so after an answer that is no fault all are as before.
 -- If a run had stopped and a call of the save after the stop failed, the answer is that call's: after a loss
 -- the count of the losses rose, too; after a limit or want of memory no other did; after a failed call on the files
 -- there is no save.

@@ -62,7 +62,7 @@ pub enum Ending {
     /// The outfile isn't there, and so nothing of what wasn't tried is in it.
     NoOutput,
     /// A call on the outfile, on the mapfile or on its folder failed. A mapfile that is no regular file fails to be
-    /// read. Where it was a call of the save at the end of a run that had stopped before, this says why the run had
+    /// read. If it was a call of the save at the end of a run that had stopped before, this says why the run had
     /// stopped; never by a failed call, after which there is no save.
     SiteFault {
         call: SiteCall,

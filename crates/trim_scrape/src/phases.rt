@@ -1,4 +1,4 @@
-//! The phases of a rescue after copying. Each goes on until its passes have no request left, and stops where a turn
+//! The phases of a rescue after copying. Each goes on until its passes have no request left, and stops when a turn
 //! does: for want of memory, at a read that was lost, or at a call on the output or the mapfile that failed.
 ghost use Rattle.std.specs.Prelude.{◌≡◌, ◌+◌, true, false, IfOk, OnOk};
 ghost use Rattle.rescue_domain.specs.Parts.{covers};
