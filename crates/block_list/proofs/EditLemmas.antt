@@ -170,7 +170,7 @@ apart_before bs k i block a e h q p s =
           rw w (merged_from_apart _ (apart_push (take k bs) a block s b));
     }
 
--- the block behind joins
+-- the block after it joins
 pub joined_after : (bs : List Block) (j : ℕ) (block a : Block) → j < length bs → a ≡ get_or bs j a → IsTiled bs
     → start_of bs j ≡ block.pos + block.size → a.status ≡ block.status
     → IsJoinedAfter bs j block (j + 1) (record { pos = block.pos; size = block.size + a.size; status = block.status })
@@ -194,7 +194,7 @@ joined_after bs j block a h q t p s =
           merged_from_apart (wide ∷ drop (j + 1) bs) (apart_first a wide (drop (j + 1) bs) s b);
     }
 
--- the block behind has another status
+-- the block after it has another status
 pub apart_after : (bs : List Block) (j : ℕ) (block a : Block) → j < length bs → a ≡ get_or bs j a
     → start_of bs j ≡ block.pos + block.size → (a.status ≡ block.status → ⊥) → IsJoinedAfter bs j block j block
 apart_after bs j block a h q p s =
@@ -247,7 +247,7 @@ pub front_tiled : (bs : List Block) (i : ℕ) → IsTiled bs → IsTiled (take i
 front_tiled bs i t =
     tiled_from_tiles (take i bs) (start_of bs i) (parts_of bs i t).front (omega (arith, start_le_end bs i, t.short))
 
--- a block behind all others
+-- a block after all others
 pub appended_tiled : (bs : List Block) (low : ℕ) (block wide : Block) → IsTiled bs → 0 < block.size
     → block.pos + block.size < 2 ^ 63 → IsJoinedBefore bs (length bs) block low wide
     → IsTiled (take low bs ++ wide ∷ [])

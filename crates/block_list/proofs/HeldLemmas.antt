@@ -87,7 +87,7 @@ no_earlier map x b c f g = ⊎_elim
     (f.stretch.has (c.pos - 1) (omega arith) (omega (arith, f.holds, g.begun)) ∙ ap Some same)))
     (λ (l : c.pos ≤ b.pos). l) (cases_lt b.pos c.pos)
 
--- nor ends behind it
+-- nor ends past it
 no_later : (map : List Status) (x : ℕ) (b c : Block) → IsStretchAt map x b → IsStretchAt map x c
     → b.pos + b.size ≤ c.pos + c.size
 no_later map x b c f g = ⊎_elim

@@ -142,7 +142,7 @@ found_range_down bs i before s b t m h e u q =
       stops = λ y z v. k.starts y z (v ∙ ap Some (sym q));
     }
 
--- a place behind the map's end is as good as the end
+-- a place past the map's end is as good as the end
 pub last_within : (map : List Status) (s : Status) (before end : ℕ) → IsLast (Has map s) (min before (length map)) end
     → IsLast (Has map s) before end
 last_within map s before end k = record {
@@ -152,7 +152,7 @@ last_within map s before end k = record {
   greatest = λ y l v. k.greatest y (omega (arith, slice_get_within map y s v)) v;
 }
 
--- a place behind the map's end, whatever was found
+-- a place past the map's end, whatever was found
 pub last_of : (map : List Status) (s : Status) (before : ℕ) (r : Option Range)
     → IfSome r (λ range. IsLast (Has map s) (min before (length map)) range.to)
     → IfSome r (λ range. IsLast (Has map s) before range.to)

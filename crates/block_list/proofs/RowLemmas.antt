@@ -42,7 +42,7 @@ rows_drop low [] ss (suc n) h = refl
 rows_drop low (e ∷ es) [] (suc n) h = absurd (omega arith)
 rows_drop low (e ∷ es) (s ∷ ss) (suc n) h = rows_drop e es ss n (omega arith)
 
--- rows behind others
+-- rows after others
 pub rows_join : (low : ℕ) (es fs : List ℕ) (ss ts : List Status) → length ss ≡ length es
     → rows low (es ++ fs) (ss ++ ts) ≡ rows low es ss ++ rows (last_or low es) fs ts
 rows_join low [] fs [] ts h = refl
@@ -141,7 +141,7 @@ rows_divide es ss i at b h l q u v =
     ∙ ap (λ r. take i bs ++ front_of b at ∷ back_of b at ∷ r) (ap (λ r. drop 1 r) (sym here) ∙ drop-drop 1 i bs)
     ∙ sym (cut_at_is bs i (front_of b at) (back_of b at) (omega (arith, rows_length 0 es ss h)))
 
--- a block behind the last one
+-- a block after the last one
 pub rows_push : (es : List ℕ) (ss : List Status) (b : Block) → length ss ≡ length es → IsTiled (rows 0 es ss)
     → length (flat_map covered (rows 0 es ss)) ≡ b.pos
     → rows 0 (es ++ (b.pos + b.size) ∷ []) (ss ++ b.status ∷ []) ≡ rows 0 es ss ++ b ∷ []

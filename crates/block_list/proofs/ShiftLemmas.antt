@@ -62,7 +62,7 @@ risen xs a b ys n at e f z g u =
     ∙ sym (marked_between p q r b.pos n a.status start (omega (arith, length-replicate (at - b.pos) b.status)))
     ∙ ap (λ l. marked l b.pos n a.status) (sym old)
 
--- what it passes downwards becomes that of the block behind it
+-- what it passes downwards becomes that of the block after it
 fallen : (xs : List Block) (a b : Block) (ys : List Block) (n at : ℕ) → a.pos ≡ length (flat_map covered xs)
     → a.pos + a.size ≡ b.pos → a.pos < at → 0 < n → at + n ≡ b.pos
     → flat_map covered (xs ++ front_of a at ∷ back_of b at ∷ ys)
@@ -161,7 +161,7 @@ rose_over bs new i at block a b t some h z k p q e f s =
     ∙ ap (λ x. marked (flat_map covered bs) x block.size a.status) (sym r.begins ∙ e)
     ∙ ap (λ x. marked (flat_map covered bs) block.pos block.size x) s
 
--- a range behind which a block of its status begins
+-- a range after which a block of its status begins
 pub fell_over : (bs new : List Block) (i : ℕ) (block b : Block) → IsTiled bs → i < length bs → 0 < block.size
     → IsShifted bs new i block.pos → b ≡ get_or bs i b → b.pos ≡ block.pos + block.size → b.status ≡ block.status
     → flat_map covered new ≡ marked (flat_map covered bs) block.pos block.size block.status

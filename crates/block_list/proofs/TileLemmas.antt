@@ -96,7 +96,7 @@ tile_at bs i d t h =
 pub tile_read : (bs : List Block) (i : ℕ) (b : Block) → IsTiled bs → i < length bs → b ≡ get_or bs i b → IsTile bs i b
 tile_read bs i b t h e = rw (← e) at (tile_at bs i b t h)
 
--- the statuses of the blocks in front of a place and behind it
+-- the statuses of the blocks before a place and after it
 pub front_statuses : (bs : List Block) (i n : ℕ) → start_of bs i ≡ n
     → flat_map covered (take i bs) ≡ take n (flat_map covered bs)
 front_statuses bs i n h =

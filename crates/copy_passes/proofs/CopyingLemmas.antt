@@ -209,7 +209,7 @@ ahead_is : (s : Setting) (m : Machine) (number x : ℕ) → pass_of m ≡ number
     → is_ahead (search_of s m) x ≡ lies_ahead (is_up s (pass_of m)) m.cursor x
 ahead_is s m number x is = ap (λ (f : Search). is_ahead f x) (search_is s m number is)
 
--- the last pass leaves nothing behind an event of its request
+-- after an event of its request the last pass has no position left that its cursor passed
 leaves_none : (r : RunState) (e : Event) → MayCopy r → r.pass ≡ copying_passes
     → IsRequest (setting_in r) r.machine e.reading.pos (e.reading.pos + e.reading.asked) → StepsBy (setting_in r) r.machine e
     → length e.reading.given ≤ e.reading.asked → LeavesNone (setting_in r) (step (setting_in r) r.machine e)
@@ -288,7 +288,7 @@ none_left r c last none x inside has =
     let never : true ≡ false = sym (wanted_seen s r.machine x wanted ((c.last last).ahead x wanted)) ∙ none in
     cc
 
--- a pass at its start has left nothing behind
+-- a pass at its start has no position left that its cursor passed
 pub start_ahead : (up : Bool) (len x : ℕ) → x < len → lies_ahead up (if up then 0 else len) x ≡ true
 start_ahead true len x lt = le-leb 0 x (omega arith)
 start_ahead false len x lt = lt-ltb x len lt

@@ -1,4 +1,4 @@
--- What a read asked for isn't non-tried behind it, if it is still left of the domain.
+-- What a read asked for isn't non-tried after it, if it is still left of the domain.
 use Rattle.std.proofs.Common.{◌≡◌, ◌⊎◌, ℕ, ◌+◌, ◌-◌, ◌<◌, ◌≤◌, true, List, length, Some, sym, ap, ◌∙◌, arith, inl, inr, ⊎_elim}
 use Rattle.std.specs.List.{slice_get}
 use Rattle.std.proofs.lemmas.Bool.{cond_both, cases_lt}
@@ -33,7 +33,7 @@ marks map pos size t x there = record {
   outside = λ apart. marked_outside map pos size t x there apart;
 }
 
--- behind a mark of another status a position is non-tried only where it was, and apart from the mark
+-- after a mark of another status a position is non-tried only if it was, and apart from the mark
 unmarked : (map map' : List Status) (pos size : ℕ) (t : Status) (x : ℕ) → Marked map map' pos size t x → (t ≡ NonTried → ⊥)
     → Has map' NonTried x → Has map NonTried x × ((x < pos) ⊎ (pos + size ≤ x))
 unmarked map map' pos size t x m other has =

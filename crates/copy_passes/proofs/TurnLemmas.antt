@@ -175,7 +175,7 @@ went_one r r2 request turn o within asks t = went_event r r2 request t.event o w
 pub setting_stands : (r q : RunState) → q ≡ moved_to r q → setting_in q ≡ setting_in r
 setting_stands r q stands = ap setting_in stands
 
--- turns behind turns
+-- turns after turns
 pub went_on : (r r1 r2 : RunState) (a b c : SourceState) (d e f : SiteState) (k l n : ClockState) (x y z : ConsoleState)
     → Went r r1 (between a b d e k l x y) → SourceStays a b → e.tells ≡ d.tells → Went r1 r2 (between b c e f l n y z)
     → Went r r2 (between a c d f k n x z)
@@ -215,7 +215,7 @@ went_on r r1 r2 a b c d e f k l n x y z w stays tells_site v =
           w.says says);
     }
 
--- a turn that stopped behind turns behind turns
+-- a turn that stopped after turns after turns
 pub went_up_to_on : (stop : Stop) (r r1 r2 : RunState) (a b c : SourceState) (d e f : SiteState) (k l n : ClockState)
     (x y z : ConsoleState) → Went r r1 (between a b d e k l x y) → SourceStays a b → e.tells ≡ d.tells
     → WentUpTo stop r1 r2 (between b c e f l n y z) → WentUpTo stop r r2 (between a c d f k n x z)
@@ -361,7 +361,7 @@ pub copies_on : (r r2 : RunState) (request : Request) (turn : Turn) (o : Across)
 copies_on r r2 request turn o copying asks t =
     subst MayCopy (sym t.steps) (turn_step r r2 request turn o copying asks t).copying
 
--- So may it behind the start of its next pass.
+-- So may it after the start of its next pass.
 pub goes_on_by_next : (r r1 r2 : RunState) (o : Across) (pass : ℕ) → WentByTurns r r1 o → MayCopy r1
     → has_request (setting_in r1) r1.machine ≡ false → r1.pass < copying_passes → pass ≡ r1.pass
     → r2 ≡ passed r1 Copying (pass + 1) → WentByTurns r r2 o × MayCopy r2

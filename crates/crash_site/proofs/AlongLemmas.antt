@@ -60,7 +60,7 @@ broke_goes at (call ∷ calls) old new (inr later) =
     let w = broke_goes at calls (old ++ Done call ∷ []) new later in
     record { since = Done call ∷ w.since; is = w.is ∙ append_assoc old (Done call ∷ []) w.since; goes = (refl, w.goes) }
 
--- the disk at a stop behind the first calls, where others went on
+-- the disk at a stop after the first calls, if others went on
 pub stop_past : (P : Disk → Type 0) (start : Folder) (calls : List Call) (old new : List Entry) (k : ℕ) → length old ≤ k
     → WentOn calls old new → AlongCalls P (disk_after (at_rest start) old) calls → P (disk_after (at_rest start) (until k new))
 stop_past P start calls old new k le w h =

@@ -43,7 +43,7 @@ use Rattle.work_rules.proofs.FrontLemmas.{IsMapRead, load_reads, broke_in_both, 
 abbrev pub setting_by : Command → Option MapNames → (line : List ℕ) → (end : ℕ) → Maps → Setting
 setting_by c n l end maps = setting_asked c.infile c.outfile n l c.options end maps
 
--- the work behind the maps that options name, among files
+-- the work after the maps that options name, among files
 abbrev pub WorksOpened : Command → Setting → (List ℕ → Option File) → (lines : List (List ℕ)) → Ending → Deeds → Type 0
 WorksOpened c s files lines =
     Works rescue_faults (opened_rows c (found_in c files) s.end) (Rescues s (mapfile_of c files) lines)
@@ -77,7 +77,7 @@ broke_settled s load calls more grew broke =
     let P : List Entry → Type 0 = λ r. BrokeAt MapRead load (settled s) r in
     inr (inr (inr (subst P (sym grew) (broke_after MapRead load (settled s) [] more broke))))
 
--- the calls of a rescue that read its mapfile, and made no other behind it
+-- the calls of a rescue that read its mapfile, and made no other after it
 alone_after : (s : Setting) (load : List Call) (calls run : List Entry) → calls ≡ map Returned (settling_calls s ++ load) ++ run
     → run ≡ [] → calls ≡ map Returned (settling_calls s ++ load)
 alone_after s load calls run grew none =
@@ -117,7 +117,7 @@ over_goes s files lines e g load statuses state run on loaded stands grew (inl u
 over_goes s files lines e g load statuses state run on loaded stands grew (inr ran) =
     run_goes s files g load statuses state ran.end run on loaded stands grew ran.runs
 
--- a load behind the barrier, and what follows it
+-- a load after the barrier, and what follows it
 loaded_goes : (o : Options) (s : Setting) (files : List ℕ → Option File) (lines : List (List ℕ)) (e : Ending) (d : Deeds)
     (load : List Call) (run : List Entry)
     → s.has_mapfile ≡ true → IsLoad s.names.map (files s.names.map) load → d.gain.calls ≡ map Returned (settling_calls s ++ load) ++ run
@@ -183,7 +183,7 @@ goes_on c line end maps files lines e d on (inr (os, opens, inr (rest, grew, inl
 goes_on c line end maps files lines e d on (inr (os, opens, inr (rest, grew, inr (passes, w)))) =
     output_goes c c.mapfile line end maps files lines e (with_opens d os) rest on grew w
 
--- behind reads of maps
+-- after reads of maps
 goes_after : (s : Setting) (files : List ℕ → Option File) (g : Gain) (load : List Call) (rest : List Entry) → AreMapReads load
     → g.calls ≡ map Returned load ++ rest → Goes s files (record g { calls = rest }) → Goes s files g
 goes_after s files g load rest reads grew (InMaps maps more none broke) =

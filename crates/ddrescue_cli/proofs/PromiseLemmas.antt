@@ -1,4 +1,4 @@
--- The promise of a call, by what its work did behind the words.
+-- The promise of a call, by what its work did after the words.
 use Rattle.std.proofs.Common.{◌≡◌, ◌⊎◌, ℕ, ◌<◌, ◌^◌, Bool, true, not, List, Option, Some, None, is_some, refl, sym, inl, inr, subst, arith}
 use Rattle.std.specs.Prelude.{option_map}
 use Rattle.block_list.specs.declared.types.TypeSet.{TypeSet}

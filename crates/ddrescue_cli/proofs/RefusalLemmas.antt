@@ -19,7 +19,7 @@ use Rattle.task_files.specs.Work.{rescue_faults, worked_rows}
 use Rattle.task_files.specs.Answers.{AreAccepted, SaysOfWords}
 use Rattle.ddrescue_cli.proofs.RowLemmas.{EndsRun}
 
--- a refusal behind the names: no end of a run, no failed call, and one of words that are accepted
+-- a refusal after the names: no end of a run, no failed call, and one of words that are accepted
 pub record IsPlain (e : Ending) : Type 1 where
   pub done : e ≡ Done → ⊥
   pub call : (call : SiteCall) (earlier : Option Stop) → e ≡ SiteFault call earlier → ⊥
@@ -49,7 +49,7 @@ undone c found end e (Unopened is) done = let no : SourceFault ≡ Done = sym is
 undone c found end e (Broken call is called) done = let no : SiteFault call None ≡ Done = sym is ∙ done in cc
 undone c found end e (Refused refused) done = (refused_plain c found end e refused).done done
 
--- what an answer behind the names says of words that are accepted
+-- what an answer after the names says of words that are accepted
 pub ends_words : (words : List (List ℕ)) (e : Ending) → EndsRun e → AreAccepted words → SaysOfWords e words
 ends_words words e (Finished, is) ok = rw is (inl ok)
 ends_words words e (RunStopped InputLost, is) ok = rw is ok

@@ -42,7 +42,7 @@ of_barrier P settle sync call (Some n) (inl is) = subst P (sym is) settle
 of_barrier P settle sync call (Some n) (inr (inl is)) = subst P (sym is) sync
 of_barrier P settle sync call (Some n) (inr (inr none)) = absurd none
 
--- the rows behind the read of each map that an option names, and behind that of the mapfile
+-- the rows after the read of each map that an option names, and after that of the mapfile
 abbrev pub after_mapfile : Command → Found → (end : ℕ) → List (WorkStep Ending)
 after_mapfile c found end = Look (MapfileRefused found.mapfile) ∷ Look (PlacesRefused c.options end) ∷ []
 

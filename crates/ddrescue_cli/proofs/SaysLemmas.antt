@@ -1,4 +1,4 @@
--- What is said of a rescue: its lines, and behind them the message of its answer.
+-- What is said of a rescue: its lines, and after them the message of its answer.
 use Rattle.std.proofs.Common.{◌≡◌, ◌≢◌, ◌⊎◌, Bool, true, false, List, [], ◌∷◌, ◌++◌, ℕ, Result, Ok, Err, is_ok, inl, inr, refl, sym, subst}
 use Rattle.rescue_console.specs.declared.console.Channel.{Channel}
 use Rattle.rescue_console.specs.declared.console.Channel.TheVariants.{Err as ErrorChannel}
@@ -13,7 +13,7 @@ use Rattle.task_files.specs.Answers.{IsUntouched}
 use Rattle.ddrescue_cli.specs.Told.{Told}
 use Rattle.ddrescue_cli.specs.Ddrescue.{Says, Nothing, Spoken}
 
--- One put, which went well or failed, says a piece: who was heard is heard behind it where it went well.
+-- One put, which went well or failed, says a piece: who was heard is heard after it if it went well.
 pub put_says : {T E : Type 0} (channel : Channel) (text : List ℕ) (result : Result T E) (old new : ConsoleState)
     → Answers channel text result old new
     → SpeaksOn (record { channel = channel; text = text } ∷ []) true (is_ok result) old new
@@ -70,7 +70,7 @@ says_heard t false heard' lines may says =
     Nothing (may.silent refl)
     (unheard (out_pieces lines ++ message_pieces t.answer) heard' t.console t.console' says)
 
--- lines, and behind them the message
+-- lines, and after them the message
 pub says_both : (t : Told) (heard heard' heard'' : Bool) (lines : List (List ℕ)) (between : ConsoleState)
     → MaySay t heard lines → SpeaksOn (out_pieces lines) heard heard' t.console between
     → SpeaksOn (message_pieces t.answer) heard' heard'' between t.console' → Says lines t

@@ -270,7 +270,7 @@ refused_kept words fault quiet s d k p p' heard r none says =
     (λ task asks. absurd (r.nothing task asks)) none
     (says_heard t (not quiet) heard [] (heard_by t quiet [] r.quiet_is) says)
 
--- and where two files have one name, or memory ran out behind the words
+-- and if two files have one name, or memory ran out after the words
 over_refuses : (task : Task) (c : Command) (e : Ending) → files_of_task task ≡ Some c → NamesRefused c e ⊎ (e ≡ NoMemory)
     → RefusesTask task e
 over_refuses (Rescue x) c e over refused =

@@ -62,7 +62,7 @@ missing_goes false None look more run e d (inr (passes, w)) = absurd (passes NoO
 missing_goes false (Some f) look more run e d (inl (missing, idle)) = inl idle
 missing_goes false (Some f) look more run e d (inr (passes, w)) = inr (tt, w)
 
--- the rows behind the opening of the output
+-- the rows after the opening of the output
 abbrev pub rows_after : Setting → (List ℕ → Option File) → Options → (limit : ℕ) → List (WorkStep Ending)
 rows_after s files o limit =
     load_rows (Some s.names.map) (files s.names.map) ++ Look (PlacesRefused o limit) ∷ []
@@ -92,7 +92,7 @@ module _ (s : Setting) (w : Sweeper) (files : List ℕ → Option File) (pieces 
       ⊎ ((call : Call) × (rest : List Call) × (back ≡ call ∷ rest) × Lost call (map Returned front) g.calls) → Goes g
   in_opening g front back is opens none h = Unbegun (InOpening front back (is ∙ sym (opening_is s w.makes on)) h) opens none
 
-  -- in the load, or behind it
+  -- in the load, or after it
   in_load : (g : Gain) (load : List Call) → BeginsLoad s.names.map (files s.names.map) load → Opens w.makes (files s.outfile)
       → g.times ≡ [] → (g.calls ≡ map Returned (opening ++ load)) ⊎ BrokeAt MapRead (opening ++ load) [] g.calls → Goes g
   in_load g load begins opens none h =

@@ -152,9 +152,9 @@ module _ (b : Before) (s : Setting) (pieces : List Swept) (end : RunEnd) (on : s
       (generates_safely b s g statuses state there.0 ok on three low times there.1 o
       (subst (λ (es : List Swept). AreGiven s (bytes_of (files_before b s.outfile)) es) (sym is) given))
 
--- ---- behind reads of maps
+-- ---- after reads of maps
 
--- a sweep stops safely where what it did behind them does
+-- a sweep stops safely if what it did after them does
 way_safely : (saves : List Status → Option MapState → List Snapshot)
     (promise : List Status → Option MapState → ℕ → List Status → List ℕ → Type 0) (makes : Bool) (b : Before)
     (s : Setting) (ready : Type 0) (w : Sweeper) (pieces : List Swept) (end : RunEnd) (g : Gain)

@@ -1,4 +1,4 @@
--- How far a filling or a generating came, behind the reads of a map that an option names.
+-- How far a filling or a generating came, after the reads of a map that an option names.
 use Rattle.std.specs.Bool.{⊤}
 use Rattle.std.proofs.Common.{◌≡◌, ℕ, true, false, List, [], ◌∷◌, ◌++◌, map, length, Option, Some, None, is_some, refl, sym, ap, ◌∙◌, inl, inr, subst}
 use Rattle.std.proofs.lemmas.List.Elements.{All-nil, All-append}
@@ -29,7 +29,7 @@ use Rattle.task_sweeps.specs.Pattern.{ThenPattern, IsLost, IsShort, IsRead, with
 use Rattle.task_sweeps.specs.Modes.{Fills, Generates, ThenSweep, fill_setting}
 use Rattle.ddrescue_cli.proofs.SweepGoes.{SweepGoes, files_go}
 
--- It read maps and no more, or went on behind them, and was ready.
+-- It read maps and no more, or went on after them, and was ready.
 pub data SweepWay (ready : Type 0) (s : Setting) (w : Sweeper) (files : List ℕ → Option File) (pieces : List Swept)
     (end : RunEnd) (g : Gain) : Type 0 where
   InMaps : (maps : List Call) → AreMapReads maps → Cut maps g.calls → g.times ≡ []
@@ -116,7 +116,7 @@ module _ (files : List ℕ → Option File) (line : List ℕ) (input_end top : �
         Works rescue_faults (files_rows true (named c n) (found_in (named c n) files) top)
         (ThenSweep s w (files n) pieces end lines)
 
-    -- behind the pattern
+    -- after the pattern
     pattern_way : (x : Deeds) → ThenPattern (cluster_of c.options) input_end buffer Sweeping e x
         → SweepWay (Room c) s w files pieces end x.gain
     pattern_way x (IsLost lost idle) = idle_way (Room c) s w files pieces end x.gain idle.gain.calls idle.gain.times
@@ -125,7 +125,7 @@ module _ (files : List ℕ → Option File) (line : List ℕ) (input_end top : �
         AfterMaps [] (with_reads x more).gain (All-nil IsMapRead) refl refl repeated.long
         (files_go s w files pieces end lines refl c.options.forced c.options top e (with_reads x more) next)
 
-    -- behind the map that an option names
+    -- after the map that an option names
     input_way : (rest : List Entry)
         → Works rescue_faults (Open c.infile ∷ Look (PatternEmpty input_end) ∷ Take ∷ [])
         (ThenPattern (cluster_of c.options) input_end buffer Sweeping) e (with_calls d rest)

@@ -71,7 +71,7 @@ sweep_ends s w mapfile pieces end lines e d then = ends then.sweeps
     ends (inl unbegun) = (RunStopped NoRoom, unbegun.0.answer)
     ends (inr swept) = (end, swept.answer)
 
--- what a filling says behind its pattern
+-- what a filling says after its pattern
 pattern_words : (words : List (List ℕ)) (types : TypeSet) (c : Command) (found : Found) (input_end top : ℕ)
     (run : Ending → Deeds → Type 0) (buffer : List ℕ) (e : Ending) (x : Deeds) → AreAccepted words
     → ((v : Ending) (y : Deeds) → run v y → EndsRun v)

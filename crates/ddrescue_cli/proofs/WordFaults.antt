@@ -17,7 +17,7 @@ use Rattle.ddrescue_words.specs.Options.{options_in}
 use Rattle.task_files.specs.declared.ending.Ending.TheVariants.{Usage}
 use Rattle.task_files.specs.Answers.{is_of_words, AreAccepted, SaysOfWords}
 
--- what holds where a fault is found in the words, and what where it is found behind them
+-- what holds if a fault is found in the words, and what if it is found after them
 first_of_two : (b : Bool) (P Q : Type 0) → b ≡ true → P → MatchBool b P Q
 first_of_two true P Q on p = p
 first_of_two false P Q on p = absurd (cc)

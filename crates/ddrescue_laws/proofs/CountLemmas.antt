@@ -119,7 +119,7 @@ adds_end : (f : Entry → Bool) (s : Setting) (m : Machine) (events : List Event
     → Adds f (end_calls s m events) 1
 adds_end f s m events on c = subst (λ (calls : List Call). Adds f calls 1) (sym (end_is s m events on)) (adds_save f s.names _ c)
 
--- the calls behind the barrier
+-- the calls after the barrier
 abbrev pub run_entries : Setting → (load : List Call) → Machine → List Event → List Entry
 run_entries s load m events = map Returned load ++ map Returned (run_calls s m events ++ end_calls s m events)
 

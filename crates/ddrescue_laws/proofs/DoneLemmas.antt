@@ -1,4 +1,4 @@
--- What stands behind the answer of a rescue.
+-- What is there after the answer of a rescue.
 use Rattle.ddrescue_cli.proofs.RefusalLemmas.{undone}
 use Rattle.work_rules.proofs.AnswerLemmas.{IsLoadIf, Passed, passed}
 use Rattle.std.proofs.Common.{◌≡◌, ℕ, ◌+◌, ◌-◌, ◌≤◌, zero, suc, Bool, true, false, IsTrue, if◌then◌else◌, refl, List, [], ◌++◌, ◌∷◌, map, filter, length, take, drop, Option, Some, None, option_map, sym, ◌∙◌, ap, subst, arith, inl, inr, ⊎_elim, length-append}
@@ -66,14 +66,14 @@ use Rattle.ddrescue_laws.proofs.CountLemmas.{dues, run_entries, settles_once_mor
 use Rattle.work_rules.proofs.FrontLemmas.{IsMapRead, load_reads, reads_stand, made_both}
 use Rattle.ddrescue_laws.proofs.ReadLemmas.{settles_after, publishes_after, barrier_after}
 
--- a stop behind all calls may leave the files as they read
+-- a stop after all calls may leave the files as they read
 left_all : (start : Folder) (calls : List Entry) (k : ℕ) → k ≡ length calls
     → MayBeLeft start calls k (after start calls).files
 left_all start calls k all =
     let P : List Entry → Type 0 = λ r. MayBeLeft start calls k (after start r).files in
     subst P (ap (λ n. take n calls) all ∙ take-length calls) (reads_until start calls k)
 
--- behind all calls that a record gained
+-- after all calls that a record gained
 pub left_after : (t : Told) (gained : List Entry) → t.site'.start ≡ t.site.start
     → t.site'.calls ≡ t.site.calls ++ gained → LeftBy (calls_before t) gained (length gained) (files_in t.site')
 left_after t gained started grew =
@@ -123,7 +123,7 @@ saved_ends s m events spare calls end is (IsBroken before last call split none s
 abbrev last_calls : Setting → Machine → List Event → List Entry
 last_calls s m es = map Returned (run_calls s m es ++ end_calls s m es)
 
--- a run over a map, behind a load
+-- a run over a map, after a load
 record DoneOver (s : Setting) (statuses : List Status) (state : Option MapState) (g : Gain) : Type 0 where
   run : IsRun s (begins s statuses state g) (events_in g)
   reads : reads_of (events_in g) ≡ g.reads
@@ -203,7 +203,7 @@ done_run c line end maps files lines e d rest more run load is grew grew' all lo
           (sym (opening_by c c.mapfile line end maps));
     }
 
--- what a rescue that is done did behind its reads of such maps
+-- what a rescue that is done did after its reads of such maps
 record DoneWork (s : Setting) (files : List ℕ → Option File) (g : Gain) : Type 0 where
   maps : List Call
   are : AreMapReads maps
@@ -267,7 +267,7 @@ save_last old began line saves last (suc n) found statuses is (p, at, map_is, fo
     let F : Snapshot → Option File = λ q. Some (record { bytes = text_of line q; regular = true }) in
     (map_is ∙ ap (λ (q : Snapshot). q.map) same, found_is ∙ ap F same)
 
--- behind all calls of a rescue that is done, its last save is the one that is found
+-- after all calls of a rescue that is done, its last save is the one that is found
 pub number_last : (calls : List Entry) (number k : ℕ) → count_by is_settle calls ≡ 1 + k → count_by is_publish calls ≡ k
     → returned (take (length calls) calls) ≤ number → number ≤ published (take (length calls + 1) calls) → number ≡ k
 number_last calls number k settled published_ older newer =
@@ -283,7 +283,7 @@ number_last calls number k settled published_ older newer =
 pub last_finished : (s : Setting) (m : Machine) → has_ended s m ≡ true → last_snapshot s m ≡ finished_snapshot m
 last_finished s m over = ap (λ (b : Bool). if b then finished_snapshot m else snapshot_of m) over
 
--- what stands behind all calls: the mapfile, and the output
+-- what is there after all calls: the mapfile, and the output
 record Left (t : Told) (s : Setting) (g : Gain) (began : List Status) (state : Option MapState) : Type 0 where
   mapfile : files_in t.site' s.names.map
       ≡ Some (record { bytes = text_of s.line (finished_snapshot (machine_reached s g began state)); regular = true })
@@ -366,7 +366,7 @@ begun_order s statuses state g =
     order_begins s (prepared s.domain s.again s.retrim statuses) (goes_on_from s.again state) (shown_at_first state)
     (began_at g.times)
 
--- all calls of a rescue without a mapfile that is done, behind its reads of maps
+-- all calls of a rescue without a mapfile that is done, after its reads of maps
 calls_without : (s : Setting) (files : List ℕ → Option File) (g : Gain) → s.has_mapfile ≡ false
     → (r : DoneRun s files g)
     → g.calls ≡ Returned (image_open s.outfile true) ∷ last_calls s (begins s r.statuses r.state g) (events_in g)

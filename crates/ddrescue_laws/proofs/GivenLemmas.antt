@@ -43,7 +43,7 @@ later_given b r rs x v w later is =
     ap (λ o. last_of_both o (if covers b r x then slice_get r.given (x - r.pos) else None)) later in
     later ∙ sym one ∙ is
 
--- the byte of the first read, or of those behind it
+-- the byte of the first read, or of those after it
 first_input : (bytes : List ℕ) (b : ℕ) (r : Reading) (rs : List Reading) (x v : ℕ) (later : Option ℕ) → IsFrom bytes r
     → (given b rs x ≡ Some v → slice_get bytes x ≡ Some v) → given b (r ∷ rs) x ≡ Some v → given b rs x ≡ later
     → slice_get bytes x ≡ Some v

@@ -119,7 +119,7 @@ stands_long : (mapfile : Option File) (end : ℕ) (statuses : List Status) (stat
 stands_long None end statuses state is = omega (arith, ap length is.map_is, length-replicate end NonTried)
 stands_long (Some f) end statuses state is = text_long f.bytes end statuses state is
 
--- an answer of a run comes behind its reads
+-- an answer of a run comes after its reads
 call_refused : (call : SiteCall) (earlier : Option Stop) → IsLate (SiteFault call earlier) → IsOfOpening call → ⊥
 call_refused ImageOpen earlier late opening = late.names ImageOpen earlier refl
 call_refused MapRead earlier late opening = late.names MapRead earlier refl

@@ -51,7 +51,7 @@ swept_itself s w mapfile pieces end lines e d v then = itself then.sweeps
     itself (inl unbegun) = absurd (v.room unbegun.0.answer)
     itself (inr swept) = ends_itself s w _ swept.sweeps.events d.gain.calls e end swept.answer swept.sweeps.ends v
 
--- behind the pattern
+-- after the pattern
 pattern_itself : (c : Command) (o : Outside) (top : ℕ) (buffer : List ℕ) (run : Ending → Deeds → Type 0) (e : Ending)
     (d : Deeds) → FillsUnrefused c o top → e ≢ PatternUnread → IsNoFault e → ((x : Deeds) → run e x → e ≡ Done)
     → ThenPattern (cluster_of c.options) o.end buffer (Works rescue_faults (files_rows true c o.found top) run) e d

@@ -27,7 +27,7 @@ use Rattle.ddrescue_cli.proofs.SpareLemmas.{AreSpare, spare_append}
 
 -- ---- the saves
 
--- those that are due behind pieces
+-- those that are due after pieces
 abbrev pub dues_of : Sweeper → Sweep → List Swept → List Snapshot
 dues_of w m es = flat_map (λ (d : Deed). some_save d.save) (deeds_of w m es)
 

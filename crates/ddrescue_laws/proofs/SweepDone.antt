@@ -37,7 +37,7 @@ use Rattle.ddrescue_laws.proofs.SweepCounts.{whole_calls, sweep_calls_of}
 use Rattle.ddrescue_cli.proofs.SweepWay.{by_name, named}
 use Rattle.ddrescue_cli.proofs.SweepWords.{fill_plain, files_plain, generate_plain}
 
--- A sweep that went on to its end over files, behind reads of maps, its opening and its load.
+-- A sweep that went on to its end over files, after reads of maps, its opening and its load.
 pub record DoneSweep (s : Setting) (w : Sweeper) (files : List ℕ → Option File) (pieces : List Swept) (end : RunEnd)
     (times : List ℕ) (calls : List Entry) : Type 0 where
   pub finished : has_swept_out end ≡ true
@@ -131,7 +131,7 @@ module _ (s : Setting) (w : Sweeper) (files : List ℕ → Option File) (pieces 
             ∙ ap (λ (l : List Call). maps ++ l) (append_assoc (opening_by s w.makes) load last));
       })
 
-  -- the calls of an opening and a load, one behind the other
+  -- the calls of an opening and a load, one after the other
   grown : (maps load : List Call) (calls rest more run : List Entry)
       → calls ≡ Returned (image_open s.outfile w.makes) ∷ rest → rest ≡ map Returned (barrier_calls s.names) ++ more
       → more ≡ map Returned load ++ run
@@ -143,7 +143,7 @@ module _ (s : Setting) (w : Sweeper) (files : List ℕ → Option File) (pieces 
       ∙ made_both (opening_by s w.makes) load run)
       ∙ made_both maps (opening_by s w.makes ++ load) run
 
-  -- what was done behind rows over the files
+  -- what was done after rows over the files
   over_files : (maps load : List Call) (d : Deeds) (rest more run : List Entry) → AreMapReads maps
       → d.gain.calls ≡ Returned (image_open s.outfile w.makes) ∷ rest → rest ≡ map Returned (barrier_calls s.names) ++ more
       → more ≡ map Returned load ++ run → BeginsLoad s.names.map (files s.names.map) load
@@ -178,7 +178,7 @@ module _ (files : List ℕ → Option File) (line : List ℕ) (input_end top : �
     abbrev rows : List (WorkStep Ending)
     rows = files_rows true (named c n) found top
 
-    -- behind the map that an option names, and the pattern
+    -- after the map that an option names, and the pattern
     read_done : (load : List Call) (rest : List Entry) (x : Deeds) → AreMapReads load → x.gain.calls ≡ rest
         → x.gain.times ≡ d.gain.times → d.gain.calls ≡ map Returned load ++ rest
         → ThenPattern (cluster_of c.options) input_end buffer

@@ -45,7 +45,7 @@ use Rattle.ddrescue_laws.proofs.SweepCounts.{IgnoresPieces, all_before, dues_of,
 use Rattle.ddrescue_laws.proofs.SweepPattern.{pattern_read, pattern_is_front}
 use Rattle.ddrescue_laws.proofs.SweepDone.{DoneSweep, fill_done, generate_done}
 
--- ---- behind all calls of a sweep
+-- ---- after all calls of a sweep
 
 module _ (t : Told) (s : Setting) (w : Sweeper) (pieces : List Swept) (end : RunEnd) (times : List ℕ) (calls : List Entry)
     (h : DoneSweep s w (files_of t) pieces end times calls) (on : s.has_mapfile ≡ true)

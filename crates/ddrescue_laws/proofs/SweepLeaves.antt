@@ -129,7 +129,7 @@ way_leaves ready s w d pieces end g on still
     (AfterMaps maps h reads grew timed is (Begun opens load statuses state rest loaded stands all sweeps are)) =
     absurd (let never : [] ≡ _ = sym still ∙ sym timed ∙ sweeps.times in cc)
 
--- the folder behind a call
+-- the folder after a call
 folder_after : (t : Told) (gained : List Entry) → t.site'.start ≡ t.site.start → t.site'.calls ≡ t.site.calls ++ gained
     → files_in t.site' ≡ (after (after t.site.start t.site.calls) gained).files
 folder_after t gained started grew =

@@ -88,7 +88,7 @@ sweeps_once : (e e' : Ending) (d d' : Deeds) → SweepsSome e d → SweepsSome e
     → e ≡ e'
 sweeps_once e e' d d' h h' v v' = swept_done e d h v.verdict ∙ sym (swept_done e' d' h' v'.verdict)
 
--- behind a pattern
+-- after a pattern
 record ReadsSome (c : Command) (found : Found) (input_end top : ℕ) (e : Ending) (d : Deeds) : Type 0 where
   buffer : List ℕ
   reads : ThenPattern (cluster_of c.options) input_end buffer (Works rescue_faults (files_rows true c found top) SweepsSome) e

@@ -20,7 +20,7 @@ use Rattle.ddrescue_words.specs.Asking.{IsSampleSize}
 use Rattle.ddrescue_words.specs.Options.{area_limit_of, limit_with, no_options, option_meanings, option_rows, options_in, quiet_letter, sample_of, sector_letter, skips_of}
 use Rattle.ddrescue_words.proofs.SkipLemmas.{AreSkips, skips_of_are}
 
--- the limits of the values, but for that of a cluster in bytes, which is looked at behind all options
+-- the limits of the values, except that of a cluster in bytes, which is looked at after all options
 pub record InRange (bytes : ℕ) (sectors : Option ℕ) (first most from : ℕ) (to : Option ℕ) (passes : ℕ) (kib : Option ℕ)
     : Type 0 where
   pub sector : IsSector bytes

@@ -1,4 +1,4 @@
--- The rows that have a letter, and the one behind them that has none.
+-- The rows that have a letter, and the one after them that has none.
 use Rattle.std.proofs.Common.{◌≡◌, ◌≢◌, ℕ, zero, suc, List, [], ◌∷◌, ◌++◌, length, slice_get, Option, Some, None, refl, sym, ◌∙◌, ap}
 use Rattle.std.specs.Option.{option_and_then}
 use Rattle.option_values.specs.Values.{letter_at, letter_meant, meanings_of, row_of}

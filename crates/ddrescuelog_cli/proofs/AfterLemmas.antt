@@ -83,7 +83,7 @@ over_plain c line list m e d reads keeps w =
     )
     (ends_plain c.mode c line list m reads keeps) e d w
 
--- behind reads of maps that returned
+-- after reads of maps that returned
 pub plain_after : (e : LogEnding) (old new : SiteState) → IsPlain e → Stays old new → new.faults ≡ old.faults
     → SiteLeft e old new
 plain_after e old new plain stays kept = record {
@@ -93,7 +93,7 @@ plain_after e old new plain stays kept = record {
   draft = λ none. stays.draft ∙ none ∙ sym plain.draft;
 }
 
--- behind reads that stopped the work
+-- after reads that stopped the work
 record ReadEnds (faults faults' : ℕ) (e : LogEnding) : Type 0 where
   counts : faults' ≡ site_count e faults
   also : (row_of e).also
@@ -121,12 +121,12 @@ read_after e old new stays cause =
       draft = λ none. stays.draft ∙ none ∙ sym r.draft;
     }
 
--- nothing is put behind them
+-- nothing is put after them
 pub read_puts : (e : LogEnding) (faults faults' : ℕ) (prints_text : Bool) (text : List ℕ) (s : ConsoleState)
     → ReadCause e faults faults' → PutsAs prints_text e text s s
 read_puts e n n' b text s cause = (read_ends e n n' cause).puts b text s
 
--- what became of the files behind reads that returned and what came then
+-- what became of the files after reads that returned and what came then
 pub after_reads : (e : LogEnding) (old mid new : SiteState) → Stays old mid → mid.faults ≡ old.faults
     → SiteLeft e mid new → SiteLeft e old new
 after_reads e old mid new stays kept b = record {

@@ -1,4 +1,4 @@
--- The calls of some work: reads of maps, and behind them what its mode calls.
+-- The calls of some work: reads of maps, and after them what its mode calls.
 use Rattle.std.proofs.Common.{◌≡◌, ◌≢◌, ◌⊎◌, ℕ, Bool, true, false, List, [], ◌∷◌, ◌++◌, map, Option, Some, None, refl, sym, ap, ◌∙◌, inl, inr, subst, append_assoc, append-nil}
 use Rattle.std.proofs.lemmas.List.Elements.{All-nil, All-cons, All-same, All-append}
 use Rattle.mapfile_text.specs.declared.read.Mode.{Mode}
@@ -22,7 +22,7 @@ use Rattle.ddrescuelog_cli.specs.Work.{log_faults, named_rows, read_rows, EndsAs
 use Rattle.ddrescuelog_cli.proofs.FoundLemmas.{RowsGive}
 use Rattle.ddrescuelog_cli.proofs.ReadLemmas.{IsRead, AreReads, none_are, returned_are, broke_are, OnlyRead}
 
--- Some calls are reads, and behind them nothing where the work stopped by then, or those of a run.
+-- Some calls are reads, and after them come none, if the work stopped by then, or those of a run.
 pub record AfterReads (P : LogEnding → Type 0) (run : LogEnding → Deeds → Type 0) (e : LogEnding) (calls : List Entry)
     : Type 0 where
   pub front : List Entry
@@ -42,7 +42,7 @@ stopped_by P run e v calls is has reads = record {
   ends = inl (refl, subst P (sym is) has);
 }
 
--- it went on behind these reads
+-- it went on after these reads
 went_by : (P : LogEnding → Type 0) (run : LogEnding → Deeds → Type 0) (e : LogEnding) (front rest calls : List Entry)
     → calls ≡ front ++ rest → AreReads front → AfterReads P run e rest → AfterReads P run e calls
 went_by P run e front rest calls grew reads b = record {
@@ -84,7 +84,7 @@ after_rows P (Read (Some name) file ∷ rows) run only give e calls (inr (inr w)
     went_by P run e (map Returned w.0) w.1 calls w.3 (returned_are w.0 (load_reads name file w.0 w.2.begins))
     (after_rows P rows run only give.2 e w.1 w.4)
 
--- work behind work
+-- work after work
 pub after_both : (P : LogEnding → Type 0) (run last : LogEnding → Deeds → Type 0) (e : LogEnding) (calls : List Entry)
     → ((rest : List Entry) → run e (only_calls rest) → AfterReads P last e rest) → AfterReads P run e calls
     → AfterReads P last e calls

@@ -65,7 +65,7 @@ broke_text names text f old new s =
 
 -- ---- what a save finds of the feed
 
--- this call comes behind the whole list
+-- this call comes after the whole list
 abbrev ComesAfter : SiteCall → Type 0
 ComesAfter call = (old new : FeedState) → AllTaken old new → TakenBefore call old new
 

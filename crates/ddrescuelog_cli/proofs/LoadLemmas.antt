@@ -26,7 +26,7 @@ use Rattle.ddrescuelog_cli.proofs.CallLemmas.{GainsBroken, broke_gains}
 
 -- ---- there is a load of each file
 
--- the first reads of a file that gave so many bytes, one by one, and the read behind them
+-- the first reads of a file that gave this many bytes, one by one, and the read after them
 begins_by_ones : (name : List ℕ) (f : File) (n : ℕ) (answer : Option MapRead) → n ≤ length f.bytes → n ≤ text_limit
     → BeginsLoad name (Some f) (load_reads name (replicate n 1) answer)
 begins_by_ones name f n answer within limited =

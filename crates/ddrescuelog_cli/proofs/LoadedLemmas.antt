@@ -1,4 +1,4 @@
--- All maps, read one behind another.
+-- All maps, read one after another.
 use Rattle.std.proofs.Common.{◌≡◌, ℕ, false, IsTrue, List, [], ◌++◌, map, Option, Some, None, Result, Ok, Err, IfOk, IfErr, unwrap_or, refl, sym, ap, ◌∙◌, inl, inr, subst, append_assoc, append-nil}
 use Rattle.std.proofs.lemmas.Bool.{both_ways}
 use Rattle.block_list.specs.declared.status.Status.{Status}
@@ -183,7 +183,7 @@ domain_refused c m other e old mid low new a stays b stays' d =
           all.through all.did);
     }
 
--- where memory ran out behind a read it ran out in it
+-- if memory ran out after a read it ran out in it
 starved_in : (which : Which) (mode : Mode) (name : Option (List ℕ)) (file : Option File) (calls : List Entry)
     → Through (map_rows which mode name file) calls → Stopped (map_rows which mode name file) NoMemory calls
 starved_in which mode None file calls t =
@@ -259,7 +259,7 @@ all_loaded c m other domain l old new reads all loaded =
       );
     }
 
--- by whether memory sufficed behind the reads
+-- by whether memory sufficed after the reads
 pub loaded_or_starved : (c : Command) (m : ReadMap) (other domain : Option Tiled) (result : Result LoadedMaps LogEnding)
     (old mid low new : SiteState) → creates c.mode ≡ false → ReadsMapfile c (Ok m) old mid → Stays old mid
     → ReadsOther c (Ok other) mid low → Stays mid low → ReadsDomain c (Ok domain) low new

@@ -198,7 +198,7 @@ asks_broke {T} false name size old new is whole start lost =
       did = inl (refl, inr refl, record { opens = refl; reads = refl; times = refl });
     })
 
--- ---- what comes behind it
+-- ---- what comes after it
 
 there_stopped : (forced : Bool) (name : List ℕ) (file : Option File) (more : LogEnding → Deeds → Type 0)
     (e : LogEnding) (d : Deeds) → UnlessThere forced name file (λ e d. ⊥) e d → UnlessThere forced name file more e d

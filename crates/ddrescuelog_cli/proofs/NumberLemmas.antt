@@ -73,7 +73,7 @@ listed_below w k is =
     let o = one_from w k is in
     omega (arith, o.3, block_mono w.shape o.0 (length w.statuses) (omega (arith, o.1)))
 
--- fewer are to come behind one
+-- fewer are to come after one
 pub fewer_left : (w : Wanted) (now now' : ListingState) (k : ℕ) → IsFirst (IsListed w) now.least k
     → now' ≡ record now { least = k + 1 }
     → block_of w.shape (length w.statuses) + 1 - now'.least < block_of w.shape (length w.statuses) + 1 - now.least

@@ -28,7 +28,7 @@ use Rattle.ddrescuelog_cli.proofs.StopsLemmas.{none_more, reads_run}
 
 -- ---- calls that spare a file
 
--- none of these calls changes it, as they are made one behind another
+-- none of these calls changes it, as they are made one after another
 abbrev pub AllSpare : List ℕ → Folder → List Call → Type 0
 AllSpare n d [] = ⊤
 AllSpare n d (call ∷ calls) = (Changes d call n → ⊥) × AllSpare n (after_done d call) calls

@@ -42,7 +42,7 @@ broke_are at (c ∷ calls) old new reads before (inr broke) =
     broke_are at calls (old ++ Returned c ∷ []) new (All-tail IsMapRead c calls reads)
     (All-push IsRead old (Returned c) before (All-head IsMapRead c calls reads)) broke
 
--- reads that returned, and others behind them
+-- reads that returned, and others after them
 then_are : (front : List Call) (rest calls : List Entry) → calls ≡ map Returned front ++ rest → AreMapReads front
     → AreReads rest → AreReads calls
 then_are front rest calls is reads later =
@@ -60,7 +60,7 @@ OnlyRead (Open name ∷ more) = ⊥
 OnlyRead (Make calls ∷ more) = AreMapReads calls × OnlyRead more
 OnlyRead (Read name file ∷ more) = OnlyRead more
 
--- so the calls are reads, where those of the run behind the rows are
+-- so the calls are reads, if those of the run after the rows are
 pub work_reads : (rows : List (WorkStep LogEnding)) (run : LogEnding → Deeds → Type 0) → OnlyRead rows
     → ((e : LogEnding) (d : Deeds) → run e d → AreReads d.gain.calls) → (e : LogEnding) (d : Deeds)
     → Works log_faults rows run e d → AreReads d.gain.calls

@@ -77,7 +77,7 @@ removes_broke c m l at old new loaded mode is_done named broke =
       ends = broke_ends c m l at b.new loaded mode is_done b.broke;
     })
 
--- the settle failed behind a removal
+-- the settle failed after a removal
 pub broke_settling : (name : List ℕ) (at : SiteCall) (old mid new : SiteState) → at ≡ MapSettle → mid.tells ≡ old.tells
     → (IsTrue old.tells → mid.calls ≡ old.calls ++ Returned (map_remove name) ∷ [])
     → (IsTrue mid.tells → Lost (map_settle name) mid.calls new.calls)

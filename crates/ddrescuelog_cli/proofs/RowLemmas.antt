@@ -8,7 +8,7 @@ use Rattle.ddrescuelog_cli.specs.Outside.{only_calls}
 use Rattle.ddrescuelog_cli.specs.Work.{log_faults}
 use Rattle.ddrescuelog_cli.specs.Steps.{Through}
 
--- what stopped in some rows stopped in front of all that is behind them
+-- what stopped in some rows stopped before all that comes after them
 pub stopped_more : (rows more : List (WorkStep LogEnding)) (run : LogEnding → Deeds → Type 0) (e : LogEnding) (d : Deeds)
     → Works log_faults rows (λ e d. ⊥) e d → Works log_faults (rows ++ more) run e d
 stopped_more [] more run e d h = absurd h
@@ -27,7 +27,7 @@ stopped_more (Read (Some name) file ∷ rows) more run e d (inr (inl h)) = inr (
 stopped_more (Read (Some name) file ∷ rows) more run e d (inr (inr h)) =
     inr (inr (h.0, h.1, h.2, h.3, stopped_more rows more run e _ h.4))
 
--- what is done behind rows that the work went through is done by all of it
+-- what is done after rows that the work went through is done by all of it
 pub through_then : (rows more : List (WorkStep LogEnding)) (run : LogEnding → Deeds → Type 0) (e : LogEnding)
     (calls later : List Entry) → Through rows calls → Works log_faults more run e (only_calls later)
     → Works log_faults (rows ++ more) run e (only_calls (calls ++ later))
@@ -50,7 +50,7 @@ through_then (Read (Some name) file ∷ rows) more run e calls later t w =
       through_then rows more run e t.1 later t.4 w,
     ))
 
--- rows that the work went through, one behind another
+-- rows that the work went through, one after another
 pub through_both : (rows more : List (WorkStep LogEnding)) (calls later : List Entry) → Through rows calls
     → Through more later → Through (rows ++ more) (calls ++ later)
 through_both [] more calls later t u = subst (λ c. Through more (c ++ later)) (sym t) u

@@ -47,9 +47,9 @@ use Rattle.ddrescuelog_cli.proofs.ReadLemmas.{IsRead, AreReads}
 use Rattle.ddrescuelog_cli.proofs.StandLemmas.{reads_keep, reads_until, leave_all}
 use Rattle.ddrescuelog_cli.proofs.AfterReadsLemmas.{AfterReads, IsShort, after_works}
 
--- ---- calls behind reads
+-- ---- calls after reads
 
--- A stop behind the reads finds what it would find without them.
+-- A stop after the reads finds what it would find without them.
 pub left_after : (site : SiteState) (front rest calls : List Entry) → calls ≡ front ++ rest → AreReads front
     → (k : ℕ) (files : List ℕ → Option File) → LeftAt site calls k files
     → Leaves (disk_of site) files
@@ -85,7 +85,7 @@ EachFound mode c line list m site calls =
     → CouldBefore site name (files name)
     ⊎ ((name ≡ c.mapfile) × Replaces mode c line list m (files c.mapfile))
 
--- and behind an answer that it is done, only that
+-- and after an answer that it is done, only that
 abbrev pub KeptBy : LogMode → Command → (line list : List ℕ) → Maps → SiteState → List Entry → LogEnding → Type 0
 KeptBy mode c line list m site calls answer =
     (files : List ℕ → Option File) → answer ≡ Done → IsChanging mode → LeftAt site calls (length calls) files
@@ -161,7 +161,7 @@ left_whole site calls files left =
     subst (λ (es : List Entry). Leaves (disk_after (disk_of site) es) files) (until_all calls)
     (left_past site.start site.calls calls (length calls) (length site.calls + length calls) files refl left)
 
--- behind its reads
+-- after its reads
 disk_past_reads : (d : Disk) (front rest calls : List Entry) → calls ≡ front ++ rest → AreReads front
     → disk_after d calls ≡ disk_after d rest
 disk_past_reads d front rest calls grew reads =
@@ -205,7 +205,7 @@ module _ (c : Command) (line list : List ℕ) (m : Maps) (site : SiteState) (fro
             (here c.mapfile)),
       )
 
--- only reads were called where nothing is behind them
+-- only reads were called if nothing comes after them
 reads_alone : (front rest calls : List Entry) → calls ≡ front ++ rest → AreReads front → rest ≡ [] → AreReads calls
 reads_alone front rest calls grew reads none =
     All-same IsRead calls front (grew ∙ ap (λ (r : List Entry). front ++ r) none ∙ append-nil front) reads
@@ -282,7 +282,7 @@ saved_by names text start old new grew =
     saved_where_ok names text (Ok tt) (site_at start old false 0) (site_at start new false 0)
     (made_saves names text start old new grew) refl
 
--- the calls of a save behind others
+-- the calls of a save after others
 save_after : (names : MapNames) (text : List ℕ) (before rest : List Entry) → HasSaved names text [] rest
     → HasSaved names text before (before ++ rest)
 save_after names text before rest (inl made) = inl (ap (λ (r : List Entry). before ++ r) made)
@@ -352,7 +352,7 @@ module _ (listed other : Status) (c : Command) (line list : List ℕ) (m : Maps)
 
 -- ---- by the mode
 
--- a mode that only reads calls nothing behind its maps
+-- a mode that only reads calls nothing after its maps
 pub reads_run : (mode : LogMode) (c : Command) (line list : List ℕ) (m : Maps) (e : LogEnding) (rest : List Entry)
     → OnlyReads mode → EndsAs mode c line list m e (only_calls rest) → rest ≡ []
 reads_run (Change change) c line list m e rest only (inl w) = w.1.gain.calls
@@ -370,7 +370,7 @@ reads_run (Compare finished) c line list m e rest only w = w.1.gain.calls
 reads_run Summarize c line list m e rest only (inl w) = w.1.gain.calls
 reads_run Summarize c line list m e rest only (inr w) = w.1.gain.calls
 
--- nor does any mode behind an answer that leaves the files
+-- nor does any mode after an answer that leaves the files
 reads_early : (mode : LogMode) (c : Command) (line list : List ℕ) (m : Maps) (e : LogEnding) (rest : List Entry)
     → LeavesFiles e → EndsAs mode c line list m e (only_calls rest) → rest ≡ []
 reads_early (Create listed other) c line list m e rest leaves (inl (is, idle)) = idle.gain.calls
@@ -388,13 +388,13 @@ reads_early (Test true) c line list m e rest leaves (inr (passed, inr (more, mad
 reads_early o c line list m e rest leaves w =
     reads_run o c line list m e rest (λ x. x) w
 
--- nothing was called behind these
+-- nothing was called after these
 pub none_more : (made rest more : List Entry) → rest ≡ made ++ more → IsIdle (only_calls more) → rest ≡ made
 none_more made rest more grew idle = grew ∙ ap (λ (r : List Entry). made ++ r) idle.gain.calls ∙ append-nil made
 
 module _ (c : Command) (line list : List ℕ) (m : Maps) (site : SiteState) (e : LogEnding)
     (front rest calls : List Entry) (grew : calls ≡ front ++ rest) (reads : AreReads front) where
-  -- nothing was called behind the reads
+  -- nothing was called after the reads
   nothing_leaves : (mode : LogMode) → rest ≡ [] → (e ≡ Done → IsChanging mode → ⊥)
       → Leaving mode c line list m site calls e
   nothing_leaves mode none short =

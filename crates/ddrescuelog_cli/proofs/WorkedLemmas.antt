@@ -116,7 +116,7 @@ load_stopped c line e old new feed console reads l cause =
       out = read_puts e old.faults new.faults (prints c.mode) (text_of c.mode c line m.maps) console cause;
     }
 
--- what came behind the maps
+-- what came after the maps
 record Ended (c : Command) (line : List ℕ) (m : Maps) (e : LogEnding) (mid new : SiteState)
     (console between : ConsoleState) : Type 0 where
   calls : List Entry

@@ -342,7 +342,7 @@ name_stays : (words : List (List ℕ)) (x y : Option Item)
 name_stays words None y e = absurd (cc)
 name_stays words (Some i) y e = e
 
--- the name that an option gives counts where none of its letter stands behind
+-- the name that an option gives counts if none of its letter comes after it
 name_counts : (words : List (List ℕ)) (l : ℕ) (i : Item) (items : List Item) → is_of option_meanings l i ≡ true
     → is_given option_meanings l items ≡ false
     → last_value option_meanings words l (i ∷ items) ≡ value_of words i.value
@@ -353,7 +353,7 @@ name_counts words l i items of none =
     ∙ ap (λ b. value (later None (cond b (Some i) None))) of
 
 module _ (words : List (List ℕ)) (i : Item) (items : List Item) (o p o' : LogOptions) where
-  -- behind an option the others say nothing
+  -- after an option the others say nothing
   told_first : Tells (letter_meant (slice_get option_meanings i.row)) (value_of words i.value) o p → o'.mode ≡ p.mode
       → none_given items mode_letters ≡ true → Named words (i ∷ items) o o'
   told_first t e none = elim t [

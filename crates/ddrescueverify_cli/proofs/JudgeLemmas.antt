@@ -43,7 +43,7 @@ judged_long_by : (b : Bool) (map : List Status) (l : Look) → IsWithin map l
 judged_long_by true map l within = length-marked map l.read.pos l.read.asked NonTried within
 judged_long_by false map l within = refl
 
--- one mark behind another
+-- one mark after another
 both_marks : (first rest : Bool) (status : Status)
     → (if rest then NonTried else (if first then NonTried else status))
     ≡ (if (first || rest) then NonTried else status)

@@ -43,7 +43,7 @@ map_stands file end m loaded read extends shows =
       }));
     }
 
--- a load that went on to its end behind the barrier: with a map, or memory ran out for that
+-- a load that went on to its end after the barrier: with a map, or memory ran out for that
 load_stands : (names : MapNames) (end : ℕ) (loaded : LoadedMap) (P : Option File → Type 0) (old new : SiteState)
     → (e : Ended (barrier_calls names) names.map P old new) → ((v : VerifyEnding) → MapfileRefused e.file v → ⊥)
     → StandsAs end loaded e.file → Loads names.map end (Ok loaded) old new
@@ -78,7 +78,7 @@ load_starves names end v P old new e is =
       );
     })
 
--- what a resume of a mapfile says where the site tells: this of its file, and the reads of a load behind the barrier
+-- what a resume of a mapfile says if the site tells: this of its file, and the reads of a load after the barrier
 abbrev Resumed : MapNames → (Option File → Type 0) → (old new : SiteState) → Type 0
 Resumed names P old new =
     IsTrue old.tells → P (files_in old names.map)

@@ -1,4 +1,4 @@
--- What a comparison did behind its names, by where it ended, whatever the objects tell.
+-- What a comparison did after its names, by where it ended, whatever the objects tell.
 use Rattle.std.proofs.Common.{◌≡◌, ℕ, false, IsTrue, List, [], ◌∷◌, ◌++◌, map, length, All, Option, Some, None, Result, Ok, Err, refl, sym, ap, ◌∙◌, inl, inr, subst, append_assoc, append-nil}
 use Rattle.std.proofs.lemmas.List.Elements.{All-nil}
 use Rattle.block_list.specs.declared.status.Status.{Status}
@@ -133,7 +133,7 @@ own_loads : (c : Command) (n : MapNames) (end : ℕ) (r : Result LoadedMap Verif
 own_loads c n end r d0 d1 d2 h =
     subst (λ (name : List ℕ). Loads name end r d1 d2) (ap (λ (m : MapNames). m.map) h.names) h.loads
 
--- the folder behind the open
+-- the folder after the open
 opened_folder : (c : Command) (n : MapNames) (end : ℕ) (r : Result LoadedMap VerifyEnding) (d0 d1 d2 : SiteState)
     → HasLoaded c n end r d0 d1 d2 → IsTrue d0.tells
     → after d1.start d1.calls ≡ opened (after d0.start d0.calls) c.outfile false (files_in d0 c.outfile)
@@ -192,9 +192,9 @@ load_fails c l n end e s0 s1 d0 d1 d2 input h =
       );
     }
 
--- ---- behind the load
+-- ---- after the load
 
--- what is done behind a load that went on to its end
+-- what is done after a load that went on to its end
 loaded_goes : (c : Command) (found : Found) (end : ℕ) (run : VerifyEnding → Deeds → Type 0) (e : VerifyEnding)
     (output load : List Entry) (d : Deeds) → WentThrough (output_rows c.outfile found.output) output
     → WentThrough (load_rows c.mapfile found.mapfile) load
@@ -211,7 +211,7 @@ loaded_goes c found end run e output load d t u w =
           (LookAt (PlacesRefused c.options end) ∷ Take ∷ []) run e load d u w),
     )
 
--- Something was done behind the load, by looks and deeds behind them.
+-- Something was done after the load, by looks and deeds after them.
 record GoesOn (c : Command) (l : List ℕ) (end : ℕ) (result : Result Tally VerifyEnding) (looks : List Look)
     (found : Found) (d : Deeds) : Type 0 where
   works : (output load : List Entry) → WentThrough (output_rows c.outfile found.output) output
@@ -219,7 +219,7 @@ record GoesOn (c : Command) (l : List ℕ) (end : ℕ) (result : Result Tally Ve
       → DidWork c (record { line = l; found = found; end = end; looks = looks })
       (after_open c.infile (after_entries output (after_entries load d))) result
 
--- the image that is open behind the load is the output, as it was
+-- the image that is open after the load is the output, as it was
 still_open : (file : Option File) → ((v : VerifyEnding) → OutputRefused file v → ⊥) → (d : Folder) (out : List ℕ)
     → d.files out ≡ file → (opened d out false file).image ≡ Some out
 still_open None pass d out is = absurd (pass NoOutput (refl, refl))
@@ -257,7 +257,7 @@ image_of_load c n end (Ok now) loaded d0 d1 d2 is h keeps tells =
     (still_open (files_in d0 c.outfile) pass before c.outfile refl)
     ∙ ap (λ (files : List ℕ → Option File). files c.outfile) (open_stands before c.outfile (files_in d0 c.outfile))
 
--- what the steps behind the load did: their looks, and deeds, and what they tell
+-- what the steps after the load did: their looks, and deeds, and what they tell
 record After (c : Command) (l : List ℕ) (end : ℕ) (found : Found) (result : Result Tally VerifyEnding)
     (s1 s2 : SourceState) (d0 d2 d3 : SiteState) : Type 0 where
   looks : List Look
@@ -303,7 +303,7 @@ all_worked c l n end loaded result s0 s1 s2 d0 d1 d2 d3 input h told b =
       works = b.goes.works o.calls p.calls o.did.1 p.did.1;
     }
 
--- nothing was done behind it
+-- nothing was done after it
 abbrev still : Deeds
 still = record { opens = []; gain = record { calls = []; reads = []; times = [] } }
 

@@ -27,7 +27,7 @@ use Rattle.ddrescueverify_cli.proofs.OpenedLemmas.{open_stands}
 
 -- ---- calls that leave every file
 
--- these calls do, as they are made one behind another
+-- these calls do, as they are made one after another
 abbrev AllLeave : Folder → List Call → Type 0
 AllLeave d [] = ⊤
 AllLeave d (call ∷ calls) = ((after_done d call).files ≡ d.files) × AllLeave (after_done d call) calls
@@ -61,7 +61,7 @@ reads_leave d (e ∷ es) reads =
 
 -- ---- calls that spare a file
 
--- none of these calls changes it, as they are made one behind another
+-- none of these calls changes it, as they are made one after another
 abbrev AllSpare : List ℕ → Folder → List Call → Type 0
 AllSpare n d [] = ⊤
 AllSpare n d (call ∷ calls) = (Changes d call n → ⊥) × AllSpare n (after_done d call) calls
@@ -121,7 +121,7 @@ module _ (names : MapNames) (n : List ℕ) (other : n ≢ names.map) (apart : n 
 -- ---- all of it
 
 module _ (c : Command) (d : Folder) (n : List ℕ) (other : n ≢ c.mapfile) (apart : n ≢ (names_of c.mapfile).draft) where
-  -- behind the opening
+  -- after the opening
   opened_at : (after d (opening c)).files ≡ d.files
   opened_at = all_left d (opening_calls c) (opening c) (opening_leaves c d) (all_go (opening_calls c))
 

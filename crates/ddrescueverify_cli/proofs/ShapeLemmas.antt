@@ -153,8 +153,8 @@ abbrev pub HasSaved : MapNames → List ℕ → (old new : List Entry) → Type 
 HasSaved names text old new =
     (new ≡ old ++ map Returned (save_calls names text)) ⊎ ((at : SiteCall) × BrokeAt at (save_calls names text) old new)
 
--- The calls of a whole call: the barrier didn't return; or it did, the output is there, and only reads came behind it, and
--- then perhaps a save.
+-- The calls of a whole call: the barrier didn't return; or it did, the output is there, and only reads came after it,
+-- and then perhaps a save.
 pub data Shape (c : Command) (there : Type 0) (saved : Bool) (IsText : List ℕ → Type 0) (calls : List Entry) : Type 0 where
   Early : saved ≡ false → list_any is_sync calls ≡ false → GoesAlong (opening_calls c) calls → Shape c there saved IsText calls
   Reads : (reads : List Entry) → there → saved ≡ false → AreReads reads → calls ≡ opening c ++ reads
@@ -220,7 +220,7 @@ unsaved_halt NoRoom = refl
 unsaved_halt InputLost = refl
 unsaved_halt ImageFault = refl
 
--- what a comparison that halted called behind its looks
+-- what a comparison that halted called after its looks
 halted_reads : (halt : Halt) (p : ComparisonPlan) (from : ℕ) (reads : List Reading) (calls : List Entry)
     → HaltsAt halt p from reads calls → AreReads calls
 halted_reads NoRoom p from reads calls h = same_reads calls [] h.1 tt
@@ -251,14 +251,14 @@ module _ (c : Command) (line : List ℕ) (found : Found) (end : ℕ) (looks : Li
   abbrev ShapeOf : VerifyEnding → List Entry → Type 0
   ShapeOf e calls = Shape c IsThere (is_saved e) OfText calls
 
-  -- reads behind the barrier
+  -- reads after the barrier
   reading : (e : VerifyEnding) (calls rest later : List Entry) → IsThere → is_saved e ≡ false
       → calls ≡ Returned (image_open c.outfile false) ∷ rest
       → rest ≡ map Returned (barrier_calls (names_of c.mapfile)) ++ later → AreReads later → ShapeOf e calls
   reading e calls rest later there short grew is reads =
       Reads later there short reads (grew ∙ ap (λ (r : List Entry). Returned (image_open c.outfile false) ∷ r) is)
 
-  -- a comparison behind the load
+  -- a comparison after the load
   comparing : (e : VerifyEnding) (d : Deeds) (calls rest later : List Entry) (load : List Call) → IsThere → AreMapReads load
       → calls ≡ Returned (image_open c.outfile false) ∷ rest
       → rest ≡ map Returned (barrier_calls (names_of c.mapfile)) ++ later
@@ -296,7 +296,7 @@ module _ (c : Command) (line : List ℕ) (found : Found) (end : ℕ) (looks : Li
   unsaved_mapfile e (inl none) = ap is_saved none.1
   unsaved_mapfile e (inr refused) = ap is_saved refused.3
 
-  -- nothing was called behind the load
+  -- nothing was called after the load
   load_alone : (x : Deeds) (later : List Entry) (load : List Call) → IsLoad c.mapfile found.mapfile load
       → later ≡ map Returned load ++ x.gain.calls → IsIdle x → AreReads later
   load_alone x later load loaded all idle =

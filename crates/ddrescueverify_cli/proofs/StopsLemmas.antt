@@ -40,7 +40,7 @@ use Rattle.ddrescueverify_cli.specs.Outside.{Agrees, Found, Outside, place_by}
 use Rattle.ddrescueverify_cli.specs.Work.{Verifies, verify_faults, verify_rows}
 use Rattle.ddrescueverify_cli.proofs.ShapeLemmas.{AreReads, Early, HasSaved, IsNewText, Reads, Saving, Shape, opening, opening_calls, reads_at, reads_keep, reads_until, shape_of}
 
--- ---- a save behind other calls
+-- ---- a save after other calls
 
 -- a site that began so and made these calls
 abbrev site_at : Folder → List Entry → (drafting : Bool) → (faults : ℕ) → SiteState
@@ -114,7 +114,7 @@ save_after names text before rest (inr (at, broke)) =
     let P : List Entry → Type 0 = λ r. BrokeAt at (save_calls names text) r (before ++ rest) in
     inr (at, subst P (append-nil before) (broke_after at (save_calls names text) before [] rest broke))
 
--- ---- what a stop may show up to the barrier, and behind it
+-- ---- what a stop may show up to the barrier, and after it
 
 -- all that may be found on a disk could be found on another
 abbrev Narrower : Disk → Disk → Type 0
@@ -177,7 +177,7 @@ module _ (c : Command) (was : Disk) (sound : Leaves was was.reads.files) where
     image_is : at_settle.reads.image ≡ Some c.outfile
     image_is = ap (λ (o : Option File). (opened was.reads c.outfile false o).image) there
 
-    -- what is shown behind the sync under a name
+    -- what is shown after the sync under a name
     shown_as : (name : List ℕ) (found : Option File) → MayShow (at_sync.shows name) found
         → MayShow (cond (bytes_eq name c.outfile) (only (at_settle.reads.files name)) (at_settle.shows name)) found
     shown_as name found h =
@@ -250,7 +250,7 @@ module _ (c : Command) (site : SiteState) (apart : c.outfile ≢ c.mapfile)
   leaves_at calls k files left = left_past site.start site.calls calls k (length site.calls + k) files refl left
 
   module _ (IsNew : Option File → Type 0) where
-    -- behind the barrier nothing but reads was made
+    -- after the barrier nothing but reads was made
     at_barrier : (f : File) → before.reads.files c.outfile ≡ Some f → (calls : List Entry) (k : ℕ)
         (files : List ℕ → Option File) → has_barrier (take k calls) ≡ true
         → Leaves (at_sync c before sound) files → AtStop c IsNew site calls k files
@@ -288,7 +288,7 @@ module _ (c : Command) (site : SiteState) (apart : c.outfile ≢ c.mapfile)
         (subst (λ (d : Disk). Leaves d files) (reads_at (at_sync c before sound) reads j are)
         (leaves_at _ (suc (suc (suc j))) files left))
 
-    -- behind the barrier
+    -- after the barrier
     after_at : (k n : ℕ) → k ≡ 3 + n → (more : List Entry) → has_barrier (take k (opening c ++ more)) ≡ true
     after_at k n is more =
         let at : k ≡ suc (suc (suc n)) = omega arith in

@@ -1,4 +1,4 @@
--- Whether a draft is left begun behind a sweep.
+-- Whether a draft is left begun after a sweep.
 use Rattle.std.proofs.Common.{◌≡◌, false, Option, Some, None, refl, sym, ap, ◌∙◌}
 use Rattle.crash_site.specs.SiteState.{SiteState}
 use Rattle.rescue_rules.specs.declared.stop.Stop.{Stop}
@@ -11,7 +11,7 @@ use Rattle.sweep_rules.specs.Sweep.{Sweep}
 use Rattle.fill_generate.specs.Sweeping.{drafting_after}
 use Rattle.fill_generate.specs.Steps.{SavesLast, LastSaved, LastFailed, ClosesFiles}
 
--- behind a stop the last calls may be made
+-- after a stop the last calls may be made
 pub may_close : (stop : Stop) (site : SiteState) → site.is_drafting ≡ drafting_at_stop stop → MayClose (Some stop) site
 may_close SourceLost site left = left
 may_close (Site call) site left = tt

@@ -26,7 +26,7 @@ use Rattle.fill_generate.specs.Steps.{SweepWent, WentOn, WentUpTo, SweepStopsAt,
 use Rattle.fill_generate.proofs.TellLemmas.{between, makes_more, breaks_after, says_more}
 use Rattle.fill_generate.proofs.ImageLemmas.{all_given}
 
--- what broke off behind a record broke off without it
+-- what broke off after a record broke off without it
 record After (at : SiteCall) (calls : List Call) (front back new : List Entry) : Type 0 where
   rest : List Entry
   is : new ≡ front ++ rest

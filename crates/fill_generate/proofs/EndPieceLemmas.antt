@@ -1,4 +1,4 @@
--- What is due behind a piece, and at the end of a sweep.
+-- What is due after a piece, and at the end of a sweep.
 use Rattle.std.proofs.Common.{◌≡◌, ℕ, ◌+◌, ◌/◌, ◌<◌, ◌^◌, nat_le, Bool, false, List, [], ◌∷◌, Option, Some, None, is_none, if◌then◌else◌, Result, Ok, Err, MatchOption, refl, sym, ap, subst, ◌∙◌}
 use Rattle.mapfile_text.specs.declared.state.MapState.{MapState}
 use Rattle.mapfile_text.specs.declared.state.Current.TheVariants.{Finished}
@@ -45,7 +45,7 @@ line_if r due = if due then report_text (phase_front r.sweep.shown) (sweep_repor
 abbrev pub save_if : SweepState → Bool → List Call
 save_if r due = if due then save_calls r.names (text_of r.line (sweep_snapshot r.sweep)) else []
 
--- The state behind a piece, what is said of it and whether it is heard.
+-- The state after a piece, what is said of it and whether it is heard.
 pub record After (piece : Piece) (written after : ℕ) (line : Bool) (r r1 r2 r3 : SweepState) (o : Around) : Type 0 where
   pub timed : ReadsClock (after ∷ []) o.clock o.clock'
   pub fit : after < 2 ^ 64
@@ -127,7 +127,7 @@ pub saves_as : {T : Type 0} (q r : SweepState) (shown : MapState) (result : Resu
     → Saves (calls_showing q shown) false result a c → Saves (calls_showing r shown) false result a c
 saves_as q r shown result a c is s = subst (λ (p : SweepState). Saves (calls_showing p shown) false result a c) is s
 
--- What was done behind a piece, with the save that was due,
+-- What was done after a piece, with the save that was due,
 pub ends_whole : {T : Type 0} (v : T) (piece : Piece) (written after : ℕ) (line save : Bool) (r r1 r2 r3 : SweepState) (a c : SiteState)
     (k l : ClockState) (x y : ConsoleState) → ReadsClock (after ∷ []) k l → after < 2 ^ 64
     → r1 ≡ standing r (moved (current_in r.mode) r.sweep piece.pos piece.len written after)

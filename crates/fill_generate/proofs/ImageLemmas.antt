@@ -36,7 +36,7 @@ put_apart : (files : List ℕ → Option File) (image : Option (List ℕ)) (name
 put_apart files None name file apart = refl
 put_apart files (Some n) name file apart = put_other files name n file (apart n refl)
 
--- a save's calls behind its beginning
+-- a save's calls after its beginning
 abbrev filling : (names : MapNames) → (pieces : List (List ℕ)) → List Entry
 filling names pieces =
     map Done (map draft_append pieces ++ draft_sync ∷ draft_publish names.map ∷ map_settle names.map ∷ [])

@@ -84,7 +84,7 @@ went_more G s w m m1 m2 h h1 h2 es e d e1 f k l n x y z g t =
           (subst (λ (q : Sweep). SpeaksOn (out_pieces (piece_lines s w q e)) h1 h2 y z) g.state t.says));
     }
 
--- nothing done behind them
+-- nothing done after them
 went_still : (G : Swept → Type 0) (s : Setting) (w : Sweeper) (m m1 m2 : Sweep) (h h1 h2 : Bool) (es : List Swept)
     (d e f : SiteState) (k l n : ClockState) (x y z : ConsoleState) → SweepWent G s w m m1 h h1 es (between d e k l x y)
     → m2 ≡ m1 → h2 ≡ h1 → n ≡ l → z ≡ y → SweepWent G s w m m2 h h2 es (between d f k n x z)

@@ -246,7 +246,7 @@ pub record Part (sector pos len : ℕ) (bytes : List ℕ) (at to : ℕ) : Type 0
 abbrev pub bytes_in : (pos : ℕ) → List ℕ → (at to : ℕ) → List ℕ
 bytes_in pos bytes at to = slice_range bytes (at - pos) (to - pos)
 
--- the part of a position is that part, perhaps with positions behind what was given
+-- the part of a position is that part, perhaps with positions past what was given
 part_begins : (sector pos len : ℕ) (bytes : List ℕ) (at to x : ℕ) → Part sector pos len bytes at to → at ≤ x → x < to
     → max pos (floor sector x) ≡ at
 part_begins sector pos len bytes at to x p low high =

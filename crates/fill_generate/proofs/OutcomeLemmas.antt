@@ -20,7 +20,7 @@ use Rattle.fill_generate.specs.Steps.{IsFound, EndsPiece, PieceEnds, ObjectsStay
 use Rattle.fill_generate.proofs.TellLemmas.{between, clock_self}
 use Rattle.fill_generate.proofs.PieceLemmas.{done_at, marked_with, took, unsaved, uncalled, lost_read, generates_is}
 
--- behind a piece the same sweep stands elsewhere
+-- after a piece the same sweep is elsewhere
 gone_after : (w : Sweeper) (r r1 r2 : SweepState) (e : Swept) (m : Sweep) (h : Bool) → r1 ≡ marked_with w r e
     → r2 ≡ heard_as (standing r1 m) h → r2 ≡ gone_to r r2
 gone_after w r r1 r2 e m h marked is =

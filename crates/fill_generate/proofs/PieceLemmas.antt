@@ -37,7 +37,7 @@ done_at piece got after = record { pos = piece.pos; len = piece.len; got = got; 
 abbrev pub marked_with : Sweeper → SweepState → Swept → SweepState
 marked_with w r e = standing r (record r.sweep { map = w.marks r.sweep.map e })
 
--- the state behind it
+-- the state after it
 stands_after : (w : Sweeper) (r r1 r2 : SweepState) (piece : Piece) (got : List ℕ) (written after : ℕ) (o : Around)
     → IsSweeperOf r.mode w → r1 ≡ marked_with w r (done_at piece got after) → w.writes (done_at piece got after) ≡ written
     → StepsPastPiece piece written after r1 r2 o → r2 ≡ heard_as (standing r (after_piece w r.sweep (done_at piece got after))) r2.heard
@@ -48,7 +48,7 @@ stands_after w r r1 r2 piece got written after o of marked writes p =
     ∙ ap (λ (c : Current). heard_as (standing r (moved c (marked_with w r e).sweep piece.pos piece.len written after)) r2.heard) (sym of.current)
     ∙ ap (λ (n : ℕ). heard_as (standing r (moved w.current (marked_with w r e).sweep piece.pos piece.len n after)) r2.heard) (sym writes)
 
--- the line behind it, if it is said in this phase
+-- the line after it, if it is said in this phase
 abbrev lines_with : Setting → Sweeper → Sweep → Swept → Current → List (List ℕ)
 lines_with s w m e current =
     if is_line_due m.said current (e.after / 1000)
@@ -81,7 +81,7 @@ takes G w r r1 r2 piece got written after o of found gives given marked writes p
           (ap (λ (q : SweepState). q.heard) marked) p.says);
     }
 
--- the save that is due behind it
+-- the save that is due after it
 save_if : (s : Setting) (due : Bool) (p : Snapshot)
     → (if due then save_calls s.names (text_of s.line p) else []) ≡ save_of s (if due then Some p else None)
 save_if s true p = refl

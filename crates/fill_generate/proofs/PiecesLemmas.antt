@@ -18,7 +18,7 @@ use Rattle.fill_generate.proofs.TellLemmas.{between, objects_stay}
 use Rattle.fill_generate.proofs.LoopLemmas.{goes_on, halts}
 use Rattle.fill_generate.proofs.ImageLemmas.{looked_before}
 
--- the sweep that stands elsewhere behind two steps
+-- the sweep that is elsewhere after two steps
 pub gone_on : (r r1 r2 : SweepState) → r1 ≡ gone_to r r1 → r2 ≡ gone_to r1 r2 → r2 ≡ gone_to r r2
 gone_on r r1 r2 first then_ = then_ ∙ ap (λ (q : SweepState). gone_to q r2) first
 
@@ -31,7 +31,7 @@ sweeper_is : (mode : SweepMode) (s : Setting) → IsSweeperOf mode (sweeper_of m
 sweeper_is (Fill types) s = record { takes = λ status. refl; current = refl }
 sweeper_is Generate s = record { takes = λ status. refl; current = refl }
 
--- behind a piece fewer positions lie ahead
+-- after a piece fewer positions lie ahead
 pub less_ahead : (r r2 : SweepState) (piece : Piece) → IsFound r piece → r2.sweep.cursor ≡ piece.pos + piece.len
     → 2 ^ 63 - r2.sweep.cursor < 2 ^ 63 - r.sweep.cursor
 less_ahead r r2 piece found passed =

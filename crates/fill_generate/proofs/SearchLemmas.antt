@@ -46,7 +46,7 @@ pub taken_alike : (mode : SweepMode) (w : Sweeper) (domain : ℕ → Bool) (map 
 taken_alike mode w domain map x of =
     ap (λ (b : Bool). domain x && b) (passes_alike w.takes (takes_in mode) (slice_get map x) of.takes)
 
--- the end of the range of positions that pass a test, of which none lies behind a top
+-- the end of the range of positions that pass a test, of which none lies past a top
 ends_from : (f : ℕ → Bool) (n x top : ℕ) → x + n ≡ top → ((y : ℕ) → f y ≡ true → y < top) → f x ≡ true
     → (end : ℕ) × IsRangeUp (λ y. f y ≡ true) x end
 ends_from f zero x top is below holds = absurd (omega (arith, below x holds, is))

@@ -45,7 +45,7 @@ makes_more xs ys a b c same f g = record {
   faults = g.faults ∙ f.faults;
 }
 
--- calls that broke off behind ones that were made
+-- calls that broke off after ones that were made
 pub breaks_after : (at : SiteCall) (xs ys : List Call) (a b c : SiteState) → b.tells ≡ a.tells → Makes xs a b → IsNameIn at ys
     → Breaks at ys b c → BreaksAfter at xs ys a c
 breaks_after at xs ys a b c same f named g = record {

@@ -6,7 +6,7 @@ use Rattle.rescue_domain.specs.Domain.{IsIn}
 use Rattle.block_list.specs.Areas.{begins_area}
 use Rattle.map_algebra.specs.Laws.{AreasAreRanges}
 
--- a range that begins here, in a set of which no position lies n behind
+-- a range that begins here, in a set of which no position lies n or more past it
 range_from : (set : ℕ → Bool) (n x : ℕ) → IsIn set x → ((y : ℕ) → IsIn set y → y < x + n)
     → (end : ℕ) × IsRangeUp (IsIn set) x end
 range_from set zero x i b = absurd (omega (arith, b x i))

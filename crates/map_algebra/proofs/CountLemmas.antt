@@ -44,7 +44,7 @@ one_more : (b : Bool) (n : ℕ) → cond {A = ℕ} b (suc n) 0 ≡ cond b n 0 + 
 one_more true n = omega arith
 one_more false n = refl
 
--- n more positions that are all in the set, or none, behind m of them
+-- n more positions that are all in the set, or none, after m of them
 counted_more : (set : ℕ → Bool) (from m n : ℕ) (v : Bool) → ((x : ℕ) → from + m ≤ x → x < from + m + n → set x ≡ v)
     → counted set from (m + n) ≡ counted set from m + cond v n 0
 counted_more set from m zero v h =
@@ -70,7 +70,7 @@ begins_here : (set : ℕ → Bool) (x : ℕ) → begins_area set x ≡ (set x &&
 begins_here set zero = elim (set 0) as (λ b. b ≡ (b && true)) [ true ↦ refl | false ↦ refl ]
 begins_here set (suc x) = refl
 
--- no area begins behind the first of positions that are alike
+-- no area begins after the first of positions that are alike
 begins_later : (set : ℕ → Bool) (from to x : ℕ) (v : Bool) → IsConstant set from to v → from < x → x < to
     → begins_area set x ≡ false
 begins_later set from to zero v k l u = absurd (omega (arith, l))

@@ -136,7 +136,7 @@ Begins s least from = (x : ℕ) → x < 2 ^ 63 → s.ipos ≤ x → place_from s
 abbrev pub Stand : Shape → (domain : ℕ → Bool) → Type 0
 Stand s domain = ((x : ℕ) → domain x ≡ true → s.ipos ≤ x) × AreAllPlaced domain s.ipos s.opos
 
--- a wanted position of a block from a number on stands at that place or behind it
+-- a wanted position of a block from a number on is at that place or past it
 stands_after : (w : Wanted) (least from x : ℕ) → length w.statuses < 2 ^ 63 → Stand w.shape w.domain
     → Begins w.shape least from → x < length w.statuses → has_wanted_type w x ≡ true
     → (least ≤ block_of w.shape x) ↔ (from ≤ x)

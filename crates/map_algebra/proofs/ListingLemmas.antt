@@ -35,7 +35,7 @@ filter_none : (p : ℕ → Bool) (a n : ℕ) → ((k : ℕ) → p k ≡ false) �
 filter_none p a zero h = refl
 filter_none p a (suc n) h = passed_over p a (range_with_len (a + 1) n) (h a) ∙ filter_none p (a + 1) n h
 
--- what a range keeps from a number on is the first that passes, and what it keeps behind that one
+-- what a range keeps from a number on is the first that passes, and what it keeps past that one
 goes_on : (q : ℕ → Bool) (least k a n : ℕ) → IsFirst (IsPassed q) least k → a ≤ k → k < a + n
     → filter (from_on q least) (range_with_len a n) ≡ k ∷ filter (from_on q (k + 1)) (range_with_len a n)
 goes_on q least k a zero f l u = absurd (omega (arith, l, u))

@@ -206,7 +206,7 @@ map_by_more f at to s l h =
     let e : at + (to - at) ≡ to = omega (arith, l) in
     ap (map_by f) (sym e) ∙ more_by f at (to - at) s (λ x a b. h x a (omega (arith, b, e)))
 
--- a map by positions that a walk made up to here, with a piece put behind it
+-- a map by positions that a walk made up to here, with a piece put after it
 pub grown : (f : ℕ → Status) (at to : ℕ) (s : Status) (out next : List Status) → out ≡ map_by f at → at ≤ to
     → next ≡ out ++ replicate (to - length out) s → ((x : ℕ) → at ≤ x → x < to → f x ≡ s) → next ≡ map_by f to
 grown f at to s out next made l put h =

@@ -105,7 +105,7 @@ more_marks s ks n end made k from to some order short is m begun ended =
           (cases_lt i n);
     }
 
--- behind the last block no position is marked
+-- past the last block no position is marked
 pub all_marks : (s : Shape) (ks : List ℕ) (end : ℕ) (made : List Status) → 0 < s.size
     → AreMarks s ks (length ks) end made → put_up made end NonTried ≡ map_by (mark_of s ks) end
 all_marks s ks end made some m =

@@ -18,7 +18,7 @@ constant_in map x to b k some within = record {
       (k.stretch.has y (omega (arith, l, k.begun)) (omega (arith, u, within)));
 }
 
--- and behind its end it is non-tried
+-- and past its end it is non-tried
 pub constant_past : (map : List Status) (x to : ℕ) → length map ≤ x → x < to → IsConstant (status_at map) x to NonTried
 constant_past map x to ended some = record {
   some = some;

@@ -96,7 +96,7 @@ kept-none : (p : ℕ → Bool) (xs : List ℕ) → length xs ≡ 0 → kept (sli
 kept-none p [] e = refl
 kept-none p (x ∷ xs) e = absurd (omega (arith, e))
 
--- no field stands behind the blanks with which a line begins
+-- no field comes after the blanks with which a line begins
 pub no_field : (line rest : List ℕ) (start : ℕ) → start ≡ position_or_len (λ c. not (is_blank c)) line
     → rest ≡ drop start line → length rest ≡ 0 → fields line ≡ []
 no_field line rest start e r none =
@@ -104,7 +104,7 @@ no_field line rest start e r none =
     ap (λ l. kept (slice_split is_blank l)) (r ∙ ap (λ n. drop n line) e) ∙ kept-past_start is_blank line in
     sym past ∙ kept-none is_blank rest none
 
--- the first field stands behind the blanks with which a line begins, up to the next blank
+-- the first field comes after the blanks with which a line begins, up to the next blank
 pub first_field_is : (line rest : List ℕ) (start end : ℕ) → start ≡ position_or_len (λ c. not (is_blank c)) line → rest ≡ drop start line → 0 < length rest
     → end ≡ position_or_len is_blank rest → fields line ≡ take end rest ∷ fields (drop end rest)
 first_field_is line rest start end e r some f =

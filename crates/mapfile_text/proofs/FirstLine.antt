@@ -40,7 +40,7 @@ place_in_line p h (c ∷ cs) =
           ap (position_or_len p) (line-no c cs off) ∙ ap (λ n. cond (not (p c)) (1 + n) 0) (place_in_line p h cs)
     ]
 
--- what passes first in the first line, or the newline behind it
+-- what passes first in the first line, or the newline after it
 place_or_newline : (p : ℕ → Bool) (xs : List ℕ) → position_or_len p (first_line xs) ≡ position_or_len (λ c. p c || is_newline c) xs
 place_or_newline p [] = refl
 place_or_newline p (c ∷ cs) =
@@ -120,7 +120,7 @@ end_is text rest start end f = f.ends ∙ sym (place_or_newline is_blank rest)
 end_within : (text rest : List ℕ) (start end : ℕ) → Found text rest start end → end ≤ end_of_line rest
 end_within text rest start end f = omega (arith, end_is text rest start end f, within_line is_blank rest)
 
--- the first field of the first line, and those behind it
+-- the first field of the first line, and those after it
 pub field_found : (text rest : List ℕ) (start end : ℕ) → Found text rest start end → 0 < end
     → fields (first_line text) ≡ take end rest ∷ fields (first_line (drop end rest))
 field_found text rest start end f some =
@@ -131,7 +131,7 @@ field_found text rest start end f some =
     ∙ ap (λ x. x ∷ fields (drop end (first_line rest))) (line-take end rest within)
     ∙ ap (λ l. take end rest ∷ fields l) (sym (line-drop end rest within))
 
--- what stands behind the line, wherever in it one begins to look
+-- what comes after the line, wherever in it one begins to look
 pub after_found : (text rest : List ℕ) (start end : ℕ) → Found text rest start end → after_line (drop end rest) ≡ after_line text
 after_found text rest start end f =
     after-drop end rest (end_within text rest start end f) ∙ ap after_line f.from ∙ after-drop start text (start_within text rest start end f)

@@ -28,7 +28,7 @@ unfolding last_digits
 last_zeros zero acc = refl
 last_zeros (suc k) acc = last_zeros k (48 ∷ acc) ∙ zeros_front k acc
 
--- the last digits of a number that has no more are its digits, behind zeros
+-- the last digits of a number that has no more are its digits, after zeros
 last_are : (fuel k n : ℕ) (acc : List ℕ) → n < 16 ^ k → k ≤ fuel → 0 < k
     → last_digits k n acc ≡ replicate (k + length acc - length (digits_onto fuel 16 true n acc)) 48 ++ digits_onto fuel 16 true n acc
 unfolding last_digits

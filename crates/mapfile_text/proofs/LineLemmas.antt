@@ -1,4 +1,4 @@
--- The first line of a text in front of the lines behind it.
+-- The first line of a text before the lines after it.
 use Rattle.std.proofs.Common.{◌≡◌, ℕ, suc, ◌+◌, ◌<◌, ◌≤◌, Bool, true, false, cond, not, eqb, List, [], ◌∷◌, length, filter, Some, None, refl, sym, ap, ◌∙◌, inl, inr, arith, ⊎_elim, lt-ltb}
 use Rattle.std.specs.List.{position, position_or_len, All}
 use Rattle.std.proofs.lemmas.Bool.{cases_lt, le-ltb, ne_eqb}
@@ -29,7 +29,7 @@ position-none p xs e =
 abbrev in_front : ℕ → List (List ℕ) → List Line → List Line
 in_front n fs ls = cond (not (eqb (length fs) 0)) (record { number = n; fields = fs } ∷ ls) ls
 
--- the first line of a text stands in front of the lines behind it
+-- the first line of a text comes before the lines after it
 filled-first : (text : List ℕ) (n : ℕ) → filled_from n text ≡ in_front n (fields (first_line text)) (filled_from (n + 1) (after_line text))
 filled-first text n =
     let end = position_or_len is_newline text in

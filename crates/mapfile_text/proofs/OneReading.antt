@@ -1,4 +1,4 @@
--- A text has one reading: each line has one meaning, and the lines behind it are read from where it ends.
+-- A text has one reading: each line has one meaning, and the lines after it are read from where it ends.
 use Rattle.std.proofs.Common.{◌≡◌, ℕ, ◌+◌, Bool, List, [], ◌∷◌, length, sym, ap, ◌∙◌}
 use Rattle.block_list.specs.declared.status.Status.{Status}
 use Rattle.block_list.specs.declared.block.Block.{Block}

@@ -61,7 +61,7 @@ module _ (h : HeadingLines) (s : MapState) (statuses : List Status) where
       (drop_all (position_of place.part) statuses (not_below (position_of place.part) (length statuses) (λ l. past (inr l)))) in
       rw (front, lines) (drop_all place.went [] (omega arith))
 
-  -- what a part gave and what is left behind it are what was left
+  -- what a part gave and what is left after it are what was left
   pub left_after : (place moved : TextPosition) (next : TextPart) (t : List ℕ) (len room : ℕ)
       → parts_from place.part h s statuses ≡ t ∷ parts_from next h s statuses
       → len ≡ length t
@@ -166,7 +166,7 @@ heading_position State l = refl
 heading_position Columns l = refl
 heading_position (BlockLine pos) l = absurd (omega arith)
 
--- behind a part of the heading are the parts from the next one on
+-- after a part of the heading are the parts from the next one on
 pub heading_goes_on : (h : HeadingLines) (s : MapState) (statuses : List Status) (part next : TextPart) (line : List ℕ)
     → number_of part < 9
     → drop (number_of part) (heading_parts h s) ≡ line ∷ drop (number_of part + 1) (heading_parts h s)

@@ -76,7 +76,7 @@ kept x parts l =
     let more : List (List ℕ) = filter (λ f. not (nat_eq (length f) 0)) parts in
     ap (λ v. cond (not v) (x ∷ more) more) (ne_eqb (length x) 0 (λ e. omega arith))
 
--- a word and a blank behind it
+-- a word and a blank after it
 first_field : (x rest : List ℕ) → AllFrom 33 x → 0 < length x → fields (x ++ 32 ∷ rest) ≡ x ∷ fields rest
 first_field x rest h l =
     ap (filter (λ f. not (nat_eq (length f) 0))) (slice_split_at is_blank x 32 rest (no_blanks x h) refl)

@@ -193,7 +193,7 @@ statuses_are_read mode statuses n h =
     subst (Lists mode (said_from n (flat_map block_line bs)) 0 (not (nat_eq (length statuses) 0)))
     (stretches_covered 0 statuses) (blocks_are_read mode bs n (length statuses) tiles h)
 
--- a status line between comments, and block lines behind them
+-- a status line between comments, and block lines after them
 text_is_read : (mode : Mode) (a b c d : List ℕ) (state : MapState) (listed : Bool) (statuses : List Status) → IsComment a → IsComment b → IsComment c
     → state.pos < 2 ^ 63 → 0 < state.pass → state.pass < 2 ^ 32 → ((n : ℕ) → Lists mode (said_from n d) 0 listed statuses)
     → AreMapLines mode (said_from 1 (a ++ (b ++ state_line state) ++ c ++ d)) state 0 listed statuses

@@ -29,7 +29,7 @@ took_some t rest went room h =
     let g : drop room x ≡ drop (went + room) (t ++ rest) = drop-drop room went (t ++ rest) in
     rw (sym f, sym g) (take-append-drop room x)
 
--- what a piece has that is full, or behind which nothing is left
+-- what a piece has that is full, or after which nothing is left
 pub piece_is : (out rest whole : List ℕ) (n : ℕ) → out ++ rest ≡ whole → length out ≤ n → (length out ≡ n) ⊎ (rest ≡ []) → out ≡ take n whole
 piece_is out rest whole n e l (inl f) = sym (take_at out rest n f) ∙ ap (take n) e
 piece_is out rest whole n e l (inr f) =

@@ -3,7 +3,7 @@ use Rattle.std.proofs.Common.{◌≡◌, ℕ, ◌+◌, ◌<◌, min, List, [], �
 use Rattle.std.proofs.lemmas.List.{nil_from_length}
 use lib.Seq.{drop-drop}
 
--- the bytes that were given, and then those behind them, are those that were left
+-- the bytes that were given, and then those after them, are those that were left
 pub taken-left : (bytes buf : List ℕ) (at n : ℕ) → take n buf ≡ take n (drop at bytes) → drop at bytes ≡ take n buf ++ drop (at + n) bytes
 taken-left bytes buf at n front =
     sym (take-append-drop n (drop at bytes)) ∙ ap (λ l. l ++ drop n (drop at bytes)) (sym front)

@@ -132,7 +132,7 @@ in_part_left : (kind : Left) (d : Disk) (failed : Bool) (call : Call) (f : List 
 in_part_left kind d true call f = left_unanswered kind call d.reads d.firm f
 in_part_left kind d false call f = refl
 
--- The call behind the first k is in progress, if there is one.
+-- The call after the first k is in progress, if there is one.
 pub next_left : (kind : Left) (d : Disk) (ls : List LoggedCall) (k : ℕ) (l : LoggedCall) (f : List ℕ → Option File)
     → k < length ls → l ≡ get_or ls k l
     → left_part kind (call_of l.act) d.reads d.firm f ≡ left_along kind d f (in_progress (drop k (map entry_of ls)))

@@ -18,7 +18,7 @@ use Rattle.option_words.specs.Words.{word}
 use Rattle.option_words.proofs.ResultLemmas.{ok_and_parts}
 use Rattle.option_words.proofs.SpotLemmas.{meaning_spots}
 
--- A reader has read the first i words: what the others bring behind them comes behind what it has, and what breaks there
+-- A reader has read the first i words: what the others bring after them comes after what it has, and what breaks there
 -- breaks all.
 pub record Read (rows : List Row) (words : List (List ℕ)) (i : ℕ) (reader : Reader) : Type 0 where
   pub brings : (items : List Item) (operands : List ℕ) → Bring rows reader.next (i + 1) (drop i words) items operands

@@ -99,7 +99,7 @@ letters_front [] e = cc
 letters_front (c ∷ []) e = cc
 letters_front (c ∷ d ∷ rest) e = (omega arith, eqb-true c 45 (if_letters (nat_eq c 45) _ e))
 
--- behind the hyphen of letters a character begins
+-- after the hyphen of letters a character begins
 pub letters_boundary : (w : List ℕ) → IsUtf8 w → form_of w ≡ Letters → IsCharBoundary w 1
 letters_boundary w utf8 e =
     let front = letters_front w e in

@@ -45,7 +45,7 @@ flag_took row n now next new (Err e) flag h = absurd h
 flag_fault : (row n : ℕ) (rest : Result Brought WordFault) (e : WordFault) → IsFaultOf rest e → IsFaultOf (with_flag row n rest) e
 flag_fault row n rest e h = elim h [ inl memory ↦ inl memory | inr fault ↦ inr (ap (with_flag row n) fault) ]
 
--- behind an option that takes no value
+-- after an option that takes no value
 pub leads_flag : (whole : Result Brought WordFault) (start now next : Reader) (row n : ℕ) (rest : Result Brought WordFault)
     → Leads whole start now (with_flag row n rest) → Took now next (one_item row n None) → Leads whole start next rest
 leads_flag whole start now next row n rest leads flag = record {
@@ -72,7 +72,7 @@ spelled_after : (n at : ℕ) (cs bs : List ℕ) → encode_utf8_all cs ≡ bs �
 spelled_after n at [] bs e some = let none : 0 ≡ length bs = ap (λ (v : List ℕ). length v) e in absurd (omega arith)
 spelled_after n at (c ∷ cs) bs e some = refl
 
--- the value behind a letter, where bytes are left
+-- the value after a letter, if bytes are left
 pub rest_after : (n at : ℕ) (bs : List ℕ) → IsUtf8 bs → 0 < length bs → rest_value n at (chars bs) ≡ Some (record { word = n; from = at })
 rest_after n at bs utf8 some = spelled_after n at (chars bs) bs (encodes-chars bs utf8) some
 
@@ -94,7 +94,7 @@ letter_step rows n all c bs rest utf8 e within =
 pub length_past : (bs rest : List ℕ) (c : ℕ) → bs ≡ encode_utf8 c ++ rest → length bs ≡ len_utf8 c + length rest
 length_past bs rest c e = ap length e ∙ length-append (encode_utf8 c) rest ∙ ap (λ k. k + length rest) (length-encode c)
 
--- no value stands behind a letter where no bytes are left
+-- no value comes after a letter if no bytes are left
 pub none_after : (n at : ℕ) (bs : List ℕ) → nat_eq (length bs) 0 ≡ true → None ≡ rest_value n at (chars bs)
 none_after n at bs none = sym (ap (rest_value n at) (ap chars (nil_from_length bs (eqb-true (length bs) 0 none)) ∙ chars-nil))
 

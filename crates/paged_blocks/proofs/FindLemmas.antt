@@ -118,14 +118,14 @@ first_range pages es k e j from s b p h f u =
     (omega (arith, start_mono (flat pages es) (before pages es k + j + 1) (g + 1) (omega (arith, f.after))))
     f.has
 
--- the block that holds a position is the first that may have a status at or behind it
+-- the block that holds a position is the first that may have a status at or past it
 pub bare_start : (pages : List (List Block)) (es : List PageEntry) (k j from : ℕ) (s : Status) → IsHeld pages es (from + 1) k j
     → IsBare (flat_map covered (flat pages es)) s from (start_of (flat pages es) (before pages es k + (j - 1)))
 bare_start pages es k j from s h =
     let z : before pages es k + (j - 1) ≡ before pages es k + j - 1 = omega (arith, h.block) in
     record { bare = λ x l u q. absurd (omega (arith, ap (λ n. start_of (flat pages es) n) z, h.place.before (omega (arith, h.block)))) }
 
--- the page of a later entry lies behind a position
+-- the page of a later entry lies past a position
 pub reaches_page : (pages : List (List Block)) (es : List PageEntry) (k j from m : ℕ) (e : PageEntry) → IsHeld pages es (from + 1) k j
     → k < m → from < start_of (flat pages es) (before pages es m + 0 + 1)
 reaches_page pages es k j from m e h l =
@@ -206,7 +206,7 @@ last_range pages es k e j to s b p h l f u =
     found_range_down (flat pages es) (before pages es k + i) to s b p.tiled p.merged
     (page_index pages es k i e h (omega (arith, f.below))) (read_in_page pages es k i e b h f.read) (u i f.below) f.has
 
--- behind the blocks that begin before a position there is nothing below it
+-- after the blocks that begin before a position there is nothing below it
 pub bare_end : (pages : List (List Block)) (es : List PageEntry) (k j to : ℕ) (s : Status) → IsHeld pages es to k j
     → IsBare (flat_map covered (flat pages es)) s (start_of (flat pages es) (before pages es k + j)) to
 bare_end pages es k j to s h = record { bare = λ x l u q. absurd (omega (arith, h.place.reaches)) }
@@ -252,7 +252,7 @@ held_has pages es k j x e s p h q =
           ∙ ap (λ (y : Block). y.status) (get_or_default (flat pages es) (before pages es k + (j - 1)) d no_block g) ∙ v;
     }
 
--- the block that holds a position ends behind it, and so do the blocks of later pages
+-- the block that holds a position ends past it, and so do the blocks of later pages
 pub held_after : (pages : List (List Block)) (es : List PageEntry) (k j from : ℕ) → IsHeld pages es (from + 1) k j
     → from < start_of (flat pages es) (before pages es k + (j - 1) + 1)
 held_after pages es k j from h =
@@ -293,7 +293,7 @@ held_end pages es k j to e s p h q =
     let z : to - 1 + 1 ≡ to = omega (arith, begun_front pages es k j to k h (omega arith)) in
     held_has pages es k j (to - 1) e s p (rw z h) q
 
--- behind the blocks of a whole page stand those of the next
+-- after the blocks of a whole page come those of the next
 pub whole_page : (pages : List (List Block)) (es : List PageEntry) (k : ℕ) (e : PageEntry) (len : ℕ) → k < length es
     → len ≡ length (blocks_of pages (get_or es k e)) → before pages es k + len ≡ before pages es (k + 1)
 whole_page pages es k e len h q = omega (arith, before_more pages es k e h)

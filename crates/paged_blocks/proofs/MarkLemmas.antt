@@ -177,7 +177,7 @@ front_kept bs k i block b e t m p q o z l =
           kept j.same;
     }
 
--- the map goes on behind such a block
+-- the map goes on after such a block
 pub kept_within : (bs : List Block) (k i : ℕ) (block b : Block) → i ≡ k + 1 → IsTiled bs → IsPlace bs block.pos i
     → b ≡ get_or bs k b → block.pos - b.pos ≡ b.size → block.pos < length (flat_map covered bs) → i < length bs
 kept_within bs k i block b e t p q z l =
@@ -218,7 +218,7 @@ holding_of bs k j at b e t p q =
     let u : at + 1 ≤ start_of bs (k + 1) = rw e at p.reaches in
     record { index = h; tile = r; begun = omega (arith, r.begins); beyond = omega (arith, r.ends) }
 
--- the tiles behind a block that holds a position
+-- the tiles after a block that holds a position
 tiles_after : (bs : List Block) (k at mid : ℕ) (b : Block) → IsTiled bs → IsHolding bs k at b → mid ≡ b.pos + b.size
     → AreTiles mid (drop (k + 1) bs) (max at (length (flat_map covered bs)))
 tiles_after bs k at mid b t f e =
@@ -273,7 +273,7 @@ back_same bs k j block b e t m p q some s =
           ∙ ap (λ r. covered block ++ r) (sym part));
     }
 
--- the block behind stays where it begins as another ends
+-- the block after another stays if it begins as that one ends
 pub back_kept : (bs : List Block) (k j : ℕ) (block b : Block) → j ≡ k + 1 → IsTiled bs → IsMerged bs
     → IsPlace bs (block.pos + block.size + 1) j → b ≡ get_or bs k b → 0 < block.size → (b.status ≡ block.status → ⊥)
     → b.pos + b.size - (block.pos + block.size) ≡ b.size → IsJoinedBack bs block k None block
@@ -342,12 +342,12 @@ one_at_most : (rest : Option Block) → length (option_to_list rest) ≤ 1
 one_at_most None = omega arith
 one_at_most (Some b) = omega arith
 
--- the blocks that come in, one part behind the other
-pub new_blocks : (none one two three : List Block) (before after : Option Block) (whole : Block) → none ≡ []
-    → one ≡ none ++ option_to_list before → two ≡ one ++ whole ∷ [] → three ≡ two ++ option_to_list after
-    → three ≡ option_to_list before ++ whole ∷ [] ++ option_to_list after
-new_blocks none one two three before after whole z a b c =
-    c ∙ ap (λ r. r ++ option_to_list after) (b ∙ ap (λ r. r ++ whole ∷ []) (a ∙ ap (λ r. r ++ option_to_list before) z))
+-- the blocks that come in, one part after the other
+pub new_blocks : (none one two three : List Block) (before past : Option Block) (whole : Block) → none ≡ []
+    → one ≡ none ++ option_to_list before → two ≡ one ++ whole ∷ [] → three ≡ two ++ option_to_list past
+    → three ≡ option_to_list before ++ whole ∷ [] ++ option_to_list past
+new_blocks none one two three before past whole z a b c =
+    c ∙ ap (λ r. r ++ option_to_list past) (b ∙ ap (λ r. r ++ whole ∷ []) (a ∙ ap (λ r. r ++ option_to_list before) z))
 
 -- how many blocks come in
 pub record IsFew (new : List Block) (after : Option Block) : Type 0 where

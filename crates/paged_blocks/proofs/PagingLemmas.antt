@@ -48,7 +48,7 @@ before_more pages es i d h =
 pub before_all : (pages : List (List Block)) (es : List PageEntry) (i : ℕ) → length es ≤ i → before pages es i ≡ length (flat pages es)
 before_all pages es i h = ap (λ r. length (flat pages r)) (take_all i es h)
 
--- the entry behind one whose page ends where the map goes on
+-- the entry after one whose page ends where the map goes on
 pub next_entry : (pages : List (List Block)) (es : List PageEntry) (k n : ℕ) (d : PageEntry) → k < length es
     → length (blocks_of pages (get_or es k d)) ≤ n → before pages es k + n < length (flat pages es) → k + 1 < length es
 next_entry pages es k n d h l u =

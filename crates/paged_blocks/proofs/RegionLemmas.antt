@@ -182,7 +182,7 @@ region_few pages es r p i g =
       rw z at (pages_hold pages es r.first (r.past - r.first) p (omega (arith, i.order, i.within))),
     )
 
--- a region with the page behind it, and with the page in front of it
+-- a region with the page after it, and with the page before it
 pub next_same : (pages : List (List Block)) (es : List PageEntry) (front blocks : List Block) (k : ℕ) (d : PageEntry) → k < length es
     → front ++ (blocks ++ blocks_of pages (get_or es k d)) ++ flat pages (drop (k + 1) es)
     ≡ front ++ blocks ++ flat pages (drop k es)

@@ -28,7 +28,7 @@ rows_length [] ss end e = refl
 rows_length (p ∷ ps) [] end e = absurd (omega arith)
 rows_length (p ∷ ps) (s ∷ ss) end e = ap suc (rows_length ps ss end (omega arith))
 
--- one more block behind the last, which ends where it begins
+-- one more block after the last, which ends where it begins
 pub rows_push : (low top : ℕ) (ps : List ℕ) (ss : List Status) (end : ℕ) (b : Block) → length ss ≡ length ps
     → AreTiles low (rows ps ss end ++ b ∷ []) top
     → rows (ps ++ b.pos ∷ []) (ss ++ b.status ∷ []) (b.pos + b.size) ≡ rows ps ss end ++ b ∷ []
@@ -79,7 +79,7 @@ rows_range ps ss end from to e h =
     ∙ rows_take (drop from ps) (drop from ss) end n (omega (arith, length-drop from ps, length-drop from ss))
     ∙ ap (λ r. rows (slice_range ps from to) (slice_range ss from to) (first_or r end)) (drop-drop n from ps ∙ ap (λ x. drop x ps) z)
 
--- rows behind others, of which the last ends where they begin
+-- rows after others, of which the last ends where they begin
 pub rows_join : (low top : ℕ) (ps : List ℕ) (ss : List Status) (end : ℕ) (qs : List ℕ) (ts : List Status) (last : ℕ)
     → length ss ≡ length ps → length ts ≡ length qs → 0 < length qs → AreTiles low (rows ps ss end ++ rows qs ts last) top
     → rows (ps ++ qs) (ss ++ ts) last ≡ rows ps ss end ++ rows qs ts last
@@ -272,7 +272,7 @@ pub row_third : (none one two front new : List Block) (from to m : ℕ) → none
 row_third none one two front new from to m z a b k r =
     rw (touched_blocks none one two (two ++ slice_range front to m) front new front from to m z a b k refl) r
 
--- a page with some blocks of another behind its own
+-- a page with some blocks of another after its own
 pub copied_rows : (own other : Inside) (self page : List Block) (from to : ℕ) (xs : List ℕ) (ks : List KeptStatus) (end : ℕ)
     → rows_of own ≡ self → IsPage own → rows_of other ≡ page → IsPage other → from < to → to ≤ length page
     → xs ≡ other.starts.items → ks ≡ other.statuses.items → end ≡ first_or (drop to other.starts.items) other.end

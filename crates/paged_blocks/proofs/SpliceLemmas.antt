@@ -232,7 +232,7 @@ overwritten p q self new from v k w r o =
     λ h. over_end r.low r.end ps ss p.end q.end from new e fits t o.before o.past (rw v h) in
     rw (a, b) (rows_own r.low r.end q.end bs last r.tiled)
 
--- the first of the blocks behind an edit
+-- the first of the blocks after an edit
 pub begins_new : (bs new : List Block) (from to : ℕ) (b d : Block) → from ≡ 0 → slice_get new 0 ≡ Some b
     → (get_or (spliced bs from to new) 0 d).pos ≡ b.pos
 begins_new bs [] from to b d e g = cc

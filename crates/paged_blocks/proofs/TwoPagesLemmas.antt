@@ -36,7 +36,7 @@ same_back : (xs ys us vs : List Block) → length xs ≡ length us → xs ++ ys 
 same_back xs ys us vs n e =
     sym (drop_at xs ys (length us) n) ∙ ap (λ r. drop (length us) r) e ∙ drop_at us vs (length us) refl
 
--- what a page that was written anew leaves of the others: those in front of it, the next one, and those behind that
+-- what a page that was written anew leaves of the others: those before it, the next one, and those after that
 pub record IsNextKept (pages : List (List Block)) (es : List PageEntry) (k l : ℕ) (page : List Block)
     (new : List (List Block)) (named : List PageEntry) : Type 0 where
   pub len : length named ≡ length es

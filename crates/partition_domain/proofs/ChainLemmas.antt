@@ -1,4 +1,4 @@
--- One more record of a chain: what it adds, and when a chain goes on behind records.
+-- One more record of a chain: what it adds, and when a chain goes on after records.
 use Rattle.std.proofs.Common.{◌≡◌, ℕ, ◌-◌, ◌<◌, ◌≤◌, Bool, true, false, cond, not, ◌&&◌, nat_lt, List, [], ◌∷◌, ◌++◌, length, slice_get, Option, Some, None, refl, sym, ap, ◌∙◌, arith, append_assoc, append-nil}
 use Rattle.std.specs.List.{list_all}
 use Rattle.std.specs.Option.{option_and_then}
@@ -43,7 +43,7 @@ are_more main chain r are one =
     let parts = and_parts front (list_all is_record chain) are in
     and_from front (list_all is_record (chain ++ r ∷ [])) parts.0 (all_more is_record chain r parts.1 one)
 
--- the item behind a list
+-- the item after a list
 pub item_after : {X : Type 0} (xs : List X) (x : X) → slice_get (xs ++ x ∷ []) (length xs) ≡ Some x
 item_after [] x = refl
 item_after (y ∷ xs) x = item_after xs x
@@ -57,7 +57,7 @@ pub lacks : (base : ℕ) (chain : List (List ℕ)) (k : ℕ) → length (logical
     → is_lacking base chain k ≡ true
 lacks base chain k few = le-leb (length (logical_partitions base chain)) (k - 5) few
 
--- the record behind a chain that goes on
+-- the record after a chain that goes on
 pub next_on : (main : List ℕ) (chain : List (List ℕ)) (k : ℕ) (e : TableEntry) → are_records main chain ≡ true
     → is_primary k ≡ false → extended_entry main ≡ Some e → list_all links_on chain ≡ true
     → is_lacking e.first chain k ≡ true → length chain < 128

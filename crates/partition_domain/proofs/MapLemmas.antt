@@ -14,7 +14,7 @@ all_non_tried : (none : List Status) (end : ℕ) → none ≡ [] → extended no
 all_non_tried none end is =
     ap (λ (m : List Status). extended m end) is ∙ ap (λ (n : ℕ). replicate n NonTried) (zero_less end)
 
--- where the partition ends, or behind that the input
+-- where the partition ends, or past that the input
 past_part : (length_ start size : ℕ) → max length_ (start + size) - (start + size) ≡ length_ - (start + size)
 past_part length_ start size = omega arith
 

@@ -142,7 +142,7 @@ turn_stopped k main c chain e old new near more t = λ s.
 
 -- ---- the search by turns
 
--- how far a search has come behind the first record: it leads on
+-- how far a search has come after the first record: it leads on
 pub record Searching (k : ℕ) (main : List ℕ) (c : Chain) (old new : SourceState) : Type 0 where
   pub reads : List Reading
   pub gained : Gained reads old new

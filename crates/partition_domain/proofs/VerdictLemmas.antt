@@ -1,4 +1,4 @@
--- A disk brings one answer at most: records bring one at most, behind them nothing is read, and so the same was read.
+-- A disk brings one answer at most: records bring one at most, after them nothing is read, and so the same was read.
 use Rattle.std.proofs.Common.{◌≡◌, ◌⊎◌, ℕ, zero, suc, ◌-◌, ◌≤◌, Bool, true, false, cond, not, ◌&&◌, nat_le, nat_lt, List, [], ◌∷◌, ◌++◌, length, slice_get, Option, Some, None, is_some, refl, sym, ap, ◌∙◌, inl, inr, subst, arith, append_assoc, append-nil, length-append}
 use Rattle.std.specs.List.{list_all}
 use Rattle.std.specs.Option.{option_and_then}
@@ -34,13 +34,13 @@ unprotected main chain are =
     let parts = and_parts (is_record main && not (is_protected main)) (list_all is_record chain) are in
     not-true (is_protected main) (and_parts (is_record main) (not (is_protected main)) parts.0).1
 
--- ---- the answers behind records that are records
+-- ---- the answers after records that are records
 
 -- the partition is found
 abbrev found : Option Refusal
 found = None
 
--- what they bring, and that nothing is read behind them
+-- what they bring, and that nothing is read after them
 record Is (e : Option Refusal) (k : ℕ) (records : List (List ℕ)) (brought : Option Refusal) : Type 0 where
   all : list_all is_record records ≡ true
   is : e ≡ brought
@@ -138,7 +138,7 @@ module _ (k : ℕ) (main : List ℕ) (chain : List (List ℕ)) where
       ends = ends;
     }
 
--- nothing stands behind a list
+-- nothing is past a list's end
 past : (ps : List Partition) (n : ℕ) → length ps ≤ n → slice_get ps n ≡ None
 past [] n few = refl
 past (p ∷ ps) zero few = absurd (omega (arith, few))
@@ -232,7 +232,7 @@ long_chain_is k records h =
     (and_right (links && is_lacking h.e.first chain k) (nat_lt (length chain) chain_limit)
     (le-ltb (length chain) chain_limit (omega (arith, h.full))))))
 
--- ---- the answers behind a last record that isn't one
+-- ---- the answers after a last record that isn't one
 
 abbrev refusal : (sector : ℕ) → (last : List ℕ) → Option Refusal
 refusal sector last = cond (is_whole_sector last) (Some (NoSignature sector)) (Some (Unread sector))

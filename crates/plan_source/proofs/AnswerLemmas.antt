@@ -128,7 +128,7 @@ read_answers len test reference es name opened opens faults losses pos asked buf
       lost = tt;
     }
 
--- the same where the state behind it is told otherwise
+-- the same if the state after it is told otherwise
 pub read_answers_by : {E : Type 0} (len : ℕ) (test : List Status) (reference : ℕ) (es es' es'' : List ReadEntry)
     (name : List ℕ) (was is : Bool) (opens faults losses pos asked : ℕ) (buf buf' : List ℕ) (got : Got) (e : ReadEntry)
     → got ≡ got_at len test pos asked

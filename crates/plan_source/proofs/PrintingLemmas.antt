@@ -138,7 +138,7 @@ printed_part s s' e p unput =
       };
     }
 
--- and so it is behind the lines of a journal,
+-- and so it is after the lines of a journal,
 module _ (start now now' : ConsoleState) (es : List ReadEntry) (e : ReadEntry) (lost : Option PlanLoss)
     (h : HasPrinted start now es None) (one : HasPrinted now now' (e ∷ []) lost) where
   tells_now : IsTrue start.tells → IsTrue now.tells

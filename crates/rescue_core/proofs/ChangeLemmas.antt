@@ -157,7 +157,7 @@ change_before s m r x a to =
     Between apart (a.trims is.0 is.1) (a.between is.0 x is.1 is.2 to) is.3)
     (scraped_before m.mode r.pos (with_rest s m r) x (omega (arith, size_rest s m r a, a.there)) a.back to)
 
--- and behind its position
+-- and past its position
 change_past : (s : Setting) (m : Machine) (r : Reading) (x : ℕ) → Asked s m r → is_failed r ≡ true → r.pos ≤ x
     → Change s m r (scraped m.mode r.pos (with_rest s m r)) x
 change_past s m r x a failed from =
@@ -189,7 +189,7 @@ changes s m e x ok order request by =
     (cases_lt x r.pos))
     (λ good. change_good s m r x a good)
 
--- behind a failed read at a range's back all that lies between its front and its back is for scraping
+-- after a failed read at a range's back all that lies between its front and its back is for scraping
 pub change_between : (s : Setting) (m : Machine) (e : Event) (low x : ℕ) → IsSensible s → IsInOrder s m
     → IsRequest s m e.reading.pos (e.reading.pos + e.reading.asked) → StepsBy s m e → is_failed e.reading ≡ true
     → m.mode ≡ Tail low → low ≤ x → x < e.reading.pos → Has (step s m e).map NonScraped x

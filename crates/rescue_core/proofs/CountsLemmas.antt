@@ -1,4 +1,4 @@
--- The counts of a run behind a read, as they are looked up.
+-- The counts of a run after a read, as they are looked up.
 use Rattle.std.proofs.Common.{◌≡◌, ℕ, zero, suc, ◌+◌, ◌-◌, ◌<◌, ◌≤◌, ◌^◌, min, Bool, true, false, not, ◌&&◌, ◌||◌, if◌then◌else◌, List, [], ◌∷◌, length, Option, Some, None, refl, sym, ap, subst, ◌∙◌, arith, ⊎_elim}
 use Rattle.std.specs.List.{list_any, slice_get, slice_index_or}
 use Rattle.std.proofs.Math.Path.{fun_ext}
@@ -35,7 +35,7 @@ use Rattle.rescue_core.specs.Turning.{stepped}
 use Rattle.rescue_core.specs.TurnParts.{end_met}
 use Rattle.rescue_core.proofs.StageLemmas.{running_sensible}
 
--- a test that non-tried positions don't pass, at a position of a map or behind it
+-- a test that non-tried positions don't pass, at a position of a map or past it
 passes_at : (test : Status → Bool) (map : List Status) (x : ℕ) → test NonTried ≡ false
     → test (slice_index_or map x NonTried) ≡ passes test (slice_get map x)
 passes_at test [] x none = none
@@ -191,7 +191,7 @@ goes_at set p k q p' k' q' old old' new e f g h c =
     subst (λ (p : ℕ). GoesOut set p k' q' old' new) e (subst (λ (k : ℕ). GoesOut set p k q' old' new) f
     (subst (λ (q : ℕ). GoesOut set p k q old' new) g (subst (λ (o : Count). GoesOut set p k q o new) h c)))
 
--- The counts behind the marks of a read, from those in front of it.
+-- The counts after the marks of a read, from those before it.
 pub marked_is : (r : RunState) (e : Event) (phase : Phase) (request : Request) (turn : Turn) (live : Live)
     (map : List Status) (counts got : Counts) → HasCounts r counts → IsMarkedRead r e phase request turn live map
     → got.rescued ≡ min (counts.rescued + turn.kept) (2 ^ 64 - 1)

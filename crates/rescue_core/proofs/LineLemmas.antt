@@ -1,7 +1,7 @@
 -- The text of a line, part by part.
 use Rattle.std.proofs.Common.{◌≡◌, ℕ, List, ◌++◌, sym, ap, ◌∙◌, append_assoc}
 
--- parts that were added one behind another
+-- parts that were added one after another
 pub parts_join : (end last front t u v w x y z s r a b c d e f g h i j k l m n : List ℕ) → t ≡ front ++ a ++ b
     → u ≡ t ++ c ++ d → v ≡ u ++ e ++ f → w ≡ v ++ g ++ h → x ≡ w ++ i ++ j → y ≡ x ++ k ++ l → z ≡ y ++ m
     → s ≡ z ++ n → r ≡ s ++ (end ++ last)

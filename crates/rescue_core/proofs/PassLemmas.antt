@@ -29,7 +29,7 @@ passes_in-are s Trimming number = refl
 passes_in-are s Scraping number = refl
 passes_in-are s Retrying number = refl
 
--- some passes of a phase, and those behind it
+-- some passes of a phase, and those after it
 abbrev some_from : Setting → Phase → (number few : ℕ) → List Pass
 some_from s phase number few = map (numbered phase) (range_with_len number few) ++ passes_after s phase
 
@@ -77,12 +77,12 @@ second_of s (a ∷ b ∷ ps) p chain is =
     let same : b ≡ p = same_Some b p is in
     subst (λ (q : Pass). passes_from s q.phase q.number ≡ q ∷ ps) same (sym chain.1.0)
 
--- the pass behind a run's, and those that follow it
+-- the pass after a run's, and those that follow it
 pub next_passes : (s : Setting) (phase : Phase) (number : ℕ) (p : Pass) → slice_get (passes_from s phase number) 1 ≡ Some p
     → passes_from s p.phase p.number ≡ p ∷ drop 2 (passes_from s phase number)
 next_passes s phase number p is = second_of s (passes_from s phase number) p (chain_in s phase number (chain_after s phase)) is
 
--- a pass behind one of a phase is of a phase that isn't off
+-- a pass after one of a phase is of a phase that isn't off
 pub record IsOn (s : Setting) (phase : Phase) (p : Pass) : Type 0 where
   pub trims : p.phase ≡ Trimming → (phase ≡ Trimming) ⊎ (s.trims ≡ true)
   pub scrapes : p.phase ≡ Scraping → (phase ≡ Scraping) ⊎ (s.scrapes ≡ true)

@@ -62,7 +62,7 @@ not_asked false change s = refl
 pub unchanged : (domain : ℕ → Bool) (change : Status → Status) (map : List Status) → IsChanged domain (if_asked false change) map map
 unchanged domain change map = record { size = refl; each = λ x s h. rw (not_asked (domain x) change s) h }
 
--- one change behind another
+-- one change after another
 both_asked : (b : Bool) (f g h : Status → Status) → ((s : Status) → g (f s) ≡ h s) → (s : Status)
     → if_asked b g (if_asked b f s) ≡ if_asked b h s
 both_asked true f g h e s = e s

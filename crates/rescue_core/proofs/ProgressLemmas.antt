@@ -1,4 +1,4 @@
--- Where a run stands behind a read, by the parts of its place.
+-- Where a run is after a read, by the parts of its place.
 use Rattle.std.proofs.Common.{◌≡◌, ℕ, ◌+◌, ◌-◌, min, Bool, length, cond}
 use Rattle.transfer_token.specs.declared.token.Request.{Request}
 use Rattle.rescue_rules.specs.declared.phase.Phase.{Phase}

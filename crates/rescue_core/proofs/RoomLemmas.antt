@@ -177,7 +177,7 @@ takes_none domain map from to others is = record {
   total = omega arith;
 }
 
--- what is spare behind some of the changes, by how many ranges are left
+-- what is spare after some of the changes, by how many ranges are left
 abbrev pub Spends : (domain : ℕ → Bool) → (old : List Status) → (from : Status) → (at before now : ℕ) → Type 0
 Spends domain old from at before now =
     (ranges : ℕ) → HasRanges (IsMarked domain old from) 0 ranges
@@ -187,7 +187,7 @@ pub spends_none : (domain : ℕ → Bool) (old : List Status) (from : Status) (b
     → Spends domain old from 0 before before
 spends_none domain old from before = λ ranges h. (ranges, h, omega arith)
 
--- of a domain, the positions in front of one have a status replaced; those behind it are as they were
+-- of a domain, the positions before one have a status replaced; those past it are as they were
 module _ (domain : ℕ → Bool) (from to : Status) (at : ℕ) (old mid : List Status)
     (i : IsChanged (below domain at) (replaced from to) old mid) where
   marked_ahead : (x : ℕ) → at ≤ x → IsMarked domain old from x → IsMarked domain mid from x

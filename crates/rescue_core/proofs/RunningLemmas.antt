@@ -1,4 +1,4 @@
--- A run stands behind an event of its request as between any turns.
+-- After an event of its request a run is as between any turns.
 use Rattle.std.proofs.Common.{◌≡◌, ◌⊎◌, ℕ, ◌+◌, ◌-◌, ◌*◌, ◌<◌, ◌≤◌, min, Bool, true, false, ◌||◌, not, nat_lt, if◌then◌else◌, ◌∷◌, [], length, refl, sym, ap, subst, ◌∙◌, arith, inl, inr, ⊎_elim}
 use Rattle.std.specs.List.{slice_get}
 use Rattle.std.proofs.lemmas.Bool.{cases_lt, cond_both, cond-true, and_from, and_parts, lt-ltb, not-false, true≢false}
@@ -26,7 +26,7 @@ use Rattle.rescue_core.proofs.ChangeLemmas.{Kept, Missed, CutOff, Between, Stand
 use Rattle.rescue_core.proofs.TurnLemmas.{wanted_in}
 use Rattle.rescue_core.proofs.StageLemmas.{running_sensible}
 
--- the cursor behind an event lies within the map
+-- the cursor after an event lies within the map
 cursor_within : (s : Setting) (m : Machine) (e : Event) → e.reading.pos + e.reading.asked ≤ length m.map
     → cursor_after s m e ≤ length m.map
 cursor_within s m e there =
@@ -153,7 +153,7 @@ led_lead r room e x t lead live left far =
     (cases_lt x e.reading.pos))
     far
 
--- and at its back nothing before that range's front, nor behind a failed read what lies between them.
+-- and at its back nothing before that range's front, nor after a failed read what lies between them.
 led_tail : (r : RunState) (room : ℕ) (e : Event) (low x : ℕ) → Trims r room e → r.machine.mode ≡ Tail low
     → is_live (setting_in r) r.machine x ≡ true → Has (step (setting_in r) r.machine e).map NonTrimmed x → IsUntrimmed r e x
     → (x < low) ⊎ ((not (is_failed e.reading) ≡ false) × (x < e.reading.pos)) → ⊥
@@ -207,7 +207,7 @@ led_steps r room e heard i request by phase up x below live has =
     (subst (λ (n : ℕ). x < led_from (mode_after m.mode (not (is_failed r')) more r'.pos (r'.pos + r'.asked)) n) cursor
     (subst (λ (n : TrimMode). x < led_from n (step s m e).cursor) mode below))
 
--- a run stands behind an event of its request as between any turns
+-- after an event of its request a run is as between any turns
 pub running_steps : (r : RunState) (room : ℕ) (e : Event) (heard : Bool) → IsRunning r room
     → IsRequest (setting_in r) r.machine e.reading.pos (e.reading.pos + e.reading.asked)
     → length e.reading.given ≤ e.reading.asked → IsRunning (stepped r e heard) room

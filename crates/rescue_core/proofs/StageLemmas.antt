@@ -85,7 +85,7 @@ never_trims r room e t gone low at =
     = t.running.trims (sym (ap (λ (p : Pass). p.phase) t.running.pass) ∙ trims) in
     never_asked r room e t (subst (λ (phase : Phase). IsGone (taken phase) r) (sym trims) (gone on))
 
--- what is left of the domain behind an event was left before
+-- what is left of the domain after an event was left before
 live_before : (r : RunState) (e : Event) (x : ℕ) → is_live (setting_in r) (step (setting_in r) r.machine e) x ≡ true
     → is_live (setting_in r) r.machine x ≡ true
 live_before r e x live = live_was (setting_in r) r.machine (step (setting_in r) r.machine e) e.reading x refl live
@@ -168,7 +168,7 @@ known_turns reached request (Ok turn) r r' room o is asks t h known =
 known_turns reached request (Err stop) r r' room o is asks t h known =
     known_halted reached request stop r r' room o is asks h known
 
--- a pass behind the first one
+-- a pass after the first one
 next_pass : (ps : List Pass) (p : Pass) → slice_get ps 1 ≡ Some p → (c : Pass) × (ps ≡ c ∷ p ∷ drop 2 ps)
 next_pass [] p is = absurd (cc)
 next_pass (c ∷ []) p is = absurd (cc)

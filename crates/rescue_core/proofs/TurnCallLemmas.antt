@@ -67,7 +67,7 @@ pub save_named : (r : RunState) (due : Bool) (at : SiteCall) → IsNameIn at (sa
 save_named r due at named =
     named_there r.names due at (save_calls (names_in r.names) (text_of r.line (snapshot_of r.machine))) named
 
--- a move makes its save behind its write
+-- a move makes its save after its write
 pub move_makes : (r : RunState) (e : Event) (heard : Bool) (a b c : SiteState)
     → limit_met (setting_in r) (step (setting_in r) r.machine e) ≡ None → Keeps a b
     → Makes (write_calls (setting_in r) e.reading) a b → Makes (save_if (stepped r e heard) (is_timely r.machine e)) b c

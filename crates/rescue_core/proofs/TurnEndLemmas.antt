@@ -1,4 +1,4 @@
--- A turn behind its marks: what is said and saved then.
+-- A turn after its marks: what is said and saved then.
 use Rattle.std.proofs.Common.{◌≡◌, Bool, true, false, if◌then◌else◌, List, [], ◌∷◌, Some, None, is_some, refl, sym, ap, subst, ◌∙◌}
 use Rattle.crash_site.specs.declared.site.SiteCall.{SiteCall}
 use Rattle.crash_site.specs.Calls.{Call}
@@ -32,7 +32,7 @@ SaysOf r due heard heard' console console' =
     SpeaksOn (out_pieces (if due then report_text (phase_front r.machine.shown) (report_of (setting_in r) r.machine) ∷ []
     else [])) heard heard' console console'
 
--- A turn up to its marks, between these two states, behind which the line that is due was said, and the run was heard
+-- A turn up to its marks, between these two states, after which the line that is due was said, and the run was heard
 -- or not.
 pub record Says (request : Request) (got : Advanced) (r r1 r2 : RunState) (o : Across) (site1 : SiteState) : Type 0 where
   pub advances : Advances request got r r1 o.source o.source' o.site site1 o.clock o.clock'

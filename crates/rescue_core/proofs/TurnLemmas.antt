@@ -1,4 +1,4 @@
--- What holds of a run's request, and the parts of the run behind an event of it.
+-- What holds of a run's request, and the parts of the run after an event of it.
 use Rattle.std.proofs.Common.{◌≡◌, ℕ, ◌+◌, ◌-◌, ◌*◌, ◌^◌, ◌<◌, ◌≤◌, min, max, Bool, true, false, ◌&&◌, if◌then◌else◌, List, [], ◌∷◌, length, Option, Some, None, refl, sym, ap, ◌∙◌, arith}
 use Rattle.std.specs.List.{slice_get, slice_index_or}
 use Rattle.std.proofs.Math.Nat.{div-mul-le_self, mul-le-mul_right}
@@ -109,7 +109,7 @@ wanted_in s m map phase n k pos x wanted pass =
     (taken_in m.passes phase n k (slice_get map x) (slice_get m.map pos)
     (and_parts (is_live s m pos) (has_taken m.passes (slice_get m.map pos)) wanted).1 pass)
 
--- a run behind an event, by its parts
+-- a run after an event, by its parts
 pub run_steps : (settings : Settings) (domain : List Range) (names : Option MapNames) (line : List ℕ) (map map' : List Status)
     (phase : Phase) (progress progress' : Progress) (tally tally' : Tally) (heard : Bool) (e : Event)
     → let r : RunState = run_at settings domain names line map phase progress tally heard in

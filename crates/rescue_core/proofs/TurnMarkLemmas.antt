@@ -1,4 +1,4 @@
--- The map behind a read, by the parts that the read was cut into.
+-- The map after a read, by the parts that the read was cut into.
 use Rattle.std.proofs.Common.{◌≡◌, ℕ, ◌+◌, ◌-◌, List, [], ◌++◌, take, drop, ap, ◌∙◌, subst, arith, append-nil}
 use Rattle.std.proofs.lemmas.List.{take-append-drop}
 use Rattle.block_list.specs.declared.block.Range.{Range}

@@ -36,7 +36,7 @@ use Rattle.rescue_core.proofs.TurnLemmas.{Fits, request_fits, wanted_in, run_ste
 use Rattle.rescue_core.proofs.RunningLemmas.{running_steps}
 use Rattle.rescue_core.proofs.StageLemmas.{running_sensible}
 
--- the parts of a run before a turn, and behind it
+-- the parts of a run before a turn, and after it
 pub record Parts : Type 0 where
   pub settings : Settings
   pub domain : List Range
@@ -64,7 +64,7 @@ parts_of T statuses r = record {
 abbrev pub run_of : Parts → RunState
 run_of p = run_at p.settings p.domain p.names p.line p.map p.phase p.progress p.tally p.heard
 
--- the parts behind the marks of a turn
+-- the parts after the marks of a turn
 abbrev pub parts_after : Parts → List Status → Progress → Tally → Parts
 parts_after p map progress tally = record p { map = map; progress = progress; tally = tally }
 
@@ -75,7 +75,7 @@ pub record Begins (p : Parts) (r : RunState) (room : ℕ) (request : Request) : 
   pub places : HasPlaces r.settings (covers r.domain)
   pub asks : IsRequest (setting_in r) r.machine request.pos (request.pos + request.len)
 
--- a turn that found room, and goes on behind its read
+-- a turn that found room, and goes on after its read
 pub record Does (p : Parts) (request : Request) (got : Gathered) (map' : List Status) (progress' : Progress) (tally' : Tally)
     (counts counts' : Counts) (advanced : Advanced) : Type 0 where
   pub old : List Status
@@ -158,7 +158,7 @@ read_of p request got source source' site site' clock clock' g =
       end = sym (ap (λ (t : Turn). t.ended) turn);
     }
 
--- the run behind the marks of a turn is the one behind its event
+-- the run after the marks of a turn is the one after its event
 pub does_step : (p : Parts) (r : RunState) (room : ℕ) (request : Request) (got : Gathered) (map' : List Status)
     (progress' : Progress) (tally' : Tally) (counts counts' : Counts) (advanced : Advanced) (source source' : SourceState)
     (site site' : SiteState) (clock clock' : ClockState) → Begins p r room request

@@ -1,4 +1,4 @@
--- How intervals are made: one behind the others, and cut to a range.
+-- How intervals are made: one after the others, and cut to a range.
 use Rattle.std.proofs.Common.{◌≡◌, ℕ, ◌+◌, ◌<◌, ◌≤◌, Bool, true, false, cond, ◌&&◌, ◌||◌, nat_lt, nat_le, List, [], ◌∷◌, ◌++◌, min, max, refl, arith, subst, ⊎_elim}
 use Rattle.std.specs.List.Retain.{RetainsInTurn}
 use Rattle.std.proofs.lemmas.Bool.{cases_lt, false_from_ne_true}
@@ -36,7 +36,7 @@ end_below_push : (at : ℕ) (parts : List Range) (range : Range) → EndBelow at
 end_below_push at [] range b l = (l, tt)
 end_below_push at (part ∷ parts) range b l = (b.0, end_below_push at parts range b.1 l)
 
--- the intervals have what a set has in front of a position; where the set goes on there or behind it, a gap lies between
+-- the intervals have what a set has before a position; if the set goes on there or past it, a gap lies between
 pub record IsMade (domain : ℕ → Bool) (parts : List Range) (at : ℕ) : Type 0 where
   pub apart : AreParts 0 parts
   pub gap : (range : Range) → at ≤ range.from → IsIn domain range.from → EndBelow range.from parts

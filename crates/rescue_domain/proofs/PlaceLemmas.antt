@@ -1,4 +1,4 @@
--- The last position that is asked for, where it ends too far behind in the output.
+-- The last position that is asked for, if it ends too far on in the output.
 use Rattle.std.proofs.Common.{◌≡◌, ℕ, ◌+◌, ◌-◌, ◌<◌, ◌≤◌, ◌^◌, ◌&&◌, true, false, nat_lt, Option, arith, Bool}
 use Rattle.std.proofs.lemmas.Bool.{ltb-false}
 use Rattle.std.proofs.lemmas.Bool.Decides.{nat_tests}
@@ -17,6 +17,6 @@ beyond_at pos size end last to below some is =
 pub whole_from : (pos : ℕ) (size : Option ℕ) (end x : ℕ) → whole_domain pos size end x ≡ true → pos ≤ x
 whole_from pos size end x inside = grind (arith, nat_tests, inside)
 
--- where each position has a place, none ends too far behind
+-- if each position has a place, none ends too far on
 pub never_beyond : (domain : ℕ → Bool) (from to : ℕ) → AreAllPlaced domain from to → IsAnyBeyond domain from to → ⊥
 never_beyond domain from to placed (x, is, far) = let near = placed x is in omega (arith, near, far)

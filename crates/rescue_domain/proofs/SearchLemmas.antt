@@ -10,7 +10,7 @@ use Rattle.rescue_domain.specs.Domain.{IsIn}
 use Rattle.rescue_domain.specs.Parts.{covers, AreParts}
 use Rattle.rescue_domain.proofs.PartsLemmas.{part_at, part_covers, part_with, gap_between}
 
--- where a covered position lies as seen from one interval: in one in front of it, in it, or in one behind it
+-- where a covered position lies as seen from one interval: in one before it, in it, or in one after it
 data Placed (parts : List Range) (n : ℕ) (part : Range) (x : ℕ) : Type 0 where
   in_front : (i : ℕ) (other : Range) → i < n → slice_get parts i ≡ Some other → x < other.to → other.to < part.from
       → Placed parts n part x

@@ -9,7 +9,7 @@ use Rattle.rescue_domain.specs.Stretch.{IsStretchFrom}
 use Rattle.rescue_domain.proofs.PartsLemmas.{no_part, part_at, part_covers, ends_ascend}
 use Rattle.rescue_domain.proofs.SearchLemmas.{found_first, found_range_up, none_from}
 
--- the intervals in front of one that ends at or before a position do so too, and those behind one that doesn't don't
+-- the intervals before one that ends at or before a position do so too, and those after one that doesn't don't
 module _ (parts : List Range) (t : AreParts 0 parts) (n x : ℕ) where
   pub end_in_front : 0 < n → n ≤ length parts → (get_or parts (n - 1) no_part).to ≤ x
       → (i : ℕ) (part : Range) → i < n → slice_get parts i ≡ Some part → part.to ≤ x

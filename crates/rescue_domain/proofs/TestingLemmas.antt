@@ -92,7 +92,7 @@ keeps_seen reference statuses old new keeps gains = record {
   journals_below = λ tells. (gains tells, keeps.journals_below tells);
 }
 
--- a read that gave more than is finished is seen as one that failed behind that,
+-- a read that gave more than is finished is seen as one that failed past that,
 seen_cut : (statuses : List Status) (r : Reading) (n : ℕ) → length r.given ≡ n → finished_front statuses r.pos n < n
     → seen statuses r ≡ record r { given = take (finished_front statuses r.pos n) r.given; ended = false }
 seen_cut statuses r n count fewer =

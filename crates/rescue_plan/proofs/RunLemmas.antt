@@ -232,7 +232,7 @@ module _ (c : Command) (limits : AreInLimits c) (r : RunState) (is : BeginsPlann
             (puts_broken start now entries end.before end.last end.are b);
       }
 
-  -- by why reads behind it are lost, and how the run ended
+  -- by why reads after it are lost, and how the run ended
   pub plan_put : (lost : Option PlanLoss) (end : RunEnd) (spare : ℕ) (calls : List Entry)
       → Ends (setting_in r) r.machine es spare calls end → HasPrinted start now entries lost
       → PutsPlan c test (end_by lost end) start now
@@ -243,7 +243,7 @@ module _ (c : Command) (limits : AreInLimits c) (r : RunState) (is : BeginsPlann
   plan_put (Some Memory) end spare calls ends h = put_first (h.whole refl)
   plan_put (Some Console) end spare calls ends h = put_broken (h.broken refl)
 
--- ---- what the source tells behind the run
+-- ---- what the source tells after the run
 
 -- it is the same source, and its journal is the run's
 record IsAfter (len len' : ℕ) (test test' : List Status) (opened : Bool) (entries : List ReadEntry) (reads : List Reading)

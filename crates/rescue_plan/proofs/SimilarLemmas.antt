@@ -100,7 +100,7 @@ quiet_ready s m =
 
 -- ---- steps
 
--- the state behind a read that gave so many bytes, which was slow or not
+-- the state after a read that gave this many bytes, which was slow or not
 abbrev whole_by : (asked n : ℕ) → Bool
 whole_by asked n = nat_eq n asked
 

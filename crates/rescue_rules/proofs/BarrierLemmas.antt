@@ -1,4 +1,4 @@
--- What a stop may show behind the barrier, and what one before it may have left.
+-- What a stop may show after the barrier, and what one before it may have left.
 use Rattle.std.specs.Bool.{⊤}
 use Rattle.std.proofs.Common.{◌≡◌, ℕ, Bool, true, false, List, Option, Some, None, refl, sym, ◌∙◌, ap}
 use Rattle.std.specs.Str.{bytes_eq}
@@ -75,7 +75,7 @@ module _ (s : Setting) (makes : Bool) where
         reads = stood;
       }
 
-  -- behind the barrier the output and the mapfile are durable as they read
+  -- after the barrier the output and the mapfile are durable as they read
   pub barrier_rests : (d : Disk) → AreThreeNames s → Opens makes (d.reads.files s.outfile)
       → Leaves d d.reads.files → Rests s (at_barrier d)
   barrier_rests d three opens sound =
@@ -97,7 +97,7 @@ module _ (s : Setting) (makes : Bool) where
             (reads_step d (Done (image_open s.outfile makes)) sound));
       }
 
-  -- what reads behind it is what read before, but that an absent output was made
+  -- what reads after it is what read before, except that an absent output was made
   pub barrier_mapfile : (d : Disk) → AreThreeNames s
       → (at_barrier d).reads.files s.names.map ≡ d.reads.files s.names.map
   barrier_mapfile d three =

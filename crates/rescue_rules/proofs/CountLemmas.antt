@@ -1,4 +1,4 @@
--- How much of what is left of a domain is finished and failed behind a read, by how much was in front of it.
+-- How much of what is left of a domain is finished and failed after a read, by how much was before it.
 use Rattle.std.proofs.Common.{◌≡◌, ℕ, ◌+◌, ◌-◌, ◌<◌, ◌≤◌, min, Bool, true, false, not, ◌&&◌, ◌||◌, nat_lt, Option, Some, None, List, length, refl, sym, ap, subst, ◌∙◌, arith, inl, inr, ⊎_elim}
 use Rattle.std.specs.List.{slice_get}
 use Rattle.std.proofs.lemmas.Bool.{cases_lt, cases_Bool, lt-ltb, le-ltb, ltb-true, and_right, or_parts, not-true, eq-eqb, true≢false, cond-true, cond-false, cond_both}
@@ -99,7 +99,7 @@ passing_is : (test : Status → Bool) (s : Setting) (m : Machine) (map : List St
 passing_is test s m map x v live is = ap (λ (b : Bool). b && passes test (slice_get map x)) live ∙ is
 
 -- How a set of positions that are left and pass a test changes: all that was asked for passed it, or none did; what is
--- kept passes it or doesn't; and what is behind that does or doesn't, by whether the read failed.
+-- kept passes it or doesn't; and what is past that does or doesn't, by whether the read failed.
 marks_change : (test : Status → Bool) → IsBlind test → (s : Setting) (m : Machine) (r : Reading) → IsInOrder s m
     → Taking s m r → (was rest : Bool) → test (taken (pass_of m).phase) ≡ was
     → (is_failed r ≡ true → test (rest_status s m (r.asked - kept s.sector r)) ≡ rest)
@@ -137,7 +137,7 @@ marks_change test blind s m r order t was rest took failed good =
       };
     }
 
--- nothing lies behind a map's end
+-- nothing lies past a map's end
 passing_ends : (test : Status → Bool) (domain : ℕ → Bool) (map : List Status)
     → EndsBy (passing test domain map) (length map)
 passing_ends test domain map = record {
@@ -186,7 +186,7 @@ failed_less s r few failed =
     let other : length r.given ≡ r.asked → ⊥ = λ e. true≢false (sym (eq-eqb (length r.given) r.asked e) ∙ part) in
     omega (arith, kept_given s.sector r, other)
 
--- the positions that are left of the domain in front of a read and failed behind it
+-- the positions that are left of the domain before a read and failed after it
 abbrev pub failed_after : Setting → Machine → Reading → ℕ → Bool
 failed_after s m r = passing has_failed (is_live s m) (map_after s m r)
 

@@ -43,7 +43,7 @@ pub cut_past : (cs more : List Call) (es : List Entry) → Cut more es → Cut (
 cut_past [] more es h = h
 cut_past (c ∷ cs) more es h = (refl, cut_past cs more es h)
 
--- a call that failed behind these
+-- a call that failed after these
 pub lost_cut : (cs : List Call) (c : Call) (more : List Call) (es : List Entry) → Lost c (map Done cs) es
     → Cut (cs ++ c ∷ more) es
 lost_cut cs c more es (inl h) = subst (λ (l : List Entry). Cut (cs ++ c ∷ more) l) (sym h) (cut_lost cs c more)
@@ -98,7 +98,7 @@ write_alike (draft_publish name) = refl
 write_alike (map_settle name) = refl
 write_alike (map_remove name) = refl
 
--- Something holds of the disk before each of these calls, within it, behind it if it failed, and behind them all, by
+-- Something holds of the disk before each of these calls, within it, after it if it failed, and after them all, by
 -- how many settles had returned, and how many publishes and writes had begun.
 abbrev pub Each : (ℕ → ℕ → ℕ → Disk → Type 0) → ℕ → ℕ → ℕ → Disk → List Call → Type 0
 Each P r p w d [] = P r p w d

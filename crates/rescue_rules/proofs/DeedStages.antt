@@ -337,7 +337,7 @@ module _ (promise : ℕ → List ℕ → Type 0) (free : ℕ → ℕ → Type 0)
   each_calls c ok w now d (map_settle name ∷ calls) rest three good at h go = absurd at
   each_calls c ok w now d (map_remove name ∷ calls) rest three good at h go = absurd at
 
-  -- the save that is due behind them, if one is, and the rest of the run
+  -- the save that is due after them, if one is, and the rest of the run
   each_due : (c : Base) (ok : Outlasts promise free c.a.start) (save : Option Snapshot) (deeds : List Deed)
       (last : Snapshot) (w : ℕ) (now : File) (d : Disk) → Goes c.a deeds last → AreThreeNames c.a.s → Good c
       → length c.a.start ≤ length now.bytes → (before : List Snapshot) → length before ≡ c.number

@@ -137,7 +137,7 @@ front_cut s makes front back calls is (inr h) =
     subst (λ (l : List Call). Cut l calls) is
     (subst (λ (l : List Call). Cut (front ++ l) calls) (sym h.2) (lost_cut front h.0 h.1 calls h.3))
 
--- behind the opening and a load
+-- after the opening and a load
 pub past_load : (s : Setting) (makes : Bool) (load : List Call) (more : List Call) (rest : List Entry) → Cut more rest
     → Cut (opening_by s makes ++ (load ++ more)) (map Done (opening_by s makes ++ load) ++ rest)
 past_load s makes load more rest h =
@@ -175,7 +175,7 @@ rescue_calls : (s : Setting) (m : Machine) (es : List Event) → s.has_mapfile �
 rescue_calls s m es on =
     sym (run_is_deeds s m es).calls ∙ doing_is s (run_deeds s m es) (last_snapshot s (state_after s m es)) on
 
--- each rescue with a mapfile takes one way behind its reads of other maps
+-- each rescue with a mapfile takes one way after its reads of other maps
 pub way : (s : Setting) (files : List ℕ → Option File) (g : Gain) → s.has_mapfile ≡ true → GoesOn s files g → Way s files g
 way s files g on (InOpening front back is none h) =
     AnyMap (λ began state. opening_course s g began state none (front_cut s true front back g.calls (is ∙ opening_is s on) h))

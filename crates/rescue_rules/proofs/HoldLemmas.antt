@@ -110,7 +110,7 @@ covered_given s front r x covered none =
     (sym none ∙ given_after s.sector front r x covered
     ∙ slice_get-get_or r.given (x - r.pos) 0 (omega (arith, c.from, c.to, kept_given s.sector r)))
 
--- what is finished behind a move and not covered by it was finished before it
+-- what is finished after a move and not covered by it was finished before it
 uncovered_finished : (s : Setting) (m : Machine) (e : Event) (x : ℕ) → StepsBy s m e → covers s.sector e.reading x ≡ false
     → Has (step s m e).map Finished x → Has m.map Finished x
 uncovered_finished s m e x b off is =

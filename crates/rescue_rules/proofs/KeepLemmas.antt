@@ -30,7 +30,7 @@ module _ (promise : ℕ → List Status → List ℕ → Type 0) (free : ℕ →
   SavesOn n map image None next = next n map
   SavesOn n map image (Some p) next = promise (suc n) p.map image × next (suc n) p.map
 
-  -- behind the save with a number, which has a map: what is written is free of its promise, and the next one's promise
+  -- after the save with a number, which has a map: what is written is free of its promise, and the next one's promise
   -- holds when it is made
   abbrev pub KeepsMaps : (n : ℕ) → (map : List Status) → (image : List ℕ) → List Deed → (last : Snapshot) → Type 0
   KeepsMaps n map image [] last = promise (suc n) last.map image

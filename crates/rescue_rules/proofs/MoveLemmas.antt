@@ -49,7 +49,7 @@ state_append s m (e ∷ front) back = state_append s (move_of s m e).after front
 pub reads_append : (front back : List Event) → reads_of (front ++ back) ≡ reads_of front ++ reads_of back
 reads_append front back = map-append (λ e. e.reading) front back
 
--- an event of a run, and those behind it
+-- an event of a run, and those after it
 pub run_first : (s : Setting) (m : Machine) (e : Event) (es : List Event) → IsRun s m (e ∷ es) → IsMove s (move_of s m e)
 run_first s m e es run = All-head (IsMove s) (move_of s m e) (moves s (move_of s m e).after es) run.each
 

@@ -43,7 +43,7 @@ reads_of s given at answer = piece_reads s.names.map 0 given ++ map_read s.names
 abbrev Shows : List ℕ → Showing → ℕ → ℕ → ℕ → Disk → Type 0
 Shows name v r p w d = d.shows name ≡ v
 
--- a call that a run behind the barrier makes, where a draft of its own is begun or not
+-- a call that a run after the barrier makes, whether a draft of its own is begun or not
 abbrev pub IsOfRun : Setting → (drafting : Bool) → Call → Type 0
 IsOfRun s b (image_open name make) = ⊥
 IsOfRun s b (image_read pos asked answer) = ⊤
@@ -57,7 +57,7 @@ IsOfRun s b (draft_publish name) = (b ≡ true) × (name ≡ s.names.map)
 IsOfRun s b (map_settle name) = name ≡ s.names.map
 IsOfRun s b (map_remove name) = ⊥
 
--- whether one is begun behind it
+-- whether one is begun after it
 abbrev pub drafts : Call → Bool → Bool
 drafts (draft_begin name) b = true
 drafts (draft_publish name) b = false
@@ -111,7 +111,7 @@ aside_failed s b d (draft_publish n) name of at other = aside s b d (draft_publi
 aside_failed s b d (map_settle n) name of at other = refl
 aside_failed s b d (map_remove n) name of at other = absurd of
 
--- the image and the draft behind such a call
+-- the image and the draft after such a call
 pub run_image : (s : Setting) (b : Bool) (d : Disk) (call : Call) → IsOfRun s b call → AtRun s b d.reads
     → (entered d (Done call)).reads.image ≡ Some s.outfile
 run_image s b d (image_open n make) of at = absurd of
@@ -206,7 +206,7 @@ writes_lead s free (draft_publish name ∷ calls) at b rest go = absurd at
 writes_lead s free (map_settle name ∷ calls) at b rest go = absurd at
 writes_lead s free (map_remove name ∷ calls) at b rest go = absurd at
 
--- how it goes on behind a save, or none
+-- how it goes on after a save, or none
 kept_on : (promise : ℕ → List ℕ → Type 0) (n : ℕ) (image : List ℕ) (save : Option Snapshot) (next : ℕ → Type 0)
     → KeepsOn promise n image save next → (m : ℕ) × next m
 kept_on promise n image None next h = (n, h)

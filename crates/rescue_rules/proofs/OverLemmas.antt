@@ -1,4 +1,4 @@
--- What is left of a domain, behind a read that may have met the input's end.
+-- What is left of a domain, after a read that may have met the input's end.
 use Rattle.std.proofs.Common.{◌≡◌, ℕ, ◌+◌, ◌<◌, ◌≤◌, Bool, true, false, ◌||◌, nat_lt, min, Option, Some, None, length, refl, sym, ap, subst, ◌∙◌, arith, ⊎_elim}
 use Rattle.std.specs.List.{slice_get}
 use Rattle.std.proofs.lemmas.Bool.{cases_Bool, ltb-true, lt-ltb, and_parts, and_from, or_parts, not-true, not-false, cond-true, cond-false, cond_both}
@@ -15,7 +15,7 @@ before_earlier None end x before lt = lt-ltb x end lt
 before_earlier (Some other) end x before lt =
     lt-ltb x (min other end) (omega (arith, ltb-true x other before, lt))
 
--- what was left of the domain in front of a read is left behind it
+-- what was left of the domain before a read is left after it
 pub before_over : (m : Machine) (r : Reading) (x : ℕ) → is_before m.over x ≡ true → x < r.pos
     → is_before (over_after m r) x ≡ true
 before_over m r x before lt =
@@ -38,7 +38,7 @@ earlier_second : (over : Option ℕ) (end x : ℕ) → nat_lt x (earlier over en
 earlier_second None end x before = ltb-true x end before
 earlier_second (Some other) end x before = omega (arith, ltb-true x (min other end) before)
 
--- what is left of the domain behind a read was left before it
+-- what is left of the domain after a read was left before it
 pub before_was : (m : Machine) (r : Reading) (x : ℕ) → is_before (over_after m r) x ≡ true → is_before m.over x ≡ true
 before_was m r x =
     cond_both r.ended (Some (earlier m.over (r.pos + length r.given))) m.over
@@ -63,7 +63,7 @@ wanted_live s m x wanted = (and_parts (is_live s m x) (has_taken m.passes (slice
 pub wanted_before : (s : Setting) (m : Machine) (x : ℕ) → is_wanted s m x ≡ true → is_before m.over x ≡ true
 wanted_before s m x wanted = live_before s m x (wanted_live s m x wanted)
 
--- A read that didn't fail kept all that it asked for of what is left behind it.
+-- A read that didn't fail kept all that it asked for of what is left after it.
 pub good_reaches : (m : Machine) (r : Reading) (sector x : ℕ) → is_failed r ≡ false → is_before (over_after m r) x ≡ true
     → r.pos + kept sector r ≤ x → r.pos + r.asked ≤ x
 good_reaches m r sector x good before far =

@@ -6,7 +6,7 @@ use Rattle.faulty_source.specs.Journal.{floor}
 use Rattle.rescue_rules.specs.Machine.{ceiling}
 use Rattle.rescue_rules.specs.Moves.{begun}
 
--- a position lies before the boundary below a place that is a sector or more behind it
+-- a position lies before the boundary below a place that is a sector or more past it
 pub floor_beyond : (b p size : ℕ) → 0 < b → b ≤ size → p < floor b (p + size)
 floor_beyond b p size some le = omega (arith, lt-div-mul-add {a = p + size} {b = b} some)
 
@@ -14,7 +14,7 @@ floor_beyond b p size some le = omega (arith, lt-div-mul-add {a = p + size} {b =
 pub ceiling_above : (b x : ℕ) → 0 < b → x ≤ ceiling b x
 ceiling_above b x some = omega (arith, lt-div-mul-add {a = x + (b - 1)} {b = b} some)
 
--- the boundary above a place comes before what is a sector or more behind that place
+-- the boundary above a place comes before what is a sector or more past that place
 ceiling_before : (b x end : ℕ) → 0 < b → x + b ≤ end → ceiling b x < end
 ceiling_before b x end some le = omega (arith, div-mul-le_self (x + (b - 1)) b)
 

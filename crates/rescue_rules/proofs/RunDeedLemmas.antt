@@ -143,7 +143,7 @@ module _ (s : Setting) (ok : IsSensible s) (reads : List Reading) (old : List �
         at = omega (arith, first, from);
       }
 
-  -- what comes of an event, and of a save behind it
+  -- what comes of an event, and of a save after it
   comes : (map : List Status) (m : Machine) (e : Event) (es : List Event) (now : List ℕ) → Comes map m (e ∷ es) now
       → Comes map (move_of s m e).after es (output_by s now e.reading)
   comes map m e es now g =

@@ -1,4 +1,4 @@
--- A run behind a barrier keeps what was promised at whatever moment it is stopped.
+-- A run after a barrier keeps what was promised at whatever moment it is stopped.
 use Rattle.std.proofs.Common.{◌≡◌, ℕ, ◌+◌, List, [], ◌∷◌, take, refl, sym, subst, inl}
 use Rattle.std.specs.List.{count_by}
 use Rattle.block_list.specs.declared.status.Status.{Status}

@@ -87,7 +87,7 @@ never : (v : Bool) → (v && not v) ≡ false
 never true = refl
 never false = refl
 
--- behind the first of positions that are alike no area begins
+-- after the first of positions that are alike no area begins
 begins_run : (set : ℕ → Bool) (from to : ℕ) (v : Bool) → from < to → AllAre set from to v
     → count_within (begins_area set) from to ≡ weight (v && not (is_in_front set from))
 begins_run set from to v some all =
@@ -103,7 +103,7 @@ begins_run set from to v some all =
     = one_counted (begins_area set) from in
     omega (arith, within_cut (begins_area set) from (from + 1) to (omega arith) (omega (arith, some)), first, later, ap weight here)
 
--- the same up to the position behind them
+-- the same up to the position after them
 begins_to : (set : ℕ → Bool) (from to : ℕ) (v : Bool) → from < to → AllAre set from to v
     → count_within (begins_area set) from (to + 1) ≡ weight (v && not (is_in_front set from)) + weight (set to && not v)
 begins_to set from to v some all =
@@ -145,7 +145,7 @@ pub below_same : (f g : ℕ → Bool) (end : ℕ) → ((x : ℕ) → x < end →
 below_same f g end same =
     omega (arith, below_within f end, below_within g end, within_same f g 0 end (λ x low high. same x high))
 
--- A set changes from one position up to another: all of these were in it or none was; behind the change all up to one
+-- A set changes from one position up to another: all of these were in it or none was; after the change all up to one
 -- between are in it or none is, and so are those from there on.
 pub record Changes (old new : ℕ → Bool) (p k q : ℕ) (was first second : Bool) : Type 0 where
   pub some : p < q
@@ -179,7 +179,7 @@ bytes_change old new p k q end was first second c there =
       within_run new k q second c.second_are,
     )
 
--- no position of a set lies at an end or behind it
+-- no position of a set lies at an end or past it
 pub record EndsBy (set : ℕ → Bool) (end : ℕ) : Type 0 where
   pub none : (x : ℕ) → end ≤ x → set x ≡ false
 
@@ -252,7 +252,7 @@ areas_went old new p k q end c some there ends ends' =
     omega (arith, change, before, none, front, after, last, past))
     (cases_lt k q)
 
--- Where all that lies at an end or behind it goes out of a set, the rest stands.
+-- If all that lies at an end or past it goes out of a set, the rest stays.
 pub record CutOff (old new : ℕ → Bool) (end : ℕ) : Type 0 where
   pub front : (x : ℕ) → x < end → new x ≡ old x
   pub back : (x : ℕ) → end ≤ x → new x ≡ false
@@ -278,7 +278,7 @@ areas_cut old new k end c there =
     })
     there
 
--- where nothing of a set lies at a position or behind it, it may be counted up to there
+-- if nothing of a set lies at a position or past it, it may be counted up to there
 pub within_short : (f g : ℕ → Bool) (from top end : ℕ) → top ≤ end → ((x : ℕ) → x < top → f x ≡ g x)
     → ((x : ℕ) → top ≤ x → x < end → g x ≡ false) → count_within f from top ≡ count_within g from end
 within_short f g from top end short same none =

@@ -60,7 +60,7 @@ pub record IsSmall (end : ℕ) (map : List Status) (state : Option MapState) : T
   pub short : length map < 2 ^ 63
   pub shown : IsPrintable (shown_at_first state)
 
--- block lines behind a place list no more positions than there are up to the limit
+-- block lines after a place list no more positions than there are up to the limit
 continues_small : (end : ℕ) (ls : List Line) (statuses : List Status) → end < 2 ^ 63 → Continues Tight end ls statuses
     → end + length statuses < 2 ^ 63
 continues_small end [] statuses small c = omega (arith, ap length c)

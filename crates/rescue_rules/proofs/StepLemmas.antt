@@ -273,7 +273,7 @@ rest_not_finished s m size =
     cond_both (is_copying m && nat_lt s.sector size) NonTrimmed BadSector (λ (status : Status). status ≡ Finished → ⊥)
     (λ is e. absurd (cc)) (λ is e. absurd (cc))
 
--- what is behind it gets the status of the rest where the read failed,
+-- what is past it gets the status of the rest if the read failed,
 pub rest_marked : (s : Setting) (m : Machine) (r : Reading) (x : ℕ) → Taking s m r → is_failed r ≡ true
     → r.pos + kept s.sector r ≤ x → x < r.pos + r.asked
     → Has (map_after s m r) (rest_status s m (r.asked - kept s.sector r)) x
@@ -337,7 +337,7 @@ finished_off s m r x t has low is =
     (cases_lt x r.pos))
     (cases_lt x low)
 
--- the mode behind a read is at a range's back only where it failed and that range has more, or where it was there
+-- the mode after a read is at a range's back only if it failed and that range has more, or if it was there
 tail_after : (mode : TrimMode) (whole more : Bool) (p q low : ℕ) (P : ℕ → Type 0) → (whole ≡ false → more ≡ true → P q)
     → ((at : ℕ) → mode ≡ Tail at → whole ≡ true → at < p → P at) → mode_after mode whole more p q ≡ Tail low → P low
 tail_after Lead true more p q low P new old is = absurd (cc)

@@ -52,7 +52,7 @@ module _ (P : ℕ → ℕ → ℕ → Disk → Type 0) where
       (sym (append_assoc (piece_reads name 0 given) (map_read name at piece_size answer ∷ []) rest))
       (each_piece_read name 0 given d (map_read name at piece_size answer ∷ rest) f (f, f, h))
 
--- the calls behind a barrier that has returned
+-- the calls after a barrier that has returned
 record Past (s : Setting) (makes : Bool) (tail : List Call) (es : List Entry) (k : ℕ) : Type 0 where
   pub rest : List Entry
   pub j : ℕ
@@ -321,7 +321,7 @@ module _ (promise : ℕ → List Status → List ℕ → Type 0) (free : ℕ →
             h.held;
       }
 
-  -- the calls behind the barrier leave a byte that they don't reach
+  -- the calls after the barrier leave a byte that they don't reach
   byte_at : (k : ℕ) (files : List ℕ → Option File) (y byte : ℕ) → LeftBy b calls k files
       → has_barrier (take k calls) ≡ true → IsUnwritten (take (suc k) calls) y
       → slice_get (bytes_of (files_before b s.outfile)) y ≡ Some byte

@@ -153,7 +153,7 @@ module _ (s : Setting) (three : AreThreeNames s) (y byte : ℕ) where
       (at_other d name s.outfile (λ f v. only f) (λ e. three.map (e ∙ of))) h
   steady_step b d (map_remove name) of at apart h = absurd of
 
-  -- the first of some entries doesn't write there, nor do those behind it
+  -- the first of some entries doesn't write there, nor do those after it
   done_apart : (c : Call) (es : List Entry) → IsUnwritten (Done c ∷ es) y → IsApart c × IsUnwritten es y
   done_apart (image_open name make) es h = (tt, h)
   done_apart (image_read pos asked answer) es h = (tt, h)

@@ -49,7 +49,7 @@ accepted_map which mode (Some f) accepted =
 abbrev Unless : Deeds → Type 0 → Type 0
 Unless d P = (d.gain.reads ≡ []) ⊎ P
 
--- behind the rows of a map
+-- after the rows of a map
 walk : (which : Which) (mode : Mode) (name : Option (List ℕ)) (file : Option File) (more : List (WorkStep Ending))
     (run : Ending → Deeds → Type 0) (e : Ending) (d : Deeds) (P : Type 0)
     → (((v : Ending) → IfNamed name (NamedMapRefused which mode file) v → ⊥) → (h : Deeds) → h.gain.reads ≡ d.gain.reads

@@ -34,7 +34,7 @@ drawn_more kib value next sector sectors more grown meant follows are =
           ∙ ap (λ (m : ℕ). map f (range_with_len 1 m)) (sym long);
     }
 
--- what lies behind the first numbers of a range
+-- what lies after the first numbers of a range
 drop_range : (f : ℕ → ℕ) (k a n : ℕ) → drop k (map f (range_with_len a n)) ≡ map f (range_with_len (a + k) (n - k))
 drop_range f zero a n =
     let here : a ≡ a + 0 = omega arith in

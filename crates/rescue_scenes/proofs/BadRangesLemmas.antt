@@ -13,7 +13,7 @@ end_of-append : (low : ℕ) (xs : List BadRange) (r : BadRange) → end_of low (
 end_of-append low [] r = refl
 end_of-append low (x ∷ xs) r = end_of-append x.to xs r
 
--- one more range behind the others
+-- one more range after the others
 pub AreApart-push : (xs ys : List BadRange) (r : BadRange) (end : ℕ) → ys ≡ xs ++ r ∷ [] → AreSeparate 0 xs
     → end_of 0 xs ≡ end → end ≤ r.from → r.from < r.to → AreSeparate 0 ys × (end_of 0 ys ≡ r.to)
 AreApart-push xs ys r end grown apart last past some =

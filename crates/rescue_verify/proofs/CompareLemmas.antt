@@ -340,7 +340,7 @@ nothing_compared p map source site = record {
   seen = λ tells. refl;
 }
 
--- what is counted of a look that halted, behind looks that counted nothing
+-- what is counted of a look that halted, after looks that counted nothing
 pub halted_counts : (halt : Halt) (pos size place : ℕ) (s0 s s' : SourceState) (d0 d d' : SiteState)
     → s.losses ≡ s0.losses → d.faults ≡ d0.faults → HaltsLooking halt pos size place s s' d d'
     → LossesRise (Err halt) s0 s' d0 d'

@@ -1,4 +1,4 @@
--- What is pending behind a barrier, and behind a load.
+-- What is pending after a barrier, and after a load.
 use Rattle.std.specs.Prelude.{⊤}
 use Rattle.std.proofs.Common.{◌≡◌, ℕ, ◌+◌, Bool, true, false, if◌then◌else◌, IsTrue, List, [], ◌∷◌, ◌++◌, map, Option, Some, None, refl, sym, ap, ◌∙◌, subst, inl, inr}
 use Rattle.std.specs.Str.{bytes_eq}
@@ -27,7 +27,7 @@ sure_stays : (d : Disk) (sure : Option (List ℕ)) (name : List ℕ) → d.shows
 sure_stays d None name is = is
 sure_stays d (Some other) name is = both_same (bytes_eq name other) (only (d.reads.files name)) (d.shows name) is
 
--- behind the barrier nothing is pending
+-- after the barrier nothing is pending
 barrier_settles : (names : MapNames) (was : Disk) → NothingPending names was (disk_after was (map Done (barrier_calls names)))
 barrier_settles names was =
     let settled : Disk = entered was (Done (map_settle names.map)) in
@@ -71,7 +71,7 @@ broke_idle d at (call ∷ calls) old new h b =
       | inr x ↦ broke_idle d at calls (old ++ Done call ∷ []) new h.2 x ∙ run-append d old (Done call ∷ []) ∙ h.0 (disk_after d old)
     ]
 
--- behind a barrier, and calls that change nothing, nothing is pending
+-- after a barrier, and calls that change nothing, nothing is pending
 pub nothing_pending : (names : MapNames) (old mid new : SiteState) → IsTrue old.tells → Keeps old mid → Keeps mid new
     → Makes (barrier_calls names) old mid → disk_after (at_rest mid.start) new.calls ≡ disk_after (at_rest mid.start) mid.calls
     → NothingPending names (disk_of old) (disk_of new)

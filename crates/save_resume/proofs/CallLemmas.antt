@@ -17,7 +17,7 @@ pub broke_front : (at : SiteCall) (xs ys : List Call) (old new : List Entry) →
 broke_front at [] ys old new b = absurd b
 broke_front at (x ∷ xs) ys old new b = ⊎_elim (λ l. inl l) (λ r. inr (broke_front at xs ys (old ++ Done x ∷ []) new r)) b
 
--- a call that failed behind others
+-- a call that failed after others
 pub broke_back : (at : SiteCall) (xs ys : List Call) (old mid new : List Entry) → Made xs old mid
     → BrokeAt at ys mid new → BrokeAt at (xs ++ ys) old new
 broke_back at [] ys old mid new m b = let e : mid ≡ old = m ∙ append-nil old in rw e at b

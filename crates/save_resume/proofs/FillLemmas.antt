@@ -93,7 +93,7 @@ entries_of_pieces : (ps : List (List ℕ)) → map Done (map draft_append ps) �
 entries_of_pieces [] = refl
 entries_of_pieces (p ∷ ps) = ap (λ es. Done (draft_append p) ∷ es) (entries_of_pieces ps)
 
--- behind a begun draft, pieces make a filled one
+-- after a begun draft, pieces make a filled one
 pub ends_filled : (ps : List (List ℕ)) (old new : List Entry) → EndsBegun old → Made (map draft_append ps) old new → EndsFilled new
 ends_filled ps old new b m = record {
   before = b.before;

@@ -1,4 +1,4 @@
--- What a resume answers, by what its mapfile was read as behind the barrier.
+-- What a resume answers, by what its mapfile was read as after the barrier.
 use Rattle.std.proofs.Common.{◌≡◌, ℕ, Bool, IsTrue, List, [], Option, Some, None, Result, Ok, Err, refl, ap, ◌∙◌, subst, inl, inr}
 use Rattle.mapfile_text.specs.declared.read.Mode.{Mode}
 use Rattle.mapfile_text.specs.declared.read.Mode.TheVariants.{Tight}
@@ -30,7 +30,7 @@ says_nothing file mode r =
       | inr x ↦ Silent r.there r.is x.0 (fault_is_blank r.there.bytes mode x.1)
     ]
 
--- the calls of a load, behind the barrier
+-- the calls of a load, after the barrier
 load_after_barrier : (names : MapNames) (file : Option File) (calls mid calls' : List Entry) → Made (barrier_calls names) calls mid
     → LoadEnded [] names.map file mid calls' → LoadEnded (barrier_calls names) names.map file calls calls'
 load_after_barrier names file calls mid calls' made l = (l.0, l.1, made_more calls mid calls' (barrier_calls names) l.0 made l.2)
@@ -99,7 +99,7 @@ answer_settles names (Err (Site call)) old new h = λ is. h
 answer_settles names (Err (Refused e)) old new h = refused_settles names e old new h
 answer_settles names (Err NoMemory) old new h = h
 
--- nothing is pending behind a resume
+-- nothing is pending after a resume
 pub resumed_settled : (names : MapNames) (read : Result (Option ReadMap) ResumeFault) (old mid new : SiteState) → IsTrue old.tells → Keeps old mid
     → Keeps mid new → Makes (barrier_calls names) old mid
     → (IsTrue mid.tells → LoadAnswers names.map Tight (files_in mid names.map) read mid.calls new.calls)

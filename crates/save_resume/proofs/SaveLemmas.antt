@@ -1,4 +1,4 @@
--- The parts of a save, one behind the other.
+-- The parts of a save, one after the other.
 use Rattle.std.proofs.Common.{◌≡◌, ℕ, Bool, true, false, IsTrue, List, [], ◌∷◌, ◌++◌, map, Result, Ok, Err, refl, sym, subst, ap, ◌∙◌, ⊎_elim}
 use Rattle.fault_count.specs.Counts.{raised}
 use Rattle.crash_site.specs.declared.site.SiteCall.{SiteCall}
@@ -11,7 +11,7 @@ use Rattle.save_resume.specs.Saving.{begin_calls, fill_calls, publish_calls, sav
 use Rattle.save_resume.proofs.CallLemmas.{made_more, broke_front, broke_back, named_front, named_back}
 use Rattle.save_resume.proofs.FillLemmas.{keeps_more}
 
--- whether a draft is begun behind one of these calls that failed doesn't depend on what was begun before
+-- whether a draft is begun after one of these calls that failed doesn't depend on what was begun before
 abbrev pub FixesTheDraft : List Call → Type 0
 FixesTheDraft calls = (at : SiteCall) (a b : Bool) → IsNameIn at calls → drafting_after_fault at a ≡ drafting_after_fault at b
 

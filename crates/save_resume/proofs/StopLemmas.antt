@@ -38,7 +38,7 @@ moved_none : (r : Folder) (o : Option (List ℕ)) (draft name : List ℕ) → o 
 moved_none r None draft name is = absurd (cc)
 moved_none r (Some from) draft name is = refl
 
--- the disk behind a publish that returned Ok
+-- the disk after a publish that returned Ok
 pub record AfterPublish (names : MapNames) (text : List ℕ) (was now : Disk) : Type 0 where
   pub published : ShowsNew names text was now
   pub map : now.reads.files names.map ≡ Some (text_file text)

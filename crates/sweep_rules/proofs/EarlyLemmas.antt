@@ -167,7 +167,7 @@ module _ (b : Before) (s : Setting) (makes : Bool) (calls : List Entry) (three :
         three opens (plan []) k files name left (record { output = output; map = mapfile; draft = draft });
   }
 
--- where it wasn't, there is no call behind the open
+-- if it wasn't, there is no call after the open
 cut_one : (c : Call) (tail : List Call) (calls : List Entry) → length calls ≤ 1 → Cut (c ∷ tail) calls → Cut (c ∷ []) calls
 cut_one c tail [] few cut = tt
 cut_one c tail (Done x ∷ []) few cut = (cut.0, tt)

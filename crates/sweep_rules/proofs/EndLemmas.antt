@@ -37,7 +37,7 @@ use Rattle.sweep_rules.proofs.SavedLemmas.{pieces_timed, begins_tame, all_readab
 abbrev pub lost_deed : Sweeper → (p q : ℕ) → Deed
 lost_deed w p q = record { calls = lost_call w p q ∷ []; save = None }
 
--- what a sweep does behind the pieces that it did: nothing, or that call, which failed
+-- what a sweep does after the pieces that it did: nothing, or that call, which failed
 abbrev pub IsTail : Setting → Sweeper → Sweep → List Deed → Type 0
 IsTail s w m tail =
     (tail ≡ []) ⊎ ((p : ℕ) × (q : ℕ) × IsPiece s w m p q × (tail ≡ lost_deed w p q ∷ []))

@@ -78,7 +78,7 @@ module _ (s : Setting) (types : TypeSet) (buffer : List ℕ) (ok : IsSensible s)
       All-cons (IsBelow c') e es (record { low = b.low; end = omega (arith, b.end, le); few = b.few })
       (below_more c c' es le (All-tail (IsBelow c) e es all))
 
-  -- a place at or behind another piece is none of theirs
+  -- a place at or past another piece is none of theirs
   places_off : (c p y : ℕ) (es : List Swept) → c ≤ p → place s p ≤ y → All (IsBelow c) es → All (IsOff s y) es
   places_off c p y [] le from all = All-nil (IsOff s y)
   places_off c p y (e ∷ es) le from all =

@@ -23,7 +23,7 @@ all_after (e ∷ es) h =
     All-cons IsTimed e es (All-head (λ (t : ℕ). t < 2 ^ 64) e.after (map (λ (e : Swept). e.after) es) h)
     (all_after es (All-tail (λ (t : ℕ). t < 2 ^ 64) e.after (map (λ (e : Swept). e.after) es) h))
 
--- the pieces of a run whose clock was read at its start, and behind each of them
+-- the pieces of a run whose clock was read at its start, and after each of them
 pub pieces_timed : (times : List ℕ) (es : List Swept) → AreTimes times
     → times ≡ began_at times ∷ map (λ (e : Swept). e.after) es → All IsTimed es
 pieces_timed times es h is =

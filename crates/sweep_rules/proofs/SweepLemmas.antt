@@ -58,7 +58,7 @@ generated_there s image e x given is =
     = slice_get_within image (place s e.pos + j) (get_or e.got j 0) at in
     (get_or image (place s x) 0, slice_get-get_or image (place s x) 0 (omega (arith, long, from)))
 
--- so what is finished behind a piece was finished, or has a byte there
+-- so what is finished after a piece was finished, or has a byte there
 pub swept_held : (s : Setting) (image : List ℕ) (m : Sweep) (e : Swept) (x : ℕ)
     → e.got ≡ take e.len (drop (place s e.pos) image) → Has (after_piece (generator s) m e).map Finished x
     → Has m.map Finished x ⊎ ((b : ℕ) × (slice_get image (place s x) ≡ Some b))
@@ -103,7 +103,8 @@ piece_is_one s w m p q p' q' a b =
           ∙ ap (λ (x : ℕ). cut_end (sweep_search s m) s.sector x b.end) start ∙ sym b.ends,
     )
 
--- What a piece is: it lies behind the cursor, in the map, is a cluster at most, and begins with a position of the domain.
+-- What a piece is: it lies at the cursor or past it, in the map, is a cluster at most, and begins with a position of
+-- the domain.
 pub record Within (s : Setting) (m : Sweep) (p q : ℕ) : Type 0 where
   pub past : m.cursor ≤ p
   pub inside : q ≤ length m.map

@@ -46,7 +46,7 @@ map_causes which e s d d' early (inr (inr (inl c))) =
     rw c.1 (λ run. absurd (early run), c.2, record { faults = refl; losses_ = refl; site_faults = c.3 })
 map_causes which e s d d' early (inr (inr (inr c))) = rw c.0 (record { faults = refl; losses_ = refl; site_faults = c.1 })
 
--- behind reads of maps that went on no call is counted
+-- after reads of maps that went on no call is counted
 rises_after : (opens losses calls : ℕ → ℕ) (s s' : SourceState) (d d1 d' : SiteState) → d1.faults ≡ d.faults
     → Rises opens losses calls s s' d1 d' → Rises opens losses calls s s' d d'
 rises_after opens losses calls s s' d d1 d' same r =

@@ -39,7 +39,7 @@ none_stands file end map state (Silent there is within blank) fresh =
     let P : Option File → Type 0 = λ f. StandsFor f end map state in
     record { stands = subst P (sym is) (AsNone blank fresh) }
 
--- what a rescue begins with behind a mapfile that says nothing, and behind a map
+-- what a rescue begins with after a mapfile that says nothing, and after a map
 none_starts : (file : Option File) (end : ℕ) (start : LoadedMap) → IsLikeNone file
     → IsFresh end start.tiles.statuses start.state → (start.first ≡ 0) × (start.listed_end ≡ 0) → StartsAs end start file
 none_starts file end start none fresh lists = record {
@@ -67,7 +67,7 @@ map_starts file end m start read extends shows lists =
       lists = map_lists file m start.first start.listed_end read lists.0 lists.1;
     }
 
--- a load that went on to its end behind the barrier: with what the rescue begins with, or memory ran out for that
+-- a load that went on to its end after the barrier: with what the rescue begins with, or memory ran out for that
 load_starts : (names : MapNames) (end : ℕ) (start : LoadedMap) (P : Option File → Type 0) (old new : SiteState)
     → (e : Ended (barrier_calls names) names.map P old new) → ((v : Ending) → MapfileRefused e.file v → ⊥)
     → StartsAs end start e.file → Loads (Some names.map) end (Ok start) old new
@@ -102,7 +102,7 @@ load_starves names end v P old new e is =
       );
     })
 
--- what a resume of a mapfile says where the site tells: this of its file, and the reads of a load behind the barrier
+-- what a resume of a mapfile says if the site tells: this of its file, and the reads of a load after the barrier
 abbrev Resumed : MapNames → (Option File → Type 0) → (old new : SiteState) → Type 0
 Resumed names P old new =
     IsTrue old.tells → P (files_in old names.map)

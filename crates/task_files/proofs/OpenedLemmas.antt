@@ -1,4 +1,4 @@
--- What a rescue did behind the maps that options name, by where it ended, whatever the objects tell.
+-- What a rescue did after the maps that options name, by where it ended, whatever the objects tell.
 use Rattle.std.proofs.Common.{◌≡◌, ℕ, ◌+◌, ◌-◌, ◌<◌, ◌≤◌, ◌^◌, Bool, true, false, IsTrue, List, [], ◌∷◌, ◌++◌, map, length, All, Option, Some, None, option_map, Result, Ok, Err, refl, sym, ap, ◌∙◌, inl, inr, subst, arith, append_assoc, append-nil}
 use Rattle.std.specs.Str.{bytes_eq}
 use Rattle.std.proofs.lemmas.Bool.{false_from_ne_true}
@@ -146,7 +146,7 @@ output_fails c l domain test heard end e s0 s1 d0 d1 k x input o =
       short = inr input.short;
     }
 
--- ---- the mapfile behind the open of the output
+-- ---- the mapfile after the open of the output
 
 -- a name isn't another where the other isn't it
 bytes_eq-flip : (xs ys : List ℕ) → bytes_eq xs ys ≡ false → bytes_eq ys xs ≡ false
@@ -251,7 +251,7 @@ load_fails c l domain test heard n end e s0 s1 d0 d1 d2 k x input h =
       short = inr input.short;
     }
 
--- what is done behind a load that went on to its end
+-- what is done after a load that went on to its end
 loaded_goes : (c : Command) (found : Found) (end : ℕ) (run : Ending → Deeds → Type 0) (e : Ending)
     (output load : List Entry) (d : Deeds) → WentThrough (output_rows true c.options.forced c.outfile found.output) output
     → WentThrough (load_rows c.mapfile found.mapfile) load
@@ -318,7 +318,7 @@ pub ran_silent : (s : Setting) (statuses : List Status) (state : Option MapState
 ran_silent s statuses state lines e g (inl unbegun) none = unbegun.silent
 ran_silent s statuses state lines e g (inr ran) none = absurd (omega (arith, ran.runs.times, ap length none))
 
--- a run came behind it, which may not have begun
+-- a run came after it, which may not have begun
 pub run_goes : (c : Command) (l : List ℕ) (domain test : Option (List Status)) (heard heard' : Bool) (n : Option MapNames)
     (end : ℕ) (start : LoadedMap) (e : Ending) (s0 s1 s2 : SourceState) (d0 d1 d2 d3 : SiteState) (k k' : ClockState)
     (x x' : ConsoleState) → HasInput c.infile end s0 s1 → HasLoaded true c n end (Ok start) d0 d1 d2 → d2.tells ≡ d0.tells

@@ -1,4 +1,4 @@
--- What a rescue did behind its words: the reads of maps that options name, and what was done behind them.
+-- What a rescue did after its words: the reads of maps that options name, and what was done after them.
 use Rattle.std.proofs.Common.{◌≡◌, ◌⊎◌, ℕ, ◌<◌, ◌^◌, Bool, IsTrue, List, [], ◌++◌, length, map, Option, Some, None, Ok, Err, refl, sym, ap, ◌∙◌, inl, inr, subst, append_assoc, append-nil}
 use Rattle.std.proofs.lemmas.List.Elements.{All-nil, All-append}
 use Rattle.block_list.specs.declared.status.Status.{Status}
@@ -82,7 +82,7 @@ reads_stopped which mode (Some name) file e calls (inr (inr (load, rest, loaded,
 }
 reads_stopped which mode (Some name) file e calls (inr (inr (load, rest, loaded, is, inr (passed, h)))) = absurd h
 
--- behind others
+-- after others
 ends_after : (front maps : List Call) (calls : List Entry) → EndsReads maps calls
     → EndsReads (front ++ maps) (map Returned front ++ calls)
 ends_after front maps calls (inl all) =
@@ -171,11 +171,11 @@ worked_domain c line heard e source old new clock x r =
     (map_rows TestMap (mode_by c) c.test_map found.test ++ opened_rows c found (length source.bytes)) run e
     (only_calls r.calls) r.did)
 
--- calls one behind another
+-- calls one after another
 grew_both : (d0 d1 d2 o l : List Entry) → d1 ≡ d0 ++ o → d2 ≡ d1 ++ l → d2 ≡ d0 ++ (o ++ l)
 grew_both d0 d1 d2 o l first second = second ∙ ap (λ r. r ++ l) first ∙ append_assoc d0 o l
 
--- behind a read that went well the files stand
+-- after a read that went well the files are as they were
 pub stands_after : (which : Which) (mode : Mode) (name : Option (List ℕ)) (tiles : Option Tiled) (old new : SiteState)
     → (f : ReadsMap which mode name (Ok tiles) old new) → Stays old new → IsTrue old.tells → files_in new ≡ files_in old
 stands_after which mode name tiles old new f stays t =
@@ -203,7 +203,7 @@ worked_test c line domain heard e source old mid new clock x f stays r =
     (stopped_more rescue_faults (map_rows TestMap (mode_by c) c.test_map r.file)
     (opened_rows c found (length source.bytes)) run e (only_calls r.calls) r.did))
 
--- or it went on behind both.
+-- or it went on after both.
 pub named_map : (name : Option (List ℕ)) (mode : Mode) (tiles : Option Tiled) (file : Option File) → HasTiles name mode tiles file
     → IsNamedMap name mode file (statuses_in tiles)
 named_map None mode tiles file has = λ statuses named is. absurd (cc)

@@ -219,7 +219,7 @@ ended_done r r1 end heard o site2 console2 w over same saves last =
     (says_all r r1 w.events end heard o.console o.console' console2 (setting_stands r r1 w.stands) w.state w.says last
     (saves_written None r1 end o.site' site2 refl saves))
 
--- a run that came behind its last phase
+-- a run that came after its last phase
 pub run_end : (r r1 : RunState) (end : RunEnd) (heard : Bool) (o : Across) (site2 : SiteState) (console2 : ConsoleState)
     → Went r r1 o → IsPast Retrying r1 → o.site'.tells ≡ o.site.tells → Closes None r1 end o.site' site2
     → SpeaksOn (last_pieces r1 end) r1.heard heard o.console' console2
@@ -247,7 +247,7 @@ limited_end r r2 limit end heard o site2 console2 w is same saves last =
     (says_all r r2 w.events end heard o.console o.console' console2 (setting_stands r r2 w.stands) w.state w.says last
     (saves_written (Some (LimitMet limit)) r2 end o.site' site2 refl saves))
 
--- where a limit is met no save is due behind the write
+-- if a limit is met no save is due after the write
 limited_calls : (r r2 : RunState) (e : Event) (limit : Limit) (a b : SiteState) → r2 ≡ stepped r e r2.heard
     → limit_met (setting_in r) r2.machine ≡ Some limit → Makes (write_calls (setting_in r) e.reading) a b
     → Makes (move_calls (setting_in r) (move_by r e)) a b

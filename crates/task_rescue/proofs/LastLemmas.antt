@@ -1,4 +1,4 @@
--- A run behind its last phase has ended.
+-- A run after its last phase has ended.
 use Rattle.std.proofs.Common.{◌≡◌, Bool, true, false, ◌&&◌, List, [], drop, is_none, if◌then◌else◌, ap, ◌∙◌}
 use Rattle.rescue_rules.specs.declared.phase.Phase.TheVariants.{Retrying}
 use Rattle.rescue_rules.specs.Setting.{Setting}

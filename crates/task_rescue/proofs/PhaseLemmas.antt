@@ -9,7 +9,7 @@ use Rattle.rescue_core.specs.Closing.{StoppedState}
 use Rattle.copy_passes.specs.Turns.{WentByTurns, PhaseEnds}
 use Rattle.copy_passes.proofs.TurnLemmas.{between, goes_on, objects_stay, went_up_to_on}
 
--- a phase behind others, by its outcome
+-- a phase after others, by its outcome
 pub ends_after : (r q : RunState) (result : Result RunState StoppedState) (a b c : SourceState) (d e f : SiteState)
     (k l n : ClockState) (x y z : ConsoleState) → WentByTurns r q (between a b d e k l x y)
     → PhaseEnds q result (between b c e f l n y z) → PhaseEnds r result (between a c d f k n x z)

@@ -58,7 +58,7 @@ setting_is i o n l opts end maps statuses state moment heard r is =
     let L : List ℕ → Setting = λ line. record (N n) { line = line } in
     ap S is.settings_are ∙ ap D positions ∙ ap N is.names_are ∙ ap L is.line_is
 
--- The readings of the clock around the events of a run, behind that of its start.
+-- The readings of the clock around the events of a run, after that of its start.
 with_own_times : (es : List Event) (spare : List ℕ) → with_times (reads_of es) (times_of es ++ spare) ≡ es
 with_own_times [] spare = refl
 with_own_times (e ∷ es) spare = ap (λ (rest : List Event). e ∷ rest) (with_own_times es spare)
@@ -82,7 +82,7 @@ ends_named s m es spare calls end (IsUnsaved stop call by is broke) =
     IsUnsaved stop call (ends_by_named stop s (state_after s m es) spare by) is broke
 ends_named s m es spare calls end (IsBroken before last call split none is broke) = IsBroken before last call split none is broke
 
--- a run over a map from this moment on, which is heard before and behind it or not, in the words of a rescue
+-- a run over a map from this moment on, which is heard before and after it or not, in the words of a rescue
 record InWords (s : Setting) (statuses : List Status) (state : Option MapState) (moment : ℕ) (heard heard' : Bool)
     (end : RunEnd) (o : Across) : Type 0 where
   events : List Event
@@ -170,7 +170,7 @@ ran_so s statuses state moment heard between heard' end o before unsaid w first 
       });
     }
 
--- a run of what a command asks for, behind the line of what it began with
+-- a run of what a command asks for, after the line of what it began with
 pub ran_by : (c : Command) (n : Option MapNames) (l : List ℕ) (end : ℕ) (maps : Maps) (statuses : List Status)
     (state : Option MapState) (moment : ℕ) (heard between heard' : Bool) (ready : RunMemory) (r : RunState) (at : RunEnd)
     (e : Ending) (a : Across) (before : ClockState) (unsaid : ConsoleState) → n ≡ names_by c

@@ -84,7 +84,7 @@ pub saves_written : (stop : Option Stop) (r : RunState) (end : RunEnd) (a b : Si
 saves_written stop r end a b off (Saved is makes rest) = ap ends_at_write is ∙ off
 saves_written stop r end a b off (Unsaved call is named breaks rest) = ap ends_at_write is
 
--- The lines of a run whose marked events led to a state or to one alike, behind which the last line was said.
+-- The lines of a run whose marked events led to a state or to one alike, after which the last line was said.
 module _ (r r1 : RunState) (es : List Event) (end : RunEnd) (heard : Bool) (x y z : ConsoleState)
     (same : setting_in r1 ≡ setting_in r)
     (alike : IsAlike (setting_in r) (state_after (setting_in r) r.machine es) r1.machine)

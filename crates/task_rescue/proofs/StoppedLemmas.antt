@@ -17,7 +17,7 @@ use Rattle.task_files.specs.declared.ending.Ending.TheVariants.{SiteFault}
 use Rattle.task_files.specs.Answers.{Causes, Rises, drafting_left, unchanged}
 use Rattle.task_files.specs.Work.{answer_of}
 
--- the last save behind a stop, by what that has counted
+-- the last save after a stop, by what that has counted
 module _ (stop : Stop) (r : RunState) (losses : ℕ → ℕ) (source source' : SourceState) (site before after : SiteState)
     (opens_are : source'.faults ≡ source.faults) (losses_are : source'.losses ≡ losses source.losses)
     (calls_are : before.faults ≡ site.faults) where

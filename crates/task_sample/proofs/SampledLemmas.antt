@@ -65,7 +65,7 @@ ran_to_end r r1 o counts goes past counted =
           ∙ ap (counts_of (covers r.domain)) w.state.map;
     }
 
--- the input as it was before its open, by what it is behind that
+-- the input as it was before its open, by what it is after that
 pub record IsOpened (end : ℕ) (source opened : SourceState) : Type 0 where
   pub tells : opened.tells ≡ source.tells
   pub journal : IsTrue source.tells → opened.journal ≡ source.journal

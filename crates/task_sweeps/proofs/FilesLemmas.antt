@@ -1,4 +1,4 @@
--- The steps over the files, behind an input that was opened.
+-- The steps over the files, after an input that was opened.
 use Rattle.std.proofs.Common.{◌≡◌, ℕ, Bool, true, false, List, [], ◌∷◌, ◌++◌, map, Option, Some, None, ap, ◌∙◌}
 use Rattle.crash_site.specs.Files.{File}
 use Rattle.crash_site.specs.Folder.{Folder, after}

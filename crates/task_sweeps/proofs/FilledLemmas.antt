@@ -195,7 +195,7 @@ module _ (types : TypeSet) (c : Command) (line : List ℕ) (heard : Bool)
 
   module _ (domain : Option Tiled) (s0 : SourceState) (old mid : SiteState)
       (f : ReadsMap DomainMap (mode_by c) c.domain_map (Ok domain) old mid) (stays : Stays old mid) where
-    -- what was done behind it
+    -- what was done after it
     after_map : (heard' : Bool) (e : Ending) (s1 : SourceState) (last : SiteState) (k k' : ClockState)
         (x x' : ConsoleState) (b : AfterMap c (across s0 s1 mid last k k' x x')) (top : ℕ) (buffer : List ℕ)
         (pieces : List Swept) (end : RunEnd) → IsMapEnd b.mapfile top
@@ -303,7 +303,7 @@ module _ (types : TypeSet) (c : Command) (line : List ℕ) (heard : Bool)
               (inl ((far, refl), record { opens = refl; gain = record { calls = refl; reads = refl; times = refl } }))))
               (λ none. (refl, refl)) (says_none heard x)
 
-          -- a sweep came behind it, which may not have begun
+          -- a sweep came after it, which may not have begun
           pub fill_goes : (heard' : Bool) (e : Ending) (d3 : SiteState) (k' : ClockState) (x' : ConsoleState)
               → ArePlacedBy c.options top
               → (let s = fill_setting c line top

@@ -64,7 +64,7 @@ open_there : (d : Folder) (out : List ℕ) (file : Option File) → (file ≡ No
 open_there d out file never own =
     subst (λ (o : Option File). IsOpenFile out file (opened d out false o)) (sym own) (opened_there d out file never own)
 
--- behind the load the output reads as it did before it was opened
+-- after the load the output reads as it did before it was opened
 open_after : (c : Command) (n : Option MapNames) (limit : ℕ) (start : LoadedMap) (d0 d1 d2 : SiteState)
     → (h : HasLoaded false c n limit (Ok start) d0 d1 d2) → Keeps d1 d2 → IsTrue d0.tells
     → IsOpenFile c.outfile h.output.file (after d2.start d2.calls)
@@ -120,7 +120,7 @@ module _ (c : Command) (line : List ℕ) (heard : Bool) (different : first_same 
 
   module _ (domain : Option Tiled) (s0 : SourceState) (old mid : SiteState)
       (f : ReadsMap DomainMap (mode_by c) c.domain_map (Ok domain) old mid) (stays : Stays old mid) where
-    -- what was done behind it
+    -- what was done after it
     after_map : (heard' : Bool) (e : Ending) (s1 : SourceState) (last : SiteState) (k k' : ClockState)
         (x x' : ConsoleState) (b : AfterMap c (across s0 s1 mid last k k' x x')) (pieces : List Swept) (end : RunEnd)
         → (let w = outside_after c domain s0 s1 old mid last k k' x x' f stays b in
@@ -218,7 +218,7 @@ module _ (c : Command) (line : List ℕ) (heard : Bool) (different : first_same 
             ))
             (λ t. All-nil _) (λ none. (refl, refl)) (says_none heard x)
 
-        -- a sweep came behind it, which may not have begun
+        -- a sweep came after it, which may not have begun
         pub generate_goes : (heard' : Bool) (e : Ending) (d3 : SiteState) (k' : ClockState) (x' : ConsoleState)
             → is_some c.mapfile ≡ true → Keeps d1 d2 → ArePlacedBy c.options end
             → DidGenerate (setting_of c line end

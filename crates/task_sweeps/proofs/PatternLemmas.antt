@@ -1,4 +1,4 @@
--- The pattern: a front that is repeated behind itself, and what came of its read.
+-- The pattern: a front that is repeated after itself, and what came of its read.
 use Rattle.std.proofs.Common.{◌≡◌, ℕ, ◌+◌, ◌-◌, ◌<◌, ◌≤◌, ◌%◌, min, List, [], ◌∷◌, ◌++◌, length, take, None, Some, Ok, Err, IsTrue, get_or, slice_get, refl, sym, ap, ◌∙◌, inl, inr, subst, arith, length-append}
 use Rattle.std.specs.List.{slice_range}
 use Rattle.std.proofs.Math.ListN.{set, get_or-append}

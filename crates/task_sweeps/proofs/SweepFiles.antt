@@ -1,4 +1,4 @@
--- What was there and what was done behind the map that an option names, by where a sweep's steps ended.
+-- What was there and what was done after the map that an option names, by where a sweep's steps ended.
 use Rattle.std.proofs.Common.{◌≡◌, ℕ, ◌-◌, ◌<◌, ◌^◌, Bool, IsTrue, List, [], ◌∷◌, ◌++◌, length, replicate, All, Option, None, Ok, Err, refl, sym, ap, ◌∙◌, inl, inr, subst, arith, append_assoc, append-nil}
 use Rattle.std.proofs.lemmas.List.Elements.{All-nil}
 use Rattle.block_list.specs.declared.status.Status.{Status}
@@ -112,7 +112,7 @@ some_end file =
 
 -- ---- where the steps ended
 
--- what was done behind the open of the input
+-- what was done after the open of the input
 abbrev pub deeds_with : (infile : List ℕ) → List Entry → List Reading → (times : List ℕ) → Deeds
 deeds_with infile calls reads times =
     record { opens = Opened infile ∷ []; gain = record { calls = calls; reads = reads; times = times } }
@@ -233,7 +233,7 @@ module _ (c : Command) (end : ℕ) (reads : List Reading) (s0 s1 : SourceState) 
         lines = [];
       }
 
-  -- behind it, with these calls and readings, and these lines
+  -- after it, with these calls and readings, and these lines
   abbrev pub after_files : (makes : Bool) (n : Option MapNames) (limit : ℕ) (start : LoadedMap) (d0 d1 d2 d3 : SiteState)
       (k' : ClockState) (x' : ConsoleState) (calls : List Entry) (times : List ℕ) (lines : List (List ℕ))
       → HasLoaded makes c n limit (Ok start) d0 d1 d2 → d2.tells ≡ d0.tells

@@ -1,4 +1,4 @@
--- What was outside of a sweep: behind the map that an option names, or where the read of that map stopped.
+-- What was outside of a sweep: after the map that an option names, or where the read of that map stopped.
 use Rattle.std.proofs.Common.{◌≡◌, ◌⊎◌, ℕ, ◌<◌, ◌^◌, IsTrue, List, [], ◌++◌, length, Option, None, Ok, Err, refl, sym, ap, ◌∙◌, inl, inr, append_assoc, append-nil}
 use Rattle.std.proofs.lemmas.List.Elements.{All-nil}
 use Rattle.block_list.specs.Tiled.{Tiled}
@@ -35,7 +35,7 @@ use Rattle.task_sweeps.proofs.SweepMaps.{MapsOfSweep, sweep_maps_for}
 use Rattle.task_files.proofs.OpenedLemmas.{none_seen}
 use Rattle.task_files.proofs.WorkedLemmas.{found_is, mode_by, named_map, only_maps, reads_after, reads_stopped, reads_through, stands_after, unasked}
 
--- What was there and what was done behind the map that an option names; where the input's length isn't known nothing was
+-- What was there and what was done after the map that an option names; if the input's length isn't known nothing was
 
 -- done but its open.
 pub record AfterMap (c : Command) (o : Across) : Type 0 where
@@ -102,7 +102,7 @@ module _ (c : Command) (domain : Option Tiled) (s0 s1 : SourceState) (old mid la
         fit = b.gains.fit;
       }
 
-  -- the steps in front of what was done behind it
+  -- the steps in front of what was done after it
   pub named_then : first_same c.infile c.outfile (names_by c) ≡ None → (more : List (WorkStep Ending))
       (run : Ending → Deeds → Type 0) (e : Ending) → Works rescue_faults more run e b.did
       → Works rescue_faults (named_rows c outside_after.found ++ more) run e outside_after.did

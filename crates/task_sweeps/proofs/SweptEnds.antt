@@ -55,7 +55,7 @@ sweep_cause s w m es end site site' e (Broken before last call split is breaks) 
     subst (λ (v : Ending). Causes v source source site site') (ap answer_of (sym is) ∙ sym answered)
     (record { faults = refl; losses_ = refl; site_faults = breaks.rose })
 
--- behind steps that counted nothing,
+-- after steps that counted nothing,
 input_after : (opens losses calls : ℕ → ℕ) (s s' : SourceState) (d d' : SiteState) → s'.faults ≡ s.faults
     → s'.losses ≡ s.losses → Rises opens losses calls s' s' d d' → Rises opens losses calls s s' d d'
 input_after opens losses calls s s' d d' faults lost r = record {

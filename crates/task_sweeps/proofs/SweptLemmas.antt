@@ -147,7 +147,7 @@ over_job P c n h limit maps statuses state moment heard job named is holds =
     (subst (λ (x : Option MapState). P t statuses x job.moment job.heard) is.state_is
     (subst (λ (x : List Status). P t x job.loaded job.moment job.heard) is.map holds))))
 
--- ---- a sweep behind the line of what it began with
+-- ---- a sweep after the line of what it began with
 
 module _ (s : Setting) (w : Sweeper) (statuses : List Status) (state : Option MapState) where
   did_sweep : (moment : ℕ) (heard between_ heard' : Bool) (end : RunEnd) (e : Ending) (o : Around) (before : ClockState)

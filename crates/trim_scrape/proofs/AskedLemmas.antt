@@ -1,4 +1,4 @@
--- What a read behind copying asked for is finished behind it, or bad, if it is still left of the domain.
+-- What a read after copying asked for is finished after it, or bad, if it is still left of the domain.
 use Rattle.std.proofs.Common.{◌≡◌, ◌⊎◌, ℕ, ◌+◌, ◌-◌, ◌<◌, ◌≤◌, Bool, true, false, ◌&&◌, nat_lt, if◌then◌else◌, List, length, Some, sym, ap, ◌∙◌, arith, inl, inr, ⊎_elim}
 use Rattle.std.proofs.lemmas.Bool.{cases_lt, cond_both}
 use Rattle.std.proofs.lemmas.Option.{same_Some}
@@ -19,7 +19,7 @@ use Rattle.rescue_rules.proofs.OverLemmas.{good_reaches}
 use Rattle.rescue_rules.proofs.StepLemmas.{asks_back, move_steps}
 use Rattle.rescue_core.proofs.ChangeLemmas.{scraped_past}
 
--- An event of a request of a phase behind copying, and what it does.
+-- An event of a request of a phase after copying, and what it does.
 pub record StepsLater (s : Setting) (m : Machine) (e : Event) : Type 0 where
   pub steps : StepsBy s m e
   pub later : is_copying m ≡ false

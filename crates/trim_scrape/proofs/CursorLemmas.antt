@@ -25,7 +25,7 @@ LiesAhead true cursor x = cursor ≤ x
 LiesAhead false cursor x = x < cursor
 
 -- Trimming goes back to its pass's start, so that it leaves each position; any other phase leaves what lies ahead; and
--- neither anything behind the input's end.
+-- neither anything past the input's end.
 pub record IsLeft (s : Setting) (m : Machine) (x : ℕ) : Type 0 where
   pub before : is_before m.over x ≡ true
   pub ahead : is_trimming m ≡ false → LiesAhead (is_up s (pass_of m)) m.cursor x

@@ -60,7 +60,7 @@ owes_last s map from shown time x within =
     within refl))
     (cases_lt (first_pass from) 5)
 
--- and the passes behind copying
+-- and the passes after copying
 owes_after : (s : Setting) (map : List Status) (from : Option MapState) (shown : MapState) (time x : ℕ) (p : Pass)
     → Contains (passes_after s Copying) p → Owes s (machine_of s map from shown time) p x
 owes_after s map from shown time x p has = Later (after_contains s (first_pass from) p (first_few from) has)
@@ -93,7 +93,7 @@ fails : (s : Setting) (m : Machine) (es : List Event) (p : Pass) (x : ℕ) → E
 fails s m es p x e never inside within has owes =
     owed_fails s m es p x e.ok e.may e.run e.over never inside within has owes
 
--- so that no position is non-tried, nor non-trimmed or non-scraped behind a phase that is on.
+-- so that no position is non-tried, nor non-trimmed or non-scraped after a phase that is on.
 left_well : (s : Setting) (map : List Status) (from : Option MapState) (shown : MapState) (time : ℕ) (es : List Event)
     (x : ℕ) (t : Status)
     → Ended s (machine_of s map from shown time) es

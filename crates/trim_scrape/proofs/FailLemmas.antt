@@ -70,7 +70,7 @@ taken_order Retrying = refl
 takes : (phase : Phase) (t : Status) → taken phase ≡ t → order phase ≡ order_of t
 takes phase t is = sym (taken_order phase) ∙ ap order_of is
 
--- What has the status that a phase asks for had it before, in that phase and behind it.
+-- What has the status that a phase asks for had it before, in that phase and after it.
 back_step : (s : Setting) (m : Machine) (e : Event) (p : Pass) (x : ℕ) → Moves s m e → IsFrom p (pass_of (ready s m))
     → Has (move_of s m e).after.map (taken p.phase) x → Has (ready s m).map (taken p.phase) x
 back_step s m e p x by past has =

@@ -1,4 +1,4 @@
--- Turns of a pass behind copying.
+-- Turns of a pass after copying.
 use Rattle.std.proofs.Common.{◌≡◌, ℕ, ◌+◌, ◌<◌, true, false, refl, sym, ap, ◌∙◌, subst}
 use Rattle.rescue_rules.specs.Step.{limit_met}
 use Rattle.faulty_source.specs.SourceState.{SourceState}

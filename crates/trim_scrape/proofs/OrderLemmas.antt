@@ -211,7 +211,7 @@ has_retrying s n some few =
     Contains-append_right (trimming_passes s ++ scraping_passes s) (passes_in s Retrying 1) (numbered Retrying n)
     (contains_some Retrying n 1 (s.retries + 1 - 1) (omega (arith, some)) (omega (arith, few)))
 
--- Behind a pass of copying there are the others of copying, and those behind copying.
+-- After a pass of copying there are the others of copying, and those after copying.
 copying_are : (s : Setting) (number : ℕ) → number ≤ 5
     → passes_from s Copying number
     ≡ numbered Copying number ∷ some_in Copying (number + 1) (5 - number) ++ passes_after s Copying

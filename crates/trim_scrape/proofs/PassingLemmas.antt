@@ -1,4 +1,4 @@
--- A run within a pass behind copying stays so in a turn.
+-- A run within a pass after copying stays so in a turn.
 use Rattle.std.proofs.Common.{◌≡◌, ℕ, suc, ◌+◌, ◌-◌, ◌<◌, ◌≤◌, Bool, true, false, List, [], ◌∷◌, ◌++◌, length, map, drop, take, Some, None, refl, sym, ap, ◌∙◌, arith, subst, ⊎_elim}
 use Rattle.std.specs.List.{slice_get, slice_index_or, range_with_len}
 use Rattle.std.proofs.lemmas.Bool.{and_from, le-leb, true≢false}
@@ -28,7 +28,8 @@ use Rattle.trim_scrape.proofs.AskedLemmas.{StepsLater, steps_later, unasked}
 use Rattle.trim_scrape.proofs.CountLemmas.{count, fewer, front_has, front_had, front_within}
 use Rattle.trim_scrape.proofs.SweepLemmas.{Sweeps, scraping_sweeps, retrying_sweeps, sweeps_on, ahead_is, ahead_still, ahead_at_start}
 
--- A run within such a pass: it has met no limit, and those behind it follow; and in scraping it has left nothing behind.
+-- A run within such a pass: it has met no limit, and those after it follow; and in scraping each position that it asks
+-- for lies ahead of its cursor.
 pub record IsInPass (r : RunState) : Type 0 where
   pub sensible : IsSensible (setting_in r)
   pub within : limit_met (setting_in r) r.machine ≡ None
@@ -109,7 +110,7 @@ reads_less Scraping r e heard i l asks is =
 reads_less Retrying r e heard i l asks is =
     sweeps_less r e heard (retrying_sweeps (setting_in r) r.machine r.pass (sweeps_in r Retrying i is)) l asks
 
--- scraping leaves nothing behind
+-- after a turn of scraping each position that it asks for lies ahead of its cursor
 scrapes_all : (r : RunState) (e : Event) → IsInPass r → StepsLater (setting_in r) r.machine e
     → IsRequest (setting_in r) r.machine e.reading.pos (e.reading.pos + e.reading.asked)
     → length e.reading.given ≤ e.reading.asked → r.phase ≡ Scraping → LeavesNone (setting_in r) (step (setting_in r) r.machine e)
@@ -159,7 +160,7 @@ passes_step r e heard i asks few within =
       };
     }
 
--- Where it has no request left, trimming has left nothing behind either:
+-- If it has no request left, trimming has left no position that it asks for either:
 -- it isn't at a run's back, whose front would be ahead,
 trims_lead : (r : RunState) → IsInPass r → r.phase ≡ Trimming → has_request (setting_in r) r.machine ≡ false
     → r.machine.mode ≡ Lead

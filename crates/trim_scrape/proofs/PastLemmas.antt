@@ -1,4 +1,4 @@
--- A run that is behind a phase.
+-- A run that is past a phase.
 use Rattle.std.proofs.Common.{◌≡◌, Bool, true, not, if◌then◌else◌, List, [], ◌++◌, ap, ◌∙◌}
 use Rattle.rescue_rules.specs.declared.phase.Phase.TheVariants.{Copying, Trimming, Scraping, Retrying}
 use Rattle.rescue_rules.specs.Passes.{Pass, passes_in}

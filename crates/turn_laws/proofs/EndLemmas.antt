@@ -99,7 +99,7 @@ last_saved s p start calls now is =
           (sure_synced was was.reads.image image open_);
     }
 
--- what they leave behind those of a run
+-- what they leave after those of a run
 closed_saved : (s : Setting) (m : Machine) (es : List Event) (p : Snapshot) (site site' : SiteState)
     → IsTrue site.tells → Keeps site site'
     → site'.calls ≡ site.calls ++ map Done (run_calls s m es ++ closing_calls s p)

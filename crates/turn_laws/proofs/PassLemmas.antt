@@ -26,7 +26,7 @@ use Rattle.trim_scrape.proofs.OrderLemmas.{Follows, AreOrdered, ordered_from, ne
 use Rattle.turn_laws.specs.UnderWay.{StillComes, Now, Later}
 use Rattle.turn_laws.specs.PassLaws.{passed_over, LeadsPast, SpentLeadsPast, passes_up_to, known_past, TypedLeadsPast, UnderWayMayCopy, CopyingIsUnderWay, PastIsUnderWay}
 
--- the next pass, and those behind it
+-- the next pass, and those after it
 two_by : (ps : List Pass) (p : Pass) (qs : List Pass) → drop 1 ps ≡ p ∷ qs → (c : Pass) × (ps ≡ c ∷ p ∷ qs)
 two_by [] p qs is = absurd (cc)
 two_by (c ∷ ps) p qs is = (c, ap (λ (rest : List Pass). c ∷ rest) is)
@@ -57,7 +57,7 @@ spent_leads_past r phase (p ∷ spent) ok within off left none =
           (next_pass_is_alike s m two.0 p (drop 2 m.passes) off are) l.alike;
     }
 
--- The passes up to the end of a phase, and those behind it.
+-- The passes up to the end of a phase, and those after it.
 up_to_trimming : (s : Setting) (number : ℕ)
     → passes_from s Copying number ≡ passes_up_to s Trimming number ++ passes_after s Trimming
 up_to_trimming s number =
@@ -225,7 +225,7 @@ copying_is_under_way r c = record {
   scraped = λ on x live has. past_comes r (numbered Scraping 1) x c (has_scraping (setting_in r) on);
 }
 
--- What is left for the phases behind one is to come, and nothing is for those up to it.
+-- What is left for the phases after one is to come, and nothing is for those up to it.
 has_scraping_next : (s : Setting) → s.scrapes ≡ true → Contains (passes_after s Trimming) (numbered Scraping 1)
 has_scraping_next s on =
     Contains-append_left (if s.scrapes then passes_in s Scraping 1 else []) (passes_in s Retrying 1) (numbered Scraping 1)

@@ -161,7 +161,7 @@ more_run s r q es e request a b k l site site' t within asks is =
       state = on.state ∙ ap (λ (w : Move). w.after) moved ∙ ap (λ (x : Setting). step x n e) (sym t.setting);
     }
 
--- what a turn that stopped did, behind whole ones
+-- what a turn that stopped did, after whole ones
 stopped_are_held : (s : Setting) (start : List ℕ) (reads own : List Reading) (stop : Stop) (r r' : RunState)
     (o : Across) (files : List ℕ → Option File) → setting_in r ≡ nameless s → IsTrue o.site.tells
     → Keeps o.site o.site' → (w : WentUpTo stop r r' o)

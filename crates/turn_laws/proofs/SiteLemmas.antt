@@ -29,7 +29,7 @@ broke_grew at (c ∷ cs) old new (inr h) =
     let g : Grew cs (old ++ Done c ∷ []) new = broke_grew at cs (old ++ Done c ∷ []) new h in
     record { more = Done c ∷ g.more; is = g.is ∙ append_assoc old (Done c ∷ []) g.more; comes = (refl, g.comes) }
 
--- the disk behind more calls of a site
+-- the disk after more calls of a site
 pub grown_disk : (site site' : SiteState) (more : List Entry) → IsTrue site.tells → Keeps site site'
     → site'.calls ≡ site.calls ++ more → disk_of site' ≡ disk_after (disk_of site) more
 grown_disk site site' more tells keeps is =

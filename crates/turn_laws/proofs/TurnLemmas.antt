@@ -121,7 +121,7 @@ still_is_held s start reads m site site' files tells keeps same safe l =
     safe.each [] (snapshot_of m) [] (l.moment - length site.calls) files (record { each = All-nil (IsMove s) }) refl tt
     (left_within site site' [] files tells keeps (ap (λ (x : SiteState). x.calls) same ∙ sym (append-nil site.calls)) l)
 
--- the save that is due behind a turn's write
+-- the save that is due after a turn's write
 due_grew : (r r' : RunState) (e : Event) (old new : List Entry)
     → r'.machine ≡ step (setting_in r) r.machine e → is_due (setting_in r) (move_by r e) ≡ true
     → Grew (save_calls (names_in r.names) (text_of r.line (snapshot_of r'.machine)))
@@ -141,7 +141,7 @@ due_grew r r' e old new steps due g =
           (subst (λ (cs : List Call). ComesTo cs g.more) (sym is_save) comes);
     }
 
--- where a limit is met no save is due behind the write
+-- if a limit is met no save is due after the write
 limited_calls : (r r' : RunState) (e : Event) (limit : Limit) → r'.machine ≡ step (setting_in r) r.machine e
     → limit_met (setting_in r) r'.machine ≡ Some limit
     → move_calls (setting_in r) (move_by r e) ≡ write_calls (setting_in r) e.reading

@@ -27,7 +27,7 @@ use Rattle.turn_laws.specs.UnderWay.{StillComes, Later, IsUnderWay, IsLeftWellSi
 use Rattle.turn_laws.specs.EndLaws.{StartIsUnderWay, UnderWayEndsWell, SinceStartIsWell}
 use Rattle.turn_laws.proofs.WayLemmas.{owes_by, comes_by, may_run, run_stays_under_way}
 
--- the passes behind copying come to each
+-- the passes after copying come to each
 comes_after : (s : Setting) (map : List Status) (from : Option MapState) (shown : MapState) (time : ℕ) (p : Pass)
     (x : ℕ) → Contains (passes_after s Copying) p → StillComes s (machine_of s map from shown time) p x
 comes_after s map from shown time p x has = Later (after_contains s (first_pass from) p (first_few from) has)

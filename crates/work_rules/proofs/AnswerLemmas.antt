@@ -1,4 +1,4 @@
--- What an answer of any work is: one of a row that it stopped in, or one of the run behind the rows.
+-- What an answer of any work is: one of a row that it stopped in, or one of the run after the rows.
 use Rattle.save_resume.specs.Loading.{IsLoad}
 use Rattle.crash_site.specs.Calls.{Call, Entry, Done as Returned}
 use Rattle.crash_site.specs.Files.{File}
@@ -50,7 +50,7 @@ pub data Came {E : Type 0} (f : Faults E) (steps : List (WorkStep E)) (run : E �
   Stopped : Stops f steps e → d.gain.reads ≡ [] → Came f steps run e d
   Went : (x : Deeds) → run e x → x.gain.reads ≡ d.gain.reads → FindNone steps → Came f steps run e d
 
--- behind one more row
+-- after one more row
 called_later : {E : Type 0} (s : WorkStep E) (more : List (WorkStep E)) (call : SiteCall) → IsCalled call more → IsCalled call (s ∷ more)
 called_later Take more call called = called
 called_later (Look refuses) more call called = called
@@ -117,7 +117,7 @@ Passed (Read name file ∷ more) run e d =
     (load : List Call) × (rest : List Entry) × IsLoadIf name file load × (d.gain.calls ≡ map Returned load ++ rest)
     × Passed more run e (with_calls d rest)
 
--- an answer of which no row stops is one of the run behind them all
+-- an answer of which no row stops is one of the run after them all
 pub passed : {E : Type 0} (f : Faults E) (steps : List (WorkStep E)) (run : E → Deeds → Type 0) (e : E) (d : Deeds)
     → (Stops f steps e → ⊥) → Works f steps run e d → Passed steps run e d
 passed f [] run e d never w = w

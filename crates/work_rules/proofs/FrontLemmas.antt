@@ -57,7 +57,7 @@ broken_stands at (c ∷ calls) start old new reads (inr broke) =
     broken_stands at calls start (old ++ Returned c ∷ []) new (All-tail IsMapRead c calls reads) broke
     ∙ after-append start old (Returned c ∷ []) ∙ (read_stands c (after start old) (All-head IsMapRead c calls reads)).returned
 
--- calls that broke behind others that returned
+-- calls that broke after others that returned
 pub broke_in_both : (at : SiteCall) (front calls : List Call) (old new : List Entry) → BrokeAt at calls (old ++ map Returned front) new
     → BrokeAt at (front ++ calls) old new
 broke_in_both at [] calls old new broke = subst (λ (r : List Entry). BrokeAt at calls r new) (append-nil old) broke
@@ -65,7 +65,7 @@ broke_in_both at (c ∷ front) calls old new broke =
     inr (broke_in_both at front calls (old ++ Returned c ∷ []) new
     (subst (λ (r : List Entry). BrokeAt at calls r new) (sym (append_assoc old (Returned c ∷ []) (map Returned front))) broke))
 
--- returned calls, one list behind another
+-- returned calls, one list after another
 pub made_both : (front calls : List Call) (rest : List Entry)
     → map Returned front ++ (map Returned calls ++ rest) ≡ map Returned (front ++ calls) ++ rest
 made_both front calls rest =

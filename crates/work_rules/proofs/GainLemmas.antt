@@ -5,7 +5,7 @@ use Rattle.crash_site.specs.Calls.{Call, Entry, Done, Failed}
 use Rattle.crash_site.specs.CallsMade.{Lost, BrokeAt}
 use Rattle.save_resume.specs.Saving.{IsNameIn}
 
--- a record that grew, behind other calls
+-- a record that grew, after other calls
 pub lost_after : (c : Call) (front old new : List Entry) → Lost c old new → Lost c (front ++ old) (front ++ new)
 lost_after c front old new (inl e) = inl (ap (λ r. front ++ r) e ∙ sym (append_assoc front old (Failed c ∷ [])))
 lost_after c front old new (inr e) = inr (ap (λ r. front ++ r) e)
@@ -36,7 +36,7 @@ broke_gains at (c ∷ cs) old new (inr b) =
       broke = inr (broke_after at cs (Done c ∷ []) [] rest.more rest.broke);
     }
 
--- calls that broke behind others that returned, of which none has the name of the one that failed
+-- calls that broke after others that returned, of which none has the name of the one that failed
 pub broke_past : (at : SiteCall) (front calls : List Call) (old new : List Entry) → (IsNameIn at front → ⊥)
     → BrokeAt at (front ++ calls) old new → BrokeAt at calls (old ++ map Done front) new
 broke_past at [] calls old new other b = subst (λ r. BrokeAt at calls r new) (sym (append-nil old)) b

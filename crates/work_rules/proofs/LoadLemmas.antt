@@ -26,7 +26,7 @@ ones_sum n = let e : sum (replicate n 1) ≡ n * 1 = sum_by-replicate (λ (x : �
 pub one_is_piece : IsReadSize 1
 one_is_piece = (omega arith, omega arith)
 
--- the first reads of a file that gave so many bytes, one by one, and the read behind them
+-- the first reads of a file that gave this many bytes, one by one, and the read after them
 begins_by_ones : (name : List ℕ) (f : File) (n : ℕ) (answer : Option MapRead) → n ≤ length f.bytes → n ≤ text_limit
     → BeginsLoad name (Some f) (load_reads name (replicate n 1) answer)
 begins_by_ones name f n answer within limited =
@@ -103,7 +103,7 @@ begins_first name file = record {
   calls_are = refl;
 }
 
--- ---- what a load did, behind other calls
+-- ---- what a load did, after other calls
 
 pub by_tells : (b : Bool) (X : Type 0) → (IsTrue b → X) → ((IsTrue b → ⊥) → X) → X
 by_tells true X told untold = told refl

@@ -5,7 +5,7 @@ use Rattle.work_rules.specs.Work.{Deeds, Faults, WorkStep, Take, Look, Open, Mak
 use Rattle.work_rules.specs.Parts.{WentThrough}
 use Rattle.work_rules.specs.Holds.{after_entries}
 
--- what stopped in some rows stopped in front of all that is behind them
+-- what stopped in some rows stopped before all that comes after them
 pub stopped_more : {E : Type 0} (f : Faults E) (rows more : List (WorkStep E)) (run : E → Deeds → Type 0) (e : E) (d : Deeds)
     → Works f rows (λ v x. ⊥) e d → Works f (rows ++ more) run e d
 stopped_more f [] more run e d h = absurd h
@@ -24,17 +24,17 @@ stopped_more f (Read (Some name) file ∷ rows) more run e d (inr (inl h)) = inr
 stopped_more f (Read (Some name) file ∷ rows) more run e d (inr (inr h)) =
     inr (inr (h.0, h.1, h.2, h.3, stopped_more f rows more run e _ h.4))
 
--- calls behind which others come
+-- calls after which others come
 pub grown : (calls rest later front : List Entry) → calls ≡ front ++ rest → calls ++ later ≡ front ++ (rest ++ later)
 grown calls rest later front is = ap (λ c. c ++ later) is ∙ append_assoc front rest later
 
--- calls one behind another, and then others
+-- calls one after another, and then others
 pub grew_both : (d0 d1 d2 more : List Entry) (o l : List Entry) → d1 ≡ d0 ++ o → d2 ≡ d1 ++ l
     → d2 ++ more ≡ d0 ++ (o ++ (l ++ more))
 grew_both d0 d1 d2 more o l first second =
     ap (λ r. r ++ more) second ∙ append_assoc d1 l more ∙ ap (λ r. r ++ (l ++ more)) first ∙ append_assoc d0 o (l ++ more)
 
--- what is done behind rows that the work went through is done by all of it
+-- what is done after rows that the work went through is done by all of it
 pub through_then : {E : Type 0} (f : Faults E) (rows more : List (WorkStep E)) (run : E → Deeds → Type 0) (e : E)
     (calls : List Entry) (d : Deeds) → WentThrough rows calls → Works f more run e d
     → Works f (rows ++ more) run e (after_entries calls d)
@@ -57,7 +57,7 @@ through_then f (Read (Some name) file ∷ rows) more run e calls d t w =
       through_then f rows more run e t.1 d t.4 w,
     ))
 
--- work behind which another run may come as well
+-- work after which another run may come as well
 pub works_as : {E : Type 0} (f : Faults E) (rows : List (WorkStep E)) (run other : E → Deeds → Type 0)
     → ((e : E) (d : Deeds) → run e d → other e d) → (e : E) (d : Deeds) → Works f rows run e d → Works f rows other e d
 works_as f [] run other also e d w = also e d w

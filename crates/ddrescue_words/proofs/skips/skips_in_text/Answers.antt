@@ -1,4 +1,4 @@
--- The text is cut at its first comma; one more behind it is too many.
+-- The text is cut at its first comma; one more after it is too many.
 use Rattle.std.proofs.Common.{◌∙◌, sym}
 use Rattle.ddrescue_words.proofs.SkipLemmas.{alone, both, too_many}
 use Rattle.ddrescue_words.proofs.skips.skips_in_text.Goals as goal

@@ -1,4 +1,4 @@
--- Each number that comes goes behind those that were put.
+-- Each number that comes goes after those that were put.
 use Rattle.rescue_domain.specs.Parts.{covers}
 use Rattle.map_algebra.specs.Listing.{wanted_of}
 use Rattle.ddrescuelog_cli.proofs.NumberLemmas.{none_put, next_of, none_of, fewer_left, number_put, last_put, last_broke, number_broke, some_buffered, some_listed}

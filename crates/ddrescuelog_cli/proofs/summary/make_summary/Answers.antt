@@ -1,4 +1,4 @@
--- The lines, one behind another.
+-- The lines, one after another.
 use Rattle.std.proofs.Common.{◌++◌, ap, ◌∙◌}
 use Rattle.ddrescuelog_cli.proofs.LineLemmas.{seven_lines}
 use Rattle.ddrescuelog_cli.proofs.summary.make_summary.Goals as goal

@@ -1,4 +1,4 @@
--- What was done behind the names, by where it ended.
+-- What was done after the names, by where it ended.
 use Rattle.std.proofs.lemmas.Result.{err_from_is_err_and}
 use Rattle.faulty_source.proofs.Keeping.{keeps_more}
 use Rattle.ddrescueverify_words.specs.Command.{told_by}

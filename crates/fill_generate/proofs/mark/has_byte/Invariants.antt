@@ -1,4 +1,4 @@
--- What is found, with what the bytes behind here have, is what all have.
+-- What is found, with what the bytes after here have, is what all have.
 use Rattle.std.proofs.Common.{◌≡◌, drop, ◌||◌}
 use Rattle.std.specs.List.{list_any}
 use Rattle.fill_generate.specs.Marking.{is_byte}

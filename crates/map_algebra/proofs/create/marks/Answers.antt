@@ -1,4 +1,4 @@
--- One block more, and what lies behind the last one.
+-- One block more, and what lies past the last one.
 use Rattle.std.proofs.Common.{◌≡◌, ℕ, ◌+◌, List, min, get_or, length, ap, sym, ◌∙◌, subst, arith}
 use Rattle.std.proofs.lemmas.List.{get_or_default}
 use Rattle.block_list.specs.declared.status.Status.{Status}

@@ -2,7 +2,7 @@ use Rattle.std.proofs.Common.{◌≡◌, ◌-◌, ◌≤◌, [], ◌∷◌, take
 use Rattle.mapfile_text.proofs.LastDigits.{last_digits}
 use Rattle.mapfile_text.proofs.digits.short_hexadecimal.Given as goal
 
--- the last digits of the rest belong in front of those that were written, behind the `0x`
+-- the last digits of the rest belong before those that were written, after the `0x`
 abbrev pub invariant-loop-i : goal.invariant-loop-i
 invariant-loop-i l = record {
   from : 2 ≤ l.i;

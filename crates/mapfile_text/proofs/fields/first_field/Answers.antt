@@ -1,4 +1,4 @@
--- The field stands behind the blanks in front, up to the next blank or the line's end.
+-- The field comes after the blanks in front, up to the next blank or the line's end.
 use Rattle.std.proofs.Common.{◌-◌, length, take, drop, List, ℕ, arith}
 use Rattle.mapfile_text.proofs.FieldLemmas.{rest_from}
 use Rattle.mapfile_text.proofs.FirstLine.{Found, field_found, after_found, none_found}

@@ -1,4 +1,4 @@
--- The digits behind the zeros.
+-- The digits after the zeros.
 use Rattle.std.proofs.Common.{◌≡◌, ◌-◌, ◌++◌, take, drop, arith, ap, ◌∙◌, length-append}
 use Rattle.std.specs.Fmt.{decimal}
 use Rattle.mapfile_text.proofs.DigitLemmas.{slice_from, decimal_digits, length_decimal}

@@ -1,4 +1,4 @@
--- The digits stand behind the `0x` with which the field begins.
+-- The digits come after the `0x` with which the field begins.
 use Rattle.std.proofs.Common.{◌≡◌, ◌<◌, ◌-◌, ◌∷◌, List, ℕ, length, drop, take, get_or, sym, ◌∙◌, ap, arith}
 use Rattle.std.proofs.lemmas.Bool.{eqb-false}
 use Rattle.mapfile_text.proofs.FieldLemmas.{rest_from}

@@ -1,4 +1,4 @@
--- The last option of the letter behind here, otherwise the last so far, is the last of all; its value stands in the
+-- The last option of the letter after here, otherwise the last so far, is the last of all; its value is in the
 -- words.
 use Rattle.std.proofs.Common.{◌≡◌, map, drop, IfSome}
 use Rattle.option_words.specs.Rows.{meaning_of_row}

@@ -1,4 +1,4 @@
--- The last position that is asked for ends too far behind.
+-- The last position that is asked for ends too far on.
 use Rattle.rescue_domain.proofs.PlaceLemmas.{beyond_at}
 use Rattle.rescue_domain.proofs.places.places_fit.Goals as goal
 

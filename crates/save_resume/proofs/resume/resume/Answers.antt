@@ -1,4 +1,4 @@
--- What was read behind the barrier.
+-- What was read after the barrier.
 use Rattle.save_resume.proofs.ResumeLemmas.{resumed_read, resumed_told, resumed_settled, unresumed}
 use Rattle.save_resume.proofs.resume.resume.Goals as goal
 

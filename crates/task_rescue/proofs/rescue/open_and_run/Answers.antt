@@ -1,4 +1,4 @@
--- What was done behind the maps that options name, by where it ended.
+-- What was done after the maps that options name, by where it ended.
 use Rattle.std.proofs.Common.{refl, sym, ◌∙◌}
 use Rattle.std.proofs.lemmas.Result.{err_from_is_err_and}
 use Rattle.faulty_source.proofs.Keeping.{keeps_more}
