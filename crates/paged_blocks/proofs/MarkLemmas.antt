@@ -343,11 +343,11 @@ one_at_most None = omega arith
 one_at_most (Some b) = omega arith
 
 -- the blocks that come in, one part after the other
-pub new_blocks : (none one two three : List Block) (before past : Option Block) (whole : Block) → none ≡ []
-    → one ≡ none ++ option_to_list before → two ≡ one ++ whole ∷ [] → three ≡ two ++ option_to_list past
-    → three ≡ option_to_list before ++ whole ∷ [] ++ option_to_list past
-new_blocks none one two three before past whole z a b c =
-    c ∙ ap (λ r. r ++ option_to_list past) (b ∙ ap (λ r. r ++ whole ∷ []) (a ∙ ap (λ r. r ++ option_to_list before) z))
+pub new_blocks : (none one two three : List Block) (before after : Option Block) (whole : Block) → none ≡ []
+    → one ≡ none ++ option_to_list before → two ≡ one ++ whole ∷ [] → three ≡ two ++ option_to_list after
+    → three ≡ option_to_list before ++ whole ∷ [] ++ option_to_list after
+new_blocks none one two three before after whole z a b c =
+    c ∙ ap (λ r. r ++ option_to_list after) (b ∙ ap (λ r. r ++ whole ∷ []) (a ∙ ap (λ r. r ++ option_to_list before) z))
 
 -- how many blocks come in
 pub record IsFew (new : List Block) (after : Option Block) : Type 0 where
