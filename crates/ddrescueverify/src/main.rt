@@ -1,6 +1,7 @@
 //! ddrescueverify: compares what a mapfile calls finished with the infile again.
 #![tactic(auto)]
 
+use advice::advise;
 use crash_site::folder::FolderSite;
 use ddrescueverify_cli::verify::ddrescueverify;
 use faulty_source::file::FileSource;
@@ -8,16 +9,19 @@ use program_start::status::status_of;
 use program_start::streams::{ClosedStream, fill_streams};
 use program_start::words::collect_words;
 use real_files::identity::OpenInput;
+use rescue_console::console::{Channel, Console};
 use rescue_console::system::StdConsole;
 use std::io;
 use std::process::ExitCode;
+
+mod advice;
 
 /// How many bytes of a file are read ahead at once.
 const ROOM: usize = 65536;
 
 fn run(rt: HostRuntime) -> io::Result<u8> {
     fill_streams(&rt, ClosedStream::Faulty)?;
-    let words = collect_words(&rt)?;
+    let words = collect_words(&rt, "ddrescueverify")?;
     let input = OpenInput::new(rt.alloc())?;
     let mut source = FileSource::new(rt.clone()?);
     let mut site = FolderSite::new(rt.clone()?);
@@ -31,6 +35,13 @@ fn run(rt: HostRuntime) -> io::Result<u8> {
     }
     let mut console = StdConsole::new(rt.clone()?);
     let ending = ddrescueverify(rt.alloc(), &words, &mut source, &mut site, &mut console);
+    if console.trouble(Channel::Err).is_none() {
+        let put = console.trouble(Channel::Out);
+        if let Some(line) = advise(rt.alloc(), &words, ending, &source, &site, put) {
+            // A console that fails changes no status.
+            let _put = console.put(Channel::Err, &line);
+        }
+    }
     Ok(ending.code())
 }
 

@@ -22,12 +22,24 @@ fn words_of(alloc: Global, args: Args) -> Result<Words, NoMemory>
     Ok(words)
 }
 
-/// The words of the command line, without the program's own name.
+/// The words of the command line, without the program's own name. Where one isn't UTF-8, standard error says so.
 ///
 /// # Errors
 ///
 /// `OutOfMemory`; and what `std::env::args` answers, where a word is no text.
-pub fn collect_words(rt: &HostRuntime) -> io::Result<Words> {
-    let args = env::args(rt)?;
-    words_of(rt.alloc(), args).map_err(|_| io::Error::from(ErrorKind::OutOfMemory))
+pub fn collect_words(rt: &HostRuntime, program: &str) -> io::Result<Words> {
+    match env::args(rt) {
+        Ok(args) => {
+            words_of(rt.alloc(), args).map_err(|_| io::Error::from(ErrorKind::OutOfMemory))
+        }
+        Err(error) => {
+            if error.kind() == ErrorKind::InvalidData {
+                // A stream that fails changes no answer.
+                let _said = eprintln!(rt;
+                    "{program}: file names must be UTF-8: make a link with a plain name"
+                );
+            }
+            Err(error)
+        }
+    }
 }

@@ -160,6 +160,8 @@ impl Clock for SystemClock {
 struct Stream<W> {
     to: W,
     faults: FaultCount,
+    /// The error of the last put that failed.
+    trouble: Option<io::Error>,
 }
 
 impl<W: Write> Stream<W> {
@@ -170,6 +172,7 @@ impl<W: Write> Stream<W> {
         Stream {
             to,
             faults: FaultCount::new(),
+            trouble: None,
         }
     }
 
@@ -177,8 +180,10 @@ impl<W: Write> Stream<W> {
     fn put(&mut self, piece: &[u8]) -> Result<(), ConsoleFault>
         ensures whole { OnOk result (Appends (W.contents self.old.to) (W.contents self.new.to) piece.now) }
         ensures cause { HasCause self.old.faults self.new.faults result }
+        ensures kept { OnErr result (IsSome self.new.trouble) }
     {
-        if file_cursor::put(&mut self.to, piece).is_err() {
+        if let Err(error) = file_cursor::put(&mut self.to, piece) {
+            self.trouble = Some(error);
             self.faults.raise();
             return Err(ConsoleFault);
         }
@@ -202,6 +207,17 @@ impl StdConsole {
         StdConsole {
             out: Stream::new(rt.stdout()),
             err: Stream::new(rt.stderr()),
+        }
+    }
+
+    /// The error of the last put on a channel that failed, if one did.
+    pub fn trouble(&self, channel: Channel) -> Option<io::Error>
+        ensures out { channel ≡ Channel.Out → result ≡ self.now.out.trouble }
+        ensures err { channel ≡ Channel.Err → result ≡ self.now.err.trouble }
+    {
+        match channel {
+            Channel::Out => self.out.trouble,
+            Channel::Err => self.err.trouble,
         }
     }
 }
@@ -231,6 +247,8 @@ impl Console for StdConsole {
 pub struct StdFeed {
     from: Stdin,
     faults: FaultCount,
+    /// The error of the last take that failed.
+    trouble: Option<io::Error>,
 }
 
 impl StdFeed {
@@ -241,7 +259,15 @@ impl StdFeed {
         StdFeed {
             from: rt.stdin(),
             faults: FaultCount::new(),
+            trouble: None,
         }
+    }
+
+    /// The error of the last take that failed, if one did.
+    pub fn trouble(&self) -> Option<io::Error>
+        ensures { result ≡ self.now.trouble }
+    {
+        self.trouble
     }
 }
 
@@ -274,10 +300,13 @@ impl Feed for StdFeed {
     } };
 
     fn take(&mut self, buf: &mut [u8]) -> Result<usize, FeedFault> {
-        let Ok(count) = read_some(&mut self.from, buf) else {
-            self.faults.raise();
-            return Err(FeedFault);
-        };
-        Ok(count)
+        match read_some(&mut self.from, buf) {
+            Ok(count) => Ok(count),
+            Err(error) => {
+                self.trouble = Some(error);
+                self.faults.raise();
+                Err(FeedFault)
+            }
+        }
     }
 }

@@ -72,6 +72,8 @@ pub(crate) enum Command {
     Verify(Words),
     /// A run of ddrescueplan.
     Plan(Words),
+    /// A run of ddrescueshow.
+    Picture(Words),
     /// So many calls of the site were made, and then a stop came.
     Stop {
         calls: usize,
@@ -108,6 +110,7 @@ pub(crate) fn read_command(alloc: Global, line: &[u8]) -> Result<Command, Refusa
         "part" => Ok(Command::Part(take_words(fields)?)),
         "verify" => Ok(Command::Verify(take_words(fields)?)),
         "plan" => Ok(Command::Plan(take_words(fields)?)),
+        "picture" => Ok(Command::Picture(take_words(fields)?)),
         "stop" => read_stop(fields),
         "stops" => read_stops(fields),
         "left" => Ok(Command::Left(take_texts(fields)?)),

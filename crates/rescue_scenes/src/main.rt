@@ -4,6 +4,7 @@
 
 mod blocks;
 mod command;
+mod drawn;
 mod fields;
 mod files;
 mod kinds;

@@ -131,6 +131,7 @@ impl Player {
             Command::Part(words) => self.scene.part(&words, &mut self.out),
             Command::Verify(words) => self.scene.verify(&words, &mut self.out),
             Command::Plan(words) => self.scene.plan(&words, &mut self.out),
+            Command::Picture(words) => self.scene.draw(&words, &mut self.out),
             Command::Stop { calls, kind } => self.scene.stop(calls, kind),
             Command::Stops(stops) => self.scene.stops(&stops, &mut self.out),
             Command::Left(names) => self.scene.left(&names, &mut self.out),

@@ -4,6 +4,7 @@ ghost use Rattle.memory_site.specs.MemoryState.{state_of};
 
 use crate::blocks::{append_blocks, append_maps};
 use crate::command::{Object, Stops, View};
+use crate::drawn::draw;
 use crate::kinds::{KINDS, Left};
 use crate::part::play_part;
 use crate::planned::plan;
@@ -317,6 +318,17 @@ impl Scene {
         let mut console = self.make_console()?;
         let made = self.site.made();
         let ending = plan(self.alloc, words, &mut self.site, &mut console)?;
+        self.silent.clear();
+        append_calls(out, &self.site, made)?;
+        append_console(out, &console)?;
+        append_ending(out, &ending, ending.code())
+    }
+
+    /// Runs ddrescueshow, and adds its results.
+    pub(crate) fn draw(&mut self, words: &Words, out: &mut Vec<u8>) -> Result<(), Refusal> {
+        let mut console = self.make_console()?;
+        let made = self.site.made();
+        let ending = draw(self.alloc, words, &mut self.site, &mut console)?;
         self.silent.clear();
         append_calls(out, &self.site, made)?;
         append_console(out, &console)?;

@@ -1,0 +1,170 @@
+//! The line after the message: why an answer came, by the files that the arguments name.
+use crash_site::folder::FolderSite;
+use crash_site::site::SiteCall;
+use ddrescue_words::command::{Command, Task, read_command};
+use ddrescue_words::options::ROWS;
+use faulty_source::file::FileSource;
+use option_values::command_error::CommandError;
+use option_words::words::Words;
+use program_advice::cause::{Cause, Doing, Fact, Hint, LimitOption, Named, Role};
+use program_advice::line::{Line, line_of};
+use program_advice::reason::reason_text;
+use program_advice::site::{SiteFiles, site_cause};
+use program_advice::usage::{Manual, usage_cause};
+use rescue_rules::stop::Limit;
+use std::alloc::Global;
+use task_files::checked::PROGRAM;
+use task_files::ending::{Ending, Operand, Which};
+
+/// What is told of the arguments.
+fn manual() -> Manual {
+    Manual {
+        usage: "ddrescue [options] infile outfile [mapfile]; 'man ddrescue' lists the options and names the version",
+        option: "an option of this program; 'man ddrescue' lists them and what stands in place of those of GNU's",
+        operand: "a file's name",
+        rows: &ROWS,
+    }
+}
+
+/// What a file is called that two operands name.
+fn role_of(operand: Operand) -> Role {
+    match operand {
+        Operand::Infile => Role::Infile,
+        Operand::Outfile => Role::Outfile,
+        Operand::Mapfile => Role::Mapfile,
+        Operand::Draft => Role::Draft,
+    }
+}
+
+/// A mapfile that a command names.
+fn named_map<'a>(command: &Command<'a>, which: Which) -> Named<'a> {
+    let (role, name) = match which {
+        Which::DomainMap => (Role::DomainMap, command.domain_map),
+        Which::TestMap => (Role::TestMap, command.test_map),
+        Which::RunMap => (Role::Mapfile, command.mapfile),
+    };
+    Named {
+        role,
+        name: name.unwrap_or(""),
+    }
+}
+
+/// The mapfile that couldn't be read.
+fn unread_map<'a>(command: &Command<'a>, site: &FolderSite) -> Named<'a> {
+    let domain = named_map(command, Which::DomainMap);
+    let test = named_map(command, Which::TestMap);
+    if command.domain_map.is_some() && site.is_unread(domain.name) {
+        domain
+    } else if command.test_map.is_some() && site.is_unread(test.name) {
+        test
+    } else {
+        named_map(command, Which::RunMap)
+    }
+}
+
+/// Why a call on the outfile, a mapfile or its folder failed.
+fn fault_cause<'a>(command: &Command<'a>, call: SiteCall, site: &FolderSite) -> Option<Cause<'a>> {
+    let trouble = site.trouble()?;
+    if trouble.call != call {
+        return None;
+    }
+    let files = SiteFiles {
+        outfile: command.outfile,
+        mapfile: command.mapfile,
+        read: unread_map(command, site),
+    };
+    Some(site_cause(trouble, files))
+}
+
+/// Which limit a run met, and whether the same command goes on.
+fn limit_cause<'a>(limit: Limit, resumes: bool) -> Cause<'a> {
+    let option = match limit {
+        Limit::TooManyErrors(_) => LimitOption::ReadErrors,
+        Limit::TooManyAreas(_) => LimitOption::BadAreas,
+        Limit::TimedOut(_) => LimitOption::Timeout,
+    };
+    Cause::Limit { option, resumes }
+}
+
+/// The file that couldn't be opened, and why.
+fn open_cause<'a>(infile: Named<'a>, source: &FileSource) -> Option<Cause<'a>> {
+    let error = source.trouble()?;
+    Some(Cause::Refused {
+        doing: Doing::Open,
+        file: infile,
+        reason: reason_text(&error),
+    })
+}
+
+/// Why a command that was read ended so, if that helps.
+fn cause_of<'a>(
+    command: &Command<'a>,
+    role: Role,
+    ending: Ending,
+    source: &FileSource,
+    site: &FolderSite,
+) -> Option<Cause<'a>> {
+    let infile = Named {
+        role,
+        name: command.infile,
+    };
+    let outfile = Named {
+        role: Role::Outfile,
+        name: command.outfile,
+    };
+    let (file, fact) = match ending {
+        Ending::Done | Ending::Usage(_) | Ending::PatternUnread => return None,
+        Ending::SameName { first, second } => {
+            return Some(Cause::OneName {
+                first: role_of(first),
+                second: role_of(second),
+                name: match first {
+                    Operand::Infile => command.infile,
+                    _ => command.outfile,
+                },
+            });
+        }
+        Ending::SourceFault => return open_cause(infile, source),
+        Ending::SourceLost => return Some(Cause::Hint(Hint::InputLost)),
+        Ending::SiteFault { call, .. } => return fault_cause(command, call, site),
+        Ending::LimitMet(limit) => return Some(limit_cause(limit, command.mapfile.is_some())),
+        Ending::NoMemory => return Some(Cause::Hint(Hint::NoMemory)),
+        Ending::NoMap(which) => (named_map(command, which), Fact::Absent),
+        Ending::MapRefused { which, .. } => (named_map(command, which), Fact::NoMap),
+        Ending::NotRegular => (outfile, Fact::NeedsForce),
+        Ending::NoOutput => (outfile, Fact::Absent),
+        Ending::EmptyPattern => (infile, Fact::Empty),
+    };
+    Some(Cause::File { file, fact })
+}
+
+/// The line that an answer's message is followed by. There is none where the arguments ask that nothing be said, and
+/// none of an answer whose message says all.
+pub fn advise(
+    alloc: Global,
+    words: &Words,
+    ending: Ending,
+    source: &FileSource,
+    site: &FolderSite,
+) -> Option<Line> {
+    let (command, role) = match read_command(alloc, words) {
+        Ok(Task::Rescue(command)) | Ok(Task::Generate(command)) => (command, Role::Infile),
+        Ok(Task::Fill { command, .. }) => (command, Role::Pattern),
+        Ok(Task::Sample { .. }) => return None,
+        Err(
+            CommandError::Usage {
+                fault,
+                quiet: false,
+            },
+        ) => {
+            let cause = usage_cause(alloc, words, fault, manual())?;
+            return Some(line_of(PROGRAM, cause));
+        }
+        Err(_) => return None,
+    };
+    if command.options.quiet {
+        return None;
+    }
+    let cause = cause_of(&command, role, ending, source, site)?;
+    Some(line_of(PROGRAM, cause))
+}

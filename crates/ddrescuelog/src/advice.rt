@@ -1,0 +1,136 @@
+//! The line after the message: why an answer came, by the files that the arguments name.
+use crash_site::folder::FolderSite;
+use crash_site::site::SiteCall;
+use ddrescuelog_cli::ending::{LogEnding, Which};
+use ddrescuelog_words::command::{Command, read_command};
+use ddrescuelog_words::options::ROWS;
+use option_values::command_error::CommandError;
+use option_words::words::Words;
+use program_advice::cause::{Cause, Fact, Hint, Named, Role, Stream};
+use program_advice::line::{Line, line_of};
+use program_advice::reason::reason_text;
+use program_advice::site::{SiteFiles, site_cause};
+use program_advice::usage::{Manual, usage_cause};
+use std::alloc::Global;
+use std::io;
+
+/// What is told of the arguments.
+fn manual() -> Manual {
+    Manual {
+        usage: "ddrescuelog [options] mapfile, with one mode; 'man ddrescuelog' lists the options and names the version",
+        option: "an option of this program; 'man ddrescuelog' lists them and what stands in place of those of GNU's",
+        operand: "a file's name",
+        rows: &ROWS,
+    }
+}
+
+/// The program's name, which begins its lines.
+const PROGRAM: &str = "ddrescuelog";
+
+/// A map that a command names.
+fn named_map<'a>(command: &Command<'a>, which: Which) -> Named<'a> {
+    match which {
+        Which::DomainMap => Named {
+            role: Role::DomainMap,
+            name: command.domain_map.unwrap_or(""),
+        },
+        Which::OtherMap => Named {
+            role: Role::OtherMap,
+            name: command.other.unwrap_or(""),
+        },
+        Which::RunMap => Named {
+            role: Role::Mapfile,
+            name: command.mapfile,
+        },
+    }
+}
+
+/// The map that couldn't be read.
+fn unread_map<'a>(command: &Command<'a>, site: &FolderSite) -> Named<'a> {
+    let run = named_map(command, Which::RunMap);
+    let other = named_map(command, Which::OtherMap);
+    if site.is_unread(run.name) {
+        run
+    } else if command.other.is_some() && site.is_unread(other.name) {
+        other
+    } else {
+        named_map(command, Which::DomainMap)
+    }
+}
+
+/// Why a call on a map or its folder failed.
+fn fault_cause<'a>(command: &Command<'a>, call: SiteCall, site: &FolderSite) -> Option<Cause<'a>> {
+    let trouble = site.trouble()?;
+    if trouble.call != call {
+        return None;
+    }
+    let files = SiteFiles {
+        outfile: "",
+        mapfile: Some(command.mapfile),
+        read: unread_map(command, site),
+    };
+    Some(site_cause(trouble, files))
+}
+
+/// Why a standard stream failed.
+fn stream_cause<'a>(stream: Stream, trouble: Option<io::Error>) -> Option<Cause<'a>> {
+    let error = trouble?;
+    let reason = reason_text(&error);
+    Some(Cause::Stream { stream, reason })
+}
+
+/// Why a command that was read ended so, if that helps.
+fn cause_of<'a>(
+    command: &Command<'a>,
+    ending: LogEnding,
+    site: &FolderSite,
+    fed: Option<io::Error>,
+    put: Option<io::Error>,
+) -> Option<Cause<'a>> {
+    let (file, fact) = match ending {
+        LogEnding::Done
+        | LogEnding::NotDone
+        | LogEnding::Differ
+        | LogEnding::Usage(_)
+        | LogEnding::ListTooLong => return None,
+        LogEnding::BadNumber { .. } => return Some(Cause::Hint(Hint::BlockNumbers)),
+        LogEnding::SiteFault { call } => return fault_cause(command, call, site),
+        LogEnding::FeedFault => return stream_cause(Stream::Input, fed),
+        LogEnding::ConsoleFault => return stream_cause(Stream::Output, put),
+        LogEnding::NoMemory => return Some(Cause::Hint(Hint::NoMemory)),
+        LogEnding::Exists => (named_map(command, Which::RunMap), Fact::Exists),
+        LogEnding::NoMap(which) => (named_map(command, which), Fact::Absent),
+        LogEnding::MapRefused { which, .. } => (named_map(command, which), Fact::NoMap),
+    };
+    Some(Cause::File { file, fact })
+}
+
+/// The line that an answer's message is followed by. There is none where the arguments ask that nothing be said, and
+/// none of an answer whose message says all. `fed` and `put` are the errors of the standard streams.
+pub fn advise(
+    alloc: Global,
+    words: &Words,
+    ending: LogEnding,
+    site: &FolderSite,
+    fed: Option<io::Error>,
+    put: Option<io::Error>,
+) -> Option<Line> {
+    let command = match read_command(alloc, words) {
+        Ok(command) => command,
+        Err(
+            CommandError::Usage {
+                fault,
+                quiet: false,
+            },
+        ) => {
+            let cause = usage_cause(alloc, words, fault, manual())?;
+            return Some(line_of(PROGRAM, cause));
+        }
+        Err(_) => return None,
+    };
+    if command.options.quiet {
+        return None;
+    }
+    let cause = cause_of(&command, ending, site, fed, put)?;
+    Some(line_of(PROGRAM, cause))
+}

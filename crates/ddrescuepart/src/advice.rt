@@ -1,0 +1,102 @@
+//! The line after the message: why an answer came, by the file that the arguments name.
+use ddrescuepart_cli::ending::PartEnding;
+use ddrescuepart_words::command::{ROWS, read_command};
+use faulty_source::file::FileSource;
+use option_values::command_error::CommandError;
+use option_words::words::Words;
+use partition_domain::stop::Refusal;
+use program_advice::cause::{Cause, Doing, Hint, Named, Role, Stream};
+use program_advice::line::{Line, line_of};
+use program_advice::reason::reason_text;
+use program_advice::usage::{Manual, usage_cause};
+use std::alloc::Global;
+use std::io;
+
+/// What is told of the arguments.
+fn manual() -> Manual {
+    Manual {
+        usage: "ddrescuepart [-q] infile number; 'man ddrescuepart' lists the options and names the version",
+        option: "an option of this program; 'man ddrescuepart' lists them",
+        operand: "a file's name, or the number of a partition from 1 to 132",
+        rows: &ROWS,
+    }
+}
+
+/// The program's name, which begins its lines.
+const PROGRAM: &str = "ddrescuepart";
+
+/// Why the infile couldn't be opened.
+fn open_cause<'a>(name: &'a str, source: &FileSource) -> Option<Cause<'a>> {
+    let error = source.trouble()?;
+    let role = Role::Infile;
+    Some(Cause::Refused {
+        doing: Doing::Open,
+        file: Named { role, name },
+        reason: reason_text(&error),
+    })
+}
+
+/// Why standard output failed.
+fn put_cause<'a>(put: Option<io::Error>) -> Option<Cause<'a>> {
+    let error = put?;
+    Some(Cause::Stream {
+        stream: Stream::Output,
+        reason: reason_text(&error),
+    })
+}
+
+/// What helps where what was read gives no partition.
+fn refusal_hint(refusal: Refusal) -> Hint {
+    match refusal {
+        Refusal::Unread { .. } | Refusal::NoSignature { .. } => Hint::NoTable,
+        Refusal::Protective => Hint::OtherTable,
+        Refusal::NoPartition | Refusal::ChainTooLong => Hint::NoPartition,
+    }
+}
+
+/// Why a search ended so, if that helps.
+fn cause_of<'a>(
+    infile: &'a str,
+    ending: PartEnding,
+    source: &FileSource,
+    put: Option<io::Error>,
+) -> Option<Cause<'a>> {
+    let hint = match ending {
+        PartEnding::Done | PartEnding::Usage(_) => return None,
+        PartEnding::SourceFault => return open_cause(infile, source),
+        PartEnding::ConsoleFault => return put_cause(put),
+        PartEnding::SourceLost => Hint::InputLost,
+        PartEnding::Refused(refusal) => refusal_hint(refusal),
+        PartEnding::NoMemory => Hint::NoMemory,
+    };
+    Some(Cause::Hint(hint))
+}
+
+/// The line that an answer's message is followed by. There is none where the arguments ask that nothing be said, and
+/// none of an answer whose message says all. `put` is the error of standard output.
+pub fn advise(
+    alloc: Global,
+    words: &Words,
+    ending: PartEnding,
+    source: &FileSource,
+    put: Option<io::Error>,
+) -> Option<Line> {
+    let command = match read_command(alloc, words) {
+        Ok(command) => command,
+        Err(
+            CommandError::Usage {
+                fault,
+                quiet: false,
+            },
+        ) => {
+            let cause = usage_cause(alloc, words, fault, manual())?;
+            return Some(line_of(PROGRAM, cause));
+        }
+        Err(_) => return None,
+    };
+    if command.quiet {
+        return None;
+    }
+    let cause = cause_of(command.infile, ending, source, put)?;
+    Some(line_of(PROGRAM, cause))
+}

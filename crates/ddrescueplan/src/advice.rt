@@ -1,0 +1,92 @@
+//! The line after the message: why an answer came, by the file that the arguments name.
+use crash_site::folder::FolderSite;
+use ddrescueplan_cli::ending::PlanEnding;
+use ddrescueplan_words::command::read_command;
+use ddrescueplan_words::options::ROWS;
+use option_values::command_error::CommandError;
+use option_words::words::Words;
+use program_advice::cause::{Cause, Fact, Hint, Named, Role, Stream};
+use program_advice::line::{Line, line_of};
+use program_advice::reason::reason_text;
+use program_advice::site::{SiteFiles, site_cause};
+use program_advice::usage::{Manual, usage_cause};
+use std::alloc::Global;
+use std::io;
+
+/// What is told of the arguments.
+fn manual() -> Manual {
+    Manual {
+        usage: "ddrescueplan [options] length testmap; 'man ddrescueplan' lists the options and names the version",
+        option: "an option of this program; 'man ddrescueplan' lists them",
+        operand: "a length up to 1Ti (4Ki is 4096, 4k is 4000), or a file's name",
+        rows: &ROWS,
+    }
+}
+
+/// The program's name, which begins its lines.
+const PROGRAM: &str = "ddrescueplan";
+
+/// Why standard output failed.
+fn put_cause<'a>(put: Option<io::Error>) -> Option<Cause<'a>> {
+    let error = put?;
+    Some(Cause::Stream {
+        stream: Stream::Output,
+        reason: reason_text(&error),
+    })
+}
+
+/// Why a plan ended so, if that helps.
+fn cause_of<'a>(
+    read: Named<'a>,
+    ending: PlanEnding,
+    site: &FolderSite,
+    put: Option<io::Error>,
+) -> Option<Cause<'a>> {
+    let files = SiteFiles {
+        outfile: "",
+        mapfile: None,
+        read,
+    };
+    let fact = match ending {
+        PlanEnding::Done | PlanEnding::Usage(_) => return None,
+        PlanEnding::SiteFault { .. } => return Some(site_cause(site.trouble()?, files)),
+        PlanEnding::ConsoleFault => return put_cause(put),
+        PlanEnding::NoMemory => return Some(Cause::Hint(Hint::NoMemory)),
+        PlanEnding::NoMap => Fact::Absent,
+        PlanEnding::MapRefused { .. } => Fact::NoMap,
+    };
+    Some(Cause::File { file: read, fact })
+}
+
+/// The line that an answer's message is followed by. There is none where the arguments ask that nothing be said, and
+/// none of an answer whose message says all. `put` is the error of standard output.
+pub fn advise(
+    alloc: Global,
+    words: &Words,
+    ending: PlanEnding,
+    site: &FolderSite,
+    put: Option<io::Error>,
+) -> Option<Line> {
+    let command = match read_command(alloc, words) {
+        Ok(command) => command,
+        Err(
+            CommandError::Usage {
+                fault,
+                quiet: false,
+            },
+        ) => {
+            let cause = usage_cause(alloc, words, fault, manual())?;
+            return Some(line_of(PROGRAM, cause));
+        }
+        Err(_) => return None,
+    };
+    if command.options.rescue.quiet {
+        return None;
+    }
+    let read = Named {
+        role: Role::TestMap,
+        name: command.test_map,
+    };
+    let cause = cause_of(read, ending, site, put)?;
+    Some(line_of(PROGRAM, cause))
+}

@@ -1,0 +1,30 @@
+-- What is printed of a text is one line.
+use Rattle.std.proofs.Common.{◌≡◌, ◌≤◌, ◌++◌, ℕ, false, List, [], ◌∷◌, length, get_or, map, nat_eq, ap, ◌∙◌, append_assoc, arith}
+use Rattle.std.specs.List.{All}
+use Rattle.std.proofs.lemmas.Bool.Decides.{nat_tests}
+use Rattle.std.proofs.lemmas.List.Elements.{All-map}
+use Rattle.std.proofs.lemmas.List.{length-map, length-append}
+use Rattle.program_advice.specs.Lines.{shown_byte, IsOneLine}
+
+shown_from : (b : ℕ) → 32 ≤ shown_byte b
+shown_from b = grind (arith, nat_tests)
+
+no_delete : (b : ℕ) → nat_eq (shown_byte b) 127 ≡ false
+no_delete b = grind (arith, nat_tests)
+
+-- four pieces that are added one after another
+pub four_added : (a b c d e w x y z : List ℕ) → w ≡ a ++ b → x ≡ w ++ c → y ≡ x ++ d → z ≡ y ++ e
+    → z ≡ a ++ (b ++ c ++ d ++ e)
+four_added a b c d e w x y z f g h i =
+    i ∙ ap (λ t. t ++ e) (h ∙ ap (λ t. t ++ d) (g ∙ ap (λ t. t ++ c) f ∙ append_assoc a b c) ∙ append_assoc a (b ++ c) d)
+    ∙ append_assoc a (b ++ c ++ d) e
+
+-- a text of up to 511 bytes and a newline
+pub one_line : (text line : List ℕ) → line ≡ map shown_byte text ++ 10 ∷ [] → length text ≤ 511 → IsOneLine line
+one_line text line e short = record {
+  front = map shown_byte text;
+  ended = e;
+  controls = All-map (λ b. 32 ≤ b) shown_byte text (λ k d l. shown_from (get_or text k d));
+  deletes = All-map (λ b. nat_eq b 127 ≡ false) shown_byte text (λ k d l. no_delete (get_or text k d));
+  short = omega (arith, ap length e, length-append (map shown_byte text) (10 ∷ []), length-map text shown_byte, short);
+}

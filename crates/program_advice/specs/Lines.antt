@@ -1,0 +1,63 @@
+-- The line of a cause.
+use Rattle.std.specs.Prelude.{ℕ, Bool, true, false, List, [], ◌∷◌, ◌++◌, ◌≡◌, ◌≤◌, All, length, take, map, codes, nat_lt, nat_le, nat_eq, if◌then◌else◌}
+use Rattle.program_advice.specs.declared.cause.Named.{Named}
+use Rattle.program_advice.specs.declared.cause.Cause.{Cause}
+use Rattle.program_advice.specs.declared.cause.Cause.TheVariants.{Refused, Unsaved, Full, File, OneName, Limit, Stream, Argument, Usage, Hint}
+use Rattle.program_advice.specs.Texts.{doing_text, fact_text, hint_text, option_text, role_text, stream_text}
+
+-- a byte as it is printed: a control character becomes a question mark
+abbrev pub shown_byte : ℕ → ℕ
+shown_byte b = if nat_lt b 32 then 63 else if nat_eq b 127 then 63 else b
+
+-- a text, or so many bytes of it and two dots
+abbrev pub cut : ℕ → List ℕ → List ℕ
+cut most text = if nat_le (length text) most then text else take most text ++ codes ".."
+
+-- a name of the command line, as a line has it
+abbrev pub quoted : List ℕ → List ℕ
+quoted name = codes "'" ++ cut 150 name ++ codes "'"
+
+-- a file, as a line has it
+abbrev pub named_text : Named → List ℕ
+named_text file = role_text file.role ++ codes " " ++ quoted file.name.now
+
+-- what is said after a limit
+abbrev pub resuming_text : Bool → List ℕ
+resuming_text false = []
+resuming_text true = codes "; the same command goes on from the saved map"
+
+-- what is said after a file system was full
+abbrev pub room_text : Bool → List ℕ
+room_text false = []
+room_text true = codes ", which goes on from the last saved map"
+
+-- what is said of a mapfile that couldn't be saved
+abbrev pub unsaved_text : (name reason : List ℕ) → List ℕ
+unsaved_text name reason = codes "cannot save " ++ quoted name ++ codes ": " ++ cut 60 reason
+
+-- what is said of a cause
+abbrev pub cause_text : Cause → List ℕ
+cause_text (Refused doing file reason) = doing_text doing ++ named_text file ++ codes ": " ++ cut 60 reason.now
+cause_text (Unsaved name reason) = unsaved_text name.now reason.now
+cause_text (Full file resumes) = codes "no space left for " ++ named_text file
+    ++ codes ": make room and give the same command" ++ room_text resumes
+cause_text (File file fact) = named_text file ++ fact_text fact
+cause_text (OneName first second name) = role_text first ++ codes " and " ++ role_text second ++ codes " are both "
+    ++ quoted name.now
+cause_text (Limit option resumes) = option_text option ++ resuming_text resumes
+cause_text (Stream stream reason) = stream_text stream ++ cut 60 reason.now
+cause_text (Argument word wanted) = quoted word.now ++ codes " isn't " ++ cut 150 wanted.now
+cause_text (Usage usage) = codes "usage: " ++ cut 150 usage.now
+cause_text (Hint hint) = hint_text hint
+
+-- the line of a cause: the program's name, what is said, each control character as a question mark, and a newline
+abbrev pub line_text : List ℕ → Cause → List ℕ
+line_text program cause = map shown_byte (program ++ codes ": " ++ cause_text cause) ++ 10 ∷ []
+
+-- a text is one line of at most 512 bytes without any control character before its newline
+pub record IsOneLine (text : List ℕ) : Type 0 where
+  pub front : List ℕ
+  pub ended : text ≡ front ++ 10 ∷ []
+  pub controls : All (λ b. 32 ≤ b) front
+  pub deletes : All (λ b. nat_eq b 127 ≡ false) front
+  pub short : length text ≤ 512

@@ -1,0 +1,138 @@
+//! The causes of answers that a line can name.
+
+/// What a file is to a program.
+#[derive(Clone, Copy)]
+pub enum Role {
+    Infile,
+    Pattern,
+    Outfile,
+    Mapfile,
+    /// The mapfile's name followed by `.tmp`.
+    Draft,
+    DomainMap,
+    TestMap,
+    OtherMap,
+}
+
+/// A file that the arguments name.
+#[derive(Clone, Copy)]
+pub struct Named<'a> {
+    pub role: Role,
+    pub name: &'a str,
+}
+
+/// What a program was doing with a file when the system refused.
+#[derive(Clone, Copy)]
+pub enum Doing {
+    Open,
+    Read,
+    Write,
+    /// Making it durable.
+    Sync,
+    Remove,
+}
+
+/// What is so of a file.
+#[derive(Clone, Copy)]
+pub enum Fact {
+    /// Another rescue has locked it.
+    InUse,
+    /// It is the infile or the outfile.
+    NotApart,
+    /// It or its draft is.
+    DraftNotApart,
+    /// It is no regular file, and only such a file is read or replaced.
+    NotRegular,
+    /// It is no regular file, and an option allows it all the same.
+    NeedsForce,
+    Absent,
+    Exists,
+    Empty,
+    /// Its text is no map.
+    NoMap,
+    /// Its name led elsewhere when it was to be renamed.
+    Replaced,
+}
+
+/// A standard stream.
+#[derive(Clone, Copy)]
+pub enum Stream {
+    Input,
+    Output,
+}
+
+/// What is said without any name.
+#[derive(Clone, Copy)]
+pub enum Hint {
+    /// The infile and the outfile are one file with two names.
+    SameFile,
+    InputLost,
+    NoMemory,
+    /// The list of blocks has a line that isn't one.
+    BlockNumbers,
+    /// The infile has no partition table where one was looked for.
+    NoTable,
+    /// The infile has a table of another kind.
+    OtherTable,
+    NoPartition,
+}
+
+/// An option that sets a limit to a run.
+#[derive(Clone, Copy)]
+pub enum LimitOption {
+    ReadErrors,
+    BadAreas,
+    Timeout,
+}
+
+/// Why an answer came, as far as a person can use it.
+#[derive(Clone, Copy)]
+pub enum Cause<'a> {
+    /// The system refused a call on a file, with this reason.
+    Refused {
+        doing: Doing,
+        file: Named<'a>,
+        reason: &'a str,
+    },
+    /// The mapfile of this name couldn't be saved.
+    Unsaved {
+        name: &'a str,
+        reason: &'a str,
+    },
+    /// The file system is full. A mapfile may be there from which the same command goes on.
+    Full {
+        file: Named<'a>,
+        resumes: bool,
+    },
+    /// The file is the cause.
+    File {
+        file: Named<'a>,
+        fact: Fact,
+    },
+    /// Two files have this name.
+    OneName {
+        first: Role,
+        second: Role,
+        name: &'a str,
+    },
+    /// The run met a limit that an option set.
+    Limit {
+        option: LimitOption,
+        resumes: bool,
+    },
+    /// A standard stream failed.
+    Stream {
+        stream: Stream,
+        reason: &'a str,
+    },
+    /// An argument can't be read as what it stands for.
+    Argument {
+        word: &'a str,
+        wanted: &'a str,
+    },
+    /// How the program is called.
+    Usage {
+        usage: &'a str,
+    },
+    Hint(Hint),
+}

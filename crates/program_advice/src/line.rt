@@ -1,0 +1,198 @@
+//! The line that names a cause.
+ghost use Rattle.std.specs.Prelude.{◌≡◌, ◌+◌, ◌≤◌, ◌++◌, [], ◌∷◌, length, map, codes};
+ghost use Rattle.arrayvec.specs.ArrayVec.{array_vec_len};
+ghost use Rattle.program_advice.specs.Lines.{IsOneLine, cause_text, cut, line_text, named_text, quoted, resuming_text, room_text, shown_byte, unsaved_text};
+
+use crate::cause::{Cause, Named};
+use crate::texts::{doing_text, fact_text, hint_text, option_text, role_text, stream_text};
+use arrayvec::ArrayVec;
+
+/// A line on standard error.
+pub type Line = ArrayVec<u8, 512>;
+
+/// Adds a text for which there is room.
+fn add(line: &mut Line, text: &str)
+    requires { array_vec_len line.old + length text.now ≤ 511 }
+    ensures text { line.new.items ≡ line.old.items ++ text.now }
+    ensures len { array_vec_len line.new ≡ array_vec_len line.old + length text.now }
+{
+    let _fits = line.try_extend_from_slice(text.as_bytes());
+}
+
+/// Adds a text, or so many of its bytes and two dots.
+fn add_cut(line: &mut Line, text: &str, most: usize)
+    requires { array_vec_len line.old + most ≤ 509 }
+    ensures text { line.new.items ≡ line.old.items ++ cut most text.now }
+    ensures len { array_vec_len line.new ≤ array_vec_len line.old + most + 2 }
+{
+    if text.len() <= most {
+        add(line, text);
+        return;
+    }
+    let _fits = line.try_extend_from_slice(&text.as_bytes()[..most]);
+    add(line, "..");
+}
+
+/// Adds a name of the command line in quotes.
+fn add_quoted(line: &mut Line, name: &str)
+    requires { array_vec_len line.old ≤ 350 }
+    ensures text { line.new.items ≡ line.old.items ++ quoted name.now }
+    ensures len { array_vec_len line.new ≤ array_vec_len line.old + 154 }
+{
+    add(line, "'");
+    add_cut(line, name, 150);
+    add(line, "'");
+}
+
+/// Adds a file by what it is and its name.
+fn add_named(line: &mut Line, file: Named<'_>)
+    requires { array_vec_len line.old ≤ 330 }
+    ensures text { line.new.items ≡ line.old.items ++ named_text file.entry }
+    ensures len { array_vec_len line.new ≤ array_vec_len line.old + 174 }
+{
+    add(line, role_text(file.role));
+    add(line, " ");
+    add_quoted(line, file.name);
+}
+
+/// Adds what is said after a limit.
+fn add_resuming(line: &mut Line, resumes: bool)
+    requires { array_vec_len line.old ≤ 400 }
+    ensures text { line.new.items ≡ line.old.items ++ resuming_text resumes }
+    ensures len { array_vec_len line.new ≤ array_vec_len line.old + 60 }
+{
+    if resumes {
+        add(line, "; the same command goes on from the saved map");
+    }
+}
+
+/// Adds what is said after a file system was full.
+fn add_room(line: &mut Line, resumes: bool)
+    requires { array_vec_len line.old ≤ 400 }
+    ensures text { line.new.items ≡ line.old.items ++ room_text resumes }
+    ensures len { array_vec_len line.new ≤ array_vec_len line.old + 60 }
+{
+    if resumes {
+        add(line, ", which goes on from the last saved map");
+    }
+}
+
+/// Adds what is said of a mapfile that couldn't be saved.
+fn add_unsaved(line: &mut Line, name: &str, reason: &str)
+    requires { array_vec_len line.old ≤ 20 }
+    ensures text { line.new.items ≡ line.old.items ++ unsaved_text name.now reason.now }
+    ensures len { array_vec_len line.new ≤ array_vec_len line.old + 240 }
+{
+    add(line, "cannot save ");
+    add_quoted(line, name);
+    add(line, ": ");
+    add_cut(line, reason, 60);
+}
+
+/// Adds what is said of a cause.
+fn add_cause(line: &mut Line, cause: Cause<'_>)
+    requires { array_vec_len line.old ≤ 20 }
+    ensures text { line.new.items ≡ line.old.items ++ cause_text cause.entry }
+    ensures len { array_vec_len line.new ≤ 511 }
+{
+    match cause {
+        Cause::Refused {
+            doing,
+            file,
+            reason,
+        } => {
+            add(line, doing_text(doing));
+            add_named(line, file);
+            add(line, ": ");
+            add_cut(line, reason, 60);
+        }
+        Cause::Unsaved { name, reason } => add_unsaved(line, name, reason),
+        Cause::Full { file, resumes } => {
+            add(line, "no space left for ");
+            add_named(line, file);
+            add(line, ": make room and give the same command");
+            add_room(line, resumes);
+        }
+        Cause::File { file, fact } => {
+            add_named(line, file);
+            add(line, fact_text(fact));
+        }
+        Cause::OneName {
+            first,
+            second,
+            name,
+        } => {
+            add(line, role_text(first));
+            add(line, " and ");
+            add(line, role_text(second));
+            add(line, " are both ");
+            add_quoted(line, name);
+        }
+        Cause::Limit { option, resumes } => {
+            add(line, option_text(option));
+            add_resuming(line, resumes);
+        }
+        Cause::Stream { stream, reason } => {
+            add(line, stream_text(stream));
+            add_cut(line, reason, 60);
+        }
+        Cause::Argument { word, wanted } => {
+            add_quoted(line, word);
+            add(line, " isn't ");
+            add_cut(line, wanted, 150);
+        }
+        Cause::Usage { usage } => {
+            add(line, "usage: ");
+            add_cut(line, usage, 150);
+        }
+        Cause::Hint(hint) => add(line, hint_text(hint)),
+    }
+}
+
+/// A byte as it is printed.
+fn shown(byte: u8) -> u8
+    ensures { result ≡ shown_byte byte }
+{
+    if byte < 0x20 || byte == 0x7F {
+        b'?'
+    } else {
+        byte
+    }
+}
+
+/// Adds bytes as they are printed.
+fn add_shown(line: &mut Line, bytes: &[u8])
+    requires { array_vec_len line.old + length bytes.now ≤ 511 }
+    ensures text { line.new.items ≡ line.old.items ++ map shown_byte bytes.now }
+    ensures len { array_vec_len line.new ≡ array_vec_len line.old + length bytes.now }
+{
+    for byte in bytes {
+        line.push(shown(*byte));
+    }
+}
+
+/// The line of a text: each control character becomes a question mark.
+fn finished(text: &[u8]) -> Line
+    requires { length text.now ≤ 511 }
+    ensures text { result.items ≡ map shown_byte text.now ++ 10 ∷ [] }
+    ensures line { IsOneLine result.items }
+{
+    let mut line = Line::new();
+    add_shown(&mut line, text);
+    line.push(b'\n');
+    line
+}
+
+/// The line of a cause, which a program of this name puts after its message. No line has more than 512 bytes, and none
+/// has a control character before its newline.
+pub fn line_of(program: &str, cause: Cause<'_>) -> Line
+    requires { length program.now ≤ 18 }
+    ensures text { result.items ≡ line_text program.now cause.entry }
+    ensures line { IsOneLine result.items }
+{
+    let mut text = Line::new();
+    add(&mut text, program);
+    add(&mut text, ": ");
+    add_cause(&mut text, cause);
+    finished(&text)
+}

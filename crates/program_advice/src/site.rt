@@ -1,0 +1,139 @@
+//! Causes of calls on the output, on a mapfile or on its folder.
+use crate::cause::{Cause, Doing, Fact, Hint, Named, Role};
+use crate::reason::reason_text;
+use crash_site::folder::SiteTrouble;
+use crash_site::site::SiteCall;
+use std::io::{self, ErrorKind};
+
+/// The files that calls reach.
+#[derive(Clone, Copy)]
+pub struct SiteFiles<'a> {
+    pub outfile: &'a str,
+    /// The mapfile that is saved, if there is one.
+    pub mapfile: Option<&'a str>,
+    /// The mapfile that a read met.
+    pub read: Named<'a>,
+}
+
+/// Whether the form for real files refused a call itself, and not the system.
+fn is_own(error: &io::Error, kind: ErrorKind) -> bool {
+    error.raw_os_error().is_none() && error.kind() == kind
+}
+
+fn is_full(error: &io::Error) -> bool {
+    matches!(
+        error.kind(),
+        ErrorKind::StorageFull | ErrorKind::QuotaExceeded
+    )
+}
+
+/// Why a call on the outfile failed.
+fn image_cause<'a>(doing: Doing, error: &io::Error, files: SiteFiles<'a>) -> Cause<'a> {
+    let file = Named {
+        role: Role::Outfile,
+        name: files.outfile,
+    };
+    if is_own(error, ErrorKind::ResourceBusy) {
+        return Cause::Hint(Hint::SameFile);
+    }
+    if is_own(error, ErrorKind::WouldBlock) {
+        return Cause::File {
+            file,
+            fact: Fact::InUse,
+        };
+    }
+    if is_full(error) {
+        return Cause::Full {
+            file,
+            resumes: files.mapfile.is_some(),
+        };
+    }
+    Cause::Refused {
+        doing,
+        file,
+        reason: reason_text(error),
+    }
+}
+
+/// Why a read of a mapfile failed.
+fn read_cause<'a>(error: &io::Error, file: Named<'a>) -> Cause<'a> {
+    if is_own(error, ErrorKind::ResourceBusy) {
+        return Cause::File {
+            file,
+            fact: Fact::NotApart,
+        };
+    }
+    if is_own(error, ErrorKind::InvalidInput) {
+        return Cause::File {
+            file,
+            fact: Fact::NotRegular,
+        };
+    }
+    Cause::Refused {
+        doing: Doing::Read,
+        file,
+        reason: reason_text(error),
+    }
+}
+
+/// Why a call of a save failed.
+fn save_cause<'a>(error: &io::Error, name: &'a str) -> Cause<'a> {
+    let file = Named {
+        role: Role::Mapfile,
+        name,
+    };
+    if is_own(error, ErrorKind::ResourceBusy) {
+        return Cause::File {
+            file,
+            fact: Fact::DraftNotApart,
+        };
+    }
+    if is_own(error, ErrorKind::InvalidInput) {
+        return Cause::File {
+            file,
+            fact: Fact::NotRegular,
+        };
+    }
+    if is_own(error, ErrorKind::AlreadyExists) {
+        return Cause::File {
+            file,
+            fact: Fact::Replaced,
+        };
+    }
+    if is_full(error) {
+        return Cause::Full {
+            file,
+            resumes: true,
+        };
+    }
+    Cause::Unsaved {
+        name,
+        reason: reason_text(error),
+    }
+}
+
+/// Why a call failed, by the error that it met.
+pub fn site_cause<'a>(trouble: SiteTrouble, files: SiteFiles<'a>) -> Cause<'a> {
+    let error = &trouble.error;
+    let mapfile = files.mapfile.unwrap_or("");
+    match trouble.call {
+        SiteCall::ImageOpen => image_cause(Doing::Open, error, files),
+        SiteCall::ImageRead => image_cause(Doing::Read, error, files),
+        SiteCall::ImageWrite => image_cause(Doing::Write, error, files),
+        SiteCall::ImageSync => image_cause(Doing::Sync, error, files),
+        SiteCall::MapRead => read_cause(error, files.read),
+        SiteCall::MapRemove => Cause::Refused {
+            doing: Doing::Remove,
+            file: Named {
+                role: Role::Mapfile,
+                name: mapfile,
+            },
+            reason: reason_text(error),
+        },
+        SiteCall::DraftBegin
+        | SiteCall::DraftAppend
+        | SiteCall::DraftSync
+        | SiteCall::DraftPublish
+        | SiteCall::MapSettle => save_cause(error, mapfile),
+    }
+}

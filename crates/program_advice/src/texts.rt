@@ -1,0 +1,100 @@
+//! The fixed texts of causes.
+ghost use Rattle.std.specs.Prelude.{◌≡◌, ◌≤◌, length};
+ghost use Rattle.program_advice.specs.Texts.{doing_text, fact_text, hint_text, option_text, role_text, stream_text};
+
+use crate::cause::{Doing, Fact, Hint, LimitOption, Role, Stream};
+
+/// What a file is called.
+pub(crate) fn role_text(role: Role) -> &'static str
+    ensures text { result.now ≡ role_text role }
+    ensures len { length result.now ≤ 19 }
+{
+    match role {
+        Role::Infile => "infile",
+        Role::Pattern => "pattern",
+        Role::Outfile => "outfile",
+        Role::Mapfile => "mapfile",
+        Role::Draft => "the mapfile's draft",
+        Role::DomainMap => "domain mapfile",
+        Role::TestMap => "test mapfile",
+        Role::OtherMap => "other mapfile",
+    }
+}
+
+/// What couldn't be done.
+pub(crate) fn doing_text(doing: Doing) -> &'static str
+    ensures text { result.now ≡ doing_text doing }
+    ensures len { length result.now ≤ 14 }
+{
+    match doing {
+        Doing::Open => "cannot open ",
+        Doing::Read => "cannot read ",
+        Doing::Write => "cannot write ",
+        Doing::Sync => "cannot sync ",
+        Doing::Remove => "cannot remove ",
+    }
+}
+
+/// What is said of a file after its name.
+pub(crate) fn fact_text(fact: Fact) -> &'static str
+    ensures text { result.now ≡ fact_text fact }
+    ensures len { length result.now ≤ 90 }
+{
+    match fact {
+        Fact::InUse => " is in use by another rescue",
+        Fact::NotApart => " is the infile or the outfile by another name",
+        Fact::DraftNotApart => {
+            " or its draft (.tmp) is the infile or the outfile by another name"
+        }
+        Fact::NotRegular => " isn't a regular file",
+        Fact::NeedsForce => {
+            " isn't a regular file: option -f writes to it, and what it holds is lost"
+        }
+        Fact::Absent => " doesn't exist",
+        Fact::Exists => " exists: option -f replaces it",
+        Fact::Empty => " is empty",
+        Fact::NoMap => " isn't a mapfile, or it was damaged",
+        Fact::Replaced => " was replaced by another program",
+    }
+}
+
+/// Which stream failed.
+pub(crate) fn stream_text(stream: Stream) -> &'static str
+    ensures text { result.now ≡ stream_text stream }
+    ensures len { length result.now ≤ 40 }
+{
+    match stream {
+        Stream::Input => "cannot read standard input: ",
+        Stream::Output => "cannot write standard output: ",
+    }
+}
+
+/// Which option set a limit.
+pub(crate) fn option_text(option: LimitOption) -> &'static str
+    ensures text { result.now ≡ option_text option }
+    ensures len { length result.now ≤ 30 }
+{
+    match option {
+        LimitOption::ReadErrors => "option -X set this limit",
+        LimitOption::BadAreas => "option -e set this limit",
+        LimitOption::Timeout => "option -T set this limit",
+    }
+}
+
+/// What is said without any name.
+pub(crate) fn hint_text(hint: Hint) -> &'static str
+    ensures text { result.now ≡ hint_text hint }
+    ensures len { length result.now ≤ 90 }
+{
+    match hint {
+        Hint::SameFile => "infile and outfile are the same file",
+        Hint::InputLost => {
+            "reconnect the disk and give the same command (its name may have changed)"
+        }
+        Hint::NoMemory => "memory is short: end other programs and give the same command",
+        Hint::BlockNumbers => "each line of the list is one block number, as 17 or 0x11",
+        Hint::NoTable => "the infile has no DOS partition table that can be read there",
+        Hint::OtherTable => "the infile has a GPT, which this program doesn't read",
+        Hint::NoPartition => "'fdisk -l' lists the partitions of a disk or an image",
+    }
+}

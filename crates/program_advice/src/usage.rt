@@ -1,0 +1,107 @@
+//! Causes of arguments that ask for nothing that can be done.
+
+use crate::cause::Cause;
+use option_words::fault::{UsageFault, WordFault};
+use option_words::reader::read_words;
+use option_words::row::Row;
+use option_words::table::OptionTable;
+use option_words::words::Words;
+use std::alloc::Global;
+
+/// What a program tells of its arguments.
+#[derive(Clone, Copy)]
+pub struct Manual {
+    /// How it is called, and where its options are described.
+    pub usage: &'static str,
+    /// What an argument isn't that is no option: one of this program.
+    pub option: &'static str,
+    /// What an argument isn't that names no file and gives no number.
+    pub operand: &'static str,
+    pub rows: &'static [Row],
+}
+
+/// An argument, counted from 1, if there are that many.
+fn argument(words: &Words, word: usize) -> Option<&str> {
+    if word == 0 || word > words.len() {
+        return None;
+    }
+    Some(words.get(word))
+}
+
+/// Whether this is how other programs are asked for help or for their version.
+fn asks_for_help(text: &str) -> bool {
+    text == "-h" || text == "-V" || text == "--help" || text == "--version"
+}
+
+/// Why words can't be read.
+fn word_cause<'a>(words: &'a Words, fault: WordFault, manual: Manual) -> Option<Cause<'a>> {
+    let (number, wanted) = match fault {
+        WordFault::UnknownShort { word, .. } | WordFault::UnknownLong { word } => {
+            (word, manual.option)
+        }
+        WordFault::Ambiguous { word } => (word, "the beginning of one option only"),
+        WordFault::MissingValue { word } => (word, "followed by its value"),
+        WordFault::UnwantedValue { word } => (word, "an option that takes a value"),
+        WordFault::NoMemory => return None,
+    };
+    let word = argument(words, number)?;
+    if asks_for_help(word) {
+        return Some(Cause::Usage {
+            usage: manual.usage,
+        });
+    }
+    Some(Cause::Argument { word, wanted })
+}
+
+/// The letter of the option whose value begins in a word, and None where that word is no option's value. An option
+/// without a letter has a space.
+fn letter_at(alloc: Global, words: &Words, word: usize, rows: &'static [Row]) -> Option<char> {
+    let table = OptionTable::checked(rows)?;
+    let Ok(reading) = read_words(alloc, words, &table) else {
+        return None;
+    };
+    for item in &reading.items {
+        if let Some(spot) = item.value {
+            if spot.word == word {
+                return Some(rows.get(item.row)?.short.unwrap_or(' '));
+            }
+        }
+    }
+    None
+}
+
+/// What the value of an option is to be.
+fn wanted_by(letter: char) -> &'static str {
+    match letter {
+        'a' | 'b' | 'c' | 'i' | 'K' | 'o' | 's' =>
+            "a size that fits here (4Ki is 4096, 4k is 4000)",
+        'r' => "a number from 0 to 65535",
+        'e' | 'X' => "a number that fits here",
+        'T' => "a time that fits here",
+        _ => "a value that fits here",
+    }
+}
+
+/// Why arguments ask for nothing that can be done, if that helps.
+pub fn usage_cause<'a>(
+    alloc: Global,
+    words: &'a Words,
+    fault: UsageFault,
+    manual: Manual,
+) -> Option<Cause<'a>> {
+    match fault {
+        UsageFault::Word(fault) => word_cause(words, fault, manual),
+        UsageFault::BadValue { word: number } => {
+            let word = argument(words, number)?;
+            let wanted = match letter_at(alloc, words, number, manual.rows) {
+                Some(letter) => wanted_by(letter),
+                None => manual.operand,
+            };
+            Some(Cause::Argument { word, wanted })
+        }
+        UsageFault::Modes { .. } | UsageFault::Operands { .. } => Some(Cause::Usage {
+            usage: manual.usage,
+        }),
+        UsageFault::Conflict { .. } | UsageFault::PlaceTooLarge => None,
+    }
+}

@@ -1,0 +1,23 @@
+//! Runs of ddrescueshow.
+use crate::refusal::Refusal;
+use ddrescueshow_cli::ending::ShowEnding;
+use ddrescueshow_cli::show::ddrescueshow;
+use memory_console::memory::MemoryConsole;
+use memory_site::memory::MemorySite;
+use option_words::words::Words;
+use std::alloc::Global;
+
+/// Runs ddrescueshow. If it finds no memory there is no answer: a scene can't ask for that.
+pub(crate) fn draw(
+    alloc: Global,
+    words: &Words,
+    site: &mut MemorySite,
+    console: &mut MemoryConsole,
+) -> Result<ShowEnding, Refusal> {
+    let starved = site.starved();
+    let ending = ddrescueshow(alloc, words, site, console);
+    if matches!(ending, ShowEnding::NoMemory) || site.starved() > starved || console.starved() > 0 {
+        return Err(Refusal::NoMemory);
+    }
+    Ok(ending)
+}
