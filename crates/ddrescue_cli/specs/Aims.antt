@@ -1,4 +1,4 @@
--- The work of fill mode and of generate mode: their steps in order, and the sweep after them.
+-- What a command's files are for: the task, the mapfile that it wants, and the work after the words.
 use Rattle.std.specs.Prelude.{◌≡◌, ⊤, true, is_some, ℕ, Bool, List}
 use Rattle.ddrescue_words.specs.Command.{Command, Task, Rescue, Fill, Generate}
 use Rattle.ddrescue_cli.specs.declared.aim.Aim.{Aim}

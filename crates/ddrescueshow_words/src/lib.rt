@@ -1,4 +1,4 @@
-//! The command line of `ddrescueverify`: from its words to what is asked for.
+//! The command line of `ddrescueshow`: from its words to what is asked for.
 #![tactic(auto)]
 
 pub mod command;
