@@ -53,9 +53,13 @@ fn word_cause<'a>(words: &'a Words, fault: WordFault, manual: Manual) -> Option<
     Some(Cause::Argument { word, wanted })
 }
 
-/// The letter of the option whose value begins in a word, and None where that word is no option's value. An option
-/// without a letter has a space.
-fn letter_at(alloc: Global, words: &Words, word: usize, rows: &'static [Row]) -> Option<char> {
+/// The long name of the option whose value begins in a word, and None where that word is no option's value.
+fn option_at(
+    alloc: Global,
+    words: &Words,
+    word: usize,
+    rows: &'static [Row],
+) -> Option<&'static str> {
     let table = OptionTable::checked(rows)?;
     let Ok(reading) = read_words(alloc, words, &table) else {
         return None;
@@ -63,22 +67,41 @@ fn letter_at(alloc: Global, words: &Words, word: usize, rows: &'static [Row]) ->
     for item in &reading.items {
         if let Some(spot) = item.value {
             if spot.word == word {
-                return Some(rows.get(item.row)?.short.unwrap_or(' '));
+                return Some(rows.get(item.row)?.long);
             }
         }
     }
     None
 }
 
+/// Whether the value of an option is a size.
+fn is_size(option: &str) -> bool {
+    option == "block-size"
+        || option == "cluster-size"
+        || option == "input-position"
+        || option == "min-read-rate"
+        || option == "output-position"
+        || option == "sector-size"
+        || option == "size"
+        || option == "skip-size"
+}
+
 /// What the value of an option is to be.
-fn wanted_by(letter: char) -> &'static str {
-    match letter {
-        'a' | 'b' | 'c' | 'i' | 'K' | 'o' | 's' =>
-            "a size that fits here (4Ki is 4096, 4k is 4000)",
-        'r' => "a number from 0 to 65535",
-        'e' | 'X' => "a number that fits here",
-        'T' => "a time that fits here",
-        _ => "a value that fits here",
+fn wanted_by(option: &str) -> &'static str {
+    if is_size(option) {
+        "a size that fits here (4Ki is 4096, 4k is 4000)"
+    } else if option == "retry-passes" {
+        "a number from 0 to 65535"
+    } else if option == "max-bad-areas" || option == "max-read-errors" {
+        "a number that fits here"
+    } else if option == "rows" || option == "width" {
+        "a number from 1 to 1000"
+    } else if option == "sample" {
+        "a number from 1 to 65536"
+    } else if option == "timeout" {
+        "a time that fits here"
+    } else {
+        "a value that fits here"
     }
 }
 
@@ -93,8 +116,8 @@ pub fn usage_cause<'a>(
         UsageFault::Word(fault) => word_cause(words, fault, manual),
         UsageFault::BadValue { word: number } => {
             let word = argument(words, number)?;
-            let wanted = match letter_at(alloc, words, number, manual.rows) {
-                Some(letter) => wanted_by(letter),
+            let wanted = match option_at(alloc, words, number, manual.rows) {
+                Some(option) => wanted_by(option),
                 None => manual.operand,
             };
             Some(Cause::Argument { word, wanted })
