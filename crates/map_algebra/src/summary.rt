@@ -1,11 +1,11 @@
 //! How much of a domain has some statuses, and how much has each one.
-ghost use Rattle.std.specs.Prelude.{◌≡◌, ◌+◌, ◌-◌, ◌<◌, ◌^◌, ◌&&◌, not, length, if◌then◌else◌};
+ghost use Rattle.std.specs.Prelude.{◌≡◌, ◌+◌, ◌-◌, ◌<◌, ◌^◌, ◌&&◌, not, length, map, if◌then◌else◌};
 ghost use Rattle.std.specs.List.{list_any};
 ghost use Rattle.block_list.specs.Status.{same};
 ghost use Rattle.rescue_domain.specs.Parts.{covers};
 ghost use Rattle.map_algebra.specs.At.{IsWithinMap};
 ghost use Rattle.block_list.specs.Areas.{count_of};
-ghost use Rattle.map_algebra.specs.Summary.{summary_of, count_from, has_one, has_status};
+ghost use Rattle.map_algebra.specs.Summary.{all_statuses, count_from, has_one, has_status, summary_of};
 
 use crate::pieces::{DomainPiece, Nearby, piece_at};
 use block_list::areas::Count;
@@ -28,23 +28,71 @@ impl Summary {
     {
         Summary {
             domain: domain.size(),
-            lines: [
-                count_status(tiles, domain, Status::NonTried),
-                count_status(tiles, domain, Status::NonTrimmed),
-                count_status(tiles, domain, Status::NonScraped),
-                count_status(tiles, domain, Status::BadSector),
-                count_status(tiles, domain, Status::Finished),
-            ],
+            lines: count_each(tiles, domain),
         }
     }
 }
 
-/// How much of a domain has one status in a map.
-fn count_status<T: Tiles>(tiles: &T, domain: &Domain, status: Status) -> Count
-    ensures { result ≡ count_of (has_status (covers domain.now) (T.statuses tiles.now) status)
-        (length (T.statuses tiles.now)) }
+/// How much of one status was counted up to a position, and whether the position in front of that was counted.
+#[derive(Clone, Copy)]
+struct Line {
+    count: Count,
+    begun: bool,
+}
+
+/// A line with a piece more, if the piece counts.
+fn extended(line: Line, size: u64, counts: bool) -> Line
+    requires bytes { line.count.bytes + size < 2 ^ 64 }
+    requires areas { line.count.areas + 1 < 2 ^ 64 }
+    ensures bytes { result.count.bytes ≡ line.count.bytes + (if counts then size else 0) }
+    ensures areas { result.count.areas ≡ line.count.areas + (if counts && not line.begun then 1 else 0) }
+    ensures begun { result.begun ≡ counts }
 {
-    count_statuses(tiles, domain, &[status], 0, tiles.end())
+    Line {
+        count: counted(line.count, size, counts, line.begun),
+        begun: counts,
+    }
+}
+
+/// How much of a domain has each status in a map, by one walk along both.
+fn count_each<T: Tiles>(tiles: &T, domain: &Domain) -> [Count; 5]
+    ensures { result ≡ map (λ s. count_of (has_status (covers domain.now) (T.statuses tiles.now) s)
+        (length (T.statuses tiles.now))) all_statuses }
+{
+    let end = tiles.end();
+    let mut near = Nearby::start();
+    let none = Line {
+        count: Count { bytes: 0, areas: 0 },
+        begun: false,
+    };
+    let mut non_tried = none;
+    let mut non_trimmed = none;
+    let mut non_scraped = none;
+    let mut bad = none;
+    let mut finished = none;
+    let mut at = 0;
+    while at < end {
+        let piece = piece_at(tiles, domain, &mut near, at, end);
+        let size = piece.to - at;
+        let is_non_tried = has_one(piece, &[Status::NonTried]);
+        let is_non_trimmed = has_one(piece, &[Status::NonTrimmed]);
+        let is_non_scraped = has_one(piece, &[Status::NonScraped]);
+        let is_bad = has_one(piece, &[Status::BadSector]);
+        let is_finished = has_one(piece, &[Status::Finished]);
+        non_tried = extended(non_tried, size, is_non_tried);
+        non_trimmed = extended(non_trimmed, size, is_non_trimmed);
+        non_scraped = extended(non_scraped, size, is_non_scraped);
+        bad = extended(bad, size, is_bad);
+        finished = extended(finished, size, is_finished);
+        at = piece.to;
+    }
+    [
+        non_tried.count,
+        non_trimmed.count,
+        non_scraped.count,
+        bad.count,
+        finished.count,
+    ]
 }
 
 /// How much of a domain has one of some statuses in a map, from one position up to another. Of an area its beginning
