@@ -20,6 +20,6 @@ pub record Told : Type 0 where
   pub console : ConsoleState
   pub console' : ConsoleState
 
--- the calls come after those that the site had made
+-- what came before the call: the files that the site began with, and the calls that were made on them since
 abbrev pub calls_before : Told → Before
 calls_before t = record { start = t.site.start; earlier = t.site.calls }

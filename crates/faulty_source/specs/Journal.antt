@@ -21,8 +21,8 @@ floor b x = x / b * b
 abbrev pub is_failed : Reading → Bool
 is_failed r = not (is_whole r || r.ended)
 
--- How many bytes of a read are kept: all of a whole one and of one that met the end, else those up to the last sector's
--- boundary that it came to.
+-- How many bytes of a read are kept: all of a whole one and of one that met the end, else those up to the last boundary
+-- of a sector that it reached.
 abbrev pub kept : ℕ → Reading → ℕ
 kept sector r =
     if is_whole r then r.asked else if r.ended then length r.given else floor sector (r.pos + length r.given) - r.pos
