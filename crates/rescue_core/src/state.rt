@@ -2,11 +2,9 @@
 use crate::request::start_of;
 use crate::settings::Settings;
 use mapfile_text::state::{Current, MapState};
+use rescue_rules::phase::COPYING_PASSES;
 use rescue_rules::report::Said;
 use rescue_rules::stop::TrimMode;
-
-/// How many times copying goes over the input.
-const COPYING_PASSES: u32 = 5;
 
 /// Where a run stands in its map.
 #[derive(Clone, Copy, Debug, PartialEq, Eq)]
