@@ -234,10 +234,8 @@ still_kept words e s d k p p' early says_words refused none says = record {
 }
 
 starves_task : (task : Task) → RefusesTask task NoMemory
-starves_task (Rescue c) = inr refl
-starves_task (Fill types c) = inr refl
-starves_task (Generate c) = inr refl
 starves_task (Sample kib quiet) = refl
+starves_task _ = inr refl
 
 -- the promise where memory ran out before anything was done
 pub starved_kept : (words : List (List ℕ)) (s : SourceState) (d : SiteState) (k : ClockState) (p p' : ConsoleState)
