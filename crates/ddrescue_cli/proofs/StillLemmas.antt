@@ -33,7 +33,7 @@ use Rattle.task_sweeps.specs.Modes.{fill_rows, generate_rows}
 use Rattle.ddrescue_cli.specs.Ddrescue.{Says, Promise, FillModePromise, GenerateModePromise, SamplePromise, PromiseOf, Ddrescue}
 use Rattle.work_rules.specs.Work.{Deeds, IsIdle, Works}
 use Rattle.work_rules.specs.Parts.{only_calls}
-use Rattle.copy_passes.specs.Turns.{IsFrom}
+use Rattle.faulty_source.specs.Journal.{IsFrom}
 use Rattle.ddrescue_cli.proofs.GoesLemmas.{nothing_stops_by}
 use Rattle.task_files.proofs.ListingLemmas.{OneListing, one_listing}
 use Rattle.task_files.proofs.MapsLemmas.{MapsOf, maps_for}

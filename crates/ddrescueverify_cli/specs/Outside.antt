@@ -6,7 +6,7 @@ use Rattle.crash_site.specs.SiteState.{SiteState, files_in}
 use Rattle.rescue_domain.specs.Places.{place_from}
 use Rattle.work_rules.specs.Work.{Deeds}
 use Rattle.rescue_verify.specs.Looks.{Look, reads_of, seen_in}
-use Rattle.rescue_verify.specs.Looking.{IsFrom}
+use Rattle.faulty_source.specs.Journal.{IsFrom}
 use Rattle.ddrescueverify_words.specs.Command.{Command}
 use Rattle.program_promise.specs.Opens.{AreOpens}
 use Rattle.ddrescueverify_cli.specs.Asked.{output_from}

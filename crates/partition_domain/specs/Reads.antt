@@ -1,5 +1,5 @@
 -- Which reads are made for a partition, and what each outcome of its search says of what they gave.
-use Rattle.std.specs.Prelude.{◌≡◌, ⊤, ℕ, ◌+◌, ◌*◌, ◌<◌, true, false, List, [], ◌∷◌, ◌++◌, length, map, Option, Some, None, is_some, slice_range}
+use Rattle.std.specs.Prelude.{◌≡◌, ⊤, ℕ, ◌+◌, ◌*◌, ◌<◌, true, false, List, [], ◌∷◌, ◌++◌, length, map, Option, Some, None, is_some}
 use Rattle.std.specs.List.{list_all}
 use Rattle.fault_count.specs.Counts.{raised}
 use Rattle.faulty_source.specs.Journal.{Reading}
@@ -13,10 +13,6 @@ use Rattle.partition_domain.specs.Chain.{chain_limit, links_on}
 use Rattle.partition_domain.specs.Part.{are_records, is_lacking, is_primary, next, Part, primary}
 
 -- ---- the reads
-
--- a read gave the input's own bytes
-abbrev pub IsFrom : (bytes : List ℕ) → Reading → Type 0
-IsFrom bytes r = r.given ≡ slice_range bytes r.pos (r.pos + length r.given)
 
 -- the records that reads gave, in order
 abbrev pub records_of : List Reading → List (List ℕ)

@@ -2,7 +2,7 @@
 use Rattle.std.specs.Prelude.{◌≡◌, ℕ, ◌+◌, ◌-◌, Bool, true, not, IsTrue, List, [], ◌∷◌, ◌++◌, map, All, None, Result, Ok, Err, if◌then◌else◌}
 use Rattle.fault_count.specs.Counts.{Rose}
 use Rattle.block_list.specs.declared.status.Status.{Status}
-use Rattle.faulty_source.specs.Journal.{Reading, is_whole}
+use Rattle.faulty_source.specs.Journal.{Reading, is_whole, IsFrom}
 use Rattle.faulty_source.specs.SourceState.{SourceState}
 use Rattle.crash_site.specs.Calls.{Entry, Done, image_read}
 use Rattle.crash_site.specs.CallsMade.{Lost}
@@ -16,7 +16,7 @@ use Rattle.rescue_verify.specs.declared.tally.Tally.{Tally}
 use Rattle.rescue_verify.specs.declared.piece.Comparison.{Comparison}
 use Rattle.rescue_verify.specs.Pieces.{IsPiece, NoneFrom, AskForPieces, end_of_reads}
 use Rattle.rescue_verify.specs.Looks.{Look, reads_of, differs, seen_in, look_calls, compared_bytes, differing_bytes, unread_bytes}
-use Rattle.rescue_verify.specs.Looking.{IsFrom, SeesPiece}
+use Rattle.rescue_verify.specs.Looking.{SeesPiece}
 use Rattle.rescue_verify.specs.Verified.{judged, judged_by}
 
 -- What is compared, in sectors of this size, and where a position stands in the image: `from` stands at `to`.

@@ -19,7 +19,7 @@ use Rattle.rescue_console.specs.ClockState.{ClockState}
 use Rattle.rescue_console.specs.ConsoleState.{ConsoleState}
 use Rattle.option_words.specs.declared.fault.UsageFault.TheVariants.{PlaceTooLarge}
 use Rattle.rescue_core.proofs.TurnEndLemmas.{says_none}
-use Rattle.copy_passes.specs.Turns.{IsFrom}
+use Rattle.faulty_source.specs.Journal.{IsFrom}
 use Rattle.copy_passes.proofs.TurnLemmas.{between as across}
 use Rattle.work_rules.specs.Work.{Opened as IsOpened, Unopened, Deeds, Look, Works}
 use Rattle.work_rules.specs.Parts.{only_calls, WentThrough}

@@ -44,7 +44,8 @@ use Rattle.rescue_core.specs.RunState.{RunState, names_in, setting_in}
 use Rattle.rescue_core.specs.Turning.{IsEvent, stepped, move_by, Halted, Starved, Lost, Unwritten, Unsaved, Limited}
 use Rattle.rescue_core.specs.Closing.{LastSave, Saved, Unsaved as UnsavedEnd, Closes, closing_snapshot, last_pieces}
 use Rattle.rescue_core.specs.Across.{Across}
-use Rattle.copy_passes.specs.Turns.{IsFrom, IsAlike, moved_to, Went, WentUpTo}
+use Rattle.copy_passes.specs.Turns.{IsAlike, moved_to, Went, WentUpTo}
+use Rattle.faulty_source.specs.Journal.{IsFrom}
 use Rattle.trim_scrape.specs.Past.{IsPast}
 use Rattle.task_rescue.specs.Running.{WentToEnd}
 use Rattle.task_rescue.proofs.LastLemmas.{past_all}

@@ -20,7 +20,7 @@ use Rattle.rescue_rules.specs.Work.{Ends}
 use Rattle.rescue_rules.specs.Lines.{lines_of, opening_lines}
 use Rattle.rescue_core.specs.RunState.{RunState, setting_in, HasPlaces, Suits}
 use Rattle.rescue_core.specs.Across.{Across}
-use Rattle.copy_passes.specs.Turns.{IsFrom}
+use Rattle.faulty_source.specs.Journal.{IsFrom}
 use Rattle.copy_passes.specs.Copying.{MayCopy}
 use Rattle.ddrescue_words.specs.declared.options.Options.{Options}
 use Rattle.ddrescue_words.specs.Options.{cluster_of}
