@@ -30,7 +30,7 @@ use Rattle.rescue_verify.specs.Verified.{judged_by}
 use Rattle.rescue_verify.specs.Comparing.{ComparisonPlan, tally_of, Compares}
 use Rattle.ddrescueverify_words.specs.declared.options.VerifyOptions.{VerifyOptions}
 use Rattle.ddrescueverify_words.specs.Command.{Command}
-use Rattle.program_promise.specs.Opens.{AreOpens}
+use Rattle.work_rules.specs.Opens.{AreOpens}
 use Rattle.ddrescueverify_cli.specs.declared.ending.VerifyEnding.{VerifyEnding}
 use Rattle.ddrescueverify_cli.specs.declared.ending.VerifyEnding.TheVariants.{NoOutput, SourceFault}
 use Rattle.ddrescueverify_cli.specs.declared.open.LoadedMap.{LoadedMap}

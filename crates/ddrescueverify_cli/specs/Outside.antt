@@ -8,7 +8,7 @@ use Rattle.work_rules.specs.Work.{Deeds}
 use Rattle.rescue_verify.specs.Looks.{Look, reads_of, seen_in}
 use Rattle.faulty_source.specs.Journal.{IsFrom}
 use Rattle.ddrescueverify_words.specs.Command.{Command}
-use Rattle.program_promise.specs.Opens.{AreOpens}
+use Rattle.work_rules.specs.Opens.{AreOpens}
 use Rattle.ddrescueverify_cli.specs.Asked.{output_from}
 
 -- the output and the mapfile, as the steps found them

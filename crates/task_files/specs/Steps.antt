@@ -40,7 +40,8 @@ use Rattle.task_files.specs.declared.ending.Ending.TheVariants.{NoMap, NotRegula
 use Rattle.task_files.specs.Names.{AreNamedApart, first_same}
 use Rattle.task_files.specs.Asked.{Maps, names_by, setting_of}
 use Rattle.task_files.specs.Maps.{Found, AreAskedFor, AreMapsIn, IsListing, MapfileLists, file_of, mapfile_of}
-use Rattle.task_files.specs.Outside.{Outside, AreOpens, HasGainedReads, Agrees}
+use Rattle.task_files.specs.Outside.{Outside, HasGainedReads, Agrees}
+use Rattle.work_rules.specs.Opens.{AreOpens}
 use Rattle.task_files.specs.Work.{RunsOver, Rescues, rescue_faults, map_rows, output_rows, load_rows, opened_rows, worked_rows}
 
 -- how a rescue ends whose parts returned this

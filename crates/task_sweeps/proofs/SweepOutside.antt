@@ -24,7 +24,8 @@ use Rattle.task_files.specs.declared.ending.Ending.{Ending}
 use Rattle.task_files.specs.Names.{first_same}
 use Rattle.task_files.specs.Asked.{names_by}
 use Rattle.task_files.specs.Maps.{Found, file_of, found_in, mapfile_of}
-use Rattle.task_files.specs.Outside.{Outside, AreOpens}
+use Rattle.task_files.specs.Outside.{Outside}
+use Rattle.work_rules.specs.Opens.{AreOpens}
 use Rattle.task_files.specs.Work.{rescue_faults, map_rows}
 use Rattle.task_files.specs.Steps.{Gains, IsOnlyMaps, ReadsMap, maps_of, statuses_in}
 use Rattle.task_sweeps.specs.Modes.{named_rows}
