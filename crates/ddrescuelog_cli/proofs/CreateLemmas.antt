@@ -33,7 +33,7 @@ use Rattle.ddrescuelog_cli.specs.Maps.{Found, Maps, AreMapsOf, AreAskedFor, foun
 use Rattle.ddrescuelog_cli.specs.Modes.{looks_at_places}
 use Rattle.ddrescuelog_cli.specs.Refusals.{ListRefused}
 use Rattle.ddrescuelog_cli.specs.Results.{IsCreated, map_text}
-use Rattle.ddrescuelog_cli.specs.Outside.{only_calls}
+use Rattle.work_rules.specs.Parts.{only_calls}
 use Rattle.ddrescuelog_cli.specs.Work.{log_faults, OnlyAnswers, EndsCreated, EndsAs, WorksOver}
 use Rattle.ddrescuelog_cli.specs.Steps.{HasStatuses, statuses_in}
 use Rattle.ddrescuelog_cli.specs.Answers.{TakenBefore, AllTaken}

@@ -21,7 +21,7 @@ use Rattle.ddrescuelog_cli.specs.declared.load.LoadedMaps.{LoadedMaps}
 use Rattle.ddrescuelog_cli.specs.declared.ending.LogEnding.{LogEnding}
 use Rattle.ddrescuelog_cli.specs.declared.ending.LogEnding.TheVariants.{NoMemory}
 use Rattle.ddrescuelog_cli.specs.Maps.{Found, file_of, found_in, mapfile_mode, AreMapsOf, AreAskedFor}
-use Rattle.ddrescuelog_cli.specs.Outside.{only_calls}
+use Rattle.work_rules.specs.Parts.{only_calls}
 use Rattle.ddrescuelog_cli.specs.Work.{map_rows, named_rows}
 use Rattle.ddrescuelog_cli.specs.Steps.{Stopped, Through, DidRead, ReadsMap, HasStatuses, statuses_in, statuses_or_none, DidReadNamed, ReadsNamed, maps_read, IsLoadedAs, LoadsMaps, ReadCause}
 use Rattle.ddrescuelog_cli.proofs.RowLemmas.{stopped_more, through_then, through_both}

@@ -25,7 +25,7 @@ use Rattle.ddrescuelog_cli.specs.declared.ending.LogEnding.{LogEnding}
 use Rattle.ddrescuelog_cli.specs.declared.ending.LogEnding.TheVariants.{Exists, SiteFault}
 use Rattle.ddrescuelog_cli.specs.Maps.{Found, file_of, found_in}
 use Rattle.ddrescuelog_cli.specs.Refusals.{MapIsThere}
-use Rattle.ddrescuelog_cli.specs.Outside.{only_calls}
+use Rattle.work_rules.specs.Parts.{only_calls}
 use Rattle.ddrescuelog_cli.specs.Work.{log_faults, map_rows, named_rows, SaysIfThere, UnlessThere, WorksOver, WorksAs}
 use Rattle.ddrescuelog_cli.specs.Steps.{Stopped, Through, ReadsNamed}
 use Rattle.ddrescuelog_cli.specs.Creating.{IsFree, AsksIfThere, Looks}

@@ -19,7 +19,7 @@ use Rattle.ddrescuelog_words.specs.Modes.{creates}
 use Rattle.ddrescuelog_words.specs.Command.{Command}
 use Rattle.save_resume.proofs.StageLemmas.{appended_draft}
 use Rattle.ddrescuelog_cli.specs.declared.ending.LogEnding.{LogEnding}
-use Rattle.ddrescuelog_cli.specs.Outside.{only_calls}
+use Rattle.work_rules.specs.Parts.{only_calls}
 use Rattle.ddrescuelog_cli.specs.Maps.{Found, Maps}
 use Rattle.ddrescuelog_cli.specs.Work.{EndsSaved, EndsAs, removal_calls, LogWorks}
 use Rattle.ddrescuelog_cli.proofs.ReadLemmas.{reads_stand}

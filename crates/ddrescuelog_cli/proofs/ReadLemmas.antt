@@ -13,7 +13,7 @@ use Rattle.rescue_rules.specs.Work.{is_map_read, AreMapReads}
 use Rattle.work_rules.specs.Work.{Deeds, WorkStep, Take, Look, Open, Make, Read, Works, with_calls}
 use Rattle.work_rules.proofs.FrontLemmas.{IsMapRead, load_reads}
 use Rattle.ddrescuelog_cli.specs.declared.ending.LogEnding.{LogEnding}
-use Rattle.ddrescuelog_cli.specs.Outside.{only_calls}
+use Rattle.work_rules.specs.Parts.{only_calls}
 use Rattle.ddrescuelog_cli.specs.Work.{log_faults}
 use Rattle.ddrescuelog_cli.specs.Steps.{Stopped, Through}
 

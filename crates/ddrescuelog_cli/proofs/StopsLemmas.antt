@@ -35,7 +35,7 @@ use Rattle.save_resume.proofs.NameLemmas.{apart_draft}
 use Rattle.work_rules.proofs.GainLemmas.{broke_after, broke_named}
 use Rattle.ddrescuelog_cli.specs.declared.ending.LogEnding.{LogEnding}
 use Rattle.ddrescuelog_cli.specs.declared.ending.LogEnding.TheVariants.{Done, NotDone, ListTooLong}
-use Rattle.ddrescuelog_cli.specs.Outside.{only_calls}
+use Rattle.work_rules.specs.Parts.{only_calls}
 use Rattle.ddrescuelog_cli.specs.Maps.{Found, Maps, domain_of, shape_of}
 use Rattle.ddrescuelog_cli.specs.Refusals.{ListRefused}
 use Rattle.ddrescuelog_cli.specs.Results.{IsCreated}

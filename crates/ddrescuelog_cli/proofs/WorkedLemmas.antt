@@ -20,7 +20,8 @@ use Rattle.ddrescuelog_cli.specs.declared.ending.LogEnding.TheVariants.{NoMemory
 use Rattle.ddrescuelog_cli.specs.Modes.{prints, removes_map}
 use Rattle.ddrescuelog_cli.specs.Maps.{Found, Maps, found_in, AreMapsOf, AreAskedFor}
 use Rattle.ddrescuelog_cli.specs.Results.{text_of}
-use Rattle.ddrescuelog_cli.specs.Outside.{Outside, only_calls}
+use Rattle.ddrescuelog_cli.specs.Outside.{Outside}
+use Rattle.work_rules.specs.Parts.{only_calls}
 use Rattle.ddrescuelog_cli.specs.Work.{read_rows, WorksOver, LogWorks, WorksAs}
 use Rattle.ddrescuelog_cli.specs.Answers.{TakesFeed}
 use Rattle.ddrescuelog_cli.specs.After.{FeedLeft, SiteLeft}

@@ -22,7 +22,7 @@ use Rattle.ddrescuelog_cli.specs.declared.ending.LogEnding.TheVariants.{Done, Ex
 use Rattle.ddrescuelog_cli.specs.Maps.{Found, Maps, found_in, AreMapsOf, AreAskedFor, shape_of}
 use Rattle.ddrescuelog_cli.specs.Refusals.{MapIsThere, ListRefused}
 use Rattle.ddrescuelog_cli.specs.Results.{ListEndsAt}
-use Rattle.ddrescuelog_cli.specs.Outside.{only_calls}
+use Rattle.work_rules.specs.Parts.{only_calls}
 use Rattle.ddrescuelog_cli.specs.Work.{log_faults, OnlyAnswers, SaysIfThere, UnlessThere, WorksOver, WorksAs}
 use Rattle.ddrescuelog_cli.specs.Steps.{HasStatuses, ReadCause, statuses_in}
 use Rattle.ddrescuelog_cli.specs.After.{FeedLeft}

@@ -28,7 +28,7 @@ use Rattle.ddrescuelog_cli.specs.Maps.{Found, Maps, file_of, found_in, AreMapsOf
 use Rattle.ddrescuelog_cli.specs.Results.{text_of}
 use Rattle.ddrescuelog_cli.specs.Modes.{prints}
 use Rattle.ddrescuelog_cli.specs.Printing.{PutsAs}
-use Rattle.ddrescuelog_cli.specs.Outside.{only_calls}
+use Rattle.work_rules.specs.Parts.{only_calls}
 use Rattle.ddrescuelog_cli.specs.Work.{log_faults, map_rows, read_rows, WorksOver}
 
 -- the work stopped in one of these rows
