@@ -20,8 +20,9 @@ use Rattle.ddrescuelog_cli.specs.declared.ending.Which.{Which}
 use Rattle.ddrescuelog_cli.specs.declared.ending.LogEnding.{LogEnding}
 use Rattle.ddrescuelog_cli.specs.declared.ending.LogEnding.TheVariants.{SiteFault, NoMemory}
 use Rattle.ddrescuelog_cli.specs.Refusals.{MapIsRefused}
-use Rattle.ddrescuelog_cli.specs.Work.{map_rows}
-use Rattle.ddrescuelog_cli.specs.Steps.{Stopped, Through, ReadsMap, ReadsNamed}
+use Rattle.ddrescuelog_cli.specs.Work.{log_faults, map_rows}
+use Rattle.ddrescuelog_cli.specs.Steps.{ReadsMap, ReadsNamed}
+use Rattle.work_rules.specs.Parts.{WentThrough, StoppedIn}
 use Rattle.ddrescuelog_cli.proofs.CallLemmas.{GainsBroken, broke_gains}
 
 -- ---- there is a load of each file
@@ -111,13 +112,14 @@ passes which mode file m e read (inl missing) = let no : None ≡ Some read.ther
 passes which mode file m e read (inr refused) = read_is_not_refused file mode m refused.0 read refused.1
 
 through_read : (which : Which) (mode : Mode) (name : List ℕ) (file : Option File) (m : ReadMap) (load : List Call)
-    → IsReadAs file mode m → IsLoad name file load → Through (map_rows which mode (Some name) file) (map Returned load)
+    → IsReadAs file mode m → IsLoad name file load
+    → WentThrough (map_rows which mode (Some name) file) (map Returned load)
 through_read which mode name file m load read is =
     (load, [], is, sym (append-nil (map Returned load)), (λ v refused. passes which mode file m v read refused.1, refl))
 
 stopped_refused : (which : Which) (mode : Mode) (name : List ℕ) (file : Option File) (e : LogEnding) (load : List Call)
     → MapIsRefused which mode file e → IsLoad name file load
-    → Stopped (map_rows which mode (Some name) file) e (map Returned load)
+    → StoppedIn log_faults (map_rows which mode (Some name) file) e (map Returned load)
 stopped_refused which mode name file e load refused is =
     inr (inr (
       load,
@@ -135,12 +137,13 @@ stopped_refused which mode name file e load refused is =
 
 stopped_broke : (which : Which) (mode : Mode) (name : List ℕ) (file : Option File) (load : List Call)
     (calls : List Entry) → BeginsLoad name file load → BrokeAt MapReadCall load [] calls
-    → Stopped (map_rows which mode (Some name) file) (SiteFault MapReadCall) calls
+    → StoppedIn log_faults (map_rows which mode (Some name) file) (SiteFault MapReadCall) calls
 stopped_broke which mode name file load calls begins broke =
     inl (load, refl, begins, broke, record { opens = refl; reads = refl; times = refl })
 
 stopped_starved : (which : Which) (mode : Mode) (name : List ℕ) (file : Option File) (load : List Call)
-    → BeginsLoad name file load → Stopped (map_rows which mode (Some name) file) NoMemory (map Returned load)
+    → BeginsLoad name file load
+    → StoppedIn log_faults (map_rows which mode (Some name) file) NoMemory (map Returned load)
 stopped_starved which mode name file load begins =
     inr (inl (load, refl, begins, refl, record { opens = refl; reads = refl; times = refl }))
 

@@ -21,9 +21,9 @@ use Rattle.ddrescuelog_cli.specs.declared.load.LoadedMaps.{LoadedMaps}
 use Rattle.ddrescuelog_cli.specs.declared.ending.LogEnding.{LogEnding}
 use Rattle.ddrescuelog_cli.specs.declared.ending.LogEnding.TheVariants.{NoMemory}
 use Rattle.ddrescuelog_cli.specs.Maps.{Found, file_of, found_in, mapfile_mode, AreMapsOf, AreAskedFor}
-use Rattle.work_rules.specs.Parts.{only_calls}
-use Rattle.ddrescuelog_cli.specs.Work.{map_rows, named_rows}
-use Rattle.ddrescuelog_cli.specs.Steps.{Stopped, Through, DidRead, ReadsMap, HasStatuses, statuses_in, statuses_or_none, DidReadNamed, ReadsNamed, maps_read, IsLoadedAs, LoadsMaps, ReadCause}
+use Rattle.work_rules.specs.Parts.{only_calls, WentThrough, StoppedIn}
+use Rattle.ddrescuelog_cli.specs.Work.{log_faults, map_rows, named_rows}
+use Rattle.ddrescuelog_cli.specs.Steps.{DidRead, ReadsMap, HasStatuses, statuses_in, statuses_or_none, DidReadNamed, ReadsNamed, maps_read, IsLoadedAs, LoadsMaps, ReadCause}
 use Rattle.ddrescuelog_cli.proofs.RowLemmas.{stopped_more, through_then, through_both}
 use Rattle.ddrescuelog_cli.proofs.ReadLemmas.{AreReads, stopped_reads, through_reads, files_stand}
 use Rattle.ddrescuelog_cli.proofs.MapsLemmas.{NamedBy, shown_is_one, has_named}
@@ -141,7 +141,7 @@ record ReadsAll (c : Command) (m : ReadMap) (other : Option Tiled) (r : Result (
   gained : IsTrue old.tells → new.calls ≡ old.calls ++ (front ++ last)
   mapfile : IsReadAs found.mapfile (mapfile_mode c.mode) m
   has_other : HasStatuses c.other Tight found.other (statuses_in other)
-  through : Through (front_rows c found) front
+  through : WentThrough (front_rows c found) front
   did : DidReadNamed DomainMap (map_mode c.options.loose) c.domain_map found.domain r last
 
 reads_all : (c : Command) (m : ReadMap) (other : Option Tiled) (r : Result (Option Tiled) LogEnding)
@@ -185,7 +185,8 @@ domain_refused c m other e old mid low new a stays b stays' d =
 
 -- if memory ran out after a read it ran out in it
 starved_in : (which : Which) (mode : Mode) (name : Option (List ℕ)) (file : Option File) (calls : List Entry)
-    → Through (map_rows which mode name file) calls → Stopped (map_rows which mode name file) NoMemory calls
+    → WentThrough (map_rows which mode name file) calls
+    → StoppedIn log_faults (map_rows which mode name file) NoMemory calls
 starved_in which mode None file calls t =
     inl (refl, record { opens = refl; gain = record { calls = t.1.1; reads = refl; times = refl } })
 starved_in which mode (Some name) file calls t =

@@ -4,9 +4,8 @@ use Rattle.crash_site.specs.Calls.{Entry, Done as Returned}
 use Rattle.work_rules.specs.Work.{Deeds, WorkStep, Take, Look, Open, Make, Read, Works}
 use Rattle.work_rules.proofs.PartLemmas.{grown}
 use Rattle.ddrescuelog_cli.specs.declared.ending.LogEnding.{LogEnding}
-use Rattle.work_rules.specs.Parts.{only_calls}
+use Rattle.work_rules.specs.Parts.{only_calls, WentThrough}
 use Rattle.ddrescuelog_cli.specs.Work.{log_faults}
-use Rattle.ddrescuelog_cli.specs.Steps.{Through}
 
 -- what stopped in some rows stopped before all that comes after them
 pub stopped_more : (rows more : List (WorkStep LogEnding)) (run : LogEnding → Deeds → Type 0) (e : LogEnding) (d : Deeds)
@@ -29,7 +28,7 @@ stopped_more (Read (Some name) file ∷ rows) more run e d (inr (inr h)) =
 
 -- what is done after rows that the work went through is done by all of it
 pub through_then : (rows more : List (WorkStep LogEnding)) (run : LogEnding → Deeds → Type 0) (e : LogEnding)
-    (calls later : List Entry) → Through rows calls → Works log_faults more run e (only_calls later)
+    (calls later : List Entry) → WentThrough rows calls → Works log_faults more run e (only_calls later)
     → Works log_faults (rows ++ more) run e (only_calls (calls ++ later))
 through_then [] more run e calls later t w =
     subst (λ c. Works log_faults more run e (only_calls (c ++ later))) (sym t) w
@@ -51,9 +50,9 @@ through_then (Read (Some name) file ∷ rows) more run e calls later t w =
     ))
 
 -- rows that the work went through, one after another
-pub through_both : (rows more : List (WorkStep LogEnding)) (calls later : List Entry) → Through rows calls
-    → Through more later → Through (rows ++ more) (calls ++ later)
-through_both [] more calls later t u = subst (λ c. Through more (c ++ later)) (sym t) u
+pub through_both : (rows more : List (WorkStep LogEnding)) (calls later : List Entry) → WentThrough rows calls
+    → WentThrough more later → WentThrough (rows ++ more) (calls ++ later)
+through_both [] more calls later t u = subst (λ c. WentThrough more (c ++ later)) (sym t) u
 through_both (Take ∷ rows) more calls later t u = through_both rows more calls later t u
 through_both (Look refuses ∷ rows) more calls later t u = (t.0, through_both rows more calls later t.1 u)
 through_both (Open name ∷ rows) more calls later t u = absurd t
