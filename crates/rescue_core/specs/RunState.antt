@@ -17,7 +17,7 @@ use Rattle.rescue_rules.specs.MachineLaws.{IsInOrder}
 use Rattle.rescue_rules.specs.Moves.{begun}
 use Rattle.rescue_rules.specs.declared.report.Counts.{Counts}
 use Rattle.rescue_rules.specs.Counts.{counts_of}
-use Rattle.rescue_rules.specs.Beginning.{first_pass, nothing_shown, machine_of}
+use Rattle.rescue_rules.specs.Beginning.{first_pass, shown_at_first, machine_of}
 use Rattle.rescue_domain.specs.Parts.{covers}
 use Rattle.rescue_core.specs.declared.settings.Settings.{Settings}
 use Rattle.rescue_core.specs.declared.state.Progress.{Progress}
@@ -170,11 +170,6 @@ pub record IsRunning (r : RunState) (room : ℕ) : Type 0 where
 pub record HasCounts (r : RunState) (counts : Counts) : Type 0 where
   pub counts_are : counts ≡ counts_of (is_live (setting_in r) r.machine) r.machine.map
 
--- what a run shows at first: what a mapfile showed that it goes on from, or a rescue that has done nothing
-abbrev pub first_shown : Option MapState → MapState
-first_shown None = nothing_shown
-first_shown (Some state) = state
-
 -- a run at its start
 abbrev pub started : Settings → List Range → Option MapNames → List ℕ → List Status → Option MapState → (moment : ℕ)
     → (heard : Bool) → RunState
@@ -185,7 +180,7 @@ started settings domain names line map loaded moment heard = record {
   line = line;
   phase = Copying;
   pass = first_pass loaded;
-  machine = machine_of (setting_with settings domain names line) map loaded (first_shown loaded) moment;
+  machine = machine_of (setting_with settings domain names line) map loaded (shown_at_first loaded) moment;
   heard = heard;
 }
 

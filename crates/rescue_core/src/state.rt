@@ -94,7 +94,7 @@ pub(crate) struct Tally {
 
 impl Tally {
     ghost use Rattle.std.specs.Prelude.{◌≡◌, None};
-    ghost use Rattle.rescue_core.specs.RunState.{first_shown};
+    ghost use Rattle.rescue_rules.specs.Beginning.{shown_at_first};
 
     /// That of a run which begins at this moment, with so many areas that have failed, and may go on from a state that
     /// a mapfile showed.
@@ -105,7 +105,7 @@ impl Tally {
           now = moment;
           whole_at = moment;
           due_at = moment;
-          shown = first_shown loaded;
+          shown = shown_at_first loaded;
           over = None;
           written = 0;
           said = None;
