@@ -17,7 +17,7 @@ ghost use Rattle.ddrescuelog_cli.specs.After.{FeedLeft, SiteLeft};
 ghost use Rattle.ddrescuelog_cli.specs.Creating.{AreOfList, AsksIfThere, CreatesMap, LookCause, Looks, MakesList, SavesText, StopsTaking, TakesAll, TakesFeedPiece, ended_as};
 
 use crate::ending::{LogEnding, Which};
-use crate::load::{mode_of_domain, read_named};
+use crate::load::read_named;
 use crate::out::PIECE;
 use crate::places::shape_of;
 use block_list::plain_tiles::PlainTiles;
@@ -34,6 +34,7 @@ use mapfile_text::state::{Current, MapState};
 use rescue_console::feed::Feed;
 use rescue_domain::domain::Domain;
 use save_resume::draft::{SaveFault, Saved};
+use save_resume::named::mode_of;
 use save_resume::names::Names;
 use save_resume::save::save;
 use std::alloc::Global;
@@ -75,7 +76,7 @@ fn look<D: Site>(
 {
     match refuse_existing(site, command.mapfile, command.options.forced) {
         Ok(()) => {
-            let mode = mode_of_domain(command.options.loose);
+            let mode = mode_of(command.options.loose);
             read_named(alloc, site, Which::DomainMap, command.domain_map, mode)
         }
         Err(refusal) => Err(refusal),

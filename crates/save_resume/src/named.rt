@@ -25,7 +25,7 @@ pub enum NamedFault {
 }
 
 /// How a named map is read: a loose one may have gaps.
-fn mode_of(loose: bool) -> Mode
+pub fn mode_of(loose: bool) -> Mode
     ensures { result ≡ map_mode loose }
 {
     if loose {
