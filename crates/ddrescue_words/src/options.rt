@@ -55,7 +55,7 @@ pub(crate) const SAMPLE: usize = 26;
 /// The most KiB of a sample.
 const MOST_SAMPLE: u64 = 65_536;
 
-/// The options. A later one is a row here, in front of the last, and an arm in `with_letter`.
+/// The options. A later one is a row here, before the last, and an arm in `with_letter`.
 pub static ROWS: [Row; 27] = [
     Row {
         short: Some('a'),
@@ -250,9 +250,9 @@ pub struct Options {
     pub forced: bool,
     /// Nothing is put on the console; by default lines and messages are.
     pub quiet: bool,
-    /// It is said first how much is to be rescued; by default it isn't.
+    /// A first line says how much is to be rescued; by default none does.
     pub verbose: bool,
-    /// A sample of so many KiB is rescued in place of an infile; none if it isn't given.
+    /// A sample of this size in KiB is rescued in place of an infile; none if it isn't given.
     pub sample: Option<u64>,
 }
 

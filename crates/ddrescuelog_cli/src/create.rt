@@ -42,7 +42,7 @@ use std::alloc::Global;
 /// The most bytes that a list may have.
 const LIST_LIMIT: usize = 1 << 28;
 
-/// Goes on only where no file stands under a name, which one read asks, unless that is forced.
+/// Goes on only if no file has a name, which one read asks, unless that is forced.
 fn refuse_existing<D: Site>(site: &mut D, name: &str, forced: bool) -> Result<(), LogEnding>
     ensures asks { AsksIfThere forced name.now result (D.state site.old) (D.state site.new) }
     ensures kept { OnOk result ((D.state site.new).faults ≡ (D.state site.old).faults) }
@@ -62,7 +62,7 @@ fn refuse_existing<D: Site>(site: &mut D, name: &str, forced: bool) -> Result<()
     }
 }
 
-/// Reads the domain map, if one is named, unless a file stands where the map is to be made.
+/// Reads the domain map, if one is named, unless there is a file already where the map is to be made.
 fn look<D: Site>(
     alloc: Global,
     site: &mut D,

@@ -1,4 +1,4 @@
-//! Reads the maps that the words name, and says which positions of them are looked at.
+//! Reads the maps that the words name, and says which positions of them are examined.
 ghost use Rattle.std.specs.Prelude.{◌≡◌, false, OnOk, IfOk, IfErr, option_map};
 ghost use Rattle.crash_site.specs.SiteChanges.{Stays};
 ghost use Rattle.save_resume.specs.Resuming.{IsWithinLimits};
@@ -77,7 +77,7 @@ pub(crate) fn read_named<D: Site>(
     }
 }
 
-/// What the maps say, and the positions that are looked at.
+/// What the maps say, and the positions that are examined.
 #[derive(Drop)]
 pub(crate) struct LoadedMaps {
     /// What the mapfile shows.
@@ -88,7 +88,7 @@ pub(crate) struct LoadedMaps {
     pub domain: Domain,
 }
 
-/// What maps say that were read, and the positions that are looked at: they end with the longer map.
+/// What maps say that were read, and the positions that are examined: they end with the longer map.
 fn make_loaded(
     alloc: Global,
     command: &Command,

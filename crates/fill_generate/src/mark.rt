@@ -57,7 +57,7 @@ fn mark_range<T: Tiles>(tiles: &mut T, from: u64, to: u64)
     }
 }
 
-/// Whether one of some bytes is other than zero. Mostly the first one tells; else all are looked at, many at a time.
+/// Whether one of some bytes is other than zero. Mostly the first one tells; else all are compared, many at a time.
 fn has_byte(bytes: &[u8]) -> bool
     ensures { result ≡ list_any is_byte bytes.now }
 {

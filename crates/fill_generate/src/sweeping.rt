@@ -61,7 +61,7 @@ pub(crate) struct Tally {
     pub due_at: u64,
     /// What a saved mapfile shows.
     pub shown: MapState,
-    /// The line that was said last after a piece, if one was.
+    /// The line that was put last after a piece, if there was one.
     pub said: Option<Said>,
 }
 
@@ -98,7 +98,7 @@ impl<T: Tiles> Model for Sweeping<T> {
         r.tally r.heard) × (r.heading.program ≡ Ddrescue) };
 }
 
-/// Where a sweep begins, which goes on from the position that a mapfile showed if that was of its kind.
+/// Where a sweep begins, which resumes from the position that a mapfile showed if that was of its kind.
 fn first_cursor(loaded: Option<MapState>, current: Current) -> u64
     ensures { result ≡ sweep_from current loaded }
 {
@@ -229,7 +229,7 @@ impl<T: Tiles> Sweeping<T> {
         })
     }
 
-    /// Where a piece stands in the output.
+    /// Where a piece is in the output.
     pub fn place_of(&self, piece: Piece) -> u64
         requires { IsFound self.now piece }
         ensures { result ≡ place (setting_of self.now) piece.pos }

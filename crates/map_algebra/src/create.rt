@@ -103,10 +103,10 @@ fn created(
     Ok(map)
 }
 
-/// The map of the positions below an end: those of a domain have one status where they stand in a listed block, and
-/// another elsewhere, and the others are non-tried. Numbers may come in any order and more than once; it takes time
-/// n log n in them, and linear time where they ascend. `NoMemory` says that the memory for the map, or for the numbers
-/// once more where they don't ascend, wasn't there.
+/// The map of the positions below an end: those of a domain have one status if they lie in a listed block, and another
+/// elsewhere, and the others are non-tried. Numbers may come in any order and more than once; it takes time n log n in
+/// them, and linear time where they ascend. `NoMemory` says that the memory for the map, or for the numbers once more
+/// where they don't ascend, wasn't there.
 pub fn create(
     alloc: Global,
     numbers: &[u64],

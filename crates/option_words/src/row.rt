@@ -5,7 +5,7 @@ ghost use Rattle.option_words.specs.Rows.{is_alone};
 /// Whether an option takes a value.
 #[derive(Clone, Copy, Debug, PartialEq, Eq)]
 pub enum Takes {
-    /// It stands alone.
+    /// It has no value.
     Never,
     /// It has a value: after the letter, after `=`, or else the whole next word, whatever that is.
     Always,

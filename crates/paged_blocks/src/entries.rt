@@ -120,7 +120,7 @@ impl Entries {
         self.back.reserve(back).map_err(|_| NoMemory)
     }
 
-    /// Puts an entry in front of the one with an index.
+    /// Puts an entry before the one with an index.
     pub fn insert(&mut self, k: usize, entry: PageEntry)
         requires index { k ≤ length self.old.items }
         requires room { length self.old.items < self.old.room }

@@ -106,8 +106,8 @@ pub fn block_at(pages: &[Page], entries: &Entries, i: usize) -> Block
     pages[entries.at(k).page].block(left)
 }
 
-/// The first block with a status in the page of an entry, from the one with an index on. Blocks are looked at only where
-/// the entry counts a position of that status.
+/// The first block with a status in the page of an entry, from the one with an index on. Blocks are read only if the
+/// entry counts a position of that status.
 fn first_in<L: Ledger>(
     pages: &[Page],
     entry: PageEntry,
@@ -163,8 +163,8 @@ pub fn first_with<L: Ledger>(
     None
 }
 
-/// The last of the first blocks with a status in the page of an entry. Blocks are looked at only where the entry counts
-/// a position of that status.
+/// The last of the first blocks with a status in the page of an entry. Blocks are read only if the entry counts a
+/// position of that status.
 fn last_in<L: Ledger>(
     pages: &[Page],
     entry: PageEntry,

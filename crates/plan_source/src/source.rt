@@ -87,7 +87,7 @@ fn say<C: Console>(console: &mut C, entry: &ReadEntry) -> Option<PlanLoss>
 impl<'a, C: Console, T: Tiles> PlanSource<'a, C, T> {
     ghost use Rattle.plan_source.specs.Answering.{plan_source_state};
 
-    /// A source of so many bytes.
+    /// A source of `length` bytes.
     pub fn new(alloc: Global, length: u64, tiles: T, console: &'a mut C) -> PlanSource<'a, C, T>
         requires { length < 2 ^ 63 }
         ensures reference { result.console.ghost_name ≡ console.entry.ghost_name }

@@ -61,7 +61,7 @@ pub enum Stream {
     Output,
 }
 
-/// What is said without any name.
+/// The advice that names nothing.
 #[derive(Clone, Copy)]
 pub enum Hint {
     /// The infile and the outfile are one file with two names.

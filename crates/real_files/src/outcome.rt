@@ -65,8 +65,8 @@ pub fn removable(outcome: io::Result<()>) -> io::Result<()>
     }
 }
 
-/// The kernel's numbers of errors by which a medium doesn't give what is asked for: it can't be read there, there is no
-/// data, the data is damaged, it takes too long, or a device behind another one failed.
+/// The kernel's numbers of errors by which a medium doesn't give what is asked for. It can't be read there, there is no
+/// data, the data is damaged, it takes too long, or a device that is reached through another one failed.
 const EIO: i32 = 5;
 
 const ENODATA: i32 = 61;

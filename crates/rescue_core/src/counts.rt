@@ -190,7 +190,7 @@ fn failed_at<T: Tiles>(live: Live<'_>, tiles: &T, x: u64) -> bool
     x < tiles.end() && live.holds(x) && has_failed(tiles.at(x))
 }
 
-/// Whether the position right in front of one is left of a domain and failed.
+/// Whether the position right before one is left of a domain and failed.
 fn failed_in_front<T: Tiles>(live: Live<'_>, tiles: &T, x: u64) -> bool
     ensures { result ≡ is_in_front (failed_in live.entry (T.statuses tiles.now)) x }
 {

@@ -99,7 +99,7 @@ impl<P: Stage, T: Tiles> Model for Rescue<P, T> {
 
 impl<T: Tiles> Rescue<Copying, T> {
     /// A rescue of a domain of a map, at this moment (milliseconds since 1970): in copying's first pass, or in that of
-    /// a state that a mapfile showed, where it goes on from its position. Without a mapfile it saves nothing. It reads
+    /// a state that a mapfile showed, where it resumes from its position. Without a mapfile it saves nothing. It reads
     /// into a buffer for a cluster, and says lines if it is heard.
     pub fn start(
         buf: Vec<u8>,
@@ -267,10 +267,10 @@ impl<P: Stage, T: Tiles> Rescue<P, T> {
         self.running.begin_pass(phase, pass);
     }
 
-    /// One turn: room in the map, a reading of the clock, the read, another reading, the write of what was kept, the
-    /// marks, the line if one is due and the rescue is heard, and the save if one is due (without a mapfile none is).
-    /// Want of memory comes before the read; a lost read or a failed write leaves the range as it was, and says
-    /// nothing; a call of the save may fail after the marks. After a put that fails it isn't heard any more.
+    /// One turn: room in the map, a reading of the clock, the read, another reading, the write of what was kept, and
+    /// the marks. The line follows, if one is due and the rescue is heard, and the save, if one is due. Without a
+    /// mapfile none is. Want of memory comes before the read; a lost read or a failed write leaves the range as it was,
+    /// and says nothing; a call of the save may fail after the marks. After a put that fails it isn't heard any more.
     // Inlined in the loop of each phase, or a request of one sector costs half as much again (bench/turns).
     #[inline(always)]
     pub fn turn<S: Source, D: Site, K: Clock, C: Console>(

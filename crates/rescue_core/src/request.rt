@@ -175,7 +175,7 @@ fn request_by<T: Tiles>(
     Some(cut(search, settings.sector, range))
 }
 
-/// The next request of a phase at a place, of a machine that stands there.
+/// The next request of a phase at a place, of a machine that is there.
 #[inline(always)]
 pub(crate) fn next_request<T: Tiles>(
     settings: &Settings,

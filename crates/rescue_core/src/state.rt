@@ -6,7 +6,7 @@ use rescue_rules::phase::COPYING_PASSES;
 use rescue_rules::report::Said;
 use rescue_rules::stop::TrimMode;
 
-/// Where a run stands in its map.
+/// How far a run has come in its map.
 #[derive(Clone, Copy, Debug, PartialEq, Eq)]
 pub(crate) struct Progress {
     /// The pass, counted from 1 within its phase.
@@ -86,7 +86,7 @@ pub(crate) struct Tally {
     pub over: Option<u64>,
     /// How many bytes were written.
     pub written: u64,
-    /// The line that was said last after an event, if one was.
+    /// The line that was put last after an event, if there was one.
     pub said: Option<Said>,
     /// How many areas had failed at the start.
     pub first_areas: u64,
@@ -96,8 +96,8 @@ impl Tally {
     ghost use Rattle.std.specs.Prelude.{◌≡◌, None};
     ghost use Rattle.rescue_rules.specs.Beginning.{shown_at_first};
 
-    /// That of a run which begins at this moment, with so many areas that have failed, and may go on from a state that
-    /// a mapfile showed.
+    /// The tally of a run that begins at this moment, with `first_areas` areas that have failed. The run may go on with
+    /// a state that a mapfile showed.
     pub fn first(loaded: Option<MapState>, moment: u64, first_areas: u64) -> Tally
         ensures { result ≡ record {
           failed = 0;

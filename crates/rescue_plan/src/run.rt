@@ -1,4 +1,4 @@
-//! The run of a plan: a rescue whose reads are said, and which writes nothing.
+//! The run of a plan: a rescue that says its reads, and writes nothing.
 ghost use Rattle.std.specs.Prelude.{◌≡◌, IsTrue};
 ghost use Rattle.ddrescueplan_words.specs.Command.{Command, AreInLimits};
 ghost use Rattle.rescue_plan.specs.Running.{BeginsPlannedRun, IsBegun, PutsPlan, end_by};

@@ -7,11 +7,11 @@ use crash_site::site::SiteCall;
 /// A limit that a run met.
 #[derive(Clone, Copy, Debug, PartialEq, Eq)]
 pub enum Limit {
-    /// More reads failed than may: so many.
+    /// This number of reads failed, which is more than may.
     TooManyErrors(u64),
-    /// More areas failed than may: so many.
+    /// This number of areas failed, which is more than may.
     TooManyAreas(u64),
-    /// So many milliseconds went by without a read that gave all it was asked for, or met the input's end.
+    /// No read gave all it was asked for, or met the input's end, for this number of milliseconds.
     TimedOut(u64),
 }
 

@@ -75,7 +75,7 @@ pub fn a_close_is_held()
     ensures { CloseIsHeld }
 {}
 
-/// A run whose files stand as `IsSafeNow` says is safe however it goes on.
+/// A run whose files are as `IsSafeNow` says is safe however it goes on.
 pub fn what_is_safe_now_is_safe()
     ensures { NowIsSafe }
 {}
@@ -173,7 +173,7 @@ pub fn spent_passes_lead_past()
     ensures { SpentLeadsPast }
 {}
 
-/// By what its type knows, a run that stands in copying still may be handed so to the phase that takes its type.
+/// By what its type knows, a run that is in copying still may be handed so to the phase that takes its type.
 pub fn a_typed_run_leads_past()
     ensures { TypedLeadsPast }
 {}

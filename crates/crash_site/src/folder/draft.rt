@@ -21,7 +21,7 @@ pub(super) struct OpenDraft {
 }
 
 impl OpenDraft {
-    /// Makes a new file. What stood under its name loses that name; a folder keeps it.
+    /// Makes a new file. A file that had its name loses that name; a folder keeps it.
     pub fn begin(rt: &HostRuntime, apart: &Apart<'_>, name: &str) -> io::Result<OpenDraft> {
         if let Some(found) = if_there(fs::symlink_metadata(rt, name))? {
             apart.check(&found)?;

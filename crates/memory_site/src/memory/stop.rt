@@ -26,7 +26,7 @@ pub enum Left {
     Garbage,
 }
 
-/// The byte that stands where any may.
+/// The byte that is found where any may be.
 const ANY: u8 = 0x5A;
 
 /// An absent file is made.
