@@ -221,7 +221,7 @@ pub struct Options {
     pub max_read_errors: Option<u64>,
     /// How many areas may have failed; no limit if it isn't given.
     pub max_bad_areas: Option<u64>,
-    /// That many may have failed beyond those that were there at first; by default those count too.
+    /// `max_bad_areas` counts only areas beyond those that had failed at first; by default those count too.
     pub new_areas: bool,
     /// For how many seconds there may be no read that gives all it was asked for or meets the infile's end; no limit if
     /// it isn't given.

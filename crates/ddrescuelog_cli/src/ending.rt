@@ -44,7 +44,7 @@ pub enum LogEnding {
     FeedFault,
     /// The text couldn't be printed, or not all of it.
     ConsoleFault,
-    /// Memory wasn't there.
+    /// There wasn't enough memory.
     NoMemory,
 }
 

@@ -83,7 +83,7 @@ pub(crate) struct LoadedMaps {
     /// What the mapfile shows.
     pub state: MapState,
     pub tiles: PlainTiles,
-    /// It has no position where no other map is named.
+    /// The other map. It has no position if none is named.
     pub other: PlainTiles,
     pub domain: Domain,
 }

@@ -49,7 +49,7 @@ pub enum VerifyEnding {
     SiteFault { call: SiteCall },
     /// The map was saved, and the numbers couldn't be printed, or not all of them.
     ConsoleFault,
-    /// Memory wasn't there. Nothing was saved.
+    /// There wasn't enough memory. Nothing was saved.
     NoMemory,
 }
 

@@ -120,7 +120,7 @@ impl Tally {
     ghost use Rattle.sweep_rules.specs.Sweep.{Sweeper, sweep_over};
     ghost use Rattle.fill_generate.specs.SweepState.{sweep_at, moved};
 
-    /// That of a sweep which begins at this moment, and may go on from a state that a mapfile showed.
+    /// The tally of a sweep that begins at this moment, and may go on from a state that a mapfile showed.
     fn first(loaded: Option<MapState>, current: Current, moment: u64) -> Tally
         ensures { (w : Sweeper) (map : List Status) → w.current ≡ current
             → sweep_at map result ≡ sweep_over w map loaded moment }

@@ -67,7 +67,7 @@ pub enum MapError {
     /// The text has more than 268,435,456 bytes.
     #[error("TooLong")]
     TooLong,
-    /// Memory wasn't there.
+    /// There wasn't enough memory.
     #[error("NoMemory")]
     NoMemory,
 }

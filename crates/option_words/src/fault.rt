@@ -20,7 +20,7 @@ pub enum WordFault {
     /// A long name has a value, and its option takes none.
     #[error("UnwantedValue")]
     UnwantedValue { word: usize },
-    /// Memory wasn't there.
+    /// There wasn't enough memory.
     #[error("NoMemory")]
     NoMemory,
 }

@@ -101,7 +101,7 @@ impl<'a, C: Console, T: Tiles> PlanSource<'a, C, T> {
 impl<'a, C: Console, T: Tiles, O: Origin> PlanSource<'a, C, T, O> {
     ghost use Rattle.plan_source.specs.Answering.{plan_source_state};
 
-    /// The same on a console of which it is known what it tells now.
+    /// A source of `length` bytes, on a console of which it is known what it tells now.
     pub fn since(
         alloc: Global,
         length: u64,

@@ -46,11 +46,12 @@ pub struct Copying;
 #[derive(Clone, Copy, Debug)]
 pub struct Trimming;
 
-/// None is non-trimmed either, unless trimming is off.
+/// No position of the domain is non-tried, and none is non-trimmed unless trimming is off.
 #[derive(Clone, Copy, Debug)]
 pub struct Scraping;
 
-/// None is non-scraped either, unless scraping is off.
+/// No position of the domain is non-tried. None is non-trimmed unless trimming is off, and none is non-scraped unless
+/// scraping is off.
 #[derive(Clone, Copy, Debug)]
 pub struct Retrying;
 
@@ -210,21 +211,21 @@ impl<T: Tiles> Rescue<Finished, T> {
 }
 
 impl<P: Stage, T: Tiles> Rescue<P, T> {
-    /// What it was asked to do.
+    /// What the rescue was asked to do.
     pub fn settings(&self) -> &Settings
         ensures { result.now ≡ self.now.settings }
     {
         self.running.settings()
     }
 
-    /// The positions that it asks for.
+    /// The positions that the rescue asks for.
     pub fn domain(&self) -> &Domain
         ensures { result.now ≡ self.now.domain }
     {
         self.running.domain()
     }
 
-    /// Its map.
+    /// The rescue's map.
     pub fn tiles(&self) -> &T
         ensures { T.statuses result.now ≡ self.now.machine.map }
     {

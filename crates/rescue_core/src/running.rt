@@ -83,7 +83,7 @@ impl<T: Tiles> Model for Running<T> {
 
 impl<T: Tiles> Running<T> {
     /// A run that begins with copying: in its first pass, or where it was in the pass of a state that a mapfile showed.
-    /// It reads into a buffer for a cluster.
+    /// The run reads into a buffer for a cluster.
     pub fn start(
         buf: Vec<u8>,
         settings: Settings,

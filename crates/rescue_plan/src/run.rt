@@ -21,7 +21,7 @@ use task_rescue::run::run_rescue;
 pub enum PlanEnd {
     /// The whole plan was put.
     Whole,
-    /// It was put up to a read that is lost.
+    /// The plan was put up to a read that is lost.
     Lost(PlanLoss),
 }
 

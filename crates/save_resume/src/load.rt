@@ -24,7 +24,7 @@ pub enum ResumeFault {
     Site(SiteCall),
     /// The text is no map, or is too long.
     Map(MapError),
-    /// Memory wasn't there.
+    /// There wasn't enough memory.
     NoMemory,
 }
 

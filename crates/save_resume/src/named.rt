@@ -20,7 +20,7 @@ pub enum NamedFault {
     Absent,
     /// The text is no map, or is too long.
     Refused(MapError),
-    /// Memory wasn't there.
+    /// There wasn't enough memory.
     NoMemory,
 }
 

@@ -30,12 +30,12 @@ pub fn a_turn_stays_safe()
     ensures { TurnStaysSafe }
 {}
 
-/// At each stop within it what is held is held.
+/// At each stop within a turn what is held is held.
 pub fn a_turn_is_held()
     ensures { TurnIsHeld }
 {}
 
-/// So it is within a turn that stopped.
+/// At each stop within a turn that stopped what is held is held.
 pub fn a_halted_turn_is_held()
     ensures { HaltedTurnIsHeld }
 {}
@@ -120,12 +120,12 @@ pub fn a_start_is_under_way()
     ensures { StartIsUnderWay }
 {}
 
-/// It stays so, whatever it reads.
+/// A run that is under way stays under way, whatever it reads.
 pub fn a_run_stays_under_way()
     ensures { RunStaysUnderWay }
 {}
 
-/// So is one at the start of its next pass, where the present one has no request.
+/// A run at the start of its next pass is under way, if the present pass has no request.
 pub fn a_next_pass_is_under_way()
     ensures { NextPassIsUnderWay }
 {}
@@ -147,7 +147,7 @@ pub fn phases_end_well()
     ensures { PhasesEndWell }
 {}
 
-/// So does a whole run that answers that it is done.
+/// A whole run that answers that it is done leaves no request, each position left well, and the last map saved.
 pub fn a_done_run_ends_well()
     ensures { DoneEndsWell }
 {}

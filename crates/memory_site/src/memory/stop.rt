@@ -22,7 +22,8 @@ pub enum Left {
     Oldest,
     /// All of it, also of the call in progress.
     Newest,
-    /// The same with other bytes, in ranges that weren't synced and in texts that were published unsynced.
+    /// All of it, also of the call in progress, but with other bytes in ranges that weren't synced and in texts that
+    /// were published unsynced.
     Garbage,
 }
 
