@@ -24,8 +24,8 @@ use Rattle.rescue_core.specs.RunState.{RunState, setting_in, HasPlaces}
 use Rattle.rescue_core.specs.Turning.{Halted}
 use Rattle.rescue_core.specs.Closing.{StoppedState, drafting_at_stop}
 
--- Two states that differ at most in the passes without a request that one of them has gone on over: they have the
--- same map, counts, times, shown state, end, last line and first areas, and go on to the same request, or both to the end.
+-- Two states that differ at most in the passes without a request that one of them has gone on over. They have the same
+-- map, counts, times, shown state, end, last line and first areas, and go on to the same request, or both to the end.
 pub record IsAlike (s : Setting) (m n : Machine) : Type 0 where
   pub map : n.map ≡ m.map
   pub failed : n.failed ≡ m.failed

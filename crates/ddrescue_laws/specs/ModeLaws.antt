@@ -119,7 +119,7 @@ GenerateHasOneVerdict = (c : Command) (found : Found) (input_end : ℕ) (s s' : 
     → Generates c found input_end s pieces end lines e d → Generates c found input_end s' pieces' end' lines' e' d'
     → IsVerdict e → IsVerdict e' → e ≡ e'
 
--- What a sweep leaves that went on to its end, over the map that its mapfile stood for: all its pieces in order, and a
+-- What a sweep leaves that went on to its end, over the map that its mapfile gave: all its pieces in order, and a
 -- mapfile that says that it is finished.
 pub record IsSweptThrough (t : Told) (s : Setting) (w : Sweeper) (pieces : List Swept) (statuses : List Status)
     (state : Option MapState) (time : ℕ) : Type 0 where

@@ -198,7 +198,7 @@ AskTask words task = AskFor rescue_grammar words task
 abbrev pub Asks : List (List ℕ) → Command → Type 0
 Asks words c = AskTask words (Rescue c)
 
--- for the rescue of a sample of so many KiB
+-- for the rescue of a sample of `kib` KiB
 abbrev pub AskSample : List (List ℕ) → (kib : ℕ) → (quiet : Bool) → Type 0
 AskSample words kib quiet = AskTask words (Sample kib quiet)
 

@@ -92,7 +92,7 @@ area_limit_of (c ∷ text) = if nat_eq c 43 then limit_with true text else limit
 
 -- ---- the rows
 
--- an option that stands alone, and one with a value
+-- an option without a value, and one with a value
 abbrev pub flag : (letter : ℕ) → List ℕ → (Options → Options) → OptionRow Options
 flag letter name sets =
     record { letter = Some letter; name = name; takes = Never; sets = λ sector o value. Some (sets o) }
@@ -100,9 +100,9 @@ flag letter name sets =
 abbrev pub valued : (letter : ℕ) → List ℕ → (ℕ → Options → Option (List ℕ) → Option Options) → OptionRow Options
 valued letter name sets = record { letter = Some letter; name = name; takes = Always; sets = sets }
 
--- The letters of options that are looked at by themselves. The size of a sector (`-b`) is set before all others, the
--- size of a cluster (`-c`) is looked at again after all others, `-F` and `-G` are modes, which don't go together and
--- not with `-H`; `-H` and `-m` name maps, and `-q` asks that nothing be said.
+-- The letters of options that are read by themselves. The size of a sector (`-b`) is set before all others, and the
+-- size of a cluster (`-c`) is checked again after all others. `-F` and `-G` are modes, which don't go together and not
+-- with `-H`; `-H` and `-m` name maps, and `-q` asks for no message.
 abbrev pub sector_letter : ℕ
 sector_letter = 98
 

@@ -69,7 +69,7 @@ shown_line shown =
     with_newline (codes "position " ++ decimal shown.pos ++ codes ", status " ++ current_symbol shown.current ∷ []
     ++ codes ", pass " ++ decimal shown.pass)
 
--- `domain 0 B`: how many positions are looked at
+-- `domain 0 B`: how many positions are examined
 abbrev pub domain_line : ℕ → List ℕ
 domain_line n = with_newline (codes "domain " ++ decimal n ++ codes " B")
 

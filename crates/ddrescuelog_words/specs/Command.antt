@@ -57,7 +57,7 @@ with_operand words items o m (n ∷ []) =
     })
 with_operand words items o m (n ∷ k ∷ more) = Err (Operands (length (n ∷ k ∷ more)))
 
--- one mode, by its last value; another number is refused, in front of another number of operands
+-- one mode, by its last value; another number is refused, before another number of operands
 abbrev pub with_mode : List (List ℕ) → List Item → LogOptions → Option LogMode → (operands : List ℕ)
     → Result Command UsageFault
 with_mode words items o None operands = Err (Modes (modes_given items))
@@ -76,7 +76,7 @@ size_word items = size_word_by (last_of option_meanings size_letter items)
 abbrev pub is_too_long : Command → Bool
 is_too_long c = creates c.mode && ends_beyond c.options c.options.size
 
--- unless a map to be created is too long, which is looked at after all else
+-- unless a map to be created is too long, which is checked after all else
 abbrev pub unless_too_long : (size_word : ℕ) → Result Command UsageFault → Result Command UsageFault
 unless_too_long n (Err fault) = Err fault
 unless_too_long n (Ok c) = if is_too_long c then Err (BadValue n) else Ok c

@@ -44,7 +44,7 @@ part_program = record {
 abbrev pub PartWorked : Command → (words : List (List ℕ)) → PartEnding → (old new : WorldState) → Type 0
 PartWorked c words e old new = Worked part_program c words e old new
 
--- what is done before anything is said
+-- what is done before any message is put
 abbrev pub PartDone : (words : List (List ℕ)) → PartEnding → (quiet : Bool) → (old new : WorldState) → Type 0
 PartDone words e quiet old new = IsDone part_program words e quiet old new
 

@@ -43,11 +43,11 @@ ending_of (Lost Console) = ConsoleFault
 abbrev pub status_of_ending : PlanEnding → ℕ
 status_of_ending e = (row_of e).status
 
--- nothing is said of an answer, since it is what was asked for
+-- an answer has no message, since it is what was asked for
 abbrev pub is_silent : PlanEnding → Bool
 is_silent e = is_silent_kind (row_of e).kind
 
--- what is said of an answer, and the message on standard error
+-- the text on an answer, and the message on standard error
 abbrev pub text_of_ending : PlanEnding → List ℕ
 text_of_ending e = (row_of e).text
 

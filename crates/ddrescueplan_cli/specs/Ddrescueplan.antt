@@ -42,7 +42,7 @@ plan_program = record {
 abbrev pub PlanWorked : Command → (words : List (List ℕ)) → PlanEnding → (old new : WorldState) → Type 0
 PlanWorked c words e old new = Worked plan_program c words e old new
 
--- what is done before anything is said
+-- what is done before any message is put
 abbrev pub PlanDone : (words : List (List ℕ)) → PlanEnding → (quiet : Bool) → (old new : WorldState) → Type 0
 PlanDone words e quiet old new = IsDone plan_program words e quiet old new
 

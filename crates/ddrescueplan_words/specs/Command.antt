@@ -33,7 +33,7 @@ length_limit = 1099511627776
 abbrev pub length_by : (sector : ℕ) → List ℕ → Option ℕ
 length_by sector text = option_and_then (within_range 0 length_limit) (size_by sector (Some text))
 
--- the word of a length is looked at first, then that of a name, which isn't empty
+-- the word of a length is checked first, then that of a name, which isn't empty
 abbrev pub with_length : Option ℕ → (n m : ℕ) → (name : List ℕ) → PlanOptions → Result Command UsageFault
 with_length None n m name o = Err (BadValue n)
 with_length (Some bytes) n m name o =
@@ -85,7 +85,7 @@ AreRefused words fault = AreRefusedBy plan_grammar words fault
 abbrev pub AskQuiet : List (List ℕ) → Type 0
 AskQuiet words = AskSilence plan_grammar words
 
--- What the options of a plan can't ask for is as where no option asks for it: no read is slow, there is no limit, every
+-- What the options of a plan can't ask for is as if no option asks for it. No read is slow, there is no limit, every
 -- position of the input is asked for in its own place, and nothing is tried again.
 pub record ArePlain (o : Options) : Type 0 where
   pub rate : o.min_rate ≡ 0

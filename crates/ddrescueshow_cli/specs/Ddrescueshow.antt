@@ -41,7 +41,7 @@ show_program = record {
 abbrev pub ShowWorked : Command → (words : List (List ℕ)) → ShowEnding → (old new : WorldState) → Type 0
 ShowWorked c words e old new = Worked show_program c words e old new
 
--- what is done before anything is said
+-- what is done before any message is put
 abbrev pub ShowDone : (words : List (List ℕ)) → ShowEnding → (quiet : Bool) → (old new : WorldState) → Type 0
 ShowDone words e quiet old new = IsDone show_program words e quiet old new
 

@@ -20,7 +20,7 @@ pub record Found : Type 0 where
 abbrev pub found_in : Command → (List ℕ → Option File) → Found
 found_in c files = record { output = files c.outfile; mapfile = files c.mapfile }
 
--- where a position stands in the output
+-- where a position is in the output
 abbrev pub place_by : Command → ℕ → ℕ
 place_by c x = place_from c.options.input_position (output_from c.options) x
 

@@ -1,4 +1,4 @@
--- What is said of a comparison on standard output, and what is answered once the map is saved.
+-- The line on a comparison, on standard output, and what is answered once the map is saved.
 use Rattle.std.specs.Prelude.{◌≡◌, ◌⊎◌, ℕ, Bool, true, false, IsTrue, List, ◌++◌, codes}
 use Rattle.std.specs.Fmt.{decimal}
 use Rattle.fault_count.specs.Plan.{with_call}

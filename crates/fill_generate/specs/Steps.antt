@@ -107,7 +107,7 @@ pub data Halted (G : Swept → Type 0) (s : Setting) (w : Sweeper) (m m' : Sweep
       → BreaksAfter call (w.call event ∷ []) (save_of s (due_save w m event)) o.site o.site'
       → Halted G s w m m' heard heard' stop o
 
--- Pieces one after another, but for their calls.
+-- Pieces one after another, without their calls.
 pub record SweepWent (G : Swept → Type 0) (s : Setting) (w : Sweeper) (m m' : Sweep) (heard heard' : Bool) (es : List Swept)
     (o : Around) : Type 0 where
   pub run : IsSweep s w m es
@@ -196,7 +196,7 @@ pub record LooksUp (piece : Piece) (r r' : SweepState) (site site' : SiteState) 
   pub told : IsTrue site.tells
       → got ≡ take piece.len (drop (place (setting_of r) piece.pos) (bytes_of (image_in site)))
 
--- memory ran out in front of it, or its read failed
+-- memory ran out before it, or its read failed
 pub data LooksNot (stop : Stop) (piece : Piece) (r : SweepState) (site site' : SiteState) : Type 0 where
   NoRoom : stop ≡ NoMemory → site' ≡ site → LooksNot stop piece r site site'
   NoRead : stop ≡ Site ImageRead

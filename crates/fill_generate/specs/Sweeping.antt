@@ -79,7 +79,7 @@ EndsAreTold = (s : Setting) (w : Sweeper) (m : Sweep) (es : List Swept) (end : R
 abbrev pub times_after : List Swept → List ℕ
 times_after es = map (λ e. e.after) es
 
--- A sweep from a state, by its pieces: the clock is read after each, and its lines are said.
+-- A sweep from a state, by its pieces: the clock is read after each, and its lines are put.
 pub record SweepTold (s : Setting) (w : Sweeper) (m : Sweep) (heard heard' : Bool) (end : RunEnd) (o : Around)
     : Type 0 where
   pub events : List Swept

@@ -23,7 +23,7 @@ is_typed types domain statuses x = domain x && has_type types (status_at statuse
 abbrev pub has_wanted_type : Wanted → ℕ → Bool
 has_wanted_type w x = is_typed w.types w.domain w.statuses x
 
--- a number is listed where some position of the map is wanted and stands in its block
+-- a number is listed if some position of the map is wanted and lies in its block
 abbrev pub is_listed : Wanted → ℕ → Bool
 is_listed w k =
     list_any (λ x. has_wanted_type w x && nat_eq (block_of w.shape x) k) (range_with_len 0 (length w.statuses))

@@ -17,7 +17,7 @@ use Rattle.mapfile_text.specs.HeadingLines.{HeadingLines}
 abbrev pub with_newline : List ℕ → List ℕ
 with_newline text = text ++ 10 ∷ []
 
--- digits with zeros in front of them, so that they are at least eight
+-- digits with zeros before them, so that they are at least eight
 abbrev pub at_least_eight : List ℕ → List ℕ
 at_least_eight ds = replicate (8 - length ds) 48 ++ ds
 

@@ -105,7 +105,7 @@ abbrev pub losses_after : SearchStop → (losses : ℕ) → ℕ
 losses_after SourceLost losses = raised losses
 losses_after (Refused refusal) losses = losses
 
--- What records that are all read bring: the partition, or a refusal.
+-- What records that are all read lead to: the partition, or a refusal.
 abbrev pub Brings : Option Refusal → (k : ℕ) → (records : List (List ℕ)) → Type 0
 Brings None k records = HasPart k records
 Brings (Some refusal) k records = RefusedBy refusal k records

@@ -23,8 +23,8 @@ use Rattle.rescue_core.specs.declared.settings.Settings.{Settings}
 use Rattle.rescue_core.specs.declared.state.Progress.{Progress}
 use Rattle.rescue_core.specs.declared.state.Tally.{Tally}
 
--- its settings, its domain, the names of its mapfile and its draft if there is a mapfile, the command line, the phase
--- and the pass that it is in, and where it stands; and whether it is heard: lines are asked for, and each was put
+-- Its settings, its domain, the names of its mapfile and its draft if there is a mapfile, and the command line. The
+-- phase and the pass that it is in, and how far it is. Whether it is heard: lines are asked for, and each was put.
 pub record RunState : Type 0 where
   pub settings : Settings
   pub domain : List Range
@@ -42,7 +42,7 @@ names_in (Some names) = names
 
 -- what settings, a domain by its intervals, names and a command line ask for. A run knows neither the names of the
 -- input and of the output nor the input's length, nor what the output may be, nor how its map was prepared, nor whether
--- more is said before it.
+-- more lines come before it.
 abbrev pub setting_with : Settings → List Range → Option MapNames → List ℕ → Setting
 setting_with settings domain names line = record {
   infile = [];
@@ -149,7 +149,7 @@ IsLed r = r.phase ≡ Trimming → is_up (setting_in r) (numbered r.phase r.pass
     → x < led_from r.machine.mode r.machine.cursor → is_live (setting_in r) r.machine x ≡ true
     → Has r.machine.map NonTrimmed x → ⊥
 
--- what holds of a run between its turns, with a buffer for so many bytes
+-- what holds of a run between its turns, with a buffer for `room` bytes
 pub record IsRunning (r : RunState) (room : ℕ) : Type 0 where
   pub sound : IsSound r.settings
   pub suits : Suits r.settings (covers r.domain) (length r.machine.map)

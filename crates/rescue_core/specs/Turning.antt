@@ -60,7 +60,7 @@ turn_of r e = record {
   ended = e.reading.ended;
 }
 
--- what is said of an event: its line, if one is due
+-- what an event puts: its line, if one is due
 abbrev pub move_pieces : RunState → Event → List SpokenPiece
 move_pieces r e = out_pieces (move_lines (setting_in r) (move_by r e))
 

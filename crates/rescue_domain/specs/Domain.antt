@@ -8,12 +8,12 @@ use Rattle.rescue_domain.specs.Finished.{is_finished_at}
 abbrev pub IsIn : (ℕ → Bool) → ℕ → Type 0
 IsIn domain x = domain x ≡ true
 
--- x lies below the end of so many positions from pos on, if their number is given
+-- x lies below the end of the positions from pos on, if their number is given
 abbrev pub is_below : ℕ → Option ℕ → ℕ → Bool
 is_below pos None x = true
 is_below pos (Some size) x = nat_lt x (pos + size)
 
--- the positions from pos on, so many if that is given, below a limit
+-- the positions from pos on, of the number that is given if one is, below a limit
 abbrev pub whole_domain : ℕ → Option ℕ → ℕ → ℕ → Bool
 whole_domain pos size limit x = nat_le pos x && is_below pos size x && nat_lt x limit
 

@@ -1,5 +1,5 @@
 -- A run needs neither the names of its input and its output nor the input's length, nor what its output may be, nor how
--- its map was prepared, nor whether more is said before it.
+-- its map was prepared, nor whether more lines come before it.
 use Rattle.std.specs.Prelude.{◌≡◌, ◌↔◌, false, List, []}
 use Rattle.rescue_rules.specs.Setting.{Setting}
 use Rattle.rescue_rules.specs.Machine.{Machine}

@@ -43,8 +43,8 @@ begins s statuses state g = machine_over s statuses state (began_at g.times)
 abbrev pub events_in : Gain → List Event
 events_in g = events_of g.reads g.times
 
--- Why a run ended, by the state that it came to, and how many readings of the clock there are beyond two for each read:
--- no request is left; or there was one, and the input was lost, or memory ran out; or a limit was met.
+-- Why a run ended, by the state that it came to, and how many readings of the clock there are beyond two for each read.
+-- No request is left; or there was one, and the input was lost, or memory ran out; or a limit was met.
 abbrev pub EndsBy : Option Stop → Setting → Machine → (spare : ℕ) → Type 0
 EndsBy None s m spare = (has_ended s m ≡ true) × (spare ≡ 0)
 EndsBy (Some SourceLost) s m spare = (has_ended s m ≡ false) × (limit_met s m ≡ None) × (spare ≡ 1)

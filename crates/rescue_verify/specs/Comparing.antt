@@ -19,7 +19,7 @@ use Rattle.rescue_verify.specs.Looks.{Look, reads_of, differs, seen_in, look_cal
 use Rattle.rescue_verify.specs.Looking.{SeesPiece}
 use Rattle.rescue_verify.specs.Verified.{judged, judged_by}
 
--- What is compared, in sectors of this size, and where a position stands in the image: `from` stands at `to`.
+-- What is compared, in sectors of this size, and where a position is in the image: `from` is at `to`.
 pub record ComparisonPlan : Type 0 where
   pub compared : ℕ → Bool
   pub sector : ℕ
@@ -49,7 +49,7 @@ tally_with t l = record {
   unread = t.unread + (if not (is_whole l.read) then l.read.asked else 0);
 }
 
--- The piece from one position up to another was looked at, counted, and marked in the map if it differs.
+-- The piece from one position up to another was compared, counted, and marked in the map if it differs.
 pub record TakesPiece (p : ComparisonPlan) (from to : ℕ) (tally tally' : Tally) (old new : List Status)
     (source source' : SourceState) (site site' : SiteState) : Type 0 where
   pub look : Look
@@ -57,8 +57,8 @@ pub record TakesPiece (p : ComparisonPlan) (from to : ℕ) (tally tally' : Tally
   pub counts : tally' ≡ tally_with tally look
   pub map_is : new ≡ judged old look
 
--- Why a comparison stopped in front of a piece, or within it, and what it read of input and files meanwhile: room in the
--- map ran out before the piece was read; its read was lost; or it was read whole, and the read of the image failed.
+-- Why a comparison stopped before a piece, or within it, and what it read of input and files meanwhile. Room in the map
+-- ran out before the piece was read; its read was lost; or it was read whole, and the read of the image failed.
 abbrev pub HaltsAt : Halt → ComparisonPlan → (from : ℕ) → List Reading → List Entry → Type 0
 HaltsAt NoMemory p from reads calls = (reads ≡ []) × (calls ≡ [])
 HaltsAt SourceLost p from reads calls =

@@ -18,8 +18,8 @@ use Rattle.rescue_verify.specs.Looks.{Look, differs, seen_at, look_call}
 abbrev pub seen_by : Look → LookResult
 seen_by l = if is_whole l.read then (if differs l then Different else Same) else Unread
 
--- The piece from a position on, of so many bytes, was read once, and if that was whole the image at a place. What each of
--- the two gave is what it has there.
+-- The piece from a position on, of `size` bytes, was read once, and if that was whole the image at a place. What each
+-- of the two gave is what it has there.
 pub record SeesPiece (pos size place : ℕ) (look : Look) (source source' : SourceState) (site site' : SiteState)
     : Type 0 where
   pub pos_is : look.read.pos ≡ pos

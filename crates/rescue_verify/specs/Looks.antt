@@ -14,7 +14,7 @@ pub record Look : Type 0 where
 abbrev pub reads_of : List Look → List Reading
 reads_of looks = map (λ l. l.read) looks
 
--- The piece was read whole, and the image has something else at its place, or ends in front of the piece's end.
+-- The piece was read whole, and the image has something else at its place, or ends before the piece's end.
 abbrev pub differs : Look → Bool
 differs l = is_whole l.read && not (bytes_eq l.read.given l.there)
 

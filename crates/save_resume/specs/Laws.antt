@@ -30,7 +30,7 @@ ReadIsNotRefused = (file : Option File) (mode : Mode) (m : ReadMap) (e : MapErro
 abbrev pub NoneIsNotRead : Type 0
 NoneIsNotRead = (file : Option File) (mode : Mode) (m : ReadMap) → IsLikeNone file → IsReadAs file mode m → ⊥
 
--- and it is refused for nothing but want of a status line.
+-- and it is refused only for want of a status line.
 abbrev pub NoneSaysNothing : Type 0
 NoneSaysNothing = (file : Option File) (mode : Mode) (e : MapError)
     → IsLikeNone file → IsRefusedFor file mode e → e ≡ NoStatusLine

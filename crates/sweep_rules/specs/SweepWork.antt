@@ -22,7 +22,7 @@ use Rattle.rescue_rules.specs.Work.{Gain, end_of}
 use Rattle.rescue_rules.specs.Deeds.{save_of, deed_calls, doing_calls}
 use Rattle.sweep_rules.specs.Sweep.{Sweeper, Sweep, Swept, sweep_over, IsPiece, IsSweep, IsSweptOut, after_piece, after_pieces, due_save, sweep_end, deeds_of}
 
--- why a sweep ended: no piece is left; or memory ran out in front of one, where it takes any
+-- why a sweep ended: no piece is left; or memory ran out before one, if it takes any
 abbrev pub SweepEndsBy : Option Stop → Setting → Sweeper → Sweep → Type 0
 SweepEndsBy None s w m = IsSweptOut s w m
 SweepEndsBy (Some SourceLost) s w m = ⊥

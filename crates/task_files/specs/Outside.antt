@@ -11,8 +11,8 @@ use Rattle.ddrescue_words.specs.Command.{Command}
 use Rattle.task_files.specs.Asked.{Maps}
 use Rattle.task_files.specs.Maps.{Found, found_in, seen_through}
 
--- The files that its steps found, the input's length, what the maps say, and what it did: opens of the input, calls on
--- the files, reads as they are seen by the maps, readings of the clock, and the lines that it says.
+-- The files that the rescue's steps found, the input's length, and what the maps say. What the rescue did: opens of the
+-- input, calls on the files, reads as they are seen by the maps, readings of the clock, and the lines that it puts.
 pub record Outside : Type 0 where
   pub found : Found
   pub end : ℕ

@@ -179,7 +179,7 @@ pub record IsOnlyMaps (g : Gain) : Type 0 where
 abbrev pub maps_of : (domain test : Option (List Status)) → (listed : Option (ℕ × ℕ)) → Maps
 maps_of domain test listed = record { domain = domain; test = test; listed = listed }
 
--- What the work did after the maps that options name, which have these statuses. Of their files nothing is said here.
+-- What the work did after the maps that options name, which have these statuses. Their files may be any.
 pub record DidAfterMaps (c : Command) (line : List ℕ) (domain test : Option (List Status)) (heard heard' : Bool) (e : Ending)
     (o : Across) : Type 0 where
   pub found : Found

@@ -44,8 +44,8 @@ IsEndedCut from end (Nothing missed) = ⊥
 IsEndedCut from end (Ended loaded over) = (from < end) × (loaded ≡ between from end) × (over ≡ end)
 IsEndedCut from end (Empty over) = (from ≡ end) × (over ≡ end)
 
--- What came of a request spans it: its parts join, and none is empty. Where the input ended within it, they span what
--- lies in front of the end.
+-- What came of a request spans it: its parts join, and none is empty. If the input ended within it, they span what lies
+-- before the end.
 abbrev pub Spans : Request → Fetched → Type 0
 Spans request (Whole loaded) = loaded ≡ between request.pos (request.pos + request.len)
 Spans request (Part loaded missed) =
@@ -70,7 +70,7 @@ pub record HoldsLoaded (sector : ℕ) (r : Reading) (source : SourceState) (buf 
   pub given : take (size_of loaded) buf ≡ take (kept sector r) r.given
   pub own : IsTrue source.tells → take (size_of loaded) buf ≡ slice_range source.bytes loaded.from loaded.to
 
--- One read was made of what was requested, which answered this, and cut; what it gave stands at the buffer's front.
+-- One read was made of what was requested, which answered this, and cut; what it gave is at the buffer's front.
 pub record Fetches (request : Request) (sector : ℕ) (got : Got) (fetched : Fetched) (buf : List ℕ)
     (old new : SourceState) : Type 0 where
   pub reading : Reading

@@ -96,8 +96,8 @@ WholeRunIsHeld = (s : Setting) (start : List ℕ) (reads : List Reading) (r : Ru
     → IsLeftWithin o.site o.site' files → IsHeldIn s start (reads ++ reads_of w.events) files
 
 -- At each stop within a whole run over an open output and a mapfile that are durable, the mapfile found is one that the
--- run saved, in order, or the one that it began with: no older than the last save that had returned, and no newer than
--- the last that had begun to be published. The output found holds what that mapfile's map promises.
+-- run saved, in order, or the one that it began with. It is no older than the last save that had returned, and no newer
+-- than the last that had begun to be published. The output found holds what that mapfile's map promises.
 abbrev pub WholeRunIsKept : Type 0
 WholeRunIsKept = (s : Setting) (began : List Status) (r : RunState) (end : RunEnd) (heard : Bool) (o : Across)
     (files : List ℕ → Option File) → IsMapped s r.machine → setting_in r ≡ nameless s → IsTrue o.site.tells

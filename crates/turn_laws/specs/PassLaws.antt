@@ -56,7 +56,7 @@ known_past Trimming = Trimmed
 known_past Scraping = Scraped
 known_past Retrying = Over
 
--- By what its type knows, a run that stands in any pass of copying still may be handed so to trimming, to scraping or to
+-- By what its type knows, a run that is in any pass of copying still may be handed so to trimming, to scraping or to
 -- retrying.
 abbrev pub TypedLeadsPast : Type 0
 TypedLeadsPast = (r : RunState) (phase : Phase) → phase ≢ Retrying → IsSensible (setting_in r)
