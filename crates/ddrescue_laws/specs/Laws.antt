@@ -87,7 +87,10 @@ pub record LeavesRescued (t : Told) (s : Setting) (g : Gain) : Type 0 where
   pub well : EndsWell s (begins s statuses state g) (events_in g)
   -- the mapfile, if there is one, is the map of all reads, and says that it is finished
   pub mapfile : s.has_mapfile ≡ true → files_in t.site' s.names.map
-      ≡ Some (record { bytes = text_of s.line (finished_snapshot (machine_reached s g statuses state)); regular = true })
+      ≡ Some (record {
+        bytes = text_of s.line (finished_snapshot (machine_reached s g statuses state));
+        regular = true;
+      })
   -- and the output holds what that map promises
   pub held : Held s g.reads (bytes_of (files_of t s.outfile)) (machine_reached s g statuses state).map
       (bytes_of (files_in t.site' s.outfile))

@@ -76,7 +76,8 @@ domain_line n = with_newline (codes "domain " ++ decimal n ++ codes " B")
 -- `non-tried 0 B in 0 areas`: how much of them has a status
 abbrev pub count_line : Status → Count → List ℕ
 count_line status k =
-    with_newline (status_name status ++ codes " " ++ decimal k.bytes ++ codes " B in " ++ decimal k.areas ++ codes " areas")
+    with_newline
+    (status_name status ++ codes " " ++ decimal k.bytes ++ codes " B in " ++ decimal k.areas ++ codes " areas")
 
 -- the line of a status, whose count is the k-th of a summary
 abbrev pub counted_line : Status → Summary → (k : ℕ) → List ℕ

@@ -125,8 +125,8 @@ fn work<D: Site, I: Feed, P: Console>(
 }
 
 /// Reads, compares, prints, makes or removes mapfiles: `[options] mapfile`, with one mode among the options, which are
-/// those of `ddrescuelog_words::options`. Unless the answer is what was asked, one message says why, on the console's second
-/// channel.
+/// those of `ddrescuelog_words::options`. Unless the answer is what was asked, one message says why, on the console's
+/// second channel.
 ///
 /// The refusals come in this order: words that ask for nothing; the mapfile; the other map; the domain map; a position
 /// without a place in the output; the list. The mapfile is refused if it is absent or no map, or, if one is to be made,

@@ -21,7 +21,8 @@ abbrev pub row_of : PlanEnding → AnswerRow
 row_of Done = asked_row 0
 row_of (Usage fault) = wrong_row fault
 row_of NoMap = brought_row 1 (codes "test mapfile does not exist")
-row_of (MapRefused error) = only_where (brought_row 2 (codes "test mapfile: " ++ error_text error)) (error ≢ OutOfMemory)
+row_of (MapRefused error) =
+    only_where (brought_row 2 (codes "test mapfile: " ++ error_text error)) (error ≢ OutOfMemory)
 row_of (SiteFault call) = only_where (failed_row AtCall (fault_text call)) (call ≡ MapRead)
 row_of ConsoleFault = failed_row AtPut (codes "cannot write standard output")
 row_of NoMemory = starved_row

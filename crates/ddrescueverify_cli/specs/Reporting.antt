@@ -10,8 +10,8 @@ use Rattle.ddrescueverify_cli.specs.declared.ending.VerifyEnding.{VerifyEnding}
 use Rattle.ddrescueverify_cli.specs.declared.ending.VerifyEnding.TheVariants.{ConsoleFault}
 use Rattle.ddrescueverify_cli.specs.Work.{answer_of_tally}
 
--- `compared 1536 B, differing 512 B, unread 0 B`: how much was compared, how much of that differs, and how much couldn't
--- be read whole
+-- `compared 1536 B, differing 512 B, unread 0 B`: how much was compared, how much of that differs, and how much
+-- couldn't be read whole
 abbrev pub line_of_tally : Tally → List ℕ
 line_of_tally t =
     with_newline (codes "compared " ++ decimal t.compared ++ codes " B, differing " ++ decimal t.differing

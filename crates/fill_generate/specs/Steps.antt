@@ -108,8 +108,8 @@ pub data Halted (G : Swept → Type 0) (s : Setting) (w : Sweeper) (m m' : Sweep
       → Halted G s w m m' heard heard' stop o
 
 -- Pieces one after another, without their calls.
-pub record SweepWent (G : Swept → Type 0) (s : Setting) (w : Sweeper) (m m' : Sweep) (heard heard' : Bool) (es : List Swept)
-    (o : Around) : Type 0 where
+pub record SweepWent (G : Swept → Type 0) (s : Setting) (w : Sweeper) (m m' : Sweep) (heard heard' : Bool)
+    (es : List Swept) (o : Around) : Type 0 where
   pub run : IsSweep s w m es
   pub given : All G es
   pub state : m' ≡ after_pieces w m es
@@ -178,8 +178,8 @@ pub record StepsPastPiece (piece : Piece) (written after : ℕ) (r r' : SweepSta
   pub says : SpeaksOn (out_pieces (line_after r r' after)) r.heard r'.heard o.console o.console'
 
 -- the same with its save, if one is due, or with one that broke off
-pub record EndsPiece {T : Type 0} (result : Result T Stop) (piece : Piece) (written : ℕ) (r r' : SweepState) (o : Around)
-    : Type 0 where
+pub record EndsPiece {T : Type 0} (result : Result T Stop) (piece : Piece) (written : ℕ) (r r' : SweepState)
+    (o : Around) : Type 0 where
   pub after : ℕ
   pub passes : StepsPastPiece piece written after r r' o
   pub made : OnOk result (Makes (save_after r r' after) o.site o.site')

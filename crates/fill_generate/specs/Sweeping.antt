@@ -50,8 +50,10 @@ pub data EndsSweep (s : Setting) (w : Sweeper) (m : Sweep) (es : List Swept) (en
       → Makes (doing_calls s (deeds_of w m es) (sweep_end (is_none stop) (after_pieces w m es))) site site'
       → EndsSweep s w m es end site site'
   -- it ended, and one of them failed
-  Unsaved : (stop : Option Stop) (call : SiteCall) → SweepEndsBy stop s w (after_pieces w m es) → end ≡ SaveFailed call stop
-      → BreaksAfter call (sweep_calls s w m es) (closing_calls s (sweep_end (is_none stop) (after_pieces w m es))) site site'
+  Unsaved : (stop : Option Stop) (call : SiteCall) → SweepEndsBy stop s w (after_pieces w m es)
+      → end ≡ SaveFailed call stop
+      → BreaksAfter call (sweep_calls s w m es)
+      (closing_calls s (sweep_end (is_none stop) (after_pieces w m es))) site site'
       → EndsSweep s w m es end site site'
   -- the call of the next piece failed, which isn't one that was done
   Cut : (p q : ℕ) → IsPiece s w (after_pieces w m es) p q → end ≡ Stopped (Site (call_name (lost_call w p q)))

@@ -92,7 +92,8 @@ impl<T: Tiles> Model for Sweeping<T> {
 
     ghost Value = { SweepState };
 
-    ghost view = { λ r. state_at r.settings r.domain r.names r.heading.line (T.statuses r.tiles) r.mode r.tally r.heard };
+    ghost view = { λ r. state_at r.settings r.domain r.names r.heading.line (T.statuses r.tiles) r.mode r.tally
+        r.heard };
 
     ghost invariant = { λ r. IsSweeping (state_at r.settings r.domain r.names r.heading.line (T.statuses r.tiles) r.mode
         r.tally r.heard) × (r.heading.program ≡ Ddrescue) };

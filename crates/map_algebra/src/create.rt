@@ -48,8 +48,8 @@ fn marks(alloc: Global, ascending: &[u64], shape: Shape, end: u64) -> Result<Pla
     Ok(marks)
 }
 
-/// The marks of the positions below an end, by the numbers of the blocks in any order. Numbers that ascend are read where
-/// they stand.
+/// The marks of the positions below an end, by the numbers of the blocks in any order. Numbers that ascend are read
+/// where they stand.
 fn marks_of(alloc: Global, numbers: &[u64], shape: Shape, end: u64) -> Result<PlainTiles, NoMemory>
     requires shape { IsShape shape }
     requires limits { All (IsInRange shape) numbers.now }

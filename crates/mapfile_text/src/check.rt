@@ -40,7 +40,8 @@ impl MapShape {
         }) }
         ensures gap { OnOk result (IsTrue self.old.listed
             → IsGap mode self.old.end block.pos (gap_of mode self.old.end block.pos)) }
-        ensures fault { IfErr result (λ e. IsTrue self.old.listed × PlaceFault mode self.old.end (line_of line.now) block e) }
+        ensures fault { IfErr result (λ e.
+            IsTrue self.old.listed × PlaceFault mode self.old.end (line_of line.now) block e) }
     {
         if self.listed {
             check_place(mode, self.end, line, block)?;

@@ -175,7 +175,8 @@ fn read_blocks(
     requires listed { map.listed ≡ false }
     requires statuses { map.tiles.statuses ≡ [] }
     ensures state { IfOk result (λ done. done.state ≡ map.state) }
-    ensures lists { IfOk result (λ done. Lists mode (no_comments lines.entry) done.first done.listed done.tiles.statuses) }
+    ensures lists { IfOk result (λ done.
+        Lists mode (no_comments lines.entry) done.first done.listed done.tiles.statuses) }
     ensures fault { IfErr result (λ e. (e ≡ OutOfMemory) ⊎ ListsFault mode (no_comments lines.entry) e) }
 {
     while let Some(mut line) = lines.first_said() {

@@ -25,7 +25,8 @@ next_sector base at (r ∷ chain) = next_sector base (linked base r) chain
 -- record's own sector
 abbrev pub given_by : (at : ℕ) → List ℕ → List Partition
 given_by at r =
-    if is_used (table_entry r 0) then record { first = at + (table_entry r 0).first; count = (table_entry r 0).count } ∷ [] else []
+    if is_used (table_entry r 0)
+    then record { first = at + (table_entry r 0).first; count = (table_entry r 0).count } ∷ [] else []
 
 -- the partitions that records give, in order, of which the first lies at a sector
 abbrev pub given_from : (base at : ℕ) → List (List ℕ) → List Partition

@@ -35,7 +35,8 @@ pub data StopsAs (sector : ℕ) (reads : List Reading) (e : SearchStop) : Type 0
   Lost : e ≡ SourceLost → reads ≡ [] → StopsAs sector reads e
   Short : (last : List ℕ) → e ≡ Refused (Unread sector) → ReadsOne sector reads last → length last < sector_size
       → StopsAs sector reads e
-  Unsigned : (last : List ℕ) → e ≡ Refused (NoSignature sector) → ReadsOne sector reads last → is_whole_sector last ≡ true
+  Unsigned : (last : List ℕ) → e ≡ Refused (NoSignature sector) → ReadsOne sector reads last
+      → is_whole_sector last ≡ true
       → has_signature last ≡ false → StopsAs sector reads e
 
 -- the entries of a record that was read, or why there are none

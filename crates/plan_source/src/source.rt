@@ -171,8 +171,8 @@ impl<C: Console, T: Tiles, O: Origin> Source for PlanSource<'_, C, T, O> {
     ghost use Rattle.std.specs.Prelude.{◌&&◌};
     ghost use Rattle.plan_source.specs.Answering.{plan_source_state};
 
-    ghost state = { λ s. plan_source_state s.length (T.statuses s.tiles) s.console.ghost_name s.entries.items s.name.items
-        (s.opened && s.idle) s.opens s.faults s.losses };
+    ghost state = { λ s. plan_source_state s.length (T.statuses s.tiles) s.console.ghost_name s.entries.items
+        s.name.items (s.opened && s.idle) s.opens s.faults s.losses };
 
     /// Every name opens. It faults for want of memory alone, since the name is kept.
     fn open_input(&mut self, name: &str) -> Result<u64, SourceFault> {

@@ -14,8 +14,8 @@ use real_files::file_cursor;
 use std::io::{self, ErrorKind, Read, Stderr, Stdin, Stdout, Write};
 use std::time::{Clock as SystemClocks, Duration, SystemTime, UNIX_EPOCH};
 
-/// Where a clock began: the time of day then, in milliseconds since 1970, and what the clock that isn't set back read, in
-/// whole milliseconds.
+/// Where a clock began: the time of day then, in milliseconds since 1970, and what the clock that isn't set back read,
+/// in whole milliseconds.
 #[derive(Clone, Copy)]
 struct ClockStart {
     time: u64,

@@ -81,7 +81,8 @@ fn fail_after<T: Tiles>(
     }
 }
 
-/// The count of failures, when positions from `from` up to `to` hadn't failed, and those from `kept` on do after a read.
+/// The count of failures, when positions from `from` up to `to` hadn't failed, and those from `kept` on do after a
+/// read.
 #[inline(never)]
 fn failed_more<T: Tiles>(
     failed: Count,
@@ -102,7 +103,8 @@ fn failed_more<T: Tiles>(
     }
 }
 
-/// The count of failures, when positions from `from` up to `to` had failed, and those up to `kept` haven't after a read.
+/// The count of failures, when positions from `from` up to `to` had failed, and those up to `kept` haven't after a
+/// read.
 #[inline(never)]
 fn failed_less<T: Tiles>(
     failed: Count,

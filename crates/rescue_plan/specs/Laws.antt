@@ -53,7 +53,8 @@ pub record RescueReads (c : RescueCommand) (line : List ℕ) (length time : ℕ)
   pub seen_are : map (seen test) raw ≡ reads_of events
   pub statuses : List Status
   pub fresh : IsFresh length statuses None
-  pub run : IsRun (setting_of c line length no_maps) (machine_over (setting_of c line length no_maps) statuses None time)
+  pub run : IsRun (setting_of c line length no_maps)
+      (machine_over (setting_of c line length no_maps) statuses None time)
       events
 
 -- no option sets a limit, and no read is slow

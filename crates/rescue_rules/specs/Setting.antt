@@ -35,8 +35,8 @@ pub record Setting : Type 0 where
   pub retries : ℕ
   pub reverse : Bool
   pub one_way : Bool
-  -- how many reads may fail; how many areas there may be that failed, and whether those that were there at first come on
-  -- top; and for how many seconds there may be no read but failed ones
+  -- how many reads may fail; how many areas there may be that failed, and whether those that were there at first come
+  -- on top; and for how many seconds there may be no read but failed ones
   pub max_errors : Option ℕ
   pub max_areas : Option ℕ
   pub new_areas : Bool

@@ -19,7 +19,8 @@ pub record Target : Type 0 where
 abbrev pub HasPlace : Target → (x y : ℕ) → Type 0
 HasPlace t x y = y + t.from ≡ x + t.to
 
--- What a rescue did on its target: its calls, after all earlier ones; the bytes of its input; and its reads, by sectors.
+-- What a rescue did on its target: its calls, after all earlier ones; the bytes of its input; and its reads, by
+-- sectors.
 pub record Run : Type 0 where
   pub target : Target
   pub past : Before
@@ -28,8 +29,8 @@ pub record Run : Type 0 where
   pub sector : ℕ
   pub reads : List Reading
 
--- The reads up to the one that the last of that many writes wrote. Each read of which something is kept is written once,
--- before the next read.
+-- The reads up to the one that the last of that many writes wrote. Each read of which something is kept is written
+-- once, before the next read.
 abbrev pub reads_until : (sector writes : ℕ) → List Reading → List Reading
 reads_until sector writes [] = []
 reads_until sector zero (r ∷ rs) = []

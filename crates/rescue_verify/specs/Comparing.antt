@@ -68,7 +68,8 @@ HaltsAt ImageFault p from reads calls =
     × Lost (image_read (place_in p r.pos) r.asked None) [] calls
 
 -- It came to the last piece, counted what it saw, and marked it in the map; or it stopped.
-abbrev pub EndsComparing : ComparisonPlan → (old new : List Status) → Result Tally Halt → List Look → List Reading → List Entry
+abbrev pub EndsComparing : ComparisonPlan → (old new : List Status) → Result Tally Halt → List Look → List Reading
+    → List Entry
     → Type 0
 EndsComparing p old new (Ok tally) looks reads calls =
     NoneFrom p.compared (end_of_reads 0 (reads_of looks)) × (new ≡ judged_by old looks) × (tally ≡ tally_of looks)
@@ -94,8 +95,8 @@ pub record HasLooked (p : ComparisonPlan) (looks : List Look) (source source' : 
       → looks ≡ map (seen_in (bytes_of (image_in site)) (place_in p)) (reads_of looks)
 
 -- What a comparison did, by its outcome: looks at the first pieces, in order, and what came after them.
-pub record Compares (p : ComparisonPlan) (old new : List Status) (result : Result Tally Halt) (source source' : SourceState)
-    (site site' : SiteState) : Type 0 where
+pub record Compares (p : ComparisonPlan) (old new : List Status) (result : Result Tally Halt)
+    (source source' : SourceState) (site site' : SiteState) : Type 0 where
   pub looks : List Look
   pub reads : List Reading
   pub calls : List Entry

@@ -4,8 +4,8 @@ use Rattle.std.specs.Str.{bytes_eq}
 use Rattle.faulty_source.specs.Journal.{Reading, is_whole}
 use Rattle.crash_site.specs.Calls.{Call, image_read}
 
--- A look at a piece: its read of the input, and what the image gave at its place. The image is read only where the input
--- gave the whole piece; else it gave nothing.
+-- A look at a piece: its read of the input, and what the image gave at its place. The image is read only where the
+-- input gave the whole piece; else it gave nothing.
 pub record Look : Type 0 where
   pub read : Reading
   pub there : List ℕ

@@ -46,7 +46,8 @@ pub data SweepEnds (s : Setting) (w : Sweeper) (m : Sweep) (es : List Swept) (ca
       → calls ≡ map Done (doing_calls s (deeds_of w m es) (sweep_end (is_none stop) (after_pieces w m es)))
       → SweepEnds s w m es calls end
   -- it ended, and one of them failed
-  IsUnsaved : (stop : Option Stop) (call : SiteCall) → SweepEndsBy stop s w (after_pieces w m es) → end ≡ SaveFailed call stop
+  IsUnsaved : (stop : Option Stop) (call : SiteCall) → SweepEndsBy stop s w (after_pieces w m es)
+      → end ≡ SaveFailed call stop
       → BrokeAt call (closing_calls s (sweep_end (is_none stop) (after_pieces w m es)))
       (map Done (sweep_calls s w m es)) calls
       → SweepEnds s w m es calls end

@@ -17,7 +17,8 @@ use Rattle.task_files.specs.Asked.{Maps}
 -- blocks, one of comments and blank lines alone, and an absent one list no position.
 pub data MapfileLists (mapfile : Option File) (first end : ℕ) : Type 0 where
   NoFile : mapfile ≡ None → first ≡ 0 → end ≡ 0 → MapfileLists mapfile first end
-  NoText : (there : File) → mapfile ≡ Some there → Blank there.bytes → first ≡ 0 → end ≡ 0 → MapfileLists mapfile first end
+  NoText : (there : File) → mapfile ≡ Some there → Blank there.bytes → first ≡ 0 → end ≡ 0
+      → MapfileLists mapfile first end
   Blocks : (there : File) → mapfile ≡ Some there → length there.bytes ≤ text_limit
       → (shown : MapState) → (listed : Bool) → (statuses : List Status)
       → IsMapText there.bytes Tight shown first listed statuses → end ≡ length statuses → MapfileLists mapfile first end

@@ -11,8 +11,8 @@ use Rattle.rescue_rules.specs.Step.{Event, is_trimming}
 use Rattle.rescue_rules.specs.Moves.{moves, state_after}
 use Rattle.trim_scrape.specs.Endings.{FailedInPass}
 
--- A pass still comes to a position: it is the present one and the position lies ahead (in trimming each does, since that
--- goes back to the map's start), or it is a later one.
+-- A pass still comes to a position: it is the present one and the position lies ahead (in trimming each does, since
+-- that goes back to the map's start), or it is a later one.
 pub data StillComes (s : Setting) (m : Machine) (p : Pass) (x : ℕ) : Type 0 where
   Now : (ps : List Pass) → m.passes ≡ p ∷ ps → (is_trimming m ≡ false → is_ahead (search_of s m) x ≡ true)
       → StillComes s m p x

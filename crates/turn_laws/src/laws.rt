@@ -162,8 +162,8 @@ pub fn a_whole_run_is_held()
     ensures { WholeRunIsHeld }
 {}
 
-/// The mapfile found then is one that the run saved, or the one that it began with, and it is no older than the last save
-/// that returned.
+/// The mapfile found then is one that the run saved, or the one that it began with, and it is no older than the last
+/// save that returned.
 pub fn a_whole_run_is_kept()
     ensures { WholeRunIsKept }
 {}
