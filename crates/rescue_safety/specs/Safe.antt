@@ -19,8 +19,7 @@ pub record Target : Type 0 where
 abbrev pub HasPlace : Target → (x y : ℕ) → Type 0
 HasPlace t x y = y + t.from ≡ x + t.to
 
--- What a rescue did on its target: its calls, after all earlier ones; the bytes of its input; and its reads, by
--- sectors.
+-- What a rescue did on its target: its calls, after all earlier ones; its input's bytes; and its reads, by sectors.
 pub record Run : Type 0 where
   pub target : Target
   pub past : Before
