@@ -258,7 +258,7 @@ pub struct Options {
 
 impl Options {
     /// What is asked for where no option but the sector's is given.
-    pub(crate) fn none(sector: u64) -> Options
+    pub fn none(sector: u64) -> Options
         ensures { result ≡ no_options sector }
     {
         Options {
