@@ -106,7 +106,7 @@ pub record TurnsEnd {T : Type 0} (result : Result T Stop) (r r' : RunState) (o :
   pub halted : IfErr result (λ stop. WentUpTo stop r r' o)
   pub objects : ObjectsStay o
 
--- those of a phase, which answers where the run has come to
+-- the turns of a phase, which answers where the run has come to
 pub record PhaseEnds (r : RunState) (result : Result RunState StoppedState) (o : Across) : Type 0 where
   pub goes : IfOk result (λ r'. WentByTurns r r' o)
   pub halted : IfErr result (λ s. WentUpTo s.stop r s.run o)

@@ -154,7 +154,7 @@ pub record IsVerdict (e : Ending) : Type 0 where
   pub room : e ≢ NoMemory
   pub call : (call : SiteCall) (earlier : Option Stop) → e ≢ SiteFault call earlier
 
--- They lead to one such answer at most.
+-- A command, an input's length and the files that were found lead to one such answer at most.
 abbrev pub HasOneVerdict : Type 0
 HasOneVerdict = (c : Command) (s : Setting) (found : Found) (lines lines' : List (List ℕ)) (e e' : Ending)
     (d d' : Deeds) → Works rescue_faults (rescue_rows c found s.end) (Rescues s found.mapfile lines) e d

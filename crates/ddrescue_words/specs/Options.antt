@@ -85,7 +85,7 @@ skips_of sector text =
 abbrev pub limit_with : (new : Bool) → List ℕ → Option (Bool × Option ℕ)
 limit_with new text = option_map (λ n. (new, Some n)) (result_ok (number text))
 
--- It is a number or, if new areas alone count, a number after a `+`.
+-- A limit of areas is a number or, if new areas alone count, a number after a `+`.
 abbrev pub area_limit_of : List ℕ → Option (Bool × Option ℕ)
 area_limit_of [] = None
 area_limit_of (c ∷ text) = if nat_eq c 43 then limit_with true text else limit_with false (c ∷ text)
@@ -185,7 +185,7 @@ sample_row = record {
 abbrev pub option_rows : List (OptionRow Options)
 option_rows = lettered_rows ++ sample_row ∷ []
 
--- its row, counted from 0
+-- the row of the option of a sample, counted from 0
 abbrev pub sample_place : ℕ
 sample_place = length lettered_rows
 

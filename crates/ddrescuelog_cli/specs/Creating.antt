@@ -66,7 +66,7 @@ abbrev pub StoppedEarly : Command → Found → LogEnding → List Entry → Typ
 StoppedEarly c found e calls =
     (line list : List ℕ) (m : Maps) → WorksAs true c line list found m e (only_calls calls)
 
--- it came past these calls: what is done after them over maps is done by the whole work
+-- the work came past these calls: what is done after them over maps is done by the whole work
 abbrev pub CameOver : Command → Found → List Entry → Type 0
 CameOver c found calls =
     (line list : List ℕ) (m : Maps) (e : LogEnding) (later : List Entry) → WorksOver c line list m e (only_calls later)

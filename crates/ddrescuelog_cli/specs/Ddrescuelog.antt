@@ -54,7 +54,7 @@ pub record LogKeeps (e : LogEnding) (old new : WorldState) : Type 0 where
   pub feed_ : FeedKeeps old.feed_ new.feed_
   pub draft : new.site.is_drafting ≡ drafting_left e
 
--- It is called with no draft begun. Its work finds the maps and the list outside of it.
+-- The program is called with no draft begun. Its work finds the maps and the list outside of it.
 abbrev pub log_program : Program Command LogEnding Outside
 log_program = record {
   name = program_name;

@@ -56,7 +56,7 @@ HasStatuses None mode file statuses = statuses ≡ None
 HasStatuses (Some name) mode file None = ⊥
 HasStatuses (Some name) mode file (Some statuses) = IsMapOf file mode statuses
 
--- the same of a map that may be named
+-- what the read of a map that may be named did, by its outcome
 abbrev pub DidReadNamed : Which → Mode → Option (List ℕ) → Option File → Result (Option Tiled) LogEnding → List Entry
     → Type 0
 DidReadNamed which mode name file (Ok tiles) calls =
@@ -74,7 +74,7 @@ pub record ReadsNamed (which : Which) (mode : Mode) (name : Option (List ℕ)) (
 
 -- ---- all maps
 
--- the same, with none where there are no tiles
+-- the statuses of tiles, and none if there are no tiles
 abbrev pub statuses_or_none : Option Tiled → List Status
 statuses_or_none None = []
 statuses_or_none (Some tiles) = tiles.statuses
@@ -130,7 +130,7 @@ abbrev pub answer_if : Bool → (otherwise : LogEnding) → LogEnding
 answer_if true otherwise = Done
 answer_if false otherwise = otherwise
 
--- It ends as the work over these maps does, which calls nothing on the files, and its text was put.
+-- A mode ends as the work over these maps does, which calls nothing on the files, and its text was put.
 pub record HasFound (c : Command) (h : HeadingLines) (m : Maps) (e : LogEnding) (old new : ConsoleState) : Type 0 where
   pub ends : (line list : List ℕ) → WorksOver c line list m e (only_calls [])
   pub out : (line : List ℕ) → h ≡ record { program = Ddrescuelog; line = line; start_s = 0; now_s = 0 }

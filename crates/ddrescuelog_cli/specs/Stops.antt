@@ -77,7 +77,7 @@ pub record LeavesFiles (e : LogEnding) : Type 0 where
   pub short : e ≢ Done
   pub kept : (row_of e).kind ≢ Failed AtCall
 
--- it leaves everything as it could be found before, under every name
+-- the mode leaves everything as it could be found before, under every name
 abbrev pub LeavesAll : SiteState → List Entry → Type 0
 LeavesAll site calls = (k : ℕ) (files : List ℕ → Option File) (name : List ℕ) → k ≤ length calls
     → LeftAt site calls k files → CouldBefore site name (files name)

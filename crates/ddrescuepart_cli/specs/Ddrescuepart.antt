@@ -20,8 +20,8 @@ abbrev pub handed : SourceState → ConsoleState → WorldState
 handed source console =
     record { source = source; site = no_site; clock = no_clock; feed_ = no_feed; console = console }
 
--- Its work finds the input's length outside of it. It leaves the text of the partition's map on standard output, or
--- if the put failed a beginning of that, and after every refusal nothing.
+-- The program's work finds the input's length outside of it. It leaves the text of the partition's map on standard
+-- output, or if the put failed a beginning of that, and after every refusal nothing.
 abbrev pub part_program : Program Command PartEnding ℕ
 part_program = record {
   name = program_name;

@@ -20,7 +20,7 @@ abbrev pub handed : SiteState → ConsoleState → WorldState
 handed site console =
     record { source = no_source; site = site; clock = no_clock; feed_ = no_feed; console = console }
 
--- Its work finds the test map's file outside of it, and leaves the plan on standard output.
+-- The program's work finds the test map's file outside of it, and leaves the plan on standard output.
 abbrev pub plan_program : Program Command PlanEnding (Option File)
 plan_program = record {
   name = program_name;

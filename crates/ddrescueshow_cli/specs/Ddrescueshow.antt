@@ -19,7 +19,7 @@ abbrev pub handed : SiteState → ConsoleState → WorldState
 handed site console =
     record { source = no_source; site = site; clock = no_clock; feed_ = no_feed; console = console }
 
--- Its work finds the files of the maps outside of it, and leaves the picture on standard output.
+-- The program's work finds the files of the maps outside of it, and leaves the picture on standard output.
 abbrev pub show_program : Program Command ShowEnding Found
 show_program = record {
   name = program_name;

@@ -122,7 +122,7 @@ small_options = record {
   quiet = false;
 }
 
--- Its picture has two rows, `++-+` and `?`; 8 of its 10 bytes are rescued, which is 80.00 %.
+-- The small map's picture has two rows, `++-+` and `?`; 8 of its 10 bytes are rescued, which is 80.00 %.
 abbrev pub SmallPicture : Type 0
 SmallPicture =
     (frame_of small_options 10 ≡ record { from = 0; to = 10; cell = 2; width = 4 })

@@ -17,7 +17,7 @@ line_of_tally t =
     with_newline (codes "compared " ++ decimal t.compared ++ codes " B, differing " ++ decimal t.differing
     ++ codes " B, unread " ++ decimal t.unread ++ codes " B")
 
--- it was one put, by the plan of a console that has one
+-- the line was one put, by the plan of a console that has one
 abbrev pub IsOnePut : (old new : ConsoleState) → Type 0
 IsOnePut old new = IsTrue old.is_planned → new.plan ≡ with_call old.plan
 

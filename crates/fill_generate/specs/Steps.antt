@@ -47,7 +47,7 @@ pub record IsFound (r : SweepState) (p : Piece) : Type 0 where
   pub short : p.pos + p.len < 2 ^ 63
   pub placed : place (setting_of r) p.pos + p.len < 2 ^ 63
 
--- the same sweep, heard or not
+-- this sweep, heard or not
 abbrev pub heard_as : SweepState → Bool → SweepState
 heard_as r heard = record r { heard = heard }
 
@@ -177,7 +177,7 @@ pub record StepsPastPiece (piece : Piece) (written after : ℕ) (r r' : SweepSta
       (moved (current_in r.mode) r.sweep piece.pos piece.len written after)) r'.heard
   pub says : SpeaksOn (out_pieces (line_after r r' after)) r.heard r'.heard o.console o.console'
 
--- the same with its save, if one is due, or with one that broke off
+-- what follows a piece, with its save, if one is due, or with one that broke off
 pub record EndsPiece {T : Type 0} (result : Result T Stop) (piece : Piece) (written : ℕ) (r r' : SweepState)
     (o : Around) : Type 0 where
   pub after : ℕ
@@ -209,7 +209,7 @@ abbrev pub IsLookedUp : Setting → SiteState → Swept → Type 0
 IsLookedUp s site e =
     IsTrue site.tells → IsApart s.names site → e.got ≡ take e.len (drop (place s e.pos) (bytes_of (image_in site)))
 
--- the same sweep that stands elsewhere, heard or not
+-- this sweep at another state, heard or not
 abbrev pub gone_to : (r r' : SweepState) → SweepState
 gone_to r r' = record r { sweep = r'.sweep; heard = r'.heard }
 

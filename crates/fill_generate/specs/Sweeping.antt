@@ -45,11 +45,11 @@ pub record BreaksAfter (at : SiteCall) (made calls : List Call) (old new : SiteS
 -- The end of a sweep by these pieces, by its calls:
 pub data EndsSweep (s : Setting) (w : Sweeper) (m : Sweep) (es : List Swept) (end : RunEnd) (site site' : SiteState)
     : Type 0 where
-  -- it ended, and its last calls returned
+  -- the sweep ended, and its last calls returned
   Saved : (stop : Option Stop) → SweepEndsBy stop s w (after_pieces w m es) → end ≡ end_of stop
       → Makes (doing_calls s (deeds_of w m es) (sweep_end (is_none stop) (after_pieces w m es))) site site'
       → EndsSweep s w m es end site site'
-  -- it ended, and one of them failed
+  -- the sweep ended, and one of its last calls failed
   Unsaved : (stop : Option Stop) (call : SiteCall) → SweepEndsBy stop s w (after_pieces w m es)
       → end ≡ SaveFailed call stop
       → BreaksAfter call (sweep_calls s w m es)

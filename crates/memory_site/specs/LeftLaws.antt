@@ -44,7 +44,7 @@ pub record HasSpoilt (was : File) (ranges : List (ℕ × ℕ)) (found : File) : 
       → slice_index_or found.bytes x 0 ≡ slice_index_or was.bytes x 0
   pub regular : IsTrue was.regular → IsTrue found.regular
 
--- the same of the file that has a name
+-- a file, if there is one, with other bytes in these ranges, and in them alone
 abbrev pub IsSpoilt : Option File → List (ℕ × ℕ) → Option File → Type 0
 IsSpoilt None ranges None = ⊤
 IsSpoilt None ranges (Some found) = ⊥
@@ -66,7 +66,7 @@ pub record IsUnsyncedOf (v : Version) (was : Option File) (ranges : List (ℕ ×
   pub all : (x : ℕ) → x < length (bytes_of was) → IsUnsure v x → IsLoose ranges x
   pub alone : (x : ℕ) → x < length (bytes_of was) → IsLoose ranges x → IsUnsure v x
 
--- the same of one of these versions
+-- a file is found that is one of these versions except for what isn't sure, and these ranges are what isn't sure in it
 abbrev pub IsUnsyncedOfOne : List Version → Option File → List (ℕ × ℕ) → Type 0
 IsUnsyncedOfOne [] was ranges = ⊥
 IsUnsyncedOfOne (v ∷ vs) was ranges = IsUnsyncedOf v was ranges ⊎ IsUnsyncedOfOne vs was ranges

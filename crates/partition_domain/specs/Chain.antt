@@ -33,7 +33,7 @@ abbrev pub given_from : (base at : ℕ) → List (List ℕ) → List Partition
 given_from base at [] = []
 given_from base at (r ∷ chain) = given_by at r ++ given_from base (linked base r) chain
 
--- those of a chain, whose first record lies at the base
+-- the partitions of a chain, whose first record lies at the base
 abbrev pub logical_partitions : (base : ℕ) → List (List ℕ) → List Partition
 logical_partitions base chain = given_from base base chain
 

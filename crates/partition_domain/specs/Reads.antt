@@ -42,7 +42,7 @@ pub record IsUnread (k : ℕ) (records : List (List ℕ)) (sector : ℕ) : Type 
   pub is_last : IsLastRecord k records sector last
   pub short : length last < sector_size
 
--- it was, and isn't one
+-- a record was read whole, and has no signature
 pub record LacksSignature (k : ℕ) (records : List (List ℕ)) (sector : ℕ) : Type 0 where
   pub last : List ℕ
   pub is_last : IsLastRecord k records sector last

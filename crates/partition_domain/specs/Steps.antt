@@ -60,7 +60,7 @@ pub record IsNear (k : ℕ) (c : Chain) : Type 0 where
   pub given : c.given ≤ k - 5
   pub read : c.read ≤ 128
 
--- the same after one more record, or of the partition that it gives
+-- the numbers of a search are small after one more record, or those of the partition that it gives are
 abbrev pub LeadsNear : (k : ℕ) → (c : Chain) → Link → Type 0
 LeadsNear k c (Found p) = (p.first < 2 ^ 34) × (p.count < 2 ^ 32)
 LeadsNear k c (On n) = IsNear k n × (n.read ≡ c.read + 1)

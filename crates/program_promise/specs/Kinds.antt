@@ -12,7 +12,7 @@ pub data Failure : Type 0 where
   AtPut : Failure
 
 pub data Kind : Type 0 where
-  -- it is what was asked for, and has no message
+  -- the answer is what was asked for, and has no message
   Asked : Kind
   -- what is there leads to it, as a refusal of a file
   Brought : Kind

@@ -46,7 +46,7 @@ module _ {C E O : Type 0} (p : Program C E O) where
     pub work : Works p.faults (p.rows c outside) (p.Run c outside) e did
     pub leaves : p.Leaves c line outside e did old new
 
-  -- The same, with the cause that the answer's row says, and with what stays.
+  -- What was done for a command, with the cause that the answer's row says, and with what stays.
   pub record Worked (c : C) (words : List (List ℕ)) (e : E) (old new : WorldState) : Type 0 where
     pub done : DoneFor c (line_by p words) e old new
     pub cause : Changed (changes_of (kind_of p e)) old new

@@ -30,8 +30,8 @@ Speaks [] old new = new ≡ old
 Speaks (p ∷ ps) old new =
     ((between : ConsoleState) × PutsWhole p old between × Speaks ps between new) ⊎ PutsBroken p old new
 
--- The same of one who has been heard so far, or not: who isn't heard says nothing; who is heard stays so while each put
--- succeeds.
+-- Pieces are put in order by one who has been heard so far, or not: who isn't heard says nothing; who is heard stays so
+-- while each put succeeds.
 abbrev pub SpeaksOn : List SpokenPiece → (heard heard' : Bool) → (old new : ConsoleState) → Type 0
 SpeaksOn ps false heard' old new = (heard' ≡ false) × (new ≡ old)
 SpeaksOn [] true heard' old new = (heard' ≡ true) × (new ≡ old)

@@ -27,7 +27,7 @@ abbrev pub closing_snapshot : Option Stop → RunState → Snapshot
 closing_snapshot None r = finished_snapshot r.machine
 closing_snapshot (Some stop) r = snapshot_of r.machine
 
--- its last calls returned, a save or without a mapfile an image sync, or one of them failed
+-- a run's last calls returned, a save or without a mapfile an image sync, or one of them failed
 pub data LastSave (stop : Option Stop) (r : RunState) (end : RunEnd) (site site' : SiteState) : Type 0 where
   Saved : end ≡ end_of stop → Makes (closing_calls (setting_in r) (closing_snapshot stop r)) site site'
       → site'.is_drafting ≡ false → LastSave stop r end site site'

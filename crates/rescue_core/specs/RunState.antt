@@ -23,7 +23,7 @@ use Rattle.rescue_core.specs.declared.settings.Settings.{Settings}
 use Rattle.rescue_core.specs.declared.state.Progress.{Progress}
 use Rattle.rescue_core.specs.declared.state.Tally.{Tally}
 
--- Its settings, its domain, the names of its mapfile and its draft if there is a mapfile, and the command line. The
+-- A run's settings, its domain, the names of its mapfile and its draft if there is a mapfile, and the command line. The
 -- phase and the pass that it is in, and how far it is. Whether it is heard: lines are asked for, and each was put.
 pub record RunState : Type 0 where
   pub settings : Settings
@@ -35,7 +35,7 @@ pub record RunState : Type 0 where
   pub machine : Machine
   pub heard : Bool
 
--- those names, which mean nothing where there is no mapfile
+-- the names of a mapfile and its draft, which mean nothing if there is no mapfile
 abbrev pub names_in : Option MapNames → MapNames
 names_in None = record { map = []; draft = [] }
 names_in (Some names) = names

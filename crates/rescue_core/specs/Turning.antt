@@ -31,7 +31,7 @@ pub record IsEvent (request : Request) (e : Event) (source source' : SourceState
   pub pos : e.reading.pos ≡ request.pos
   pub asked : e.reading.asked ≡ request.len
   pub few : length e.reading.given ≤ request.len
-  -- it met the input's end only where it gave less than it was asked for
+  -- the read met the input's end only if it gave less than it was asked for
   pub ends : e.reading.ended ≡ true → length e.reading.given < request.len
   pub right : IsTrue source.tells
       → e.reading.given ≡ slice_range source.bytes request.pos (request.pos + length e.reading.given)

@@ -21,7 +21,7 @@ whole_domain pos size limit x = nat_le pos x && is_below pos size x && nat_lt x 
 abbrev pub finished_in : (ℕ → Bool) → List Status → ℕ → Bool
 finished_in domain map x = domain x && is_finished_at map x
 
--- the same where there is a map, and else all of the set
+-- what is finished in a map of a set of positions, if there is a map, and else all of the set
 abbrev pub in_map : (ℕ → Bool) → Option (List Status) → ℕ → Bool
 in_map domain None = domain
 in_map domain (Some map) = finished_in domain map

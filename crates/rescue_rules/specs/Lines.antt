@@ -69,7 +69,7 @@ move_lines s v =
     then report_text (phase_front v.after.shown) (report_of s v.after) ∷ []
     else []
 
--- those after the moves of events
+-- the lines after the moves of events
 abbrev pub run_lines : Setting → Machine → List Event → List (List ℕ)
 run_lines s m events = flat_map (move_lines s) (moves s m events)
 

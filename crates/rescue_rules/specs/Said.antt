@@ -4,7 +4,7 @@ use Rattle.mapfile_text.specs.declared.state.Current.{Current}
 use Rattle.mapfile_text.specs.Printed.{current_symbol}
 use Rattle.rescue_rules.specs.declared.report.Said.{Said}
 
--- it was put in a phase, which a mapfile shows by its character
+-- a line was put in a phase, which a mapfile shows by its character
 abbrev pub is_said_in : Said → Current → Bool
 is_said_in said current = nat_eq (current_symbol said.current) (current_symbol current)
 

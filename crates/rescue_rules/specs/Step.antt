@@ -24,7 +24,7 @@ pub record Event : Type 0 where
   pub before : ℕ
   pub after : ℕ
 
--- it is copying, or trimming
+-- the phase is copying, or trimming
 abbrev pub copies : Phase → Bool
 copies Copying = true
 copies phase = false

@@ -39,7 +39,7 @@ pub record IsNothing (g : Gain) : Type 0 where
 abbrev pub begins : Setting → List Status → Option MapState → Gain → Machine
 begins s statuses state g = machine_over s statuses state (began_at g.times)
 
--- its events
+-- the events of what was done
 abbrev pub events_in : Gain → List Event
 events_in g = events_of g.reads g.times
 
@@ -60,10 +60,10 @@ end_of (Some stop) = Stopped stop
 -- The calls of a run whose reads make these events, by how it ended.
 pub data Ends (s : Setting) (m : Machine) (events : List Event) (spare : ℕ) (calls : List Entry) (end : RunEnd)
     : Type 0 where
-  -- it ended, and its last calls returned
+  -- the run ended, and its last calls returned
   IsSaved : (stop : Option Stop) → EndsBy stop s (state_after s m events) spare → end ≡ end_of stop
       → calls ≡ map Done (run_calls s m events ++ end_calls s m events) → Ends s m events spare calls end
-  -- it ended, and one of them failed
+  -- the run ended, and one of its last calls failed
   IsUnsaved : (stop : Option Stop) (call : SiteCall) → EndsBy stop s (state_after s m events) spare
       → end ≡ SaveFailed call stop → BrokeAt call (end_calls s m events) (map Done (run_calls s m events)) calls
       → Ends s m events spare calls end

@@ -29,7 +29,7 @@ pub record ComparisonPlan : Type 0 where
 abbrev pub place_in : ComparisonPlan → ℕ → ℕ
 place_in p x = place_from p.from p.to x
 
--- the same of what the code hands on
+-- what is compared, as the code hands it on
 abbrev pub plan_by : Comparison → ComparisonPlan
 plan_by c = record { compared = covers c.compared.now; sector = c.sector; from = c.from; to = c.to }
 
@@ -67,7 +67,7 @@ HaltsAt ImageFault p from reads calls =
     (r : Reading) × IsPiece p.compared p.sector from r.pos (r.pos + r.asked) × (is_whole r ≡ true) × (reads ≡ r ∷ [])
     × Lost (image_read (place_in p r.pos) r.asked None) [] calls
 
--- It came to the last piece, counted what it saw, and marked it in the map; or it stopped.
+-- A comparison came to the last piece, counted what it saw, and marked it in the map; or it stopped.
 abbrev pub EndsComparing : ComparisonPlan → (old new : List Status) → Result Tally Halt → List Look → List Reading
     → List Entry
     → Type 0

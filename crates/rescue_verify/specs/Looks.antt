@@ -22,7 +22,7 @@ differs l = is_whole l.read && not (bytes_eq l.read.given l.there)
 abbrev pub seen_at : (image : List ℕ) → (at : ℕ) → Reading → Look
 seen_at image at r = record { read = r; there = if is_whole r then slice_range image at (at + r.asked) else [] }
 
--- the same by the place of its first byte
+-- what an image has for a read, by the place of its first byte
 abbrev pub seen_in : (image : List ℕ) → (place : ℕ → ℕ) → Reading → Look
 seen_in image place r = seen_at image (place r.pos) r
 
@@ -30,7 +30,7 @@ seen_in image place r = seen_at image (place r.pos) r
 abbrev pub look_call : (at : ℕ) → Look → List Call
 look_call at l = if is_whole l.read then image_read at l.read.asked (Some (length l.there)) ∷ [] else []
 
--- those of looks, one after the other
+-- the calls of looks, one after the other
 abbrev pub look_calls : (place : ℕ → ℕ) → List Look → List Call
 look_calls place [] = []
 look_calls place (l ∷ looks) = look_call (place l.read.pos) l ++ look_calls place looks

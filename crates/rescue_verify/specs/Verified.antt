@@ -11,7 +11,7 @@ use Rattle.rescue_verify.specs.Looks.{Look, differs, seen_in}
 abbrev pub judged : List Status → Look → List Status
 judged statuses l = if differs l then marked statuses l.read.pos l.read.asked NonTried else statuses
 
--- the same after these looks, one after the other
+-- a map after these looks, one after the other
 abbrev pub judged_by : List Status → List Look → List Status
 judged_by statuses [] = statuses
 judged_by statuses (l ∷ looks) = judged_by (judged statuses l) looks

@@ -16,7 +16,7 @@ abbrev pub ReadAsOne : Type 0
 ReadAsOne = (file : Option File) (mode : Mode) (m m' : ReadMap) → IsReadAs file mode m → IsReadAs file mode m'
     → SameReading m.state m'.state m.first m'.first m.listed m'.listed m.tiles.statuses m'.tiles.statuses
 
--- It is refused for one error.
+-- A mapfile is refused for one error.
 abbrev pub RefusedForOne : Type 0
 RefusedForOne = (file : Option File) (mode : Mode) (e e' : MapError)
     → IsRefusedFor file mode e → IsRefusedFor file mode e' → e ≡ e'

@@ -111,7 +111,7 @@ FaultCounts (Site call) faults faults' = IsResumeCall call × Rose faults faults
 FaultCounts (Refused e) faults faults' = (faults' ≡ faults) × (e ≢ OutOfMemory)
 FaultCounts NoMemory faults faults' = faults' ≡ faults
 
--- the same by what was answered
+-- the count of faults, by what was answered
 abbrev pub CountsFaults : {T : Type 0} → Result T ResumeFault → (faults faults' : ℕ) → Type 0
 CountsFaults (Ok x) faults faults' = faults' ≡ faults
 CountsFaults (Err e) faults faults' = FaultCounts e faults faults'

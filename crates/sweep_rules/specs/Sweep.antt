@@ -121,12 +121,12 @@ sweep_over w map state time = record {
   said = None;
 }
 
--- it takes a position: one of the domain, with such a status
+-- a sweep takes a position: one of the domain, with such a status
 abbrev pub IsTaken : Setting → Sweeper → Sweep → ℕ → Type 0
 IsTaken s w m x = passing w.takes s.domain m.map x ≡ true
 
--- its next piece, from p up to q: the front of the next range of such positions, at most a cluster, up to a sector's
--- boundary (the same cut as copying's, upwards)
+-- a sweep's next piece, from p up to q: the front of the next range of such positions, at most a cluster, up to a
+-- sector's boundary (the same cut as copying's, upwards)
 abbrev pub sweep_search : Setting → Sweep → Search
 sweep_search s m = record { up = true; from = m.cursor; front = true; size = s.cluster }
 

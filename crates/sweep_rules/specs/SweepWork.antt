@@ -41,11 +41,11 @@ lost_call w p q = unanswered (w.call (record { pos = p; len = q - p; got = []; a
 -- The calls of a sweep by these pieces, by how it ended.
 pub data SweepEnds (s : Setting) (w : Sweeper) (m : Sweep) (es : List Swept) (calls : List Entry) (end : RunEnd)
     : Type 0 where
-  -- it ended, and its last calls returned
+  -- the sweep ended, and its last calls returned
   IsSaved : (stop : Option Stop) → SweepEndsBy stop s w (after_pieces w m es) → end ≡ end_of stop
       → calls ≡ map Done (doing_calls s (deeds_of w m es) (sweep_end (is_none stop) (after_pieces w m es)))
       → SweepEnds s w m es calls end
-  -- it ended, and one of them failed
+  -- the sweep ended, and one of its last calls failed
   IsUnsaved : (stop : Option Stop) (call : SiteCall) → SweepEndsBy stop s w (after_pieces w m es)
       → end ≡ SaveFailed call stop
       → BrokeAt call (closing_calls s (sweep_end (is_none stop) (after_pieces w m es)))

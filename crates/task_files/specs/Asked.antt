@@ -37,7 +37,7 @@ pub record Maps : Type 0 where
 abbrev pub no_maps : Maps
 no_maps = record { domain = None; test = None; listed = None }
 
--- those from one position on, below another, if they are given
+-- the positions from one on, below another, if these are given
 abbrev pub in_list : (ℕ → Bool) → Option (ℕ × ℕ) → ℕ → Bool
 in_list domain None = domain
 in_list domain (Some k) = listed_in domain k.0 k.1

@@ -76,7 +76,8 @@ pub record IsReady (c : Command) (end : ℕ) (maps : Maps) (statuses : List Stat
   pub opening : (line : List ℕ) → lines_in (option_map (λ l. l.items) ready.opening)
       ≡ opening_lines (setting_of c line end maps) (length statuses)
 
--- it has what a run needs: a domain for its map, which isn't too long, a state within limits, and room for a cluster
+-- what a run begins with suits it: a domain for its map, which isn't too long, a state within limits, and room for a
+-- cluster
 pub record MayBegin (o : Options) (ready : RunMemory) : Type 0 where
   pub suits : Suits (settings_by o) (covers ready.domain) (length ready.tiles.statuses)
   pub short : length ready.tiles.statuses < 2 ^ 63

@@ -64,7 +64,7 @@ pub record RanToEnd (r : RunState) (counts : Counts) (source source' : SourceSta
   pub timed : ReadsClock (times_of events) clock clock'
   pub counts_are : counts ≡ counts_of (covers r.domain) (state_after (setting_in r) r.machine events).map
 
--- the same of the rescue of a sample over any input, from the reading of the clock on with which it begins
+-- the rescue of a sample over any input up to its end, from the reading of the clock on with which it begins
 pub record RanSample (counts : Counts) (source source' : SourceState) (clock clock' : ClockState) : Type 0 where
   pub end : ℕ
   pub own_end : IsTrue source.tells → end ≡ length source.bytes

@@ -79,7 +79,7 @@ pub record Fetches (request : Request) (sector : ℕ) (got : Got) (fetched : Fet
   pub count : length reading.given ≡ count_of got
   pub ended : reading.ended ≡ is_end got
   pub few : length reading.given ≤ request.len
-  -- it met the input's end only where it gave less than it was asked for
+  -- the read met the input's end only if it gave less than it was asked for
   pub ends : reading.ended ≡ true → length reading.given < request.len
   pub right : IsTrue old.tells → reading.given ≡ slice_range old.bytes reading.pos (reading.pos + length reading.given)
   pub read : Reads (reading ∷ []) old new

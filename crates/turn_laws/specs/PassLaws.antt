@@ -19,7 +19,7 @@ abbrev pub passed_over : RunState → List Pass → RunState
 passed_over r [] = r
 passed_over r (p ∷ ps) = passed_over (passed r p.phase p.number) ps
 
--- it may begin them: each is the next one of a pass that has no request left, as `begin_pass` asks
+-- a run may begin these passes: each is the next one of a pass that has no request left, as `begin_pass` asks
 abbrev pub MayPassOver : RunState → List Pass → Type 0
 MayPassOver r [] = ⊤
 MayPassOver r (p ∷ ps) =
