@@ -10,6 +10,7 @@ use Rattle.crash_site.specs.SiteState.{SiteState, files_in}
 use Rattle.save_resume.specs.Loading.{BeginsLoad, IsLoad}
 use Rattle.save_resume.specs.Resuming.{IsReadAs, IsOfFile, LoadEnded, StarvedInLoad, BrokeInLoad}
 use Rattle.save_resume.proofs.AnswerLemmas.{read_is_not_refused}
+use Rattle.work_rules.proofs.GainLemmas.{GainsBroken, broke_gains}
 use Rattle.work_rules.proofs.LoadLemmas.{load_of, first_read, begins_first, by_tells}
 use Rattle.ddrescuelog_cli.specs.declared.ending.Which.{Which}
 use Rattle.ddrescuelog_cli.specs.declared.ending.LogEnding.{LogEnding}
@@ -18,7 +19,6 @@ use Rattle.ddrescuelog_cli.specs.Refusals.{MapIsRefused}
 use Rattle.ddrescuelog_cli.specs.Work.{log_faults, map_rows}
 use Rattle.ddrescuelog_cli.specs.Steps.{ReadsMap, ReadsNamed}
 use Rattle.work_rules.specs.Parts.{WentThrough, StoppedIn}
-use Rattle.ddrescuelog_cli.proofs.CallLemmas.{GainsBroken, broke_gains}
 
 -- ---- rows
 
