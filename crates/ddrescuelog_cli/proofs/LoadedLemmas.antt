@@ -24,7 +24,7 @@ use Rattle.ddrescuelog_cli.specs.Maps.{Found, file_of, found_in, mapfile_mode, A
 use Rattle.work_rules.specs.Parts.{only_calls, WentThrough, StoppedIn}
 use Rattle.ddrescuelog_cli.specs.Work.{log_faults, map_rows, named_rows}
 use Rattle.ddrescuelog_cli.specs.Steps.{DidRead, ReadsMap, HasStatuses, statuses_in, statuses_or_none, DidReadNamed, ReadsNamed, maps_read, IsLoadedAs, LoadsMaps, ReadCause}
-use Rattle.ddrescuelog_cli.proofs.RowLemmas.{stopped_more, through_then, through_both}
+use Rattle.work_rules.proofs.PartLemmas.{stopped_more, through_then, through_both}
 use Rattle.ddrescuelog_cli.proofs.ReadLemmas.{AreReads, stopped_reads, through_reads, files_stand}
 use Rattle.ddrescuelog_cli.proofs.MapsLemmas.{NamedBy, shown_is_one, has_named}
 
@@ -103,7 +103,8 @@ mapfile_refused c e old new r =
       calls = r.calls;
       is_own = λ t. same_found c (files_in old) r.file found.other found.domain (r.is_own t) refl refl;
       gained = r.gained;
-      did = inr (stopped_more (mapfile_rows c r.file) (named_rows c found) (λ e d. ⊥) e (only_calls r.calls) r.did);
+      did = inr (stopped_more log_faults (mapfile_rows c r.file) (named_rows c found) (λ e d. ⊥) e
+          (only_calls r.calls) r.did);
     }
 
 -- ---- or at the other map
@@ -120,10 +121,9 @@ other_refused c m e old mid new r stays s =
           ∙ ap (file_of c.other) (map_stands RunMap (mapfile_mode c.mode) c.mapfile (Ok m) old mid r stays t))
           refl;
       gained = λ t. grew_both old mid new r.calls s.calls (r.gained t) (s.gained (still_tells old mid stays t));
-      did = inr (through_then (mapfile_rows c r.file) (named_rows c (found_by r.file s.file domain)) (λ e d. ⊥) e
-          r.calls
-          s.calls r.did.1
-          (stopped_more (other_rows c s.file) (domain_rows c domain) (λ e d. ⊥) e (only_calls s.calls) s.did));
+      did = inr (through_then log_faults (mapfile_rows c r.file) (named_rows c (found_by r.file s.file domain))
+          (λ e d. ⊥) e r.calls (only_calls s.calls) r.did.1
+          (stopped_more log_faults (other_rows c s.file) (domain_rows c domain) (λ e d. ⊥) e (only_calls s.calls) s.did));
     }
 
 -- ---- or it came to the domain map
@@ -179,8 +179,8 @@ domain_refused c m other e old mid low new a stays b stays' d =
       calls = all.front ++ all.last;
       is_own = all.is_own;
       gained = all.gained;
-      did = inr (through_then (front_rows c all.found) (domain_rows c all.found.domain) (λ e d. ⊥) e all.front all.last
-          all.through all.did);
+      did = inr (through_then log_faults (front_rows c all.found) (domain_rows c all.found.domain) (λ e d. ⊥) e
+          all.front (only_calls all.last) all.through all.did);
     }
 
 -- if memory ran out after a read it ran out in it
@@ -205,8 +205,8 @@ starved_after c m other domain old new all = record {
   calls = all.front ++ all.last;
   is_own = all.is_own;
   gained = all.gained;
-  did = inr (through_then (front_rows c all.found) (domain_rows c all.found.domain) (λ e d. ⊥) NoMemory all.front
-      all.last all.through
+  did = inr (through_then log_faults (front_rows c all.found) (domain_rows c all.found.domain) (λ e d. ⊥)
+      NoMemory all.front (only_calls all.last) all.through
       (starved_in DomainMap (map_mode c.options.loose) c.domain_map all.found.domain all.last all.did.1));
 }
 
